@@ -1,0 +1,19 @@
+//! The outside of LERT as values: where bytes come from, where they go, and how a call fails.
+//!
+//! The one contract is that of the traits: an object tells its content or nothing, and a call on it
+//! fails only where the object's count of faults rose in that call. Everything that reads or writes
+//! is generic over these traits, so its theorems hold for every source and every sink. The sources
+//! and sinks in memory are for tests and for commands that work on generated traces.
+#![tactic(auto)]
+
+mod call_list;
+mod faulty;
+mod seen;
+mod sink;
+mod source;
+
+pub use call_list::CallList;
+pub use faulty::{Failed, Faulty, OutOfMemory};
+pub use seen::Seen;
+pub use sink::{Sink, write_all};
+pub use source::Source;
