@@ -3,7 +3,7 @@ use Rattle.std.specs.Prelude.{◌≡◌, ◌↔◌, ℕ, List, [], take, drop, O
 
 -- `count` bytes from the front of those left now stand at the front of `into`, and the others are left; a source
 -- hands out none exactly where none is left
-pub record HandsOut (count : ℕ) (into left : List ℕ) (after : Option (List ℕ)) : Type 0 where
-  pub copied : take count into ≡ take count left
-  pub rest : after ≡ Some (drop count left)
-  pub at_end : (count ≡ 0) ↔ (left ≡ [])
+pub record HandsOut (count : ℕ) (into ahead : List ℕ) (after : Option (List ℕ)) : Type 0 where
+  pub copied : take count into ≡ take count ahead
+  pub rest : after ≡ Some (drop count ahead)
+  pub at_end : (count ≡ 0) ↔ (ahead ≡ [])

@@ -1,0 +1,5 @@
+pub mod AtOnce
+pub mod Counts
+pub mod Lines
+pub mod Timely
+pub mod Trace

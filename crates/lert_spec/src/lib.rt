@@ -1,0 +1,10 @@
+//! The definitions that LERT's contracts cite, over plain lists of keys, positions and bytes.
+//!
+//! Nothing here knows a table, a level in memory, a file or a thread. Beside each definition of
+//! `specs/` stands a plain slow program whose contract is that definition, so that it can be tried on
+//! worked examples. Every other crate's contracts are stated with these words.
+#![tactic(auto)]
+
+mod report;
+
+pub use report::Report;
