@@ -7,3 +7,7 @@ pub record HandsOut (count : ℕ) (into ahead : List ℕ) (after : Option (List 
   pub copied : take count into ≡ take count ahead
   pub rest : after ≡ Some (drop count ahead)
   pub at_end : (count ≡ 0) ↔ (ahead ≡ [])
+
+-- what holds of the bytes that an object tells, where it tells them
+abbrev pub IfTold : Option (List ℕ) → (List ℕ → Type 0) → Type 0
+IfTold told P = (bytes : List ℕ) → told ≡ Some bytes → P bytes

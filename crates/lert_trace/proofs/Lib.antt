@@ -1,0 +1,4 @@
+pub mod Agreed
+pub mod Beginning
+pub mod Pending
+pub mod Standing

@@ -1,0 +1,72 @@
+-- The pending bytes of a window: those from one place of its block up to another.
+use Rattle.std.proofs.Common.{◌≡◌, ℕ, ◌+◌, ◌-◌, ◌≤◌, List, [], ◌++◌, length, take, drop, Option, Some, None, refl, ap, sym, ◌∙◌, arith, length-drop, append_assoc}
+use Rattle.std.proofs.Math.Seq.{take-append-add}
+use Rattle.std.proofs.lemmas.List.{length-take-le, take-append-le, take-append-drop, take-take}
+use Rattle.std.proofs.lemmas.Slice.{between_is}
+use borrow.Rule.Slice.PartMut.{put_mid, post_of}
+use Rattle.lert_io.specs.Reading.{HandsOut}
+use Rattle.lert_trace.specs.Window.{IsBlock, StillAhead, IsAtEnd}
+
+pub length-pending : (block : List ℕ) (start end : ℕ) → IsBlock block start end → length (drop start (take end block)) ≡ end - start
+length-pending block start end is =
+    length-drop start (take end block) ∙ ap (λ n. n - start) (length-take-le end block (omega (arith, is.sized, is.within)))
+
+-- a block whose part was copied to its front begins with that part
+pub take-slid : (block other : List ℕ) (start end : ℕ) → start ≤ end → end ≤ length block →
+    take (end - start) (take (end - start) (drop start block) ++ other) ≡ drop start (take end block)
+take-slid block other start end ordered within =
+    take-append-le (end - start) (take (end - start) (drop start block)) other
+    (omega (arith, length-take-le (end - start) (drop start block) (omega (arith, length-drop start block))))
+    ∙ take-take (end - start) (end - start) (drop start block) (omega arith)
+    ∙ between_is block start end
+
+-- after a read into the block behind `end` the bytes that it brought stand behind those pending
+pub take-read : (block into : List ℕ) (end count rest : ℕ) → end ≤ length block → count ≤ length into →
+    take (end + count) (put_mid end rest block into) ≡ take end block ++ take count into
+take-read block into end count rest within fits =
+    ap (λ n. take (n + count) (put_mid end rest block into)) (sym (length-take-le end block within))
+    ∙ take-append-add (take end block) (into ++ post_of end rest block) count
+    ∙ ap (λ xs. take end block ++ xs) (take-append-le count into (post_of end rest block) fits)
+
+-- what a source hands out goes behind the pending bytes, and what is still to come stays the same
+pub StillAhead-read : (before after : Option (List ℕ)) (pending into : List ℕ) (count : ℕ) →
+    ((bytes : List ℕ) → before ≡ Some bytes → HandsOut count into bytes after) → (before ≡ None → after ≡ None) →
+    StillAhead before after pending (pending ++ take count into)
+StillAhead-read before after pending into count told untold = record {
+  told = λ bytes was.
+      let out = told bytes was in (
+        drop count bytes,
+        out.rest,
+        ap (λ xs. (pending ++ xs) ++ drop count bytes) out.copied
+            ∙ append_assoc pending (take count bytes) (drop count bytes)
+            ∙ ap (λ xs. pending ++ xs) (take-append-drop count bytes),
+      );
+  untold = untold;
+}
+
+-- the same where nothing was handed out
+pub StillAhead-same : (before after : Option (List ℕ)) (pending : List ℕ) → after ≡ before → StillAhead before after pending pending
+StillAhead-same before after pending same = record {
+  told = λ bytes was. (bytes, same ∙ was, refl);
+  untold = λ was. same ∙ was;
+}
+
+-- one call after another
+pub StillAhead-trans : (first second third : Option (List ℕ)) (old mid new : List ℕ) →
+    StillAhead first second old mid → StillAhead second third mid new → StillAhead first third old new
+StillAhead-trans first second third old mid new a b = record {
+  told = λ bytes was.
+      let x = a.told bytes was in
+      let y = b.told x.0 x.1 in
+      (y.0, y.1, y.2 ∙ x.2);
+  untold = λ was. b.untold (a.untold was);
+}
+
+-- a call that hands out no byte leaves none
+pub handed-none : (count : ℕ) (into bytes : List ℕ) (after : Option (List ℕ)) → HandsOut count into bytes after → count ≡ 0 → after ≡ Some []
+handed-none count into bytes after out zero =
+    out.rest ∙ ap (λ n. Some (drop n bytes)) zero ∙ ap Some (out.at_end.0 zero)
+
+pub IsAtEnd-after : (first second third : Option (List ℕ)) (old mid : List ℕ) →
+    StillAhead first second old mid → IsAtEnd second third → IsAtEnd first third
+IsAtEnd-after first second third old mid a end = λ bytes was. let x = a.told bytes was in end x.0 x.1

@@ -1,0 +1,21 @@
+use Rattle.std.proofs.Common.{ap, ◌∙◌}
+use Rattle.std.proofs.lemmas.Result.{err_from_is_err_and}
+use Rattle.lert_trace.proofs.Standing.{IsReader-read}
+use Rattle.lert_trace.proofs.Beginning.{Means-header, IsReader-header}
+use Rattle.lert_trace.proofs.reader.TraceReader.begin.Goals as goal
+
+pub invariant_of-self : goal.invariant_of-self
+invariant_of-self g c =
+    IsReader-read _ _ _ _ _ _ _ _ _ _ _ _ c.self.invariant c.read_header.ensures.never_falls c.read_header.ensures.mark
+    (ap (λ r. r.fault) c.self.view_is ∙ c.requires) c.in_err-read_header.ensures.refused
+
+pub returns-in_err-read_header-clause-cause : goal.returns-in_err-read_header-clause-cause
+returns-in_err-read_header-clause-cause g c =
+    let p = err_from_is_err_and c.from_residual.result c.from_residual.ensures.1 in
+    rw (p.1, p.2)
+    (Means-header _ _ _ _ _ _ _ _ _ _ _ c.self.invariant c.if-self.false c.read_header.ensures.never_falls c.in_err-read_header.field-0.0 c.in_err-read_header.ensures.fault)
+
+pub invariant_of-self-2 : goal.invariant_of-self-2
+invariant_of-self-2 g c =
+    IsReader-header _ _ _ _ _ _ _ _ _ _ _ c.self.invariant c.if-self.false c.read_header.ensures.never_falls _ c.read_header.ensures.mark
+    (ap (λ r. r.fault) c.self.view_is ∙ c.requires) c.in_ok-read_header.ensures.header c.in_ok-read_header.ensures.taken c.read_header.ensures.untold

@@ -1,0 +1,15 @@
+-- Why a header can't be taken.
+use Rattle.std.specs.Prelude.{◌≡◌, ℕ, ◌<◌, ◌++◌, List, Option}
+use Rattle.lert_io.specs.Fault.{HasRisen}
+use Rattle.lert_io.specs.Reading.{IfTold}
+use Rattle.lert_spec.specs.Trace.{agreed, trace_header}
+use Rattle.lert_trace.specs.declared.fault.TraceFault.{TraceFault}
+use Rattle.lert_trace.specs.declared.fault.TraceFault.TheVariants.{ReadFailed, BadHeader, CutKey, TooLong}
+
+-- a read failed, or what is ahead leaves the header at that place
+abbrev pub HeaderFault : Option (List ℕ) → List ℕ → ℕ → ℕ → TraceFault → Type 0
+HeaderFault remaining pending before now ReadFailed = HasRisen before now
+HeaderFault remaining pending before now (BadHeader at) =
+    (at < 8) × IfTold remaining (λ bytes. agreed trace_header (pending ++ bytes) ≡ at)
+HeaderFault remaining pending before now (CutKey at) = ⊥
+HeaderFault remaining pending before now TooLong = ⊥
