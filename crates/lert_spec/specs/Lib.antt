@@ -1,4 +1,5 @@
 pub mod AtOnce
+pub mod CountLaws
 pub mod Counts
 pub mod Lines
 pub mod Timely
