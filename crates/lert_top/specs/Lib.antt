@@ -1,1 +1,2 @@
 pub mod Detector
+pub mod Page

@@ -2,5 +2,7 @@
 #![tactic(auto)]
 
 mod detector;
+mod page;
 
 pub use detector::Detector;
+pub use page::Page;
