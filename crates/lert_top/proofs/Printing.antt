@@ -1,6 +1,10 @@
 -- The steps of a text that goes to a sink page by page.
-use Rattle.std.proofs.Common.{◌≡◌, ℕ, ◌<◌, List, [], ◌++◌, length, take, drop, Option, Some, None, ap, sym, ◌∙◌, append_assoc, append-nil}
-use Rattle.std.proofs.lemmas.List.{take-append-drop}
+use Rattle.std.proofs.Common.{◌≡◌, ℕ, ◌+◌, ◌<◌, List, [], ◌++◌, length, get_or, take, drop, Option, Some, None, ap, sym, ◌∙◌, append_assoc, append-nil}
+use Rattle.std.specs.List.{flat_map}
+use Rattle.std.proofs.lemmas.Grind.{flat_map-append}
+use Rattle.std.proofs.lemmas.List.{flat_map_more, take-append-drop, take_more}
+use Rattle.lert_spec.specs.declared.report.Report.{Report}
+use Rattle.lert_spec.specs.Lines.{report_line}
 use Rattle.lert_top.specs.Page.{IsPrinting, IsCut}
 
 module _ (start now : Option (List ℕ)) (page text : List ℕ) (printing : IsPrinting start now page text) where
@@ -45,3 +49,34 @@ module _ (start now : Option (List ℕ)) (page text : List ℕ) (printing : IsPr
         );
     untold = λ was. untold (printing.untold was);
   }
+
+-- what is a part of a text is one of the text with more behind it
+pub IsCut-more : (start now : Option (List ℕ)) (text more : List ℕ) → IsCut start now text → IsCut start now (text ++ more)
+IsCut-more start now text more cut = record {
+  told = λ before was.
+      let x = cut.told before was in
+      (x.0, x.1, (x.2.0 ++ more, sym (append_assoc x.0 x.2.0 more) ∙ ap (λ xs. xs ++ more) x.2.1));
+  untold = cut.untold;
+}
+
+module _ (text head : List ℕ) (reports : List Report) (i : ℕ) where
+  -- the line of one report more
+  pub reports-more : (d : Report) → i < length reports →
+      (text ++ (head ++ flat_map report_line (take i reports))) ++ report_line (get_or reports i d)
+      ≡ text ++ (head ++ flat_map report_line (take (i + 1) reports))
+  reports-more d below =
+      append_assoc text (head ++ flat_map report_line (take i reports)) (report_line (get_or reports i d))
+      ∙ ap (λ xs. text ++ xs)
+      (flat_map_more report_line head (take i reports) (get_or reports i d)
+      ∙ ap (λ rs. head ++ flat_map report_line rs) (sym (take_more reports i d below)))
+
+  -- the lines of all others
+  pub reports-rest : (text ++ (head ++ flat_map report_line (take i reports))) ++ flat_map report_line (drop i reports)
+      ≡ text ++ (head ++ flat_map report_line reports)
+  reports-rest =
+      append_assoc text (head ++ flat_map report_line (take i reports)) (flat_map report_line (drop i reports))
+      ∙ ap (λ xs. text ++ xs)
+      (append_assoc head (flat_map report_line (take i reports)) (flat_map report_line (drop i reports))
+      ∙ ap (λ xs. head ++ xs)
+      (sym (flat_map-append report_line (take i reports) (drop i reports))
+      ∙ ap (flat_map report_line) (take-append-drop i reports)))

@@ -3,6 +3,8 @@
 
 mod detector;
 mod page;
+mod print;
 
 pub use detector::Detector;
 pub use page::Page;
+pub use print::{print_cone, print_total};
