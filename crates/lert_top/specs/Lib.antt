@@ -1,2 +1,5 @@
+pub mod Command
 pub mod Detector
 pub mod Page
+pub mod Status
+pub mod Word

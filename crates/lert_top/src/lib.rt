@@ -2,9 +2,14 @@
 #![tactic(auto)]
 
 mod detector;
+mod line;
 mod page;
 mod print;
+mod status;
+mod word;
 
 pub use detector::Detector;
+pub use line::{Line, Usage};
 pub use page::Page;
 pub use print::{print_cone, print_total};
+pub use status::Status;
