@@ -1,3 +1,4 @@
+pub mod KeysRead
 pub mod Parsing
 pub mod Printing
 pub mod Taking

@@ -1,5 +1,7 @@
 pub mod Command
 pub mod Detector
+pub mod Opening
 pub mod Page
+pub mod Run
 pub mod Status
 pub mod Word

@@ -4,12 +4,16 @@
 mod detector;
 mod line;
 mod page;
+mod place;
 mod print;
+mod reading;
 mod status;
 mod word;
 
 pub use detector::Detector;
 pub use line::{Line, Usage};
 pub use page::Page;
+pub use place::{Opening, Place};
 pub use print::{print_cone, print_total};
+pub use reading::detect;
 pub use status::Status;

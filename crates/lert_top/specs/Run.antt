@@ -1,0 +1,34 @@
+-- What a run says of the trace that it read, and of the text that it wrote.
+use Rattle.std.specs.Prelude.{◌≡◌, ℕ, ◌<◌, List, [], ◌∷◌, length, true, Option, Some, None, ⊤}
+use Rattle.lert_io.specs.Fault.{HasRisen}
+use Rattle.lert_io.specs.Reading.{IfTold}
+use Rattle.lert_spec.specs.AtOnce.{at_once}
+use Rattle.lert_spec.specs.Lines.{lines}
+use Rattle.lert_spec.specs.Trace.{left, whole}
+use Rattle.lert_top.specs.declared.status.Status.{Status}
+use Rattle.lert_top.specs.declared.status.Status.TheVariants.{Done, Usage, PlaceFault, TraceFault, BadTrace, TooLong, OutFault, OutOfMemory}
+
+-- the most keys that a trace may have, 2^36
+abbrev pub most_keys : ℕ
+most_keys = 68719476736
+
+-- the text of a run over one cone: its events, and the reports that are made at once
+abbrev pub text_of : ℕ → List ℕ → List ℕ
+text_of threshold events = lines (record { events = length events; reports = at_once threshold events; closed = true } ∷ [])
+
+-- bytes are a trace with these keys, and were read to their end
+pub record IsReadWhole (bytes : List ℕ) (remaining : Option (List ℕ)) : Type 0 where
+  pub well_formed : left bytes ≡ None
+  pub read : remaining ≡ Some []
+
+module _ {S : Type 0} (remaining : S → Option (List ℕ)) (faults : S → ℕ) where
+  -- why reading a trace stopped early, by the trace as it was opened and as it is now
+  abbrev pub StopShows : S → S → Status → Type 0
+  StopShows opened now Done = ⊥
+  StopShows opened now (Usage rule) = ⊥
+  StopShows opened now PlaceFault = ⊥
+  StopShows opened now (TraceFault trace) = (trace ≡ 0) × HasRisen (faults opened) (faults now)
+  StopShows opened now (BadTrace trace at) = (trace ≡ 0) × IfTold (remaining opened) (λ bytes. left bytes ≡ Some at)
+  StopShows opened now (TooLong trace) = (trace ≡ 0) × IfTold (remaining opened) (λ bytes. most_keys < length (whole bytes))
+  StopShows opened now OutFault = ⊥
+  StopShows opened now OutOfMemory = ⊤
