@@ -1,10 +1,11 @@
 -- What a run says of the trace that it read, and of the text that it wrote.
-use Rattle.std.specs.Prelude.{◌≡◌, ℕ, ◌<◌, List, [], ◌∷◌, length, true, Option, Some, None, ⊤}
+use Rattle.std.specs.Prelude.{◌≡◌, ℕ, ◌<◌, List, [], ◌∷◌, ◌++◌, length, true, Option, Some, None, ⊤}
 use Rattle.lert_io.specs.Fault.{HasRisen}
 use Rattle.lert_io.specs.Reading.{IfTold}
 use Rattle.lert_spec.specs.AtOnce.{at_once}
 use Rattle.lert_spec.specs.Lines.{lines}
 use Rattle.lert_spec.specs.Trace.{left, whole}
+use Rattle.lert_top.specs.Page.{IsCut}
 use Rattle.lert_top.specs.declared.status.Status.{Status}
 use Rattle.lert_top.specs.declared.status.Status.TheVariants.{Done, Usage, PlaceFault, TraceFault, BadTrace, TooLong, OutFault, OutOfMemory}
 
@@ -32,3 +33,21 @@ module _ {S : Type 0} (remaining : S → Option (List ℕ)) (faults : S → ℕ)
   StopShows opened now (TooLong trace) = (trace ≡ 0) × IfTold (remaining opened) (λ bytes. most_keys < length (whole bytes))
   StopShows opened now OutFault = ⊥
   StopShows opened now OutOfMemory = ⊤
+
+-- what the status of a run says, by the trace as it was opened and as it was put back, and by the sink before and after
+module _ {S K : Type 0} (remaining : S → Option (List ℕ)) (faults : S → ℕ) (taken : K → Option (List ℕ)) (sink_faults : K → ℕ)
+    (threshold : ℕ) (opened back : S) (before after : K) where
+
+  abbrev pub StatusShows : Status → Type 0
+  -- the trace is well formed and was read to its end, and the text of its reports was written
+  StatusShows Done = IfTold (remaining opened) (λ bytes.
+    IsReadWhole bytes (remaining back) × IfTold (taken before) (λ text. taken after ≡ Some (text ++ text_of threshold (whole bytes))))
+  StatusShows (Usage rule) = ⊥
+  StatusShows PlaceFault = ⊥
+  StatusShows (TraceFault trace) = (trace ≡ 0) × HasRisen (faults opened) (faults back) × (after ≡ before)
+  StatusShows (BadTrace trace at) = (trace ≡ 0) × IfTold (remaining opened) (λ bytes. left bytes ≡ Some at) × (after ≡ before)
+  StatusShows (TooLong trace) = (trace ≡ 0) × IfTold (remaining opened) (λ bytes. most_keys < length (whole bytes)) × (after ≡ before)
+  -- the trace was read to its end, and a part of the text was written
+  StatusShows OutFault = HasRisen (sink_faults before) (sink_faults after) × IfTold (remaining opened) (λ bytes.
+    IsReadWhole bytes (remaining back) × IsCut (taken before) (taken after) (text_of threshold (whole bytes)))
+  StatusShows OutOfMemory = after ≡ before

@@ -7,6 +7,7 @@ mod page;
 mod place;
 mod print;
 mod reading;
+mod run;
 mod status;
 mod word;
 
