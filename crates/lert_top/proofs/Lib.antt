@@ -1,3 +1,4 @@
+pub mod Ending
 pub mod KeysRead
 pub mod Parsing
 pub mod Printing

@@ -87,7 +87,8 @@ module _ (text head : List ℕ) (reports : List Report) (i : ℕ) where
 pub IsPrinting-start : (start : Option (List ℕ)) (page : List ℕ) → page ≡ [] → IsPrinting start start page []
 IsPrinting-start start page empty = record {
   told = λ before was. ([], was ∙ ap Some (sym (append-nil before)), empty);
-  untold = λ was. was }
+  untold = λ was. was;
+}
 
 -- all was printed, and the page is empty
 pub IsPrinting-all : (start now : Option (List ℕ)) (text : List ℕ) → IsPrinting start now [] text →
@@ -104,6 +105,6 @@ text_of-parts threshold events number reports counted listed =
     ap (λ n. cone_text 0 (record { events = n; reports = reports; closed = true }) ++ total_line n (length reports)) counted
     ∙ ap (λ rs. cone_text 0 (record { events = length events; reports = rs; closed = true }) ++ total_line (length events) (length rs)) listed
     ∙ ap (λ xs. xs ++ total_line (length events) (length (at_once threshold events)))
-      (sym (append-nil (cone_text 0 (record { events = length events; reports = at_once threshold events; closed = true }))))
+    (sym (append-nil (cone_text 0 (record { events = length events; reports = at_once threshold events; closed = true }))))
     ∙ ap (λ n. (cone_text 0 (record { events = length events; reports = at_once threshold events; closed = true }) ++ []) ++ total_line n (length (at_once threshold events))) (omega arith)
     ∙ ap (λ n. (cone_text 0 (record { events = length events; reports = at_once threshold events; closed = true }) ++ []) ++ total_line (0 + length events) n) (omega arith)

@@ -37,11 +37,10 @@ module _ {S : Type 0} (remaining : S → Option (List ℕ)) (faults : S → ℕ)
 -- what the status of a run says, by the trace as it was opened and as it was put back, and by the sink before and after
 module _ {S K : Type 0} (remaining : S → Option (List ℕ)) (faults : S → ℕ) (taken : K → Option (List ℕ)) (sink_faults : K → ℕ)
     (threshold : ℕ) (opened back : S) (before after : K) where
-
   abbrev pub StatusShows : Status → Type 0
   -- the trace is well formed and was read to its end, and the text of its reports was written
   StatusShows Done = IfTold (remaining opened) (λ bytes.
-    IsReadWhole bytes (remaining back) × IfTold (taken before) (λ text. taken after ≡ Some (text ++ text_of threshold (whole bytes))))
+      IsReadWhole bytes (remaining back) × IfTold (taken before) (λ text. taken after ≡ Some (text ++ text_of threshold (whole bytes))))
   StatusShows (Usage rule) = ⊥
   StatusShows PlaceFault = ⊥
   StatusShows (TraceFault trace) = (trace ≡ 0) × HasRisen (faults opened) (faults back) × (after ≡ before)
@@ -49,5 +48,5 @@ module _ {S K : Type 0} (remaining : S → Option (List ℕ)) (faults : S → �
   StatusShows (TooLong trace) = (trace ≡ 0) × IfTold (remaining opened) (λ bytes. most_keys < length (whole bytes)) × (after ≡ before)
   -- the trace was read to its end, and a part of the text was written
   StatusShows OutFault = HasRisen (sink_faults before) (sink_faults after) × IfTold (remaining opened) (λ bytes.
-    IsReadWhole bytes (remaining back) × IsCut (taken before) (taken after) (text_of threshold (whole bytes)))
+      IsReadWhole bytes (remaining back) × IsCut (taken before) (taken after) (text_of threshold (whole bytes)))
   StatusShows OutOfMemory = after ≡ before

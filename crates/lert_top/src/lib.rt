@@ -7,8 +7,8 @@ mod page;
 mod place;
 mod print;
 mod reading;
-mod run;
 mod status;
+mod top;
 mod word;
 
 pub use detector::Detector;
@@ -18,3 +18,4 @@ pub use place::{Opening, Place};
 pub use print::{print_cone, print_total};
 pub use reading::detect;
 pub use status::Status;
+pub use top::run;
