@@ -1,5 +1,6 @@
-//! The job of `lert run --threshold N --cone-bits 0 DIR TRACE` as a plain program: counts in an ordered map, and the same
-//! text. Words: N TRACE. The yardstick of `bench/first_path`; it proves nothing and ends at the first fault.
+//! The job of `lert run --threshold N --cone-bits 0 DIR TRACE` as a plain program: it counts in an
+//! ordered map and prints the same text. Words: N TRACE. It is the yardstick of `bench/first_path`,
+//! and ends at the first fault.
 
 use std::collections::BTreeMap;
 use std::env;
@@ -20,7 +21,8 @@ fn next_key(trace: &mut impl Read) -> io::Result<Option<u64>> {
     Ok(Some(u64::from_le_bytes(bytes)))
 }
 
-/// The number of keys, and each key that occurs `threshold` times with the position of that occurrence.
+/// The number of keys, and each key that occurs `threshold` times, with the position of that
+/// occurrence.
 fn heavy_keys(trace: &mut impl Read, threshold: u64) -> io::Result<(u64, Vec<(u64, u64)>)> {
     let mut counts = BTreeMap::new();
     let mut reports = Vec::new();
@@ -50,7 +52,8 @@ fn main() -> io::Result<()> {
     let [threshold, trace] = words.as_slice() else {
         return Err(io::Error::new(ErrorKind::InvalidInput, "the words are N TRACE"));
     };
-    let threshold = threshold.parse().map_err(|fault| io::Error::new(ErrorKind::InvalidInput, fault))?;
+    let threshold =
+        threshold.parse().map_err(|fault| io::Error::new(ErrorKind::InvalidInput, fault))?;
     let mut trace = BufReader::with_capacity(BUFFER_LEN, File::open(trace)?);
     let mut header = [0; 8];
     trace.read_exact(&mut header)?;
@@ -58,5 +61,6 @@ fn main() -> io::Result<()> {
         return Err(io::Error::new(ErrorKind::InvalidData, "the trace has another header"));
     }
     let (events, reports) = heavy_keys(&mut trace, threshold)?;
-    print(&mut BufWriter::with_capacity(BUFFER_LEN, io::stdout().lock()), events, &reports)
+    let mut out = BufWriter::with_capacity(BUFFER_LEN, io::stdout().lock());
+    print(&mut out, events, &reports)
 }

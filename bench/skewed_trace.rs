@@ -1,8 +1,9 @@
 //! Writes a trace of skewed keys to standard output. Words: SEED KEYS.
 //!
-//! Each key is a number of `bits` random bits whose highest is 1, `bits` being 1 to 24 with the same chance, and then it is
-//! spread over 64 bits by an odd factor. So the n-th key is about as frequent as 1/n, as words are in a text. Random
-//! numbers are those of splitmix64: the same seed gives the same trace.
+//! Each key is a number of `bits` random bits whose highest is 1, `bits` being 1 to 24 with the same
+//! chance, and then spread over 64 bits by an odd factor. So the n-th key is about as frequent as
+//! 1/n, as words are in a text. Random numbers are those of splitmix64: the same seed gives the same
+//! trace.
 
 use std::env;
 use std::io::{self, BufWriter, ErrorKind, Write};
