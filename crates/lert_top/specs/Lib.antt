@@ -3,5 +3,6 @@ pub mod Detector
 pub mod Opening
 pub mod Page
 pub mod Run
+pub mod Shelf
 pub mod Status
 pub mod Word

@@ -3,6 +3,7 @@
 
 mod detector;
 mod line;
+mod mem_place;
 mod page;
 mod place;
 mod print;
@@ -13,6 +14,7 @@ mod word;
 
 pub use detector::Detector;
 pub use line::{Line, Usage};
+pub use mem_place::MemPlace;
 pub use page::Page;
 pub use place::{Opening, Place};
 pub use print::{print_cone, print_total};
