@@ -4,6 +4,7 @@ pub mod CountLaws
 pub mod EdgeLaws
 pub mod FirstPass
 pub mod LimitLaws
+pub mod MixLaws
 pub mod ReportLaws
 pub mod Tables
 pub mod TimeBound
