@@ -7,10 +7,16 @@
 #![tactic(auto)]
 
 mod count_table;
+mod kept;
+mod pieces;
 mod settings;
+mod totals;
 mod words;
 
 pub use count_table::CountTable;
+pub use kept::Kept;
 pub use lert_spec::{Numbers, Piece, Report};
+pub use pieces::{PieceFault, Pieces};
 pub use settings::{BadSetting, Settings};
+pub use totals::Totals;
 pub use words::Words;
