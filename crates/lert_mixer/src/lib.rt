@@ -10,3 +10,6 @@ mod mixer;
 
 pub use cone::{cone_of, key_of, tail_of};
 pub use mixer::{mix, unmix};
+
+#[cfg(test)]
+mod tests;

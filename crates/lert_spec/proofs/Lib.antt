@@ -1,6 +1,5 @@
 mod Examples
 mod LookExamples
-pub mod CountLaws
 pub mod EdgeLaws
 pub mod FirstPass
 pub mod LimitLaws
@@ -8,3 +7,4 @@ pub mod MixLaws
 pub mod ReportLaws
 pub mod Tables
 pub mod TimeBound
+pub mod WindowLaws

@@ -12,7 +12,7 @@ use Rattle.lert_spec.specs.Edges.{lookback, capacity}
 use Rattle.lert_spec.specs.Limits.{IsValid}
 use Rattle.lert_spec.specs.Look.{is_listed, is_due, with_due, mixed_order, look_to, look, closing}
 use Rattle.lert_spec.specs.Timely.{times_listed, IsReportedOnTime, IsNotYetDue, IsTimely, IsTimelySoFar}
-use Rattle.lert_spec.proofs.CountLaws.{NthAt, count_parts, count_never_falls, nth_at}
+use Rattle.lert_spec.proofs.WindowLaws.{NthAt, count_parts, count_never_falls, nth_at}
 use Rattle.lert_spec.proofs.EdgeLaws.{DueAt, due, span_pos}
 use Rattle.lert_spec.proofs.ReportLaws.{times, times-cons_other, times-filter, times-mixed_order, times-mixed_order_le, count_le-times, is_listed-times, times_listed-with_due}
 

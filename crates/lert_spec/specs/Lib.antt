@@ -1,6 +1,6 @@
 pub mod AtOnce
-pub mod CountLaws
 pub mod Bins
+pub mod CountLaws
 pub mod Counts
 pub mod Edges
 pub mod Limits
