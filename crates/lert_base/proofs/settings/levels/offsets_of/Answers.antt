@@ -5,8 +5,8 @@ use Rattle.lert_spec.proofs.LimitLaws.{spans_within, offset_within}
 use Rattle.lert_base.specs.Computed.{offsets_of, sum_below}
 use Rattle.lert_base.proofs.Filled.{filled_more, sum_next, sum_is}
 use Rattle.lert_base.proofs.Levels.{get_or-spans_of}
-use Rattle.lert_base.proofs.settings.offsets_of.Goals as goal
-use Rattle.lert_base.proofs.settings.offsets_of.Goals.{In-loop-level}
+use Rattle.lert_base.proofs.settings.levels.offsets_of.Goals as goal
+use Rattle.lert_base.proofs.settings.levels.offsets_of.Goals.{In-loop-level}
 
 next : (c : In-loop-level) → c.loop-level.sum + slice_index_or c.args.spans.now c.loop-level.level 0 ≡ sum_below c.args.numbers.now (c.loop-level.level + 1)
 next c =

@@ -1,7 +1,7 @@
 use Rattle.std.proofs.Common.{ℕ, ◌≡◌, ◌<◌, length, get_or}
 use Rattle.lert_spec.specs.Edges.{offset}
 use Rattle.lert_base.specs.Computed.{sum_below}
-use Rattle.lert_base.proofs.settings.offsets_of.Given as goal
+use Rattle.lert_base.proofs.settings.levels.offsets_of.Given as goal
 
 abbrev pub invariant-loop-level : goal.invariant-loop-level
 invariant-loop-level l =
