@@ -1,1 +1,10 @@
 mod Examples
+mod LookExamples
+pub mod EdgeLaws
+pub mod FirstPass
+pub mod LimitLaws
+pub mod MixLaws
+pub mod ReportLaws
+pub mod Tables
+pub mod TimeBound
+pub mod WindowLaws
