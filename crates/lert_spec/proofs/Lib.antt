@@ -1,5 +1,7 @@
 mod Examples
 mod LookExamples
+pub mod AtOnceLaws
+pub mod CountLaws
 pub mod EdgeLaws
 pub mod FirstPass
 pub mod LimitLaws

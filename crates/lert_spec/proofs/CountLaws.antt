@@ -1,6 +1,6 @@
 -- How counts, and reports made at once, grow with one more event.
-use Rattle.std.proofs.Common.{◌≡◌, ℕ, zero, suc, ◌+◌, ◌-◌, ◌<◌, ◌≤◌, Bool, true, false, cond, eqb, List, [], ◌∷◌, ◌++◌, length, take, drop, get_or, map, refl, ap, sym, ◌∙◌, arith, rules, add-one, length-append, append_assoc, slice_range}
-use Rattle.std.specs.Prelude.{count_by, sum_by, filter, slice_index, ◌==◌}
+use Rattle.std.proofs.Common.{◌≡◌, ℕ, zero, suc, ◌+◌, ◌-◌, ◌≤◌, Bool, true, false, cond, List, [], ◌∷◌, ◌++◌, length, get_or, map, refl, ap, sym, ◌∙◌, arith, length-append}
+use Rattle.std.specs.Prelude.{count_by, sum_by, filter, ◌==◌}
 use Rattle.std.specs.List.{range_with_len}
 use Rattle.std.proofs.Math.Seq.{take-length}
 use Rattle.std.proofs.lemmas.List.{map-append, take-append-le, get_or-append-add}
@@ -9,7 +9,7 @@ use Rattle.std.proofs.lemmas.List.Sums.{sum_by-append}
 use Rattle.std.proofs.lemmas.Slice.{between_from_start}
 use Rattle.std.proofs.Math.ListN.{get_or-append}
 use Rattle.lert_spec.specs.declared.report.Report.{Report}
-use Rattle.lert_spec.specs.Counts.{count, positions}
+use Rattle.lert_spec.specs.Counts.{count}
 use Rattle.lert_spec.specs.AtOnce.{at_once, event_at, reaches, report_at}
 
 -- the count over a whole list
@@ -44,7 +44,7 @@ reaches-append threshold events others m some within =
     ∙ count-append (event_at events m) events others m within)
 
 -- the reports at the first positions
-abbrev reports_to : ℕ → List ℕ → ℕ → List Report
+abbrev pub reports_to : ℕ → List ℕ → ℕ → List Report
 reports_to threshold events n = map (report_at events) (filter (reaches threshold events) (range_with_len 1 n))
 
 range_with_len-more : (from n : ℕ) → range_with_len from (suc n) ≡ range_with_len from n ++ (from + n) ∷ []
@@ -54,7 +54,7 @@ range_with_len-more from (suc n) =
     ∙ ap (λ m. (from ∷ range_with_len (from + 1) n) ++ m ∷ []) (omega arith)
 
 -- one more position adds its report, where its key reaches the threshold there
-reports_to-more : (threshold : ℕ) (events : List ℕ) (n : ℕ) →
+pub reports_to-more : (threshold : ℕ) (events : List ℕ) (n : ℕ) →
     reports_to threshold events (suc n)
     ≡ reports_to threshold events n ++ cond (reaches threshold events (1 + n)) (report_at events (1 + n) ∷ []) []
 reports_to-more threshold events n =
