@@ -1,9 +1,10 @@
 -- What a run says of the trace that it read, and of the text that it wrote.
-use Rattle.std.specs.Prelude.{◌≡◌, ℕ, ◌<◌, List, [], ◌∷◌, ◌++◌, length, true, Option, Some, None, ⊤}
-use Rattle.lert_io.specs.Fault.{HasRisen}
+use Rattle.std.specs.Prelude.{◌≡◌, ◌⊎◌, ℕ, ◌<◌, ◌≤◌, List, [], ◌∷◌, ◌++◌, length, true, Option, Some, None, ⊤}
+use Rattle.lert_io.specs.Fault.{HasRisen, IsFaultless}
 use Rattle.lert_io.specs.Reading.{IfTold}
 use Rattle.lert_spec.specs.AtOnce.{at_once}
 use Rattle.lert_spec.specs.Lines.{lines}
+use Rattle.lert_spec.specs.Timely.{IsTimely}
 use Rattle.lert_spec.specs.Trace.{left, whole}
 use Rattle.lert_top.specs.Page.{IsCut}
 use Rattle.lert_top.specs.declared.status.Status.{Status}
@@ -17,9 +18,10 @@ most_keys = 68719476736
 abbrev pub text_of : ℕ → List ℕ → List ℕ
 text_of threshold events = lines (record { events = length events; reports = at_once threshold events; closed = true } ∷ [])
 
--- bytes are a trace with these keys, and were read to their end
+-- bytes are a trace within the limit, and were read to their end
 pub record IsReadWhole (bytes : List ℕ) (remaining : Option (List ℕ)) : Type 0 where
   pub well_formed : left bytes ≡ None
+  pub few : length (whole bytes) ≤ most_keys
   pub read : remaining ≡ Some []
 
 module _ {S : Type 0} (remaining : S → Option (List ℕ)) (faults : S → ℕ) where
@@ -50,3 +52,13 @@ module _ {S K : Type 0} (remaining : S → Option (List ℕ)) (faults : S → �
   StatusShows OutFault = HasRisen (sink_faults before) (sink_faults after) × IfTold (remaining opened) (λ bytes.
       IsReadWhole bytes (remaining back) × IsCut (taken before) (taken after) (text_of threshold (whole bytes)))
   StatusShows OutOfMemory = after ≡ before
+
+  -- a run over a trace that was opened: what its status says; where no fault was counted, a trace within the limit that
+  -- leaves its format is answered with the place, and a well-formed one with its reports; these are timely
+  pub record HasRun (status : Status) : Type 0 where
+    pub shows : StatusShows status
+    pub bad_exactly : IsFaultless (faults opened) (faults back) → IfTold (remaining opened) (λ bytes. (at : ℕ) → left bytes ≡ Some at →
+        length (whole bytes) ≤ most_keys → (status ≡ BadTrace 0 at) ⊎ (status ≡ OutOfMemory))
+    pub complete : IsFaultless (faults opened) (faults back) → IsFaultless (sink_faults before) (sink_faults after) →
+        IfTold (remaining opened) (λ bytes. left bytes ≡ None → length (whole bytes) ≤ most_keys → (status ≡ Done) ⊎ (status ≡ OutOfMemory))
+    pub timely : IfTold (remaining opened) (λ bytes. (bins : ℕ) → IsTimely threshold bins (whole bytes) (at_once threshold (whole bytes)))

@@ -4,7 +4,7 @@ ghost use Rattle.std.specs.Prelude.{◌≡◌, ◌↔◌, ◌++◌, ◌∷◌, �
 ghost use Rattle.lert_io.specs.Fault.{HasCause, HasRisen};
 ghost use Rattle.lert_top.specs.Command.{command, usage};
 ghost use Rattle.lert_top.specs.Page.{IsCut};
-ghost use Rattle.lert_top.specs.Run.{StatusShows, most_keys, text_of};
+ghost use Rattle.lert_top.specs.Run.{HasRun, StatusShows, most_keys, text_of};
 ghost use Rattle.lert_top.specs.Word.{word_at};
 
 use crate::detector::Detector;
@@ -38,7 +38,7 @@ pub fn run<P: Place, K: Sink>(alloc: Global, words: &Words, place: &mut P, out: 
     // A trace that was opened is put back, and the status says what came of it.
     ensures ran { (line : Line) → command words.now ≡ Some line → usage words.now ≡ None → (result ≡ Status.PlaceFault → ⊥) →
         (opened : P.Trace) × (back : P.Trace) × (P.handed place.new ≡ opened ∷ []) × (P.returned place.new 0 ≡ Some back)
-        × (P.Trace.mark back ≡ 0) × StatusShows P.Trace.remaining P.Trace.faults K.taken K.faults line.threshold opened back out.old out.new result }
+        × (P.Trace.mark back ≡ 0) × HasRun P.Trace.remaining P.Trace.faults K.taken K.faults line.threshold opened back out.old out.new result }
 {
     let line = match Line::read(words) {
         Ok(line) => line,

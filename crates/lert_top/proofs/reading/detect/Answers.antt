@@ -32,4 +32,4 @@ returns-in-Ok-None-clause-events g c = λ bytes was.
 pub returns-in-Ok-None-clause-read : goal.returns-in-Ok-None-clause-read
 returns-in-Ok-None-clause-read g c = λ bytes was.
     let end = rw c.in-Ok-None.field-0-is at (c.in-Ok-None.ensures.end bytes (ap g.S.Source.remaining c.loop-key.invariant.made ∙ was)) in
-    record { well_formed = end.0.well_formed; read = end.1 }
+    record { well_formed = end.0.well_formed; few = omega (arith, end.0.all_given, c.loop-key.invariant.within); read = end.1 }
