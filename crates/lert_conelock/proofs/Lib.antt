@@ -1,0 +1,11 @@
+pub mod Prefixes
+pub mod Replaced
+pub mod Words
+pub mod Contained
+pub mod Gathered
+pub mod Idling
+pub mod Taking
+pub mod Committing
+pub mod Looking
+pub mod Noting
+pub mod Freeing

@@ -1,0 +1,4 @@
+pub mod Prefix
+pub mod Shown
+pub mod Rule
+pub mod Steps

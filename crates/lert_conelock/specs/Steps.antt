@@ -1,0 +1,53 @@
+-- What the steps of a cone lock tell the caller that makes them.
+use Rattle.std.specs.Prelude.{◌≡◌, ℕ, ◌≤◌, Bool, List, [], ◌∷◌, ◌++◌, ◌⊎◌, length, Option, Some, None, IsTrue, Contains}
+use Rattle.atomic_table.specs.Table.{Me, rest}
+use Rattle.lert_base.specs.Packet.{Packet}
+use Rattle.lert_conelock.specs.Prefix.{IsPrefix}
+use Rattle.lert_conelock.specs.Shown.{Shown, missed, committed, noted, freed}
+
+-- a seat's view, and the slot that it holds
+abbrev pub Mine : Type 0 → Type 0 → Type 0
+Mine H F = Me (Option H) (Option (Shown H F))
+
+-- the seat has a live pass without the lock
+pub record IsIdle {H F : Type 0} (me : Mine H F) : Type 0 where
+  pub pass : Shown H F
+  pub me_is : me ≡ (Some pass, [])
+  pub idle : pass.tries ≡ None
+
+-- the seat may take the lock for the packet
+pub record MayTake {H F : Type 0} (me : Mine H F) (e : Packet) : Type 0 where
+  pub pass : Shown H F
+  pub me_is : me ≡ (Some pass, [])
+  pub idle : pass.tries ≡ None
+  pub own : e.by ≡ pass.lo
+
+-- two readings of the history agree: the one begins the other
+pub record Looked {H F : Type 0} (found : ℕ) (p q : Shown H F) : Type 0 where
+  pub shows : q ≡ record p { seen = q.seen }
+  pub more : IsPrefix p.seen q.seen
+  pub count : found ≡ length q.seen
+
+module _ {H T F : Type 0} (terms : H → T) (stands_for : H → List Packet → Type 0) (stopped : H → Bool) (over : H → Option Packet) (refuses : T → List Packet → Packet → F → Type 0) where
+  -- the state in the hands of the pass that has the lock
+  pub record InHand (p : Shown H F) (state : H) : Type 0 where
+    pub terms_are : terms state ≡ terms p.first
+    pub stands : (h : List Packet) → stands_for p.first h → stands_for state (h ++ p.seen)
+    pub stopped_is : IsTrue p.stopped → IsTrue (stopped state)
+    pub over_is : (over state ≡ None) ⊎ ((over state ≡ over p.first) ⊎ ((e : Packet) × (over state ≡ Some e) × Contains p.known e))
+    pub fresh_is : (state ≡ p.first) ⊎ ((e : Packet) × (Contains p.seen e ⊎ Contains p.known e))
+
+  -- p took the lock for the packet
+  pub record Took (e : Packet) (p : Shown H F) (after : Mine H F) : Type 0 where
+    pub pass : Shown H F
+    pub state : H
+    pub after_is : after ≡ (Some pass, (0, Some state) ∷ [])
+    pub shows : pass ≡ record p { seen = pass.seen; stopped = pass.stopped; known = pass.known; tries = Some e }
+    pub more : IsPrefix p.seen pass.seen
+    pub stops : IsTrue p.stopped → IsTrue pass.stopped
+    pub opened : (h : List Packet) × stands_for p.first h
+    pub hand : InHand pass state
+
+  -- the refusal is by rule, or the state in hand is stopped
+  abbrev pub IsReason : Bool → Shown H F → Packet → F → Type 0
+  IsReason stop p e f = IsTrue stop ⊎ ((h : List Packet) → stands_for p.first h → refuses (terms p.first) (h ++ p.seen) e f)

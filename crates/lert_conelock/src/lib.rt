@@ -1,0 +1,6 @@
+//! A lock round the state of a cone, whose calls make one history.
+#![tactic(auto)]
+
+mod plays;
+mod rule;
+mod view;
