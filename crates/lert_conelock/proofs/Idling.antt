@@ -10,6 +10,7 @@ use Rattle.lert_conelock.specs.Prefix.{IsPrefix}
 use Rattle.lert_conelock.specs.Shown.{Shown}
 use Rattle.lert_conelock.specs.Rule.{Views, Has, IsStopped, IsRefused, IsTried, IsPart, IsCaused, Passes, IsHome, HoldsWith, Holds}
 use Rattle.lert_conelock.proofs.Prefixes.{prefix_itself}
+use Rattle.lert_conelock.proofs.Homes.{home_after}
 use Rattle.lert_conelock.proofs.Replaced.{Grows, has_here, has_after, forward, stopped_back, refused_on, passes_after}
 
 module _ {H T F : Type 0} (terms : H → T) (stands_for : H → List Packet → Type 0) (stopped : H → Bool) (over : H → Option Packet) (refuses : T → List Packet → Packet → F → Type 0) (first : H) (numbers : ℕ) where
@@ -41,14 +42,7 @@ module _ {H T F : Type 0} (terms : H → T) (stands_for : H → List Packet → 
         (λ a r d ne at t. ((b.trying a r d at t).0, λ x. (b.trying a r d at t).1 (stop_was x)))
 
     home_idle : (state : H) → IsHome terms stands_for stopped over refuses first history s.views state → IsHome terms stands_for stopped over refuses first history after state
-    home_idle state h = record {
-      terms_are = h.terms_are;
-      stands = h.stands;
-      stopped_is = λ x. h.stopped_is (stop_was x);
-      over_is = ⊎_elim inl (λ (o : (over state ≡ over first) ⊎ ((d : Packet) × (over state ≡ Some d) × IsRefused s.views d)). inr (⊎_elim inl
-          (λ (t : (d : Packet) × (over state ≡ Some d) × IsRefused s.views d). inr (t.0, t.1, refused_on s.views id p q there grows t.0 t.2)) o)) h.over_is;
-      fresh_is = ⊎_elim inl (λ (t : (d : Packet) × (Contains history d ⊎ IsRefused s.views d)). inr (t.0, ⊎_elim inl (λ r. inr (refused_on s.views id p q there grows t.0 r)) t.1)) h.fresh_is
-    }
+    home_idle = home_after terms stands_for stopped over refuses first history s.views after stop_was (refused_on s.views id p q there grows)
 
     pub idles : HoldsWith terms stands_for stopped over refuses first numbers (record { words = s.words; homes = s.homes; views = after }) history
     idles = record {

@@ -3,9 +3,11 @@ pub mod Replaced
 pub mod Words
 pub mod Contained
 pub mod Gathered
+pub mod Homes
 pub mod Idling
 pub mod Taking
 pub mod Committing
 pub mod Looking
+pub mod Splitting
 pub mod Noting
 pub mod Freeing
