@@ -9,5 +9,7 @@ pub mod Taking
 pub mod Committing
 pub mod Looking
 pub mod Splitting
+pub mod Cuts
+pub mod Joining
 pub mod Noting
 pub mod Freeing
