@@ -10,7 +10,7 @@ use Rattle.lert_base.specs.Packet.{Packet, own}
 use Rattle.lert_conelock.specs.Prefix.{IsPrefix}
 use Rattle.lert_conelock.specs.Shown.{Shown, freed}
 use Rattle.lert_conelock.specs.Rule.{Views, Has, IsStopped, IsRefused, IsTried, IsPart, IsCaused, Passes, IsHome, HoldsWith, Holds}
-use Rattle.lert_conelock.specs.Steps.{Mine, InHand}
+use Rattle.lert_conelock.specs.Steps.{Mine, InHand, HasLock}
 use Rattle.lert_conelock.proofs.Prefixes.{prefix_itself}
 use Rattle.lert_conelock.proofs.Replaced.{Grows, has_here, has_after, stopped_back, refused_on, passes_after}
 
@@ -53,13 +53,12 @@ module _ {H T F : Type 0} (terms : H → T) (stands_for : H → List Packet → 
               t.1)) hand.fresh_is
     }
 
-  pub frees : (id : ℕ) (me : Mine H F) (p : Shown H F) (e : Packet) (state : H) (more : ℕ) → me ≡ (Some p, (0, Some state) ∷ []) → p.tries ≡ Some e
-      → InHand terms stands_for stopped over refuses p state
-      → Allows (Holds terms stands_for stopped over refuses first numbers) 1 id me 0 (λ _. 0)
+  pub frees : (slots id : ℕ) (me : Mine H F) (state : H) (more : ℕ) → slots ≡ 1 → HasLock terms stands_for stopped over refuses state (Some state) me
+      → Allows (Holds terms stands_for stopped over refuses first numbers) slots id me 0 (λ _. 0)
           (λ found after. (p' : Shown H F) → me.0 ≡ Some p' → after ≡ (Some (freed more p'), rest me.1))
-  frees id me p e state more is tries hand = subst
-      (λ (m : Mine H F). Allows (Holds terms stands_for stopped over refuses first numbers) 1 id m 0 (λ _. 0)
-          (λ found after. (p' : Shown H F) → m.0 ≡ Some p' → after ≡ (Some (freed more p'), rest m.1))) (sym is)
+  frees slots id me state more slot lock = let p = lock.pass in let e = lock.packet in let tries = lock.tries in let hand = lock.hand in subst
+      (λ (m : Mine H F). Allows (Holds terms stands_for stopped over refuses first numbers) slots id m 0 (λ _. 0)
+          (λ found after. (p' : Shown H F) → m.0 ≡ Some p' → after ≡ (Some (freed more p'), rest m.1))) (sym lock.me_is)
       (λ s holds one at _.
         let there : Has s.views id p = at in let history = holds.0 in let w = holds.1 in let b = w.passes in
         let q : Shown H F = freed more p in

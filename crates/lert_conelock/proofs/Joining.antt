@@ -11,7 +11,8 @@ use Rattle.atomic_table.specs.Table.{State, Joins}
 use Rattle.atomic_table.proofs.Lists.{at_set, set_here, set_else}
 use Rattle.lert_base.specs.Packet.{Packet, own}
 use Rattle.lert_conelock.specs.Prefix.{IsPrefix}
-use Rattle.lert_conelock.specs.Shown.{Shown, joined, longer, shorter, both_sides}
+use Rattle.lert_conelock.specs.Steps.{Mine, IsIdle}
+use Rattle.lert_conelock.specs.Shown.{Shown, joined, both_of, longer, shorter, both_sides}
 use Rattle.lert_conelock.specs.Rule.{Views, Has, IsStopped, IsRefused, IsCovered, IsTried, IsPart, IsCaused, Passes, IsHome, HoldsWith, Holds}
 use Rattle.lert_conelock.proofs.Replaced.{at_within, there_again}
 use Rattle.lert_conelock.proofs.Homes.{home_after}
@@ -189,3 +190,12 @@ module _ {H T F : Type 0} (terms : H → T) (stands_for : H → List Packet → 
       one_tries = λ held. let t = w.one_tries held in tried_into s.views id p mine other q theirs ne terms stands_for stopped over refuses first numbers history w.passes idle idle' meets t
           (was s.views id p mine other q theirs ne t.seat t.pass t.there)
     })
+
+  -- the same for two seats that have a live pass without the lock
+  pub join_at : (id : ℕ) (me : Mine H F) (other : ℕ) (them : Mine H F) → IsIdle me → IsIdle them → ((p q : Shown H F) → me.0 ≡ Some p → them.0 ≡ Some q → q.lo ≡ p.hi)
+      → Joins (Holds terms stands_for stopped over refuses first numbers) id me.0 other them.0 (both_of me.0 them.0) None
+  join_at id me other them idle idle' meets = let p = idle.pass in let q = idle'.pass in
+      let is : me.0 ≡ Some p = λ i. (idle.me_is i).0 in let is' : them.0 ≡ Some q = λ i. (idle'.me_is i).0 in
+      subst (λ (v : Option (Shown H F)). Joins (Holds terms stands_for stopped over refuses first numbers) id v other them.0 (both_of v them.0) None) (sym is)
+          (subst (λ (v : Option (Shown H F)). Joins (Holds terms stands_for stopped over refuses first numbers) id (Some p) other v (both_of (Some p) v) None) (sym is')
+              (joining id p other q idle.idle idle'.idle (meets p q is is')))

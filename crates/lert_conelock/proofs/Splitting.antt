@@ -11,6 +11,8 @@ use Rattle.atomic_table.specs.Table.{State, Splits}
 use Rattle.atomic_table.proofs.Lists.{at_set, set_here, set_else, at_longer, at_last}
 use Rattle.lert_base.specs.Packet.{Packet, own}
 use Rattle.lert_conelock.specs.Prefix.{IsPrefix}
+use Rattle.std.specs.Option.{option_map}
+use Rattle.lert_conelock.specs.Steps.{Mine, IsIdle}
 use Rattle.lert_conelock.specs.Shown.{Shown, lower, upper}
 use Rattle.lert_conelock.specs.Rule.{Views, Has, IsStopped, IsRefused, IsCovered, IsTried, IsPart, IsCaused, Passes, IsHome, HoldsWith, Holds}
 use Rattle.lert_conelock.proofs.Replaced.{at_within, there_again}
@@ -187,3 +189,10 @@ module _ {H T F : Type 0} (terms : H → T) (stands_for : H → List Packet → 
     none_tries = λ free a r d there t. w.none_tries free a r d (trier s.views id p mine at terms stands_for stopped over refuses first numbers history w.passes idle above below a r d (kind s.views id p mine at a r there) t) t;
     one_tries = λ held. tried_on s.views id p mine at terms stands_for stopped over refuses first numbers history w.passes idle above below (w.one_tries held)
   })
+
+  -- the same for a seat that has a live pass without the lock
+  pub split_at : (id : ℕ) (me : Mine H F) (cut at : ℕ) → cut ≡ at → IsIdle me → ((p : Shown H F) → me.0 ≡ Some p → (p.lo < at) × (at < p.hi))
+      → Splits (Holds terms stands_for stopped over refuses first numbers) id me.0 (option_map (lower cut) me.0) (option_map (upper cut) me.0)
+  split_at id me cut at same idle within = let p = idle.pass in let is : me.0 ≡ Some p = λ i. (idle.me_is i).0 in let bounds = within p is in
+      subst (λ (v : Option (Shown H F)). Splits (Holds terms stands_for stopped over refuses first numbers) id v (option_map (lower cut) v) (option_map (upper cut) v)) (sym is)
+          (splitting id p cut idle.idle (let lo = bounds.0 in omega arith) (let hi = bounds.1 in omega arith))

@@ -9,9 +9,9 @@ use Rattle.atomic_table.specs.Table.{State, Act, Me, Valid, Allows, keeps, takes
 use Rattle.atomic_table.proofs.Lists.{exchanged}
 use Rattle.lert_base.specs.Packet.{Packet, own}
 use Rattle.lert_conelock.specs.Prefix.{IsPrefix}
-use Rattle.lert_conelock.specs.Shown.{Shown, missed}
+use Rattle.lert_conelock.specs.Shown.{Shown, missed, taken}
 use Rattle.lert_conelock.specs.Rule.{Views, Has, IsStopped, IsRefused, IsTried, IsPart, IsCaused, Passes, IsHome, HoldsWith, Holds}
-use Rattle.lert_conelock.specs.Steps.{Mine, InHand, Took}
+use Rattle.lert_conelock.specs.Steps.{Mine, MayTake, InHand, Took}
 use Rattle.lert_conelock.proofs.Prefixes.{prefix_itself}
 use Rattle.lert_conelock.proofs.Replaced.{Grows, has_here, has_after, forward, stopped_back, refused_on, passes_after}
 use Rattle.lert_conelock.proofs.Gathered.{any_stopped, all_refused, stop_shown, stop_counts, refusal_shown, refusal_counts}
@@ -22,7 +22,7 @@ module _ {H T F : Type 0} (terms : H → T) (stands_for : H → List Packet → 
   module _ (s : State (Option H) (Option (Shown H F))) (history : List Packet) (w : HoldsWith terms stands_for stopped over refuses first numbers s history)
       (id : ℕ) (p : Shown H F) (there : Has s.views id p) (e : Packet) (named : e.by ≡ p.lo) (free : get_or s.words 0 0 ≡ 0) where
     abbrev won : Shown H F
-    won = record p { seen = history; stopped = any_stopped s.views; known = all_refused s.views; tries = Some e }
+    won = taken e history (any_stopped s.views) (all_refused s.views) p
 
     abbrev after : Views H F
     after = set s.views id (Some won)
@@ -57,12 +57,12 @@ module _ {H T F : Type 0} (terms : H → T) (stands_for : H → List Packet → 
       one_tries = λ _. record { seat = id; pass = won; packet = e; there = has_here s.views id p won there; tries = refl }
     }
 
-    pub took : (state : H) → IsHome terms stands_for stopped over refuses first history s.views state → Took terms stands_for stopped over refuses e p (Some won, (0, Some state) ∷ [])
+    pub took : (state : H) → IsHome terms stands_for stopped over refuses first history s.views state → Took terms stands_for stopped over refuses e p state (Some state) (Some won, (0, Some state) ∷ [])
     took state h = let part = w.passes.parts id p there in let same : first ≡ p.first = sym part.first_is in record {
-      pass = won;
-      state = state;
+      seen = history;
+      stop = any_stopped s.views;
+      known = all_refused s.views;
       after_is = refl;
-      shows = refl;
       more = part.seen;
       stops = stops;
       opened = (w.opened.0, subst (λ (x : H). stands_for x w.opened.0) same w.opened.1);
@@ -78,22 +78,22 @@ module _ {H T F : Type 0} (terms : H → T) (stands_for : H → List Packet → 
       }
     }
 
-  pub taking : (id : ℕ) (me : Mine H F) (p : Shown H F) (e : Packet) → me ≡ (Some p, []) → p.tries ≡ None → e.by ≡ p.lo
-      → Allows (Holds terms stands_for stopped over refuses first numbers) 1 id me 0 (λ n. either (eqb n 0) 1 n)
-          (λ found after. (p' : Shown H F) → me.0 ≡ Some p' → (found ≡ 0 → Took terms stands_for stopped over refuses e p' after) × ((found ≡ 0 → ⊥) → after ≡ (Some (missed p'), [])))
-  taking id me p e is idle named = subst
-      (λ (m : Mine H F). Allows (Holds terms stands_for stopped over refuses first numbers) 1 id m 0 (λ n. either (eqb n 0) 1 n)
-          (λ found after. (p' : Shown H F) → m.0 ≡ Some p' → (found ≡ 0 → Took terms stands_for stopped over refuses e p' after) × ((found ≡ 0 → ⊥) → after ≡ (Some (missed p'), [])))) (sym is)
+  pub taking : (slots id : ℕ) (me : Mine H F) (e : Packet) → MayTake me e
+      → Allows (Holds terms stands_for stopped over refuses first numbers) slots id me 0 (λ n. either (eqb n 0) 1 n)
+          (λ found after. (p' : Shown H F) → me.0 ≡ Some p' → (found ≡ 0 → (state : H) × Took terms stands_for stopped over refuses e p' state (Some state) after) × ((found ≡ 0 → ⊥) → after ≡ (Some (missed p'), [])))
+  taking slots id me e may = let p = may.pass in let idle = may.idle in let named = may.own in subst
+      (λ (m : Mine H F). Allows (Holds terms stands_for stopped over refuses first numbers) slots id m 0 (λ n. either (eqb n 0) 1 n)
+          (λ found after. (p' : Shown H F) → m.0 ≡ Some p' → (found ≡ 0 → (state : H) × Took terms stands_for stopped over refuses e p' state (Some state) after) × ((found ≡ 0 → ⊥) → after ≡ (Some (missed p'), [])))) (sym may.me_is)
       (λ s holds one at _.
         let history = holds.0 in let w = holds.1 in
         exchanged (get_or s.words 0 0) 0 1
           (λ (x : ℕ). (v : Option (Shown H F)) × (a : Act (Option H)) × Valid s.homes [] a × Holds terms stands_for stopped over refuses first numbers (stepped s 0 x id [] v a)
-              × ((p' : Shown H F) → Some p ≡ Some p' → (get_or s.words 0 0 ≡ 0 → Took terms stands_for stopped over refuses e p' (v, carried_after [] a)) × ((get_or s.words 0 0 ≡ 0 → ⊥) → ◌≡◌ {A = Mine H F} (v, carried_after [] a) (Some (missed p'), []))))
+              × ((p' : Shown H F) → Some p ≡ Some p' → (get_or s.words 0 0 ≡ 0 → (state : H) × Took terms stands_for stopped over refuses e p' state (Some state) (v, carried_after [] a)) × ((get_or s.words 0 0 ≡ 0 → ⊥) → ◌≡◌ {A = Mine H F} (v, carried_after [] a) (Some (missed p'), []))))
           (λ free. let t = w.home free in (
             Some (won s history w id p at e named free), takes 0 (Some t.0), t.1,
             (history, wins s history w id p at e named free),
             λ p' same. (
-              (λ _. subst (λ (x : Shown H F). Took terms stands_for stopped over refuses e x (Some (won s history w id p at e named free), (0, Some t.0) ∷ [])) (same_Some p p' same) (took s history w id p at e named free t.0 t.2)),
+              (λ _. (t.0, subst (λ (x : Shown H F). Took terms stands_for stopped over refuses e x t.0 (Some t.0) (Some (won s history w id p at e named free), (0, Some t.0) ∷ [])) (same_Some p p' same) (took s history w id p at e named free t.0 t.2))),
               (λ no_. absurd (no_ free)),
             )))
           (λ held. (

@@ -35,6 +35,10 @@ module _ {H F : Type 0} where
   abbrev pub missed : Shown H F → Shown H F
   missed p = record p { met = p.met + 1 }
 
+  -- the lock is taken for the packet, and this is known of the history, of the stop and of refusals
+  abbrev pub taken : Packet → List Packet → Bool → List Packet → Shown H F → Shown H F
+  taken e seen stop known p = record p { seen = seen; stopped = stop; known = known; tries = Some e }
+
   -- the packet was taken in
   abbrev pub committed : Packet → Shown H F → Shown H F
   committed e p = record p { seen = p.seen ++ e ∷ []; calls = p.calls ++ e ∷ [] }

@@ -1,9 +1,9 @@
 -- What the steps of a cone lock tell the caller that makes them.
 use Rattle.std.specs.Prelude.{◌≡◌, ℕ, ◌≤◌, Bool, List, [], ◌∷◌, ◌++◌, ◌⊎◌, length, Option, Some, None, IsTrue, Contains}
-use Rattle.atomic_table.specs.Table.{Me, rest}
+use Rattle.atomic_table.specs.Table.{Me}
 use Rattle.lert_base.specs.Packet.{Packet}
 use Rattle.lert_conelock.specs.Prefix.{IsPrefix}
-use Rattle.lert_conelock.specs.Shown.{Shown, missed, committed, noted, freed}
+use Rattle.lert_conelock.specs.Shown.{Shown, taken}
 
 -- a seat's view, and the slot that it holds
 abbrev pub Mine : Type 0 → Type 0 → Type 0
@@ -22,7 +22,14 @@ pub record MayTake {H F : Type 0} (me : Mine H F) (e : Packet) : Type 0 where
   pub idle : pass.tries ≡ None
   pub own : e.by ≡ pass.lo
 
--- two readings of the history agree: the one begins the other
+-- the seat has the lock for a packet
+pub record IsTrying {H F : Type 0} (me : Mine H F) : Type 0 where
+  pub pass : Shown H F
+  pub packet : Packet
+  pub me_is : me.0 ≡ Some pass
+  pub tries : pass.tries ≡ Some packet
+
+-- p has looked: q knows the whole history, of which this many packets were found
 pub record Looked {H F : Type 0} (found : ℕ) (p q : Shown H F) : Type 0 where
   pub shows : q ≡ record p { seen = q.seen }
   pub more : IsPrefix p.seen q.seen
@@ -37,15 +44,23 @@ module _ {H T F : Type 0} (terms : H → T) (stands_for : H → List Packet → 
     pub over_is : (over state ≡ None) ⊎ ((over state ≡ over p.first) ⊎ ((e : Packet) × (over state ≡ Some e) × Contains p.known e))
     pub fresh_is : (state ≡ p.first) ⊎ ((e : Packet) × (Contains p.seen e ⊎ Contains p.known e))
 
-  -- p took the lock for the packet
-  pub record Took (e : Packet) (p : Shown H F) (after : Mine H F) : Type 0 where
-    pub pass : Shown H F
-    pub state : H
-    pub after_is : after ≡ (Some pass, (0, Some state) ∷ [])
-    pub shows : pass ≡ record p { seen = pass.seen; stopped = pass.stopped; known = pass.known; tries = Some e }
-    pub more : IsPrefix p.seen pass.seen
-    pub stops : IsTrue p.stopped → IsTrue pass.stopped
+  -- p took the lock for the packet, and this is in the slot now
+  pub record Took (e : Packet) (p : Shown H F) (state : H) (slot : Option H) (after : Mine H F) : Type 0 where
+    pub seen : List Packet
+    pub stop : Bool
+    pub known : List Packet
+    pub after_is : after ≡ (Some (taken e seen stop known p), (0, slot) ∷ [])
+    pub more : IsPrefix p.seen seen
+    pub stops : IsTrue p.stopped → IsTrue stop
     pub opened : (h : List Packet) × stands_for p.first h
+    pub hand : InHand (taken e seen stop known p) state
+
+  -- the seat has the lock, and this is in the slot
+  pub record HasLock (state : H) (slot : Option H) (me : Mine H F) : Type 0 where
+    pub pass : Shown H F
+    pub packet : Packet
+    pub me_is : me ≡ (Some pass, (0, slot) ∷ [])
+    pub tries : pass.tries ≡ Some packet
     pub hand : InHand pass state
 
   -- the refusal is by rule, or the state in hand is stopped

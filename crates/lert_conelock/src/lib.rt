@@ -3,4 +3,5 @@
 
 mod plays;
 mod rule;
+mod steps;
 mod view;
