@@ -11,5 +11,7 @@ pub mod Looking
 pub mod Splitting
 pub mod Cuts
 pub mod Joining
+pub mod Turning
+pub mod Turned
 pub mod Noting
 pub mod Freeing

@@ -2,3 +2,4 @@ pub mod Prefix
 pub mod Shown
 pub mod Rule
 pub mod Steps
+pub mod Turns

@@ -4,4 +4,7 @@
 mod plays;
 mod rule;
 mod steps;
+mod turn;
 mod view;
+
+pub use turn::Turn;
