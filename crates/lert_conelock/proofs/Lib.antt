@@ -13,5 +13,6 @@ pub mod Cuts
 pub mod Joining
 pub mod Turning
 pub mod Turned
+pub mod Ending
 pub mod Noting
 pub mod Freeing

@@ -29,7 +29,7 @@ module _ {H T F : Type 0} (terms : H → T) (stands_for : H → List Packet → 
         (idles terms stands_for stopped over refuses first numbers s history w id p there idle history p.met (prefix_itself history))),
       λ p' is'. let same : p ≡ p' = same_Some p p' (sym is ∙ is') in
         subst (λ (x : Shown H F). (r : Shown H F) × ◌≡◌ {A = Mine H F} (Some q, me.1) (Some r, me.1) × Looked (get_or s.words 1 0) x r) same
-          (q, refl, record { shows = refl; more = (w.passes.parts id p there).seen; count = w.count_word }),
+          (q, refl, record { shows = refl; more = (w.passes.parts id p there).seen; count = w.count_word; calls = λ n lo hi. sym ((w.passes.parts id p there).calls n lo hi) }),
     )
 
   pub agreeing : (slots id : ℕ) (me : Mine H F)

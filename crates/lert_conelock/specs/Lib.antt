@@ -3,3 +3,4 @@ pub mod Shown
 pub mod Rule
 pub mod Steps
 pub mod Turns
+pub mod Sight

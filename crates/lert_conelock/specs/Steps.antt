@@ -1,7 +1,7 @@
 -- What the steps of a cone lock tell the caller that makes them.
-use Rattle.std.specs.Prelude.{◌≡◌, ℕ, ◌≤◌, Bool, List, [], ◌∷◌, ◌++◌, ◌⊎◌, length, Option, Some, None, IsTrue, Contains}
+use Rattle.std.specs.Prelude.{◌≡◌, ℕ, ◌<◌, ◌≤◌, Bool, List, [], ◌∷◌, ◌++◌, ◌⊎◌, length, Option, Some, None, IsTrue, Contains}
 use Rattle.atomic_table.specs.Table.{Me}
-use Rattle.lert_base.specs.Packet.{Packet}
+use Rattle.lert_base.specs.Packet.{Packet, own}
 use Rattle.lert_conelock.specs.Prefix.{IsPrefix}
 use Rattle.lert_conelock.specs.Shown.{Shown, taken}
 
@@ -34,6 +34,7 @@ pub record Looked {H F : Type 0} (found : ℕ) (p q : Shown H F) : Type 0 where
   pub shows : q ≡ record p { seen = q.seen }
   pub more : IsPrefix p.seen q.seen
   pub count : found ≡ length q.seen
+  pub calls : (n : ℕ) → q.lo ≤ n → n < q.hi → own q.seen n ≡ own q.calls n
 
 module _ {H T F : Type 0} (terms : H → T) (stands_for : H → List Packet → Type 0) (stopped : H → Bool) (over : H → Option Packet) (refuses : T → List Packet → Packet → F → Type 0) where
   -- the state in the hands of the pass that has the lock
