@@ -14,5 +14,7 @@ pub mod Joining
 pub mod Turning
 pub mod Turned
 pub mod Ending
+pub mod Seeing
+pub mod Waiting
 pub mod Noting
 pub mod Freeing

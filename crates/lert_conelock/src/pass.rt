@@ -7,7 +7,8 @@ use lert_base::Held;
 use std::marker::Model;
 
 /// A caller's part of a lock: a range of numbers, under which it brings packets, and what it knows of
-/// the lock's history. It takes no memory and crosses threads as the state does.
+/// the lock's history. It takes no memory, and crosses threads where the state may. A pass can't be
+/// let go: it is joined to another one, or closes the lock.
 pub struct Pass<S: Held> {
     pub(crate) lo: u32,
     pub(crate) seat: Seat<S>,
@@ -31,11 +32,5 @@ impl<S: Held> Pass<S> {
         ensures { result ≡ self.now.lo }
     {
         self.lo
-    }
-}
-
-impl<S: Held> Drop for Pass<S> {
-    fn drop(self) {
-        let Self { lo: _, seat: _ } = self;
     }
 }

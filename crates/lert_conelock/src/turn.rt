@@ -1,17 +1,18 @@
 //! One try of a call: take the lock, apply, note what came of it, free the lock.
 
-ghost use Rattle.std.specs.Prelude.{◌≡◌, ℕ, ◌<◌, ◌^◌, [], ◌∷◌, ◌++◌, List, length, Option, Some, None, IsTrue, IfSome, IfNone};
+ghost use Rattle.std.specs.Prelude.{◌≡◌, ℕ, ◌<◌, ◌≤◌, ◌^◌, [], ◌∷◌, ◌++◌, List, length, Option, Some, None, IsTrue, IfSome, IfNone, IfOk, IfErr};
 ghost use Rattle.lert_base.specs.Packet.{Packet};
 ghost use Rattle.lert_base.specs.Entries.{packet_of};
 ghost use Rattle.lert_conelock.specs.Shown.{Shown, missed, freed};
 ghost use Rattle.lert_conelock.specs.Steps.{MayTake, Took, HasLock};
 ghost use Rattle.lert_conelock.specs.Turns.{WasTaken, WasRefused};
 
-use crate::plays::Counting;
+use crate::plays::{Counting, Waiting};
 use crate::rule::{Seat, Shared};
 use crate::steps;
 use lert_base::{Entry, Held};
 use std::marker::Brand;
+use std::sync::Wait;
 
 /// What became of one try of a call.
 #[derive(Clone, Copy, Debug, PartialEq, Eq, Drop)]
@@ -90,4 +91,33 @@ pub fn try_turn<S: Held, C: Counting>(
             Turn::Refused(refusal)
         }
     }
+}
+
+/// Tries until the lock is free, and sleeps between two tries while it is held.
+pub fn take_turn<S: Held, R: Wait>(
+    rt: &R,
+    shared: &Shared<S>,
+    seat: &mut Seat<S>,
+    entry: &Entry,
+) -> Result<S::Reply, S::Refusal>
+    requires sized { (shared.now.table_id.words ≡ 2) × (shared.now.table_id.slots ≡ 1) }
+    requires table { seat.old.table_id ≡ shared.now.table_id }
+    requires idle { MayTake seat.old.me (packet_of entry.now) }
+    requires fits { (p : Shown S S.Refusal) → seat.old.me.0 ≡ Some p → S.fits (S.terms p.first) (packet_of entry.now) }
+    ensures seat { seat.new.table_id ≡ seat.old.table_id }
+    ensures done { (p : Shown S S.Refusal) → seat.old.me.0 ≡ Some p → IfOk result (λ reply. (q : Shown S S.Refusal) × (m : ℕ)
+        × (p.met ≤ m) × (seat.new.me ≡ (Some q, []))
+        × WasTaken S.terms S.stands_for S.answers S.refuses (packet_of entry.now) reply 1 (record p { met = m }) q) }
+    ensures refused { (p : Shown S S.Refusal) → seat.old.me.0 ≡ Some p → IfErr result (λ refusal. (q : Shown S S.Refusal) × (m : ℕ)
+        × (p.met ≤ m) × (seat.new.me ≡ (Some q, []))
+        × WasRefused S.terms S.stands_for S.answers S.refuses (packet_of entry.now) refusal 1 (record p { met = m }) q) }
+{
+    for _ in rt.forever() {
+        match try_turn::<S, Waiting>(shared, seat, entry) {
+            Turn::Done(reply) => return Ok(reply),
+            Turn::Refused(refusal) => return Err(refusal),
+            Turn::Busy => shared.park(rt, 0, 1),
+        }
+    }
+    unreachable!()
 }
