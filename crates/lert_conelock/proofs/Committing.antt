@@ -38,24 +38,28 @@ module _ {H T F : Type 0} (terms : H → T) (stands_for : H → List Packet → 
 
     -- the packet's number belongs to no other pass
     other_number : (a : ℕ) (r : Shown H F) → a ≢ id → Has views a r → (n : ℕ) → r.lo ≤ n → n < r.hi → e.by ≡ n → ⊥
-    other_number a r ne at n lo hi same = let part = b.parts id p there in let named = part.tried e tries in let some_ = part.not_empty in
+    other_number a r ne at n lo hi same = let part = b.parts id p there in let named = part.tried e tries in let not_empty = part.not_empty in
         ⊎_elim (λ (far : r.hi ≤ p.lo). omega arith) (λ (far : p.hi ≤ r.lo). omega arith) (b.apart a id r p at there ne)
 
     pub passes_committed : Passes terms stands_for stopped over refuses first numbers longer (set views id (Some q))
     passes_committed = let part = b.parts id p there in passes_after views id p q there terms stands_for stopped over refuses first numbers history longer b (prefix_append history (e ∷ [])) grows
         (λ a r ne at. let other = b.parts a r at in record {
-          first_is = other.first_is; not_empty = other.not_empty; within = other.within;
+          first_is = other.first_is;
+          not_empty = other.not_empty;
+          within = other.within;
           seen = prefix_trans other.seen (prefix_append history (e ∷ []));
           lesser = prefix_trans other.lesser (prefix_append history (e ∷ []));
           calls = λ n lo hi. other.calls n lo hi ∙ sym (own_other history e n (other_number a r ne at n lo hi));
-          tried = other.tried
+          tried = other.tried;
         })
         (record {
-          first_is = part.first_is; not_empty = part.not_empty; within = part.within;
+          first_is = part.first_is;
+          not_empty = part.not_empty;
+          within = part.within;
           seen = subst (λ (l : List Packet). IsPrefix (l ++ e ∷ []) longer) (sym (b.trying id p e there tries).0) (prefix_itself longer);
           lesser = prefix_trans part.lesser (prefix_append history (e ∷ []));
           calls = λ n lo hi. own_more p.calls history e n (part.calls n lo hi);
-          tried = part.tried
+          tried = part.tried;
         })
         (λ d g c. inl c)
         (λ d c. refused_on views id p q there grows d (b.known id p there d c))
@@ -65,36 +69,38 @@ module _ {H T F : Type 0} (terms : H → T) (stands_for : H → List Packet → 
 
   pub committing : (slots id : ℕ) (me : Mine H F) (p : Shown H F) (e : Packet) → me.0 ≡ Some p → p.tries ≡ Some e → length p.seen < 2 ^ 40
       → Allows (Holds terms stands_for stopped over refuses first numbers) slots id me 1 (λ n. (n + 1) % 2 ^ 64)
-          (λ found after. (p' : Shown H F) (e' : Packet) → me.0 ≡ Some p' → p'.tries ≡ Some e' → after ≡ (Some (committed e' p'), me.1))
+      (λ found after. (p' : Shown H F) (e' : Packet) → me.0 ≡ Some p' → p'.tries ≡ Some e' → after ≡ (Some (committed e' p'), me.1))
   committing slots id me p e is tries short s holds _ at _ =
-    let there : Has s.views id p = at ∙ ap some is in let history = holds.0 in let w = holds.1 in let b = w.passes in
-    let q : Shown H F = committed e p in let n : ℕ = get_or s.words 1 0 in
-    let count : n ≡ length p.seen = w.count_word ∙ ap length (sym (b.trying id p e there tries).0) in
-    let fits : n + 1 < 2 ^ 64 = omega arith in
-    let next : (n + 1) % 2 ^ 64 ≡ n + 1 = mod-eq_of_lt fits in
-    let free_is : get_or (set s.words 1 ((n + 1) % 2 ^ 64)) 0 0 ≡ get_or s.words 0 0 = get_or-set_other s.words 1 0 ((n + 1) % 2 ^ 64) 0 (omega arith) in
-    let taken = λ (free : get_or (set s.words 1 ((n + 1) % 2 ^ 64)) 0 0 ≡ 0). w.none_tries (sym free_is ∙ free) id p e there tries in
-    let two = w.two_words in
-    (
-      Some q,
-      keeps,
-      tt,
-      (history ++ e ∷ [], record {
-        two_words = length-set s.words 1 ((n + 1) % 2 ^ 64) ∙ w.two_words;
-        lock_word = (let lock = w.lock_word in omega arith);
-        count_word = get_or-set_same s.words 1 ((n + 1) % 2 ^ 64) 0 (omega arith) ∙ (next ∙ (let c = w.count_word in omega (arith, length-append history (e ∷ []))));
-        opened = w.opened;
-        numbered = λ d c. ⊎_elim (λ was. w.numbered d was)
-            (λ (same : e ≡ d). let part = b.parts id p there in let named = part.tried e tries in let some_ = part.not_empty in let in_ = part.within in
-              subst (λ (x : Packet). x.by < numbers) same (omega arith))
-            (Contains-push_cases history e d c);
-        passes = passes_committed history s.views b id p there e tries;
-        home = λ free. absurd (taken free);
-        none_tries = λ free. absurd (taken free);
-        one_tries = λ _. record { seat = id; pass = q; packet = e; there = has_here s.views id p q there; tries = tries }
-      }),
-      λ p' e' is' tries'.
-        let pp : p ≡ p' = same_Some p p' (sym is ∙ is') in
-        let ee : e ≡ e' = same_Some e e' (sym tries ∙ (ap (λ (x : Shown H F). x.tries) pp ∙ tries')) in
-        λ i. (Some (committed (ee i) (pp i)), me.1),
-    )
+      let there : Has s.views id p = at ∙ ap some is in let history = holds.0 in let w = holds.1 in let b = w.passes in
+      let q : Shown H F = committed e p in let n : ℕ = get_or s.words 1 0 in
+      let count : n ≡ length p.seen = w.count_word ∙ ap length (sym (b.trying id p e there tries).0) in
+      let fits : n + 1 < 2 ^ 64 = omega arith in
+      let next : (n + 1) % 2 ^ 64 ≡ n + 1 = mod-eq_of_lt fits in
+      let free_is : get_or (set s.words 1 ((n + 1) % 2 ^ 64)) 0 0 ≡ get_or s.words 0 0 = get_or-set_other s.words 1 0 ((n + 1) % 2 ^ 64) 0 (omega arith) in
+      let taken = λ (free : get_or (set s.words 1 ((n + 1) % 2 ^ 64)) 0 0 ≡ 0). w.none_tries (sym free_is ∙ free) id p e there tries in
+      let two = w.two_words in (
+        Some q,
+        keeps,
+        tt,
+        (
+          history ++ e ∷ [],
+          record {
+            two_words = length-set s.words 1 ((n + 1) % 2 ^ 64) ∙ w.two_words;
+            lock_word = (let lock = w.lock_word in omega arith);
+            count_word = get_or-set_same s.words 1 ((n + 1) % 2 ^ 64) 0 (omega arith) ∙ (next ∙ (let c = w.count_word in omega (arith, length-append history (e ∷ []))));
+            opened = w.opened;
+            numbered = λ d c. ⊎_elim (λ was. w.numbered d was)
+                (λ (same : e ≡ d). let part = b.parts id p there in let named = part.tried e tries in let not_empty = part.not_empty in let inside = part.within in
+                subst (λ (x : Packet). x.by < numbers) same (omega arith))
+                (Contains-push_cases history e d c);
+            passes = passes_committed history s.views b id p there e tries;
+            home = λ free. absurd (taken free);
+            none_tries = λ free. absurd (taken free);
+            one_tries = λ _. record { seat = id; pass = q; packet = e; there = has_here s.views id p q there; tries = tries };
+          },
+        ),
+        λ p' e' is' tries'.
+            let pp : p ≡ p' = same_Some p p' (sym is ∙ is') in
+            let ee : e ≡ e' = same_Some e e' (sym tries ∙ (ap (λ (x : Shown H F). x.tries) pp ∙ tries')) in
+            λ i. (Some (committed (ee i) (pp i)), me.1),
+      )

@@ -25,15 +25,15 @@ module _ {A : Type 0} where
     Contains-filter [] a c t = absurd (no_item a c)
     Contains-filter (x ∷ xs) a c t = cond_both (test x) (x ∷ filter test xs) (filter test xs) (λ (l : List A). Contains l a)
         (λ _. ⊎_elim (λ (same : x ≡ a). subst (λ (y : A). Contains (x ∷ filter test xs) y) same (item_here x (filter test xs)))
-            (λ was. item_behind x (filter test xs) a (Contains-filter xs a was t)) (item_cases x xs a c))
+        (λ was. item_behind x (filter test xs) a (Contains-filter xs a was t)) (item_cases x xs a c))
         (λ fails. ⊎_elim (λ (same : x ≡ a). absurd (both_ways (test x) fails (ap test same ∙ t)))
-            (λ was. Contains-filter xs a was t) (item_cases x xs a c))
+        (λ was. Contains-filter xs a was t) (item_cases x xs a c))
 
     pub Contains-filter_back : (xs : List A) (a : A) → Contains (filter test xs) a → Contains xs a × (test a ≡ true)
     Contains-filter_back [] a c = absurd (no_item a c)
     Contains-filter_back (x ∷ xs) a c = cond_both (test x) (x ∷ filter test xs) (filter test xs) (λ (l : List A). Contains l a → Contains (x ∷ xs) a × (test a ≡ true))
         (λ passes c'. ⊎_elim (λ (same : x ≡ a). (subst (λ (y : A). Contains (x ∷ xs) y) same (item_here x xs), ap test (sym same) ∙ passes))
-            (λ was. let t = Contains-filter_back xs a was in (item_behind x xs a t.0, t.1)) (item_cases x (filter test xs) a c'))
+        (λ was. let t = Contains-filter_back xs a was in (item_behind x xs a t.0, t.1)) (item_cases x (filter test xs) a c'))
         (λ _ c'. let t = Contains-filter_back xs a c' in (item_behind x xs a t.0, t.1))
         c
 

@@ -12,9 +12,9 @@ module _ {A : Type 0} (p q : A → Bool) where
   filter-filter_all both [] = refl
   filter-filter_all both (x ∷ xs) = ⊎_elim
       (λ (kept : q x ≡ true). ap (filter p) (cond-true (q x) (x ∷ filter q xs) (filter q xs) kept)
-          ∙ ap (λ (l : List A). cond (p x) (x ∷ l) l) (filter-filter_all both xs))
+      ∙ ap (λ (l : List A). cond (p x) (x ∷ l) l) (filter-filter_all both xs))
       (λ (left : q x ≡ false). ap (filter p) (cond-false (q x) (x ∷ filter q xs) (filter q xs) left)
-          ∙ (filter-filter_all both xs ∙ sym (cond-false (p x) (x ∷ filter p xs) (filter p xs) (⊎_elim (λ (yes_ : p x ≡ true). absurd (both_ways (q x) left (both x yes_))) (λ (no_ : p x ≡ false). no_) (cases_Bool (p x))))))
+      ∙ (filter-filter_all both xs ∙ sym (cond-false (p x) (x ∷ filter p xs) (filter p xs) (⊎_elim (λ (passed : p x ≡ true). absurd (both_ways (q x) left (both x passed))) (λ (failed : p x ≡ false). failed) (cases_Bool (p x))))))
       (cases_Bool (q x))
 
   -- what passes the first test fails the second
@@ -22,8 +22,8 @@ module _ {A : Type 0} (p q : A → Bool) where
   filter-filter_none apart [] = refl
   filter-filter_none apart (x ∷ xs) = ⊎_elim
       (λ (kept : q x ≡ true). ap (filter p) (cond-true (q x) (x ∷ filter q xs) (filter q xs) kept)
-          ∙ (cond-false (p x) (x ∷ filter p (filter q xs)) (filter p (filter q xs)) (⊎_elim (λ (yes_ : p x ≡ true). absurd (both_ways (q x) (apart x yes_) kept)) (λ (no_ : p x ≡ false). no_) (cases_Bool (p x)))
-          ∙ filter-filter_none apart xs))
+      ∙ (cond-false (p x) (x ∷ filter p (filter q xs)) (filter p (filter q xs)) (⊎_elim (λ (passed : p x ≡ true). absurd (both_ways (q x) (apart x passed) kept)) (λ (failed : p x ≡ false). failed) (cases_Bool (p x)))
+      ∙ filter-filter_none apart xs))
       (λ (left : q x ≡ false). ap (filter p) (cond-false (q x) (x ∷ filter q xs) (filter q xs) left) ∙ filter-filter_none apart xs)
       (cases_Bool (q x))
 

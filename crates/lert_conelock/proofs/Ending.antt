@@ -24,7 +24,7 @@ only_one v zero p e = (refl, there_again v p e)
 only_one v (suc seat) p e = absurd (some-ne-none (Some p) (sym e))
 
 module _ {H T F : Type 0} (terms : H → T) (stands_for : H → List Packet → Type 0) (stopped : H → Bool) (over : H → Option Packet) (refuses : T → List Packet → Packet → F → Type 0) where
-  module _ (first : H) (numbers : ℕ) (opened : (h : List Packet) × stands_for first h) (some_ : 1 ≤ numbers) where
+  module _ (first : H) (numbers : ℕ) (opened : (h : List Packet) × stands_for first h) (not_empty : 1 ≤ numbers) where
     abbrev start : Shown H F
     start = whole first numbers
 
@@ -33,8 +33,13 @@ module _ {H T F : Type 0} (terms : H → T) (stands_for : H → List Packet → 
 
     start_part : IsPart first numbers [] start
     start_part = record {
-      first_is = refl; not_empty = omega arith; within = omega arith; seen = prefix_nil []; lesser = prefix_nil [];
-      calls = λ n lo hi. refl; tried = λ e t. absurd (none-some e t)
+      first_is = refl;
+      not_empty = omega arith;
+      within = omega arith;
+      seen = prefix_nil [];
+      lesser = prefix_nil [];
+      calls = λ n lo hi. refl;
+      tried = λ e t. absurd (none-some e t);
     }
 
     never : (seat : ℕ) (p : Shown H F) (e : Packet) → Has views seat p → p.tries ≡ Some e → ⊥
@@ -48,7 +53,7 @@ module _ {H T F : Type 0} (terms : H → T) (stands_for : H → List Packet → 
       refusals = λ seat p there e f c. absurd (no_item (e, f) (subst (λ (x : Shown H F). Contains x.refused (e, f)) (sym (only_one start seat p there).1) c));
       known = λ seat p there e c. absurd (no_item e (subst (λ (x : Shown H F). Contains x.known e) (sym (only_one start seat p there).1) c));
       alone = λ a b p q e f there there' _ _. (only_one start a p there).0 ∙ sym (only_one start b q there').0;
-      trying = λ seat p e there t. absurd (never seat p e there t)
+      trying = λ seat p e there t. absurd (never seat p e there t);
     }
 
     start_home : IsHome terms stands_for stopped over refuses first [] views first
@@ -57,22 +62,25 @@ module _ {H T F : Type 0} (terms : H → T) (stands_for : H → List Packet → 
       stands = λ h opens. subst (stands_for first) (sym (append-nil h)) opens;
       stopped_is = λ s. absurd (false≢true (subst (λ (x : Shown H F). x.stopped ≡ true) (sym (only_one start s.seat s.pass s.there).1) s.stopped));
       over_is = inr (inl refl);
-      fresh_is = inl refl
+      fresh_is = inl refl;
     }
 
     -- the rule holds when a lock is made
     pub opens : (slots : List (Option H)) → slots ≡ Some first ∷ [] → Holds terms stands_for stopped over refuses first numbers (opening (0 ∷ 0 ∷ []) slots (Some start))
-    opens slots is = ([], record {
-      two_words = refl;
-      lock_word = omega arith;
-      count_word = refl;
-      opened = opened;
-      numbered = λ e c. absurd (no_item e c);
-      passes = start_passes;
-      home = λ _. (first, ap (λ (l : List (Option H)). get_elem? (map some l) 0) is, start_home);
-      none_tries = λ _ seat p e there t. never seat p e there t;
-      one_tries = λ one. absurd (omega arith)
-    })
+    opens slots is = (
+      [],
+      record {
+        two_words = refl;
+        lock_word = omega arith;
+        count_word = refl;
+        opened = opened;
+        numbered = λ e c. absurd (no_item e c);
+        passes = start_passes;
+        home = λ _. (first, ap (λ (l : List (Option H)). get_elem? (map some l) 0) is, start_home);
+        none_tries = λ _ seat p e there t. never seat p e there t;
+        one_tries = λ one. absurd (omega arith);
+      },
+    )
 
   -- the packets of a number are its own
   own_contains : (history : List Packet) (e : Packet) → Contains history e → Contains (own history e.by) e
@@ -82,20 +90,20 @@ module _ {H T F : Type 0} (terms : H → T) (stands_for : H → List Packet → 
       (id : ℕ) (p : Shown H F) (there : Has s.views id p) (idle : p.tries ≡ None) (lo : p.lo ≡ 0) (hi : p.hi ≡ lock.numbers) where
     -- no other pass is left
     alone : (seat : ℕ) (q : Shown H F) → Has s.views seat q → p ≡ q
-    alone seat q e = let b = w.passes in let part = b.parts seat q e in let some_ = part.not_empty in let in_ = part.within in dite (ℕ_discrete seat id)
+    alone seat q e = let b = w.passes in let part = b.parts seat q e in let not_empty = part.not_empty in let inside = part.within in dite (ℕ_discrete seat id)
         (λ same. there_again p q (sym there ∙ subst (λ (n : ℕ). Has s.views n q) same e))
         (λ ne. ⊎_elim (λ (far : q.hi ≤ p.lo). absurd (omega arith)) (λ (far : p.hi ≤ q.lo). absurd (omega arith)) (b.apart seat id q p e there ne))
 
     is_free : get_or s.words 0 0 ≡ 0
     is_free = dite (ℕ_discrete (get_or s.words 0 0) 0) (λ free. free)
         (λ held. let bound = w.lock_word in let t = w.one_tries (omega arith) in
-          absurd (none-some t.packet (sym idle ∙ subst (λ (x : Shown H F). x.tries ≡ Some t.packet) (sym (alone t.seat t.pass t.there)) t.tries)))
+        absurd (none-some t.packet (sym idle ∙ subst (λ (x : Shown H F). x.tries ≡ Some t.packet) (sym (alone t.seat t.pass t.there)) t.tries)))
 
     stopped_here : IsStopped s.views → IsTrue p.stopped
     stopped_here x = subst (λ (r : Shown H F). IsTrue r.stopped) (sym (alone x.seat x.pass x.there)) x.stopped
 
     refused_here : (e : Packet) → IsRefused s.views e → (f : F) × (e.by < lock.numbers) × Contains p.refused (e, f)
-    refused_here e r = let same = alone r.seat r.pass r.there in let in_ = (w.passes.parts r.seat r.pass r.there).within in let below = r.high in
+    refused_here e r = let same = alone r.seat r.pass r.there in let inside = (w.passes.parts r.seat r.pass r.there).within in let below = r.high in
         (r.refusal, omega arith, subst (λ (x : Shown H F). Contains x.refused (e, r.refusal)) (sym same) r.shown)
 
     closed : (tid : TableId) (state : H) → IsHome terms stands_for stopped over refuses lock.first history s.views state → Closed terms stands_for stopped over refuses lock (sight tid (Some p)) state
@@ -112,10 +120,10 @@ module _ {H T F : Type 0} (terms : H → T) (stands_for : H → List Packet → 
       refusals = λ e f c. ⊎_elim (λ x. inl (h.stopped_is x)) inr (w.passes.refusals id p there e f c);
       untouched = λ no_calls no_refused. ⊎_elim (λ same. same)
           (λ (t : (e : Packet) × (Contains history e ⊎ IsRefused s.views e)). absurd (⊎_elim
-              (λ (c : Contains history t.0). let below = w.numbered t.0 c in no_item t.0 (subst (λ (l : List Packet). Contains l t.0)
-                  (sym (part.calls t.0.by (omega arith) (omega arith)) ∙ ap (λ (l : List Packet). own l t.0.by) no_calls) (own_contains history t.0 c)))
-              (λ (r : IsRefused s.views t.0). let got = refused_here t.0 r in no_item (t.0, got.0) (subst (λ (l : List (Packet × F)). Contains l (t.0, got.0)) no_refused got.2))
-              t.1)) h.fresh_is
+          (λ (c : Contains history t.0). let below = w.numbered t.0 c in no_item t.0 (subst (λ (l : List Packet). Contains l t.0)
+          (sym (part.calls t.0.by (omega arith) (omega arith)) ∙ ap (λ (l : List Packet). own l t.0.by) no_calls) (own_contains history t.0 c)))
+          (λ (r : IsRefused s.views t.0). let got = refused_here t.0 r in no_item (t.0, got.0) (subst (λ (l : List (Packet × F)). Contains l (t.0, got.0)) no_refused got.2))
+          t.1)) h.fresh_is;
     }
 
   -- where a pass of all numbers is idle, the state is home

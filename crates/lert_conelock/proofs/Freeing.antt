@@ -47,26 +47,30 @@ module _ {H T F : Type 0} (terms : H → T) (stands_for : H → List Packet → 
           (λ (t : (d : Packet) × (over state ≡ Some d) × Contains p.known d). inr (t.0, t.1, refused_on views id p q there grows t.0 (b.known id p there t.0 t.2)))
           o)) hand.over_is;
       fresh_is = ⊎_elim (λ (same : state ≡ p.first). inl (same ∙ part.first_is))
-          (λ (t : (d : Packet) × (Contains p.seen d ⊎ Contains p.known d)). inr (t.0, ⊎_elim
-              (λ (c : Contains p.seen t.0). inl (subst (λ (l : List Packet). Contains l t.0) seen c))
-              (λ (c : Contains p.known t.0). inr (refused_on views id p q there grows t.0 (b.known id p there t.0 c)))
-              t.1)) hand.fresh_is
+          (λ (t : (d : Packet) × (Contains p.seen d ⊎ Contains p.known d)). inr (
+            t.0,
+            ⊎_elim
+                (λ (c : Contains p.seen t.0). inl (subst (λ (l : List Packet). Contains l t.0) seen c))
+                (λ (c : Contains p.known t.0). inr (refused_on views id p q there grows t.0 (b.known id p there t.0 c)))
+                t.1,
+          )) hand.fresh_is;
     }
 
   pub frees : (slots id : ℕ) (me : Mine H F) (state : H) (more : ℕ) → slots ≡ 1 → HasLock terms stands_for stopped over refuses state (Some state) me
       → Allows (Holds terms stands_for stopped over refuses first numbers) slots id me 0 (λ _. 0)
-          (λ found after. (p' : Shown H F) → me.0 ≡ Some p' → after ≡ (Some (freed more p'), rest me.1))
+      (λ found after. (p' : Shown H F) → me.0 ≡ Some p' → after ≡ (Some (freed more p'), rest me.1))
   frees slots id me state more slot lock = let p = lock.pass in let e = lock.packet in let tries = lock.tries in let hand = lock.hand in subst
       (λ (m : Mine H F). Allows (Holds terms stands_for stopped over refuses first numbers) slots id m 0 (λ _. 0)
-          (λ found after. (p' : Shown H F) → m.0 ≡ Some p' → after ≡ (Some (freed more p'), rest m.1))) (sym lock.me_is)
+      (λ found after. (p' : Shown H F) → m.0 ≡ Some p' → after ≡ (Some (freed more p'), rest m.1))) (sym lock.me_is)
       (λ s holds one at _.
-        let there : Has s.views id p = at in let history = holds.0 in let w = holds.1 in let b = w.passes in
-        let q : Shown H F = freed more p in
+      let there : Has s.views id p = at in let history = holds.0 in let w = holds.1 in let b = w.passes in
+      let q : Shown H F = freed more p in (
+        Some q,
+        gives,
+        tt,
         (
-          Some q,
-          gives,
-          tt,
-          (history, record {
+          history,
+          record {
             two_words = length-set s.words 0 0 ∙ w.two_words;
             lock_word = (let two = w.two_words in let z : get_or (set s.words 0 0) 0 0 ≡ 0 = get_or-set_same s.words 0 0 0 (omega arith) in omega arith);
             count_word = get_or-set_other s.words 0 1 0 0 (omega arith) ∙ w.count_word;
@@ -78,7 +82,8 @@ module _ {H T F : Type 0} (terms : H → T) (stands_for : H → List Packet → 
                 (λ (u : (a ≡ id) × (q ≡ r)). none-some d (subst (λ (x : Shown H F). x.tries ≡ Some d) (sym u.1) t))
                 (λ u. u.0 (b.alone a id r p d e u.1 there t tries))
                 (has_after s.views id p q there a r at);
-            one_tries = λ one. absurd (let two = w.two_words in let z : get_or (set s.words 0 0) 0 0 ≡ 0 = get_or-set_same s.words 0 0 0 (omega arith) in omega arith)
-          }),
-          λ p' is'. let pp : p ≡ p' = same_Some p p' is' in λ i. (Some (freed more (pp i)), []),
-        ))
+            one_tries = λ one. absurd (let two = w.two_words in let z : get_or (set s.words 0 0) 0 0 ≡ 0 = get_or-set_same s.words 0 0 0 (omega arith) in omega arith);
+          },
+        ),
+        λ p' is'. let pp : p ≡ p' = same_Some p p' is' in λ i. (Some (freed more (pp i)), []),
+      ))

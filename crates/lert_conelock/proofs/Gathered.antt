@@ -58,7 +58,7 @@ module _ {H F : Type 0} where
       let kept = Contains-filter_back (is_own p) p.refused back.0 back.1 in
       let own = and_parts (leb p.lo back.0.0.by) (ltb back.0.0.by p.hi) kept.1 in
       subst (IsRefused (Some p ∷ views)) back.2
-          (record { seat = zero; pass = p; there = refl; low = leb-true p.lo back.0.0.by own.0; high = ltb-true back.0.0.by p.hi own.1; refusal = back.0.1; shown = kept.0 })
+      (record { seat = zero; pass = p; there = refl; low = leb-true p.lo back.0.0.by own.0; high = ltb-true back.0.0.by p.hi own.1; refusal = back.0.1; shown = kept.0 })
 
   pub refusal_shown : (views : Views H F) (e : Packet) → Contains (all_refused views) e → IsRefused views e
   refusal_shown [] e c = absurd (no_item e c)
@@ -71,9 +71,9 @@ module _ {H F : Type 0} where
   refusal_at (None ∷ views) e zero p f there lo hi c = absurd (none-some p (some-injective None (Some p) there))
   refusal_at (Some r ∷ views) e zero p f there lo hi c = let same : r ≡ p = same_Some r p (some-injective (Some r) (Some p) there) in
       subst (λ (x : Shown H F). Contains (refused_of x ++ all_refused views) e) (sym same)
-          (Contains-append_left (refused_of p) (all_refused views) e
-              (Contains-map (λ (x : Packet × F). x.0) (filter (is_own p) p.refused) (e, f)
-                  (Contains-filter (is_own p) p.refused (e, f) c (and_from (leb p.lo e.by) (ltb e.by p.hi) (le-leb p.lo e.by lo) (lt-ltb e.by p.hi hi)))))
+      (Contains-append_left (refused_of p) (all_refused views) e
+      (Contains-map (λ (x : Packet × F). x.0) (filter (is_own p) p.refused) (e, f)
+      (Contains-filter (is_own p) p.refused (e, f) c (and_from (leb p.lo e.by) (ltb e.by p.hi) (le-leb p.lo e.by lo) (lt-ltb e.by p.hi hi)))))
   refusal_at (None ∷ views) e (suc seat) p f there lo hi c = refusal_at views e seat p f there lo hi c
   refusal_at (Some r ∷ views) e (suc seat) p f there lo hi c = Contains-append_right (refused_of r) (all_refused views) e (refusal_at views e seat p f there lo hi c)
 

@@ -13,5 +13,5 @@ module _ {H T F : Type 0} (terms : H → T) (stands_for : H → List Packet → 
     stopped_is = λ x. h.stopped_is (stop_was x);
     over_is = ⊎_elim inl (λ (o : (over state ≡ over first) ⊎ ((d : Packet) × (over state ≡ Some d) × IsRefused before d)). inr (⊎_elim inl
         (λ (t : (d : Packet) × (over state ≡ Some d) × IsRefused before d). inr (t.0, t.1, refused_on t.0 t.2)) o)) h.over_is;
-    fresh_is = ⊎_elim inl (λ (t : (d : Packet) × (Contains history d ⊎ IsRefused before d)). inr (t.0, ⊎_elim inl (λ r. inr (refused_on t.0 r)) t.1)) h.fresh_is
+    fresh_is = ⊎_elim inl (λ (t : (d : Packet) × (Contains history d ⊎ IsRefused before d)). inr (t.0, ⊎_elim inl (λ r. inr (refused_on t.0 r)) t.1)) h.fresh_is;
   }

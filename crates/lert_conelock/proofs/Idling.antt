@@ -60,5 +60,5 @@ module _ {H T F : Type 0} (terms : H → T) (stands_for : H → List Packet → 
       one_tries = λ held. let t = w.one_tries held in ⊎_elim
           (λ (u : (t.seat ≡ id) × (p ≡ t.pass)). absurd (never t.packet (subst (λ (x : Shown H F). x.tries ≡ Some t.packet) (sym u.1) t.tries)))
           (λ u. record { seat = t.seat; pass = t.pass; packet = t.packet; there = u.1; tries = t.tries })
-          (forward s.views id p q there t.seat t.pass t.there)
+          (forward s.views id p q there t.seat t.pass t.there);
     }

@@ -36,7 +36,7 @@ module _ {H F : Type 0} (views : Views H F) (id : ℕ) (p : Shown H F) (mine : H
   kind a r e = ⊎_elim
       (λ (t : (a ≡ other) × (None ≡ Some r)). absurd (none-some r t.1))
       (λ t. ⊎_elim (λ (u : (a ≡ id) × (Some (joined p q) ≡ Some r)). one u.0 (same_Some (joined p q) r u.1)) (λ u. else_ u.0 t.0 u.1)
-          (at_set views id a (Some (joined p q)) (Some r) t.1))
+      (at_set views id a (Some (joined p q)) (Some r) t.1))
       (at_set (set views id (Some (joined p q))) other a None (Some r) e)
 
   at_one : Has after id (joined p q)
@@ -49,8 +49,8 @@ module _ {H F : Type 0} (views : Views H F) (id : ℕ) (p : Shown H F) (mine : H
   was a r e = dite (ℕ_discrete a id)
       (λ same. low same (there_again p r (sym mine ∙ subst (λ (n : ℕ). Has views n r) same e)))
       (λ far. dite (ℕ_discrete a other)
-          (λ same. high same (there_again q r (sym theirs ∙ subst (λ (n : ℕ). Has views n r) same e)))
-          (λ far'. kept (at_else a r far far' e)))
+      (λ same. high same (there_again q r (sym theirs ∙ subst (λ (n : ℕ). Has views n r) same e)))
+      (λ far'. kept (at_else a r far far' e)))
 
   stopped_into : (s : IsStopped views) → Was s.seat s.pass → IsStopped after
   stopped_into s (low same is) = record { seat = id; pass = joined p q; there = at_one; stopped = or_left p.stopped q.stopped (subst (λ (r : Shown H F). IsTrue r.stopped) (sym is) s.stopped) }
@@ -76,15 +76,29 @@ module _ {H F : Type 0} (views : Views H F) (id : ℕ) (p : Shown H F) (mine : H
     refused_into e r (low same is) =
         let shown : Contains p.refused (e, r.refusal) = subst (λ (x : Shown H F). Contains x.refused (e, r.refusal)) (sym is) r.shown in
         let lo : p.lo ≡ r.pass.lo = ap (λ (x : Shown H F). x.lo) is in let hi : p.hi ≡ r.pass.hi = ap (λ (x : Shown H F). x.hi) is in
-        let from = r.low in let to = r.high in let some_ = (b.parts other q theirs).not_empty in
-        record { seat = id; pass = joined p q; there = at_one; low = omega arith; high = omega arith; refusal = r.refusal;
-          shown = Contains-low (λ (x : Packet × F). x.0.by) q.lo p.refused q.refused (e, r.refusal) (omega arith) shown }
+        let from = r.low in let to = r.high in let not_empty = (b.parts other q theirs).not_empty in
+        record {
+          seat = id;
+          pass = joined p q;
+          there = at_one;
+          low = omega arith;
+          high = omega arith;
+          refusal = r.refusal;
+          shown = Contains-low (λ (x : Packet × F). x.0.by) q.lo p.refused q.refused (e, r.refusal) (omega arith) shown;
+        }
     refused_into e r (high same is) =
         let shown : Contains q.refused (e, r.refusal) = subst (λ (x : Shown H F). Contains x.refused (e, r.refusal)) (sym is) r.shown in
         let lo : q.lo ≡ r.pass.lo = ap (λ (x : Shown H F). x.lo) is in let hi : q.hi ≡ r.pass.hi = ap (λ (x : Shown H F). x.hi) is in
-        let from = r.low in let to = r.high in let some_ = (b.parts id p mine).not_empty in
-        record { seat = id; pass = joined p q; there = at_one; low = omega arith; high = omega arith; refusal = r.refusal;
-          shown = Contains-high (λ (x : Packet × F). x.0.by) q.lo p.refused q.refused (e, r.refusal) (omega arith) shown }
+        let from = r.low in let to = r.high in let not_empty = (b.parts id p mine).not_empty in
+        record {
+          seat = id;
+          pass = joined p q;
+          there = at_one;
+          low = omega arith;
+          high = omega arith;
+          refusal = r.refusal;
+          shown = Contains-high (λ (x : Packet × F). x.0.by) q.lo p.refused q.refused (e, r.refusal) (omega arith) shown;
+        }
     refused_into e r (kept there) = record { seat = r.seat; pass = r.pass; there = there; low = r.low; high = r.high; refusal = r.refusal; shown = r.shown }
 
     refused_on : (e : Packet) → IsRefused views e → IsRefused after e
@@ -93,11 +107,11 @@ module _ {H F : Type 0} (views : Views H F) (id : ℕ) (p : Shown H F) (mine : H
     cover_into : (n : ℕ) (c : IsCovered views n) → Was c.seat c.pass → IsCovered after n
     cover_into n c (low same is) =
         let lo : p.lo ≡ c.pass.lo = ap (λ (x : Shown H F). x.lo) is in let hi : p.hi ≡ c.pass.hi = ap (λ (x : Shown H F). x.hi) is in
-        let from = c.low in let to = c.high in let some_ = (b.parts other q theirs).not_empty in
+        let from = c.low in let to = c.high in let not_empty = (b.parts other q theirs).not_empty in
         record { seat = id; pass = joined p q; there = at_one; low = omega arith; high = omega arith }
     cover_into n c (high same is) =
         let lo : q.lo ≡ c.pass.lo = ap (λ (x : Shown H F). x.lo) is in let hi : q.hi ≡ c.pass.hi = ap (λ (x : Shown H F). x.hi) is in
-        let from = c.low in let to = c.high in let some_ = (b.parts id p mine).not_empty in
+        let from = c.low in let to = c.high in let not_empty = (b.parts id p mine).not_empty in
         record { seat = id; pass = joined p q; there = at_one; low = omega arith; high = omega arith }
     cover_into n c (kept there) = record { seat = c.seat; pass = c.pass; there = there; low = c.low; high = c.high }
 
@@ -105,7 +119,7 @@ module _ {H F : Type 0} (views : Views H F) (id : ℕ) (p : Shown H F) (mine : H
     never d t = none-some d (sym idle ∙ t)
 
     one_part : IsPart first numbers history (joined p q)
-    one_part = let part = b.parts id p mine in let part' = b.parts other q theirs in let some_ = part.not_empty in let some' = part'.not_empty in record {
+    one_part = let part = b.parts id p mine in let part' = b.parts other q theirs in let not_empty = part.not_empty in let not_empty' = part'.not_empty in record {
       first_is = part.first_is;
       not_empty = omega arith;
       within = part'.within;
@@ -115,7 +129,7 @@ module _ {H F : Type 0} (views : Views H F) (id : ℕ) (p : Shown H F) (mine : H
           (λ (under : n < q.lo). joined_below (λ (e : Packet). e.by) q.lo p.calls q.calls n under ∙ part.calls n lo (omega arith))
           (λ (above : q.lo ≤ n). joined_above (λ (e : Packet). e.by) q.lo p.calls q.calls n above ∙ part'.calls n above hi)
           (cases_lt n q.lo);
-      tried = λ d t. absurd (never d t)
+      tried = λ d t. absurd (never d t);
     }
 
     part_of : (a : ℕ) (r : Shown H F) → Kind a r → IsPart first numbers history r
@@ -126,7 +140,7 @@ module _ {H F : Type 0} (views : Views H F) (id : ℕ) (p : Shown H F) (mine : H
     Apart r s = (r.hi ≤ s.lo) ⊎ (s.hi ≤ r.lo)
 
     one_apart : (c : ℕ) (s : Shown H F) → (c ≡ id → ⊥) → (c ≡ other → ⊥) → Has views c s → Apart (joined p q) s
-    one_apart c s far far' e = let some_ = (b.parts c s e).not_empty in ⊎_elim
+    one_apart c s far far' e = let not_empty = (b.parts c s e).not_empty in ⊎_elim
         (λ (h : p.hi ≤ s.lo). ⊎_elim (λ (k : q.hi ≤ s.lo). inl k) (λ (k : s.hi ≤ q.lo). absurd (omega arith)) (b.apart other c q s theirs e (λ same. far' (sym same))))
         (λ (h : s.hi ≤ p.lo). inr h)
         (b.apart id c p s mine e (λ same. far (sym same)))
@@ -135,10 +149,10 @@ module _ {H F : Type 0} (views : Views H F) (id : ℕ) (p : Shown H F) (mine : H
     turned r s = ⊎_elim inr inl
 
     apart_of : (a c : ℕ) (r s : Shown H F) → Kind a r → Kind c s → (a ≡ c → ⊥) → Apart r s
-    apart_of a c r s (one same is) (one same' is') no_ = absurd (no_ (same ∙ sym same'))
-    apart_of a c r s (one same is) (else_ far far' e) no_ = subst (λ (x : Shown H F). Apart x s) is (one_apart c s far far' e)
-    apart_of a c r s (else_ far far' e) (one same' is') no_ = subst (λ (x : Shown H F). Apart r x) is' (turned (joined p q) r (one_apart a r far far' e))
-    apart_of a c r s (else_ far far' e) (else_ near near' e') no_ = b.apart a c r s e e' no_
+    apart_of a c r s (one same is) (one same' is') differ = absurd (differ (same ∙ sym same'))
+    apart_of a c r s (one same is) (else_ far far' e) differ = subst (λ (x : Shown H F). Apart x s) is (one_apart c s far far' e)
+    apart_of a c r s (else_ far far' e) (one same' is') differ = subst (λ (x : Shown H F). Apart r x) is' (turned (joined p q) r (one_apart a r far far' e))
+    apart_of a c r s (else_ far far' e) (else_ near near' e') differ = b.apart a c r s e e' differ
 
     caused_on : (e : Packet) (f : F) → IsCaused terms stands_for stopped over refuses first history views e f → IsCaused terms stands_for stopped over refuses first history after e f
     caused_on e f = ⊎_elim (λ s. inl (stopped_on s)) inr
@@ -159,12 +173,12 @@ module _ {H F : Type 0} (views : Views H F) (id : ℕ) (p : Shown H F) (mine : H
     passes_joined : Passes terms stands_for stopped over refuses first numbers history after
     passes_joined = record {
       parts = λ a r e. part_of a r (kind a r e);
-      apart = λ a c r s e e' no_. apart_of a c r s (kind a r e) (kind c s e') no_;
+      apart = λ a c r s e e' differ. apart_of a c r s (kind a r e) (kind c s e') differ;
       cover = λ n under. (let c = b.cover n under in cover_into n c (was c.seat c.pass c.there));
       refusals = λ a r there e f c. caused_on e f (refusals_of a r (kind a r there) e f c);
       known = λ a r there e c. refused_on e (known_of a r (kind a r there) e c);
       alone = λ a c r s e f there there' t t'. b.alone a c r s e f (trier a r e (kind a r there) t) (trier c s f (kind c s there') t') t t';
-      trying = λ a r e there t. let h = b.trying a r e (trier a r e (kind a r there) t) t in (h.0, λ x. h.1 (stopped_back x))
+      trying = λ a r e there t. let h = b.trying a r e (trier a r e (kind a r there) t) t in (h.0, λ x. h.1 (stopped_back x));
     }
 
     tried_into : (t : IsTried views) → Was t.seat t.pass → IsTried after
@@ -176,20 +190,27 @@ module _ {H T F : Type 0} (terms : H → T) (stands_for : H → List Packet → 
   pub joining : (id : ℕ) (p : Shown H F) (other : ℕ) (q : Shown H F) → p.tries ≡ None → q.tries ≡ None → q.lo ≡ p.hi
       → Joins (Holds terms stands_for stopped over refuses first numbers) id (Some p) other (Some q) (Some (joined p q)) None
   joining id p other q idle idle' meets s holds mine ne there = let history = holds.0 in let w = holds.1 in
-    let theirs : Has s.views other q = sym (set_else s.views id other (Some (joined p q)) ne) ∙ there in (history, record {
-      two_words = w.two_words;
-      lock_word = w.lock_word;
-      count_word = w.count_word;
-      opened = w.opened;
-      numbered = w.numbered;
-      passes = passes_joined s.views id p mine other q theirs ne terms stands_for stopped over refuses first numbers history w.passes idle idle' meets;
-      home = λ free. let t = w.home free in (t.0, t.1, home_after terms stands_for stopped over refuses first history s.views (after s.views id p mine other q theirs ne) (stopped_back s.views id p mine other q theirs ne)
-          (refused_on s.views id p mine other q theirs ne terms stands_for stopped over refuses first numbers history w.passes idle idle' meets) t.0 t.2);
-      none_tries = λ free a r d at t. w.none_tries free a r d
-          (trier s.views id p mine other q theirs ne terms stands_for stopped over refuses first numbers history w.passes idle idle' meets a r d (kind s.views id p mine other q theirs ne a r at) t) t;
-      one_tries = λ held. let t = w.one_tries held in tried_into s.views id p mine other q theirs ne terms stands_for stopped over refuses first numbers history w.passes idle idle' meets t
-          (was s.views id p mine other q theirs ne t.seat t.pass t.there)
-    })
+      let theirs : Has s.views other q = sym (set_else s.views id other (Some (joined p q)) ne) ∙ there in (
+        history,
+        record {
+          two_words = w.two_words;
+          lock_word = w.lock_word;
+          count_word = w.count_word;
+          opened = w.opened;
+          numbered = w.numbered;
+          passes = passes_joined s.views id p mine other q theirs ne terms stands_for stopped over refuses first numbers history w.passes idle idle' meets;
+          home = λ free. let t = w.home free in (
+            t.0,
+            t.1,
+            home_after terms stands_for stopped over refuses first history s.views (after s.views id p mine other q theirs ne) (stopped_back s.views id p mine other q theirs ne)
+                (refused_on s.views id p mine other q theirs ne terms stands_for stopped over refuses first numbers history w.passes idle idle' meets) t.0 t.2,
+          );
+          none_tries = λ free a r d at t. w.none_tries free a r d
+              (trier s.views id p mine other q theirs ne terms stands_for stopped over refuses first numbers history w.passes idle idle' meets a r d (kind s.views id p mine other q theirs ne a r at) t) t;
+          one_tries = λ held. let t = w.one_tries held in tried_into s.views id p mine other q theirs ne terms stands_for stopped over refuses first numbers history w.passes idle idle' meets t
+              (was s.views id p mine other q theirs ne t.seat t.pass t.there);
+        },
+      )
 
   -- the same for two seats that have a live pass without the lock
   pub join_at : (id : ℕ) (me : Mine H F) (other : ℕ) (them : Mine H F) → IsIdle me → IsIdle them → ((p q : Shown H F) → me.0 ≡ Some p → them.0 ≡ Some q → q.lo ≡ p.hi)
@@ -197,5 +218,5 @@ module _ {H T F : Type 0} (terms : H → T) (stands_for : H → List Packet → 
   join_at id me other them idle idle' meets = let p = idle.pass in let q = idle'.pass in
       let is : me.0 ≡ Some p = λ i. (idle.me_is i).0 in let is' : them.0 ≡ Some q = λ i. (idle'.me_is i).0 in
       subst (λ (v : Option (Shown H F)). Joins (Holds terms stands_for stopped over refuses first numbers) id v other them.0 (both_of v them.0) None) (sym is)
-          (subst (λ (v : Option (Shown H F)). Joins (Holds terms stands_for stopped over refuses first numbers) id (Some p) other v (both_of (Some p) v) None) (sym is')
-              (joining id p other q idle.idle idle'.idle (meets p q is is')))
+      (subst (λ (v : Option (Shown H F)). Joins (Holds terms stands_for stopped over refuses first numbers) id (Some p) other v (both_of (Some p) v) None) (sym is')
+      (joining id p other q idle.idle idle'.idle (meets p q is is')))

@@ -27,9 +27,12 @@ module _ {H T F : Type 0} (terms : H → T) (stands_for : H → List Packet → 
 
     caused : IsCaused terms stands_for stopped over refuses first history (set views id (Some q)) e f
     caused = let part = b.parts id p there in ⊎_elim
-        (λ (yes_ : IsTrue stop). inl (record { seat = id; pass = q; there = has_here views id p q there; stopped = or_right p.stopped stop yes_ }))
-        (λ (by_rule : (h : List Packet) → stands_for p.first h → refuses (terms p.first) (h ++ p.seen) e f). inr (p.seen, part.seen,
-            subst (λ (x : H). (h : List Packet) → stands_for x h → refuses (terms x) (h ++ p.seen) e f) part.first_is by_rule))
+        (λ (halted : IsTrue stop). inl (record { seat = id; pass = q; there = has_here views id p q there; stopped = or_right p.stopped stop halted }))
+        (λ (by_rule : (h : List Packet) → stands_for p.first h → refuses (terms p.first) (h ++ p.seen) e f). inr (
+          p.seen,
+          part.seen,
+          subst (λ (x : H). (h : List Packet) → stands_for x h → refuses (terms x) (h ++ p.seen) e f) part.first_is by_rule,
+        ))
         reason
 
     refused_now : IsRefused (set views id (Some q)) e
@@ -41,12 +44,12 @@ module _ {H T F : Type 0} (terms : H → T) (stands_for : H → List Packet → 
         (λ a r _ at. b.parts a r at)
         (record { first_is = part.first_is; not_empty = part.not_empty; within = part.within; seen = part.seen; lesser = part.lesser; calls = part.calls; tried = part.tried })
         (λ d g c. ⊎_elim inl
-            (λ (same : ◌≡◌ {A = Packet × F} (e, f) (d, g)). inr (subst (λ (x : Packet × F). IsCaused terms stands_for stopped over refuses first history (set views id (Some q)) x.0 x.1) same caused))
-            (Contains-push_cases p.refused (e, f) (d, g) c))
+        (λ (same : ◌≡◌ {A = Packet × F} (e, f) (d, g)). inr (subst (λ (x : Packet × F). IsCaused terms stands_for stopped over refuses first history (set views id (Some q)) x.0 x.1) same caused))
+        (Contains-push_cases p.refused (e, f) (d, g) c))
         (λ d c. ⊎_elim
-            (λ was. refused_on views id p q there grows d (b.known id p there d was))
-            (λ (same : e ≡ d). subst (IsRefused (set views id (Some q))) same refused_now)
-            (Contains-push_cases p.known e d c))
+        (λ was. refused_on views id p q there grows d (b.known id p there d was))
+        (λ (same : e ≡ d). subst (IsRefused (set views id (Some q))) same refused_now)
+        (Contains-push_cases p.known e d c))
         (λ d t a r g ne at t'. ne (b.alone a id r p g d at there t' t))
         (λ d t. ((b.trying id p d there t).0, λ s. ⊎_elim (λ now. now) (λ was. or_left p.stopped stop ((b.trying id p d there t).1 was)) (stopped_back views id p q there s)))
         (λ a r d ne at t. absurd (ne (b.alone a id r p d e at there t tries)))
@@ -54,31 +57,33 @@ module _ {H T F : Type 0} (terms : H → T) (stands_for : H → List Packet → 
   pub notes : (slots id : ℕ) (me : Mine H F) (p : Shown H F) (e : Packet) (f : F) (stop : Bool) (told : Option F) → me.0 ≡ Some p → p.tries ≡ Some e → told ≡ Some f
       → IsReason terms stands_for stopped over refuses stop p e f
       → Allows (Holds terms stands_for stopped over refuses first numbers) slots id me 1 (λ n. n)
-          (λ found after. (p' : Shown H F) (e' : Packet) (f' : F) → me.0 ≡ Some p' → p'.tries ≡ Some e' → told ≡ Some f' → after ≡ (Some (noted e' f' stop p'), me.1))
+      (λ found after. (p' : Shown H F) (e' : Packet) (f' : F) → me.0 ≡ Some p' → p'.tries ≡ Some e' → told ≡ Some f' → after ≡ (Some (noted e' f' stop p'), me.1))
   notes slots id me p e f stop told is tries telling reason s holds _ at _ =
-    let there : Has s.views id p = at ∙ ap some is in let history = holds.0 in let w = holds.1 in
-    let q : Shown H F = noted e f stop p in
-    let taken = λ (free : get_or s.words 0 0 ≡ 0). w.none_tries free id p e there tries in
-    (
-      Some q,
-      keeps,
-      tt,
-      (history, subst (λ (ws : List ℕ). HoldsWith terms stands_for stopped over refuses first numbers (record { words = ws; homes = s.homes; views = set s.views id (Some q) }) history)
-        (sym (set_found s.words 1 0))
-        (record {
-          two_words = w.two_words;
-          lock_word = w.lock_word;
-          count_word = w.count_word;
-          opened = w.opened;
-          numbered = w.numbered;
-          passes = passes_noted history s.views w.passes id p there e f stop tries reason;
-          home = λ free. absurd (taken free);
-          none_tries = λ free. absurd (taken free);
-          one_tries = λ _. record { seat = id; pass = q; packet = e; there = has_here s.views id p q there; tries = tries }
-        })),
-      λ p' e' f' is' tries' telling'.
-        let pp : p ≡ p' = same_Some p p' (sym is ∙ is') in
-        let ee : e ≡ e' = same_Some e e' (sym tries ∙ (ap (λ (x : Shown H F). x.tries) pp ∙ tries')) in
-        let ff : f ≡ f' = same_Some f f' (sym telling ∙ telling') in
-        λ i. (Some (noted (ee i) (ff i) stop (pp i)), me.1),
-    )
+      let there : Has s.views id p = at ∙ ap some is in let history = holds.0 in let w = holds.1 in
+      let q : Shown H F = noted e f stop p in
+      let taken = λ (free : get_or s.words 0 0 ≡ 0). w.none_tries free id p e there tries in (
+        Some q,
+        keeps,
+        tt,
+        (
+          history,
+          subst (λ (ws : List ℕ). HoldsWith terms stands_for stopped over refuses first numbers (record { words = ws; homes = s.homes; views = set s.views id (Some q) }) history)
+              (sym (set_found s.words 1 0))
+              (record {
+                two_words = w.two_words;
+                lock_word = w.lock_word;
+                count_word = w.count_word;
+                opened = w.opened;
+                numbered = w.numbered;
+                passes = passes_noted history s.views w.passes id p there e f stop tries reason;
+                home = λ free. absurd (taken free);
+                none_tries = λ free. absurd (taken free);
+                one_tries = λ _. record { seat = id; pass = q; packet = e; there = has_here s.views id p q there; tries = tries };
+              }),
+        ),
+        λ p' e' f' is' tries' telling'.
+            let pp : p ≡ p' = same_Some p p' (sym is ∙ is') in
+            let ee : e ≡ e' = same_Some e e' (sym tries ∙ (ap (λ (x : Shown H F). x.tries) pp ∙ tries')) in
+            let ff : f ≡ f' = same_Some f f' (sym telling ∙ telling') in
+            λ i. (Some (noted (ee i) (ff i) stop (pp i)), me.1),
+      )

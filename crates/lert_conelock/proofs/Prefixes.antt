@@ -14,7 +14,7 @@ prefix_append xs ys = record { rest = ys; splits = refl }
 pub prefix_trans : {A : Type 0} {xs ys zs : List A} → IsPrefix xs ys → IsPrefix ys zs → IsPrefix xs zs
 prefix_trans {A} {xs} {ys} {zs} a b = record {
   rest = a.rest ++ b.rest;
-  splits = b.splits ∙ (ap (λ (l : List A). l ++ b.rest) a.splits ∙ append_assoc xs a.rest b.rest)
+  splits = b.splits ∙ (ap (λ (l : List A). l ++ b.rest) a.splits ∙ append_assoc xs a.rest b.rest);
 }
 
 module _ {A : Type 0} where

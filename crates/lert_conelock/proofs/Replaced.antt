@@ -58,11 +58,13 @@ module _ {H F : Type 0} (views : Views H F) (id : ℕ) (p q : Shown H F) (mine :
   pub refused_on : Grows p q → (e : Packet) → IsRefused views e → IsRefused (set views id (Some q)) e
   refused_on g e r = ⊎_elim
       (λ (t : (r.seat ≡ id) × (p ≡ r.pass)). record {
-        seat = id; pass = q; there = has_here;
+        seat = id;
+        pass = q;
+        there = has_here;
         low = (let lo : p.lo ≡ r.pass.lo = ap (λ (x : Shown H F). x.lo) t.1 in let a = g.lo_is in let b = r.low in omega arith);
         high = (let hi : p.hi ≡ r.pass.hi = ap (λ (x : Shown H F). x.hi) t.1 in let a = g.hi_is in let b = r.high in omega arith);
         refusal = r.refusal;
-        shown = g.refused e r.refusal (subst (λ (x : Shown H F). Contains x.refused (e, r.refusal)) (sym t.1) r.shown)
+        shown = g.refused e r.refusal (subst (λ (x : Shown H F). Contains x.refused (e, r.refusal)) (sym t.1) r.shown);
       })
       (λ t. record { seat = r.seat; pass = r.pass; there = t.1; low = r.low; high = r.high; refusal = r.refusal; shown = r.shown })
       (forward r.seat r.pass r.there)
@@ -70,9 +72,11 @@ module _ {H F : Type 0} (views : Views H F) (id : ℕ) (p q : Shown H F) (mine :
   pub cover_on : Grows p q → (n : ℕ) → IsCovered views n → IsCovered (set views id (Some q)) n
   cover_on g n c = ⊎_elim
       (λ (t : (c.seat ≡ id) × (p ≡ c.pass)). record {
-        seat = id; pass = q; there = has_here;
+        seat = id;
+        pass = q;
+        there = has_here;
         low = (let lo : p.lo ≡ c.pass.lo = ap (λ (x : Shown H F). x.lo) t.1 in let a = g.lo_is in let b = c.low in omega arith);
-        high = (let hi : p.hi ≡ c.pass.hi = ap (λ (x : Shown H F). x.hi) t.1 in let a = g.hi_is in let b = c.high in omega arith)
+        high = (let hi : p.hi ≡ c.pass.hi = ap (λ (x : Shown H F). x.hi) t.1 in let a = g.hi_is in let b = c.high in omega arith);
       })
       (λ t. record { seat = c.seat; pass = c.pass; there = t.1; low = c.low; high = c.high })
       (forward c.seat c.pass c.there)
@@ -97,39 +101,39 @@ module _ {H F : Type 0} (views : Views H F) (id : ℕ) (p q : Shown H F) (mine :
           (λ t. others a r t.0 t.1) (has_after a r there);
       apart = λ a c r s there there' ne. ⊎_elim
           (λ (t : (a ≡ id) × (q ≡ r)). ⊎_elim
-              (λ (u : (c ≡ id) × (q ≡ s)). absurd (ne (t.0 ∙ sym u.0)))
-              (λ u. let far = b.apart id c p s mine u.1 (λ same. u.0 (sym same)) in
-                  let lo : q.lo ≡ r.lo = ap (λ (x : Shown H F). x.lo) t.1 in let hi : q.hi ≡ r.hi = ap (λ (x : Shown H F). x.hi) t.1 in
-                  let lo' = g.lo_is in let hi' = g.hi_is in
-                  ⊎_elim (λ (h : p.hi ≤ s.lo). inl (omega arith)) (λ (h : s.hi ≤ p.lo). inr (omega arith)) far)
-              (has_after c s there'))
+          (λ (u : (c ≡ id) × (q ≡ s)). absurd (ne (t.0 ∙ sym u.0)))
+          (λ u. let far = b.apart id c p s mine u.1 (λ same. u.0 (sym same)) in
+          let lo : q.lo ≡ r.lo = ap (λ (x : Shown H F). x.lo) t.1 in let hi : q.hi ≡ r.hi = ap (λ (x : Shown H F). x.hi) t.1 in
+          let lo' = g.lo_is in let hi' = g.hi_is in
+          ⊎_elim (λ (h : p.hi ≤ s.lo). inl (omega arith)) (λ (h : s.hi ≤ p.lo). inr (omega arith)) far)
+          (has_after c s there'))
           (λ t. ⊎_elim
-              (λ (u : (c ≡ id) × (q ≡ s)). let far = b.apart a id r p t.1 mine t.0 in
-                  let lo : q.lo ≡ s.lo = ap (λ (x : Shown H F). x.lo) u.1 in let hi : q.hi ≡ s.hi = ap (λ (x : Shown H F). x.hi) u.1 in
-                  let lo' = g.lo_is in let hi' = g.hi_is in
-                  ⊎_elim (λ (h : r.hi ≤ p.lo). inl (omega arith)) (λ (h : p.hi ≤ r.lo). inr (omega arith)) far)
-              (λ u. b.apart a c r s t.1 u.1 ne)
-              (has_after c s there'))
+          (λ (u : (c ≡ id) × (q ≡ s)). let far = b.apart a id r p t.1 mine t.0 in
+          let lo : q.lo ≡ s.lo = ap (λ (x : Shown H F). x.lo) u.1 in let hi : q.hi ≡ s.hi = ap (λ (x : Shown H F). x.hi) u.1 in
+          let lo' = g.lo_is in let hi' = g.hi_is in
+          ⊎_elim (λ (h : r.hi ≤ p.lo). inl (omega arith)) (λ (h : p.hi ≤ r.lo). inr (omega arith)) far)
+          (λ u. b.apart a c r s t.1 u.1 ne)
+          (has_after c s there'))
           (has_after a r there);
       cover = λ n below. cover_on g n (b.cover n below);
       refusals = λ a r there e f. ⊎_elim
           (λ (t : (a ≡ id) × (q ≡ r)). subst (λ (x : Shown H F). Contains x.refused (e, f) → IsCaused terms stands_for stopped over refuses first new (set views id (Some q)) e f) t.1
-              (λ c. ⊎_elim (λ was. caused_on g longer e f (b.refusals id p mine e f was)) (λ now. now) (refusals e f c)))
+          (λ c. ⊎_elim (λ was. caused_on g longer e f (b.refusals id p mine e f was)) (λ now. now) (refusals e f c)))
           (λ t c. caused_on g longer e f (b.refusals a r t.1 e f c)) (has_after a r there);
       known = λ a r there e. ⊎_elim
           (λ (t : (a ≡ id) × (q ≡ r)). subst (λ (x : Shown H F). Contains x.known e → IsRefused (set views id (Some q)) e) t.1 (known e))
           (λ t c. refused_on g e (b.known a r t.1 e c)) (has_after a r there);
       alone = λ a c r s e f there there' tries tries'. ⊎_elim
           (λ (t : (a ≡ id) × (q ≡ r)). ⊎_elim
-              (λ (u : (c ≡ id) × (q ≡ s)). t.0 ∙ sym u.0)
-              (λ u. absurd (alone e (subst (λ (x : Shown H F). x.tries ≡ Some e) (sym t.1) tries) c s f u.0 u.1 tries'))
-              (has_after c s there'))
+          (λ (u : (c ≡ id) × (q ≡ s)). t.0 ∙ sym u.0)
+          (λ u. absurd (alone e (subst (λ (x : Shown H F). x.tries ≡ Some e) (sym t.1) tries) c s f u.0 u.1 tries'))
+          (has_after c s there'))
           (λ t. ⊎_elim
-              (λ (u : (c ≡ id) × (q ≡ s)). absurd (alone f (subst (λ (x : Shown H F). x.tries ≡ Some f) (sym u.1) tries') a r e t.0 t.1 tries))
-              (λ u. b.alone a c r s e f t.1 u.1 tries tries')
-              (has_after c s there'))
+          (λ (u : (c ≡ id) × (q ≡ s)). absurd (alone f (subst (λ (x : Shown H F). x.tries ≡ Some f) (sym u.1) tries') a r e t.0 t.1 tries))
+          (λ u. b.alone a c r s e f t.1 u.1 tries tries')
+          (has_after c s there'))
           (has_after a r there);
       trying = λ a r e there. ⊎_elim
           (λ (t : (a ≡ id) × (q ≡ r)). subst (λ (x : Shown H F). x.tries ≡ Some e → (x.seen ≡ new) × (IsStopped (set views id (Some q)) → IsTrue x.stopped)) t.1 (trying e))
-          (λ t tries. others_trying a r e t.0 t.1 tries) (has_after a r there)
+          (λ t tries. others_trying a r e t.0 t.1 tries) (has_after a r there);
     }

@@ -43,8 +43,10 @@ module _ {H F : Type 0} where
 
     pub takes : (idle : IsIdle me) (e : Packet) → e.by ≡ old.lo → MayTake me e
     takes idle e number = record {
-      pass = idle.pass; me_is = idle.me_is; idle = idle.idle;
-      own = number ∙ sym (ap (λ (x : Sight H F). x.lo) (view_of idle.pass (λ i. (idle.me_is i).0)))
+      pass = idle.pass;
+      me_is = idle.me_is;
+      idle = idle.idle;
+      own = number ∙ sym (ap (λ (x : Sight H F). x.lo) (view_of idle.pass (λ i. (idle.me_is i).0)));
     }
 
     pub first_of : (lock : LockSight H) → BelongsTo old lock → (p : Shown H F) → me.0 ≡ Some p → p.first ≡ lock.first
@@ -87,7 +89,7 @@ module _ {H F : Type 0} where
       lo_is = ap (λ (x : Shown H F). x.lo) w.shows;
       hi_is = ap (λ (x : Shown H F). x.hi) w.shows;
       begins = prefix_trans w.begins (subst (IsPrefix w.past) (ap (λ (x : Shown H F). x.seen) (sym w.shows)) (prefix_append w.past (e ∷ [])));
-      stops = λ s. subst IsTrue (ap (λ (x : Shown H F). x.stopped) (sym w.shows)) (w.stops s)
+      stops = λ s. subst IsTrue (ap (λ (x : Shown H F). x.stopped) (sym w.shows)) (w.stops s);
     }
 
     keeps_refused : (tid : TableId) (f : F) (p q : Shown H F) (m : ℕ) → WasRefused terms stands_for answers refuses e f more (record p { met = m }) q → Keeps (sight tid (Some p)) (sight tid (Some q))
@@ -97,7 +99,7 @@ module _ {H F : Type 0} where
       lo_is = ap (λ (x : Shown H F). x.lo) w.shows;
       hi_is = ap (λ (x : Shown H F). x.hi) w.shows;
       begins = subst (IsPrefix p.seen) (ap (λ (x : Shown H F). x.seen) (sym w.shows)) w.begins;
-      stops = λ s. subst IsTrue (ap (λ (x : Shown H F). x.stopped) (sym w.shows)) (w.stops s)
+      stops = λ s. subst IsTrue (ap (λ (x : Shown H F). x.stopped) (sym w.shows)) (w.stops s);
     }
 
     acted_of : (tid : TableId) (first : H) (reply : R) (p q : Shown H F) (m : ℕ) → p.met ≤ m → p.first ≡ first → WasTaken terms stands_for answers refuses e reply more (record p { met = m }) q
@@ -107,7 +109,7 @@ module _ {H F : Type 0} where
       begins = w.begins;
       answer = subst (λ (x : H). (h : List Packet) → stands_for x h → answers (terms x) (h ++ w.past) e reply) same w.answer;
       met = (let now : q.met ≡ m = ap (λ (x : Shown H F). x.met) w.shows in omega arith);
-      shows = λ i. record { lock = tid; first = Some (w.shows i).first; lo = (w.shows i).lo; hi = (w.shows i).hi; calls = (w.shows i).calls; refused = (w.shows i).refused; seen = (w.shows i).seen; met = q.met; waits = (w.shows i).waits; stopped = q.stopped }
+      shows = λ i. record { lock = tid; first = Some (w.shows i).first; lo = (w.shows i).lo; hi = (w.shows i).hi; calls = (w.shows i).calls; refused = (w.shows i).refused; seen = (w.shows i).seen; met = q.met; waits = (w.shows i).waits; stopped = q.stopped };
     }
 
     declined_of : (tid : TableId) (first : H) (f : F) (p q : Shown H F) (m : ℕ) → p.met ≤ m → p.first ≡ first → WasRefused terms stands_for answers refuses e f more (record p { met = m }) q
@@ -118,7 +120,7 @@ module _ {H F : Type 0} where
       cause = ⊎_elim (λ stop. inl (subst IsTrue (ap (λ (x : Shown H F). x.stopped) (sym w.shows)) stop))
           (λ rule. inr (subst (λ (x : H). (h : List Packet) → stands_for x h → refuses (terms x) (h ++ w.past) e f) same rule)) w.cause;
       met = (let now : q.met ≡ m = ap (λ (x : Shown H F). x.met) w.shows in omega arith);
-      shows = λ i. record { lock = tid; first = Some (w.shows i).first; lo = (w.shows i).lo; hi = (w.shows i).hi; calls = (w.shows i).calls; refused = (w.shows i).refused; seen = (w.shows i).seen; met = q.met; waits = (w.shows i).waits; stopped = q.stopped }
+      shows = λ i. record { lock = tid; first = Some (w.shows i).first; lo = (w.shows i).lo; hi = (w.shows i).hi; calls = (w.shows i).calls; refused = (w.shows i).refused; seen = (w.shows i).seen; met = q.met; waits = (w.shows i).waits; stopped = q.stopped };
     }
 
     module _ (tid tid' : TableId) (me me' : Mine H F) (old : Sight H F) (view : sight tid me.0 ≡ old) (same : tid' ≡ tid) (p : Shown H F) (is : me.0 ≡ Some p) (first : H) (first_is : p.first ≡ first) where
@@ -160,17 +162,25 @@ module _ {H F : Type 0} where
         → (result ≡ Busy → me' ≡ (Some (missed p), [])) → p.tries ≡ None → Turned tid p me' (lost result)
     turned tid p me' result done refused busy idle = any_turn result (λ (r : Turn R F). Turned tid p me' (lost r))
         (λ reply is. let t = done reply is in record {
-          pass = t.0; me_is = t.1; idle = ap (λ (x : Shown H F). x.tries) t.2.shows; keeps = keeps_taken tid reply p t.0 p.met t.2;
-          met = (let m : t.0.met ≡ p.met = ap (λ (x : Shown H F). x.met) t.2.shows in omega arith)
+          pass = t.0;
+          me_is = t.1;
+          idle = ap (λ (x : Shown H F). x.tries) t.2.shows;
+          keeps = keeps_taken tid reply p t.0 p.met t.2;
+          met = (let m : t.0.met ≡ p.met = ap (λ (x : Shown H F). x.met) t.2.shows in omega arith);
         })
         (λ f is. let t = refused f is in record {
-          pass = t.0; me_is = t.1; idle = ap (λ (x : Shown H F). x.tries) t.2.shows; keeps = keeps_refused tid f p t.0 p.met t.2;
-          met = (let m : t.0.met ≡ p.met = ap (λ (x : Shown H F). x.met) t.2.shows in omega arith)
+          pass = t.0;
+          me_is = t.1;
+          idle = ap (λ (x : Shown H F). x.tries) t.2.shows;
+          keeps = keeps_refused tid f p t.0 p.met t.2;
+          met = (let m : t.0.met ≡ p.met = ap (λ (x : Shown H F). x.met) t.2.shows in omega arith);
         })
         (λ is. record {
-          pass = missed p; me_is = busy is; idle = idle;
+          pass = missed p;
+          me_is = busy is;
+          idle = idle;
           keeps = record { lock_is = refl; first_is = refl; lo_is = refl; hi_is = refl; begins = prefix_itself p.seen; stops = λ s. s };
-          met = refl
+          met = refl;
         })
 
     -- the same after a call that lost any number of takes
@@ -178,14 +188,26 @@ module _ {H F : Type 0} where
         → IfOk result (λ reply. (q : Shown H F) × (m : ℕ) × (p.met ≤ m) × (me' ≡ (Some q, [])) × WasTaken terms stands_for answers refuses e reply more (record p { met = m }) q)
         → IfErr result (λ f. (q : Shown H F) × (m : ℕ) × (p.met ≤ m) × (me' ≡ (Some q, [])) × WasRefused terms stands_for answers refuses e f more (record p { met = m }) q)
         → (n : ℕ) × Turned tid p me' n
-    turned_at_last tid p me' (Ok reply) done refused = (done.1 - p.met, record {
-      pass = done.0; me_is = done.3; idle = ap (λ (x : Shown H F). x.tries) done.4.shows; keeps = keeps_taken tid reply p done.0 done.1 done.4;
-      met = (let now : done.0.met ≡ done.1 = ap (λ (x : Shown H F). x.met) done.4.shows in let least = done.2 in omega arith)
-    })
-    turned_at_last tid p me' (Err f) done refused = (refused.1 - p.met, record {
-      pass = refused.0; me_is = refused.3; idle = ap (λ (x : Shown H F). x.tries) refused.4.shows; keeps = keeps_refused tid f p refused.0 refused.1 refused.4;
-      met = (let now : refused.0.met ≡ refused.1 = ap (λ (x : Shown H F). x.met) refused.4.shows in let least = refused.2 in omega arith)
-    })
+    turned_at_last tid p me' (Ok reply) done refused = (
+      done.1 - p.met,
+      record {
+        pass = done.0;
+        me_is = done.3;
+        idle = ap (λ (x : Shown H F). x.tries) done.4.shows;
+        keeps = keeps_taken tid reply p done.0 done.1 done.4;
+        met = (let now : done.0.met ≡ done.1 = ap (λ (x : Shown H F). x.met) done.4.shows in let least = done.2 in omega arith);
+      },
+    )
+    turned_at_last tid p me' (Err f) done refused = (
+      refused.1 - p.met,
+      record {
+        pass = refused.0;
+        me_is = refused.3;
+        idle = ap (λ (x : Shown H F). x.tries) refused.4.shows;
+        keeps = keeps_refused tid f p refused.0 refused.1 refused.4;
+        met = (let now : refused.0.met ≡ refused.1 = ap (λ (x : Shown H F). x.met) refused.4.shows in let least = refused.2 in omega arith);
+      },
+    )
 
 -- the longer of two lists that begin one history
 longer_begins : {A : Type 0} (xs ys : List A) (b : Bool) → IsPrefix (cond b xs ys) (cond b ys xs) → IsPrefix xs (cond b ys xs) × IsPrefix ys (cond b ys xs)
@@ -201,14 +223,14 @@ module _ {H F : Type 0} where
       → Joined (sight tid (Some p)) (sight tid' (Some q)) (sight tid (Some (joined p q)))
   joined_of tid tid' p q meets agreed =
       let both = longer_begins p.seen q.seen (ltb (length p.seen) (length q.seen)) (agreed (shorter_is p.seen q.seen (ltb (length p.seen) (length q.seen)) refl)) in record {
-    shows = refl;
-    calls_below = λ n h. joined_below (λ (e : Packet). e.by) q.lo p.calls q.calls n h;
-    calls_above = λ n h. joined_above (λ (e : Packet). e.by) q.lo p.calls q.calls n h;
-    refused_below = λ n h. joined_below (λ (r : Packet × F). r.0.by) q.lo p.refused q.refused n h;
-    refused_above = λ n h. joined_above (λ (r : Packet × F). r.0.by) q.lo p.refused q.refused n h;
-    begins = both.0;
-    other_begins = both.1
-  }
+        shows = refl;
+        calls_below = λ n h. joined_below (λ (e : Packet). e.by) q.lo p.calls q.calls n h;
+        calls_above = λ n h. joined_above (λ (e : Packet). e.by) q.lo p.calls q.calls n h;
+        refused_below = λ n h. joined_below (λ (r : Packet × F). r.0.by) q.lo p.refused q.refused n h;
+        refused_above = λ n h. joined_above (λ (r : Packet × F). r.0.by) q.lo p.refused q.refused n h;
+        begins = both.0;
+        other_begins = both.1;
+      }
 
   -- what callers see of a join
   pub seen_joined : (tid tid2 tid' : TableId) (me them me' : Mine H F) (old other : Sight H F) → sight tid me.0 ≡ old → sight tid2 them.0 ≡ other → (p q : Shown H F) → me.0 ≡ Some p → them.0 ≡ Some q
@@ -219,7 +241,7 @@ module _ {H F : Type 0} where
       let at : q.lo ≡ p.hi = ap (λ (x : Sight H F). x.lo) seen2 ∙ (meets ∙ ap (λ (x : Sight H F). x.hi) (sym seen)) in
       let new : sight tid (Some (joined p q)) ≡ sight tid' me'.0 = λ i. sight (sym same i) (sym is' i) in
       subst (λ (x : Sight H F). Joined old other x) new (subst (λ (x : Sight H F). Joined old x (sight tid (Some (joined p q)))) seen2
-          (subst (λ (x : Sight H F). Joined x (sight tid2 (Some q)) (sight tid (Some (joined p q)))) seen (joined_of tid tid2 p q at (agreed (joined p q) is'))))
+      (subst (λ (x : Sight H F). Joined x (sight tid2 (Some q)) (sight tid (Some (joined p q)))) seen (joined_of tid tid2 p q at (agreed (joined p q) is'))))
 
   -- the pass of a join has no lock either
   pub joined_inside : (tid tid' : TableId) (me them me' : Mine H F) (idle : IsIdle me) (idle2 : IsIdle them) → tid' ≡ tid → me' ≡ (Some (joined idle.pass idle2.pass), []) → (lo : ℕ) → (sight tid me.0).lo ≡ lo
@@ -238,6 +260,8 @@ module _ {H T F : Type 0} (terms : H → T) (stands_for : H → List Packet → 
   ends lock self lock_is tid me old view idle lo hi id words slots final x at =
       let p = idle.pass in let is : me.0 ≡ Some p = λ i. (idle.me_is i).0 in let seen = view_of tid me old view p is in
       let t = closes terms stands_for stopped over refuses lock id p tid words slots idle.idle (ap (λ (v : Sight H F). v.lo) seen ∙ lo) (ap (λ (v : Sight H F). v.hi) seen ∙ (hi ∙ ap (λ (l : LockSight H). l.numbers) (sym lock_is)))
-          (subst (λ (v : Option (Shown H F)). Final (Seen (Holds terms stands_for stopped over refuses lock.first lock.numbers) id v) words slots) is final) in
-      (t.0, some-injective x (Some t.0) (sym at ∙ t.1),
-        subst (λ (l : LockSight H). Closed terms stands_for stopped over refuses l old t.0) lock_is (subst (λ (v : Sight H F). Closed terms stands_for stopped over refuses lock v t.0) seen t.2))
+      (subst (λ (v : Option (Shown H F)). Final (Seen (Holds terms stands_for stopped over refuses lock.first lock.numbers) id v) words slots) is final) in (
+        t.0,
+        some-injective x (Some t.0) (sym at ∙ t.1),
+        subst (λ (l : LockSight H). Closed terms stands_for stopped over refuses l old t.0) lock_is (subst (λ (v : Sight H F). Closed terms stands_for stopped over refuses lock v t.0) seen t.2),
+      )

@@ -37,7 +37,7 @@ module _ {H F : Type 0} (views : Views H F) (id : ℕ) (p : Shown H F) (mine : H
   kind : (a : ℕ) (r : Shown H F) → Has after a r → Kind a r
   kind a r e = ⊎_elim
       (λ old. ⊎_elim (λ (t : (a ≡ id) × (Some (lower at p) ≡ Some r)). low t.0 (same_Some (lower at p) r t.1)) (λ t. else_ t.0 t.1)
-          (at_set views id a (Some (lower at p)) (Some r) old))
+      (at_set views id a (Some (lower at p)) (Some r) old))
       (λ (t : (a ≡ length (set views id (Some (lower at p)))) × (Some (upper at p) ≡ Some r)). high (t.0 ∙ length-set views id (Some (lower at p))) (same_Some (upper at p) r t.1))
       (snoc_cases (set views id (Some (lower at p))) a (Some (upper at p)) (Some r) e)
 
@@ -71,23 +71,23 @@ module _ {H F : Type 0} (views : Views H F) (id : ℕ) (p : Shown H F) (mine : H
   refused_on : (e : Packet) → IsRefused views e → IsRefused after e
   refused_on e r = ⊎_elim
       (λ (t : (r.seat ≡ id) × (p ≡ r.pass)).
-        let shown : Contains p.refused (e, r.refusal) = subst (λ (x : Shown H F). Contains x.refused (e, r.refusal)) (sym t.1) r.shown in
-        let lo : p.lo ≡ r.pass.lo = ap (λ (x : Shown H F). x.lo) t.1 in let hi : p.hi ≡ r.pass.hi = ap (λ (x : Shown H F). x.hi) t.1 in
-        let from = r.low in let to = r.high in ⊎_elim
-          (λ (under : e.by < at). record { seat = id; pass = lower at p; there = at_low; low = omega arith; high = under; refusal = r.refusal; shown = shown })
-          (λ (above : at ≤ e.by). record { seat = length views; pass = upper at p; there = at_high; low = above; high = omega arith; refusal = r.refusal; shown = shown })
-          (cases_lt e.by at))
+      let shown : Contains p.refused (e, r.refusal) = subst (λ (x : Shown H F). Contains x.refused (e, r.refusal)) (sym t.1) r.shown in
+      let lo : p.lo ≡ r.pass.lo = ap (λ (x : Shown H F). x.lo) t.1 in let hi : p.hi ≡ r.pass.hi = ap (λ (x : Shown H F). x.hi) t.1 in
+      let from = r.low in let to = r.high in ⊎_elim
+      (λ (under : e.by < at). record { seat = id; pass = lower at p; there = at_low; low = omega arith; high = under; refusal = r.refusal; shown = shown })
+      (λ (above : at ≤ e.by). record { seat = length views; pass = upper at p; there = at_high; low = above; high = omega arith; refusal = r.refusal; shown = shown })
+      (cases_lt e.by at))
       (λ ne. record { seat = r.seat; pass = r.pass; there = at_else r.seat r.pass ne r.there; low = r.low; high = r.high; refusal = r.refusal; shown = r.shown })
       (was_mine r.seat r.pass r.there)
 
   cover_on : (n : ℕ) → IsCovered views n → IsCovered after n
   cover_on n c = ⊎_elim
       (λ (t : (c.seat ≡ id) × (p ≡ c.pass)).
-        let lo : p.lo ≡ c.pass.lo = ap (λ (x : Shown H F). x.lo) t.1 in let hi : p.hi ≡ c.pass.hi = ap (λ (x : Shown H F). x.hi) t.1 in
-        let from = c.low in let to = c.high in ⊎_elim
-          (λ (under : n < at). record { seat = id; pass = lower at p; there = at_low; low = omega arith; high = under })
-          (λ (above : at ≤ n). record { seat = length views; pass = upper at p; there = at_high; low = above; high = omega arith })
-          (cases_lt n at))
+      let lo : p.lo ≡ c.pass.lo = ap (λ (x : Shown H F). x.lo) t.1 in let hi : p.hi ≡ c.pass.hi = ap (λ (x : Shown H F). x.hi) t.1 in
+      let from = c.low in let to = c.high in ⊎_elim
+      (λ (under : n < at). record { seat = id; pass = lower at p; there = at_low; low = omega arith; high = under })
+      (λ (above : at ≤ n). record { seat = length views; pass = upper at p; there = at_high; low = above; high = omega arith })
+      (cases_lt n at))
       (λ ne. record { seat = c.seat; pass = c.pass; there = at_else c.seat c.pass ne c.there; low = c.low; high = c.high })
       (was_mine c.seat c.pass c.there)
 
@@ -97,15 +97,25 @@ module _ {H F : Type 0} (views : Views H F) (id : ℕ) (p : Shown H F) (mine : H
     never d t = none-some d (sym idle ∙ t)
 
     low_part : IsPart first numbers history (lower at p)
-    low_part = let part = b.parts id p mine in let in_ = part.within in record {
-      first_is = part.first_is; not_empty = above; within = omega arith; seen = part.seen; lesser = part.lesser;
-      calls = λ n lo hi. part.calls n lo (omega arith); tried = λ d t. absurd (never d t)
+    low_part = let part = b.parts id p mine in let inside = part.within in record {
+      first_is = part.first_is;
+      not_empty = above;
+      within = omega arith;
+      seen = part.seen;
+      lesser = part.lesser;
+      calls = λ n lo hi. part.calls n lo (omega arith);
+      tried = λ d t. absurd (never d t);
     }
 
     high_part : IsPart first numbers history (upper at p)
     high_part = let part = b.parts id p mine in record {
-      first_is = part.first_is; not_empty = below; within = part.within; seen = part.seen; lesser = part.lesser;
-      calls = λ n lo hi. part.calls n (omega arith) hi; tried = λ d t. absurd (never d t)
+      first_is = part.first_is;
+      not_empty = below;
+      within = part.within;
+      seen = part.seen;
+      lesser = part.lesser;
+      calls = λ n lo hi. part.calls n (omega arith) hi;
+      tried = λ d t. absurd (never d t);
     }
 
     part_of : (a : ℕ) (r : Shown H F) → Kind a r → IsPart first numbers history r
@@ -166,7 +176,7 @@ module _ {H F : Type 0} (views : Views H F) (id : ℕ) (p : Shown H F) (mine : H
       refusals = λ a r there e f c. caused_on e f (refusals_of a r (kind a r there) e f c);
       known = λ a r there e c. refused_on e (known_of a r (kind a r there) e c);
       alone = λ a c r s e f there there' t t'. b.alone a c r s e f (trier a r e (kind a r there) t) (trier c s f (kind c s there') t') t t';
-      trying = λ a r e there t. let h = b.trying a r e (trier a r e (kind a r there) t) t in (h.0, λ x. h.1 (stopped_back x))
+      trying = λ a r e there t. let h = b.trying a r e (trier a r e (kind a r there) t) t in (h.0, λ x. h.1 (stopped_back x));
     }
 
     tried_on : IsTried views → IsTried after
@@ -178,21 +188,24 @@ module _ {H F : Type 0} (views : Views H F) (id : ℕ) (p : Shown H F) (mine : H
 module _ {H T F : Type 0} (terms : H → T) (stands_for : H → List Packet → Type 0) (stopped : H → Bool) (over : H → Option Packet) (refuses : T → List Packet → Packet → F → Type 0) (first : H) (numbers : ℕ) where
   pub splitting : (id : ℕ) (p : Shown H F) (at : ℕ) → p.tries ≡ None → p.lo < at → at < p.hi
       → Splits (Holds terms stands_for stopped over refuses first numbers) id (Some p) (Some (lower at p)) (Some (upper at p))
-  splitting id p at idle above below s holds mine = let history = holds.0 in let w = holds.1 in let views = s.views in (history, record {
-    two_words = w.two_words;
-    lock_word = w.lock_word;
-    count_word = w.count_word;
-    opened = w.opened;
-    numbered = w.numbered;
-    passes = passes_split s.views id p mine at terms stands_for stopped over refuses first numbers history w.passes idle above below;
-    home = λ free. let t = w.home free in (t.0, t.1, home_after terms stands_for stopped over refuses first history s.views (after s.views id p mine at) (stopped_back s.views id p mine at) (refused_on s.views id p mine at) t.0 t.2);
-    none_tries = λ free a r d there t. w.none_tries free a r d (trier s.views id p mine at terms stands_for stopped over refuses first numbers history w.passes idle above below a r d (kind s.views id p mine at a r there) t) t;
-    one_tries = λ held. tried_on s.views id p mine at terms stands_for stopped over refuses first numbers history w.passes idle above below (w.one_tries held)
-  })
+  splitting id p at idle above below s holds mine = let history = holds.0 in let w = holds.1 in let views = s.views in (
+    history,
+    record {
+      two_words = w.two_words;
+      lock_word = w.lock_word;
+      count_word = w.count_word;
+      opened = w.opened;
+      numbered = w.numbered;
+      passes = passes_split s.views id p mine at terms stands_for stopped over refuses first numbers history w.passes idle above below;
+      home = λ free. let t = w.home free in (t.0, t.1, home_after terms stands_for stopped over refuses first history s.views (after s.views id p mine at) (stopped_back s.views id p mine at) (refused_on s.views id p mine at) t.0 t.2);
+      none_tries = λ free a r d there t. w.none_tries free a r d (trier s.views id p mine at terms stands_for stopped over refuses first numbers history w.passes idle above below a r d (kind s.views id p mine at a r there) t) t;
+      one_tries = λ held. tried_on s.views id p mine at terms stands_for stopped over refuses first numbers history w.passes idle above below (w.one_tries held);
+    },
+  )
 
   -- the same for a seat that has a live pass without the lock
   pub split_at : (id : ℕ) (me : Mine H F) (cut at : ℕ) → cut ≡ at → IsIdle me → ((p : Shown H F) → me.0 ≡ Some p → (p.lo < at) × (at < p.hi))
       → Splits (Holds terms stands_for stopped over refuses first numbers) id me.0 (option_map (lower cut) me.0) (option_map (upper cut) me.0)
   split_at id me cut at same idle within = let p = idle.pass in let is : me.0 ≡ Some p = λ i. (idle.me_is i).0 in let bounds = within p is in
       subst (λ (v : Option (Shown H F)). Splits (Holds terms stands_for stopped over refuses first numbers) id v (option_map (lower cut) v) (option_map (upper cut) v)) (sym is)
-          (splitting id p cut idle.idle (let lo = bounds.0 in omega arith) (let hi = bounds.1 in omega arith))
+      (splitting id p cut idle.idle (let lo = bounds.0 in omega arith) (let hi = bounds.1 in omega arith))

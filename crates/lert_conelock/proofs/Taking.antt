@@ -36,8 +36,15 @@ module _ {H T F : Type 0} (terms : H → T) (stands_for : H → List Packet → 
     passes_won : Passes terms stands_for stopped over refuses first numbers history after
     passes_won = let b = w.passes in let part = b.parts id p there in passes_after s.views id p won there terms stands_for stopped over refuses first numbers history history b (prefix_itself history) grows
         (λ a r _ at. b.parts a r at)
-        (record { first_is = part.first_is; not_empty = part.not_empty; within = part.within; seen = prefix_itself history; lesser = part.lesser; calls = part.calls;
-          tried = λ d t. subst (λ (x : Packet). x.by ≡ p.lo) (same_Some e d t) named })
+        (record {
+          first_is = part.first_is;
+          not_empty = part.not_empty;
+          within = part.within;
+          seen = prefix_itself history;
+          lesser = part.lesser;
+          calls = part.calls;
+          tried = λ d t. subst (λ (x : Packet). x.by ≡ p.lo) (same_Some e d t) named;
+        })
         (λ d g c. inl c)
         (λ d c. refused_on s.views id p won there grows d (refusal_shown s.views d c))
         (λ d _ a r g ne at t. w.none_tries free a r g at t)
@@ -54,7 +61,7 @@ module _ {H T F : Type 0} (terms : H → T) (stands_for : H → List Packet → 
       passes = passes_won;
       home = λ z. absurd (omega arith);
       none_tries = λ z. absurd (omega arith);
-      one_tries = λ _. record { seat = id; pass = won; packet = e; there = has_here s.views id p won there; tries = refl }
+      one_tries = λ _. record { seat = id; pass = won; packet = e; there = has_here s.views id p won there; tries = refl };
     }
 
     pub took : (state : H) → IsHome terms stands_for stopped over refuses first history s.views state → Took terms stands_for stopped over refuses e p state (Some state) (Some won, (0, Some state) ∷ [])
@@ -74,34 +81,43 @@ module _ {H T F : Type 0} (terms : H → T) (stands_for : H → List Packet → 
             (λ (z : over state ≡ over first). inl (z ∙ ap over same))
             (λ (t : (d : Packet) × (over state ≡ Some d) × IsRefused s.views d). inr (t.0, t.1, refusal_counts s.views t.0 t.2)) o)) h.over_is;
         fresh_is = ⊎_elim (λ (z : state ≡ first). inl (z ∙ same))
-            (λ (t : (d : Packet) × (Contains history d ⊎ IsRefused s.views d)). inr (t.0, ⊎_elim inl (λ r. inr (refusal_counts s.views t.0 r)) t.1)) h.fresh_is
-      }
+            (λ (t : (d : Packet) × (Contains history d ⊎ IsRefused s.views d)). inr (t.0, ⊎_elim inl (λ r. inr (refusal_counts s.views t.0 r)) t.1)) h.fresh_is;
+      };
     }
 
   pub taking : (slots id : ℕ) (me : Mine H F) (e : Packet) → MayTake me e
       → Allows (Holds terms stands_for stopped over refuses first numbers) slots id me 0 (λ n. either (eqb n 0) 1 n)
-          (λ found after. (p' : Shown H F) → me.0 ≡ Some p' → (found ≡ 0 → (state : H) × Took terms stands_for stopped over refuses e p' state (Some state) after) × ((found ≡ 0 → ⊥) → after ≡ (Some (missed p'), [])))
+      (λ found after. (p' : Shown H F) → me.0 ≡ Some p' → (found ≡ 0 → (state : H) × Took terms stands_for stopped over refuses e p' state (Some state) after) × ((found ≡ 0 → ⊥) → after ≡ (Some (missed p'), [])))
   taking slots id me e may = let p = may.pass in let idle = may.idle in let named = may.own in subst
       (λ (m : Mine H F). Allows (Holds terms stands_for stopped over refuses first numbers) slots id m 0 (λ n. either (eqb n 0) 1 n)
-          (λ found after. (p' : Shown H F) → m.0 ≡ Some p' → (found ≡ 0 → (state : H) × Took terms stands_for stopped over refuses e p' state (Some state) after) × ((found ≡ 0 → ⊥) → after ≡ (Some (missed p'), [])))) (sym may.me_is)
+      (λ found after. (p' : Shown H F) → m.0 ≡ Some p' → (found ≡ 0 → (state : H) × Took terms stands_for stopped over refuses e p' state (Some state) after) × ((found ≡ 0 → ⊥) → after ≡ (Some (missed p'), [])))) (sym may.me_is)
       (λ s holds one at _.
-        let history = holds.0 in let w = holds.1 in
-        exchanged (get_or s.words 0 0) 0 1
-          (λ (x : ℕ). (v : Option (Shown H F)) × (a : Act (Option H)) × Valid s.homes [] a × Holds terms stands_for stopped over refuses first numbers (stepped s 0 x id [] v a)
-              × ((p' : Shown H F) → Some p ≡ Some p' → (get_or s.words 0 0 ≡ 0 → (state : H) × Took terms stands_for stopped over refuses e p' state (Some state) (v, carried_after [] a)) × ((get_or s.words 0 0 ≡ 0 → ⊥) → ◌≡◌ {A = Mine H F} (v, carried_after [] a) (Some (missed p'), []))))
-          (λ free. let t = w.home free in (
-            Some (won s history w id p at e named free), takes 0 (Some t.0), t.1,
-            (history, wins s history w id p at e named free),
-            λ p' same. (
-              (λ _. (t.0, subst (λ (x : Shown H F). Took terms stands_for stopped over refuses e x t.0 (Some t.0) (Some (won s history w id p at e named free), (0, Some t.0) ∷ [])) (same_Some p p' same) (took s history w id p at e named free t.0 t.2))),
-              (λ no_. absurd (no_ free)),
-            )))
-          (λ held. (
-            Some (missed p), keeps, tt,
-            (history, subst (λ (ws : List ℕ). HoldsWith terms stands_for stopped over refuses first numbers (record { words = ws; homes = s.homes; views = set s.views id (Some (missed p)) }) history)
+      let history = holds.0 in let w = holds.1 in
+      exchanged (get_or s.words 0 0) 0 1
+      (λ (x : ℕ). (v : Option (Shown H F)) × (a : Act (Option H)) × Valid s.homes [] a × Holds terms stands_for stopped over refuses first numbers (stepped s 0 x id [] v a)
+      × ((p' : Shown H F) → Some p ≡ Some p' → (get_or s.words 0 0 ≡ 0 → (state : H) × Took terms stands_for stopped over refuses e p' state (Some state) (v, carried_after [] a)) × ((get_or s.words 0 0 ≡ 0 → ⊥) → ◌≡◌ {A = Mine H F} (v, carried_after [] a) (Some (missed p'), []))))
+      (λ free. let t = w.home free in (
+        Some (won s history w id p at e named free),
+        takes 0 (Some t.0),
+        t.1,
+        (history, wins s history w id p at e named free),
+        λ p' same. (
+          (λ _. (t.0, subst (λ (x : Shown H F). Took terms stands_for stopped over refuses e x t.0 (Some t.0) (Some (won s history w id p at e named free), (0, Some t.0) ∷ [])) (same_Some p p' same) (took s history w id p at e named free t.0 t.2))),
+          (λ not_free. absurd (not_free free)),
+        ),
+      ))
+      (λ held. (
+        Some (missed p),
+        keeps,
+        tt,
+        (
+          history,
+          subst (λ (ws : List ℕ). HoldsWith terms stands_for stopped over refuses first numbers (record { words = ws; homes = s.homes; views = set s.views id (Some (missed p)) }) history)
               (sym (set_found s.words 0 0))
-              (idles terms stands_for stopped over refuses first numbers s history w id p at idle p.seen (p.met + 1) (w.passes.parts id p at).seen)),
-            λ p' same. (
-              (λ free. absurd (held free)),
-              (λ _ i. (Some (missed (same_Some p p' same i)), [])),
-            ))))
+              (idles terms stands_for stopped over refuses first numbers s history w id p at idle p.seen (p.met + 1) (w.passes.parts id p at).seen),
+        ),
+        λ p' same. (
+          (λ free. absurd (held free)),
+          (λ _ i. (Some (missed (same_Some p p' same i)), [])),
+        ),
+      )))

@@ -22,9 +22,11 @@ module _ {H T F : Type 0} (terms : H → T) (stands_for : H → List Packet → 
   pub slot_changed : (state : H) (slot slot' : Option H) (me me' : Mine H F) → HasLock terms stands_for stopped over refuses state slot me → me' ≡ (me.0, (0, slot') ∷ rest me.1)
       → HasLock terms stands_for stopped over refuses state slot' me'
   slot_changed state slot slot' me me' lock is = record {
-    pass = lock.pass; packet = lock.packet;
+    pass = lock.pass;
+    packet = lock.packet;
     me_is = is ∙ ap (λ (m : Mine H F). (m.0, (0, slot') ∷ rest m.1)) lock.me_is;
-    tries = lock.tries; hand = lock.hand
+    tries = lock.tries;
+    hand = lock.hand;
   }
 
   pub slot_held : (e : Packet) (p : Shown H F) (s : H) (slot : Option H) (me : Mine H F) → Took terms stands_for stopped over refuses e p s slot me → (x : Option H) × (me.1 ≡ (0, x) ∷ rest me.1)
@@ -57,14 +59,16 @@ module _ {H T F : Type 0} (terms : H → T) (stands_for : H → List Packet → 
           stands = λ h opens. subst (stands_for t) (append_assoc h took.seen (e ∷ [])) (stands (h ++ took.seen) (hand.stands h opens));
           stopped_is = λ x. stops (hand.stopped_is x);
           over_is = inl (none_over (took.opened.0 ++ took.seen) (hand.stands took.opened.0 took.opened.1));
-          fresh_is = inr (e, inl (Contains-push took.seen e))
+          fresh_is = inr (e, inl (Contains-push took.seen e));
         }
 
         pub lock_taken : (me' : Mine H F) → me' ≡ (Some (committed e pass), me.1) → HasLock terms stands_for stopped over refuses t None me'
         lock_taken me' is = record {
-          pass = committed e pass; packet = e;
+          pass = committed e pass;
+          packet = e;
           me_is = is ∙ (λ i. (Some (committed e pass), (took.after_is i).1));
-          tries = refl; hand = hand_taken
+          tries = refl;
+          hand = hand_taken;
         }
 
       -- the packet was refused
@@ -76,8 +80,8 @@ module _ {H T F : Type 0} (terms : H → T) (stands_for : H → List Packet → 
         over_kept : over t ≡ over s → (over t ≡ None) ⊎ ((over t ≡ over p.first) ⊎ ((d : Packet) × (over t ≡ Some d) × Contains refused.known d))
         over_kept same = ⊎_elim (λ (o : over s ≡ None). inl (same ∙ o))
             (λ (o : (over s ≡ over p.first) ⊎ ((d : Packet) × (over s ≡ Some d) × Contains took.known d)). inr (⊎_elim
-                (λ (z : over s ≡ over p.first). inl (same ∙ z))
-                (λ (z : (d : Packet) × (over s ≡ Some d) × Contains took.known d). inr (z.0, same ∙ z.1, Contains-append_left took.known (e ∷ []) z.0 z.2)) o))
+            (λ (z : over s ≡ over p.first). inl (same ∙ z))
+            (λ (z : (d : Packet) × (over s ≡ Some d) × Contains took.known d). inr (z.0, same ∙ z.1, Contains-append_left took.known (e ∷ []) z.0 z.2)) o))
             took.hand.over_is
 
         hand_refused : InHand terms stands_for stopped over refuses refused t
@@ -88,14 +92,16 @@ module _ {H T F : Type 0} (terms : H → T) (stands_for : H → List Packet → 
           over_is = ⊎_elim (λ (a : refuses (terms s) (took.opened.0 ++ took.seen) e f × (stopped t ≡ stopped s) × (over t ≡ over s)). over_kept a.2)
               (λ (a : IsTrue (stopped t) × ((over t ≡ over s) ⊎ (over t ≡ Some e))). ⊎_elim over_kept (λ (z : over t ≡ Some e). inr (inr (e, z, Contains-push took.known e))) a.1)
               (declines (took.opened.0 ++ took.seen) (hand.stands took.opened.0 took.opened.1));
-          fresh_is = inr (e, inr (Contains-push took.known e))
+          fresh_is = inr (e, inr (Contains-push took.known e));
         }
 
         pub lock_refused : (me' : Mine H F) → me' ≡ (Some refused, me.1) → HasLock terms stands_for stopped over refuses t None me'
         lock_refused me' is = record {
-          pass = refused; packet = e;
+          pass = refused;
+          packet = e;
           me_is = is ∙ (λ i. (Some refused, (took.after_is i).1));
-          tries = refl; hand = hand_refused
+          tries = refl;
+          hand = hand_refused;
         }
 
         by_rule : stopped t ≡ false → (h : List Packet) → stands_for p.first h → refuses (terms p.first) (h ++ took.seen) e f
@@ -111,32 +117,42 @@ module _ {H T F : Type 0} (terms : H → T) (stands_for : H → List Packet → 
         reasoned q d is tries = let same : pass ≡ q = same_Some pass q (sym me_pass ∙ is) in
             let same' : e ≡ d = same_Some e d (ap (λ (x : Shown H F). x.tries) same ∙ tries) in
             subst (λ (x : Shown H F). IsReason terms stands_for stopped over refuses (stopped t) x d f) same
-                (subst (λ (x : Packet). IsReason terms stands_for stopped over refuses (stopped t) pass x f) same' reason_of)
+            (subst (λ (x : Packet). IsReason terms stands_for stopped over refuses (stopped t) pass x f) same' reason_of)
 
         pub was_refused : {R : Type 0} (answers : T → List Packet → Packet → R → Type 0) (more : ℕ) → WasRefused terms stands_for answers refuses e f more p (freed more refused)
         was_refused answers more = record {
-          past = took.seen; stop = took.stop || stopped t; begins = took.more;
+          past = took.seen;
+          stop = took.stop || stopped t;
+          begins = took.more;
           cause = ⊎_elim (λ stop. inl (or_right took.stop (stopped t) stop)) (λ rule. inr rule) reason_of;
           stops = λ x. or_left took.stop (stopped t) (took.stops x);
-          shows = refl
+          shows = refl;
         }
 
         pub was_refused_as : {R : Type 0} (answers : T → List Packet → Packet → R → Type 0) (f' : F) (more : ℕ) → f ≡ f' → (me' : Mine H F) → me' ≡ (Some (freed more refused), [])
             → (q : Shown H F) × (me' ≡ (Some q, [])) × WasRefused terms stands_for answers refuses e f' more p q
-        was_refused_as answers f' more same me' is = (freed more (noted e f' (stopped t) pass), is ∙ (λ i. (Some (freed more (noted e (same i) (stopped t) pass)), [])),
-            subst (λ (x : F). WasRefused terms stands_for answers refuses e x more p (freed more (noted e x (stopped t) pass))) same (was_refused answers more))
+        was_refused_as answers f' more same me' is = (
+          freed more (noted e f' (stopped t) pass),
+          is ∙ (λ i. (Some (freed more (noted e (same i) (stopped t) pass)), [])),
+          subst (λ (x : F). WasRefused terms stands_for answers refuses e x more p (freed more (noted e x (stopped t) pass))) same (was_refused answers more),
+        )
 
     pub was_taken : {R : Type 0} (answers : T → List Packet → Packet → R → Type 0) (reply : R) (more : ℕ) → ((h : List Packet) → stands_for s h → answers (terms s) h e reply)
         → WasTaken terms stands_for answers refuses e reply more p (freed more (committed e pass))
     was_taken answers reply more says = record {
-      past = took.seen; stop = took.stop; begins = took.more;
+      past = took.seen;
+      stop = took.stop;
+      begins = took.more;
       answer = λ h opens. subst (λ (x : T). answers x (h ++ took.seen) e reply) took.hand.terms_are (says (h ++ took.seen) (took.hand.stands h opens));
       stops = took.stops;
-      shows = refl
+      shows = refl;
     }
 
     pub was_taken_as : {R : Type 0} (answers : T → List Packet → Packet → R → Type 0) (reply reply' : R) (more : ℕ) → ((h : List Packet) → stands_for s h → answers (terms s) h e reply)
         → reply ≡ reply' → (me' : Mine H F) → me' ≡ (Some (freed more (committed e pass)), [])
         → (q : Shown H F) × (me' ≡ (Some q, [])) × WasTaken terms stands_for answers refuses e reply' more p q
-    was_taken_as {R} answers reply reply' more says same me' is = (freed more (committed e pass), is,
-        subst (λ (x : R). WasTaken terms stands_for answers refuses e x more p (freed more (committed e pass))) same (was_taken answers reply more says))
+    was_taken_as {R} answers reply reply' more says same me' is = (
+      freed more (committed e pass),
+      is,
+      subst (λ (x : R). WasTaken terms stands_for answers refuses e x more p (freed more (committed e pass))) same (was_taken answers reply more says),
+    )

@@ -80,7 +80,7 @@ module _ {H F : Type 0} where
     lesser = shorter p.seen q.seen;
     met = p.met + q.met;
     waits = p.waits + q.waits;
-    stopped = p.stopped || q.stopped
+    stopped = p.stopped || q.stopped;
   }
 
   abbrev pub both_of : Option (Shown H F) → Option (Shown H F) → Option (Shown H F)

@@ -6,6 +6,8 @@ mod pass;
 mod plays;
 mod rule;
 mod steps;
+#[cfg(test)]
+mod tests;
 mod turn;
 mod view;
 

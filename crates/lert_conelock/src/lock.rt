@@ -8,8 +8,8 @@ ghost use Rattle.lert_conelock.specs.Sight.{first_pass, BelongsTo, Keeps, Joined
 ghost use Rattle.lert_conelock.specs.Lost.{lost};
 
 use crate::pass::Pass;
-use crate::rule::{Key, OneHistory};
 use crate::plays::Trying;
+use crate::rule::{Key, OneHistory};
 use crate::steps;
 use crate::turn::{Turn, take_turn, try_turn};
 use crate::view::View;
@@ -40,6 +40,8 @@ impl<S: Held> ConeLock<S> {
     /// A lock round the state, for callers of the numbers below `numbers`, with a pass of all of them.
     /// A refusal is want of memory, and hands the state back. The only call that takes memory.
     pub fn new(alloc: Global, state: S, numbers: u32) -> Result<(ConeLock<S>, Pass<S>), S>
+    where
+        S: Send,
         requires numbers { (1 ≤ numbers) × (numbers ≤ 64) }
         requires opened { (h : List Packet) × S.stands_for state h }
         ensures lock { IfOk result (λ made. (made.0.first ≡ state) × (made.0.numbers ≡ numbers)) }

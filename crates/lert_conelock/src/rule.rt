@@ -38,5 +38,9 @@ impl<S: Held> TableRule<Option<S>, View<S, S::Refusal>, Key<S>> for OneHistory<S
 
 pub type Seat<S> = atomic_table::Seat<Option<S>, View<S, <S as Held>::Refusal>>;
 
-pub type Shared<S> =
-    atomic_table::Shared<Option<S>, View<S, <S as Held>::Refusal>, Key<S>, OneHistory<S>>;
+pub type Shared<S> = atomic_table::Shared<
+    Option<S>,
+    View<S, <S as Held>::Refusal>,
+    Key<S>,
+    OneHistory<S>,
+>;

@@ -8,5 +8,5 @@ invariant-loop g l = record {
   can_next : (goal.iterator-loop g).can_next l.iterator';
   is_finite : (goal.iterator-loop g).is_finite l.iterator';
   table : l.seat.table_id ≡ l.fn.seat.table_id;
-  waiting : IsWaiting (packet_of l.entry) l.fn.seat.me l.seat.me
+  waiting : IsWaiting (packet_of l.entry) l.fn.seat.me l.seat.me;
 }

@@ -1,0 +1,6 @@
+//! What no clause says: that `admitted` looks, that a second thread finds the lock held, and that
+//! the calls answer at all.
+
+mod calls;
+mod counter;
+mod threads;
