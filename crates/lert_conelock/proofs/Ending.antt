@@ -1,19 +1,18 @@
 -- The rule at the start, and what it says at the end.
-use Rattle.std.proofs.Common.{◌≡◌, ◌≢◌, ℕ, zero, suc, ◌<◌, ◌≤◌, Bool, true, false, eqb, List, [], ◌∷◌, ◌++◌, ◌⊎◌, map, length, get_or, filter, Option, Some, None, sym, refl, ap, ◌∙◌, subst, inl, inr, ⊎_elim, arith, append-nil, eq-eqb}
+use Rattle.std.proofs.Common.{◌≡◌, ℕ, zero, suc, ◌<◌, ◌≤◌, Bool, true, eqb, List, [], ◌∷◌, ◌⊎◌, map, get_or, Option, Some, None, sym, refl, ap, ◌∙◌, subst, inl, inr, ⊎_elim, arith, append-nil, eq-eqb}
 use Rattle.std.specs.Prelude.{IsTrue, Contains}
-use Rattle.std.proofs.lemmas.Option.{same_Some, none-some}
+use Rattle.std.proofs.lemmas.Option.{none-some}
 use Rattle.std.proofs.lemmas.Bool.{false≢true}
-use mathlib.Core.Option.{some, some-injective, some-ne-none}
+use mathlib.Core.Option.{some, some-ne-none}
 use mathlib.Core.Logic.{dite}
 use native.Mathlib.Decide.{ℕ_discrete}
 use lib.ListN.{get_elem?}
 use Rattle.atomic_table.specs.Table.{State, opening, Final, Seen}
 use Rattle.atomic_table.specs.Seated.{TableId}
 use Rattle.lert_base.specs.Packet.{Packet, own}
-use Rattle.lert_conelock.specs.Prefix.{IsPrefix}
 use Rattle.lert_conelock.specs.Shown.{Shown, whole}
-use Rattle.lert_conelock.specs.Rule.{Views, Has, IsStopped, IsRefused, IsTried, IsPart, Passes, IsHome, HoldsWith, Holds}
-use Rattle.lert_conelock.specs.Sight.{Sight, LockSight, sight, Closed}
+use Rattle.lert_conelock.specs.Rule.{Views, Has, IsStopped, IsRefused, IsPart, Passes, IsHome, HoldsWith, Holds}
+use Rattle.lert_conelock.specs.Sight.{LockSight, sight, Closed}
 use Rattle.lert_conelock.proofs.Prefixes.{prefix_nil}
 use Rattle.lert_conelock.proofs.Contained.{no_item, Contains-filter}
 use Rattle.lert_conelock.proofs.Replaced.{there_again}

@@ -1,18 +1,16 @@
 -- The pass that has the lock brings the state home and frees the lock, and the rule goes on.
-use Rattle.std.proofs.Common.{◌≡◌, ◌≢◌, ℕ, ◌+◌, ◌<◌, ◌≤◌, Bool, List, [], ◌∷◌, ◌++◌, ◌⊎◌, length, get_or, set, Option, Some, None, sym, refl, ap, ◌∙◌, subst, inl, inr, ⊎_elim, arith, length-set, get_or-set_same, get_or-set_other}
-use Rattle.std.specs.Prelude.{IsTrue, Contains}
+use Rattle.std.proofs.Common.{◌≡◌, ℕ, Bool, List, [], ◌++◌, ◌⊎◌, get_or, set, Option, Some, sym, refl, ap, ◌∙◌, subst, inl, inr, ⊎_elim, arith, length-set, get_or-set_same, get_or-set_other}
+use Rattle.std.specs.Prelude.{Contains}
 use Rattle.std.proofs.lemmas.Option.{same_Some, none-some}
 use mathlib.Core.Option.{some}
-use lib.ListN.{get_elem?}
-use Rattle.atomic_table.specs.Table.{State, Me, Allows, gives, rest}
+use Rattle.atomic_table.specs.Table.{Allows, gives, rest}
 use Rattle.atomic_table.proofs.Lists.{set_here}
-use Rattle.lert_base.specs.Packet.{Packet, own}
-use Rattle.lert_conelock.specs.Prefix.{IsPrefix}
+use Rattle.lert_base.specs.Packet.{Packet}
 use Rattle.lert_conelock.specs.Shown.{Shown, freed}
-use Rattle.lert_conelock.specs.Rule.{Views, Has, IsStopped, IsRefused, IsTried, IsPart, IsCaused, Passes, IsHome, HoldsWith, Holds}
+use Rattle.lert_conelock.specs.Rule.{Views, Has, Passes, IsHome, Holds}
 use Rattle.lert_conelock.specs.Steps.{Mine, InHand, HasLock}
 use Rattle.lert_conelock.proofs.Prefixes.{prefix_itself}
-use Rattle.lert_conelock.proofs.Replaced.{Grows, has_here, has_after, stopped_back, refused_on, passes_after}
+use Rattle.lert_conelock.proofs.Replaced.{Grows, has_after, stopped_back, refused_on, passes_after}
 
 no_item : {A : Type 0} (x : A) → Contains [] x → ⊥
 no_item x c = omega (arith, c.1)

@@ -1,6 +1,6 @@
 -- A state stays at home while the passes change.
-use Rattle.std.proofs.Common.{◌≡◌, ℕ, Bool, List, ◌⊎◌, Option, Some, None, inl, inr, ⊎_elim}
-use Rattle.std.specs.Prelude.{IsTrue, Contains}
+use Rattle.std.proofs.Common.{◌≡◌, Bool, List, ◌⊎◌, Option, Some, inl, inr, ⊎_elim}
+use Rattle.std.specs.Prelude.{Contains}
 use Rattle.lert_base.specs.Packet.{Packet}
 use Rattle.lert_conelock.specs.Rule.{Views, IsStopped, IsRefused, IsHome}
 

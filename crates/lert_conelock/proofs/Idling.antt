@@ -1,17 +1,15 @@
 -- A pass without the lock sees more of the history, or counts a lost take, and the rule goes on.
-use Rattle.std.proofs.Common.{◌≡◌, ◌≢◌, ℕ, ◌<◌, ◌≤◌, Bool, List, [], ◌∷◌, ◌++◌, ◌⊎◌, length, get_or, set, Option, Some, None, sym, refl, ap, ◌∙◌, subst, inl, inr, ⊎_elim, arith}
-use Rattle.std.specs.Prelude.{IsTrue, Contains}
-use Rattle.std.proofs.lemmas.Option.{same_Some, none-some}
-use mathlib.Core.Option.{some}
-use lib.ListN.{get_elem?}
+use Rattle.std.proofs.Common.{◌≡◌, ℕ, Bool, List, set, Option, Some, None, sym, refl, ◌∙◌, subst, inl, ⊎_elim}
+use Rattle.std.specs.Prelude.{IsTrue}
+use Rattle.std.proofs.lemmas.Option.{none-some}
 use Rattle.atomic_table.specs.Table.{State}
-use Rattle.lert_base.specs.Packet.{Packet, own}
+use Rattle.lert_base.specs.Packet.{Packet}
 use Rattle.lert_conelock.specs.Prefix.{IsPrefix}
 use Rattle.lert_conelock.specs.Shown.{Shown}
-use Rattle.lert_conelock.specs.Rule.{Views, Has, IsStopped, IsRefused, IsTried, IsPart, IsCaused, Passes, IsHome, HoldsWith, Holds}
+use Rattle.lert_conelock.specs.Rule.{Views, Has, IsStopped, Passes, IsHome, HoldsWith}
 use Rattle.lert_conelock.proofs.Prefixes.{prefix_itself}
 use Rattle.lert_conelock.proofs.Homes.{home_after}
-use Rattle.lert_conelock.proofs.Replaced.{Grows, has_here, has_after, forward, stopped_back, refused_on, passes_after}
+use Rattle.lert_conelock.proofs.Replaced.{Grows, has_after, forward, stopped_back, refused_on, passes_after}
 
 module _ {H T F : Type 0} (terms : H → T) (stands_for : H → List Packet → Type 0) (stopped : H → Bool) (over : H → Option Packet) (refuses : T → List Packet → Packet → F → Type 0) (first : H) (numbers : ℕ) where
   module _ (s : State (Option H) (Option (Shown H F))) (history : List Packet) (w : HoldsWith terms stands_for stopped over refuses first numbers s history)

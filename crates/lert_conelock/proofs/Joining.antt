@@ -1,19 +1,17 @@
 -- A pass takes in the pass that begins where it ends, and the rule goes on.
-use Rattle.std.proofs.Common.{◌≡◌, ◌≢◌, ℕ, ◌+◌, ◌<◌, ◌≤◌, Bool, ltb, cond, ◌||◌, List, [], ◌∷◌, ◌++◌, ◌⊎◌, length, set, Option, Some, None, sym, refl, ap, ◌∙◌, subst, inl, inr, ⊎_elim, arith, length-set}
+use Rattle.std.proofs.Common.{◌≡◌, ℕ, ◌<◌, ◌≤◌, Bool, ltb, List, ◌⊎◌, length, set, Option, Some, None, sym, ap, ◌∙◌, subst, inl, inr, ⊎_elim, arith}
 use Rattle.std.specs.Prelude.{IsTrue, Contains}
 use Rattle.std.proofs.lemmas.Option.{same_Some, none-some}
 use Rattle.std.proofs.lemmas.Bool.{cases_lt, cond_both, or_cases, or_left, or_right}
-use mathlib.Core.Option.{some, some-injective}
 use mathlib.Core.Logic.{dite}
 use native.Mathlib.Decide.{ℕ_discrete}
-use lib.ListN.{get_elem?}
-use Rattle.atomic_table.specs.Table.{State, Joins}
+use Rattle.atomic_table.specs.Table.{Joins}
 use Rattle.atomic_table.proofs.Lists.{at_set, set_here, set_else}
-use Rattle.lert_base.specs.Packet.{Packet, own}
+use Rattle.lert_base.specs.Packet.{Packet}
 use Rattle.lert_conelock.specs.Prefix.{IsPrefix}
 use Rattle.lert_conelock.specs.Steps.{Mine, IsIdle}
-use Rattle.lert_conelock.specs.Shown.{Shown, joined, both_of, longer, shorter, both_sides}
-use Rattle.lert_conelock.specs.Rule.{Views, Has, IsStopped, IsRefused, IsCovered, IsTried, IsPart, IsCaused, Passes, IsHome, HoldsWith, Holds}
+use Rattle.lert_conelock.specs.Shown.{Shown, joined, both_of}
+use Rattle.lert_conelock.specs.Rule.{Views, Has, IsStopped, IsRefused, IsCovered, IsTried, IsPart, IsCaused, Passes, Holds}
 use Rattle.lert_conelock.proofs.Replaced.{at_within, there_again}
 use Rattle.lert_conelock.proofs.Homes.{home_after}
 use Rattle.lert_conelock.proofs.Cuts.{joined_below, joined_above, Contains-low, Contains-high, Contains-both_sides}

@@ -1,16 +1,14 @@
 -- The pass that has the lock notes a refusal, and the rule goes on.
-use Rattle.std.proofs.Common.{◌≡◌, ◌≢◌, ℕ, ◌<◌, ◌≤◌, Bool, List, [], ◌∷◌, ◌++◌, ◌⊎◌, ◌||◌, length, get_or, set, Option, Some, None, sym, refl, ap, ◌∙◌, subst, inl, inr, ⊎_elim, arith}
-use Rattle.std.specs.Prelude.{IsTrue, Contains}
+use Rattle.std.proofs.Common.{◌≡◌, ℕ, Bool, List, [], ◌∷◌, ◌++◌, get_or, set, Option, Some, sym, refl, ap, ◌∙◌, subst, inl, inr, ⊎_elim, arith}
+use Rattle.std.specs.Prelude.{IsTrue}
 use Rattle.std.proofs.lemmas.Option.{same_Some}
 use Rattle.std.proofs.lemmas.Bool.{or_left, or_right}
 use Rattle.std.proofs.lemmas.List.Elements.{Contains-append_left, Contains-push, Contains-push_cases}
 use mathlib.Core.Option.{some}
-use lib.ListN.{get_elem?}
-use Rattle.atomic_table.specs.Table.{State, Allows, keeps}
-use Rattle.lert_base.specs.Packet.{Packet, own}
-use Rattle.lert_conelock.specs.Prefix.{IsPrefix}
+use Rattle.atomic_table.specs.Table.{Allows, keeps}
+use Rattle.lert_base.specs.Packet.{Packet}
 use Rattle.lert_conelock.specs.Shown.{Shown, noted}
-use Rattle.lert_conelock.specs.Rule.{Views, Has, IsStopped, IsRefused, IsTried, IsPart, IsCaused, Passes, IsHome, HoldsWith, Holds}
+use Rattle.lert_conelock.specs.Rule.{Views, Has, IsRefused, IsCaused, Passes, HoldsWith, Holds}
 use Rattle.lert_conelock.specs.Steps.{Mine, IsReason}
 use Rattle.lert_conelock.proofs.Prefixes.{prefix_itself}
 use Rattle.lert_conelock.proofs.Replaced.{Grows, has_here, stopped_back, refused_on, passes_after}

@@ -1,5 +1,5 @@
 -- Lists that begin others.
-use Rattle.std.proofs.Common.{◌≡◌, ℕ, ◌≤◌, List, [], ◌∷◌, ◌++◌, length, sym, refl, ap, ◌∙◌, append_assoc, append-nil, arith, length-append}
+use Rattle.std.proofs.Common.{◌≡◌, ◌≤◌, List, [], ◌∷◌, ◌++◌, length, sym, refl, ap, ◌∙◌, append_assoc, append-nil, arith}
 use Rattle.lert_conelock.specs.Prefix.{IsPrefix}
 
 pub prefix_itself : {A : Type 0} (xs : List A) → IsPrefix xs xs

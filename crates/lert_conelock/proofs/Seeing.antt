@@ -1,5 +1,5 @@
 -- From what a pass shows to what callers see.
-use Rattle.std.proofs.Common.{◌≡◌, ℕ, ◌+◌, ◌-◌, ◌<◌, ◌≤◌, Bool, true, false, ◌||◌, List, [], ◌∷◌, ◌++◌, ◌⊎◌, length, Option, Some, None, sym, refl, ap, ◌∙◌, subst, inl, inr, ⊎_elim, arith, le_refl, cond, ltb, ltb-true, ltb-false}
+use Rattle.std.proofs.Common.{◌≡◌, ℕ, ◌+◌, ◌-◌, ◌≤◌, Bool, true, false, List, [], ◌∷◌, ◌++◌, length, Option, Some, None, sym, refl, ap, ◌∙◌, subst, inl, inr, ⊎_elim, arith, le_refl, cond, ltb, ltb-true, ltb-false}
 use Rattle.std.specs.Prelude.{IsTrue, is_none, Result, Ok, Err, IfOk, IfErr}
 use Rattle.std.proofs.lemmas.Option.{same_Some}
 use Rattle.std.proofs.lemmas.Bool.{false≢true}
@@ -7,12 +7,12 @@ use mathlib.Core.Option.{some, some-injective}
 use lib.ListN.{get_elem?}
 use Rattle.atomic_table.specs.Table.{Final, Seen}
 use Rattle.atomic_table.specs.Seated.{TableId}
-use Rattle.lert_base.specs.Packet.{Packet, own}
+use Rattle.lert_base.specs.Packet.{Packet}
 use Rattle.lert_conelock.specs.declared.turn.Turn.{Turn}
 use Rattle.lert_conelock.specs.declared.turn.Turn.TheVariants.{Done, Refused, Busy}
 use Rattle.lert_conelock.specs.Prefix.{IsPrefix}
-use Rattle.lert_conelock.specs.Shown.{Shown, missed, joined, longer, shorter}
-use Rattle.lert_conelock.specs.Steps.{Mine, IsIdle, MayTake, Looked}
+use Rattle.lert_conelock.specs.Shown.{Shown, missed, joined}
+use Rattle.lert_conelock.specs.Steps.{Mine, IsIdle, MayTake}
 use Rattle.lert_conelock.specs.Turns.{WasTaken, WasRefused}
 use Rattle.lert_conelock.specs.Sight.{Sight, LockSight, sight, is_idle, BelongsTo, Keeps, Joined, Acted, Declined, Closed}
 use Rattle.lert_conelock.specs.Lost.{lost}

@@ -1,5 +1,5 @@
 -- A pass is split in two, and the rule goes on.
-use Rattle.std.proofs.Common.{◌≡◌, ◌≢◌, ℕ, zero, suc, ◌+◌, ◌<◌, ◌≤◌, Bool, List, [], ◌∷◌, ◌++◌, ◌⊎◌, length, set, Option, Some, None, sym, refl, ap, ◌∙◌, subst, inl, inr, ⊎_elim, arith, length-set}
+use Rattle.std.proofs.Common.{◌≡◌, ℕ, zero, suc, ◌<◌, ◌≤◌, Bool, List, [], ◌∷◌, ◌++◌, ◌⊎◌, length, set, Option, Some, None, sym, refl, ap, ◌∙◌, subst, inl, inr, ⊎_elim, arith, length-set}
 use Rattle.std.specs.Prelude.{IsTrue, Contains}
 use Rattle.std.proofs.lemmas.Option.{same_Some, none-some}
 use Rattle.std.proofs.lemmas.Bool.{cases_lt}
@@ -7,14 +7,13 @@ use mathlib.Core.Option.{some, some-injective, some-ne-none}
 use mathlib.Core.Logic.{dite}
 use native.Mathlib.Decide.{ℕ_discrete}
 use lib.ListN.{get_elem?}
-use Rattle.atomic_table.specs.Table.{State, Splits}
+use Rattle.atomic_table.specs.Table.{Splits}
 use Rattle.atomic_table.proofs.Lists.{at_set, set_here, set_else, at_longer, at_last}
-use Rattle.lert_base.specs.Packet.{Packet, own}
-use Rattle.lert_conelock.specs.Prefix.{IsPrefix}
+use Rattle.lert_base.specs.Packet.{Packet}
 use Rattle.std.specs.Option.{option_map}
 use Rattle.lert_conelock.specs.Steps.{Mine, IsIdle}
 use Rattle.lert_conelock.specs.Shown.{Shown, lower, upper}
-use Rattle.lert_conelock.specs.Rule.{Views, Has, IsStopped, IsRefused, IsCovered, IsTried, IsPart, IsCaused, Passes, IsHome, HoldsWith, Holds}
+use Rattle.lert_conelock.specs.Rule.{Views, Has, IsStopped, IsRefused, IsCovered, IsTried, IsPart, IsCaused, Passes, Holds}
 use Rattle.lert_conelock.proofs.Replaced.{at_within, there_again}
 use Rattle.lert_conelock.proofs.Homes.{home_after}
 

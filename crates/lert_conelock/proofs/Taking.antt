@@ -1,19 +1,17 @@
 -- A take, won or lost, and the rule goes on.
-use Rattle.std.proofs.Common.{◌≡◌, ◌≢◌, ℕ, ◌+◌, ◌<◌, ◌≤◌, Bool, eqb, List, [], ◌∷◌, ◌++◌, ◌⊎◌, length, get_or, set, Option, Some, None, sym, refl, ap, ◌∙◌, subst, inl, inr, ⊎_elim, arith, length-set, get_or-set_same, get_or-set_other}
+use Rattle.std.proofs.Common.{◌≡◌, ℕ, ◌+◌, Bool, eqb, List, [], ◌∷◌, ◌++◌, ◌⊎◌, get_or, set, Option, Some, sym, refl, ap, ◌∙◌, subst, inl, inr, ⊎_elim, arith, length-set, get_or-set_same, get_or-set_other}
 use Rattle.std.specs.Prelude.{IsTrue, Contains}
-use Rattle.std.proofs.lemmas.Option.{same_Some, none-some}
+use Rattle.std.proofs.lemmas.Option.{same_Some}
 use mathlib.Core.Option.{some}
-use lib.ListN.{get_elem?}
 use prog.Atomic.{either}
-use Rattle.atomic_table.specs.Table.{State, Act, Me, Valid, Allows, keeps, takes, stepped, carried_after}
+use Rattle.atomic_table.specs.Table.{State, Act, Valid, Allows, keeps, takes, stepped, carried_after}
 use Rattle.atomic_table.proofs.Lists.{exchanged}
-use Rattle.lert_base.specs.Packet.{Packet, own}
-use Rattle.lert_conelock.specs.Prefix.{IsPrefix}
+use Rattle.lert_base.specs.Packet.{Packet}
 use Rattle.lert_conelock.specs.Shown.{Shown, missed, taken}
-use Rattle.lert_conelock.specs.Rule.{Views, Has, IsStopped, IsRefused, IsTried, IsPart, IsCaused, Passes, IsHome, HoldsWith, Holds}
-use Rattle.lert_conelock.specs.Steps.{Mine, MayTake, InHand, Took}
+use Rattle.lert_conelock.specs.Rule.{Views, Has, IsRefused, Passes, IsHome, HoldsWith, Holds}
+use Rattle.lert_conelock.specs.Steps.{Mine, MayTake, Took}
 use Rattle.lert_conelock.proofs.Prefixes.{prefix_itself}
-use Rattle.lert_conelock.proofs.Replaced.{Grows, has_here, has_after, forward, stopped_back, refused_on, passes_after}
+use Rattle.lert_conelock.proofs.Replaced.{Grows, has_here, stopped_back, refused_on, passes_after}
 use Rattle.lert_conelock.proofs.Gathered.{any_stopped, all_refused, stop_shown, stop_counts, refusal_shown, refusal_counts}
 use Rattle.lert_conelock.proofs.Words.{set_found}
 use Rattle.lert_conelock.proofs.Idling.{idles}

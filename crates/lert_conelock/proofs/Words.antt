@@ -1,5 +1,5 @@
 -- The two words of a lock.
-use Rattle.std.proofs.Common.{◌≡◌, ℕ, zero, suc, ◌<◌, List, [], ◌∷◌, length, get_or, set, refl, ap, arith}
+use Rattle.std.proofs.Common.{◌≡◌, ℕ, zero, suc, List, [], ◌∷◌, get_or, set, refl, ap}
 
 -- a word that is stored as it was found
 pub set_found : (l : List ℕ) (i d : ℕ) → set l i (get_or l i d) ≡ l

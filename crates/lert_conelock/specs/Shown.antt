@@ -1,5 +1,5 @@
 -- What a pass shows to the rule of its lock. It stands in contracts alone: no code holds it.
-use Rattle.std.specs.Prelude.{◌≡◌, ℕ, ◌+◌, Bool, true, false, ◌||◌, if◌then◌else◌, nat_lt, nat_le, List, [], ◌∷◌, ◌++◌, length, filter, Option, Some, None}
+use Rattle.std.specs.Prelude.{ℕ, ◌+◌, Bool, false, ◌||◌, if◌then◌else◌, nat_lt, nat_le, List, [], ◌∷◌, ◌++◌, length, filter, Option, Some, None}
 use Rattle.lert_base.specs.Packet.{Packet}
 
 -- H is the state in the lock, F what a refused call is answered by

@@ -1,4 +1,5 @@
 ghost use Rattle.std.specs.Prelude.{◌≡◌, ℕ, ◌+◌, ◌<◌, ◌≤◌, ◌^◌, false, None, length};
+ghost use Rattle.lert_conelock.specs.Sight.{BelongsTo, Keeps};
 
 use super::calls::entry_of;
 use crate::{ConeLock, Pass, Turn};
@@ -77,7 +78,11 @@ fn try_while_held(
     pass: &mut Pass<Slow>,
     entry: &Entry,
     flags: &Flags,
-) -> Turn<u64, ()> {
+) -> Turn<u64, ()>
+    requires belongs { BelongsTo pass.old lock.now }
+    requires number { entry.now.by ≡ pass.old.lo }
+    ensures { Keeps pass.old pass.new }
+{
     await_flag(&flags.inside);
     let turn = lock.try_act(pass, entry);
     flags.answered.store(1, Ordering::SeqCst);

@@ -1,4 +1,4 @@
-use Rattle.std.proofs.Common.{rules, ap}
+use Rattle.std.proofs.Common.{rules}
 use Rattle.lert_conelock.proofs.Looking.{looking}
 use Rattle.lert_conelock.proofs.steps.look.Goals as goal
 

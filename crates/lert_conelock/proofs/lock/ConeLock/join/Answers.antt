@@ -1,4 +1,4 @@
-use Rattle.std.proofs.Common.{◌∙◌, sym, Some, []}
+use Rattle.std.proofs.Common.{◌∙◌, sym, Some}
 use Rattle.lert_conelock.specs.Shown.{joined}
 use Rattle.lert_conelock.proofs.Seeing.{idles, seen_joined, joined_inside}
 use Rattle.lert_conelock.proofs.Turning.{trier}

@@ -1,4 +1,4 @@
-use Rattle.std.proofs.Common.{rules, sym, subst, ap, ◌∙◌, ◌∷◌, [], Some}
+use Rattle.std.proofs.Common.{rules, sym, subst}
 use Rattle.lert_conelock.proofs.Ending.{opens}
 use Rattle.lert_conelock.proofs.lock.ConeLock.new.Goals as goal
 
