@@ -13,10 +13,10 @@ pub trait Held {
     type Terms;
 
     /// What a packet that was taken in is answered by.
-    type Reply;
+    type Reply: Drop;
 
     /// What a packet that wasn't taken in is answered by.
-    type Refusal;
+    type Refusal: Drop;
 
     ghost terms: { Self → Self.Terms };
 

@@ -5,6 +5,7 @@ use Rattle.std.proofs.lemmas.Bool.{cond-false}
 use Rattle.std.proofs.lemmas.List.Elements.{Contains-push_cases, filter-append}
 use mathlib.Core.Option.{some}
 use Rattle.atomic_table.specs.Table.{Allows, keeps}
+use Rattle.lert_base.specs.declared.held.Held.{Ghosts as HeldOf}
 use Rattle.lert_base.specs.Packet.{Packet, own}
 use Rattle.lert_conelock.specs.Prefix.{IsPrefix}
 use Rattle.lert_conelock.specs.Shown.{Shown, committed}
@@ -22,8 +23,8 @@ own_more : (xs ys : List Packet) (e : Packet) (n : ℕ) → own xs n ≡ own ys 
 own_more xs ys e n same = filter-append (λ (d : Packet). eqb d.by n) xs (e ∷ [])
     ∙ (ap (λ (l : List Packet). l ++ own (e ∷ []) n) same ∙ sym (filter-append (λ (d : Packet). eqb d.by n) ys (e ∷ [])))
 
-module _ {H T F : Type 0} (terms : H → T) (stands_for : H → List Packet → Type 0) (stopped : H → Bool) (over : H → Option Packet) (refuses : T → List Packet → Packet → F → Type 0) (first : H) (numbers : ℕ) where
-  module _ (history : List Packet) (views : Views H F) (b : Passes terms stands_for stopped over refuses first numbers history views)
+module _ {H T R F : Type 0} (held : HeldOf H T R F) (first : H) (numbers : ℕ) where
+  module _ (history : List Packet) (views : Views H F) (b : Passes held first numbers history views)
       (id : ℕ) (p : Shown H F) (there : Has views id p) (e : Packet) (tries : p.tries ≡ Some e) where
     abbrev q : Shown H F
     q = committed e p
@@ -39,8 +40,8 @@ module _ {H T F : Type 0} (terms : H → T) (stands_for : H → List Packet → 
     other_number a r ne at n lo hi same = let part = b.parts id p there in let named = part.tried e tries in let not_empty = part.not_empty in
         ⊎_elim (λ (far : r.hi ≤ p.lo). omega arith) (λ (far : p.hi ≤ r.lo). omega arith) (b.apart a id r p at there ne)
 
-    pub passes_committed : Passes terms stands_for stopped over refuses first numbers longer (set views id (Some q))
-    passes_committed = let part = b.parts id p there in passes_after views id p q there terms stands_for stopped over refuses first numbers history longer b (prefix_append history (e ∷ [])) grows
+    pub passes_committed : Passes held first numbers longer (set views id (Some q))
+    passes_committed = let part = b.parts id p there in passes_after views id p q there held first numbers history longer b (prefix_append history (e ∷ [])) grows
         (λ a r ne at. let other = b.parts a r at in record {
           first_is = other.first_is;
           not_empty = other.not_empty;
@@ -66,7 +67,7 @@ module _ {H T F : Type 0} (terms : H → T) (stands_for : H → List Packet → 
         (λ a r d ne at t. absurd (ne (b.alone a id r p d e at there t tries)))
 
   pub committing : (slots id : ℕ) (me : Mine H F) (p : Shown H F) (e : Packet) → me.0 ≡ Some p → p.tries ≡ Some e → length p.seen < 2 ^ 40
-      → Allows (Holds terms stands_for stopped over refuses first numbers) slots id me 1 (λ n. (n + 1) % 2 ^ 64)
+      → Allows (Holds held first numbers) slots id me 1 (λ n. (n + 1) % 2 ^ 64)
       (λ found after. (p' : Shown H F) (e' : Packet) → me.0 ≡ Some p' → p'.tries ≡ Some e' → after ≡ (Some (committed e' p'), me.1))
   committing slots id me p e is tries short s holds _ at _ =
       let there : Has s.views id p = at ∙ ap some is in let history = holds.0 in let w = holds.1 in let b = w.passes in

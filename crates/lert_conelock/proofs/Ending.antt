@@ -9,6 +9,7 @@ use native.Mathlib.Decide.{ℕ_discrete}
 use lib.ListN.{get_elem?}
 use Rattle.atomic_table.specs.Table.{State, opening, Final, Seen}
 use Rattle.atomic_table.specs.Seated.{TableId}
+use Rattle.lert_base.specs.declared.held.Held.{Ghosts as HeldOf}
 use Rattle.lert_base.specs.Packet.{Packet, own}
 use Rattle.lert_conelock.specs.Shown.{Shown, whole}
 use Rattle.lert_conelock.specs.Rule.{Views, Has, IsStopped, IsRefused, IsPart, Passes, IsHome, HoldsWith, Holds}
@@ -22,8 +23,8 @@ only_one : {H F : Type 0} (v : Shown H F) (seat : ℕ) (p : Shown H F) → Has (
 only_one v zero p e = (refl, there_again v p e)
 only_one v (suc seat) p e = absurd (some-ne-none (Some p) (sym e))
 
-module _ {H T F : Type 0} (terms : H → T) (stands_for : H → List Packet → Type 0) (stopped : H → Bool) (over : H → Option Packet) (refuses : T → List Packet → Packet → F → Type 0) where
-  module _ (first : H) (numbers : ℕ) (opened : (h : List Packet) × stands_for first h) (not_empty : 1 ≤ numbers) where
+module _ {H T R F : Type 0} (held : HeldOf H T R F) where
+  module _ (first : H) (numbers : ℕ) (opened : (h : List Packet) × held.stands_for first h) (not_empty : 1 ≤ numbers) where
     abbrev start : Shown H F
     start = whole first numbers
 
@@ -44,7 +45,7 @@ module _ {H T F : Type 0} (terms : H → T) (stands_for : H → List Packet → 
     never : (seat : ℕ) (p : Shown H F) (e : Packet) → Has views seat p → p.tries ≡ Some e → ⊥
     never seat p e there t = none-some e (subst (λ (x : Shown H F). x.tries ≡ Some e) (sym (only_one start seat p there).1) t)
 
-    start_passes : Passes terms stands_for stopped over refuses first numbers [] views
+    start_passes : Passes held first numbers [] views
     start_passes = record {
       parts = λ seat p there. subst (IsPart first numbers []) (only_one start seat p there).1 start_part;
       apart = λ a b p q there there' ne. absurd (ne ((only_one start a p there).0 ∙ sym (only_one start b q there').0));
@@ -55,17 +56,17 @@ module _ {H T F : Type 0} (terms : H → T) (stands_for : H → List Packet → 
       trying = λ seat p e there t. absurd (never seat p e there t);
     }
 
-    start_home : IsHome terms stands_for stopped over refuses first [] views first
+    start_home : IsHome held first [] views first
     start_home = record {
       terms_are = refl;
-      stands = λ h opens. subst (stands_for first) (sym (append-nil h)) opens;
+      stands = λ h opens. subst (held.stands_for first) (sym (append-nil h)) opens;
       stopped_is = λ s. absurd (false≢true (subst (λ (x : Shown H F). x.stopped ≡ true) (sym (only_one start s.seat s.pass s.there).1) s.stopped));
       over_is = inr (inl refl);
       fresh_is = inl refl;
     }
 
     -- the rule holds when a lock is made
-    pub opens : (slots : List (Option H)) → slots ≡ Some first ∷ [] → Holds terms stands_for stopped over refuses first numbers (opening (0 ∷ 0 ∷ []) slots (Some start))
+    pub opens : (slots : List (Option H)) → slots ≡ Some first ∷ [] → Holds held first numbers (opening (0 ∷ 0 ∷ []) slots (Some start))
     opens slots is = (
       [],
       record {
@@ -85,7 +86,7 @@ module _ {H T F : Type 0} (terms : H → T) (stands_for : H → List Packet → 
   own_contains : (history : List Packet) (e : Packet) → Contains history e → Contains (own history e.by) e
   own_contains history e c = Contains-filter (λ (d : Packet). eqb d.by e.by) history e c (eq-eqb e.by e.by refl)
 
-  module _ (lock : LockSight H) (s : State (Option H) (Option (Shown H F))) (history : List Packet) (w : HoldsWith terms stands_for stopped over refuses lock.first lock.numbers s history)
+  module _ (lock : LockSight H) (s : State (Option H) (Option (Shown H F))) (history : List Packet) (w : HoldsWith held lock.first lock.numbers s history)
       (id : ℕ) (p : Shown H F) (there : Has s.views id p) (idle : p.tries ≡ None) (lo : p.lo ≡ 0) (hi : p.hi ≡ lock.numbers) where
     -- no other pass is left
     alone : (seat : ℕ) (q : Shown H F) → Has s.views seat q → p ≡ q
@@ -95,7 +96,7 @@ module _ {H T F : Type 0} (terms : H → T) (stands_for : H → List Packet → 
 
     is_free : get_or s.words 0 0 ≡ 0
     is_free = dite (ℕ_discrete (get_or s.words 0 0) 0) (λ free. free)
-        (λ held. let bound = w.lock_word in let t = w.one_tries (omega arith) in
+        (λ locked. let bound = w.lock_word in let t = w.one_tries (omega arith) in
         absurd (none-some t.packet (sym idle ∙ subst (λ (x : Shown H F). x.tries ≡ Some t.packet) (sym (alone t.seat t.pass t.there)) t.tries)))
 
     stopped_here : IsStopped s.views → IsTrue p.stopped
@@ -105,7 +106,7 @@ module _ {H T F : Type 0} (terms : H → T) (stands_for : H → List Packet → 
     refused_here e r = let same = alone r.seat r.pass r.there in let inside = (w.passes.parts r.seat r.pass r.there).within in let below = r.high in
         (r.refusal, omega arith, subst (λ (x : Shown H F). Contains x.refused (e, r.refusal)) (sym same) r.shown)
 
-    closed : (tid : TableId) (state : H) → IsHome terms stands_for stopped over refuses lock.first history s.views state → Closed terms stands_for stopped over refuses lock (sight tid (Some p)) state
+    closed : (tid : TableId) (state : H) → IsHome held lock.first history s.views state → Closed held lock (sight tid (Some p)) state
     closed tid state h = let part = w.passes.parts id p there in record {
       history = history;
       calls = λ n below. sym (part.calls n (omega arith) (omega arith));
@@ -114,8 +115,8 @@ module _ {H T F : Type 0} (terms : H → T) (stands_for : H → List Packet → 
       terms_are = h.terms_are;
       stands = h.stands;
       stopped_is = λ x. h.stopped_is (record { seat = id; pass = p; there = there; stopped = x });
-      over_is = ⊎_elim inl (λ (o : (over state ≡ over lock.first) ⊎ ((e : Packet) × (over state ≡ Some e) × IsRefused s.views e)). inr (⊎_elim inl
-          (λ (t : (e : Packet) × (over state ≡ Some e) × IsRefused s.views e). let r = refused_here t.0 t.2 in inr (t.0, r.0, t.1, r.1, r.2)) o)) h.over_is;
+      over_is = ⊎_elim inl (λ (o : (held.over state ≡ held.over lock.first) ⊎ ((e : Packet) × (held.over state ≡ Some e) × IsRefused s.views e)). inr (⊎_elim inl
+          (λ (t : (e : Packet) × (held.over state ≡ Some e) × IsRefused s.views e). let r = refused_here t.0 t.2 in inr (t.0, r.0, t.1, r.1, r.2)) o)) h.over_is;
       refusals = λ e f c. ⊎_elim (λ x. inl (h.stopped_is x)) inr (w.passes.refusals id p there e f c);
       untouched = λ no_calls no_refused. ⊎_elim (λ same. same)
           (λ (t : (e : Packet) × (Contains history e ⊎ IsRefused s.views e)). absurd (⊎_elim
@@ -127,8 +128,8 @@ module _ {H T F : Type 0} (terms : H → T) (stands_for : H → List Packet → 
 
   -- where a pass of all numbers is idle, the state is home
   pub closes : (lock : LockSight H) (id : ℕ) (p : Shown H F) (tid : TableId) (words : List ℕ) (slots : List (Option H)) → p.tries ≡ None → p.lo ≡ 0 → p.hi ≡ lock.numbers
-      → Final (Seen (Holds terms stands_for stopped over refuses lock.first lock.numbers) id (Some p)) words slots
-      → (state : H) × (get_elem? slots 0 ≡ some (Some state)) × Closed terms stands_for stopped over refuses lock (sight tid (Some p)) state
+      → Final (Seen (Holds held lock.first lock.numbers) id (Some p)) words slots
+      → (state : H) × (get_elem? slots 0 ≡ some (Some state)) × Closed held lock (sight tid (Some p)) state
   closes lock id p tid words slots idle lo hi f = let s = f.0 in let history = f.1.0.0 in let w = f.1.0.1 in let there = f.1.1 in
       let t = w.home (is_free lock s history w id p there idle lo hi) in
       (t.0, f.4 0 (Some t.0) t.1, closed lock s history w id p there idle lo hi tid t.0 t.2)

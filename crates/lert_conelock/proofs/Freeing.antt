@@ -5,6 +5,7 @@ use Rattle.std.proofs.lemmas.Option.{same_Some, none-some}
 use mathlib.Core.Option.{some}
 use Rattle.atomic_table.specs.Table.{Allows, gives, rest}
 use Rattle.atomic_table.proofs.Lists.{set_here}
+use Rattle.lert_base.specs.declared.held.Held.{Ghosts as HeldOf}
 use Rattle.lert_base.specs.Packet.{Packet}
 use Rattle.lert_conelock.specs.Shown.{Shown, freed}
 use Rattle.lert_conelock.specs.Rule.{Views, Has, Passes, IsHome, Holds}
@@ -15,8 +16,8 @@ use Rattle.lert_conelock.proofs.Replaced.{Grows, has_after, stopped_back, refuse
 no_item : {A : Type 0} (x : A) → Contains [] x → ⊥
 no_item x c = omega (arith, c.1)
 
-module _ {H T F : Type 0} (terms : H → T) (stands_for : H → List Packet → Type 0) (stopped : H → Bool) (over : H → Option Packet) (refuses : T → List Packet → Packet → F → Type 0) (first : H) (numbers : ℕ) where
-  module _ (history : List Packet) (views : Views H F) (b : Passes terms stands_for stopped over refuses first numbers history views)
+module _ {H T R F : Type 0} (held : HeldOf H T R F) (first : H) (numbers : ℕ) where
+  module _ (history : List Packet) (views : Views H F) (b : Passes held first numbers history views)
       (id : ℕ) (p : Shown H F) (there : Has views id p) (e : Packet) (tries : p.tries ≡ Some e) (more : ℕ) where
     abbrev q : Shown H F
     q = freed more p
@@ -24,8 +25,8 @@ module _ {H T F : Type 0} (terms : H → T) (stands_for : H → List Packet → 
     grows : Grows p q
     grows = record { lo_is = refl; hi_is = refl; refused = λ d g c. c; stops = λ s. s }
 
-    pub passes_freed : Passes terms stands_for stopped over refuses first numbers history (set views id (Some q))
-    passes_freed = let part = b.parts id p there in passes_after views id p q there terms stands_for stopped over refuses first numbers history history b (prefix_itself history) grows
+    pub passes_freed : Passes held first numbers history (set views id (Some q))
+    passes_freed = let part = b.parts id p there in passes_after views id p q there held first numbers history history b (prefix_itself history) grows
         (λ a r _ at. b.parts a r at)
         (record { first_is = part.first_is; not_empty = part.not_empty; within = part.within; seen = part.seen; lesser = part.lesser; calls = part.calls; tried = λ d t. absurd (none-some d t) })
         (λ d g c. inl c)
@@ -34,15 +35,15 @@ module _ {H T F : Type 0} (terms : H → T) (stands_for : H → List Packet → 
         (λ d t. absurd (none-some d t))
         (λ a r d ne at t. absurd (ne (b.alone a id r p d e at there t tries)))
 
-    pub home_freed : (state : H) → InHand terms stands_for stopped over refuses p state → IsHome terms stands_for stopped over refuses first history (set views id (Some q)) state
+    pub home_freed : (state : H) → InHand held p state → IsHome held first history (set views id (Some q)) state
     home_freed state hand = let part = b.parts id p there in let seen = (b.trying id p e there tries).0 in record {
-      terms_are = hand.terms_are ∙ ap terms part.first_is;
-      stands = subst (λ (l : List Packet). (h : List Packet) → stands_for first h → stands_for state (h ++ l)) seen
-          (subst (λ (x : H). (h : List Packet) → stands_for x h → stands_for state (h ++ p.seen)) part.first_is hand.stands);
+      terms_are = hand.terms_are ∙ ap held.terms part.first_is;
+      stands = subst (λ (l : List Packet). (h : List Packet) → held.stands_for first h → held.stands_for state (h ++ l)) seen
+          (subst (λ (x : H). (h : List Packet) → held.stands_for x h → held.stands_for state (h ++ p.seen)) part.first_is hand.stands);
       stopped_is = λ s. hand.stopped_is (⊎_elim (λ now. now) (λ was. (b.trying id p e there tries).1 was) (stopped_back views id p q there s));
-      over_is = ⊎_elim inl (λ (o : (over state ≡ over p.first) ⊎ ((d : Packet) × (over state ≡ Some d) × Contains p.known d)). inr (⊎_elim
-          (λ (same : over state ≡ over p.first). inl (same ∙ ap over part.first_is))
-          (λ (t : (d : Packet) × (over state ≡ Some d) × Contains p.known d). inr (t.0, t.1, refused_on views id p q there grows t.0 (b.known id p there t.0 t.2)))
+      over_is = ⊎_elim inl (λ (o : (held.over state ≡ held.over p.first) ⊎ ((d : Packet) × (held.over state ≡ Some d) × Contains p.known d)). inr (⊎_elim
+          (λ (same : held.over state ≡ held.over p.first). inl (same ∙ ap held.over part.first_is))
+          (λ (t : (d : Packet) × (held.over state ≡ Some d) × Contains p.known d). inr (t.0, t.1, refused_on views id p q there grows t.0 (b.known id p there t.0 t.2)))
           o)) hand.over_is;
       fresh_is = ⊎_elim (λ (same : state ≡ p.first). inl (same ∙ part.first_is))
           (λ (t : (d : Packet) × (Contains p.seen d ⊎ Contains p.known d)). inr (
@@ -54,11 +55,11 @@ module _ {H T F : Type 0} (terms : H → T) (stands_for : H → List Packet → 
           )) hand.fresh_is;
     }
 
-  pub frees : (slots id : ℕ) (me : Mine H F) (state : H) (more : ℕ) → slots ≡ 1 → HasLock terms stands_for stopped over refuses state (Some state) me
-      → Allows (Holds terms stands_for stopped over refuses first numbers) slots id me 0 (λ _. 0)
+  pub frees : (slots id : ℕ) (me : Mine H F) (state : H) (more : ℕ) → slots ≡ 1 → HasLock held state (Some state) me
+      → Allows (Holds held first numbers) slots id me 0 (λ _. 0)
       (λ found after. (p' : Shown H F) → me.0 ≡ Some p' → after ≡ (Some (freed more p'), rest me.1))
   frees slots id me state more slot lock = let p = lock.pass in let e = lock.packet in let tries = lock.tries in let hand = lock.hand in subst
-      (λ (m : Mine H F). Allows (Holds terms stands_for stopped over refuses first numbers) slots id m 0 (λ _. 0)
+      (λ (m : Mine H F). Allows (Holds held first numbers) slots id m 0 (λ _. 0)
       (λ found after. (p' : Shown H F) → m.0 ≡ Some p' → after ≡ (Some (freed more p'), rest m.1))) (sym lock.me_is)
       (λ s holds one at _.
       let there : Has s.views id p = at in let history = holds.0 in let w = holds.1 in let b = w.passes in

@@ -7,6 +7,7 @@ use mathlib.Core.Logic.{dite}
 use native.Mathlib.Decide.{ℕ_discrete}
 use Rattle.atomic_table.specs.Table.{Joins}
 use Rattle.atomic_table.proofs.Lists.{at_set, set_here, set_else}
+use Rattle.lert_base.specs.declared.held.Held.{Ghosts as HeldOf}
 use Rattle.lert_base.specs.Packet.{Packet}
 use Rattle.lert_conelock.specs.Prefix.{IsPrefix}
 use Rattle.lert_conelock.specs.Steps.{Mine, IsIdle}
@@ -68,8 +69,8 @@ module _ {H F : Type 0} (views : Views H F) (id : ℕ) (p : Shown H F) (mine : H
   stopped_back : IsStopped after → IsStopped views
   stopped_back s = stopped_from s (kind s.seat s.pass s.there)
 
-  module _ {T : Type 0} (terms : H → T) (stands_for : H → List Packet → Type 0) (stopped : H → Bool) (over : H → Option Packet) (refuses : T → List Packet → Packet → F → Type 0) (first : H) (numbers : ℕ)
-      (history : List Packet) (b : Passes terms stands_for stopped over refuses first numbers history views) (idle : p.tries ≡ None) (idle' : q.tries ≡ None) (meets : q.lo ≡ p.hi) where
+  module _ {T R : Type 0} (held : HeldOf H T R F) (first : H) (numbers : ℕ)
+      (history : List Packet) (b : Passes held first numbers history views) (idle : p.tries ≡ None) (idle' : q.tries ≡ None) (meets : q.lo ≡ p.hi) where
     refused_into : (e : Packet) (r : IsRefused views e) → Was r.seat r.pass → IsRefused after e
     refused_into e r (low same is) =
         let shown : Contains p.refused (e, r.refusal) = subst (λ (x : Shown H F). Contains x.refused (e, r.refusal)) (sym is) r.shown in
@@ -152,10 +153,10 @@ module _ {H F : Type 0} (views : Views H F) (id : ℕ) (p : Shown H F) (mine : H
     apart_of a c r s (else_ far far' e) (one same' is') differ = subst (λ (x : Shown H F). Apart r x) is' (turned (joined p q) r (one_apart a r far far' e))
     apart_of a c r s (else_ far far' e) (else_ near near' e') differ = b.apart a c r s e e' differ
 
-    caused_on : (e : Packet) (f : F) → IsCaused terms stands_for stopped over refuses first history views e f → IsCaused terms stands_for stopped over refuses first history after e f
+    caused_on : (e : Packet) (f : F) → IsCaused held first history views e f → IsCaused held first history after e f
     caused_on e f = ⊎_elim (λ s. inl (stopped_on s)) inr
 
-    refusals_of : (a : ℕ) (r : Shown H F) → Kind a r → (e : Packet) (f : F) → Contains r.refused (e, f) → IsCaused terms stands_for stopped over refuses first history views e f
+    refusals_of : (a : ℕ) (r : Shown H F) → Kind a r → (e : Packet) (f : F) → Contains r.refused (e, f) → IsCaused held first history views e f
     refusals_of a r (one same is) e f c = ⊎_elim (λ l. b.refusals id p mine e f l) (λ h. b.refusals other q theirs e f h)
         (Contains-both_sides (λ (x : Packet × F). x.0.by) q.lo p.refused q.refused (e, f) (subst (λ (x : Shown H F). Contains x.refused (e, f)) (sym is) c))
     refusals_of a r (else_ far far' there) e f c = b.refusals a r there e f c
@@ -168,7 +169,7 @@ module _ {H F : Type 0} (views : Views H F) (id : ℕ) (p : Shown H F) (mine : H
     trier a r d (one same is) t = absurd (never d (subst (λ (x : Shown H F). x.tries ≡ Some d) (sym is) t))
     trier a r d (else_ far far' there) t = there
 
-    passes_joined : Passes terms stands_for stopped over refuses first numbers history after
+    passes_joined : Passes held first numbers history after
     passes_joined = record {
       parts = λ a r e. part_of a r (kind a r e);
       apart = λ a c r s e e' differ. apart_of a c r s (kind a r e) (kind c s e') differ;
@@ -184,9 +185,9 @@ module _ {H F : Type 0} (views : Views H F) (id : ℕ) (p : Shown H F) (mine : H
     tried_into t (high same is) = absurd (none-some t.packet (sym idle' ∙ subst (λ (x : Shown H F). x.tries ≡ Some t.packet) (sym is) t.tries))
     tried_into t (kept there) = record { seat = t.seat; pass = t.pass; packet = t.packet; there = there; tries = t.tries }
 
-module _ {H T F : Type 0} (terms : H → T) (stands_for : H → List Packet → Type 0) (stopped : H → Bool) (over : H → Option Packet) (refuses : T → List Packet → Packet → F → Type 0) (first : H) (numbers : ℕ) where
+module _ {H T R F : Type 0} (held : HeldOf H T R F) (first : H) (numbers : ℕ) where
   pub joining : (id : ℕ) (p : Shown H F) (other : ℕ) (q : Shown H F) → p.tries ≡ None → q.tries ≡ None → q.lo ≡ p.hi
-      → Joins (Holds terms stands_for stopped over refuses first numbers) id (Some p) other (Some q) (Some (joined p q)) None
+      → Joins (Holds held first numbers) id (Some p) other (Some q) (Some (joined p q)) None
   joining id p other q idle idle' meets s holds mine ne there = let history = holds.0 in let w = holds.1 in
       let theirs : Has s.views other q = sym (set_else s.views id other (Some (joined p q)) ne) ∙ there in (
         history,
@@ -196,25 +197,25 @@ module _ {H T F : Type 0} (terms : H → T) (stands_for : H → List Packet → 
           count_word = w.count_word;
           opened = w.opened;
           numbered = w.numbered;
-          passes = passes_joined s.views id p mine other q theirs ne terms stands_for stopped over refuses first numbers history w.passes idle idle' meets;
+          passes = passes_joined s.views id p mine other q theirs ne held first numbers history w.passes idle idle' meets;
           home = λ free. let t = w.home free in (
             t.0,
             t.1,
-            home_after terms stands_for stopped over refuses first history s.views (after s.views id p mine other q theirs ne) (stopped_back s.views id p mine other q theirs ne)
-                (refused_on s.views id p mine other q theirs ne terms stands_for stopped over refuses first numbers history w.passes idle idle' meets) t.0 t.2,
+            home_after held first history s.views (after s.views id p mine other q theirs ne) (stopped_back s.views id p mine other q theirs ne)
+                (refused_on s.views id p mine other q theirs ne held first numbers history w.passes idle idle' meets) t.0 t.2,
           );
           none_tries = λ free a r d at t. w.none_tries free a r d
-              (trier s.views id p mine other q theirs ne terms stands_for stopped over refuses first numbers history w.passes idle idle' meets a r d (kind s.views id p mine other q theirs ne a r at) t) t;
-          one_tries = λ held. let t = w.one_tries held in tried_into s.views id p mine other q theirs ne terms stands_for stopped over refuses first numbers history w.passes idle idle' meets t
+              (trier s.views id p mine other q theirs ne held first numbers history w.passes idle idle' meets a r d (kind s.views id p mine other q theirs ne a r at) t) t;
+          one_tries = λ locked. let t = w.one_tries locked in tried_into s.views id p mine other q theirs ne held first numbers history w.passes idle idle' meets t
               (was s.views id p mine other q theirs ne t.seat t.pass t.there);
         },
       )
 
   -- the same for two seats that have a live pass without the lock
   pub join_at : (id : ℕ) (me : Mine H F) (other : ℕ) (them : Mine H F) → IsIdle me → IsIdle them → ((p q : Shown H F) → me.0 ≡ Some p → them.0 ≡ Some q → q.lo ≡ p.hi)
-      → Joins (Holds terms stands_for stopped over refuses first numbers) id me.0 other them.0 (both_of me.0 them.0) None
+      → Joins (Holds held first numbers) id me.0 other them.0 (both_of me.0 them.0) None
   join_at id me other them idle idle' meets = let p = idle.pass in let q = idle'.pass in
       let is : me.0 ≡ Some p = λ i. (idle.me_is i).0 in let is' : them.0 ≡ Some q = λ i. (idle'.me_is i).0 in
-      subst (λ (v : Option (Shown H F)). Joins (Holds terms stands_for stopped over refuses first numbers) id v other them.0 (both_of v them.0) None) (sym is)
-      (subst (λ (v : Option (Shown H F)). Joins (Holds terms stands_for stopped over refuses first numbers) id (Some p) other v (both_of (Some p) v) None) (sym is')
+      subst (λ (v : Option (Shown H F)). Joins (Holds held first numbers) id v other them.0 (both_of v them.0) None) (sym is)
+      (subst (λ (v : Option (Shown H F)). Joins (Holds held first numbers) id (Some p) other v (both_of (Some p) v) None) (sym is')
       (joining id p other q idle.idle idle'.idle (meets p q is is')))

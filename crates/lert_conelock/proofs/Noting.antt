@@ -6,6 +6,7 @@ use Rattle.std.proofs.lemmas.Bool.{or_left, or_right}
 use Rattle.std.proofs.lemmas.List.Elements.{Contains-append_left, Contains-push, Contains-push_cases}
 use mathlib.Core.Option.{some}
 use Rattle.atomic_table.specs.Table.{Allows, keeps}
+use Rattle.lert_base.specs.declared.held.Held.{Ghosts as HeldOf}
 use Rattle.lert_base.specs.Packet.{Packet}
 use Rattle.lert_conelock.specs.Shown.{Shown, noted}
 use Rattle.lert_conelock.specs.Rule.{Views, Has, IsRefused, IsCaused, Passes, HoldsWith, Holds}
@@ -14,22 +15,22 @@ use Rattle.lert_conelock.proofs.Prefixes.{prefix_itself}
 use Rattle.lert_conelock.proofs.Replaced.{Grows, has_here, stopped_back, refused_on, passes_after}
 use Rattle.lert_conelock.proofs.Words.{set_found}
 
-module _ {H T F : Type 0} (terms : H → T) (stands_for : H → List Packet → Type 0) (stopped : H → Bool) (over : H → Option Packet) (refuses : T → List Packet → Packet → F → Type 0) (first : H) (numbers : ℕ) where
-  module _ (history : List Packet) (views : Views H F) (b : Passes terms stands_for stopped over refuses first numbers history views)
-      (id : ℕ) (p : Shown H F) (there : Has views id p) (e : Packet) (f : F) (stop : Bool) (tries : p.tries ≡ Some e) (reason : IsReason terms stands_for stopped over refuses stop p e f) where
+module _ {H T R F : Type 0} (held : HeldOf H T R F) (first : H) (numbers : ℕ) where
+  module _ (history : List Packet) (views : Views H F) (b : Passes held first numbers history views)
+      (id : ℕ) (p : Shown H F) (there : Has views id p) (e : Packet) (f : F) (stop : Bool) (tries : p.tries ≡ Some e) (reason : IsReason held stop p e f) where
     abbrev q : Shown H F
     q = noted e f stop p
 
     grows : Grows p q
     grows = record { lo_is = refl; hi_is = refl; refused = λ d g c. Contains-append_left p.refused ((e, f) ∷ []) (d, g) c; stops = or_left p.stopped stop }
 
-    caused : IsCaused terms stands_for stopped over refuses first history (set views id (Some q)) e f
+    caused : IsCaused held first history (set views id (Some q)) e f
     caused = let part = b.parts id p there in ⊎_elim
         (λ (halted : IsTrue stop). inl (record { seat = id; pass = q; there = has_here views id p q there; stopped = or_right p.stopped stop halted }))
-        (λ (by_rule : (h : List Packet) → stands_for p.first h → refuses (terms p.first) (h ++ p.seen) e f). inr (
+        (λ (by_rule : (h : List Packet) → held.stands_for p.first h → held.refuses (held.terms p.first) (h ++ p.seen) e f). inr (
           p.seen,
           part.seen,
-          subst (λ (x : H). (h : List Packet) → stands_for x h → refuses (terms x) (h ++ p.seen) e f) part.first_is by_rule,
+          subst (λ (x : H). (h : List Packet) → held.stands_for x h → held.refuses (held.terms x) (h ++ p.seen) e f) part.first_is by_rule,
         ))
         reason
 
@@ -37,12 +38,12 @@ module _ {H T F : Type 0} (terms : H → T) (stands_for : H → List Packet → 
     refused_now = let part = b.parts id p there in let at = part.tried e tries in let ne = part.not_empty in
         record { seat = id; pass = q; there = has_here views id p q there; low = omega arith; high = omega arith; refusal = f; shown = Contains-push p.refused (e, f) }
 
-    pub passes_noted : Passes terms stands_for stopped over refuses first numbers history (set views id (Some q))
-    passes_noted = let part = b.parts id p there in passes_after views id p q there terms stands_for stopped over refuses first numbers history history b (prefix_itself history) grows
+    pub passes_noted : Passes held first numbers history (set views id (Some q))
+    passes_noted = let part = b.parts id p there in passes_after views id p q there held first numbers history history b (prefix_itself history) grows
         (λ a r _ at. b.parts a r at)
         (record { first_is = part.first_is; not_empty = part.not_empty; within = part.within; seen = part.seen; lesser = part.lesser; calls = part.calls; tried = part.tried })
         (λ d g c. ⊎_elim inl
-        (λ (same : ◌≡◌ {A = Packet × F} (e, f) (d, g)). inr (subst (λ (x : Packet × F). IsCaused terms stands_for stopped over refuses first history (set views id (Some q)) x.0 x.1) same caused))
+        (λ (same : ◌≡◌ {A = Packet × F} (e, f) (d, g)). inr (subst (λ (x : Packet × F). IsCaused held first history (set views id (Some q)) x.0 x.1) same caused))
         (Contains-push_cases p.refused (e, f) (d, g) c))
         (λ d c. ⊎_elim
         (λ was. refused_on views id p q there grows d (b.known id p there d was))
@@ -53,8 +54,8 @@ module _ {H T F : Type 0} (terms : H → T) (stands_for : H → List Packet → 
         (λ a r d ne at t. absurd (ne (b.alone a id r p d e at there t tries)))
 
   pub notes : (slots id : ℕ) (me : Mine H F) (p : Shown H F) (e : Packet) (f : F) (stop : Bool) (told : Option F) → me.0 ≡ Some p → p.tries ≡ Some e → told ≡ Some f
-      → IsReason terms stands_for stopped over refuses stop p e f
-      → Allows (Holds terms stands_for stopped over refuses first numbers) slots id me 1 (λ n. n)
+      → IsReason held stop p e f
+      → Allows (Holds held first numbers) slots id me 1 (λ n. n)
       (λ found after. (p' : Shown H F) (e' : Packet) (f' : F) → me.0 ≡ Some p' → p'.tries ≡ Some e' → told ≡ Some f' → after ≡ (Some (noted e' f' stop p'), me.1))
   notes slots id me p e f stop told is tries telling reason s holds _ at _ =
       let there : Has s.views id p = at ∙ ap some is in let history = holds.0 in let w = holds.1 in
@@ -65,7 +66,7 @@ module _ {H T F : Type 0} (terms : H → T) (stands_for : H → List Packet → 
         tt,
         (
           history,
-          subst (λ (ws : List ℕ). HoldsWith terms stands_for stopped over refuses first numbers (record { words = ws; homes = s.homes; views = set s.views id (Some q) }) history)
+          subst (λ (ws : List ℕ). HoldsWith held first numbers (record { words = ws; homes = s.homes; views = set s.views id (Some q) }) history)
               (sym (set_found s.words 1 0))
               (record {
                 two_words = w.two_words;

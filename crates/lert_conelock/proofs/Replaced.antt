@@ -7,6 +7,7 @@ use mathlib.Core.Logic.{dite}
 use native.Mathlib.Decide.{ℕ_discrete}
 use lib.ListN.{get_elem?}
 use Rattle.atomic_table.proofs.Lists.{at_set, set_here, set_else}
+use Rattle.lert_base.specs.declared.held.Held.{Ghosts as HeldOf}
 use Rattle.lert_base.specs.Packet.{Packet}
 use Rattle.lert_conelock.specs.Prefix.{IsPrefix}
 use Rattle.lert_conelock.specs.Shown.{Shown}
@@ -81,20 +82,20 @@ module _ {H F : Type 0} (views : Views H F) (id : ℕ) (p q : Shown H F) (mine :
       (λ t. record { seat = c.seat; pass = c.pass; there = t.1; low = c.low; high = c.high })
       (forward c.seat c.pass c.there)
 
-  module _ {T : Type 0} (terms : H → T) (stands_for : H → List Packet → Type 0) (stopped : H → Bool) (over : H → Option Packet) (refuses : T → List Packet → Packet → F → Type 0) (first : H) (numbers : ℕ) (old new : List Packet) where
-    caused_on : Grows p q → IsPrefix old new → (e : Packet) (f : F) → IsCaused terms stands_for stopped over refuses first old views e f → IsCaused terms stands_for stopped over refuses first new (set views id (Some q)) e f
+  module _ {T R : Type 0} (held : HeldOf H T R F) (first : H) (numbers : ℕ) (old new : List Packet) where
+    caused_on : Grows p q → IsPrefix old new → (e : Packet) (f : F) → IsCaused held first old views e f → IsCaused held first new (set views id (Some q)) e f
     caused_on g longer e f = ⊎_elim (λ s. inl (stopped_on g s)) (λ c. inr (c.0, prefix_trans c.1 longer, c.2))
 
     -- the rule of all passes, where one of them shows something new
-    pub passes_after : Passes terms stands_for stopped over refuses first numbers old views → IsPrefix old new → Grows p q
+    pub passes_after : Passes held first numbers old views → IsPrefix old new → Grows p q
         → ((a : ℕ) (r : Shown H F) → a ≢ id → Has views a r → IsPart first numbers new r)
         → IsPart first numbers new q
-        → ((e : Packet) (f : F) → Contains q.refused (e, f) → Contains p.refused (e, f) ⊎ IsCaused terms stands_for stopped over refuses first new (set views id (Some q)) e f)
+        → ((e : Packet) (f : F) → Contains q.refused (e, f) → Contains p.refused (e, f) ⊎ IsCaused held first new (set views id (Some q)) e f)
         → ((e : Packet) → Contains q.known e → IsRefused (set views id (Some q)) e)
         → ((e : Packet) → q.tries ≡ Some e → (a : ℕ) (r : Shown H F) (f : Packet) → a ≢ id → Has views a r → r.tries ≡ Some f → ⊥)
         → ((e : Packet) → q.tries ≡ Some e → (q.seen ≡ new) × (IsStopped (set views id (Some q)) → IsTrue q.stopped))
         → ((a : ℕ) (r : Shown H F) (e : Packet) → a ≢ id → Has views a r → r.tries ≡ Some e → (r.seen ≡ new) × (IsStopped (set views id (Some q)) → IsTrue r.stopped))
-        → Passes terms stands_for stopped over refuses first numbers new (set views id (Some q))
+        → Passes held first numbers new (set views id (Some q))
     passes_after b longer g others mine' refusals known alone trying others_trying = record {
       parts = λ a r there. ⊎_elim
           (λ (t : (a ≡ id) × (q ≡ r)). subst (IsPart first numbers new) t.1 mine')
@@ -117,7 +118,7 @@ module _ {H F : Type 0} (views : Views H F) (id : ℕ) (p q : Shown H F) (mine :
           (has_after a r there);
       cover = λ n below. cover_on g n (b.cover n below);
       refusals = λ a r there e f. ⊎_elim
-          (λ (t : (a ≡ id) × (q ≡ r)). subst (λ (x : Shown H F). Contains x.refused (e, f) → IsCaused terms stands_for stopped over refuses first new (set views id (Some q)) e f) t.1
+          (λ (t : (a ≡ id) × (q ≡ r)). subst (λ (x : Shown H F). Contains x.refused (e, f) → IsCaused held first new (set views id (Some q)) e f) t.1
           (λ c. ⊎_elim (λ was. caused_on g longer e f (b.refusals id p mine e f was)) (λ now. now) (refusals e f c)))
           (λ t c. caused_on g longer e f (b.refusals a r t.1 e f c)) (has_after a r there);
       known = λ a r there e. ⊎_elim

@@ -7,6 +7,7 @@ use mathlib.Core.Option.{some, some-injective}
 use lib.ListN.{get_elem?}
 use Rattle.atomic_table.specs.Table.{Final, Seen}
 use Rattle.atomic_table.specs.Seated.{TableId}
+use Rattle.lert_base.specs.declared.held.Held.{Ghosts as HeldOf}
 use Rattle.lert_base.specs.Packet.{Packet}
 use Rattle.lert_conelock.specs.declared.turn.Turn.{Turn}
 use Rattle.lert_conelock.specs.declared.turn.Turn.TheVariants.{Done, Refused, Busy}
@@ -81,8 +82,8 @@ module _ {H F : Type 0} where
       turned_keeps.lo_is ∙ (ap (λ (x : Sight H F). x.lo) (sym view) ∙ was),
     )
 
-  module _ {T R : Type 0} (terms : H → T) (stands_for : H → List Packet → Type 0) (answers : T → List Packet → Packet → R → Type 0) (refuses : T → List Packet → Packet → F → Type 0) (e : Packet) (more : ℕ) where
-    keeps_taken : (tid : TableId) (reply : R) (p q : Shown H F) (m : ℕ) → WasTaken terms stands_for answers refuses e reply more (record p { met = m }) q → Keeps (sight tid (Some p)) (sight tid (Some q))
+  module _ {T R : Type 0} (held : HeldOf H T R F) (e : Packet) (more : ℕ) where
+    keeps_taken : (tid : TableId) (reply : R) (p q : Shown H F) (m : ℕ) → WasTaken held e reply more (record p { met = m }) q → Keeps (sight tid (Some p)) (sight tid (Some q))
     keeps_taken tid reply p q m w = record {
       lock_is = refl;
       first_is = ap (λ (x : Shown H F). Some x.first) w.shows;
@@ -92,7 +93,7 @@ module _ {H F : Type 0} where
       stops = λ s. subst IsTrue (ap (λ (x : Shown H F). x.stopped) (sym w.shows)) (w.stops s);
     }
 
-    keeps_refused : (tid : TableId) (f : F) (p q : Shown H F) (m : ℕ) → WasRefused terms stands_for answers refuses e f more (record p { met = m }) q → Keeps (sight tid (Some p)) (sight tid (Some q))
+    keeps_refused : (tid : TableId) (f : F) (p q : Shown H F) (m : ℕ) → WasRefused held e f more (record p { met = m }) q → Keeps (sight tid (Some p)) (sight tid (Some q))
     keeps_refused tid f p q m w = record {
       lock_is = refl;
       first_is = ap (λ (x : Shown H F). Some x.first) w.shows;
@@ -102,51 +103,51 @@ module _ {H F : Type 0} where
       stops = λ s. subst IsTrue (ap (λ (x : Shown H F). x.stopped) (sym w.shows)) (w.stops s);
     }
 
-    acted_of : (tid : TableId) (first : H) (reply : R) (p q : Shown H F) (m : ℕ) → p.met ≤ m → p.first ≡ first → WasTaken terms stands_for answers refuses e reply more (record p { met = m }) q
-        → Acted terms stands_for answers refuses first e reply more (sight tid (Some p)) (sight tid (Some q))
+    acted_of : (tid : TableId) (first : H) (reply : R) (p q : Shown H F) (m : ℕ) → p.met ≤ m → p.first ≡ first → WasTaken held e reply more (record p { met = m }) q
+        → Acted held first e reply more (sight tid (Some p)) (sight tid (Some q))
     acted_of tid first reply p q m least same w = record {
       past = w.past;
       begins = w.begins;
-      answer = subst (λ (x : H). (h : List Packet) → stands_for x h → answers (terms x) (h ++ w.past) e reply) same w.answer;
+      answer = subst (λ (x : H). (h : List Packet) → held.stands_for x h → held.answers (held.terms x) (h ++ w.past) e reply) same w.answer;
       met = (let now : q.met ≡ m = ap (λ (x : Shown H F). x.met) w.shows in omega arith);
       shows = λ i. record { lock = tid; first = Some (w.shows i).first; lo = (w.shows i).lo; hi = (w.shows i).hi; calls = (w.shows i).calls; refused = (w.shows i).refused; seen = (w.shows i).seen; met = q.met; waits = (w.shows i).waits; stopped = q.stopped };
     }
 
-    declined_of : (tid : TableId) (first : H) (f : F) (p q : Shown H F) (m : ℕ) → p.met ≤ m → p.first ≡ first → WasRefused terms stands_for answers refuses e f more (record p { met = m }) q
-        → Declined terms stands_for answers refuses first e f more (sight tid (Some p)) (sight tid (Some q))
+    declined_of : (tid : TableId) (first : H) (f : F) (p q : Shown H F) (m : ℕ) → p.met ≤ m → p.first ≡ first → WasRefused held e f more (record p { met = m }) q
+        → Declined held first e f more (sight tid (Some p)) (sight tid (Some q))
     declined_of tid first f p q m least same w = record {
       past = w.past;
       begins = w.begins;
       cause = ⊎_elim (λ stop. inl (subst IsTrue (ap (λ (x : Shown H F). x.stopped) (sym w.shows)) stop))
-          (λ rule. inr (subst (λ (x : H). (h : List Packet) → stands_for x h → refuses (terms x) (h ++ w.past) e f) same rule)) w.cause;
+          (λ rule. inr (subst (λ (x : H). (h : List Packet) → held.stands_for x h → held.refuses (held.terms x) (h ++ w.past) e f) same rule)) w.cause;
       met = (let now : q.met ≡ m = ap (λ (x : Shown H F). x.met) w.shows in omega arith);
       shows = λ i. record { lock = tid; first = Some (w.shows i).first; lo = (w.shows i).lo; hi = (w.shows i).hi; calls = (w.shows i).calls; refused = (w.shows i).refused; seen = (w.shows i).seen; met = q.met; waits = (w.shows i).waits; stopped = q.stopped };
     }
 
     module _ (tid tid' : TableId) (me me' : Mine H F) (old : Sight H F) (view : sight tid me.0 ≡ old) (same : tid' ≡ tid) (p : Shown H F) (is : me.0 ≡ Some p) (first : H) (first_is : p.first ≡ first) where
-      pub acted : (reply : R) → (q : Shown H F) × (m : ℕ) × (p.met ≤ m) × (me' ≡ (Some q, [])) × WasTaken terms stands_for answers refuses e reply more (record p { met = m }) q
-          → Acted terms stands_for answers refuses first e reply more old (sight tid' me'.0)
-      acted reply t = seen_both (Acted terms stands_for answers refuses first e reply more) tid tid' me' old p t.0 (view_of tid me old view p is) same t.3 (acted_of tid first reply p t.0 t.1 t.2 first_is t.4)
+      pub acted : (reply : R) → (q : Shown H F) × (m : ℕ) × (p.met ≤ m) × (me' ≡ (Some q, [])) × WasTaken held e reply more (record p { met = m }) q
+          → Acted held first e reply more old (sight tid' me'.0)
+      acted reply t = seen_both (Acted held first e reply more) tid tid' me' old p t.0 (view_of tid me old view p is) same t.3 (acted_of tid first reply p t.0 t.1 t.2 first_is t.4)
 
-      pub declined : (f : F) → (q : Shown H F) × (m : ℕ) × (p.met ≤ m) × (me' ≡ (Some q, [])) × WasRefused terms stands_for answers refuses e f more (record p { met = m }) q
-          → Declined terms stands_for answers refuses first e f more old (sight tid' me'.0)
-      declined f t = seen_both (Declined terms stands_for answers refuses first e f more) tid tid' me' old p t.0 (view_of tid me old view p is) same t.3 (declined_of tid first f p t.0 t.1 t.2 first_is t.4)
+      pub declined : (f : F) → (q : Shown H F) × (m : ℕ) × (p.met ≤ m) × (me' ≡ (Some q, [])) × WasRefused held e f more (record p { met = m }) q
+          → Declined held first e f more old (sight tid' me'.0)
+      declined f t = seen_both (Declined held first e f more) tid tid' me' old p t.0 (view_of tid me old view p is) same t.3 (declined_of tid first f p t.0 t.1 t.2 first_is t.4)
 
-      pub acted_once : (reply : R) → (q : Shown H F) × (me' ≡ (Some q, [])) × WasTaken terms stands_for answers refuses e reply more p q
-          → Acted terms stands_for answers refuses first e reply more old (sight tid' me'.0)
+      pub acted_once : (reply : R) → (q : Shown H F) × (me' ≡ (Some q, [])) × WasTaken held e reply more p q
+          → Acted held first e reply more old (sight tid' me'.0)
       acted_once reply t = acted reply (t.0, p.met, le_refl p.met, t.1, t.2)
 
-      pub declined_once : (f : F) → (q : Shown H F) × (me' ≡ (Some q, [])) × WasRefused terms stands_for answers refuses e f more p q
-          → Declined terms stands_for answers refuses first e f more old (sight tid' me'.0)
+      pub declined_once : (f : F) → (q : Shown H F) × (me' ≡ (Some q, [])) × WasRefused held e f more p q
+          → Declined held first e f more old (sight tid' me'.0)
       declined_once f t = declined f (t.0, p.met, le_refl p.met, t.1, t.2)
 
-      pub acted_at_last : (result : Result R F) → IfOk result (λ reply. (q : Shown H F) × (m : ℕ) × (p.met ≤ m) × (me' ≡ (Some q, [])) × WasTaken terms stands_for answers refuses e reply more (record p { met = m }) q)
-          → IfOk result (λ reply. Acted terms stands_for answers refuses first e reply more old (sight tid' me'.0))
+      pub acted_at_last : (result : Result R F) → IfOk result (λ reply. (q : Shown H F) × (m : ℕ) × (p.met ≤ m) × (me' ≡ (Some q, [])) × WasTaken held e reply more (record p { met = m }) q)
+          → IfOk result (λ reply. Acted held first e reply more old (sight tid' me'.0))
       acted_at_last (Ok reply) t = acted reply t
       acted_at_last (Err f) t = tt
 
-      pub declined_at_last : (result : Result R F) → IfErr result (λ f. (q : Shown H F) × (m : ℕ) × (p.met ≤ m) × (me' ≡ (Some q, [])) × WasRefused terms stands_for answers refuses e f more (record p { met = m }) q)
-          → IfErr result (λ f. Declined terms stands_for answers refuses first e f more old (sight tid' me'.0))
+      pub declined_at_last : (result : Result R F) → IfErr result (λ f. (q : Shown H F) × (m : ℕ) × (p.met ≤ m) × (me' ≡ (Some q, [])) × WasRefused held e f more (record p { met = m }) q)
+          → IfErr result (λ f. Declined held first e f more old (sight tid' me'.0))
       declined_at_last (Ok reply) t = tt
       declined_at_last (Err f) t = declined f t
 
@@ -157,8 +158,8 @@ module _ {H F : Type 0} where
 
     -- whatever came of a try, its pass is one of the same range, and idle
     pub turned : (tid : TableId) (p : Shown H F) (me' : Mine H F) (result : Turn R F)
-        → ((reply : R) → result ≡ Done reply → (q : Shown H F) × (me' ≡ (Some q, [])) × WasTaken terms stands_for answers refuses e reply more p q)
-        → ((f : F) → result ≡ Refused f → (q : Shown H F) × (me' ≡ (Some q, [])) × WasRefused terms stands_for answers refuses e f more p q)
+        → ((reply : R) → result ≡ Done reply → (q : Shown H F) × (me' ≡ (Some q, [])) × WasTaken held e reply more p q)
+        → ((f : F) → result ≡ Refused f → (q : Shown H F) × (me' ≡ (Some q, [])) × WasRefused held e f more p q)
         → (result ≡ Busy → me' ≡ (Some (missed p), [])) → p.tries ≡ None → Turned tid p me' (lost result)
     turned tid p me' result done refused busy idle = any_turn result (λ (r : Turn R F). Turned tid p me' (lost r))
         (λ reply is. let t = done reply is in record {
@@ -185,8 +186,8 @@ module _ {H F : Type 0} where
 
     -- the same after a call that lost any number of takes
     pub turned_at_last : (tid : TableId) (p : Shown H F) (me' : Mine H F) (result : Result R F)
-        → IfOk result (λ reply. (q : Shown H F) × (m : ℕ) × (p.met ≤ m) × (me' ≡ (Some q, [])) × WasTaken terms stands_for answers refuses e reply more (record p { met = m }) q)
-        → IfErr result (λ f. (q : Shown H F) × (m : ℕ) × (p.met ≤ m) × (me' ≡ (Some q, [])) × WasRefused terms stands_for answers refuses e f more (record p { met = m }) q)
+        → IfOk result (λ reply. (q : Shown H F) × (m : ℕ) × (p.met ≤ m) × (me' ≡ (Some q, [])) × WasTaken held e reply more (record p { met = m }) q)
+        → IfErr result (λ f. (q : Shown H F) × (m : ℕ) × (p.met ≤ m) × (me' ≡ (Some q, [])) × WasRefused held e f more (record p { met = m }) q)
         → (n : ℕ) × Turned tid p me' n
     turned_at_last tid p me' (Ok reply) done refused = (
       done.1 - p.met,
@@ -252,16 +253,16 @@ module _ {H F : Type 0} where
     (λ i. (sight (same i) (is i).0).lo) ∙ ((λ i. (sight tid (sym idle.me_is i).0).lo) ∙ was),
   )
 
-module _ {H T F : Type 0} (terms : H → T) (stands_for : H → List Packet → Type 0) (stopped : H → Bool) (over : H → Option Packet) (refuses : T → List Packet → Packet → F → Type 0) where
+module _ {H T R F : Type 0} (held : HeldOf H T R F) where
   -- what callers see of a close
   pub ends : (lock self : LockSight H) → lock ≡ self → (tid : TableId) (me : Mine H F) (old : Sight H F) → sight tid me.0 ≡ old → (idle : IsIdle me) → old.lo ≡ 0 → old.hi ≡ self.numbers
-      → (id : ℕ) (words : List ℕ) (slots : List (Option H)) → Final (Seen (Holds terms stands_for stopped over refuses lock.first lock.numbers) id me.0) words slots
-      → (x : Option H) → get_elem? slots 0 ≡ some x → (state : H) × (x ≡ Some state) × Closed terms stands_for stopped over refuses self old state
+      → (id : ℕ) (words : List ℕ) (slots : List (Option H)) → Final (Seen (Holds held lock.first lock.numbers) id me.0) words slots
+      → (x : Option H) → get_elem? slots 0 ≡ some x → (state : H) × (x ≡ Some state) × Closed held self old state
   ends lock self lock_is tid me old view idle lo hi id words slots final x at =
       let p = idle.pass in let is : me.0 ≡ Some p = λ i. (idle.me_is i).0 in let seen = view_of tid me old view p is in
-      let t = closes terms stands_for stopped over refuses lock id p tid words slots idle.idle (ap (λ (v : Sight H F). v.lo) seen ∙ lo) (ap (λ (v : Sight H F). v.hi) seen ∙ (hi ∙ ap (λ (l : LockSight H). l.numbers) (sym lock_is)))
-      (subst (λ (v : Option (Shown H F)). Final (Seen (Holds terms stands_for stopped over refuses lock.first lock.numbers) id v) words slots) is final) in (
+      let t = closes held lock id p tid words slots idle.idle (ap (λ (v : Sight H F). v.lo) seen ∙ lo) (ap (λ (v : Sight H F). v.hi) seen ∙ (hi ∙ ap (λ (l : LockSight H). l.numbers) (sym lock_is)))
+      (subst (λ (v : Option (Shown H F)). Final (Seen (Holds held lock.first lock.numbers) id v) words slots) is final) in (
         t.0,
         some-injective x (Some t.0) (sym at ∙ t.1),
-        subst (λ (l : LockSight H). Closed terms stands_for stopped over refuses l old t.0) lock_is (subst (λ (v : Sight H F). Closed terms stands_for stopped over refuses lock v t.0) seen t.2),
+        subst (λ (l : LockSight H). Closed held l old t.0) lock_is (subst (λ (v : Sight H F). Closed held lock v t.0) seen t.2),
       )

@@ -9,6 +9,7 @@ use native.Mathlib.Decide.{ℕ_discrete}
 use lib.ListN.{get_elem?}
 use Rattle.atomic_table.specs.Table.{Splits}
 use Rattle.atomic_table.proofs.Lists.{at_set, set_here, set_else, at_longer, at_last}
+use Rattle.lert_base.specs.declared.held.Held.{Ghosts as HeldOf}
 use Rattle.lert_base.specs.Packet.{Packet}
 use Rattle.std.specs.Option.{option_map}
 use Rattle.lert_conelock.specs.Steps.{Mine, IsIdle}
@@ -90,8 +91,8 @@ module _ {H F : Type 0} (views : Views H F) (id : ℕ) (p : Shown H F) (mine : H
       (λ ne. record { seat = c.seat; pass = c.pass; there = at_else c.seat c.pass ne c.there; low = c.low; high = c.high })
       (was_mine c.seat c.pass c.there)
 
-  module _ {T : Type 0} (terms : H → T) (stands_for : H → List Packet → Type 0) (stopped : H → Bool) (over : H → Option Packet) (refuses : T → List Packet → Packet → F → Type 0) (first : H) (numbers : ℕ)
-      (history : List Packet) (b : Passes terms stands_for stopped over refuses first numbers history views) (idle : p.tries ≡ None) (above : p.lo < at) (below : at < p.hi) where
+  module _ {T R : Type 0} (held : HeldOf H T R F) (first : H) (numbers : ℕ)
+      (history : List Packet) (b : Passes held first numbers history views) (idle : p.tries ≡ None) (above : p.lo < at) (below : at < p.hi) where
     never : (d : Packet) → p.tries ≡ Some d → ⊥
     never d t = none-some d (sym idle ∙ t)
 
@@ -148,10 +149,10 @@ module _ {H F : Type 0} (views : Views H F) (id : ℕ) (p : Shown H F) (mine : H
     apart_of a c r s (else_ far e) (high same' is') ne = subst (λ (x : Shown H F). Apart r x) is' (turned (upper at p) r (high_apart a r far e))
     apart_of a c r s (else_ far e) (else_ far' e') ne = b.apart a c r s e e' ne
 
-    caused_on : (e : Packet) (f : F) → IsCaused terms stands_for stopped over refuses first history views e f → IsCaused terms stands_for stopped over refuses first history after e f
+    caused_on : (e : Packet) (f : F) → IsCaused held first history views e f → IsCaused held first history after e f
     caused_on e f = ⊎_elim (λ s. inl (stopped_on s)) inr
 
-    refusals_of : (a : ℕ) (r : Shown H F) → Kind a r → (e : Packet) (f : F) → Contains r.refused (e, f) → IsCaused terms stands_for stopped over refuses first history views e f
+    refusals_of : (a : ℕ) (r : Shown H F) → Kind a r → (e : Packet) (f : F) → Contains r.refused (e, f) → IsCaused held first history views e f
     refusals_of a r (low same is) e f c = b.refusals id p mine e f (subst (λ (x : Shown H F). Contains x.refused (e, f)) (sym is) c)
     refusals_of a r (high same is) e f c = b.refusals id p mine e f (subst (λ (x : Shown H F). Contains x.refused (e, f)) (sym is) c)
     refusals_of a r (else_ ne there) e f c = b.refusals a r there e f c
@@ -167,7 +168,7 @@ module _ {H F : Type 0} (views : Views H F) (id : ℕ) (p : Shown H F) (mine : H
     trier a r d (high same is) t = absurd (never d (subst (λ (x : Shown H F). x.tries ≡ Some d) (sym is) t))
     trier a r d (else_ ne there) t = there
 
-    passes_split : Passes terms stands_for stopped over refuses first numbers history after
+    passes_split : Passes held first numbers history after
     passes_split = record {
       parts = λ a r e. part_of a r (kind a r e);
       apart = λ a c r s e e' ne. apart_of a c r s (kind a r e) (kind c s e') ne;
@@ -184,9 +185,9 @@ module _ {H F : Type 0} (views : Views H F) (id : ℕ) (p : Shown H F) (mine : H
         (λ ne. record { seat = t.seat; pass = t.pass; packet = t.packet; there = at_else t.seat t.pass ne t.there; tries = t.tries })
         (was_mine t.seat t.pass t.there)
 
-module _ {H T F : Type 0} (terms : H → T) (stands_for : H → List Packet → Type 0) (stopped : H → Bool) (over : H → Option Packet) (refuses : T → List Packet → Packet → F → Type 0) (first : H) (numbers : ℕ) where
+module _ {H T R F : Type 0} (held : HeldOf H T R F) (first : H) (numbers : ℕ) where
   pub splitting : (id : ℕ) (p : Shown H F) (at : ℕ) → p.tries ≡ None → p.lo < at → at < p.hi
-      → Splits (Holds terms stands_for stopped over refuses first numbers) id (Some p) (Some (lower at p)) (Some (upper at p))
+      → Splits (Holds held first numbers) id (Some p) (Some (lower at p)) (Some (upper at p))
   splitting id p at idle above below s holds mine = let history = holds.0 in let w = holds.1 in let views = s.views in (
     history,
     record {
@@ -195,16 +196,16 @@ module _ {H T F : Type 0} (terms : H → T) (stands_for : H → List Packet → 
       count_word = w.count_word;
       opened = w.opened;
       numbered = w.numbered;
-      passes = passes_split s.views id p mine at terms stands_for stopped over refuses first numbers history w.passes idle above below;
-      home = λ free. let t = w.home free in (t.0, t.1, home_after terms stands_for stopped over refuses first history s.views (after s.views id p mine at) (stopped_back s.views id p mine at) (refused_on s.views id p mine at) t.0 t.2);
-      none_tries = λ free a r d there t. w.none_tries free a r d (trier s.views id p mine at terms stands_for stopped over refuses first numbers history w.passes idle above below a r d (kind s.views id p mine at a r there) t) t;
-      one_tries = λ held. tried_on s.views id p mine at terms stands_for stopped over refuses first numbers history w.passes idle above below (w.one_tries held);
+      passes = passes_split s.views id p mine at held first numbers history w.passes idle above below;
+      home = λ free. let t = w.home free in (t.0, t.1, home_after held first history s.views (after s.views id p mine at) (stopped_back s.views id p mine at) (refused_on s.views id p mine at) t.0 t.2);
+      none_tries = λ free a r d there t. w.none_tries free a r d (trier s.views id p mine at held first numbers history w.passes idle above below a r d (kind s.views id p mine at a r there) t) t;
+      one_tries = λ locked. tried_on s.views id p mine at held first numbers history w.passes idle above below (w.one_tries locked);
     },
   )
 
   -- the same for a seat that has a live pass without the lock
   pub split_at : (id : ℕ) (me : Mine H F) (cut at : ℕ) → cut ≡ at → IsIdle me → ((p : Shown H F) → me.0 ≡ Some p → (p.lo < at) × (at < p.hi))
-      → Splits (Holds terms stands_for stopped over refuses first numbers) id me.0 (option_map (lower cut) me.0) (option_map (upper cut) me.0)
+      → Splits (Holds held first numbers) id me.0 (option_map (lower cut) me.0) (option_map (upper cut) me.0)
   split_at id me cut at same idle within = let p = idle.pass in let is : me.0 ≡ Some p = λ i. (idle.me_is i).0 in let bounds = within p is in
-      subst (λ (v : Option (Shown H F)). Splits (Holds terms stands_for stopped over refuses first numbers) id v (option_map (lower cut) v) (option_map (upper cut) v)) (sym is)
+      subst (λ (v : Option (Shown H F)). Splits (Holds held first numbers) id v (option_map (lower cut) v) (option_map (upper cut) v)) (sym is)
       (splitting id p cut idle.idle (let lo = bounds.0 in omega arith) (let hi = bounds.1 in omega arith))

@@ -3,6 +3,7 @@ use Rattle.std.specs.Prelude.{◌≡◌, ℕ, ◌<◌, ◌≤◌, Bool, List, �
 use mathlib.Core.Option.{some}
 use lib.ListN.{get_elem?}
 use Rattle.atomic_table.specs.Table.{State}
+use Rattle.lert_base.specs.declared.held.Held.{Ghosts as HeldOf}
 use Rattle.lert_base.specs.Packet.{Packet, own}
 use Rattle.lert_conelock.specs.Prefix.{IsPrefix}
 use Rattle.lert_conelock.specs.Shown.{Shown}
@@ -58,10 +59,10 @@ pub record IsTried {H F : Type 0} (views : Views H F) : Type 0 where
   pub there : Has views seat pass
   pub tries : pass.tries ≡ Some packet
 
-module _ {H T F : Type 0} (terms : H → T) (stands_for : H → List Packet → Type 0) (stopped : H → Bool) (over : H → Option Packet) (refuses : T → List Packet → Packet → F → Type 0) where
+module _ {H T R F : Type 0} (held : HeldOf H T R F) where
   -- the packet was refused so by rule after a part of the history from its start, whatever list the first state stands for, or the state is stopped
   abbrev pub IsCaused : H → List Packet → Views H F → Packet → F → Type 0
-  IsCaused first history views e f = IsStopped views ⊎ ((past : List Packet) × IsPrefix past history × ((h : List Packet) → stands_for first h → refuses (terms first) (h ++ past) e f))
+  IsCaused first history views e f = IsStopped views ⊎ ((past : List Packet) × IsPrefix past history × ((h : List Packet) → held.stands_for first h → held.refuses (held.terms first) (h ++ past) e f))
 
   -- all passes together
   pub record Passes (first : H) (numbers : ℕ) (history : List Packet) (views : Views H F) : Type 0 where
@@ -76,10 +77,10 @@ module _ {H T F : Type 0} (terms : H → T) (stands_for : H → List Packet → 
 
   -- a state that is home
   pub record IsHome (first : H) (history : List Packet) (views : Views H F) (state : H) : Type 0 where
-    pub terms_are : terms state ≡ terms first
-    pub stands : (h : List Packet) → stands_for first h → stands_for state (h ++ history)
-    pub stopped_is : IsStopped views → IsTrue (stopped state)
-    pub over_is : (over state ≡ None) ⊎ ((over state ≡ over first) ⊎ ((e : Packet) × (over state ≡ Some e) × IsRefused views e))
+    pub terms_are : held.terms state ≡ held.terms first
+    pub stands : (h : List Packet) → held.stands_for first h → held.stands_for state (h ++ history)
+    pub stopped_is : IsStopped views → IsTrue (held.stopped state)
+    pub over_is : (held.over state ≡ None) ⊎ ((held.over state ≡ held.over first) ⊎ ((e : Packet) × (held.over state ≡ Some e) × IsRefused views e))
     -- before the first call it is the first state itself
     pub fresh_is : (state ≡ first) ⊎ ((e : Packet) × (Contains history e ⊎ IsRefused views e))
 
@@ -87,7 +88,7 @@ module _ {H T F : Type 0} (terms : H → T) (stands_for : H → List Packet → 
     pub two_words : length s.words ≡ 2
     pub lock_word : slice_index s.words 0 ≤ 1
     pub count_word : slice_index s.words 1 ≡ length history
-    pub opened : (h : List Packet) × stands_for first h
+    pub opened : (h : List Packet) × held.stands_for first h
     pub numbered : (e : Packet) → Contains history e → e.by < numbers
     pub passes : Passes first numbers history s.views
     -- while the lock is free, a state is home

@@ -1,6 +1,7 @@
 -- What callers see of a pass and of a lock.
 use Rattle.std.specs.Prelude.{◌≡◌, ℕ, ◌+◌, ◌<◌, ◌≤◌, ◌==◌, Bool, false, ◌||◌, List, [], ◌∷◌, ◌++◌, ◌⊎◌, filter, Option, Some, None, is_none, IsTrue, Contains}
 use Rattle.atomic_table.specs.Seated.{TableId}
+use Rattle.lert_base.specs.declared.held.Held.{Ghosts as HeldOf}
 use Rattle.lert_base.specs.Packet.{Packet, own}
 use Rattle.lert_conelock.specs.Prefix.{IsPrefix}
 use Rattle.lert_conelock.specs.Shown.{Shown, longer}
@@ -68,12 +69,12 @@ pub record Joined {H F : Type 0} (old other new : Sight H F) : Type 0 where
   pub begins : IsPrefix old.seen new.seen
   pub other_begins : IsPrefix other.seen new.seen
 
-module _ {H T R F : Type 0} (terms : H → T) (stands_for : H → List Packet → Type 0) (answers : T → List Packet → Packet → R → Type 0) (refuses : T → List Packet → Packet → F → Type 0) where
+module _ {H T R F : Type 0} (held : HeldOf H T R F) where
   -- the packet was taken in after the past, which begins with all that the pass had seen, and is answered as `apply` answers there
   pub record Acted (first : H) (e : Packet) (reply : R) (more : ℕ) (old new : Sight H F) : Type 0 where
     pub past : List Packet
     pub begins : IsPrefix old.seen past
-    pub answer : (h : List Packet) → stands_for first h → answers (terms first) (h ++ past) e reply
+    pub answer : (h : List Packet) → held.stands_for first h → held.answers (held.terms first) (h ++ past) e reply
     pub met : old.met ≤ new.met
     pub shows : new ≡ record old { seen = past ++ e ∷ []; calls = old.calls ++ e ∷ []; met = new.met; waits = old.waits + more; stopped = new.stopped }
 
@@ -81,11 +82,11 @@ module _ {H T R F : Type 0} (terms : H → T) (stands_for : H → List Packet �
   pub record Declined (first : H) (e : Packet) (f : F) (more : ℕ) (old new : Sight H F) : Type 0 where
     pub past : List Packet
     pub begins : IsPrefix old.seen past
-    pub cause : IsTrue new.stopped ⊎ ((h : List Packet) → stands_for first h → refuses (terms first) (h ++ past) e f)
+    pub cause : IsTrue new.stopped ⊎ ((h : List Packet) → held.stands_for first h → held.refuses (held.terms first) (h ++ past) e f)
     pub met : old.met ≤ new.met
     pub shows : new ≡ record old { seen = past; refused = old.refused ++ (e, f) ∷ []; met = new.met; waits = old.waits + more; stopped = new.stopped }
 
-module _ {H T F : Type 0} (terms : H → T) (stands_for : H → List Packet → Type 0) (stopped : H → Bool) (over : H → Option Packet) (refuses : T → List Packet → Packet → F → Type 0) where
+module _ {H T R F : Type 0} (held : HeldOf H T R F) where
   -- the state of a lock that is closed with a pass of all its numbers
   pub record Closed (lock : LockSight H) (pass : Sight H F) (state : H) : Type 0 where
     -- the packets that were taken in: of each number its calls, and no others
@@ -93,10 +94,10 @@ module _ {H T F : Type 0} (terms : H → T) (stands_for : H → List Packet → 
     pub calls : (n : ℕ) → n < lock.numbers → own history n ≡ own pass.calls n
     pub numbered : (e : Packet) → Contains history e → e.by < lock.numbers
     pub begins : IsPrefix pass.seen history
-    pub terms_are : terms state ≡ terms lock.first
-    pub stands : (h : List Packet) → stands_for lock.first h → stands_for state (h ++ history)
-    pub stopped_is : IsTrue pass.stopped → IsTrue (stopped state)
-    pub over_is : (over state ≡ None) ⊎ ((over state ≡ over lock.first) ⊎ ((e : Packet) × (f : F) × (over state ≡ Some e) × (e.by < lock.numbers) × Contains pass.refused (e, f)))
+    pub terms_are : held.terms state ≡ held.terms lock.first
+    pub stands : (h : List Packet) → held.stands_for lock.first h → held.stands_for state (h ++ history)
+    pub stopped_is : IsTrue pass.stopped → IsTrue (held.stopped state)
+    pub over_is : (held.over state ≡ None) ⊎ ((held.over state ≡ held.over lock.first) ⊎ ((e : Packet) × (f : F) × (held.over state ≡ Some e) × (e.by < lock.numbers) × Contains pass.refused (e, f)))
     pub refusals : (e : Packet) (f : F) → Contains pass.refused (e, f)
-        → IsTrue (stopped state) ⊎ ((past : List Packet) × IsPrefix past history × ((h : List Packet) → stands_for lock.first h → refuses (terms lock.first) (h ++ past) e f))
+        → IsTrue (held.stopped state) ⊎ ((past : List Packet) × IsPrefix past history × ((h : List Packet) → held.stands_for lock.first h → held.refuses (held.terms lock.first) (h ++ past) e f))
     pub untouched : pass.calls ≡ [] → pass.refused ≡ [] → state ≡ lock.first

@@ -1,6 +1,7 @@
 -- What the steps of a cone lock tell the caller that makes them.
 use Rattle.std.specs.Prelude.{◌≡◌, ℕ, ◌<◌, ◌≤◌, Bool, List, [], ◌∷◌, ◌++◌, ◌⊎◌, length, Option, Some, None, IsTrue, Contains}
 use Rattle.atomic_table.specs.Table.{Me}
+use Rattle.lert_base.specs.declared.held.Held.{Ghosts as HeldOf}
 use Rattle.lert_base.specs.Packet.{Packet, own}
 use Rattle.lert_conelock.specs.Prefix.{IsPrefix}
 use Rattle.lert_conelock.specs.Shown.{Shown, taken}
@@ -36,13 +37,13 @@ pub record Looked {H F : Type 0} (found : ℕ) (p q : Shown H F) : Type 0 where
   pub count : found ≡ length q.seen
   pub calls : (n : ℕ) → q.lo ≤ n → n < q.hi → own q.seen n ≡ own q.calls n
 
-module _ {H T F : Type 0} (terms : H → T) (stands_for : H → List Packet → Type 0) (stopped : H → Bool) (over : H → Option Packet) (refuses : T → List Packet → Packet → F → Type 0) where
+module _ {H T R F : Type 0} (held : HeldOf H T R F) where
   -- the state in the hands of the pass that has the lock
   pub record InHand (p : Shown H F) (state : H) : Type 0 where
-    pub terms_are : terms state ≡ terms p.first
-    pub stands : (h : List Packet) → stands_for p.first h → stands_for state (h ++ p.seen)
-    pub stopped_is : IsTrue p.stopped → IsTrue (stopped state)
-    pub over_is : (over state ≡ None) ⊎ ((over state ≡ over p.first) ⊎ ((e : Packet) × (over state ≡ Some e) × Contains p.known e))
+    pub terms_are : held.terms state ≡ held.terms p.first
+    pub stands : (h : List Packet) → held.stands_for p.first h → held.stands_for state (h ++ p.seen)
+    pub stopped_is : IsTrue p.stopped → IsTrue (held.stopped state)
+    pub over_is : (held.over state ≡ None) ⊎ ((held.over state ≡ held.over p.first) ⊎ ((e : Packet) × (held.over state ≡ Some e) × Contains p.known e))
     pub fresh_is : (state ≡ p.first) ⊎ ((e : Packet) × (Contains p.seen e ⊎ Contains p.known e))
 
   -- p took the lock for the packet, and this is in the slot now
@@ -53,7 +54,7 @@ module _ {H T F : Type 0} (terms : H → T) (stands_for : H → List Packet → 
     pub after_is : after ≡ (Some (taken e seen stop known p), (0, slot) ∷ [])
     pub more : IsPrefix p.seen seen
     pub stops : IsTrue p.stopped → IsTrue stop
-    pub opened : (h : List Packet) × stands_for p.first h
+    pub opened : (h : List Packet) × held.stands_for p.first h
     pub hand : InHand (taken e seen stop known p) state
 
   -- the seat has the lock, and this is in the slot
@@ -66,4 +67,4 @@ module _ {H T F : Type 0} (terms : H → T) (stands_for : H → List Packet → 
 
   -- the refusal is by rule, or the state in hand is stopped
   abbrev pub IsReason : Bool → Shown H F → Packet → F → Type 0
-  IsReason stop p e f = IsTrue stop ⊎ ((h : List Packet) → stands_for p.first h → refuses (terms p.first) (h ++ p.seen) e f)
+  IsReason stop p e f = IsTrue stop ⊎ ((h : List Packet) → held.stands_for p.first h → held.refuses (held.terms p.first) (h ++ p.seen) e f)

@@ -100,9 +100,9 @@ impl<S: Held> ConeLock<S> {
         requires fits { S.fits (S.terms self.now.first) (packet_of entry.now) }
         ensures kept { Keeps pass.old pass.new }
         ensures done { (reply : S.Reply) → result ≡ Turn.Done reply →
-            Acted S.terms S.stands_for S.answers S.refuses self.now.first (packet_of entry.now) reply 0 pass.old pass.new }
+            Acted S.Held self.now.first (packet_of entry.now) reply 0 pass.old pass.new }
         ensures refused { (refusal : S.Refusal) → result ≡ Turn.Refused refusal →
-            Declined S.terms S.stands_for S.answers S.refuses self.now.first (packet_of entry.now) refusal 0 pass.old pass.new }
+            Declined S.Held self.now.first (packet_of entry.now) refusal 0 pass.old pass.new }
         ensures busy { result ≡ Turn.Busy → pass.new ≡ record pass.old { met = pass.old.met + 1 } }
         ensures met { pass.new.met ≡ pass.old.met + lost result }
     {
@@ -121,9 +121,9 @@ impl<S: Held> ConeLock<S> {
         requires fits { S.fits (S.terms self.now.first) (packet_of entry.now) }
         ensures kept { Keeps pass.old pass.new }
         ensures done { IfOk result (λ reply.
-            Acted S.terms S.stands_for S.answers S.refuses self.now.first (packet_of entry.now) reply 1 pass.old pass.new) }
+            Acted S.Held self.now.first (packet_of entry.now) reply 1 pass.old pass.new) }
         ensures refused { IfErr result (λ refusal.
-            Declined S.terms S.stands_for S.answers S.refuses self.now.first (packet_of entry.now) refusal 1 pass.old pass.new) }
+            Declined S.Held self.now.first (packet_of entry.now) refusal 1 pass.old pass.new) }
     {
         take_turn(rt, &self.table.shared, &mut pass.seat, entry)
     }
@@ -144,7 +144,7 @@ impl<S: Held> ConeLock<S> {
     pub fn close(self, pass: Pass<S>) -> S
         requires belongs { BelongsTo pass self }
         requires whole { (pass.lo ≡ 0) × (pass.hi ≡ self.numbers) }
-        ensures { Closed S.terms S.stands_for S.stopped S.over S.refuses self pass result }
+        ensures { Closed S.Held self pass result }
     {
         let Pass { lo: _, seat } = pass;
         let ConeLock { table } = self;

@@ -69,7 +69,7 @@ pub struct Takes<S, N> {
 
 impl<S: Held, N: Naming> Play<Option<S>, View<S, S::Refusal>> for Takes<S, N> {
     ghost then = { λ step before found after. (p : Shown S S.Refusal) → before.0 ≡ Some p →
-        (found ≡ 0 → (state : S) × Took S.terms S.stands_for S.stopped S.over S.refuses N.packet p state (Some state) after)
+        (found ≡ 0 → (state : S) × Took S.Held N.packet p state (Some state) after)
         × ((found ≡ 0 → ⊥) → after ≡ (Some (missed p), [])) };
 }
 

@@ -31,7 +31,7 @@ pub struct OneHistory<S> {
 }
 
 impl<S: Held> TableRule<Option<S>, View<S, S::Refusal>, Key<S>> for OneHistory<S> {
-    ghost holds = { λ key. Holds S.terms S.stands_for S.stopped S.over S.refuses key.first.value key.numbers };
+    ghost holds = { λ key. Holds S.Held key.first.value key.numbers };
 
     ghost first = { λ key. Some (whole key.first.value key.numbers) };
 }

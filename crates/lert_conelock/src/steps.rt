@@ -22,7 +22,7 @@ pub fn take<S: Held, N: Naming>(shared: &Shared<S>, seat: &mut Seat<S>, entry: &
     requires idle { MayTake seat.old.me (packet_of entry.now) }
     ensures seat { (seat.new.table_id ≡ seat.old.table_id) × (seat.new.id ≡ seat.old.id) }
     ensures won { (p : Shown S S.Refusal) → seat.old.me.0 ≡ Some p → IsTrue result → (state : S)
-        × Took S.terms S.stands_for S.stopped S.over S.refuses (packet_of entry.now) p state (Some state) seat.new.me }
+        × Took S.Held (packet_of entry.now) p state (Some state) seat.new.me }
     ensures lost { (p : Shown S S.Refusal) → seat.old.me.0 ≡ Some p → IsFalse result →
         seat.new.me ≡ (Some (missed p), []) }
 {
@@ -54,7 +54,7 @@ pub fn note<S: Held, M: Telling<S::Refusal>>(
     requires trying { IsTrying seat.old.me }
     requires told { (M.told ≡ Some refusal.now) × (M.stops ≡ S.stopped state.now) }
     requires reason { (p : Shown S S.Refusal) (e : Packet) → seat.old.me.0 ≡ Some p → p.tries ≡ Some e →
-        IsReason S.terms S.stands_for S.stopped S.over S.refuses (S.stopped state.now) p e refusal.now }
+        IsReason S.Held (S.stopped state.now) p e refusal.now }
     ensures seat { (seat.new.table_id ≡ seat.old.table_id) × (seat.new.id ≡ seat.old.id) }
     ensures noted { (p : Shown S S.Refusal) (e : Packet) → seat.old.me.0 ≡ Some p → p.tries ≡ Some e →
         seat.new.me ≡ (Some (noted e refusal.now (S.stopped state.now) p), seat.old.me.1) }
@@ -66,7 +66,7 @@ pub fn note<S: Held, M: Telling<S::Refusal>>(
 pub fn free<S: Held, C: Counting>(shared: &Shared<S>, seat: &mut Seat<S>)
     requires sized { (shared.now.table_id.words ≡ 2) × (shared.now.table_id.slots ≡ 1) }
     requires table { seat.old.table_id ≡ shared.now.table_id }
-    requires lock { (state : S) × HasLock S.terms S.stands_for S.stopped S.over S.refuses state (Some state) seat.old.me }
+    requires lock { (state : S) × HasLock S.Held state (Some state) seat.old.me }
     ensures seat { (seat.new.table_id ≡ seat.old.table_id) × (seat.new.id ≡ seat.old.id) }
     ensures freed { (p : Shown S S.Refusal) → seat.old.me.0 ≡ Some p → seat.new.me ≡ (Some (freed C.more p), rest seat.old.me.1) }
 {

@@ -32,7 +32,7 @@ fn take_state<S: Held>(shared: &Shared<S>, seat: &mut Seat<S>, entry: &Entry) ->
     requires idle { MayTake seat.old.me (packet_of entry.now) }
     ensures seat { (seat.new.table_id ≡ seat.old.table_id) × (seat.new.id ≡ seat.old.id) }
     ensures won { (p : Shown S S.Refusal) → seat.old.me.0 ≡ Some p → IfSome result (λ state.
-        Took S.terms S.stands_for S.stopped S.over S.refuses (packet_of entry.now) p state None seat.new.me) }
+        Took S.Held (packet_of entry.now) p state None seat.new.me) }
     ensures lost { (p : Shown S S.Refusal) → seat.old.me.0 ≡ Some p → IfNone result
         (seat.new.me ≡ (Some (missed p), [])) }
 {
@@ -47,7 +47,7 @@ fn take_state<S: Held>(shared: &Shared<S>, seat: &mut Seat<S>, entry: &Entry) ->
 fn bring_home<S: Held, C: Counting>(shared: &Shared<S>, seat: &mut Seat<S>, state: S)
     requires sized { (shared.now.table_id.words ≡ 2) × (shared.now.table_id.slots ≡ 1) }
     requires table { seat.old.table_id ≡ shared.now.table_id }
-    requires lock { HasLock S.terms S.stands_for S.stopped S.over S.refuses state None seat.old.me }
+    requires lock { HasLock S.Held state None seat.old.me }
     ensures seat { (seat.new.table_id ≡ seat.old.table_id) × (seat.new.id ≡ seat.old.id) }
     ensures freed { (p : Shown S S.Refusal) → seat.old.me.0 ≡ Some p → seat.new.me ≡ (Some (freed C.more p), []) }
 {
@@ -71,9 +71,9 @@ pub fn try_turn<S: Held, C: Counting>(
     requires fits { (p : Shown S S.Refusal) → seat.old.me.0 ≡ Some p → S.fits (S.terms p.first) (packet_of entry.now) }
     ensures seat { (seat.new.table_id ≡ seat.old.table_id) × (seat.new.id ≡ seat.old.id) }
     ensures done { (p : Shown S S.Refusal) (reply : S.Reply) → seat.old.me.0 ≡ Some p → result ≡ Turn.Done reply → (q : Shown S S.Refusal)
-        × (seat.new.me ≡ (Some q, [])) × WasTaken S.terms S.stands_for S.answers S.refuses (packet_of entry.now) reply C.more p q }
+        × (seat.new.me ≡ (Some q, [])) × WasTaken S.Held (packet_of entry.now) reply C.more p q }
     ensures refused { (p : Shown S S.Refusal) (refusal : S.Refusal) → seat.old.me.0 ≡ Some p → result ≡ Turn.Refused refusal → (q : Shown S S.Refusal)
-        × (seat.new.me ≡ (Some q, [])) × WasRefused S.terms S.stands_for S.answers S.refuses (packet_of entry.now) refusal C.more p q }
+        × (seat.new.me ≡ (Some q, [])) × WasRefused S.Held (packet_of entry.now) refusal C.more p q }
     ensures busy { (p : Shown S S.Refusal) → seat.old.me.0 ≡ Some p → result ≡ Turn.Busy → seat.new.me ≡ (Some (missed p), []) }
 {
     let Some(mut state) = take_state(shared, seat, entry) else {
@@ -107,10 +107,10 @@ pub fn take_turn<S: Held, R: Wait>(
     ensures seat { seat.new.table_id ≡ seat.old.table_id }
     ensures done { (p : Shown S S.Refusal) → seat.old.me.0 ≡ Some p → IfOk result (λ reply. (q : Shown S S.Refusal) × (m : ℕ)
         × (p.met ≤ m) × (seat.new.me ≡ (Some q, []))
-        × WasTaken S.terms S.stands_for S.answers S.refuses (packet_of entry.now) reply 1 (record p { met = m }) q) }
+        × WasTaken S.Held (packet_of entry.now) reply 1 (record p { met = m }) q) }
     ensures refused { (p : Shown S S.Refusal) → seat.old.me.0 ≡ Some p → IfErr result (λ refusal. (q : Shown S S.Refusal) × (m : ℕ)
         × (p.met ≤ m) × (seat.new.me ≡ (Some q, []))
-        × WasRefused S.terms S.stands_for S.answers S.refuses (packet_of entry.now) refusal 1 (record p { met = m }) q) }
+        × WasRefused S.Held (packet_of entry.now) refusal 1 (record p { met = m }) q) }
 {
     for _ in rt.forever() {
         match try_turn::<S, Waiting>(shared, seat, entry) {

@@ -8,5 +8,5 @@ join_seat-requires g c = let other = c.requires.idle.1 in (
   search rules,
   (λ i. (other.me_is i).1),
   search rules,
-  join_at _ _ _ _ _ _ _ _ _ _ _ c.requires.idle.0 other c.requires.meets,
+  join_at _ _ _ _ _ _ _ c.requires.idle.0 other c.requires.meets,
 )

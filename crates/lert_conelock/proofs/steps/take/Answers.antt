@@ -8,5 +8,5 @@ pub compare_exchange-requires : goal.compare_exchange-requires
 compare_exchange-requires g c = (
   search rules,
   search rules,
-  taking _ _ _ _ _ _ _ _ _ _ _ (subst (λ (e : Packet). MayTake c.args.seat.now.me e) (sym c.requires.named) c.requires.idle),
+  taking _ _ _ _ _ _ _ (subst (λ (e : Packet). MayTake c.args.seat.now.me e) (sym c.requires.named) c.requires.idle),
 )

@@ -17,10 +17,10 @@ loop-preserved g c = let w = c.loop.invariant.waiting in record {
 
 pub returns-in-Done-clause-done : goal.returns-in-Done-clause-done
 returns-in-Done-clause-done g c = let w = c.loop.invariant.waiting in let S = g.S.Held in
-    at_last _ _ _ w (WasTaken S.terms S.stands_for S.answers S.refuses (packet_of c.args.entry.now) c.in-Done.reply 1) _
+    at_last _ _ _ w (WasTaken g.S.Held (packet_of c.args.entry.now) c.in-Done.reply 1) _
     (c.in-Done.ensures.done (waiter _ _ _ w) c.in-Done.reply (waiter_is _ _ _ w) refl)
 
 pub returns-in-Refused-clause-refused : goal.returns-in-Refused-clause-refused
 returns-in-Refused-clause-refused g c = let w = c.loop.invariant.waiting in let S = g.S.Held in
-    at_last _ _ _ w (WasRefused S.terms S.stands_for S.answers S.refuses (packet_of c.args.entry.now) c.in-Refused.refusal 1) _
+    at_last _ _ _ w (WasRefused g.S.Held (packet_of c.args.entry.now) c.in-Refused.refusal 1) _
     (c.in-Refused.ensures.refused (waiter _ _ _ w) c.in-Refused.refusal (waiter_is _ _ _ w) refl)
