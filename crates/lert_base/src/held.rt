@@ -54,9 +54,9 @@ pub trait Held {
             stands_for self.new h) }
         ensures refuses { IfErr result (λ refusal. (h : List Packet) → stands_for self.old h →
             (refuses (terms self.old) h (packet_of entry.now) refusal
-                × (stopped self.new ≡ stopped self.old) × (over self.new ≡ over self.old))
+            × (stopped self.new ≡ stopped self.old) × (over self.new ≡ over self.old))
             ⊎ (IsTrue (stopped self.new)
-                × ((over self.new ≡ over self.old) ⊎ (over self.new ≡ Some (packet_of entry.now))))) };
+            × ((over self.new ≡ over self.old) ⊎ (over self.new ≡ Some (packet_of entry.now))))) };
 
     /// A state stands for short lists alone.
     ghost short: { (state : Self) (h : List Packet) → stands_for state h → length h < 2 ^ 40 };

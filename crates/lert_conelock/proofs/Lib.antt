@@ -12,7 +12,7 @@ pub mod Splitting
 pub mod Cuts
 pub mod Joining
 pub mod Turning
-pub mod Turned
+pub mod SameTurn
 pub mod Ending
 pub mod Seeing
 pub mod Waiting

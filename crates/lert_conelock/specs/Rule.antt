@@ -6,6 +6,7 @@ use Rattle.atomic_table.specs.Table.{State}
 use Rattle.lert_base.specs.declared.held.Held.{Ghosts as HeldOf}
 use Rattle.lert_base.specs.Packet.{Packet, own}
 use Rattle.lert_conelock.specs.Prefix.{IsPrefix}
+use Rattle.lert_conelock.specs.After.{StandsAfter, RefusesAfter}
 use Rattle.lert_conelock.specs.Shown.{Shown}
 
 -- what the seats show, in their order: a spent pass shows nothing
@@ -60,30 +61,37 @@ pub record IsTried {H F : Type 0} (views : Views H F) : Type 0 where
   pub tries : pass.tries ≡ Some packet
 
 module _ {H T R F : Type 0} (held : HeldOf H T R F) where
-  -- the packet was refused so by rule after a part of the history from its start, whatever list the first state stands for, or the state is stopped
+  -- the packet was refused so by rule, after some beginning of the history, or the state is stopped
   abbrev pub IsCaused : H → List Packet → Views H F → Packet → F → Type 0
-  IsCaused first history views e f = IsStopped views ⊎ ((past : List Packet) × IsPrefix past history × ((h : List Packet) → held.stands_for first h → held.refuses (held.terms first) (h ++ past) e f))
+  IsCaused first history views e f =
+      IsStopped views ⊎ ((past : List Packet) × IsPrefix past history × RefusesAfter held first past e f)
 
   -- all passes together
   pub record Passes (first : H) (numbers : ℕ) (history : List Packet) (views : Views H F) : Type 0 where
     pub parts : (seat : ℕ) (p : Shown H F) → Has views seat p → IsPart first numbers history p
-    pub apart : (a b : ℕ) (p q : Shown H F) → Has views a p → Has views b q → (a ≡ b → ⊥) → (p.hi ≤ q.lo) ⊎ (q.hi ≤ p.lo)
+    pub apart : (a b : ℕ) (p q : Shown H F) → Has views a p → Has views b q → (a ≡ b → ⊥)
+        → (p.hi ≤ q.lo) ⊎ (q.hi ≤ p.lo)
     pub cover : (n : ℕ) → n < numbers → IsCovered views n
-    pub refusals : (seat : ℕ) (p : Shown H F) → Has views seat p → (e : Packet) (f : F) → Contains p.refused (e, f) → IsCaused first history views e f
+    pub refusals : (seat : ℕ) (p : Shown H F) → Has views seat p → (e : Packet) (f : F)
+        → Contains p.refused (e, f) → IsCaused first history views e f
     pub known : (seat : ℕ) (p : Shown H F) → Has views seat p → (e : Packet) → Contains p.known e → IsRefused views e
     -- at most one pass has the lock. It has seen the whole history, and knows where the state is stopped
-    pub alone : (a b : ℕ) (p q : Shown H F) (e f : Packet) → Has views a p → Has views b q → p.tries ≡ Some e → q.tries ≡ Some f → a ≡ b
-    pub trying : (seat : ℕ) (p : Shown H F) (e : Packet) → Has views seat p → p.tries ≡ Some e → (p.seen ≡ history) × (IsStopped views → IsTrue p.stopped)
+    pub alone : (a b : ℕ) (p q : Shown H F) (e f : Packet) → Has views a p → Has views b q
+        → p.tries ≡ Some e → q.tries ≡ Some f → a ≡ b
+    pub trying : (seat : ℕ) (p : Shown H F) (e : Packet) → Has views seat p → p.tries ≡ Some e
+        → (p.seen ≡ history) × (IsStopped views → IsTrue p.stopped)
 
   -- a state that is home
   pub record IsHome (first : H) (history : List Packet) (views : Views H F) (state : H) : Type 0 where
     pub terms_are : held.terms state ≡ held.terms first
-    pub stands : (h : List Packet) → held.stands_for first h → held.stands_for state (h ++ history)
+    pub stands : StandsAfter held first history state
     pub stopped_is : IsStopped views → IsTrue (held.stopped state)
-    pub over_is : (held.over state ≡ None) ⊎ ((held.over state ≡ held.over first) ⊎ ((e : Packet) × (held.over state ≡ Some e) × IsRefused views e))
+    pub over_is : (held.over state ≡ None) ⊎ ((held.over state ≡ held.over first)
+        ⊎ ((e : Packet) × (held.over state ≡ Some e) × IsRefused views e))
     -- before the first call it is the first state itself
     pub fresh_is : (state ≡ first) ⊎ ((e : Packet) × (Contains history e ⊎ IsRefused views e))
 
+  -- words, slot and passes show this history
   pub record HoldsWith (first : H) (numbers : ℕ) (s : State (Option H) (Option (Shown H F))) (history : List Packet) : Type 0 where
     pub two_words : length s.words ≡ 2
     pub lock_word : slice_index s.words 0 ≤ 1
@@ -92,8 +100,10 @@ module _ {H T R F : Type 0} (held : HeldOf H T R F) where
     pub numbered : (e : Packet) → Contains history e → e.by < numbers
     pub passes : Passes first numbers history s.views
     -- while the lock is free, a state is home
-    pub home : slice_index s.words 0 ≡ 0 → (state : H) × (get_elem? s.homes 0 ≡ some (some (Some state))) × IsHome first history s.views state
-    pub none_tries : slice_index s.words 0 ≡ 0 → (seat : ℕ) (p : Shown H F) (e : Packet) → Has s.views seat p → p.tries ≡ Some e → ⊥
+    pub home : slice_index s.words 0 ≡ 0
+        → (state : H) × (get_elem? s.homes 0 ≡ some (some (Some state))) × IsHome first history s.views state
+    pub none_tries : slice_index s.words 0 ≡ 0 → (seat : ℕ) (p : Shown H F) (e : Packet)
+        → Has s.views seat p → p.tries ≡ Some e → ⊥
     pub one_tries : slice_index s.words 0 ≡ 1 → IsTried s.views
 
   -- the whole rule: there is such a history

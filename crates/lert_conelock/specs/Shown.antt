@@ -29,7 +29,20 @@ pub record Shown (H F : Type 0) : Type 0 where
 module _ {H F : Type 0} where
   -- the first pass of a lock
   abbrev pub whole : H → ℕ → Shown H F
-  whole first numbers = record { first = first; lo = 0; hi = numbers; calls = []; refused = []; seen = []; lesser = []; met = 0; waits = 0; stopped = false; tries = None; known = [] }
+  whole first numbers = record {
+    first = first;
+    lo = 0;
+    hi = numbers;
+    calls = [];
+    refused = [];
+    seen = [];
+    lesser = [];
+    met = 0;
+    waits = 0;
+    stopped = false;
+    tries = None;
+    known = [];
+  }
 
   -- a take found the lock held
   abbrev pub missed : Shown H F → Shown H F
@@ -45,7 +58,11 @@ module _ {H F : Type 0} where
 
   -- the packet was refused by a state that is stopped or not
   abbrev pub noted : Packet → F → Bool → Shown H F → Shown H F
-  noted e f stop p = record p { refused = p.refused ++ (e, f) ∷ []; known = p.known ++ e ∷ []; stopped = p.stopped || stop }
+  noted e f stop p = record p {
+    refused = p.refused ++ (e, f) ∷ [];
+    known = p.known ++ e ∷ [];
+    stopped = p.stopped || stop;
+  }
 
   -- the lock is free again, after a call that waited so often
   abbrev pub freed : ℕ → Shown H F → Shown H F
@@ -83,6 +100,7 @@ module _ {H F : Type 0} where
     stopped = p.stopped || q.stopped;
   }
 
+  -- the same of two seats, of which a spent one adds nothing
   abbrev pub both_of : Option (Shown H F) → Option (Shown H F) → Option (Shown H F)
   both_of None w = w
   both_of (Some p) None = Some p

@@ -4,6 +4,7 @@ use Rattle.atomic_table.specs.Table.{Me}
 use Rattle.lert_base.specs.declared.held.Held.{Ghosts as HeldOf}
 use Rattle.lert_base.specs.Packet.{Packet, own}
 use Rattle.lert_conelock.specs.Prefix.{IsPrefix}
+use Rattle.lert_conelock.specs.After.{StandsAfter, RefusesAfter}
 use Rattle.lert_conelock.specs.Shown.{Shown, taken}
 
 -- a seat's view, and the slot that it holds
@@ -41,9 +42,10 @@ module _ {H T R F : Type 0} (held : HeldOf H T R F) where
   -- the state in the hands of the pass that has the lock
   pub record InHand (p : Shown H F) (state : H) : Type 0 where
     pub terms_are : held.terms state ≡ held.terms p.first
-    pub stands : (h : List Packet) → held.stands_for p.first h → held.stands_for state (h ++ p.seen)
+    pub stands : StandsAfter held p.first p.seen state
     pub stopped_is : IsTrue p.stopped → IsTrue (held.stopped state)
-    pub over_is : (held.over state ≡ None) ⊎ ((held.over state ≡ held.over p.first) ⊎ ((e : Packet) × (held.over state ≡ Some e) × Contains p.known e))
+    pub over_is : (held.over state ≡ None) ⊎ ((held.over state ≡ held.over p.first)
+        ⊎ ((e : Packet) × (held.over state ≡ Some e) × Contains p.known e))
     pub fresh_is : (state ≡ p.first) ⊎ ((e : Packet) × (Contains p.seen e ⊎ Contains p.known e))
 
   -- p took the lock for the packet, and this is in the slot now
@@ -67,4 +69,4 @@ module _ {H T R F : Type 0} (held : HeldOf H T R F) where
 
   -- the refusal is by rule, or the state in hand is stopped
   abbrev pub IsReason : Bool → Shown H F → Packet → F → Type 0
-  IsReason stop p e f = IsTrue stop ⊎ ((h : List Packet) → held.stands_for p.first h → held.refuses (held.terms p.first) (h ++ p.seen) e f)
+  IsReason stop p e f = IsTrue stop ⊎ RefusesAfter held p.first p.seen e f

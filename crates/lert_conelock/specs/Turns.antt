@@ -3,6 +3,7 @@ use Rattle.std.specs.Prelude.{◌≡◌, ℕ, ◌+◌, Bool, List, [], ◌∷◌
 use Rattle.lert_base.specs.declared.held.Held.{Ghosts as HeldOf}
 use Rattle.lert_base.specs.Packet.{Packet}
 use Rattle.lert_conelock.specs.Prefix.{IsPrefix}
+use Rattle.lert_conelock.specs.After.{AnswersAfter, RefusesAfter}
 use Rattle.lert_conelock.specs.Shown.{Shown}
 
 module _ {H T R F : Type 0} (held : HeldOf H T R F) where
@@ -11,15 +12,29 @@ module _ {H T R F : Type 0} (held : HeldOf H T R F) where
     pub past : List Packet
     pub stop : Bool
     pub begins : IsPrefix p.seen past
-    pub answer : (h : List Packet) → held.stands_for p.first h → held.answers (held.terms p.first) (h ++ past) e reply
+    pub answer : AnswersAfter held p.first past e reply
     pub stops : IsTrue p.stopped → IsTrue stop
-    pub shows : q ≡ record p { seen = past ++ e ∷ []; calls = p.calls ++ e ∷ []; waits = p.waits + more; stopped = stop; tries = None; known = [] }
+    pub shows : q ≡ record p {
+      seen = past ++ e ∷ [];
+      calls = p.calls ++ e ∷ [];
+      waits = p.waits + more;
+      stopped = stop;
+      tries = None;
+      known = [];
+    }
 
   -- p was refused so, after the past
   pub record WasRefused (e : Packet) (f : F) (more : ℕ) (p q : Shown H F) : Type 0 where
     pub past : List Packet
     pub stop : Bool
     pub begins : IsPrefix p.seen past
-    pub cause : IsTrue stop ⊎ ((h : List Packet) → held.stands_for p.first h → held.refuses (held.terms p.first) (h ++ past) e f)
+    pub cause : IsTrue stop ⊎ RefusesAfter held p.first past e f
     pub stops : IsTrue p.stopped → IsTrue stop
-    pub shows : q ≡ record p { seen = past; refused = p.refused ++ (e, f) ∷ []; waits = p.waits + more; stopped = stop; tries = None; known = [] }
+    pub shows : q ≡ record p {
+      seen = past;
+      refused = p.refused ++ (e, f) ∷ [];
+      waits = p.waits + more;
+      stopped = stop;
+      tries = None;
+      known = [];
+    }

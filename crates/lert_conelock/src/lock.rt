@@ -31,9 +31,10 @@ impl<S: Held> Model for ConeLock<S> {
 
     ghost Value = { LockSight S };
 
-    ghost view = { λ l. record { id = l.table.shared.table_id; first = l.table.shared.key.first.value; numbers = l.table.shared.key.numbers } };
+    ghost view = { λ l. let shared = l.table.shared in
+        record { id = shared.table_id; first = shared.key.first.value; numbers = shared.key.numbers } };
 
-    ghost invariant = { λ l. (l.table.shared.table_id.words ≡ 2) × (l.table.shared.table_id.slots ≡ 1) };
+    ghost invariant = { λ l. let id = l.table.shared.table_id in (id.words ≡ 2) × (id.slots ≡ 1) };
 }
 
 impl<S: Held> ConeLock<S> {
@@ -135,7 +136,8 @@ impl<S: Held> ConeLock<S> {
         ensures count { result ≡ length pass.new.seen }
         ensures more { IsPrefix pass.old.seen pass.new.seen }
         ensures shows { pass.new ≡ record pass.old { seen = pass.new.seen } }
-        ensures calls { (n : ℕ) → pass.new.lo ≤ n → n < pass.new.hi → own pass.new.seen n ≡ own pass.new.calls n }
+        ensures calls { (n : ℕ) → pass.new.lo ≤ n → n < pass.new.hi →
+            own pass.new.seen n ≡ own pass.new.calls n }
     {
         steps::look(&self.table.shared, &mut pass.seat)
     }

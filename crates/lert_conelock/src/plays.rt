@@ -78,8 +78,8 @@ pub struct Commits<S> {
 }
 
 impl<S: Held> Play<Option<S>, View<S, S::Refusal>> for Commits<S> {
-    ghost then = { λ step before found after. (p : Shown S S.Refusal) (e : Packet) → before.0 ≡ Some p → p.tries ≡ Some e →
-        after ≡ (Some (committed e p), before.1) };
+    ghost then = { λ step before found after. (p : Shown S S.Refusal) (e : Packet) →
+        before.0 ≡ Some p → p.tries ≡ Some e → after ≡ (Some (committed e p), before.1) };
 }
 
 pub struct Notes<S, M> {
@@ -87,8 +87,8 @@ pub struct Notes<S, M> {
 }
 
 impl<S: Held, M: Telling<S::Refusal>> Play<Option<S>, View<S, S::Refusal>> for Notes<S, M> {
-    ghost then = { λ step before found after. (p : Shown S S.Refusal) (e : Packet) (f : S.Refusal) → before.0 ≡ Some p → p.tries ≡ Some e →
-        M.told ≡ Some f → after ≡ (Some (noted e f M.stops p), before.1) };
+    ghost then = { λ step before found after. (p : Shown S S.Refusal) (e : Packet) (f : S.Refusal) →
+        before.0 ≡ Some p → p.tries ≡ Some e → M.told ≡ Some f → after ≡ (Some (noted e f M.stops p), before.1) };
 }
 
 pub struct Frees<S, C> {
@@ -115,7 +115,8 @@ pub struct Agrees<S> {
 
 impl<S: Held> Play<Option<S>, View<S, S::Refusal>> for Agrees<S> {
     ghost then = { λ step before found after. (after ≡ before)
-        × ((p : Shown S S.Refusal) → before.0 ≡ Some p → length p.lesser ≤ length p.seen → IsPrefix p.lesser p.seen) };
+        × ((p : Shown S S.Refusal) → before.0 ≡ Some p → length p.lesser ≤ length p.seen →
+            IsPrefix p.lesser p.seen) };
 }
 
 /// Cuts a pass in two.

@@ -21,8 +21,8 @@ pub fn take<S: Held, N: Naming>(shared: &Shared<S>, seat: &mut Seat<S>, entry: &
     requires named { N.packet ≡ packet_of entry.now }
     requires idle { MayTake seat.old.me (packet_of entry.now) }
     ensures seat { (seat.new.table_id ≡ seat.old.table_id) × (seat.new.id ≡ seat.old.id) }
-    ensures won { (p : Shown S S.Refusal) → seat.old.me.0 ≡ Some p → IsTrue result → (state : S)
-        × Took S.Held (packet_of entry.now) p state (Some state) seat.new.me }
+    ensures won { (p : Shown S S.Refusal) → seat.old.me.0 ≡ Some p → IsTrue result →
+        (state : S) × Took S.Held (packet_of entry.now) p state (Some state) seat.new.me }
     ensures lost { (p : Shown S S.Refusal) → seat.old.me.0 ≡ Some p → IsFalse result →
         seat.new.me ≡ (Some (missed p), []) }
 {
@@ -36,8 +36,8 @@ pub fn commit<S: Held>(shared: &Shared<S>, seat: &mut Seat<S>)
     requires trying { IsTrying seat.old.me }
     requires short { (p : Shown S S.Refusal) → seat.old.me.0 ≡ Some p → length p.seen < 2 ^ 40 }
     ensures seat { (seat.new.table_id ≡ seat.old.table_id) × (seat.new.id ≡ seat.old.id) }
-    ensures committed { (p : Shown S S.Refusal) (e : Packet) → seat.old.me.0 ≡ Some p → p.tries ≡ Some e →
-        seat.new.me ≡ (Some (committed e p), seat.old.me.1) }
+    ensures committed { (p : Shown S S.Refusal) (e : Packet) → seat.old.me.0 ≡ Some p →
+        p.tries ≡ Some e → seat.new.me ≡ (Some (committed e p), seat.old.me.1) }
 {
     shared.fetch_add::<Commits<S>>(seat, 1, 1);
 }
@@ -53,11 +53,11 @@ pub fn note<S: Held, M: Telling<S::Refusal>>(
     requires table { seat.old.table_id ≡ shared.now.table_id }
     requires trying { IsTrying seat.old.me }
     requires told { (M.told ≡ Some refusal.now) × (M.stops ≡ S.stopped state.now) }
-    requires reason { (p : Shown S S.Refusal) (e : Packet) → seat.old.me.0 ≡ Some p → p.tries ≡ Some e →
-        IsReason S.Held (S.stopped state.now) p e refusal.now }
+    requires reason { (p : Shown S S.Refusal) (e : Packet) → seat.old.me.0 ≡ Some p →
+        p.tries ≡ Some e → IsReason S.Held (S.stopped state.now) p e refusal.now }
     ensures seat { (seat.new.table_id ≡ seat.old.table_id) × (seat.new.id ≡ seat.old.id) }
-    ensures noted { (p : Shown S S.Refusal) (e : Packet) → seat.old.me.0 ≡ Some p → p.tries ≡ Some e →
-        seat.new.me ≡ (Some (noted e refusal.now (S.stopped state.now) p), seat.old.me.1) }
+    ensures noted { (p : Shown S S.Refusal) (e : Packet) → seat.old.me.0 ≡ Some p →
+        p.tries ≡ Some e → seat.new.me ≡ (Some (noted e refusal.now (S.stopped state.now) p), seat.old.me.1) }
 {
     shared.load::<Notes<S, M>>(seat, 1);
 }
@@ -68,7 +68,8 @@ pub fn free<S: Held, C: Counting>(shared: &Shared<S>, seat: &mut Seat<S>)
     requires table { seat.old.table_id ≡ shared.now.table_id }
     requires lock { (state : S) × HasLock S.Held state (Some state) seat.old.me }
     ensures seat { (seat.new.table_id ≡ seat.old.table_id) × (seat.new.id ≡ seat.old.id) }
-    ensures freed { (p : Shown S S.Refusal) → seat.old.me.0 ≡ Some p → seat.new.me ≡ (Some (freed C.more p), rest seat.old.me.1) }
+    ensures freed { (p : Shown S S.Refusal) → seat.old.me.0 ≡ Some p →
+        seat.new.me ≡ (Some (freed C.more p), rest seat.old.me.1) }
 {
     shared.swap::<Frees<S, C>>(seat, 0, 0);
 }
@@ -90,8 +91,10 @@ pub fn look<S: Held>(shared: &Shared<S>, seat: &mut Seat<S>) -> u64
 pub fn agree<S: Held>(shared: &Shared<S>, seat: &mut Seat<S>)
     requires sized { shared.now.table_id.words ≡ 2 }
     requires table { seat.old.table_id ≡ shared.now.table_id }
-    ensures seat { (seat.new.table_id ≡ seat.old.table_id) × (seat.new.id ≡ seat.old.id) × (seat.new.me ≡ seat.old.me) }
-    ensures agreed { (p : Shown S S.Refusal) → seat.old.me.0 ≡ Some p → length p.lesser ≤ length p.seen → IsPrefix p.lesser p.seen }
+    ensures seat { (seat.new.table_id ≡ seat.old.table_id) × (seat.new.id ≡ seat.old.id)
+        × (seat.new.me ≡ seat.old.me) }
+    ensures agreed { (p : Shown S S.Refusal) → seat.old.me.0 ≡ Some p →
+        length p.lesser ≤ length p.seen → IsPrefix p.lesser p.seen }
 {
     shared.load::<Agrees<S>>(seat, 1);
 }
@@ -113,9 +116,11 @@ pub fn split<S: Held, C: Cutting>(shared: &Shared<S>, seat: &mut Seat<S>, at: u3
 /// Makes one pass of two.
 pub fn join<S: Held>(shared: &Shared<S>, seat: &mut Seat<S>, other: Seat<S>)
     requires sized { shared.now.table_id.words ≡ 2 }
-    requires table { (seat.old.table_id ≡ shared.now.table_id) × (other.table_id ≡ shared.now.table_id) }
+    requires table { (seat.old.table_id ≡ shared.now.table_id)
+        × (other.table_id ≡ shared.now.table_id) }
     requires idle { IsIdle seat.old.me × IsIdle other.me }
-    requires meets { (p q : Shown S S.Refusal) → seat.old.me.0 ≡ Some p → other.me.0 ≡ Some q → q.lo ≡ p.hi }
+    requires meets { (p q : Shown S S.Refusal) → seat.old.me.0 ≡ Some p → other.me.0 ≡ Some q →
+        q.lo ≡ p.hi }
     ensures seat { seat.new.table_id ≡ seat.old.table_id }
     ensures joined { (p q : Shown S S.Refusal) → seat.old.me.0 ≡ Some p → other.me.0 ≡ Some q →
         seat.new.me ≡ (Some (joined p q), seat.old.me.1) }

@@ -31,10 +31,10 @@ fn take_state<S: Held>(shared: &Shared<S>, seat: &mut Seat<S>, entry: &Entry) ->
     requires table { seat.old.table_id ≡ shared.now.table_id }
     requires idle { MayTake seat.old.me (packet_of entry.now) }
     ensures seat { (seat.new.table_id ≡ seat.old.table_id) × (seat.new.id ≡ seat.old.id) }
-    ensures won { (p : Shown S S.Refusal) → seat.old.me.0 ≡ Some p → IfSome result (λ state.
-        Took S.Held (packet_of entry.now) p state None seat.new.me) }
-    ensures lost { (p : Shown S S.Refusal) → seat.old.me.0 ≡ Some p → IfNone result
-        (seat.new.me ≡ (Some (missed p), [])) }
+    ensures won { (p : Shown S S.Refusal) → seat.old.me.0 ≡ Some p →
+        IfSome result (λ state. Took S.Held (packet_of entry.now) p state None seat.new.me) }
+    ensures lost { (p : Shown S S.Refusal) → seat.old.me.0 ≡ Some p →
+        IfNone result (seat.new.me ≡ (Some (missed p), [])) }
 {
     if steps::take::<S, Brand>(shared, seat, entry) {
         shared.exchange(seat, 0, None)
@@ -49,7 +49,8 @@ fn bring_home<S: Held, C: Counting>(shared: &Shared<S>, seat: &mut Seat<S>, stat
     requires table { seat.old.table_id ≡ shared.now.table_id }
     requires lock { HasLock S.Held state None seat.old.me }
     ensures seat { (seat.new.table_id ≡ seat.old.table_id) × (seat.new.id ≡ seat.old.id) }
-    ensures freed { (p : Shown S S.Refusal) → seat.old.me.0 ≡ Some p → seat.new.me ≡ (Some (freed C.more p), []) }
+    ensures freed { (p : Shown S S.Refusal) → seat.old.me.0 ≡ Some p →
+        seat.new.me ≡ (Some (freed C.more p), []) }
 {
     match shared.exchange(seat, 0, Some(state)) {
         Some(_) => unreachable!(),
@@ -68,13 +69,17 @@ pub fn try_turn<S: Held, C: Counting>(
     requires sized { (shared.now.table_id.words ≡ 2) × (shared.now.table_id.slots ≡ 1) }
     requires table { seat.old.table_id ≡ shared.now.table_id }
     requires idle { MayTake seat.old.me (packet_of entry.now) }
-    requires fits { (p : Shown S S.Refusal) → seat.old.me.0 ≡ Some p → S.fits (S.terms p.first) (packet_of entry.now) }
+    requires fits { (p : Shown S S.Refusal) → seat.old.me.0 ≡ Some p →
+        S.fits (S.terms p.first) (packet_of entry.now) }
     ensures seat { (seat.new.table_id ≡ seat.old.table_id) × (seat.new.id ≡ seat.old.id) }
-    ensures done { (p : Shown S S.Refusal) (reply : S.Reply) → seat.old.me.0 ≡ Some p → result ≡ Turn.Done reply → (q : Shown S S.Refusal)
-        × (seat.new.me ≡ (Some q, [])) × WasTaken S.Held (packet_of entry.now) reply C.more p q }
-    ensures refused { (p : Shown S S.Refusal) (refusal : S.Refusal) → seat.old.me.0 ≡ Some p → result ≡ Turn.Refused refusal → (q : Shown S S.Refusal)
-        × (seat.new.me ≡ (Some q, [])) × WasRefused S.Held (packet_of entry.now) refusal C.more p q }
-    ensures busy { (p : Shown S S.Refusal) → seat.old.me.0 ≡ Some p → result ≡ Turn.Busy → seat.new.me ≡ (Some (missed p), []) }
+    ensures done { (p : Shown S S.Refusal) (reply : S.Reply) → seat.old.me.0 ≡ Some p →
+        result ≡ Turn.Done reply → (q : Shown S S.Refusal) × (seat.new.me ≡ (Some q, []))
+        × WasTaken S.Held (packet_of entry.now) reply C.more p q }
+    ensures refused { (p : Shown S S.Refusal) (refusal : S.Refusal) → seat.old.me.0 ≡ Some p →
+        result ≡ Turn.Refused refusal → (q : Shown S S.Refusal) × (seat.new.me ≡ (Some q, []))
+        × WasRefused S.Held (packet_of entry.now) refusal C.more p q }
+    ensures busy { (p : Shown S S.Refusal) → seat.old.me.0 ≡ Some p → result ≡ Turn.Busy →
+        seat.new.me ≡ (Some (missed p), []) }
 {
     let Some(mut state) = take_state(shared, seat, entry) else {
         return Turn::Busy;
@@ -103,13 +108,14 @@ pub fn take_turn<S: Held, R: Wait>(
     requires sized { (shared.now.table_id.words ≡ 2) × (shared.now.table_id.slots ≡ 1) }
     requires table { seat.old.table_id ≡ shared.now.table_id }
     requires idle { MayTake seat.old.me (packet_of entry.now) }
-    requires fits { (p : Shown S S.Refusal) → seat.old.me.0 ≡ Some p → S.fits (S.terms p.first) (packet_of entry.now) }
+    requires fits { (p : Shown S S.Refusal) → seat.old.me.0 ≡ Some p →
+        S.fits (S.terms p.first) (packet_of entry.now) }
     ensures seat { seat.new.table_id ≡ seat.old.table_id }
-    ensures done { (p : Shown S S.Refusal) → seat.old.me.0 ≡ Some p → IfOk result (λ reply. (q : Shown S S.Refusal) × (m : ℕ)
-        × (p.met ≤ m) × (seat.new.me ≡ (Some q, []))
+    ensures done { (p : Shown S S.Refusal) → seat.old.me.0 ≡ Some p → IfOk result (λ reply.
+        (q : Shown S S.Refusal) × (m : ℕ) × (p.met ≤ m) × (seat.new.me ≡ (Some q, []))
         × WasTaken S.Held (packet_of entry.now) reply 1 (record p { met = m }) q) }
-    ensures refused { (p : Shown S S.Refusal) → seat.old.me.0 ≡ Some p → IfErr result (λ refusal. (q : Shown S S.Refusal) × (m : ℕ)
-        × (p.met ≤ m) × (seat.new.me ≡ (Some q, []))
+    ensures refused { (p : Shown S S.Refusal) → seat.old.me.0 ≡ Some p → IfErr result (λ refusal.
+        (q : Shown S S.Refusal) × (m : ℕ) × (p.met ≤ m) × (seat.new.me ≡ (Some q, []))
         × WasRefused S.Held (packet_of entry.now) refusal 1 (record p { met = m }) q) }
 {
     for _ in rt.forever() {

@@ -1,6 +1,6 @@
 use Rattle.std.proofs.Common.{refl}
 use Rattle.lert_conelock.proofs.Turning.{taker, fitting, trying, short_history, me_pass, lock_taken, lock_refused, reasoned, was_taken_as, was_refused_as}
-use Rattle.lert_conelock.proofs.Turned.{same_done, same_refused}
+use Rattle.lert_conelock.proofs.SameTurn.{same_done, same_refused}
 use Rattle.lert_conelock.proofs.turn.try_turn.Goals as goal
 
 pub apply-requires : goal.apply-requires
