@@ -1,5 +1,5 @@
 -- A state stays at home while the passes change.
-use Rattle.std.proofs.Common.{◌≡◌, Bool, List, ◌⊎◌, Option, Some, inl, inr, ⊎_elim}
+use Rattle.std.proofs.Common.{◌≡◌, List, ◌⊎◌, Some, inl, inr, ⊎_elim}
 use Rattle.std.specs.Prelude.{Contains}
 use Rattle.lert_base.specs.declared.held.Held.{Ghosts as HeldOf}
 use Rattle.lert_base.specs.Packet.{Packet}

@@ -1,5 +1,5 @@
 -- A pass without the lock sees more of the history, or counts a lost take, and the rule goes on.
-use Rattle.std.proofs.Common.{◌≡◌, ℕ, Bool, List, set, Option, Some, None, sym, refl, ◌∙◌, subst, inl, ⊎_elim}
+use Rattle.std.proofs.Common.{◌≡◌, ℕ, List, set, Option, Some, None, sym, refl, ◌∙◌, subst, inl, ⊎_elim}
 use Rattle.std.specs.Prelude.{IsTrue}
 use Rattle.std.proofs.lemmas.Option.{none-some}
 use Rattle.atomic_table.specs.Table.{State}

@@ -116,7 +116,7 @@ pub struct Agrees<S> {
 impl<S: Held> Play<Option<S>, View<S, S::Refusal>> for Agrees<S> {
     ghost then = { λ step before found after. (after ≡ before)
         × ((p : Shown S S.Refusal) → before.0 ≡ Some p → length p.lesser ≤ length p.seen →
-            IsPrefix p.lesser p.seen) };
+        IsPrefix p.lesser p.seen) };
 }
 
 /// Cuts a pass in two.

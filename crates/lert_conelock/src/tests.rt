@@ -2,5 +2,6 @@
 //! the calls answer at all.
 
 mod calls;
+mod composed;
 mod counter;
 mod threads;
