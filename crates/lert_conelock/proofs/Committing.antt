@@ -17,7 +17,8 @@ use Rattle.lert_conelock.proofs.Replaced.{Grows, has_here, stopped_back, refused
 -- a packet of another number is none of this number's own
 own_other : (history : List Packet) (e : Packet) (n : ℕ) → (e.by ≡ n → ⊥) → own (history ++ e ∷ []) n ≡ own history n
 own_other history e n ne = filter-append (λ (d : Packet). eqb d.by n) history (e ∷ [])
-    ∙ (ap (λ (l : List Packet). own history n ++ l) (cond-false (eqb e.by n) (e ∷ []) [] (ne_eqb e.by n ne)) ∙ append-nil (own history n))
+    ∙ (ap (λ (l : List Packet). own history n ++ l) (cond-false (eqb e.by n) (e ∷ []) [] (ne_eqb e.by n ne))
+    ∙ append-nil (own history n))
 
 own_more : (xs ys : List Packet) (e : Packet) (n : ℕ) → own xs n ≡ own ys n → own (xs ++ e ∷ []) n ≡ own (ys ++ e ∷ []) n
 own_more xs ys e n same = filter-append (λ (d : Packet). eqb d.by n) xs (e ∷ [])
@@ -37,7 +38,8 @@ module _ {H T R F : Type 0} (held : HeldOf H T R F) (first : H) (numbers : ℕ) 
 
     -- the packet's number belongs to no other pass
     other_number : (a : ℕ) (r : Shown H F) → a ≢ id → Has views a r → (n : ℕ) → r.lo ≤ n → n < r.hi → e.by ≡ n → ⊥
-    other_number a r ne at n lo hi same = let part = b.parts id p there in let named = part.tried e tries in let not_empty = part.not_empty in
+    other_number a r ne at n lo hi same = let part = b.parts id p there in let named = part.tried e tries in
+        let not_empty = part.not_empty in
         ⊎_elim (λ (far : r.hi ≤ p.lo). omega arith) (λ (far : p.hi ≤ r.lo). omega arith) (b.apart a id r p at there ne)
 
     pub passes_committed : Passes held first numbers longer (set views id (Some q))
@@ -55,7 +57,8 @@ module _ {H T R F : Type 0} (held : HeldOf H T R F) (first : H) (numbers : ℕ) 
           first_is = part.first_is;
           not_empty = part.not_empty;
           within = part.within;
-          seen = subst (λ (l : List Packet). IsPrefix (l ++ e ∷ []) longer) (sym (b.trying id p e there tries).0) (prefix_itself longer);
+          seen = subst (λ (l : List Packet). IsPrefix (l ++ e ∷ []) longer) (sym (b.trying id p e there tries).0)
+              (prefix_itself longer);
           lesser = prefix_trans part.lesser (prefix_append history (e ∷ []));
           calls = λ n lo hi. own_more p.calls history e n (part.calls n lo hi);
           tried = part.tried;
@@ -63,10 +66,15 @@ module _ {H T R F : Type 0} (held : HeldOf H T R F) (first : H) (numbers : ℕ) 
         (λ d g c. inl c)
         (λ d c. refused_on views id p q there grows d (b.known id p there d c))
         (λ d t a r g ne at t'. ne (b.alone a id r p g d at there t' t))
-        (λ d t. (ap (λ (l : List Packet). l ++ e ∷ []) (b.trying id p d there t).0, λ x. ⊎_elim (λ now. now) (λ was. (b.trying id p d there t).1 was) (stopped_back views id p q there x)))
+        (λ d t. (
+          ap (λ (l : List Packet). l ++ e ∷ []) (b.trying id p d there t).0,
+          λ x. ⊎_elim (λ now. now)
+              (λ was. (b.trying id p d there t).1 was) (stopped_back views id p q there x),
+        ))
         (λ a r d ne at t. absurd (ne (b.alone a id r p d e at there t tries)))
 
-  pub committing : (slots id : ℕ) (me : Mine H F) (p : Shown H F) (e : Packet) → me.0 ≡ Some p → p.tries ≡ Some e → length p.seen < 2 ^ 40
+  pub committing : (slots id : ℕ) (me : Mine H F) (p : Shown H F) (e : Packet) → me.0 ≡ Some p → p.tries ≡ Some e
+      → length p.seen < 2 ^ 40
       → Allows (Holds held first numbers) slots id me 1 (λ n. (n + 1) % 2 ^ 64)
       (λ found after. (p' : Shown H F) (e' : Packet) → me.0 ≡ Some p' → p'.tries ≡ Some e' → after ≡ (Some (committed e' p'), me.1))
   committing slots id me p e is tries short s holds _ at _ =
@@ -75,8 +83,10 @@ module _ {H T R F : Type 0} (held : HeldOf H T R F) (first : H) (numbers : ℕ) 
       let count : n ≡ length p.seen = w.count_word ∙ ap length (sym (b.trying id p e there tries).0) in
       let fits : n + 1 < 2 ^ 64 = omega arith in
       let next : (n + 1) % 2 ^ 64 ≡ n + 1 = mod-eq_of_lt fits in
-      let free_is : get_or (set s.words 1 ((n + 1) % 2 ^ 64)) 0 0 ≡ get_or s.words 0 0 = get_or-set_other s.words 1 0 ((n + 1) % 2 ^ 64) 0 (omega arith) in
-      let taken = λ (free : get_or (set s.words 1 ((n + 1) % 2 ^ 64)) 0 0 ≡ 0). w.none_tries (sym free_is ∙ free) id p e there tries in
+      let free_is : get_or (set s.words 1 ((n + 1) % 2 ^ 64)) 0 0 ≡ get_or s.words 0 0 = get_or-set_other s.words 1 0
+      ((n + 1) % 2 ^ 64) 0 (omega arith) in
+      let taken = λ (free : get_or (set s.words 1 ((n + 1) % 2 ^ 64)) 0 0 ≡ 0). w.none_tries
+      (sym free_is ∙ free) id p e there tries in
       let two = w.two_words in (
         Some q,
         keeps,
@@ -86,10 +96,12 @@ module _ {H T R F : Type 0} (held : HeldOf H T R F) (first : H) (numbers : ℕ) 
           record {
             two_words = length-set s.words 1 ((n + 1) % 2 ^ 64) ∙ w.two_words;
             lock_word = (let lock = w.lock_word in omega arith);
-            count_word = get_or-set_same s.words 1 ((n + 1) % 2 ^ 64) 0 (omega arith) ∙ (next ∙ (let c = w.count_word in omega (arith, length-append history (e ∷ []))));
+            count_word = get_or-set_same s.words 1 ((n + 1) % 2 ^ 64) 0 (omega arith)
+                ∙ (next ∙ (let c = w.count_word in omega (arith, length-append history (e ∷ []))));
             opened = w.opened;
             numbered = λ d c. ⊎_elim (λ was. w.numbered d was)
-                (λ (same : e ≡ d). let part = b.parts id p there in let named = part.tried e tries in let not_empty = part.not_empty in let inside = part.within in
+                (λ (same : e ≡ d). let part = b.parts id p there in let named = part.tried e tries in
+                let not_empty = part.not_empty in let inside = part.within in
                 subst (λ (x : Packet). x.by < numbers) same (omega arith))
                 (Contains-push_cases history e d c);
             passes = passes_committed history s.views b id p there e tries;

@@ -31,8 +31,13 @@ module _ {A : Type 0} where
 
     pub Contains-filter_back : (xs : List A) (a : A) → Contains (filter test xs) a → Contains xs a × (test a ≡ true)
     Contains-filter_back [] a c = absurd (no_item a c)
-    Contains-filter_back (x ∷ xs) a c = cond_both (test x) (x ∷ filter test xs) (filter test xs) (λ (l : List A). Contains l a → Contains (x ∷ xs) a × (test a ≡ true))
-        (λ passes c'. ⊎_elim (λ (same : x ≡ a). (subst (λ (y : A). Contains (x ∷ xs) y) same (item_here x xs), ap test (sym same) ∙ passes))
+    Contains-filter_back (x ∷ xs) a c = cond_both (test x) (x ∷ filter test xs) (filter test xs)
+        (λ (l : List A). Contains l a → Contains (x ∷ xs) a × (test a ≡ true))
+        (λ passes c'. ⊎_elim (λ (same : x ≡ a). (
+          subst (λ (y : A). Contains (x ∷ xs) y) same (item_here x xs),
+          ap test
+              (sym same) ∙ passes,
+        ))
         (λ was. let t = Contains-filter_back xs a was in (item_behind x xs a t.0, t.1)) (item_cases x (filter test xs) a c'))
         (λ _ c'. let t = Contains-filter_back xs a c' in (item_behind x xs a t.0, t.1))
         c
@@ -43,7 +48,8 @@ Contains-map {A} {B} f (x ∷ xs) a c = ⊎_elim
     (λ (same : x ≡ a). subst (λ (y : B). Contains (f x ∷ map f xs) y) (ap f same) (item_here (f x) (map f xs)))
     (λ was. item_behind (f x) (map f xs) (f a) (Contains-map f xs a was)) (item_cases x xs a c)
 
-pub Contains-map_back : {A B : Type 0} (f : A → B) (xs : List A) (b : B) → Contains (map f xs) b → (a : A) × Contains xs a × (f a ≡ b)
+pub Contains-map_back : {A B : Type 0} (f : A → B) (xs : List A) (b : B) → Contains (map f xs) b → (a : A)
+    × Contains xs a × (f a ≡ b)
 Contains-map_back f [] b c = absurd (no_item b c)
 Contains-map_back {A} {B} f (x ∷ xs) b c = ⊎_elim
     (λ (same : f x ≡ b). (x, item_here x xs, same))

@@ -50,8 +50,10 @@ module _ {H T R F : Type 0} (held : HeldOf H T R F) where
       parts = λ seat p there. subst (IsPart first numbers []) (only_one start seat p there).1 start_part;
       apart = λ a b p q there there' ne. absurd (ne ((only_one start a p there).0 ∙ sym (only_one start b q there').0));
       cover = λ n below. record { seat = 0; pass = start; there = refl; low = omega arith; high = below };
-      refusals = λ seat p there e f c. absurd (no_item (e, f) (subst (λ (x : Shown H F). Contains x.refused (e, f)) (sym (only_one start seat p there).1) c));
-      known = λ seat p there e c. absurd (no_item e (subst (λ (x : Shown H F). Contains x.known e) (sym (only_one start seat p there).1) c));
+      refusals = λ seat p there e f c. absurd (no_item (e, f)
+          (subst (λ (x : Shown H F). Contains x.refused (e, f)) (sym (only_one start seat p there).1) c));
+      known = λ seat p there e c. absurd (no_item e (subst (λ (x : Shown H F). Contains x.known e)
+          (sym (only_one start seat p there).1) c));
       alone = λ a b p q e f there there' _ _. (only_one start a p there).0 ∙ sym (only_one start b q there').0;
       trying = λ seat p e there t. absurd (never seat p e there t);
     }
@@ -60,13 +62,15 @@ module _ {H T R F : Type 0} (held : HeldOf H T R F) where
     start_home = record {
       terms_are = refl;
       stands = λ h opens. subst (held.stands_for first) (sym (append-nil h)) opens;
-      stopped_is = λ s. absurd (false≢true (subst (λ (x : Shown H F). x.stopped ≡ true) (sym (only_one start s.seat s.pass s.there).1) s.stopped));
+      stopped_is = λ s. absurd (false≢true (subst (λ (x : Shown H F). x.stopped ≡ true)
+          (sym (only_one start s.seat s.pass s.there).1) s.stopped));
       over_is = inr (inl refl);
       fresh_is = inl refl;
     }
 
     -- the rule holds when a lock is made
-    pub opens : (slots : List (Option H)) → slots ≡ Some first ∷ [] → Holds held first numbers (opening (0 ∷ 0 ∷ []) slots (Some start))
+    pub opens : (slots : List (Option H)) → slots ≡ Some first ∷ []
+        → Holds held first numbers (opening (0 ∷ 0 ∷ []) slots (Some start))
     opens slots is = (
       [],
       record {
@@ -86,27 +90,33 @@ module _ {H T R F : Type 0} (held : HeldOf H T R F) where
   own_contains : (history : List Packet) (e : Packet) → Contains history e → Contains (own history e.by) e
   own_contains history e c = Contains-filter (λ (d : Packet). eqb d.by e.by) history e c (eq-eqb e.by e.by refl)
 
-  module _ (lock : LockSight H) (s : State (Option H) (Option (Shown H F))) (history : List Packet) (w : HoldsWith held lock.first lock.numbers s history)
+  module _ (lock : LockSight H) (s : State (Option H) (Option (Shown H F))) (history : List Packet)
+      (w : HoldsWith held lock.first lock.numbers s history)
       (id : ℕ) (p : Shown H F) (there : Has s.views id p) (idle : p.tries ≡ None) (lo : p.lo ≡ 0) (hi : p.hi ≡ lock.numbers) where
     -- no other pass is left
     alone : (seat : ℕ) (q : Shown H F) → Has s.views seat q → p ≡ q
-    alone seat q e = let b = w.passes in let part = b.parts seat q e in let not_empty = part.not_empty in let inside = part.within in dite (ℕ_discrete seat id)
+    alone seat q e = let b = w.passes in let part = b.parts seat q e in let not_empty = part.not_empty in
+        let inside = part.within in dite (ℕ_discrete seat id)
         (λ same. there_again p q (sym there ∙ subst (λ (n : ℕ). Has s.views n q) same e))
-        (λ ne. ⊎_elim (λ (far : q.hi ≤ p.lo). absurd (omega arith)) (λ (far : p.hi ≤ q.lo). absurd (omega arith)) (b.apart seat id q p e there ne))
+        (λ ne. ⊎_elim (λ (far : q.hi ≤ p.lo). absurd (omega arith)) (λ (far : p.hi ≤ q.lo). absurd (omega arith))
+        (b.apart seat id q p e there ne))
 
     is_free : get_or s.words 0 0 ≡ 0
     is_free = dite (ℕ_discrete (get_or s.words 0 0) 0) (λ free. free)
         (λ locked. let bound = w.lock_word in let t = w.one_tries (omega arith) in
-        absurd (none-some t.packet (sym idle ∙ subst (λ (x : Shown H F). x.tries ≡ Some t.packet) (sym (alone t.seat t.pass t.there)) t.tries)))
+        absurd (none-some t.packet (sym idle ∙ subst (λ (x : Shown H F). x.tries ≡ Some t.packet)
+        (sym (alone t.seat t.pass t.there)) t.tries)))
 
     stopped_here : IsStopped s.views → IsTrue p.stopped
     stopped_here x = subst (λ (r : Shown H F). IsTrue r.stopped) (sym (alone x.seat x.pass x.there)) x.stopped
 
     refused_here : (e : Packet) → IsRefused s.views e → (f : F) × (e.by < lock.numbers) × Contains p.refused (e, f)
-    refused_here e r = let same = alone r.seat r.pass r.there in let inside = (w.passes.parts r.seat r.pass r.there).within in let below = r.high in
+    refused_here e r = let same = alone r.seat r.pass r.there in
+        let inside = (w.passes.parts r.seat r.pass r.there).within in let below = r.high in
         (r.refusal, omega arith, subst (λ (x : Shown H F). Contains x.refused (e, r.refusal)) (sym same) r.shown)
 
-    closed : (tid : TableId) (state : H) → IsHome held lock.first history s.views state → Closed held lock (sight tid (Some p)) state
+    closed : (tid : TableId) (state : H) → IsHome held lock.first history s.views state
+        → Closed held lock (sight tid (Some p)) state
     closed tid state h = let part = w.passes.parts id p there in record {
       history = history;
       calls = λ n below. sym (part.calls n (omega arith) (omega arith));
@@ -115,19 +125,23 @@ module _ {H T R F : Type 0} (held : HeldOf H T R F) where
       terms_are = h.terms_are;
       stands = h.stands;
       stopped_is = λ x. h.stopped_is (record { seat = id; pass = p; there = there; stopped = x });
-      over_is = ⊎_elim inl (λ (o : (held.over state ≡ held.over lock.first) ⊎ ((e : Packet) × (held.over state ≡ Some e) × IsRefused s.views e)). inr (⊎_elim inl
+      over_is = ⊎_elim inl (λ (o : (held.over state ≡ held.over lock.first)
+          ⊎ ((e : Packet) × (held.over state ≡ Some e) × IsRefused s.views e)). inr (⊎_elim inl
           (λ (t : (e : Packet) × (held.over state ≡ Some e) × IsRefused s.views e). let r = refused_here t.0 t.2 in inr (t.0, r.0, t.1, r.1, r.2)) o)) h.over_is;
       refusals = λ e f c. ⊎_elim (λ x. inl (h.stopped_is x)) inr (w.passes.refusals id p there e f c);
       untouched = λ no_calls no_refused. ⊎_elim (λ same. same)
           (λ (t : (e : Packet) × (Contains history e ⊎ IsRefused s.views e)). absurd (⊎_elim
           (λ (c : Contains history t.0). let below = w.numbered t.0 c in no_item t.0 (subst (λ (l : List Packet). Contains l t.0)
-          (sym (part.calls t.0.by (omega arith) (omega arith)) ∙ ap (λ (l : List Packet). own l t.0.by) no_calls) (own_contains history t.0 c)))
-          (λ (r : IsRefused s.views t.0). let got = refused_here t.0 r in no_item (t.0, got.0) (subst (λ (l : List (Packet × F)). Contains l (t.0, got.0)) no_refused got.2))
+          (sym (part.calls t.0.by (omega arith) (omega arith)) ∙ ap (λ (l : List Packet). own l t.0.by) no_calls)
+          (own_contains history t.0 c)))
+          (λ (r : IsRefused s.views t.0). let got = refused_here t.0 r in no_item (t.0, got.0)
+          (subst (λ (l : List (Packet × F)). Contains l (t.0, got.0)) no_refused got.2))
           t.1)) h.fresh_is;
     }
 
   -- where a pass of all numbers is idle, the state is home
-  pub closes : (lock : LockSight H) (id : ℕ) (p : Shown H F) (tid : TableId) (words : List ℕ) (slots : List (Option H)) → p.tries ≡ None → p.lo ≡ 0 → p.hi ≡ lock.numbers
+  pub closes : (lock : LockSight H) (id : ℕ) (p : Shown H F) (tid : TableId) (words : List ℕ)
+      (slots : List (Option H)) → p.tries ≡ None → p.lo ≡ 0 → p.hi ≡ lock.numbers
       → Final (Seen (Holds held lock.first lock.numbers) id (Some p)) words slots
       → (state : H) × (get_elem? slots 0 ≡ some (Some state)) × Closed held lock (sight tid (Some p)) state
   closes lock id p tid words slots idle lo hi f = let s = f.0 in let history = f.1.0.0 in let w = f.1.0.1 in let there = f.1.1 in

@@ -10,11 +10,9 @@ use Rattle.lert_base.specs.Packet.{Packet}
 use Rattle.lert_conelock.specs.Shown.{Shown, freed}
 use Rattle.lert_conelock.specs.Rule.{Views, Has, Passes, IsHome, Holds}
 use Rattle.lert_conelock.specs.Steps.{Mine, InHand, HasLock}
+use Rattle.lert_conelock.proofs.Contained.{no_item}
 use Rattle.lert_conelock.proofs.Prefixes.{prefix_itself}
 use Rattle.lert_conelock.proofs.Replaced.{Grows, has_after, stopped_back, refused_on, passes_after}
-
-no_item : {A : Type 0} (x : A) → Contains [] x → ⊥
-no_item x c = omega (arith, c.1)
 
 module _ {H T R F : Type 0} (held : HeldOf H T R F) (first : H) (numbers : ℕ) where
   module _ (history : List Packet) (views : Views H F) (b : Passes held first numbers history views)
@@ -28,7 +26,15 @@ module _ {H T R F : Type 0} (held : HeldOf H T R F) (first : H) (numbers : ℕ) 
     pub passes_freed : Passes held first numbers history (set views id (Some q))
     passes_freed = let part = b.parts id p there in passes_after views id p q there held first numbers history history b (prefix_itself history) grows
         (λ a r _ at. b.parts a r at)
-        (record { first_is = part.first_is; not_empty = part.not_empty; within = part.within; seen = part.seen; lesser = part.lesser; calls = part.calls; tried = λ d t. absurd (none-some d t) })
+        (record {
+          first_is = part.first_is;
+          not_empty = part.not_empty;
+          within = part.within;
+          seen = part.seen;
+          lesser = part.lesser;
+          calls = part.calls;
+          tried = λ d t. absurd (none-some d t);
+        })
         (λ d g c. inl c)
         (λ d c. absurd (no_item d c))
         (λ d t. absurd (none-some d t))
@@ -39,11 +45,15 @@ module _ {H T R F : Type 0} (held : HeldOf H T R F) (first : H) (numbers : ℕ) 
     home_freed state hand = let part = b.parts id p there in let seen = (b.trying id p e there tries).0 in record {
       terms_are = hand.terms_are ∙ ap held.terms part.first_is;
       stands = subst (λ (l : List Packet). (h : List Packet) → held.stands_for first h → held.stands_for state (h ++ l)) seen
-          (subst (λ (x : H). (h : List Packet) → held.stands_for x h → held.stands_for state (h ++ p.seen)) part.first_is hand.stands);
-      stopped_is = λ s. hand.stopped_is (⊎_elim (λ now. now) (λ was. (b.trying id p e there tries).1 was) (stopped_back views id p q there s));
-      over_is = ⊎_elim inl (λ (o : (held.over state ≡ held.over p.first) ⊎ ((d : Packet) × (held.over state ≡ Some d) × Contains p.known d)). inr (⊎_elim
+          (subst (λ (x : H). (h : List Packet) → held.stands_for x h
+          → held.stands_for state (h ++ p.seen)) part.first_is hand.stands);
+      stopped_is = λ s. hand.stopped_is (⊎_elim (λ now. now) (λ was. (b.trying id p e there tries).1 was)
+          (stopped_back views id p q there s));
+      over_is = ⊎_elim inl (λ (o : (held.over state ≡ held.over p.first)
+          ⊎ ((d : Packet) × (held.over state ≡ Some d) × Contains p.known d)). inr (⊎_elim
           (λ (same : held.over state ≡ held.over p.first). inl (same ∙ ap held.over part.first_is))
-          (λ (t : (d : Packet) × (held.over state ≡ Some d) × Contains p.known d). inr (t.0, t.1, refused_on views id p q there grows t.0 (b.known id p there t.0 t.2)))
+          (λ (t : (d : Packet) × (held.over state ≡ Some d) × Contains p.known d). inr
+          (t.0, t.1, refused_on views id p q there grows t.0 (b.known id p there t.0 t.2)))
           o)) hand.over_is;
       fresh_is = ⊎_elim (λ (same : state ≡ p.first). inl (same ∙ part.first_is))
           (λ (t : (d : Packet) × (Contains p.seen d ⊎ Contains p.known d)). inr (
@@ -58,7 +68,8 @@ module _ {H T R F : Type 0} (held : HeldOf H T R F) (first : H) (numbers : ℕ) 
   pub frees : (slots id : ℕ) (me : Mine H F) (state : H) (more : ℕ) → slots ≡ 1 → HasLock held state (Some state) me
       → Allows (Holds held first numbers) slots id me 0 (λ _. 0)
       (λ found after. (p' : Shown H F) → me.0 ≡ Some p' → after ≡ (Some (freed more p'), rest me.1))
-  frees slots id me state more slot lock = let p = lock.pass in let e = lock.packet in let tries = lock.tries in let hand = lock.hand in subst
+  frees slots id me state more slot lock = let p = lock.pass in let e = lock.packet in let tries = lock.tries in
+      let hand = lock.hand in subst
       (λ (m : Mine H F). Allows (Holds held first numbers) slots id m 0 (λ _. 0)
       (λ found after. (p' : Shown H F) → m.0 ≡ Some p' → after ≡ (Some (freed more p'), rest m.1))) (sym lock.me_is)
       (λ s holds one at _.
@@ -71,17 +82,24 @@ module _ {H T R F : Type 0} (held : HeldOf H T R F) (first : H) (numbers : ℕ) 
           history,
           record {
             two_words = length-set s.words 0 0 ∙ w.two_words;
-            lock_word = (let two = w.two_words in let z : get_or (set s.words 0 0) 0 0 ≡ 0 = get_or-set_same s.words 0 0 0 (omega arith) in omega arith);
+            lock_word = (let two = w.two_words in let z : get_or
+                (set s.words 0 0) 0 0 ≡ 0 = get_or-set_same s.words 0 0 0 (omega arith) in omega arith);
             count_word = get_or-set_other s.words 0 1 0 0 (omega arith) ∙ w.count_word;
             opened = w.opened;
             numbered = w.numbered;
             passes = passes_freed history s.views b id p there e tries more;
-            home = λ _. (state, set_here s.homes 0 (some (Some state)) (omega arith), home_freed history s.views b id p there e tries more state hand);
+            home = λ _. (
+              state,
+              set_here s.homes 0 (some (Some state))
+                  (omega arith),
+              home_freed history s.views b id p there e tries more state hand,
+            );
             none_tries = λ _ a r d at t. ⊎_elim
                 (λ (u : (a ≡ id) × (q ≡ r)). none-some d (subst (λ (x : Shown H F). x.tries ≡ Some d) (sym u.1) t))
                 (λ u. u.0 (b.alone a id r p d e u.1 there t tries))
                 (has_after s.views id p q there a r at);
-            one_tries = λ one. absurd (let two = w.two_words in let z : get_or (set s.words 0 0) 0 0 ≡ 0 = get_or-set_same s.words 0 0 0 (omega arith) in omega arith);
+            one_tries = λ one. absurd (let two = w.two_words in
+                let z : get_or (set s.words 0 0) 0 0 ≡ 0 = get_or-set_same s.words 0 0 0 (omega arith) in omega arith);
           },
         ),
         λ p' is'. let pp : p ≡ p' = same_Some p p' is' in λ i. (Some (freed more (pp i)), []),

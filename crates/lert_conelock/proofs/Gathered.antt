@@ -49,7 +49,15 @@ module _ {H F : Type 0} where
   all_refused (Some p ∷ views) = refused_of p ++ all_refused views
 
   later_refusal : (v : Option (Shown H F)) (views : Views H F) (e : Packet) → IsRefused views e → IsRefused (v ∷ views) e
-  later_refusal v views e r = record { seat = suc r.seat; pass = r.pass; there = r.there; low = r.low; high = r.high; refusal = r.refusal; shown = r.shown }
+  later_refusal v views e r = record {
+    seat = suc r.seat;
+    pass = r.pass;
+    there = r.there;
+    low = r.low;
+    high = r.high;
+    refusal = r.refusal;
+    shown = r.shown;
+  }
 
   here_refusal : (p : Shown H F) (views : Views H F) (e : Packet) → Contains (refused_of p) e → IsRefused (Some p ∷ views) e
   here_refusal p views e c =
@@ -57,24 +65,37 @@ module _ {H F : Type 0} where
       let kept = Contains-filter_back (is_own p) p.refused back.0 back.1 in
       let own = and_parts (leb p.lo back.0.0.by) (ltb back.0.0.by p.hi) kept.1 in
       subst (IsRefused (Some p ∷ views)) back.2
-      (record { seat = zero; pass = p; there = refl; low = leb-true p.lo back.0.0.by own.0; high = ltb-true back.0.0.by p.hi own.1; refusal = back.0.1; shown = kept.0 })
+      (record {
+        seat = zero;
+        pass = p;
+        there = refl;
+        low = leb-true p.lo back.0.0.by own.0;
+        high = ltb-true back.0.0.by p.hi own.1;
+        refusal = back.0.1;
+        shown = kept.0;
+      })
 
   pub refusal_shown : (views : Views H F) (e : Packet) → Contains (all_refused views) e → IsRefused views e
   refusal_shown [] e c = absurd (no_item e c)
   refusal_shown (None ∷ views) e c = later_refusal None views e (refusal_shown views e c)
-  refusal_shown (Some p ∷ views) e c = ⊎_elim (here_refusal p views e) (λ later. later_refusal (Some p) views e (refusal_shown views e later))
+  refusal_shown (Some p ∷ views) e c = ⊎_elim (here_refusal p views e)
+      (λ later. later_refusal (Some p) views e (refusal_shown views e later))
       (Contains-append_cases (refused_of p) (all_refused views) e c)
 
-  refusal_at : (views : Views H F) (e : Packet) (seat : ℕ) (p : Shown H F) (f : F) → Has views seat p → p.lo ≤ e.by → e.by < p.hi → Contains p.refused (e, f) → Contains (all_refused views) e
+  refusal_at : (views : Views H F) (e : Packet) (seat : ℕ) (p : Shown H F) (f : F) → Has views seat p → p.lo ≤ e.by
+      → e.by < p.hi → Contains p.refused (e, f) → Contains (all_refused views) e
   refusal_at [] e seat p f there lo hi c = absurd (some-ne-none (Some p) (sym there))
   refusal_at (None ∷ views) e zero p f there lo hi c = absurd (none-some p (some-injective None (Some p) there))
-  refusal_at (Some r ∷ views) e zero p f there lo hi c = let same : r ≡ p = same_Some r p (some-injective (Some r) (Some p) there) in
+  refusal_at (Some r ∷ views) e zero p f there lo hi c = let same : r ≡ p = same_Some r p
+      (some-injective (Some r) (Some p) there) in
       subst (λ (x : Shown H F). Contains (refused_of x ++ all_refused views) e) (sym same)
       (Contains-append_left (refused_of p) (all_refused views) e
       (Contains-map (λ (x : Packet × F). x.0) (filter (is_own p) p.refused) (e, f)
-      (Contains-filter (is_own p) p.refused (e, f) c (and_from (leb p.lo e.by) (ltb e.by p.hi) (le-leb p.lo e.by lo) (lt-ltb e.by p.hi hi)))))
+      (Contains-filter (is_own p) p.refused (e, f) c (and_from (leb p.lo e.by) (ltb e.by p.hi) (le-leb p.lo e.by lo)
+      (lt-ltb e.by p.hi hi)))))
   refusal_at (None ∷ views) e (suc seat) p f there lo hi c = refusal_at views e seat p f there lo hi c
-  refusal_at (Some r ∷ views) e (suc seat) p f there lo hi c = Contains-append_right (refused_of r) (all_refused views) e (refusal_at views e seat p f there lo hi c)
+  refusal_at (Some r ∷ views) e (suc seat) p f there lo hi c = Contains-append_right (refused_of r)
+      (all_refused views) e (refusal_at views e seat p f there lo hi c)
 
   pub refusal_counts : (views : Views H F) (e : Packet) → IsRefused views e → Contains (all_refused views) e
   refusal_counts views e r = refusal_at views e r.seat r.pass r.refusal r.there r.low r.high r.shown

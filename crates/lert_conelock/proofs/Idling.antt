@@ -14,7 +14,8 @@ use Rattle.lert_conelock.proofs.Replaced.{Grows, has_after, forward, stopped_bac
 
 module _ {H T R F : Type 0} (held : HeldOf H T R F) (first : H) (numbers : ℕ) where
   module _ (s : State (Option H) (Option (Shown H F))) (history : List Packet) (w : HoldsWith held first numbers s history)
-      (id : ℕ) (p : Shown H F) (there : Has s.views id p) (idle : p.tries ≡ None) (seen : List Packet) (met : ℕ) (known_part : IsPrefix seen history) where
+      (id : ℕ) (p : Shown H F) (there : Has s.views id p) (idle : p.tries ≡ None) (seen : List Packet) (met : ℕ)
+      (known_part : IsPrefix seen history) where
     abbrev q : Shown H F
     q = record p { seen = seen; met = met }
 
@@ -25,7 +26,8 @@ module _ {H T R F : Type 0} (held : HeldOf H T R F) (first : H) (numbers : ℕ) 
     grows = record { lo_is = refl; hi_is = refl; refused = λ d g c. c; stops = λ x. x }
 
     stop_was : IsStopped after → IsStopped s.views
-    stop_was x = ⊎_elim (λ (now : IsTrue p.stopped). record { seat = id; pass = p; there = there; stopped = now }) (λ was. was) (stopped_back s.views id p q there x)
+    stop_was x = ⊎_elim (λ (now : IsTrue p.stopped). record { seat = id; pass = p; there = there; stopped = now })
+        (λ was. was) (stopped_back s.views id p q there x)
 
     never : (d : Packet) → p.tries ≡ Some d → ⊥
     never d t = none-some d (sym idle ∙ t)
@@ -33,7 +35,15 @@ module _ {H T R F : Type 0} (held : HeldOf H T R F) (first : H) (numbers : ℕ) 
     passes_idle : Passes held first numbers history after
     passes_idle = let b = w.passes in let part = b.parts id p there in passes_after s.views id p q there held first numbers history history b (prefix_itself history) grows
         (λ a r _ at. b.parts a r at)
-        (record { first_is = part.first_is; not_empty = part.not_empty; within = part.within; seen = known_part; lesser = part.lesser; calls = part.calls; tried = part.tried })
+        (record {
+          first_is = part.first_is;
+          not_empty = part.not_empty;
+          within = part.within;
+          seen = known_part;
+          lesser = part.lesser;
+          calls = part.calls;
+          tried = part.tried;
+        })
         (λ d g c. inl c)
         (λ d c. refused_on s.views id p q there grows d (b.known id p there d c))
         (λ d t. absurd (never d t))
@@ -57,7 +67,8 @@ module _ {H T R F : Type 0} (held : HeldOf H T R F) (first : H) (numbers : ℕ) 
           (λ u. w.none_tries free a r d u.1 t)
           (has_after s.views id p q there a r at);
       one_tries = λ locked. let t = w.one_tries locked in ⊎_elim
-          (λ (u : (t.seat ≡ id) × (p ≡ t.pass)). absurd (never t.packet (subst (λ (x : Shown H F). x.tries ≡ Some t.packet) (sym u.1) t.tries)))
+          (λ (u : (t.seat ≡ id) × (p ≡ t.pass)). absurd (never t.packet
+          (subst (λ (x : Shown H F). x.tries ≡ Some t.packet) (sym u.1) t.tries)))
           (λ u. record { seat = t.seat; pass = t.pass; packet = t.packet; there = u.1; tries = t.tries })
           (forward s.views id p q there t.seat t.pass t.there);
     }

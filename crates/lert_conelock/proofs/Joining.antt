@@ -17,7 +17,8 @@ use Rattle.lert_conelock.proofs.Replaced.{at_within, there_again}
 use Rattle.lert_conelock.proofs.Homes.{home_after}
 use Rattle.lert_conelock.proofs.Cuts.{joined_below, joined_above, Contains-low, Contains-high, Contains-both_sides}
 
-module _ {H F : Type 0} (views : Views H F) (id : ℕ) (p : Shown H F) (mine : Has views id p) (other : ℕ) (q : Shown H F) (theirs : Has views other q) (ne : other ≡ id → ⊥) where
+module _ {H F : Type 0} (views : Views H F) (id : ℕ) (p : Shown H F) (mine : Has views id p) (other : ℕ)
+    (q : Shown H F) (theirs : Has views other q) (ne : other ≡ id → ⊥) where
   abbrev after : Views H F
   after = set (set views id (Some (joined p q))) other None
 
@@ -34,15 +35,18 @@ module _ {H F : Type 0} (views : Views H F) (id : ℕ) (p : Shown H F) (mine : H
   kind : (a : ℕ) (r : Shown H F) → Has after a r → Kind a r
   kind a r e = ⊎_elim
       (λ (t : (a ≡ other) × (None ≡ Some r)). absurd (none-some r t.1))
-      (λ t. ⊎_elim (λ (u : (a ≡ id) × (Some (joined p q) ≡ Some r)). one u.0 (same_Some (joined p q) r u.1)) (λ u. else_ u.0 t.0 u.1)
+      (λ t. ⊎_elim (λ (u : (a ≡ id) × (Some (joined p q) ≡ Some r)). one u.0 (same_Some (joined p q) r u.1))
+      (λ u. else_ u.0 t.0 u.1)
       (at_set views id a (Some (joined p q)) (Some r) t.1))
       (at_set (set views id (Some (joined p q))) other a None (Some r) e)
 
   at_one : Has after id (joined p q)
-  at_one = set_else (set views id (Some (joined p q))) other id None (λ same. ne (sym same)) ∙ set_here views id (Some (joined p q)) (at_within views id (Some p) mine)
+  at_one = set_else (set views id (Some (joined p q))) other id None (λ same. ne (sym same))
+      ∙ set_here views id (Some (joined p q)) (at_within views id (Some p) mine)
 
   at_else : (a : ℕ) (r : Shown H F) → (a ≡ id → ⊥) → (a ≡ other → ⊥) → Has views a r → Has after a r
-  at_else a r far far' e = set_else (set views id (Some (joined p q))) other a None far' ∙ (set_else views id a (Some (joined p q)) far ∙ e)
+  at_else a r far far' e = set_else (set views id (Some (joined p q))) other a None far'
+      ∙ (set_else views id a (Some (joined p q)) far ∙ e)
 
   was : (a : ℕ) (r : Shown H F) → Has views a r → Was a r
   was a r e = dite (ℕ_discrete a id)
@@ -52,8 +56,18 @@ module _ {H F : Type 0} (views : Views H F) (id : ℕ) (p : Shown H F) (mine : H
       (λ far'. kept (at_else a r far far' e)))
 
   stopped_into : (s : IsStopped views) → Was s.seat s.pass → IsStopped after
-  stopped_into s (low same is) = record { seat = id; pass = joined p q; there = at_one; stopped = or_left p.stopped q.stopped (subst (λ (r : Shown H F). IsTrue r.stopped) (sym is) s.stopped) }
-  stopped_into s (high same is) = record { seat = id; pass = joined p q; there = at_one; stopped = or_right p.stopped q.stopped (subst (λ (r : Shown H F). IsTrue r.stopped) (sym is) s.stopped) }
+  stopped_into s (low same is) = record {
+    seat = id;
+    pass = joined p q;
+    there = at_one;
+    stopped = or_left p.stopped q.stopped (subst (λ (r : Shown H F). IsTrue r.stopped) (sym is) s.stopped);
+  }
+  stopped_into s (high same is) = record {
+    seat = id;
+    pass = joined p q;
+    there = at_one;
+    stopped = or_right p.stopped q.stopped (subst (λ (r : Shown H F). IsTrue r.stopped) (sym is) s.stopped);
+  }
   stopped_into s (kept e) = record { seat = s.seat; pass = s.pass; there = e; stopped = s.stopped }
 
   stopped_on : IsStopped views → IsStopped after
@@ -70,11 +84,14 @@ module _ {H F : Type 0} (views : Views H F) (id : ℕ) (p : Shown H F) (mine : H
   stopped_back s = stopped_from s (kind s.seat s.pass s.there)
 
   module _ {T R : Type 0} (held : HeldOf H T R F) (first : H) (numbers : ℕ)
-      (history : List Packet) (b : Passes held first numbers history views) (idle : p.tries ≡ None) (idle' : q.tries ≡ None) (meets : q.lo ≡ p.hi) where
+      (history : List Packet) (b : Passes held first numbers history views) (idle : p.tries ≡ None)
+      (idle' : q.tries ≡ None) (meets : q.lo ≡ p.hi) where
     refused_into : (e : Packet) (r : IsRefused views e) → Was r.seat r.pass → IsRefused after e
     refused_into e r (low same is) =
-        let shown : Contains p.refused (e, r.refusal) = subst (λ (x : Shown H F). Contains x.refused (e, r.refusal)) (sym is) r.shown in
-        let lo : p.lo ≡ r.pass.lo = ap (λ (x : Shown H F). x.lo) is in let hi : p.hi ≡ r.pass.hi = ap (λ (x : Shown H F). x.hi) is in
+        let shown : Contains p.refused (e, r.refusal) = subst (λ (x : Shown H F). Contains x.refused (e, r.refusal))
+        (sym is) r.shown in
+        let lo : p.lo ≡ r.pass.lo = ap (λ (x : Shown H F). x.lo) is in
+        let hi : p.hi ≡ r.pass.hi = ap (λ (x : Shown H F). x.hi) is in
         let from = r.low in let to = r.high in let not_empty = (b.parts other q theirs).not_empty in
         record {
           seat = id;
@@ -86,8 +103,10 @@ module _ {H F : Type 0} (views : Views H F) (id : ℕ) (p : Shown H F) (mine : H
           shown = Contains-low (λ (x : Packet × F). x.0.by) q.lo p.refused q.refused (e, r.refusal) (omega arith) shown;
         }
     refused_into e r (high same is) =
-        let shown : Contains q.refused (e, r.refusal) = subst (λ (x : Shown H F). Contains x.refused (e, r.refusal)) (sym is) r.shown in
-        let lo : q.lo ≡ r.pass.lo = ap (λ (x : Shown H F). x.lo) is in let hi : q.hi ≡ r.pass.hi = ap (λ (x : Shown H F). x.hi) is in
+        let shown : Contains q.refused (e, r.refusal) = subst (λ (x : Shown H F). Contains x.refused (e, r.refusal))
+        (sym is) r.shown in
+        let lo : q.lo ≡ r.pass.lo = ap (λ (x : Shown H F). x.lo) is in
+        let hi : q.hi ≡ r.pass.hi = ap (λ (x : Shown H F). x.hi) is in
         let from = r.low in let to = r.high in let not_empty = (b.parts id p mine).not_empty in
         record {
           seat = id;
@@ -98,18 +117,28 @@ module _ {H F : Type 0} (views : Views H F) (id : ℕ) (p : Shown H F) (mine : H
           refusal = r.refusal;
           shown = Contains-high (λ (x : Packet × F). x.0.by) q.lo p.refused q.refused (e, r.refusal) (omega arith) shown;
         }
-    refused_into e r (kept there) = record { seat = r.seat; pass = r.pass; there = there; low = r.low; high = r.high; refusal = r.refusal; shown = r.shown }
+    refused_into e r (kept there) = record {
+      seat = r.seat;
+      pass = r.pass;
+      there = there;
+      low = r.low;
+      high = r.high;
+      refusal = r.refusal;
+      shown = r.shown;
+    }
 
     refused_on : (e : Packet) → IsRefused views e → IsRefused after e
     refused_on e r = refused_into e r (was r.seat r.pass r.there)
 
     cover_into : (n : ℕ) (c : IsCovered views n) → Was c.seat c.pass → IsCovered after n
     cover_into n c (low same is) =
-        let lo : p.lo ≡ c.pass.lo = ap (λ (x : Shown H F). x.lo) is in let hi : p.hi ≡ c.pass.hi = ap (λ (x : Shown H F). x.hi) is in
+        let lo : p.lo ≡ c.pass.lo = ap (λ (x : Shown H F). x.lo) is in
+        let hi : p.hi ≡ c.pass.hi = ap (λ (x : Shown H F). x.hi) is in
         let from = c.low in let to = c.high in let not_empty = (b.parts other q theirs).not_empty in
         record { seat = id; pass = joined p q; there = at_one; low = omega arith; high = omega arith }
     cover_into n c (high same is) =
-        let lo : q.lo ≡ c.pass.lo = ap (λ (x : Shown H F). x.lo) is in let hi : q.hi ≡ c.pass.hi = ap (λ (x : Shown H F). x.hi) is in
+        let lo : q.lo ≡ c.pass.lo = ap (λ (x : Shown H F). x.lo) is in
+        let hi : q.hi ≡ c.pass.hi = ap (λ (x : Shown H F). x.hi) is in
         let from = c.low in let to = c.high in let not_empty = (b.parts id p mine).not_empty in
         record { seat = id; pass = joined p q; there = at_one; low = omega arith; high = omega arith }
     cover_into n c (kept there) = record { seat = c.seat; pass = c.pass; there = there; low = c.low; high = c.high }
@@ -118,18 +147,21 @@ module _ {H F : Type 0} (views : Views H F) (id : ℕ) (p : Shown H F) (mine : H
     never d t = none-some d (sym idle ∙ t)
 
     one_part : IsPart first numbers history (joined p q)
-    one_part = let part = b.parts id p mine in let part' = b.parts other q theirs in let not_empty = part.not_empty in let not_empty' = part'.not_empty in record {
-      first_is = part.first_is;
-      not_empty = omega arith;
-      within = part'.within;
-      seen = cond_both (ltb (length p.seen) (length q.seen)) q.seen p.seen (λ (l : List Packet). IsPrefix l history) (λ _. part'.seen) (λ _. part.seen);
-      lesser = cond_both (ltb (length p.seen) (length q.seen)) p.seen q.seen (λ (l : List Packet). IsPrefix l history) (λ _. part.seen) (λ _. part'.seen);
-      calls = λ n lo hi. ⊎_elim
-          (λ (under : n < q.lo). joined_below (λ (e : Packet). e.by) q.lo p.calls q.calls n under ∙ part.calls n lo (omega arith))
-          (λ (above : q.lo ≤ n). joined_above (λ (e : Packet). e.by) q.lo p.calls q.calls n above ∙ part'.calls n above hi)
-          (cases_lt n q.lo);
-      tried = λ d t. absurd (never d t);
-    }
+    one_part = let part = b.parts id p mine in let part' = b.parts other q theirs in let not_empty = part.not_empty in
+        let not_empty' = part'.not_empty in record {
+          first_is = part.first_is;
+          not_empty = omega arith;
+          within = part'.within;
+          seen = cond_both (ltb (length p.seen) (length q.seen)) q.seen p.seen (λ (l : List Packet). IsPrefix l history)
+              (λ _. part'.seen) (λ _. part.seen);
+          lesser = cond_both (ltb (length p.seen) (length q.seen)) p.seen q.seen (λ (l : List Packet). IsPrefix l history)
+              (λ _. part.seen) (λ _. part'.seen);
+          calls = λ n lo hi. ⊎_elim
+              (λ (under : n < q.lo). joined_below (λ (e : Packet). e.by) q.lo p.calls q.calls n under ∙ part.calls n lo (omega arith))
+              (λ (above : q.lo ≤ n). joined_above (λ (e : Packet). e.by) q.lo p.calls q.calls n above ∙ part'.calls n above hi)
+              (cases_lt n q.lo);
+          tried = λ d t. absurd (never d t);
+        }
 
     part_of : (a : ℕ) (r : Shown H F) → Kind a r → IsPart first numbers history r
     part_of a r (one same is) = subst (IsPart first numbers history) is one_part
@@ -140,7 +172,8 @@ module _ {H F : Type 0} (views : Views H F) (id : ℕ) (p : Shown H F) (mine : H
 
     one_apart : (c : ℕ) (s : Shown H F) → (c ≡ id → ⊥) → (c ≡ other → ⊥) → Has views c s → Apart (joined p q) s
     one_apart c s far far' e = let not_empty = (b.parts c s e).not_empty in ⊎_elim
-        (λ (h : p.hi ≤ s.lo). ⊎_elim (λ (k : q.hi ≤ s.lo). inl k) (λ (k : s.hi ≤ q.lo). absurd (omega arith)) (b.apart other c q s theirs e (λ same. far' (sym same))))
+        (λ (h : p.hi ≤ s.lo). ⊎_elim (λ (k : q.hi ≤ s.lo). inl k) (λ (k : s.hi ≤ q.lo). absurd (omega arith))
+        (b.apart other c q s theirs e (λ same. far' (sym same))))
         (λ (h : s.hi ≤ p.lo). inr h)
         (b.apart id c p s mine e (λ same. far (sym same)))
 
@@ -150,15 +183,18 @@ module _ {H F : Type 0} (views : Views H F) (id : ℕ) (p : Shown H F) (mine : H
     apart_of : (a c : ℕ) (r s : Shown H F) → Kind a r → Kind c s → (a ≡ c → ⊥) → Apart r s
     apart_of a c r s (one same is) (one same' is') differ = absurd (differ (same ∙ sym same'))
     apart_of a c r s (one same is) (else_ far far' e) differ = subst (λ (x : Shown H F). Apart x s) is (one_apart c s far far' e)
-    apart_of a c r s (else_ far far' e) (one same' is') differ = subst (λ (x : Shown H F). Apart r x) is' (turned (joined p q) r (one_apart a r far far' e))
+    apart_of a c r s (else_ far far' e) (one same' is') differ = subst (λ (x : Shown H F). Apart r x) is'
+        (turned (joined p q) r (one_apart a r far far' e))
     apart_of a c r s (else_ far far' e) (else_ near near' e') differ = b.apart a c r s e e' differ
 
     caused_on : (e : Packet) (f : F) → IsCaused held first history views e f → IsCaused held first history after e f
     caused_on e f = ⊎_elim (λ s. inl (stopped_on s)) inr
 
-    refusals_of : (a : ℕ) (r : Shown H F) → Kind a r → (e : Packet) (f : F) → Contains r.refused (e, f) → IsCaused held first history views e f
+    refusals_of : (a : ℕ) (r : Shown H F) → Kind a r → (e : Packet) (f : F) → Contains r.refused (e, f)
+        → IsCaused held first history views e f
     refusals_of a r (one same is) e f c = ⊎_elim (λ l. b.refusals id p mine e f l) (λ h. b.refusals other q theirs e f h)
-        (Contains-both_sides (λ (x : Packet × F). x.0.by) q.lo p.refused q.refused (e, f) (subst (λ (x : Shown H F). Contains x.refused (e, f)) (sym is) c))
+        (Contains-both_sides (λ (x : Packet × F). x.0.by) q.lo p.refused q.refused (e, f)
+        (subst (λ (x : Shown H F). Contains x.refused (e, f)) (sym is) c))
     refusals_of a r (else_ far far' there) e f c = b.refusals a r there e f c
 
     known_of : (a : ℕ) (r : Shown H F) → Kind a r → (e : Packet) → Contains r.known e → IsRefused views e
@@ -176,13 +212,15 @@ module _ {H F : Type 0} (views : Views H F) (id : ℕ) (p : Shown H F) (mine : H
       cover = λ n under. (let c = b.cover n under in cover_into n c (was c.seat c.pass c.there));
       refusals = λ a r there e f c. caused_on e f (refusals_of a r (kind a r there) e f c);
       known = λ a r there e c. refused_on e (known_of a r (kind a r there) e c);
-      alone = λ a c r s e f there there' t t'. b.alone a c r s e f (trier a r e (kind a r there) t) (trier c s f (kind c s there') t') t t';
+      alone = λ a c r s e f there there' t t'. b.alone a c r s e f (trier a r e (kind a r there) t)
+          (trier c s f (kind c s there') t') t t';
       trying = λ a r e there t. let h = b.trying a r e (trier a r e (kind a r there) t) t in (h.0, λ x. h.1 (stopped_back x));
     }
 
     tried_into : (t : IsTried views) → Was t.seat t.pass → IsTried after
     tried_into t (low same is) = absurd (never t.packet (subst (λ (x : Shown H F). x.tries ≡ Some t.packet) (sym is) t.tries))
-    tried_into t (high same is) = absurd (none-some t.packet (sym idle' ∙ subst (λ (x : Shown H F). x.tries ≡ Some t.packet) (sym is) t.tries))
+    tried_into t (high same is) = absurd (none-some t.packet (sym idle'
+        ∙ subst (λ (x : Shown H F). x.tries ≡ Some t.packet) (sym is) t.tries))
     tried_into t (kept there) = record { seat = t.seat; pass = t.pass; packet = t.packet; there = there; tries = t.tries }
 
 module _ {H T R F : Type 0} (held : HeldOf H T R F) (first : H) (numbers : ℕ) where
@@ -201,18 +239,21 @@ module _ {H T R F : Type 0} (held : HeldOf H T R F) (first : H) (numbers : ℕ) 
           home = λ free. let t = w.home free in (
             t.0,
             t.1,
-            home_after held first history s.views (after s.views id p mine other q theirs ne) (stopped_back s.views id p mine other q theirs ne)
+            home_after held first history s.views (after s.views id p mine other q theirs ne)
+                (stopped_back s.views id p mine other q theirs ne)
                 (refused_on s.views id p mine other q theirs ne held first numbers history w.passes idle idle' meets) t.0 t.2,
           );
           none_tries = λ free a r d at t. w.none_tries free a r d
-              (trier s.views id p mine other q theirs ne held first numbers history w.passes idle idle' meets a r d (kind s.views id p mine other q theirs ne a r at) t) t;
+              (trier s.views id p mine other q theirs ne held first numbers history w.passes idle idle' meets a r d
+              (kind s.views id p mine other q theirs ne a r at) t) t;
           one_tries = λ locked. let t = w.one_tries locked in tried_into s.views id p mine other q theirs ne held first numbers history w.passes idle idle' meets t
               (was s.views id p mine other q theirs ne t.seat t.pass t.there);
         },
       )
 
   -- the same for two seats that have a live pass without the lock
-  pub join_at : (id : ℕ) (me : Mine H F) (other : ℕ) (them : Mine H F) → IsIdle me → IsIdle them → ((p q : Shown H F) → me.0 ≡ Some p → them.0 ≡ Some q → q.lo ≡ p.hi)
+  pub join_at : (id : ℕ) (me : Mine H F) (other : ℕ) (them : Mine H F) → IsIdle me → IsIdle them
+      → ((p q : Shown H F) → me.0 ≡ Some p → them.0 ≡ Some q → q.lo ≡ p.hi)
       → Joins (Holds held first numbers) id me.0 other them.0 (both_of me.0 them.0) None
   join_at id me other them idle idle' meets = let p = idle.pass in let q = idle'.pass in
       let is : me.0 ≡ Some p = λ i. (idle.me_is i).0 in let is' : them.0 ≡ Some q = λ i. (idle'.me_is i).0 in

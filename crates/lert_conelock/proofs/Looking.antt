@@ -18,19 +18,30 @@ module _ {H T R F : Type 0} (held : HeldOf H T R F) (first : H) (numbers : ℕ) 
       → Allows (Holds held first numbers) slots id me 1 (λ n. n)
       (λ found after. (p' : Shown H F) → me.0 ≡ Some p' → (q : Shown H F) × (after ≡ (Some q, me.1)) × Looked found p' q)
   looking slots id me p is idle s holds _ at _ =
-      let there : Has s.views id p = at ∙ ap some is in let history = holds.0 in let w = holds.1 in let q : Shown H F = record p { seen = history } in (
+      let there : Has s.views id p = at ∙ ap some is in let history = holds.0 in let w = holds.1 in
+      let q : Shown H F = record p { seen = history } in (
         Some q,
         keeps,
         tt,
         (
           history,
-          subst (λ (ws : List ℕ). HoldsWith held first numbers (record { words = ws; homes = s.homes; views = set s.views id (Some q) }) history)
+          subst (λ (ws : List ℕ). HoldsWith held first numbers
+              (record { words = ws; homes = s.homes; views = set s.views id (Some q) }) history)
               (sym (set_found s.words 1 0))
               (idles held first numbers s history w id p there idle history p.met (prefix_itself history)),
         ),
         λ p' is'. let same : p ≡ p' = same_Some p p' (sym is ∙ is') in
-            subst (λ (x : Shown H F). (r : Shown H F) × ◌≡◌ {A = Mine H F} (Some q, me.1) (Some r, me.1) × Looked (get_or s.words 1 0) x r) same
-            (q, refl, record { shows = refl; more = (w.passes.parts id p there).seen; count = w.count_word; calls = λ n lo hi. sym ((w.passes.parts id p there).calls n lo hi) }),
+            subst (λ (x : Shown H F). (r : Shown H F) × ◌≡◌ {A = Mine H F} (Some q, me.1) (Some r, me.1)
+            × Looked (get_or s.words 1 0) x r) same (
+              q,
+              refl,
+              record {
+                shows = refl;
+                more = (w.passes.parts id p there).seen;
+                count = w.count_word;
+                calls = λ n lo hi. sym ((w.passes.parts id p there).calls n lo hi);
+              },
+            ),
       )
 
   pub agreeing : (slots id : ℕ) (me : Mine H F)
@@ -42,8 +53,17 @@ module _ {H T R F : Type 0} (held : HeldOf H T R F) (first : H) (numbers : ℕ) 
     tt,
     (
       history,
-      subst (λ (ws : List ℕ). HoldsWith held first numbers (record { words = ws; homes = s.homes; views = set s.views id me.0 }) history) (sym (set_found s.words 1 0))
-          (subst (λ (vs : List (Option (Shown H F))). HoldsWith held first numbers (record { words = s.words; homes = s.homes; views = vs }) history) (sym (set_again s.views id me.0 at)) w),
+      subst (λ (ws : List ℕ). HoldsWith held first numbers (record {
+        words = ws;
+        homes = s.homes;
+        views = set s.views id me.0;
+      }) history) (sym (set_found s.words 1 0))
+          (subst (λ (vs : List (Option (Shown H F))). HoldsWith held first numbers
+          (record { words = s.words; homes = s.homes; views = vs }) history) (sym (set_again s.views id me.0 at)) w),
     ),
-    (refl, λ p is no_longer. let part = w.passes.parts id p (at ∙ ap some is) in comparable p.lesser p.seen history part.lesser part.seen no_longer),
+    (
+      refl,
+      λ p is no_longer. let part = w.passes.parts id p (at
+          ∙ ap some is) in comparable p.lesser p.seen history part.lesser part.seen no_longer,
+    ),
   )

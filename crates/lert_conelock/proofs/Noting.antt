@@ -17,46 +17,82 @@ use Rattle.lert_conelock.proofs.Words.{set_found}
 
 module _ {H T R F : Type 0} (held : HeldOf H T R F) (first : H) (numbers : ℕ) where
   module _ (history : List Packet) (views : Views H F) (b : Passes held first numbers history views)
-      (id : ℕ) (p : Shown H F) (there : Has views id p) (e : Packet) (f : F) (stop : Bool) (tries : p.tries ≡ Some e) (reason : IsReason held stop p e f) where
+      (id : ℕ) (p : Shown H F) (there : Has views id p) (e : Packet) (f : F) (stop : Bool) (tries : p.tries ≡ Some e)
+      (reason : IsReason held stop p e f) where
     abbrev q : Shown H F
     q = noted e f stop p
 
     grows : Grows p q
-    grows = record { lo_is = refl; hi_is = refl; refused = λ d g c. Contains-append_left p.refused ((e, f) ∷ []) (d, g) c; stops = or_left p.stopped stop }
+    grows = record {
+      lo_is = refl;
+      hi_is = refl;
+      refused = λ d g c. Contains-append_left p.refused ((e, f) ∷ [])
+          (d, g) c;
+      stops = or_left p.stopped stop;
+    }
 
     caused : IsCaused held first history (set views id (Some q)) e f
     caused = let part = b.parts id p there in ⊎_elim
-        (λ (halted : IsTrue stop). inl (record { seat = id; pass = q; there = has_here views id p q there; stopped = or_right p.stopped stop halted }))
+        (λ (halted : IsTrue stop). inl (record {
+          seat = id;
+          pass = q;
+          there = has_here views id p q there;
+          stopped = or_right p.stopped stop halted;
+        }))
         (λ (by_rule : (h : List Packet) → held.stands_for p.first h → held.refuses (held.terms p.first) (h ++ p.seen) e f). inr (
           p.seen,
           part.seen,
-          subst (λ (x : H). (h : List Packet) → held.stands_for x h → held.refuses (held.terms x) (h ++ p.seen) e f) part.first_is by_rule,
+          subst (λ (x : H). (h : List Packet) → held.stands_for x h
+              → held.refuses (held.terms x) (h ++ p.seen) e f) part.first_is by_rule,
         ))
         reason
 
     refused_now : IsRefused (set views id (Some q)) e
     refused_now = let part = b.parts id p there in let at = part.tried e tries in let ne = part.not_empty in
-        record { seat = id; pass = q; there = has_here views id p q there; low = omega arith; high = omega arith; refusal = f; shown = Contains-push p.refused (e, f) }
+        record {
+          seat = id;
+          pass = q;
+          there = has_here views id p q there;
+          low = omega arith;
+          high = omega arith;
+          refusal = f;
+          shown = Contains-push p.refused (e, f);
+        }
 
     pub passes_noted : Passes held first numbers history (set views id (Some q))
     passes_noted = let part = b.parts id p there in passes_after views id p q there held first numbers history history b (prefix_itself history) grows
         (λ a r _ at. b.parts a r at)
-        (record { first_is = part.first_is; not_empty = part.not_empty; within = part.within; seen = part.seen; lesser = part.lesser; calls = part.calls; tried = part.tried })
+        (record {
+          first_is = part.first_is;
+          not_empty = part.not_empty;
+          within = part.within;
+          seen = part.seen;
+          lesser = part.lesser;
+          calls = part.calls;
+          tried = part.tried;
+        })
         (λ d g c. ⊎_elim inl
-        (λ (same : ◌≡◌ {A = Packet × F} (e, f) (d, g)). inr (subst (λ (x : Packet × F). IsCaused held first history (set views id (Some q)) x.0 x.1) same caused))
+        (λ (same : ◌≡◌ {A = Packet × F} (e, f) (d, g)). inr (subst
+        (λ (x : Packet × F). IsCaused held first history (set views id (Some q)) x.0 x.1) same caused))
         (Contains-push_cases p.refused (e, f) (d, g) c))
         (λ d c. ⊎_elim
         (λ was. refused_on views id p q there grows d (b.known id p there d was))
         (λ (same : e ≡ d). subst (IsRefused (set views id (Some q))) same refused_now)
         (Contains-push_cases p.known e d c))
         (λ d t a r g ne at t'. ne (b.alone a id r p g d at there t' t))
-        (λ d t. ((b.trying id p d there t).0, λ s. ⊎_elim (λ now. now) (λ was. or_left p.stopped stop ((b.trying id p d there t).1 was)) (stopped_back views id p q there s)))
+        (λ d t. (
+          (b.trying id p d there t).0,
+          λ s. ⊎_elim (λ now. now)
+              (λ was. or_left p.stopped stop ((b.trying id p d there t).1 was)) (stopped_back views id p q there s),
+        ))
         (λ a r d ne at t. absurd (ne (b.alone a id r p d e at there t tries)))
 
-  pub notes : (slots id : ℕ) (me : Mine H F) (p : Shown H F) (e : Packet) (f : F) (stop : Bool) (told : Option F) → me.0 ≡ Some p → p.tries ≡ Some e → told ≡ Some f
+  pub notes : (slots id : ℕ) (me : Mine H F) (p : Shown H F) (e : Packet) (f : F) (stop : Bool) (told : Option F)
+      → me.0 ≡ Some p → p.tries ≡ Some e → told ≡ Some f
       → IsReason held stop p e f
       → Allows (Holds held first numbers) slots id me 1 (λ n. n)
-      (λ found after. (p' : Shown H F) (e' : Packet) (f' : F) → me.0 ≡ Some p' → p'.tries ≡ Some e' → told ≡ Some f' → after ≡ (Some (noted e' f' stop p'), me.1))
+      (λ found after. (p' : Shown H F) (e' : Packet) (f' : F) → me.0 ≡ Some p' → p'.tries ≡ Some e' → told ≡ Some f'
+      → after ≡ (Some (noted e' f' stop p'), me.1))
   notes slots id me p e f stop told is tries telling reason s holds _ at _ =
       let there : Has s.views id p = at ∙ ap some is in let history = holds.0 in let w = holds.1 in
       let q : Shown H F = noted e f stop p in
@@ -66,7 +102,8 @@ module _ {H T R F : Type 0} (held : HeldOf H T R F) (first : H) (numbers : ℕ) 
         tt,
         (
           history,
-          subst (λ (ws : List ℕ). HoldsWith held first numbers (record { words = ws; homes = s.homes; views = set s.views id (Some q) }) history)
+          subst (λ (ws : List ℕ). HoldsWith held first numbers
+              (record { words = ws; homes = s.homes; views = set s.views id (Some q) }) history)
               (sym (set_found s.words 1 0))
               (record {
                 two_words = w.two_words;

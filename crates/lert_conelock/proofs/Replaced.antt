@@ -34,7 +34,8 @@ module _ {H F : Type 0} (views : Views H F) (id : ℕ) (p q : Shown H F) (mine :
   has_here = set_here views id (Some q) (at_within views id (Some p) mine)
 
   pub has_after : (a : ℕ) (r : Shown H F) → Has (set views id (Some q)) a r → ((a ≡ id) × (q ≡ r)) ⊎ ((a ≢ id) × Has views a r)
-  has_after a r e = ⊎_elim (λ (t : (a ≡ id) × (Some q ≡ Some r)). inl (t.0, same_Some q r t.1)) (λ t. inr t) (at_set views id a (Some q) (Some r) e)
+  has_after a r e = ⊎_elim (λ (t : (a ≡ id) × (Some q ≡ Some r)). inl (t.0, same_Some q r t.1)) (λ t. inr t)
+      (at_set views id a (Some q) (Some r) e)
 
   pub has_else : (a : ℕ) (r : Shown H F) → a ≢ id → Has views a r → Has (set views id (Some q)) a r
   has_else a r ne e = set_else views id a (Some q) ne ∙ e
@@ -46,7 +47,12 @@ module _ {H F : Type 0} (views : Views H F) (id : ℕ) (p q : Shown H F) (mine :
 
   pub stopped_on : Grows p q → IsStopped views → IsStopped (set views id (Some q))
   stopped_on g s = ⊎_elim
-      (λ (t : (s.seat ≡ id) × (p ≡ s.pass)). record { seat = id; pass = q; there = has_here; stopped = g.stops (subst (λ (r : Shown H F). IsTrue r.stopped) (sym t.1) s.stopped) })
+      (λ (t : (s.seat ≡ id) × (p ≡ s.pass)). record {
+        seat = id;
+        pass = q;
+        there = has_here;
+        stopped = g.stops (subst (λ (r : Shown H F). IsTrue r.stopped) (sym t.1) s.stopped);
+      })
       (λ t. record { seat = s.seat; pass = s.pass; there = t.1; stopped = s.stopped })
       (forward s.seat s.pass s.there)
 
@@ -83,18 +89,21 @@ module _ {H F : Type 0} (views : Views H F) (id : ℕ) (p q : Shown H F) (mine :
       (forward c.seat c.pass c.there)
 
   module _ {T R : Type 0} (held : HeldOf H T R F) (first : H) (numbers : ℕ) (old new : List Packet) where
-    caused_on : Grows p q → IsPrefix old new → (e : Packet) (f : F) → IsCaused held first old views e f → IsCaused held first new (set views id (Some q)) e f
+    caused_on : Grows p q → IsPrefix old new → (e : Packet) (f : F) → IsCaused held first old views e f
+        → IsCaused held first new (set views id (Some q)) e f
     caused_on g longer e f = ⊎_elim (λ s. inl (stopped_on g s)) (λ c. inr (c.0, prefix_trans c.1 longer, c.2))
 
     -- the rule of all passes, where one of them shows something new
     pub passes_after : Passes held first numbers old views → IsPrefix old new → Grows p q
         → ((a : ℕ) (r : Shown H F) → a ≢ id → Has views a r → IsPart first numbers new r)
         → IsPart first numbers new q
-        → ((e : Packet) (f : F) → Contains q.refused (e, f) → Contains p.refused (e, f) ⊎ IsCaused held first new (set views id (Some q)) e f)
+        → ((e : Packet) (f : F) → Contains q.refused (e, f) → Contains p.refused (e, f)
+        ⊎ IsCaused held first new (set views id (Some q)) e f)
         → ((e : Packet) → Contains q.known e → IsRefused (set views id (Some q)) e)
         → ((e : Packet) → q.tries ≡ Some e → (a : ℕ) (r : Shown H F) (f : Packet) → a ≢ id → Has views a r → r.tries ≡ Some f → ⊥)
         → ((e : Packet) → q.tries ≡ Some e → (q.seen ≡ new) × (IsStopped (set views id (Some q)) → IsTrue q.stopped))
-        → ((a : ℕ) (r : Shown H F) (e : Packet) → a ≢ id → Has views a r → r.tries ≡ Some e → (r.seen ≡ new) × (IsStopped (set views id (Some q)) → IsTrue r.stopped))
+        → ((a : ℕ) (r : Shown H F) (e : Packet) → a ≢ id → Has views a r → r.tries ≡ Some e → (r.seen ≡ new)
+        × (IsStopped (set views id (Some q)) → IsTrue r.stopped))
         → Passes held first numbers new (set views id (Some q))
     passes_after b longer g others mine' refusals known alone trying others_trying = record {
       parts = λ a r there. ⊎_elim
@@ -118,11 +127,13 @@ module _ {H F : Type 0} (views : Views H F) (id : ℕ) (p q : Shown H F) (mine :
           (has_after a r there);
       cover = λ n below. cover_on g n (b.cover n below);
       refusals = λ a r there e f. ⊎_elim
-          (λ (t : (a ≡ id) × (q ≡ r)). subst (λ (x : Shown H F). Contains x.refused (e, f) → IsCaused held first new (set views id (Some q)) e f) t.1
+          (λ (t : (a ≡ id) × (q ≡ r)). subst (λ (x : Shown H F). Contains x.refused (e, f)
+          → IsCaused held first new (set views id (Some q)) e f) t.1
           (λ c. ⊎_elim (λ was. caused_on g longer e f (b.refusals id p mine e f was)) (λ now. now) (refusals e f c)))
           (λ t c. caused_on g longer e f (b.refusals a r t.1 e f c)) (has_after a r there);
       known = λ a r there e. ⊎_elim
-          (λ (t : (a ≡ id) × (q ≡ r)). subst (λ (x : Shown H F). Contains x.known e → IsRefused (set views id (Some q)) e) t.1 (known e))
+          (λ (t : (a ≡ id) × (q ≡ r)). subst (λ (x : Shown H F). Contains x.known e
+          → IsRefused (set views id (Some q)) e) t.1 (known e))
           (λ t c. refused_on g e (b.known a r t.1 e c)) (has_after a r there);
       alone = λ a c r s e f there there' tries tries'. ⊎_elim
           (λ (t : (a ≡ id) × (q ≡ r)). ⊎_elim
@@ -130,11 +141,13 @@ module _ {H F : Type 0} (views : Views H F) (id : ℕ) (p q : Shown H F) (mine :
           (λ u. absurd (alone e (subst (λ (x : Shown H F). x.tries ≡ Some e) (sym t.1) tries) c s f u.0 u.1 tries'))
           (has_after c s there'))
           (λ t. ⊎_elim
-          (λ (u : (c ≡ id) × (q ≡ s)). absurd (alone f (subst (λ (x : Shown H F). x.tries ≡ Some f) (sym u.1) tries') a r e t.0 t.1 tries))
+          (λ (u : (c ≡ id) × (q ≡ s)). absurd (alone f (subst (λ (x : Shown H F). x.tries ≡ Some f)
+          (sym u.1) tries') a r e t.0 t.1 tries))
           (λ u. b.alone a c r s e f t.1 u.1 tries tries')
           (has_after c s there'))
           (has_after a r there);
       trying = λ a r e there. ⊎_elim
-          (λ (t : (a ≡ id) × (q ≡ r)). subst (λ (x : Shown H F). x.tries ≡ Some e → (x.seen ≡ new) × (IsStopped (set views id (Some q)) → IsTrue x.stopped)) t.1 (trying e))
+          (λ (t : (a ≡ id) × (q ≡ r)). subst (λ (x : Shown H F). x.tries ≡ Some e → (x.seen ≡ new)
+          × (IsStopped (set views id (Some q)) → IsTrue x.stopped)) t.1 (trying e))
           (λ t tries. others_trying a r e t.0 t.1 tries) (has_after a r there);
     }

@@ -54,7 +54,8 @@ module _ {H F : Type 0} where
     first_of lock belongs p is = same_Some p.first lock.first (ap (λ (x : Sight H F). x.first) (view_of p is) ∙ belongs.first_is)
 
   -- what callers see of a pass before and after a call
-  seen_both : (P : Sight H F → Sight H F → Type 0) (tid tid' : TableId) (me' : Mine H F) (old : Sight H F) (p q : Shown H F) → sight tid (Some p) ≡ old → tid' ≡ tid → me' ≡ (Some q, [])
+  seen_both : (P : Sight H F → Sight H F → Type 0) (tid tid' : TableId) (me' : Mine H F) (old : Sight H F)
+      (p q : Shown H F) → sight tid (Some p) ≡ old → tid' ≡ tid → me' ≡ (Some q, [])
       → P (sight tid (Some p)) (sight tid (Some q)) → P old (sight tid' me'.0)
   seen_both P tid tid' me' old p q view same is fact =
       let new : sight tid (Some q) ≡ sight tid' me'.0 = λ i. sight (sym same i) (sym is i).0 in
@@ -68,12 +69,14 @@ module _ {H F : Type 0} where
     pub keeps : Keeps (sight tid (Some p)) (sight tid (Some pass))
     pub met : pass.met ≡ p.met + n
 
-  module _ (tid tid' : TableId) (me me' : Mine H F) (old : Sight H F) (view : sight tid me.0 ≡ old) (same : tid' ≡ tid) (p : Shown H F) (is : me.0 ≡ Some p) (n : ℕ) (t : Turned tid p me' n) where
+  module _ (tid tid' : TableId) (me me' : Mine H F) (old : Sight H F) (view : sight tid me.0 ≡ old)
+      (same : tid' ≡ tid) (p : Shown H F) (is : me.0 ≡ Some p) (n : ℕ) (t : Turned tid p me' n) where
     pub turned_keeps : Keeps old (sight tid' me'.0)
     turned_keeps = seen_both Keeps tid tid' me' old p t.pass (view_of tid me old view p is) same t.me_is t.keeps
 
     pub turned_met : (sight tid' me'.0).met ≡ old.met + n
-    turned_met = seen_both (λ (x y : Sight H F). y.met ≡ x.met + n) tid tid' me' old p t.pass (view_of tid me old view p is) same t.me_is t.met
+    turned_met = seen_both (λ (x y : Sight H F). y.met ≡ x.met + n) tid tid' me' old p t.pass
+        (view_of tid me old view p is) same t.me_is t.met
 
     pub turned_inside : (lo : ℕ) → (sight tid me.0).lo ≡ lo → (is_idle me'.0 ≡ true) × (me'.1 ≡ []) × ((sight tid' me'.0).lo ≡ lo)
     turned_inside lo was = (
@@ -83,17 +86,20 @@ module _ {H F : Type 0} where
     )
 
   module _ {T R : Type 0} (held : HeldOf H T R F) (e : Packet) (more : ℕ) where
-    keeps_taken : (tid : TableId) (reply : R) (p q : Shown H F) (m : ℕ) → WasTaken held e reply more (record p { met = m }) q → Keeps (sight tid (Some p)) (sight tid (Some q))
+    keeps_taken : (tid : TableId) (reply : R) (p q : Shown H F) (m : ℕ)
+        → WasTaken held e reply more (record p { met = m }) q → Keeps (sight tid (Some p)) (sight tid (Some q))
     keeps_taken tid reply p q m w = record {
       lock_is = refl;
       first_is = ap (λ (x : Shown H F). Some x.first) w.shows;
       lo_is = ap (λ (x : Shown H F). x.lo) w.shows;
       hi_is = ap (λ (x : Shown H F). x.hi) w.shows;
-      begins = prefix_trans w.begins (subst (IsPrefix w.past) (ap (λ (x : Shown H F). x.seen) (sym w.shows)) (prefix_append w.past (e ∷ [])));
+      begins = prefix_trans w.begins (subst (IsPrefix w.past) (ap (λ (x : Shown H F). x.seen) (sym w.shows))
+          (prefix_append w.past (e ∷ [])));
       stops = λ s. subst IsTrue (ap (λ (x : Shown H F). x.stopped) (sym w.shows)) (w.stops s);
     }
 
-    keeps_refused : (tid : TableId) (f : F) (p q : Shown H F) (m : ℕ) → WasRefused held e f more (record p { met = m }) q → Keeps (sight tid (Some p)) (sight tid (Some q))
+    keeps_refused : (tid : TableId) (f : F) (p q : Shown H F) (m : ℕ)
+        → WasRefused held e f more (record p { met = m }) q → Keeps (sight tid (Some p)) (sight tid (Some q))
     keeps_refused tid f p q m w = record {
       lock_is = refl;
       first_is = ap (λ (x : Shown H F). Some x.first) w.shows;
@@ -103,35 +109,66 @@ module _ {H F : Type 0} where
       stops = λ s. subst IsTrue (ap (λ (x : Shown H F). x.stopped) (sym w.shows)) (w.stops s);
     }
 
-    acted_of : (tid : TableId) (first : H) (reply : R) (p q : Shown H F) (m : ℕ) → p.met ≤ m → p.first ≡ first → WasTaken held e reply more (record p { met = m }) q
+    acted_of : (tid : TableId) (first : H) (reply : R) (p q : Shown H F) (m : ℕ) → p.met ≤ m → p.first ≡ first
+        → WasTaken held e reply more (record p { met = m }) q
         → Acted held first e reply more (sight tid (Some p)) (sight tid (Some q))
     acted_of tid first reply p q m least same w = record {
       past = w.past;
       begins = w.begins;
-      answer = subst (λ (x : H). (h : List Packet) → held.stands_for x h → held.answers (held.terms x) (h ++ w.past) e reply) same w.answer;
+      answer = subst (λ (x : H). (h : List Packet) → held.stands_for x h
+          → held.answers (held.terms x) (h ++ w.past) e reply) same w.answer;
       met = (let now : q.met ≡ m = ap (λ (x : Shown H F). x.met) w.shows in omega arith);
-      shows = λ i. record { lock = tid; first = Some (w.shows i).first; lo = (w.shows i).lo; hi = (w.shows i).hi; calls = (w.shows i).calls; refused = (w.shows i).refused; seen = (w.shows i).seen; met = q.met; waits = (w.shows i).waits; stopped = q.stopped };
+      shows = λ i. record {
+        lock = tid;
+        first = Some (w.shows i).first;
+        lo = (w.shows i).lo;
+        hi = (w.shows i).hi;
+        calls = (w.shows i).calls;
+        refused = (w.shows i).refused;
+        seen = (w.shows i).seen;
+        met = q.met;
+        waits = (w.shows i).waits;
+        stopped = q.stopped;
+      };
     }
 
-    declined_of : (tid : TableId) (first : H) (f : F) (p q : Shown H F) (m : ℕ) → p.met ≤ m → p.first ≡ first → WasRefused held e f more (record p { met = m }) q
+    declined_of : (tid : TableId) (first : H) (f : F) (p q : Shown H F) (m : ℕ) → p.met ≤ m → p.first ≡ first
+        → WasRefused held e f more (record p { met = m }) q
         → Declined held first e f more (sight tid (Some p)) (sight tid (Some q))
     declined_of tid first f p q m least same w = record {
       past = w.past;
       begins = w.begins;
       cause = ⊎_elim (λ stop. inl (subst IsTrue (ap (λ (x : Shown H F). x.stopped) (sym w.shows)) stop))
-          (λ rule. inr (subst (λ (x : H). (h : List Packet) → held.stands_for x h → held.refuses (held.terms x) (h ++ w.past) e f) same rule)) w.cause;
+          (λ rule. inr (subst (λ (x : H). (h : List Packet) → held.stands_for x h
+          → held.refuses (held.terms x) (h ++ w.past) e f) same rule)) w.cause;
       met = (let now : q.met ≡ m = ap (λ (x : Shown H F). x.met) w.shows in omega arith);
-      shows = λ i. record { lock = tid; first = Some (w.shows i).first; lo = (w.shows i).lo; hi = (w.shows i).hi; calls = (w.shows i).calls; refused = (w.shows i).refused; seen = (w.shows i).seen; met = q.met; waits = (w.shows i).waits; stopped = q.stopped };
+      shows = λ i. record {
+        lock = tid;
+        first = Some (w.shows i).first;
+        lo = (w.shows i).lo;
+        hi = (w.shows i).hi;
+        calls = (w.shows i).calls;
+        refused = (w.shows i).refused;
+        seen = (w.shows i).seen;
+        met = q.met;
+        waits = (w.shows i).waits;
+        stopped = q.stopped;
+      };
     }
 
-    module _ (tid tid' : TableId) (me me' : Mine H F) (old : Sight H F) (view : sight tid me.0 ≡ old) (same : tid' ≡ tid) (p : Shown H F) (is : me.0 ≡ Some p) (first : H) (first_is : p.first ≡ first) where
-      pub acted : (reply : R) → (q : Shown H F) × (m : ℕ) × (p.met ≤ m) × (me' ≡ (Some q, [])) × WasTaken held e reply more (record p { met = m }) q
+    module _ (tid tid' : TableId) (me me' : Mine H F) (old : Sight H F) (view : sight tid me.0 ≡ old)
+        (same : tid' ≡ tid) (p : Shown H F) (is : me.0 ≡ Some p) (first : H) (first_is : p.first ≡ first) where
+      pub acted : (reply : R) → (q : Shown H F) × (m : ℕ) × (p.met ≤ m) × (me' ≡ (Some q, []))
+          × WasTaken held e reply more (record p { met = m }) q
           → Acted held first e reply more old (sight tid' me'.0)
-      acted reply t = seen_both (Acted held first e reply more) tid tid' me' old p t.0 (view_of tid me old view p is) same t.3 (acted_of tid first reply p t.0 t.1 t.2 first_is t.4)
+      acted reply t = seen_both (Acted held first e reply more) tid tid' me' old p t.0
+          (view_of tid me old view p is) same t.3 (acted_of tid first reply p t.0 t.1 t.2 first_is t.4)
 
-      pub declined : (f : F) → (q : Shown H F) × (m : ℕ) × (p.met ≤ m) × (me' ≡ (Some q, [])) × WasRefused held e f more (record p { met = m }) q
+      pub declined : (f : F) → (q : Shown H F) × (m : ℕ) × (p.met ≤ m) × (me' ≡ (Some q, []))
+          × WasRefused held e f more (record p { met = m }) q
           → Declined held first e f more old (sight tid' me'.0)
-      declined f t = seen_both (Declined held first e f more) tid tid' me' old p t.0 (view_of tid me old view p is) same t.3 (declined_of tid first f p t.0 t.1 t.2 first_is t.4)
+      declined f t = seen_both (Declined held first e f more) tid tid' me' old p t.0
+          (view_of tid me old view p is) same t.3 (declined_of tid first f p t.0 t.1 t.2 first_is t.4)
 
       pub acted_once : (reply : R) → (q : Shown H F) × (me' ≡ (Some q, [])) × WasTaken held e reply more p q
           → Acted held first e reply more old (sight tid' me'.0)
@@ -141,17 +178,21 @@ module _ {H F : Type 0} where
           → Declined held first e f more old (sight tid' me'.0)
       declined_once f t = declined f (t.0, p.met, le_refl p.met, t.1, t.2)
 
-      pub acted_at_last : (result : Result R F) → IfOk result (λ reply. (q : Shown H F) × (m : ℕ) × (p.met ≤ m) × (me' ≡ (Some q, [])) × WasTaken held e reply more (record p { met = m }) q)
+      pub acted_at_last : (result : Result R F) → IfOk result
+          (λ reply. (q : Shown H F) × (m : ℕ) × (p.met ≤ m) × (me' ≡ (Some q, []))
+          × WasTaken held e reply more (record p { met = m }) q)
           → IfOk result (λ reply. Acted held first e reply more old (sight tid' me'.0))
       acted_at_last (Ok reply) t = acted reply t
       acted_at_last (Err f) t = tt
 
-      pub declined_at_last : (result : Result R F) → IfErr result (λ f. (q : Shown H F) × (m : ℕ) × (p.met ≤ m) × (me' ≡ (Some q, [])) × WasRefused held e f more (record p { met = m }) q)
+      pub declined_at_last : (result : Result R F) → IfErr result
+          (λ f. (q : Shown H F) × (m : ℕ) × (p.met ≤ m) × (me' ≡ (Some q, [])) × WasRefused held e f more (record p { met = m }) q)
           → IfErr result (λ f. Declined held first e f more old (sight tid' me'.0))
       declined_at_last (Ok reply) t = tt
       declined_at_last (Err f) t = declined f t
 
-    any_turn : (result : Turn R F) (P : Turn R F → Type 0) → ((reply : R) → result ≡ Done reply → P (Done reply)) → ((f : F) → result ≡ Refused f → P (Refused f)) → (result ≡ Busy → P Busy) → P result
+    any_turn : (result : Turn R F) (P : Turn R F → Type 0) → ((reply : R) → result ≡ Done reply → P (Done reply))
+        → ((f : F) → result ≡ Refused f → P (Refused f)) → (result ≡ Busy → P Busy) → P result
     any_turn (Done reply) P done refused busy = done reply refl
     any_turn (Refused f) P done refused busy = refused f refl
     any_turn Busy P done refused busy = busy refl
@@ -180,14 +221,23 @@ module _ {H F : Type 0} where
           pass = missed p;
           me_is = busy is;
           idle = idle;
-          keeps = record { lock_is = refl; first_is = refl; lo_is = refl; hi_is = refl; begins = prefix_itself p.seen; stops = λ s. s };
+          keeps = record {
+            lock_is = refl;
+            first_is = refl;
+            lo_is = refl;
+            hi_is = refl;
+            begins = prefix_itself p.seen;
+            stops = λ s. s;
+          };
           met = refl;
         })
 
     -- the same after a call that lost any number of takes
     pub turned_at_last : (tid : TableId) (p : Shown H F) (me' : Mine H F) (result : Result R F)
-        → IfOk result (λ reply. (q : Shown H F) × (m : ℕ) × (p.met ≤ m) × (me' ≡ (Some q, [])) × WasTaken held e reply more (record p { met = m }) q)
-        → IfErr result (λ f. (q : Shown H F) × (m : ℕ) × (p.met ≤ m) × (me' ≡ (Some q, [])) × WasRefused held e f more (record p { met = m }) q)
+        → IfOk result (λ reply. (q : Shown H F) × (m : ℕ) × (p.met ≤ m) × (me' ≡ (Some q, []))
+        × WasTaken held e reply more (record p { met = m }) q)
+        → IfErr result (λ f. (q : Shown H F) × (m : ℕ) × (p.met ≤ m) × (me' ≡ (Some q, []))
+        × WasRefused held e f more (record p { met = m }) q)
         → (n : ℕ) × Turned tid p me' n
     turned_at_last tid p me' (Ok reply) done refused = (
       done.1 - p.met,
@@ -206,24 +256,29 @@ module _ {H F : Type 0} where
         me_is = refused.3;
         idle = ap (λ (x : Shown H F). x.tries) refused.4.shows;
         keeps = keeps_refused tid f p refused.0 refused.1 refused.4;
-        met = (let now : refused.0.met ≡ refused.1 = ap (λ (x : Shown H F). x.met) refused.4.shows in let least = refused.2 in omega arith);
+        met = (let now : refused.0.met ≡ refused.1 = ap (λ (x : Shown H F). x.met) refused.4.shows in
+            let least = refused.2 in omega arith);
       },
     )
 
 -- the longer of two lists that begin one history
-longer_begins : {A : Type 0} (xs ys : List A) (b : Bool) → IsPrefix (cond b xs ys) (cond b ys xs) → IsPrefix xs (cond b ys xs) × IsPrefix ys (cond b ys xs)
+longer_begins : {A : Type 0} (xs ys : List A) (b : Bool) → IsPrefix (cond b xs ys) (cond b ys xs)
+    → IsPrefix xs (cond b ys xs) × IsPrefix ys (cond b ys xs)
 longer_begins xs ys true h = (h, prefix_itself ys)
 longer_begins xs ys false h = (prefix_itself xs, h)
 
-shorter_is : {A : Type 0} (xs ys : List A) (b : Bool) → ltb (length xs) (length ys) ≡ b → length (cond b xs ys) ≤ length (cond b ys xs)
+shorter_is : {A : Type 0} (xs ys : List A) (b : Bool) → ltb (length xs) (length ys) ≡ b
+    → length (cond b xs ys) ≤ length (cond b ys xs)
 shorter_is xs ys true e = omega (arith, ltb-true (length xs) (length ys) e)
 shorter_is xs ys false e = ltb-false (length xs) (length ys) e
 
 module _ {H F : Type 0} where
-  joined_of : (tid tid' : TableId) (p q : Shown H F) → q.lo ≡ p.hi → (length (joined p q).lesser ≤ length (joined p q).seen → IsPrefix (joined p q).lesser (joined p q).seen)
+  joined_of : (tid tid' : TableId) (p q : Shown H F) → q.lo ≡ p.hi
+      → (length (joined p q).lesser ≤ length (joined p q).seen → IsPrefix (joined p q).lesser (joined p q).seen)
       → Joined (sight tid (Some p)) (sight tid' (Some q)) (sight tid (Some (joined p q)))
   joined_of tid tid' p q meets agreed =
-      let both = longer_begins p.seen q.seen (ltb (length p.seen) (length q.seen)) (agreed (shorter_is p.seen q.seen (ltb (length p.seen) (length q.seen)) refl)) in record {
+      let both = longer_begins p.seen q.seen (ltb (length p.seen) (length q.seen))
+      (agreed (shorter_is p.seen q.seen (ltb (length p.seen) (length q.seen)) refl)) in record {
         shows = refl;
         calls_below = λ n h. joined_below (λ (e : Packet). e.by) q.lo p.calls q.calls n h;
         calls_above = λ n h. joined_above (λ (e : Packet). e.by) q.lo p.calls q.calls n h;
@@ -234,18 +289,23 @@ module _ {H F : Type 0} where
       }
 
   -- what callers see of a join
-  pub seen_joined : (tid tid2 tid' : TableId) (me them me' : Mine H F) (old other : Sight H F) → sight tid me.0 ≡ old → sight tid2 them.0 ≡ other → (p q : Shown H F) → me.0 ≡ Some p → them.0 ≡ Some q
+  pub seen_joined : (tid tid2 tid' : TableId) (me them me' : Mine H F) (old other : Sight H F) → sight tid me.0 ≡ old
+      → sight tid2 them.0 ≡ other → (p q : Shown H F) → me.0 ≡ Some p → them.0 ≡ Some q
       → tid' ≡ tid → me'.0 ≡ Some (joined p q) → other.lo ≡ old.hi
-      → ((r : Shown H F) → me'.0 ≡ Some r → length r.lesser ≤ length r.seen → IsPrefix r.lesser r.seen) → Joined old other (sight tid' me'.0)
+      → ((r : Shown H F) → me'.0 ≡ Some r → length r.lesser ≤ length r.seen → IsPrefix r.lesser r.seen)
+      → Joined old other (sight tid' me'.0)
   seen_joined tid tid2 tid' me them me' old other view view2 p q is is2 same is' meets agreed =
       let seen = view_of tid me old view p is in let seen2 = view_of tid2 them other view2 q is2 in
       let at : q.lo ≡ p.hi = ap (λ (x : Sight H F). x.lo) seen2 ∙ (meets ∙ ap (λ (x : Sight H F). x.hi) (sym seen)) in
       let new : sight tid (Some (joined p q)) ≡ sight tid' me'.0 = λ i. sight (sym same i) (sym is' i) in
-      subst (λ (x : Sight H F). Joined old other x) new (subst (λ (x : Sight H F). Joined old x (sight tid (Some (joined p q)))) seen2
-      (subst (λ (x : Sight H F). Joined x (sight tid2 (Some q)) (sight tid (Some (joined p q)))) seen (joined_of tid tid2 p q at (agreed (joined p q) is'))))
+      subst (λ (x : Sight H F). Joined old other x) new (subst
+      (λ (x : Sight H F). Joined old x (sight tid (Some (joined p q)))) seen2
+      (subst (λ (x : Sight H F). Joined x (sight tid2 (Some q)) (sight tid (Some (joined p q)))) seen
+      (joined_of tid tid2 p q at (agreed (joined p q) is'))))
 
   -- the pass of a join has no lock either
-  pub joined_inside : (tid tid' : TableId) (me them me' : Mine H F) (idle : IsIdle me) (idle2 : IsIdle them) → tid' ≡ tid → me' ≡ (Some (joined idle.pass idle2.pass), []) → (lo : ℕ) → (sight tid me.0).lo ≡ lo
+  pub joined_inside : (tid tid' : TableId) (me them me' : Mine H F) (idle : IsIdle me) (idle2 : IsIdle them)
+      → tid' ≡ tid → me' ≡ (Some (joined idle.pass idle2.pass), []) → (lo : ℕ) → (sight tid me.0).lo ≡ lo
       → (is_idle me'.0 ≡ true) × (me'.1 ≡ []) × ((sight tid' me'.0).lo ≡ lo)
   joined_inside tid tid' me them me' idle idle2 same is lo was = (
     subst (λ (v : Option (Shown H F)). is_idle v ≡ true) (λ i. (sym is i).0) (none_is idle.pass.tries idle.idle),
@@ -255,12 +315,14 @@ module _ {H F : Type 0} where
 
 module _ {H T R F : Type 0} (held : HeldOf H T R F) where
   -- what callers see of a close
-  pub ends : (lock self : LockSight H) → lock ≡ self → (tid : TableId) (me : Mine H F) (old : Sight H F) → sight tid me.0 ≡ old → (idle : IsIdle me) → old.lo ≡ 0 → old.hi ≡ self.numbers
+  pub ends : (lock self : LockSight H) → lock ≡ self → (tid : TableId) (me : Mine H F) (old : Sight H F)
+      → sight tid me.0 ≡ old → (idle : IsIdle me) → old.lo ≡ 0 → old.hi ≡ self.numbers
       → (id : ℕ) (words : List ℕ) (slots : List (Option H)) → Final (Seen (Holds held lock.first lock.numbers) id me.0) words slots
       → (x : Option H) → get_elem? slots 0 ≡ some x → (state : H) × (x ≡ Some state) × Closed held self old state
   ends lock self lock_is tid me old view idle lo hi id words slots final x at =
       let p = idle.pass in let is : me.0 ≡ Some p = λ i. (idle.me_is i).0 in let seen = view_of tid me old view p is in
-      let t = closes held lock id p tid words slots idle.idle (ap (λ (v : Sight H F). v.lo) seen ∙ lo) (ap (λ (v : Sight H F). v.hi) seen ∙ (hi ∙ ap (λ (l : LockSight H). l.numbers) (sym lock_is)))
+      let t = closes held lock id p tid words slots idle.idle (ap (λ (v : Sight H F). v.lo) seen ∙ lo)
+      (ap (λ (v : Sight H F). v.hi) seen ∙ (hi ∙ ap (λ (l : LockSight H). l.numbers) (sym lock_is)))
       (subst (λ (v : Option (Shown H F)). Final (Seen (Holds held lock.first lock.numbers) id v) words slots) is final) in (
         t.0,
         some-injective x (Some t.0) (sym at ∙ t.1),

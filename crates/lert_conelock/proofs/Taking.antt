@@ -50,20 +50,26 @@ module _ {H T R F : Type 0} (held : HeldOf H T R F) (first : H) (numbers : ℕ) 
         (λ d _. (refl, λ x. ⊎_elim (λ now. now) (λ was. stop_counts s.views was) (stopped_back s.views id p won there x)))
         (λ a r d ne at t. absurd (w.none_tries free a r d at t))
 
-    pub wins : HoldsWith held first numbers (record { words = set s.words 0 1; homes = set s.homes 0 mathlib.Core.Option.none; views = after }) history
-    wins = let two = w.two_words in let one : get_or (set s.words 0 1) 0 0 ≡ 1 = get_or-set_same s.words 0 1 0 (omega arith) in record {
-      two_words = length-set s.words 0 1 ∙ w.two_words;
-      lock_word = omega arith;
-      count_word = get_or-set_other s.words 0 1 1 0 (omega arith) ∙ w.count_word;
-      opened = w.opened;
-      numbered = w.numbered;
-      passes = passes_won;
-      home = λ z. absurd (omega arith);
-      none_tries = λ z. absurd (omega arith);
-      one_tries = λ _. record { seat = id; pass = won; packet = e; there = has_here s.views id p won there; tries = refl };
-    }
+    pub wins : HoldsWith held first numbers (record {
+      words = set s.words 0 1;
+      homes = set s.homes 0 mathlib.Core.Option.none;
+      views = after;
+    }) history
+    wins = let two = w.two_words in let one : get_or (set s.words 0 1) 0 0 ≡ 1 = get_or-set_same s.words 0 1 0
+        (omega arith) in record {
+          two_words = length-set s.words 0 1 ∙ w.two_words;
+          lock_word = omega arith;
+          count_word = get_or-set_other s.words 0 1 1 0 (omega arith) ∙ w.count_word;
+          opened = w.opened;
+          numbered = w.numbered;
+          passes = passes_won;
+          home = λ z. absurd (omega arith);
+          none_tries = λ z. absurd (omega arith);
+          one_tries = λ _. record { seat = id; pass = won; packet = e; there = has_here s.views id p won there; tries = refl };
+        }
 
-    pub took : (state : H) → IsHome held first history s.views state → Took held e p state (Some state) (Some won, (0, Some state) ∷ [])
+    pub took : (state : H) → IsHome held first history s.views state
+        → Took held e p state (Some state) (Some won, (0, Some state) ∷ [])
     took state h = let part = w.passes.parts id p there in let same : first ≡ p.first = sym part.first_is in record {
       seen = history;
       stop = any_stopped s.views;
@@ -76,32 +82,45 @@ module _ {H T R F : Type 0} (held : HeldOf H T R F) (first : H) (numbers : ℕ) 
         terms_are = h.terms_are ∙ ap held.terms same;
         stands = subst (λ (x : H). (l : List Packet) → held.stands_for x l → held.stands_for state (l ++ history)) same h.stands;
         stopped_is = λ x. h.stopped_is (stop_shown s.views x);
-        over_is = ⊎_elim inl (λ (o : (held.over state ≡ held.over first) ⊎ ((d : Packet) × (held.over state ≡ Some d) × IsRefused s.views d)). inr (⊎_elim
+        over_is = ⊎_elim inl (λ (o : (held.over state ≡ held.over first)
+            ⊎ ((d : Packet) × (held.over state ≡ Some d) × IsRefused s.views d)). inr (⊎_elim
             (λ (z : held.over state ≡ held.over first). inl (z ∙ ap held.over same))
-            (λ (t : (d : Packet) × (held.over state ≡ Some d) × IsRefused s.views d). inr (t.0, t.1, refusal_counts s.views t.0 t.2)) o)) h.over_is;
+            (λ (t : (d : Packet) × (held.over state ≡ Some d) × IsRefused s.views d). inr
+            (t.0, t.1, refusal_counts s.views t.0 t.2)) o)) h.over_is;
         fresh_is = ⊎_elim (λ (z : state ≡ first). inl (z ∙ same))
-            (λ (t : (d : Packet) × (Contains history d ⊎ IsRefused s.views d)). inr (t.0, ⊎_elim inl (λ r. inr (refusal_counts s.views t.0 r)) t.1)) h.fresh_is;
+            (λ (t : (d : Packet) × (Contains history d ⊎ IsRefused s.views d)). inr
+            (t.0, ⊎_elim inl (λ r. inr (refusal_counts s.views t.0 r)) t.1)) h.fresh_is;
       };
     }
 
   pub taking : (slots id : ℕ) (me : Mine H F) (e : Packet) → MayTake me e
       → Allows (Holds held first numbers) slots id me 0 (λ n. either (eqb n 0) 1 n)
-      (λ found after. (p' : Shown H F) → me.0 ≡ Some p' → (found ≡ 0 → (state : H) × Took held e p' state (Some state) after) × ((found ≡ 0 → ⊥) → after ≡ (Some (missed p'), [])))
+      (λ found after. (p' : Shown H F) → me.0 ≡ Some p' → (found ≡ 0 → (state : H)
+      × Took held e p' state (Some state) after) × ((found ≡ 0 → ⊥) → after ≡ (Some (missed p'), [])))
   taking slots id me e may = let p = may.pass in let idle = may.idle in let named = may.own in subst
       (λ (m : Mine H F). Allows (Holds held first numbers) slots id m 0 (λ n. either (eqb n 0) 1 n)
-      (λ found after. (p' : Shown H F) → m.0 ≡ Some p' → (found ≡ 0 → (state : H) × Took held e p' state (Some state) after) × ((found ≡ 0 → ⊥) → after ≡ (Some (missed p'), [])))) (sym may.me_is)
+      (λ found after. (p' : Shown H F) → m.0 ≡ Some p' → (found ≡ 0 → (state : H)
+      × Took held e p' state (Some state) after) × ((found ≡ 0 → ⊥) → after ≡ (Some (missed p'), [])))) (sym may.me_is)
       (λ s holds one at _.
       let history = holds.0 in let w = holds.1 in
       exchanged (get_or s.words 0 0) 0 1
-      (λ (x : ℕ). (v : Option (Shown H F)) × (a : Act (Option H)) × Valid s.homes [] a × Holds held first numbers (stepped s 0 x id [] v a)
-      × ((p' : Shown H F) → Some p ≡ Some p' → (get_or s.words 0 0 ≡ 0 → (state : H) × Took held e p' state (Some state) (v, carried_after [] a)) × ((get_or s.words 0 0 ≡ 0 → ⊥) → ◌≡◌ {A = Mine H F} (v, carried_after [] a) (Some (missed p'), []))))
+      (λ (x : ℕ). (v : Option (Shown H F)) × (a : Act (Option H)) × Valid s.homes [] a
+      × Holds held first numbers (stepped s 0 x id [] v a)
+      × ((p' : Shown H F) → Some p ≡ Some p' → (get_or s.words 0 0 ≡ 0 → (state : H)
+      × Took held e p' state (Some state) (v, carried_after [] a))
+      × ((get_or s.words 0 0 ≡ 0 → ⊥) → ◌≡◌ {A = Mine H F} (v, carried_after [] a) (Some (missed p'), []))))
       (λ free. let t = w.home free in (
         Some (won s history w id p at e named free),
         takes 0 (Some t.0),
         t.1,
         (history, wins s history w id p at e named free),
         λ p' same. (
-          (λ _. (t.0, subst (λ (x : Shown H F). Took held e x t.0 (Some t.0) (Some (won s history w id p at e named free), (0, Some t.0) ∷ [])) (same_Some p p' same) (took s history w id p at e named free t.0 t.2))),
+          (λ _. (
+            t.0,
+            subst (λ (x : Shown H F). Took held e x t.0 (Some t.0)
+                (Some (won s history w id p at e named free), (0, Some t.0) ∷ [])) (same_Some p p' same)
+                (took s history w id p at e named free t.0 t.2),
+          )),
           (λ not_free. absurd (not_free free)),
         ),
       ))
@@ -111,7 +130,8 @@ module _ {H T R F : Type 0} (held : HeldOf H T R F) (first : H) (numbers : ℕ) 
         tt,
         (
           history,
-          subst (λ (ws : List ℕ). HoldsWith held first numbers (record { words = ws; homes = s.homes; views = set s.views id (Some (missed p)) }) history)
+          subst (λ (ws : List ℕ). HoldsWith held first numbers
+              (record { words = ws; homes = s.homes; views = set s.views id (Some (missed p)) }) history)
               (sym (set_found s.words 0 0))
               (idles held first numbers s history w id p at idle p.seen (p.met + 1) (w.passes.parts id p at).seen),
         ),
