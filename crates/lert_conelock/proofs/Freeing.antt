@@ -1,5 +1,5 @@
 -- The pass that has the lock brings the state home and frees the lock, and the rule goes on.
-use Rattle.std.proofs.Common.{◌≡◌, ℕ, List, [], ◌++◌, ◌⊎◌, get_or, set, Some, sym, refl, ap, ◌∙◌, subst, inl, inr, ⊎_elim, arith, length-set, get_or-set_same, get_or-set_other}
+use Rattle.std.proofs.Common.{◌≡◌, ℕ, List, [], ◌⊎◌, get_or, set, Some, sym, refl, ap, ◌∙◌, subst, inl, inr, ⊎_elim, arith, length-set, get_or-set_same, get_or-set_other}
 use Rattle.std.specs.Prelude.{Contains}
 use Rattle.std.proofs.lemmas.Option.{same_Some, none-some}
 use mathlib.Core.Option.{some}
@@ -7,6 +7,7 @@ use Rattle.atomic_table.specs.Table.{Allows, gives, rest}
 use Rattle.atomic_table.proofs.Lists.{set_here}
 use Rattle.lert_base.specs.declared.held.Held.{Ghosts as HeldOf}
 use Rattle.lert_base.specs.Packet.{Packet}
+use Rattle.lert_conelock.specs.After.{StandsAfter}
 use Rattle.lert_conelock.specs.Shown.{Shown, freed}
 use Rattle.lert_conelock.specs.Rule.{Views, Has, Passes, IsHome, Holds}
 use Rattle.lert_conelock.specs.Steps.{Mine, InHand, HasLock}
@@ -44,9 +45,8 @@ module _ {H T R F : Type 0} (held : HeldOf H T R F) (first : H) (numbers : ℕ) 
     pub home_freed : (state : H) → InHand held p state → IsHome held first history (set views id (Some q)) state
     home_freed state hand = let part = b.parts id p there in let seen = (b.trying id p e there tries).0 in record {
       terms_are = hand.terms_are ∙ ap held.terms part.first_is;
-      stands = subst (λ (l : List Packet). (h : List Packet) → held.stands_for first h → held.stands_for state (h ++ l)) seen
-          (subst (λ (x : H). (h : List Packet) → held.stands_for x h
-          → held.stands_for state (h ++ p.seen)) part.first_is hand.stands);
+      stands = subst (λ (l : List Packet). StandsAfter held first l state) seen
+          (subst (λ (x : H). StandsAfter held x p.seen state) part.first_is hand.stands);
       stopped_is = λ s. hand.stopped_is (⊎_elim (λ now. now) (λ was. (b.trying id p e there tries).1 was)
           (stopped_back views id p q there s));
       over_is = ⊎_elim inl (λ (o : (held.over state ≡ held.over p.first)

@@ -1,5 +1,5 @@
 -- The pass that has the lock notes a refusal, and the rule goes on.
-use Rattle.std.proofs.Common.{◌≡◌, ℕ, Bool, List, [], ◌∷◌, ◌++◌, get_or, set, Option, Some, sym, refl, ap, ◌∙◌, subst, inl, inr, ⊎_elim, arith}
+use Rattle.std.proofs.Common.{◌≡◌, ℕ, Bool, List, [], ◌∷◌, get_or, set, Option, Some, sym, refl, ap, ◌∙◌, subst, inl, inr, ⊎_elim, arith}
 use Rattle.std.specs.Prelude.{IsTrue}
 use Rattle.std.proofs.lemmas.Option.{same_Some}
 use Rattle.std.proofs.lemmas.Bool.{or_left, or_right}
@@ -8,6 +8,7 @@ use mathlib.Core.Option.{some}
 use Rattle.atomic_table.specs.Table.{Allows, keeps}
 use Rattle.lert_base.specs.declared.held.Held.{Ghosts as HeldOf}
 use Rattle.lert_base.specs.Packet.{Packet}
+use Rattle.lert_conelock.specs.After.{RefusesAfter}
 use Rattle.lert_conelock.specs.Shown.{Shown, noted}
 use Rattle.lert_conelock.specs.Rule.{Views, Has, IsRefused, IsCaused, Passes, HoldsWith, Holds}
 use Rattle.lert_conelock.specs.Steps.{Mine, IsReason}
@@ -39,11 +40,10 @@ module _ {H T R F : Type 0} (held : HeldOf H T R F) (first : H) (numbers : ℕ) 
           there = has_here views id p q there;
           stopped = or_right p.stopped stop halted;
         }))
-        (λ (by_rule : (h : List Packet) → held.stands_for p.first h → held.refuses (held.terms p.first) (h ++ p.seen) e f). inr (
+        (λ (by_rule : RefusesAfter held p.first p.seen e f). inr (
           p.seen,
           part.seen,
-          subst (λ (x : H). (h : List Packet) → held.stands_for x h
-              → held.refuses (held.terms x) (h ++ p.seen) e f) part.first_is by_rule,
+          subst (λ (x : H). RefusesAfter held x p.seen e f) part.first_is by_rule,
         ))
         reason
 

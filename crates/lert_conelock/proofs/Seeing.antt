@@ -1,5 +1,5 @@
 -- From what a pass shows to what callers see.
-use Rattle.std.proofs.Common.{◌≡◌, ℕ, ◌+◌, ◌-◌, ◌≤◌, Bool, true, false, List, [], ◌∷◌, ◌++◌, length, Option, Some, None, sym, refl, ap, ◌∙◌, subst, inl, inr, ⊎_elim, arith, le_refl, cond, ltb, ltb-true, ltb-false}
+use Rattle.std.proofs.Common.{◌≡◌, ℕ, ◌+◌, ◌-◌, ◌≤◌, Bool, true, false, List, [], ◌∷◌, length, Option, Some, None, sym, refl, ap, ◌∙◌, subst, inl, inr, ⊎_elim, arith, le_refl, cond, ltb, ltb-true, ltb-false}
 use Rattle.std.specs.Prelude.{IsTrue, is_none, Result, Ok, Err, IfOk, IfErr}
 use Rattle.std.proofs.lemmas.Option.{same_Some}
 use Rattle.std.proofs.lemmas.Bool.{false≢true}
@@ -12,6 +12,7 @@ use Rattle.lert_base.specs.Packet.{Packet}
 use Rattle.lert_conelock.specs.declared.turn.Turn.{Turn}
 use Rattle.lert_conelock.specs.declared.turn.Turn.TheVariants.{Done, Refused, Busy}
 use Rattle.lert_conelock.specs.Prefix.{IsPrefix}
+use Rattle.lert_conelock.specs.After.{AnswersAfter, RefusesAfter}
 use Rattle.lert_conelock.specs.Shown.{Shown, missed, joined}
 use Rattle.lert_conelock.specs.Steps.{Mine, IsIdle, MayTake}
 use Rattle.lert_conelock.specs.Turns.{WasTaken, WasRefused}
@@ -115,8 +116,7 @@ module _ {H F : Type 0} where
     acted_of tid first reply p q m least same w = record {
       past = w.past;
       begins = w.begins;
-      answer = subst (λ (x : H). (h : List Packet) → held.stands_for x h
-          → held.answers (held.terms x) (h ++ w.past) e reply) same w.answer;
+      answer = subst (λ (x : H). AnswersAfter held x w.past e reply) same w.answer;
       met = (let now : q.met ≡ m = ap (λ (x : Shown H F). x.met) w.shows in omega arith);
       shows = λ i. record {
         lock = tid;
@@ -139,8 +139,7 @@ module _ {H F : Type 0} where
       past = w.past;
       begins = w.begins;
       cause = ⊎_elim (λ stop. inl (subst IsTrue (ap (λ (x : Shown H F). x.stopped) (sym w.shows)) stop))
-          (λ rule. inr (subst (λ (x : H). (h : List Packet) → held.stands_for x h
-          → held.refuses (held.terms x) (h ++ w.past) e f) same rule)) w.cause;
+          (λ rule. inr (subst (λ (x : H). RefusesAfter held x w.past e f) same rule)) w.cause;
       met = (let now : q.met ≡ m = ap (λ (x : Shown H F). x.met) w.shows in omega arith);
       shows = λ i. record {
         lock = tid;

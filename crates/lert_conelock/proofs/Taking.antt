@@ -1,5 +1,5 @@
 -- A take, won or lost, and the rule goes on.
-use Rattle.std.proofs.Common.{◌≡◌, ℕ, ◌+◌, eqb, List, [], ◌∷◌, ◌++◌, ◌⊎◌, get_or, set, Option, Some, sym, refl, ap, ◌∙◌, subst, inl, inr, ⊎_elim, arith, length-set, get_or-set_same, get_or-set_other}
+use Rattle.std.proofs.Common.{◌≡◌, ℕ, ◌+◌, eqb, List, [], ◌∷◌, ◌⊎◌, get_or, set, Option, Some, sym, refl, ap, ◌∙◌, subst, inl, inr, ⊎_elim, arith, length-set, get_or-set_same, get_or-set_other}
 use Rattle.std.specs.Prelude.{IsTrue, Contains}
 use Rattle.std.proofs.lemmas.Option.{same_Some}
 use mathlib.Core.Option.{some}
@@ -8,6 +8,7 @@ use Rattle.atomic_table.specs.Table.{State, Act, Valid, Allows, keeps, takes, st
 use Rattle.atomic_table.proofs.Lists.{exchanged}
 use Rattle.lert_base.specs.declared.held.Held.{Ghosts as HeldOf}
 use Rattle.lert_base.specs.Packet.{Packet}
+use Rattle.lert_conelock.specs.After.{StandsAfter}
 use Rattle.lert_conelock.specs.Shown.{Shown, missed, taken}
 use Rattle.lert_conelock.specs.Rule.{Views, Has, IsRefused, Passes, IsHome, HoldsWith, Holds}
 use Rattle.lert_conelock.specs.Steps.{Mine, MayTake, Took}
@@ -80,7 +81,7 @@ module _ {H T R F : Type 0} (held : HeldOf H T R F) (first : H) (numbers : ℕ) 
       opened = (w.opened.0, subst (λ (x : H). held.stands_for x w.opened.0) same w.opened.1);
       hand = record {
         terms_are = h.terms_are ∙ ap held.terms same;
-        stands = subst (λ (x : H). (l : List Packet) → held.stands_for x l → held.stands_for state (l ++ history)) same h.stands;
+        stands = subst (λ (x : H). StandsAfter held x history state) same h.stands;
         stopped_is = λ x. h.stopped_is (stop_shown s.views x);
         over_is = ⊎_elim inl (λ (o : (held.over state ≡ held.over first)
             ⊎ ((d : Packet) × (held.over state ≡ Some d) × IsRefused s.views d)). inr (⊎_elim

@@ -7,6 +7,7 @@ use Rattle.std.proofs.lemmas.List.Elements.{Contains-append_left, Contains-push}
 use Rattle.atomic_table.specs.Table.{rest}
 use Rattle.lert_base.specs.declared.held.Held.{Ghosts as HeldOf}
 use Rattle.lert_base.specs.Packet.{Packet}
+use Rattle.lert_conelock.specs.After.{RefusesAfter}
 use Rattle.lert_conelock.specs.Shown.{Shown, taken, committed, noted, freed}
 use Rattle.lert_conelock.specs.Steps.{Mine, IsIdle, MayTake, InHand, Took, HasLock, IsTrying, IsReason}
 use Rattle.lert_conelock.specs.Turns.{WasTaken, WasRefused}
@@ -117,8 +118,7 @@ module _ {H T R F : Type 0} (held : HeldOf H T R F) where
           hand = hand_refused;
         }
 
-        by_rule : held.stopped t ≡ false → (h : List Packet) → held.stands_for p.first h
-            → held.refuses (held.terms p.first) (h ++ took.seen) e f
+        by_rule : held.stopped t ≡ false → RefusesAfter held p.first took.seen e f
         by_rule runs h opens = ⊎_elim
             (λ (a : held.refuses (held.terms s) (h ++ took.seen) e f × (held.stopped t ≡ held.stopped s)
             × (held.over t ≡ held.over s)). subst (λ (x : T). held.refuses x (h ++ took.seen) e f) took.hand.terms_are a.0)
