@@ -8,7 +8,7 @@ use std::alloc::Global;
 use std::sync::Arc;
 use std::sync::atomic::{AtomicU64, Ordering};
 use std::test::Fail;
-use std::thread::join_mut;
+use std::thread::{join_mut, yield_now};
 
 // How often one thread looks for the other before it gives up.
 const TURNS: u64 = 200_000_000;
@@ -23,8 +23,9 @@ struct Flags {
 fn await_flag(flag: &AtomicU64) {
     for _ in 0..TURNS {
         if flag.load(Ordering::SeqCst) != 0 {
-            break;
+            return;
         }
+        yield_now();
     }
 }
 
