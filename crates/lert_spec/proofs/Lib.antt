@@ -2,6 +2,7 @@ mod Examples
 mod LookExamples
 pub mod AtOnceLaws
 pub mod CountLaws
+pub mod LookLaws
 pub mod EdgeLaws
 pub mod FirstPass
 pub mod LimitLaws
