@@ -88,7 +88,7 @@ one_order low (key ∷ keys) (other ∷ others) ordered other_ordered fit other_
     ]
 
 -- a window of the earlier events doesn't see the later ones
-slice_range-append : (events others : List ℕ) (from to : ℕ) → to ≤ length events → slice_range (events ++ others) from to ≡ slice_range events from to
+pub slice_range-append : (events others : List ℕ) (from to : ℕ) → to ≤ length events → slice_range (events ++ others) from to ≡ slice_range events from to
 slice_range-append events others from to within =
     elim (cases_lt from to) [
       | inl some ↦ (
