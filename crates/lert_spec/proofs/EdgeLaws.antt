@@ -42,7 +42,7 @@ steps-suc s level n wide =
     ∙ ap (λ x. x - (s.bins - 1)) (ap (λ w. (n - offset s level) / w) (span-suc s level) ∙ sym (div-div-eq-div-mul (n - offset s level) (span s level) s.ratio))
 
 -- a quotient never falls
-div_never_falls : (m n w : ℕ) → 1 ≤ w → m ≤ n → m / w ≤ n / w
+pub div_never_falls : (m n w : ℕ) → 1 ≤ w → m ≤ n → m / w ≤ n / w
 div_never_falls m n w wide below =
     (le-div_iff_mul-le {k = w} {x = m / w} {y = n} wide).1 (omega (arith, div-mul-le_self m w))
 
@@ -323,4 +323,28 @@ module _ (s : Numbers) (base : 1 ≤ s.base) (ratio : 1 ≤ s.ratio) where
       elim (cases_eq (edge s top m) (edge s top (m - 1))) [
         | inl stays ↦ omega (arith, deepest_within top m, ap (λ t. cond t (deepest s top m) (suc top)) (eq-eqb (edge s top m) (edge s top (m - 1)) stays))
         | inr moves ↦ omega (arith, ap (λ t. cond t (deepest s top m) (suc top)) (ne_eqb (edge s top m) (edge s top (m - 1)) moves))
+      ]
+
+  -- an edge that moves does so by one span
+  pub moves_by_one : (level m : ℕ) → edge s level m ≢ edge s level (m - 1) → steps s level m ≡ suc (steps s level (m - 1))
+  moves_by_one level m moves =
+      let width = span s level in
+      let above = m - offset s level in
+      elim (cases_lt (offset s level) m) [
+        | inl later ↦ elim (cases_lt 0 (above % width)) [
+          | inl between ↦ absurd (moves (stays_elsewhere level m (λ _ none. omega arith)))
+          | inr none ↦ (
+              let parts = div-add-mod above width in
+              let count = above / width in
+              let some : 1 ≤ count = elim (cases_lt 0 count) [
+                | inl more ↦ more
+                | inr nothing ↦ (let zero_count : count ≡ 0 = omega arith in
+                    let product = ap (λ c. width * c) zero_count in absurd (omega arith))
+              ] in
+              let again : count ≡ suc (count - 1) = omega arith in
+              let product = ap (λ c. width * c) again in
+              let whole : above ≡ width * suc (count - 1) = omega arith in
+              steps_at level m (count - 1) whole ∙ ap suc (sym (steps_before level m (count - 1) whole)))
+        ]
+        | inr early ↦ absurd (moves (stays_elsewhere level m (λ later none. omega arith)))
       ]

@@ -31,7 +31,7 @@ pub record NthAt (n key : ℕ) (events : List ℕ) : Type 0 where
   pub earlier : (m : ℕ) → m < at → count key events 0 m < n
 
 -- nothing stands before the first position
-count_none : (key : ℕ) (events : List ℕ) → count key events 0 0 ≡ 0
+pub count_none : (key : ℕ) (events : List ℕ) → count key events 0 0 ≡ 0
 count_none key events = refl
 
 -- a key that occurs n times, n at least 1, occurs for the n-th time somewhere

@@ -14,6 +14,9 @@ use crate::edges::lookback;
 use crate::{Numbers, Report};
 use std::alloc::{AllocError, Global};
 
+#[cfg(test)]
+mod tests;
+
 // The mixed value of a key.
 fn mixed(key: u64) -> u64
     ensures { result ≡ mix key }
