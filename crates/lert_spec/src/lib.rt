@@ -5,6 +5,8 @@
 //! worked examples. Every other crate's contracts are stated with these words.
 #![tactic(auto)]
 
+pub mod at_once;
+pub mod counts;
 pub mod edges;
 mod numbers;
 mod piece;
