@@ -1,6 +1,6 @@
-//! The reports of a detector that looks at each event, as their definition says them.
+//! The reports of a detector that reports each key at the very event that makes it reach the threshold.
 
-ghost use Rattle.std.specs.Prelude.{◌≡◌, IfOk};
+ghost use Rattle.std.specs.Prelude.{◌≡◌, ◌+◌, ◌≤◌, length, IfOk};
 ghost use Rattle.lert_spec.specs.AtOnce.{at_once};
 
 use crate::Report;
@@ -12,12 +12,11 @@ use std::alloc::{AllocError, Global};
 pub fn at_once(alloc: Global, threshold: u64, events: &[u64]) -> Result<Vec<Report>, AllocError>
     ensures { IfOk result (λ reports. reports.items ≡ at_once threshold events.now) }
 {
-    let mut reports = Vec::new(alloc);
-    for m in 1..events.len() + 1 {
-        let key = events[m - 1];
-        if count(key, events, 0, m) == threshold {
-            reports.push(Report { key, at: m as u64 })?;
-        }
-    }
-    Ok(reports)
+    (1..events.len() + 1)
+        .filter(|m| count(events[*m - 1], events, 0, *m) == threshold)
+        .map(|m| Report {
+            key: events[m - 1],
+            at: m as u64,
+        })
+        .collect(alloc)
 }
