@@ -4,12 +4,15 @@ pub mod AtOnceLaws
 pub mod CountLaws
 pub mod LookLaws
 pub mod BinLaws
+pub mod Deciding
 pub mod EdgeLaws
 pub mod FirstPass
+pub mod InOrder
 pub mod LimitLaws
 pub mod MixLaws
 pub mod ReportLaws
 pub mod Tables
 pub mod TallyLaws
 pub mod TimeBound
+pub mod TimelyTests
 pub mod WindowLaws

@@ -12,6 +12,7 @@ mod numbers;
 mod piece;
 mod report;
 pub mod reports;
+pub mod timely;
 
 pub use numbers::Numbers;
 pub use piece::Piece;
