@@ -15,4 +15,5 @@ pub mod Tables
 pub mod TallyLaws
 pub mod TimeBound
 pub mod TimelyTests
+pub mod TraceLaws
 pub mod WindowLaws

@@ -8,11 +8,13 @@
 pub mod at_once;
 pub mod counts;
 pub mod edges;
+pub mod lines;
 mod numbers;
 mod piece;
 mod report;
 pub mod reports;
 pub mod timely;
+pub mod traces;
 
 pub use numbers::Numbers;
 pub use piece::Piece;
