@@ -19,8 +19,7 @@ Any-from_at P (x ∷ xs) h =
 pub Decides-from_any : {X : Type 0} (P : X → Type 0) (xs : List X) (r : Bool) →
     MatchBool r ((k : ℕ) × (k < length xs) × HoldsAt P xs k) (AllWithin (λ x. ¬ P x) xs 0 (length xs)) → Decides r (Any P xs)
 Decides-from_any P xs true h = (λ _. Any-from_at P xs h, λ _. refl)
-Decides-from_any P xs false h =
-    (
-      λ e. absurd (false≢true e),
-      λ w. true_from_Any P (λ x. ¬ P x) false xs (λ x p no. no p) h w.1 (w.0, w.2, w.3) w.4,
-    )
+Decides-from_any P xs false h = (
+  λ e. absurd (false≢true e),
+  λ w. true_from_Any P (λ x. ¬ P x) false xs (λ x p no. no p) h w.1 (w.0, w.2, w.3) w.4,
+)

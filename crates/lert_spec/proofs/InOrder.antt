@@ -22,21 +22,19 @@ some = record { key = 0; at = 0 }
 
 pub Decides-in_order : (reports : List Report) (r : Bool) →
     IsAllAdjacentAnswer (λ x y b. b ≡ is_le (nat_cmp x.at y.at)) reports r → Decides r (IsNonDecreasing (map (λ report. report.at) reports))
-Decides-in_order reports true h =
-    (
-      λ _. IsNonDecreasingBy-from_all_adjacent (λ x. x) (map at reports)
-          (λ k d within.
-              let left : k + 1 < length reports = omega (arith, within, length-map reports at) in
-              let here : (get_or reports k some).at ≤ (get_or reports (k + 1) some).at = rises _ _ (h k some left) in
-              omega (arith, here, get_or-map at reports k some d (omega (arith, left)), get_or-map at reports (k + 1) some d left)),
-      λ _. refl,
-    )
-Decides-in_order reports false h =
-    (
-      λ e. absurd (false≢true e),
-      λ in_order.
-          let here : (get_or reports (h.0 + 1) some).at < (get_or reports h.0 some).at = falls _ _ (h.2 some) in
-          let step : get_or (map at reports) h.0 0 ≤ get_or (map at reports) (h.0 + 1) 0 =
-              in_order h.0 (h.0 + 1) 0 (omega arith) (omega (arith, h.1, length-map reports at)) in
-          absurd (omega (arith, here, step, get_or-map at reports h.0 some 0 (omega (arith, h.1)), get_or-map at reports (h.0 + 1) some 0 h.1)),
-    )
+Decides-in_order reports true h = (
+  λ _. IsNonDecreasingBy-from_all_adjacent (λ x. x) (map at reports)
+      (λ k d within.
+      let left : k + 1 < length reports = omega (arith, within, length-map reports at) in
+      let here : (get_or reports k some).at ≤ (get_or reports (k + 1) some).at = rises _ _ (h k some left) in
+      omega (arith, here, get_or-map at reports k some d (omega (arith, left)), get_or-map at reports (k + 1) some d left)),
+  λ _. refl,
+)
+Decides-in_order reports false h = (
+  λ e. absurd (false≢true e),
+  λ in_order.
+      let here : (get_or reports (h.0 + 1) some).at < (get_or reports h.0 some).at = falls _ _ (h.2 some) in
+      let step : get_or (map at reports) h.0 0 ≤ get_or (map at reports) (h.0 + 1) 0 =
+      in_order h.0 (h.0 + 1) 0 (omega arith) (omega (arith, h.1, length-map reports at)) in
+      absurd (omega (arith, here, step, get_or-map at reports h.0 some 0 (omega (arith, h.1)), get_or-map at reports (h.0 + 1) some 0 h.1)),
+)

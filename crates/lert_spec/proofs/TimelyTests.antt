@@ -15,7 +15,7 @@ Any-counted : {X : Type 0} (f : X → ℕ) (key : ℕ) (xs : List X) → 1 ≤ c
 Any-counted f key [] some = absurd (omega (arith, some))
 Any-counted f key (x ∷ xs) some =
     elim (eqb_tells (f x) key) [
-      inl here ↦ (0, x, omega arith, refl, here.1)
+      | inl here ↦ (0, x, omega arith, refl, here.1)
       | inr other ↦
           let left : 1 ≤ count_by (λ y. f y == key) xs = omega (arith, some, sum_by-cons (λ y. cond (f y == key) 1 0) x xs, ap (λ b. cond {A = ℕ} b 1 0) other.0) in
           let found = Any-counted f key xs left in
@@ -27,7 +27,7 @@ counted_from_Contains : {X : Type 0} (f : X → ℕ) (xs : List X) (x : X) (k : 
 counted_from_Contains f [] x k within here = absurd (omega (arith, within))
 counted_from_Contains f (y ∷ ys) x zero within here =
     elim (eqb_tells (f y) (f x)) [
-      inl same ↦ omega (arith, sum_by-cons (λ z. cond (f z == f x) 1 0) y ys, ap (λ b. cond {A = ℕ} b 1 0) same.0)
+      | inl same ↦ omega (arith, sum_by-cons (λ z. cond (f z == f x) 1 0) y ys, ap (λ b. cond {A = ℕ} b 1 0) same.0)
       | inr other ↦ absurd (other.1 (ap f here))
     ]
 counted_from_Contains f (y ∷ ys) x (suc k) within here =
@@ -40,7 +40,7 @@ pub light_isn't_listed : (threshold : ℕ) (events : List ℕ) (reports : List R
     (key : ℕ) → count key events 0 (length events) < threshold → times_listed key reports ≡ 0
 light_isn't_listed threshold events reports heavy key few =
     elim (eqb_tells (times_listed key reports) 0) [
-      inl none ↦ none.1
+      | inl none ↦ none.1
       | inr some ↦
           let found = Any-counted (λ report. report.key) key reports (omega (arith, some.1)) in
           let enough : threshold ≤ count found.1.key events 0 (length events) =

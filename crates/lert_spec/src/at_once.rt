@@ -7,6 +7,9 @@ use crate::Report;
 use crate::counts::count;
 use std::alloc::{AllocError, Global};
 
+#[cfg(test)]
+mod tests;
+
 /// Each key that occurs `threshold` times, with the position of that occurrence, in the order of positions. Its only
 /// error is want of memory.
 pub fn at_once(alloc: Global, threshold: u64, events: &[u64]) -> Result<Vec<Report>, AllocError>

@@ -5,6 +5,9 @@ ghost use Rattle.lert_spec.specs.Counts.{count, nth_occurrence, first, insert_ke
 
 use std::alloc::{AllocError, Global};
 
+#[cfg(test)]
+mod tests;
+
 /// How often a key occurs at the positions above `from`, up to `to`.
 pub fn count(key: u64, events: &[u64], from: usize, to: usize) -> u64
     requires order { from ≤ to }

@@ -8,6 +8,9 @@ use crate::Report;
 use std::alloc::{AllocError, Global};
 use std::marker::Model;
 
+#[cfg(test)]
+mod tests;
+
 /// What is printed of a cone.
 #[derive(Debug, Drop)]
 pub struct Printed {

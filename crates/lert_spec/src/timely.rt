@@ -11,6 +11,9 @@ ghost use Rattle.lert_spec.specs.Timely.{IsOnTime, IsReportedOnTime, IsNotYetDue
 use crate::Report;
 use crate::counts::{count, first, nth_occurrence};
 
+#[cfg(test)]
+mod tests;
+
 /// How many reports name a key.
 pub fn times_listed(key: u64, reports: &[Report]) -> usize
     ensures { result ≡ times_listed key reports.now }
@@ -47,9 +50,7 @@ fn is_listed_on_time(
         (report.key ≡ key) × (report.at ≤ last) × IsOnTime bins first_at reached_at report.at) reports.now }
 {
     reports.iter().any(|report| {
-        report.key == key
-            && report.at <= last
-            && is_on_time(bins, first_at, reached_at, report.at)
+        report.key == key && report.at <= last && is_on_time(bins, first_at, reached_at, report.at)
     })
 }
 
@@ -71,14 +72,7 @@ pub fn is_reported_on_time(
     };
     let last = events.len() as u64;
     times_listed(key, reports) == 1
-        && is_listed_on_time(
-            bins,
-            first_at as u64,
-            reached_at as u64,
-            last,
-            reports,
-            key,
-        )
+        && is_listed_on_time(bins, first_at as u64, reached_at as u64, last, reports, key)
 }
 
 /// A key isn't in the reports, and needn't be there so far.
@@ -130,7 +124,7 @@ fn are_heavy(threshold: u64, events: &[u64], reports: &[Report]) -> bool
 fn are_reported(threshold: u64, bins: u64, events: &[u64], reports: &[Report]) -> bool
     ensures { IsTrue result
         ↔ All (λ key. threshold ≤ count key events.now 0 (length events.now)
-            → IsReportedOnTime threshold bins events.now reports.now key) events.now }
+        → IsReportedOnTime threshold bins events.now reports.now key) events.now }
 {
     events.iter().all(|key| {
         !is_heavy(threshold, events, *key)
@@ -142,8 +136,8 @@ fn are_reported(threshold: u64, bins: u64, events: &[u64], reports: &[Report]) -
 fn are_reported_so_far(threshold: u64, bins: u64, events: &[u64], reports: &[Report]) -> bool
     ensures { IsTrue result
         ↔ All (λ key. threshold ≤ count key events.now 0 (length events.now)
-            → IsReportedOnTime threshold bins events.now reports.now key
-                ⊎ IsNotYetDue threshold bins events.now reports.now key) events.now }
+        → IsReportedOnTime threshold bins events.now reports.now key
+        ⊎ IsNotYetDue threshold bins events.now reports.now key) events.now }
 {
     events.iter().all(|key| {
         !is_heavy(threshold, events, *key)

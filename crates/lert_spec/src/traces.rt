@@ -6,6 +6,9 @@ ghost use Rattle.lert_spec.specs.Trace.{agreed, left, key_at, whole_len, whole, 
 use byteorder::{ByteOrder, LittleEndian};
 use std::alloc::{AllocError, Global};
 
+#[cfg(test)]
+mod tests;
+
 // The letters LERT, and version 1.
 const HEADER: [u8; 8] = [0x4c, 0x45, 0x52, 0x54, 0x01, 0x00, 0x00, 0x00];
 

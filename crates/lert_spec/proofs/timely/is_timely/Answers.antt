@@ -8,11 +8,10 @@ use Rattle.lert_spec.proofs.timely.is_timely.Goals.{then-are_in_order, else-are_
 pub returns-then-are_heavy : goal.returns-then-are_heavy
 returns-then-are_heavy c =
     elim c.if-are_in_order.branch [
-      then-are_in_order w ↦
+      | then-are_in_order w ↦
           let threshold = c.args.threshold in
           let events = c.args.events.now in
-          let reports = c.args.reports.now in
-          (
+          let reports = c.args.reports.now in (
             λ reported. record {
               in_order = c.are_in_order.ensures.0 w.if-are_in_order.true;
               light = light_isn't_listed threshold events reports (w.are_heavy.ensures.0 (sym w.value-is ∙ c.if-are_heavy.true));
@@ -24,12 +23,11 @@ returns-then-are_heavy c =
     ]
 
 pub returns-else-are_heavy : goal.returns-else-are_heavy
-returns-else-are_heavy c =
-    (
-      λ e. absurd (false≢true (sym c.if-are_heavy.false ∙ e)),
-      λ timely.
-          elim c.if-are_in_order.branch [
-            then-are_in_order w ↦ w.value-is ∙ w.are_heavy.ensures.1 (listed_is_heavy c.args.threshold c.args.events.now c.args.reports.now timely.light)
-            | else-are_in_order w ↦ w.value-is ∙ c.are_in_order.ensures.1 timely.in_order
-          ],
-    )
+returns-else-are_heavy c = (
+  λ e. absurd (false≢true (sym c.if-are_heavy.false ∙ e)),
+  λ timely.
+      elim c.if-are_in_order.branch [
+        | then-are_in_order w ↦ w.value-is ∙ w.are_heavy.ensures.1 (listed_is_heavy c.args.threshold c.args.events.now c.args.reports.now timely.light)
+        | else-are_in_order w ↦ w.value-is ∙ c.are_in_order.ensures.1 timely.in_order
+      ],
+)
