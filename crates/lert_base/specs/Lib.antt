@@ -2,3 +2,4 @@ pub mod Computed
 pub mod Keys
 pub mod Packet
 pub mod Entries
+pub mod TwoPieces

@@ -1,3 +1,6 @@
+ghost use Rattle.std.specs.Prelude.{◌≡◌};
+ghost use Rattle.lert_spec.specs.Table.{total};
+
 use crate::PlainTable;
 use lert_base::{CountTable, Piece};
 use std::test::Fail;
@@ -31,5 +34,27 @@ fn pieces_come_in_ascending_tails(rt: HostRuntime) -> Result<(), Fail> {
     assert_eq!(rt; table.events(), 0);
     let mut cursor = table.start();
     assert_eq!(rt; table.step(&mut cursor), None);
+    Ok(())
+}
+
+// The sum of the counts of any table, piece by piece.
+fn sum_of<T: CountTable>(table: &T) -> u64
+    ensures { result ≡ total (T.pieces table.now) }
+{
+    let _fits = table.events();
+    let mut cursor = table.start();
+    let mut sum = 0;
+    while let Some(piece) = table.step(&mut cursor) {
+        sum += piece.count;
+    }
+    sum
+}
+
+#[test]
+fn any_table_is_walked_by_its_cursor(rt: HostRuntime) -> Result<(), Fail> {
+    let mut table = PlainTable::new(rt.alloc(), 6, 8, 10)?;
+    table.add(9, 3);
+    table.add(4, 2);
+    assert_eq!(rt; sum_of(&table), 5);
     Ok(())
 }

@@ -12,6 +12,7 @@ pub mod LimitLaws
 pub mod MixLaws
 pub mod ReportLaws
 pub mod Tables
+pub mod TailLaws
 pub mod TallyLaws
 pub mod TimeBound
 pub mod TimelyTests

@@ -34,7 +34,7 @@ AreKeys-insert_mixed key (other ∷ others) below fit =
       ]
     ]
 
-AreKeys-mixed_order : (events : List ℕ) → AreKeys events → AreKeys (mixed_order events)
+pub AreKeys-mixed_order : (events : List ℕ) → AreKeys events → AreKeys (mixed_order events)
 AreKeys-mixed_order [] fit = tt
 AreKeys-mixed_order (event ∷ events) fit = AreKeys-insert_mixed event (mixed_order events) fit.0 (AreKeys-mixed_order events fit.1)
 
@@ -49,23 +49,23 @@ kept_or_not test key keys P kept dropped =
       | inr fails ↦ subst P (sym (ap (λ t. cond t (key ∷ filter test keys) (filter test keys)) fails)) dropped
     ]
 
-AreKeys-filter : (test : ℕ → Bool) (keys : List ℕ) → AreKeys keys → AreKeys (filter test keys)
+pub AreKeys-filter : (test : ℕ → Bool) (keys : List ℕ) → AreKeys keys → AreKeys (filter test keys)
 AreKeys-filter test [] fit = tt
 AreKeys-filter test (key ∷ keys) fit =
     let rest = AreKeys-filter test keys fit.1 in kept_or_not test key keys AreKeys (fit.0, rest) rest
 
-MixedFrom-lower : (low high : ℕ) (keys : List ℕ) → low ≤ high → MixedFrom high keys → MixedFrom low keys
+pub MixedFrom-lower : (low high : ℕ) (keys : List ℕ) → low ≤ high → MixedFrom high keys → MixedFrom low keys
 MixedFrom-lower low high [] below ordered = tt
 MixedFrom-lower low high (key ∷ keys) below ordered = (omega (arith, ordered.0), ordered.1)
 
-MixedFrom-filter : (test : ℕ → Bool) (low : ℕ) (keys : List ℕ) → MixedFrom low keys → MixedFrom low (filter test keys)
+pub MixedFrom-filter : (test : ℕ → Bool) (low : ℕ) (keys : List ℕ) → MixedFrom low keys → MixedFrom low (filter test keys)
 MixedFrom-filter test low [] ordered = tt
 MixedFrom-filter test low (key ∷ keys) ordered =
     let rest = MixedFrom-filter test (mix key) keys ordered.1 in
     kept_or_not test key keys (MixedFrom low) (ordered.0, rest) (MixedFrom-lower low (mix key) (filter test keys) ordered.0 rest)
 
 -- keys in order of their mixed values are one list where each stands as often in both
-one_order : (low : ℕ) (keys others : List ℕ) → MixedFrom low keys → MixedFrom low others → AreKeys keys → AreKeys others → ((key : ℕ) → times key keys ≡ times key others) → keys ≡ others
+pub one_order : (low : ℕ) (keys others : List ℕ) → MixedFrom low keys → MixedFrom low others → AreKeys keys → AreKeys others → ((key : ℕ) → times key keys ≡ times key others) → keys ≡ others
 one_order low [] [] ordered other_ordered fit other_fit same = refl
 one_order low [] (other ∷ others) ordered other_ordered fit other_fit same =
     absurd (omega (arith, same other, times-cons_same other other others refl))
@@ -111,7 +111,7 @@ is_due-append threshold events others from to reports key within =
     ap (λ n. leb threshold n && not (is_listed key reports)) (count-append key events others from to within)
 
 -- a due key occurs
-due_occurs : (threshold : ℕ) (events : List ℕ) (from to : ℕ) (reports : List Report) (key : ℕ) → 1 ≤ threshold → is_due threshold events from to reports key ≡ true → 1 ≤ times key events
+pub due_occurs : (threshold : ℕ) (events : List ℕ) (from to : ℕ) (reports : List Report) (key : ℕ) → 1 ≤ threshold → is_due threshold events from to reports key ≡ true → 1 ≤ times key events
 due_occurs threshold events from to reports key positive due =
     let parts = and_parts (leb threshold (count key events from to)) (not (is_listed key reports)) due in
     omega (arith, leb-true threshold (count key events from to) parts.0, count_le-times key events from to)

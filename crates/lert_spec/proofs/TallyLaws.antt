@@ -11,10 +11,10 @@ use Rattle.lert_spec.proofs.MixLaws.{tail_below}
 use Rattle.lert_spec.proofs.Tables.{AscendsFrom-plus, count_of-plus, count_of-below, total-plus}
 
 -- a piece at the front counts for its tail alone
-count_of-cons_same : (p : Piece) (ps : List Piece) (tail : ℕ) → p.tail ≡ tail → count_of (p ∷ ps) tail ≡ p.count
+pub count_of-cons_same : (p : Piece) (ps : List Piece) (tail : ℕ) → p.tail ≡ tail → count_of (p ∷ ps) tail ≡ p.count
 count_of-cons_same p ps tail same = ap (λ t. cond t p.count (count_of ps tail)) (eq-eqb p.tail tail same)
 
-count_of-cons_other : (p : Piece) (ps : List Piece) (tail : ℕ) → p.tail ≢ tail → count_of (p ∷ ps) tail ≡ count_of ps tail
+pub count_of-cons_other : (p : Piece) (ps : List Piece) (tail : ℕ) → p.tail ≢ tail → count_of (p ∷ ps) tail ≡ count_of ps tail
 count_of-cons_other p ps tail differs = ap (λ t. cond t p.count (count_of ps tail)) (ne_eqb p.tail tail differs)
 
 -- a count table is known by its counts
