@@ -1,6 +1,6 @@
 -- What `all` and `any` decide, where the test decides a fact of each element.
-use Rattle.std.proofs.Common.{◌≡◌, ℕ, ◌<◌, Bool, true, false, List, [], ◌∷◌, length, get_or, Decides, MatchBool, refl, arith}
-use Rattle.std.specs.List.{All, AllWithin, Any, Contains, HoldsAt}
+use Rattle.std.proofs.Common.{ℕ, ◌<◌, Bool, true, false, List, [], ◌∷◌, length, get_or, Decides, MatchBool, refl, arith}
+use Rattle.std.specs.List.{All, AllWithin, Any, HoldsAt}
 use Rattle.std.proofs.lemmas.Bool.{false≢true}
 use Rattle.std.proofs.lemmas.Iterator.Search.{true_from_All, true_from_Any}
 use Rattle.std.proofs.lemmas.List.Elements.{All-from_all_within, Contains-get_or}

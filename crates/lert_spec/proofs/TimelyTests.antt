@@ -1,8 +1,8 @@
 -- What follows from tests of each report and each event: no light key is reported, and each heavy key has what each event has.
-use Rattle.std.proofs.Common.{◌≡◌, ℕ, zero, suc, ◌+◌, ◌<◌, ◌≤◌, ◌==◌, ◌⊎◌, inl, inr, cond, List, [], ◌∷◌, length, get_or, refl, ap, sym, ◌∙◌, subst, arith, leb, ltb}
+use Rattle.std.proofs.Common.{◌≡◌, ℕ, zero, suc, ◌<◌, ◌≤◌, ◌==◌, inl, inr, cond, List, [], ◌∷◌, length, get_or, refl, ap, subst, arith}
 use Rattle.std.specs.Prelude.{count_by}
-use Rattle.std.specs.List.{All, Any, Contains}
-use Rattle.std.proofs.lemmas.Bool.Decides.{eqb_tells, nat_tests}
+use Rattle.std.specs.List.{All, Any}
+use Rattle.std.proofs.lemmas.Bool.Decides.{eqb_tells}
 use Rattle.std.proofs.lemmas.List.Elements.{All-contains, Contains-get_or}
 use Rattle.std.proofs.lemmas.List.Sums.{sum_by-cons}
 use Rattle.lert_spec.specs.declared.report.Report.{Report}

@@ -1,6 +1,6 @@
-use Rattle.std.proofs.Common.{length, Decides, sym, ◌∙◌}
+use Rattle.std.proofs.Common.{sym, ◌∙◌}
 use Rattle.std.proofs.lemmas.Bool.{false≢true}
-use Rattle.lert_spec.specs.Timely.{IsTimely, IsReportedOnTime}
+use Rattle.lert_spec.specs.Timely.{IsReportedOnTime}
 use Rattle.lert_spec.proofs.TimelyTests.{light_isn't_listed, listed_is_heavy, each_heavy}
 use Rattle.lert_spec.proofs.timely.is_timely.Goals as goal
 use Rattle.lert_spec.proofs.timely.is_timely.Goals.{then-are_in_order, else-are_in_order}

@@ -1,4 +1,4 @@
-use Rattle.std.proofs.Common.{◌⊎◌, length, Decides, sym, ◌∙◌}
+use Rattle.std.proofs.Common.{◌⊎◌, sym, ◌∙◌}
 use Rattle.std.proofs.lemmas.Bool.{false≢true}
 use Rattle.lert_spec.specs.Timely.{IsReportedOnTime, IsNotYetDue}
 use Rattle.lert_spec.proofs.TimelyTests.{light_isn't_listed, listed_is_heavy, each_heavy}
