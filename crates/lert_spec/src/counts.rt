@@ -1,4 +1,4 @@
-//! Counts and occurrences of keys as their definitions say them: the events are gone through for each answer.
+//! Counts and occurrences of keys as their definitions say them: the events are gone through anew for each position.
 
 ghost use Rattle.std.specs.Prelude.{◌≡◌, ◌<◌, ◌≤◌, length, insert, IfOk, IfSome, MatchOption};
 ghost use Rattle.lert_spec.specs.Counts.{count, nth_occurrence, first, insert_key, distinct, heavy};

@@ -1,6 +1,7 @@
 //! Tests whether reports are timely, as the definition says it: for each key, all events and all reports are looked at.
 //!
-//! The time spent grows with the square of the number of events, times that of the reports. Nothing here takes memory.
+//! The time spent grows with the cube of the number of events, and for each event the reports are gone through. Nothing
+//! here takes memory.
 
 ghost use Rattle.std.specs.Prelude.{◌≡◌, ◌-◌, ◌*◌, ◌^◌, ◌<◌, ◌≤◌, ◌↔◌, ◌⊎◌, All, IsTrue, SomeIff, length, map};
 ghost use Rattle.std.specs.List.{Any};
@@ -21,7 +22,7 @@ pub fn times_listed(key: u64, reports: &[Report]) -> usize
     reports.iter().filter(|report| report.key == key).count()
 }
 
-// How late a report at `at` is, in units of which a key may have as many as it took to get there.
+// How late a report at `at` is, times the bins but one: none from 2^64 on.
 fn lateness(bins: u64, reached_at: u64, at: u64) -> Option<u64>
     ensures { let late = (at - reached_at) * (bins - 1) in SomeIff result (late < 2 ^ 64) late }
 {
