@@ -10,6 +10,7 @@ pub mod counts;
 pub mod edges;
 pub mod lines;
 mod numbers;
+pub mod parts;
 mod piece;
 mod report;
 pub mod reports;

@@ -18,7 +18,7 @@ use std::alloc::{AllocError, Global};
 mod tests;
 
 // The mixed value of a key.
-fn mixed(key: u64) -> u64
+pub(crate) fn mixed(key: u64) -> u64
     ensures { result ≡ mix key }
 {
     let key = (key ^ (key >> 33)).wrapping_mul(0xff51_afd7_ed55_8ccd);
