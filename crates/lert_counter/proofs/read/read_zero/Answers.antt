@@ -1,0 +1,26 @@
+use Rattle.std.proofs.Common.{◌≡◌, ℕ, arith, None, ap, ◌∙◌, get_or, length, refl, inl, min, take, subst, List}
+use Rattle.std.proofs.lemmas.List.{take_min}
+use Rattle.lert_counter.specs.Reading.{HasTwoZeros}
+use Rattle.lert_counter.specs.Group.{group, BeginsWith}
+use Rattle.lert_counter.proofs.FrontLemmas.{begins_alone}
+use Rattle.lert_counter.proofs.read.read_zero.Goals as goal
+
+pub returns : goal.returns
+returns c = record {
+  there = λ count least most begins.
+      let at_first : BeginsWith c.args.rest.now (group c.args.width (get_or c.args.rest.now 0 0) count) = rw c.requires.first begins in
+      let found = c.read_zero_counter.ensures.there count least most at_first in
+      let none : c.read_zero_counter.result ≡ None = c.in_default.is in
+      cc (found, none);
+  read = (
+    begins_alone c.args.width c.args.rest.now (omega arith) c.requires.first,
+    inl (
+      refl,
+      (
+          let shorter : c.min.result ≡ min 9 (length c.args.rest.now) = omega (arith, c.min.ensures) in
+          let nine = ap (λ n. take n c.args.rest.now) shorter ∙ take_min 9 c.args.rest.now in
+          subst (λ (t : List ℕ). ¬ HasTwoZeros t) nine (c.has_two_zeros.ensures.absent c.if-has_two_zeros.false)),
+    ),
+  );
+  none = tt;
+}

@@ -1,0 +1,64 @@
+use Rattle.std.proofs.Common.{◌≡◌, ℕ, arith, Some, ◌++◌, ◌∷◌, List, get_or, drop, ap, ◌∙◌, sym, subst, refl, inl, inr}
+use Rattle.lert_counter.specs.Group.{group}
+use Rattle.lert_counter.specs.Reading.{read_as, HasTwoZeros}
+use Rattle.lert_counter.proofs.CounterLemmas.{group-one}
+use Rattle.lert_counter.proofs.FrontLemmas.{short_of, read_one}
+use Rattle.lert_counter.proofs.FrontLemmas.ShortOf.{known, alone_or_counter, behind_counter}
+use Rattle.lert_counter.proofs.read.scan_group.Goals as goal
+
+pub returns-in-Some : goal.returns-in-Some
+returns-in-Some c = record {
+  there = λ x count back counts text follows.
+      elim (short_of c.args.width x count back c.args.rest.now (Some c.in-Some.group) counts text follows c.in-Some.ensures) [
+        | known e ↦ e
+        | alone_or_counter z none long first which ↦ cc none
+        | behind_counter p none long first least ↦ cc none
+      ];
+}
+
+pub returns-then-rest-gt0 : goal.returns-then-rest-gt0
+returns-then-rest-gt0 c = record {
+  there = λ x count back counts text follows.
+      elim (short_of c.args.width x count back c.args.rest.now c.short_group.result counts text follows c.short_group.ensures) [
+        | known e ↦ cc (e, c.in_default.is)
+        | alone_or_counter z none long first which ↦ absurd (omega arith)
+        | behind_counter p none long first least ↦
+            (let whole : c.args.rest.now ≡ group c.args.width (get_or c.args.rest.now 0 0) count ++ back = text ∙ ap (λ y. group c.args.width y count ++ back) (sym first) in
+            c.scan_counter.ensures.there count back least counts.1 whole ∙ ap (λ y. Some (read_as c.args.width y count)) first)
+      ];
+}
+
+pub returns-in-Some-scan_zero : goal.returns-in-Some-scan_zero
+returns-in-Some-scan_zero c = record {
+  there = λ x count back counts text follows.
+      elim (short_of c.args.width x count back c.args.rest.now c.short_group.result counts text follows c.short_group.ensures) [
+        | known e ↦ cc (e, c.in_default.is)
+        | behind_counter p none long first least ↦ absurd (omega arith)
+        | alone_or_counter z none long first which ↦ elim which [
+          | inl e ↦ absurd (follows.apart z (
+              let is : c.args.rest.now ≡ x ∷ back = text ∙ ap (λ n. group c.args.width x n ++ back) e ∙ ap (λ (t : List ℕ). t ++ back) (group-one c.args.width x) in
+              subst HasTwoZeros (ap (λ (t : List ℕ). drop 1 t) is) (c.in-Some-scan_zero.ensures.zeros refl)))
+          | inr least ↦
+              (let whole : c.args.rest.now ≡ group c.args.width 0 count ++ back = text ∙ ap (λ y. group c.args.width y count ++ back) z in
+              let found = c.scan_zero.ensures.there count back least counts.1 whole in
+              let was = c.in-Some-scan_zero.is in
+              let same : Some c.in-Some-scan_zero.group ≡ Some (read_as c.args.width 0 count) = cc (found, was) in
+              same ∙ ap (λ y. Some (read_as c.args.width y count)) (sym z))
+        ]
+      ];
+}
+
+pub returns : goal.returns
+returns c = record {
+  there = λ x count back counts text follows.
+      elim (short_of c.args.width x count back c.args.rest.now c.short_group.result counts text follows c.short_group.ensures) [
+        | known e ↦ cc (e, c.in_default.is)
+        | behind_counter p none long first least ↦ absurd (omega arith)
+        | alone_or_counter z none long first which ↦ elim which [
+          | inl e ↦ ap Some (sym (read_one c.args.width x count e ∙ ap (λ y. record { x = y; count = 1; used = 1 }) z))
+          | inr least ↦
+              (let whole : c.args.rest.now ≡ group c.args.width 0 count ++ back = text ∙ ap (λ y. group c.args.width y count ++ back) z in
+              cc (c.scan_zero.ensures.there count back least counts.1 whole, c.in_default-scan_zero.is))
+        ]
+      ];
+}
