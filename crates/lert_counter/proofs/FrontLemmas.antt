@@ -1,11 +1,11 @@
 -- What the first values of a text say of the group at its front.
-use Rattle.std.proofs.Common.{◌≡◌, ℕ, ◌-◌, ◌^◌, ◌<◌, ◌≤◌, ◌≢◌, List, [], ◌∷◌, ◌++◌, length, map, drop, get_or, refl, sym, ap, ◌∙◌, subst, inl, inr, ◌⊎◌, arith, length-append, append_assoc, Option, Some, None, IsNone}
-use Rattle.std.proofs.lemmas.List.{get_or_append_left, length-map, take-append-drop}
+use Rattle.std.proofs.Common.{◌≡◌, ℕ, suc, zero, ◌+◌, ◌-◌, ◌^◌, ◌<◌, ◌≤◌, ◌≢◌, List, [], ◌∷◌, ◌++◌, length, map, take, drop, get_or, refl, sym, ap, ◌∙◌, subst, inl, inr, ◌⊎◌, arith, length-append, append_assoc, Option, Some, None, IsNone}
+use Rattle.std.proofs.lemmas.List.{get_or_append_left, length-map, take-append-drop, take_at, length-take, length-drop, get_or-take, get_or-drop}
 use Rattle.std.proofs.lemmas.Bool.{cases_lt, cases_eq}
 use Rattle.std.proofs.lemmas.Option.{IfSome_then}
 use Rattle.std.specs.Prelude.{IfSome}
 use Rattle.lert_counter.specs.Group.{digits, written, digit_base, group, IsCount, BeginsWith}
-use Rattle.lert_counter.specs.Reading.{read_as, IsReadFrom, Follows}
+use Rattle.lert_counter.specs.Reading.{read_as, HasTwoZeros, IsReadFrom, Follows}
 use Rattle.lert_counter.specs.declared.group.Group.{Group}
 use Rattle.lert_counter.proofs.DigitLemmas.{length_digits-positive, digits-first}
 use Rattle.lert_counter.proofs.CounterLemmas.{counter-zero, counter-guarded, counter-bare, group-counter, group-one, group-two, group-three}
@@ -86,7 +86,8 @@ ShortRead text result = record {
   three_zeros : 2 < length text → get_or text 0 0 ≡ 0 → get_or text 1 0 ≡ 0 → get_or text 2 0 ≡ 0 → result ≡ Some (record { x = 0; count = 3; used = 3 });
   below : 1 < length text → get_or text 1 0 < get_or text 0 0 → result ≡ None;
   zero : 1 < length text → get_or text 0 0 ≡ 0 → 0 < get_or text 1 0 → result ≡ None;
-  none : IsNone result → 1 < length text;
+  none : IsNone result → (1 < length text) × (get_or text 1 0 ≢ get_or text 0 0);
+  begins : (width : ℕ) → IfSome result (IsReadFrom width text);
 }
 
 -- a counter that was found and then checked
@@ -170,3 +171,52 @@ begins_alone width (y ∷ ys) some z = record {
   begins = rw (group-one width 0) (ap (λ n. n ∷ []) z);
   len = rw (group-one width 0) refl;
 }
+
+-- what the first values say where no digits stand
+pub begins_one : (width : ℕ) (rest : List ℕ) → 0 < length rest → IsReadFrom width rest (record { x = get_or rest 0 0; count = 1; used = 1 })
+begins_one width [] some = absurd (omega arith)
+begins_one width (y ∷ ys) some = record {
+  first = refl;
+  counts = (omega arith, omega arith);
+  begins = rw (group-one width y) refl;
+  len = rw (group-one width y) refl;
+}
+
+pub begins_two : (width : ℕ) (rest : List ℕ) → 1 < length rest → get_or rest 1 0 ≡ get_or rest 0 0 → IsReadFrom width rest (record { x = get_or rest 0 0; count = 2; used = 2 })
+begins_two width [] some same = absurd (omega arith)
+begins_two width (y ∷ []) some same = absurd (omega arith)
+begins_two width (y ∷ z ∷ ys) some same = record {
+  first = refl;
+  counts = (omega arith, omega arith);
+  begins = rw (group-two width y) (ap (λ n. y ∷ n ∷ []) same);
+  len = rw (group-two width y) refl;
+}
+
+pub begins_three : (width : ℕ) (rest : List ℕ) → 2 < length rest → get_or rest 0 0 ≡ 0 → get_or rest 1 0 ≡ 0 → get_or rest 2 0 ≡ 0 → IsReadFrom width rest (record { x = get_or rest 0 0; count = 3; used = 3 })
+begins_three width [] some a b d = absurd (omega arith)
+begins_three width (y ∷ []) some a b d = absurd (omega arith)
+begins_three width (y ∷ z ∷ []) some a b d = absurd (omega arith)
+begins_three width (y ∷ z ∷ v ∷ ys) some a b d = record {
+  first = refl;
+  counts = (omega arith, omega arith);
+  begins = rw (a, b, d, group-three width) refl;
+  len = rw (a, group-three width) refl;
+}
+
+pub begins_front : (text front back : List ℕ) → text ≡ front ++ back → BeginsWith text front
+begins_front text front back e = ap (λ (t : List ℕ). take (length front) t) e ∙ take_at front back (length front) refl
+
+-- zeros among the first nine values stand behind a first one that is 0 alone
+pub zeros_later : (rest : List ℕ) (n : ℕ) → 0 < get_or rest 1 0 → HasTwoZeros (take n rest) → HasTwoZeros (drop 1 rest)
+zeros_later rest n second (zero, within, first, next) =
+    absurd (let long = length-take n rest in let e = get_or-take n rest 1 0 (omega arith) in omega arith)
+zeros_later rest n second (suc k, within, first, next) =
+    let long = length-take n rest in
+    let a = get_or-take n rest (suc k) 0 (omega arith) in
+    let b = get_or-take n rest (suc k + 1) 0 (omega arith) in
+    let at : 1 + k ≡ suc k = omega arith in
+    let at_next : 1 + (k + 1) ≡ suc k + 1 = omega arith in
+    ( k
+    , simp length-drop (omega arith)
+    , get_or-drop 1 rest k 0 ∙ rw at (sym a ∙ first)
+    , get_or-drop 1 rest (k + 1) 0 ∙ rw at_next (sym b ∙ next))

@@ -1,6 +1,9 @@
 pub mod CounterLemmas
 pub mod DigitLemmas
 pub mod FrontLemmas
+pub mod GroupLemmas
+pub mod GrowthLemmas
 pub mod RoundTrip
 pub mod ScanLemmas
+pub mod SlotLemmas
 pub mod Widths

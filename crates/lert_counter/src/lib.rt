@@ -9,6 +9,8 @@
 mod digits;
 mod group;
 mod read;
+#[cfg(test)]
+mod tests;
 mod write;
 
 pub use group::{GREATEST_COUNT, Group};

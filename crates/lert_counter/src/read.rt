@@ -161,7 +161,9 @@ fn short_group(rest: &[u64]) -> Option<Group>
     ensures below { 1 < length rest.now → slice_index rest.now 1 < slice_index rest.now 0 → result ≡ None }
     ensures zero { 1 < length rest.now → slice_index rest.now 0 ≡ 0 → 0 < slice_index rest.now 1
         → result ≡ None }
-    ensures none { IsNone result → 1 < length rest.now }
+    ensures none { IsNone result → (1 < length rest.now)
+        × (slice_index rest.now 1 ≢ slice_index rest.now 0) }
+    ensures begins { (width : ℕ) → IfSome result (IsReadFrom width rest.now) }
 {
     let x = rest[0];
     if rest.len() == 1 || 0 < x && x < rest[1] {
@@ -194,7 +196,8 @@ fn read_zero_counter(width: u32, rest: &[u64]) -> Option<Group>
     requires wide { width ≤ 62 }
     requires two { 1 < length rest.now }
     requires first { slice_index rest.now 0 ≡ 0 }
-    ensures { IsCounterRead width 4 rest.now result }
+    ensures counter { IsCounterRead width 4 rest.now result }
+    ensures zeros { IsSome result → HasTwoZeros (drop 1 rest.now) }
 {
     let found = scan_zero(width, rest)?;
     checked(width, found, rest)
@@ -206,7 +209,10 @@ fn read_zero(width: u32, rest: &[u64]) -> Option<Group>
     requires wide { width ≤ 62 }
     requires two { 1 < length rest.now }
     requires first { slice_index rest.now 0 ≡ 0 }
-    ensures { IsZeroRead width rest.now result }
+    requires second { 0 < slice_index rest.now 1 }
+    ensures zero { IsZeroRead width rest.now result }
+    ensures alone { ¬ HasTwoZeros (drop 1 rest.now)
+        → result ≡ Some (record { x = 0; count = 1; used = 1 }) }
 {
     if let Some(group) = read_zero_counter(width, rest) {
         return Some(group);
@@ -237,6 +243,7 @@ fn read_counter(width: u32, rest: &[u64]) -> Option<Group>
 pub fn read_group(width: u32, rest: &[u64]) -> Option<Group>
     requires narrow { 8 ≤ width }
     requires wide { width ≤ 62 }
+    ensures begins { IfSome result (IsReadFrom width rest.now) }
     ensures empty { length rest.now ≡ 0 → result ≡ None }
     ensures alone { length rest.now ≡ 1
         → result ≡ Some (record { x = slice_index rest.now 0; count = 1; used = 1 }) }
@@ -259,6 +266,10 @@ pub fn read_group(width: u32, rest: &[u64]) -> Option<Group>
         → slice_index rest.now 2 ≡ 0 → result ≡ Some (record { x = 0; count = 3; used = 3 }) }
     ensures zero { 1 < length rest.now → slice_index rest.now 0 ≡ 0 → 0 < slice_index rest.now 1
         → IsZeroRead width rest.now result }
+
+    // A group is read wherever it may stand in a run text.
+    ensures in_run { (x c : ℕ) (back : List ℕ) → IsCount c → rest.now ≡ group width x c ++ back
+        → Follows x back → result ≡ Some (read_as width x c) }
 {
     if rest.is_empty() {
         return None;

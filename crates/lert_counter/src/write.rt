@@ -1,6 +1,6 @@
 //! Writing a group.
 
-ghost use Rattle.std.specs.Prelude.{◌≡◌, ℕ, ◌+◌, ◌-◌, ◌^◌, ◌<◌, ◌≤◌, ◌++◌, [], ◌∷◌, List, take, drop, length};
+ghost use Rattle.std.specs.Prelude.{◌≡◌, ℕ, ◌+◌, ◌-◌, ◌^◌, ◌<◌, ◌≤◌, ◌++◌, [], ◌∷◌, List, take, drop, length, All};
 ghost use Rattle.lert_counter.specs.Group.{group, counter, IsCount};
 
 use crate::digits::{base_beside, leading_digit, put_digits, slot_of};
@@ -62,6 +62,9 @@ pub fn write_group(width: u32, x: u64, count: u64, into: &mut [u64]) -> usize
     ensures front { take result into.new ≡ group width x count }
     ensures rest { drop result into.new ≡ drop result into.old }
     ensures within { result ≤ 9 }
+
+    // The slots are as wide as the remainder.
+    ensures below { x < 2 ^ width → All (λ slot. slot < 2 ^ width) (group width x count) }
 {
     if count == 1 {
         into[0] = x;

@@ -2,14 +2,14 @@ use Rattle.std.proofs.Common.{◌≡◌, ℕ, arith, None, ap, ◌∙◌, get_or
 use Rattle.std.proofs.lemmas.List.{take_min}
 use Rattle.lert_counter.specs.Reading.{HasTwoZeros}
 use Rattle.lert_counter.specs.Group.{group, BeginsWith}
-use Rattle.lert_counter.proofs.FrontLemmas.{begins_alone}
+use Rattle.lert_counter.proofs.FrontLemmas.{begins_alone, zeros_later}
 use Rattle.lert_counter.proofs.read.read_zero.Goals as goal
 
-pub returns : goal.returns
-returns c = record {
+pub returns-clause-zero : goal.returns-clause-zero
+returns-clause-zero c = record {
   there = λ count least most begins.
       let at_first : BeginsWith c.args.rest.now (group c.args.width (get_or c.args.rest.now 0 0) count) = rw c.requires.first begins in
-      let found = c.read_zero_counter.ensures.there count least most at_first in
+      let found = c.read_zero_counter.ensures.counter.there count least most at_first in
       let none : c.read_zero_counter.result ≡ None = c.in_default.is in
       cc (found, none);
   read = (
@@ -24,3 +24,7 @@ returns c = record {
   );
   none = tt;
 }
+
+pub returns-then-has_two_zeros-clause-alone : goal.returns-then-has_two_zeros-clause-alone
+returns-then-has_two_zeros-clause-alone c = λ apart.
+    absurd (apart (zeros_later c.args.rest.now c.min.result c.requires.second (c.has_two_zeros.ensures.found c.if-has_two_zeros.true)))

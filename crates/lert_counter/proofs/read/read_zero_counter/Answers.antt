@@ -4,8 +4,8 @@ use Rattle.lert_counter.specs.Reading.{read_as}
 use Rattle.lert_counter.proofs.FrontLemmas.{begins_split, checked_read}
 use Rattle.lert_counter.proofs.read.read_zero_counter.Goals as goal
 
-pub returns-in_err-found : goal.returns-in_err-found
-returns-in_err-found c = record {
+pub returns-in_err-found-clause-counter : goal.returns-in_err-found-clause-counter
+returns-in_err-found-clause-counter c = record {
   there = λ count least most begins.
       let at_zero : BeginsWith c.args.rest.now (group c.args.width 0 count) = rw c.requires.first at begins in
       let found = c.scan_zero.ensures.there count _ least most (begins_split c.args.rest.now (group c.args.width 0 count) at_zero) in
@@ -13,8 +13,8 @@ returns-in_err-found c = record {
   read = rw c.from_residual.ensures tt;
 }
 
-pub returns : goal.returns
-returns c =
+pub returns-clause-counter : goal.returns-clause-counter
+returns-clause-counter c =
     let was : c.scan_zero.result ≡ Some c.in_ok-found.found = c.in_ok-found.was in
     let shape = c.in_ok-found.ensures.shape in
     record {

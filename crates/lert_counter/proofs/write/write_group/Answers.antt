@@ -2,6 +2,7 @@ use Rattle.std.proofs.Common.{arith, ◌∙◌, sym, ap, ◌≡◌}
 use Rattle.std.proofs.lemmas.List.{length-set}
 use Rattle.lert_counter.specs.Group.{counter}
 use Rattle.lert_counter.proofs.CounterLemmas.{length_from_front, front-one, front-two, front-three, group-counter}
+use Rattle.lert_counter.proofs.SlotLemmas.{slots_below}
 use Rattle.lert_counter.proofs.write.write_group.Goals as goal
 
 pub returns-then-count-eq1-clause-front : goal.returns-then-count-eq1-clause-front
@@ -49,3 +50,18 @@ returns-clause-len c =
     length_from_front c.write_zero_counter.result c.write_zero_counter.new.into _ (omega arith)
     (c.write_zero_counter.ensures.front ∙ ap (λ x. counter c.args.width x c.args.count) (sym zero)
     ∙ sym (group-counter c.args.width c.args.x c.args.count (omega arith) (λ z. omega arith)))
+
+pub returns-then-count-eq1-clause-below : goal.returns-then-count-eq1-clause-below
+returns-then-count-eq1-clause-below c = slots_below c.args.width c.args.x c.args.count c.requires.narrow c.requires.count
+
+pub returns-then-count-eq2-clause-below : goal.returns-then-count-eq2-clause-below
+returns-then-count-eq2-clause-below c = slots_below c.args.width c.args.x c.args.count c.requires.narrow c.requires.count
+
+pub returns-then-x-gt0-clause-below : goal.returns-then-x-gt0-clause-below
+returns-then-x-gt0-clause-below c = slots_below c.args.width c.args.x c.args.count c.requires.narrow c.requires.count
+
+pub returns-then-count-eq3-clause-below : goal.returns-then-count-eq3-clause-below
+returns-then-count-eq3-clause-below c = slots_below c.args.width c.args.x c.args.count c.requires.narrow c.requires.count
+
+pub returns-clause-below : goal.returns-clause-below
+returns-clause-below c = slots_below c.args.width c.args.x c.args.count c.requires.narrow c.requires.count

@@ -1,0 +1,171 @@
+-- How the length of a group grows with its count.
+use Rattle.std.proofs.Common.{◌≡◌, ℕ, suc, zero, ◌+◌, ◌-◌, ◌*◌, ◌/◌, ◌%◌, ◌^◌, ◌<◌, ◌≤◌, ◌≢◌, Bool, true, false, cond, ltb, eqb, List, [], ◌∷◌, ◌++◌, length, map, take, drop, get_or, set, refl, sym, ap, ◌∙◌, subst, inl, inr, ◌⊎◌, arith, rules, length-append, append_assoc}
+use Rattle.std.proofs.lemmas.List.{length-map, get_or_append_left}
+use Rattle.std.proofs.Math.Nat.{div-lt_self, div-mul-le_self}
+use Rattle.std.proofs.lemmas.Nat.{le-div}
+use Rattle.std.proofs.lemmas.Bool.{cases_lt, cases_eq}
+use Rattle.std.proofs.lemmas.Bool.Decides.{nat_tests}
+use Rattle.lert_counter.specs.Group.{digits, written, digit_base, counter, group, IsCount}
+use Rattle.lert_counter.proofs.DigitLemmas.{length_digits-le, length_digits-positive, digits-suc, digits-last}
+use Rattle.lert_counter.proofs.Widths.{width_least}
+use Rattle.lert_counter.proofs.GroupLemmas.{Shape, shape_of, length_middle, length_group-positive}
+use Rattle.lert_counter.proofs.GroupLemmas.Shape.{one, two, three, zeros, bare, guarded}
+
+-- a number's digits are at most one more than the number
+pub length_digits-number : (room b n : ℕ) → 2 ≤ b → length (digits room b n) ≤ n + 1
+length_digits-number zero b n least = omega arith
+length_digits-number (suc room) b n least =
+    elim (cases_lt n b) [
+      | inl less ↦ (let e : digits (suc room) b n ≡ n ∷ [] = digits-last room b n less in omega (arith, ap (λ (t : List ℕ). length t) e))
+      | inr more ↦ (let shorter = length_digits-number room b (n / b) least in
+          let half : n / b + 1 ≤ n = let p : 0 < n = omega arith in let q : 1 < b = omega arith in (let r : n / b < n = div-lt_self p q in omega arith) in
+          omega (arith, ap (λ (t : List ℕ). length t) (digits-suc room b n more), length-append (digits room b (n / b)) (n % b ∷ [])))
+    ]
+
+-- a greater number has more digits, or as many and no smaller first
+pub digits_grow : (room b n m : ℕ) → 0 < b → n ≤ m
+    → (length (digits room b n) < length (digits room b m)) ⊎ ((length (digits room b n) ≡ length (digits room b m)) × (get_or (digits room b n) 0 0 ≤ get_or (digits room b m) 0 0))
+digits_grow zero b n m positive h = inr (refl, h)
+digits_grow (suc room) b n m positive h =
+    elim (cases_lt n b) [
+      | inl less ↦ (let short : digits (suc room) b n ≡ n ∷ [] = digits-last room b n less in
+          elim (cases_lt m b) [
+            | inl lower ↦ (let last : digits (suc room) b m ≡ m ∷ [] = digits-last room b m lower in rw (short, last) (inr (refl, h)))
+            | inr more ↦ inl (let some = length_digits-positive room b (m / b) in
+                omega (arith, ap (λ (t : List ℕ). length t) short, ap (λ (t : List ℕ). length t) (digits-suc room b m more), length-append (digits room b (m / b)) (m % b ∷ [])))
+          ])
+      | inr more ↦ (let over : b ≤ m = omega arith in
+          let n_is = digits-suc room b n more in
+          let m_is = digits-suc room b m over in
+          let n_long = ap (λ (t : List ℕ). length t) n_is ∙ length-append (digits room b (n / b)) (n % b ∷ []) in
+          let m_long = ap (λ (t : List ℕ). length t) m_is ∙ length-append (digits room b (m / b)) (m % b ∷ []) in
+          let n_first = ap (λ (t : List ℕ). get_or t 0 0) n_is ∙ get_or_append_left (digits room b (n / b)) (n % b ∷ []) 0 0 (length_digits-positive room b (n / b)) in
+          let m_first = ap (λ (t : List ℕ). get_or t 0 0) m_is ∙ get_or_append_left (digits room b (m / b)) (m % b ∷ []) 0 0 (length_digits-positive room b (m / b)) in
+          elim (digits_grow room b (n / b) (m / b) positive (le-div (n / b) m b positive (let under = div-mul-le_self n b in omega arith))) [
+            | inl shorter ↦ inl (omega arith)
+            | inr same ↦ inr (omega (arith, same.0), omega (arith, same.1))
+          ])
+    ]
+
+-- a greater digit is written as a greater value
+written-grows : (x d e : ℕ) → d ≤ e → written x d ≤ written x e
+written-grows x d e h = grind (arith, nat_tests)
+
+base_least : (width x : ℕ) → 8 ≤ width → 2 ≤ digit_base width x
+base_least width x wide = let least = width_least width wide in grind (arith, nat_tests)
+
+-- the lengths of the texts that have digits
+length_zeros : (width c : ℕ) (t : List ℕ) → t ≡ 0 ∷ (map (written 0) (digits 5 (digit_base width 0) (c - 4)) ++ 0 ∷ 0 ∷ []) → length t ≡ length (digits 5 (digit_base width 0) (c - 4)) + 3
+length_zeros width c t is = omega (arith, ap (λ (t : List ℕ). length t) is, length_middle 0 (c - 4) (digit_base width 0) (0 ∷ 0 ∷ []))
+
+length_bare : (width x c : ℕ) (t : List ℕ) → t ≡ x ∷ (map (written x) (digits 5 (digit_base width x) (c - 3)) ++ x ∷ []) → length t ≡ length (digits 5 (digit_base width x) (c - 3)) + 2
+length_bare width x c t is = omega (arith, ap (λ (t : List ℕ). length t) is, length_middle x (c - 3) (digit_base width x) (x ∷ []))
+
+length_guarded : (width x c : ℕ) (t : List ℕ) → t ≡ x ∷ 0 ∷ (map (written x) (digits 5 (digit_base width x) (c - 3)) ++ x ∷ []) → length t ≡ length (digits 5 (digit_base width x) (c - 3)) + 3
+length_guarded width x c t is = omega (arith, ap (λ (t : List ℕ). length t) is, length_middle x (c - 3) (digit_base width x) (x ∷ []))
+
+-- a group is at most twice as long as its count
+pub length_group-twice : (width x c : ℕ) → 8 ≤ width → 1 ≤ c → length (group width x c) ≤ 2 * c
+length_group-twice width x c wide positive =
+    let few = length_digits-number 5 (digit_base width x) (c - 3) (base_least width x wide) in
+    let few_zero = length_digits-number 5 (digit_base width 0) (c - 4) (base_least width 0 wide) in
+    elim (shape_of width x c positive) [
+      | one e is ↦ omega (arith, ap (λ (t : List ℕ). length t) is)
+      | two e is ↦ omega (arith, ap (λ (t : List ℕ). length t) is)
+      | three z e is ↦ omega (arith, ap (λ (t : List ℕ). length t) is)
+      | zeros z l is ↦ omega (arith, length_zeros width c _ is)
+      | bare p l w is ↦ omega (arith, length_bare width x c _ is)
+      | guarded p l w is ↦ omega (arith, length_guarded width x c _ is)
+    ]
+
+-- the least lengths of a group, by its count
+least_length : (width x c : ℕ) → 2 ≤ c → 2 ≤ length (group width x c)
+least_length width x c h =
+    let some = length_digits-positive 5 (digit_base width 0) (c - 4) in
+    let some_above = length_digits-positive 5 (digit_base width x) (c - 3) in
+    elim (shape_of width x c (omega arith)) [
+      | one e is ↦ absurd (omega arith)
+      | two e is ↦ omega (arith, ap (λ (t : List ℕ). length t) is)
+      | three z e is ↦ omega (arith, ap (λ (t : List ℕ). length t) is)
+      | zeros z l is ↦ omega (arith, length_zeros width c _ is)
+      | bare p l w is ↦ omega (arith, length_bare width x c _ is)
+      | guarded p l w is ↦ omega (arith, length_guarded width x c _ is)
+    ]
+
+-- a counter grows with its count
+bare_grows : (width x c d : ℕ) → 8 ≤ width → 0 < x → 3 ≤ c → c ≤ d → length (group width x c) ≡ length (digits 5 (digit_base width x) (c - 3)) + 2 → length (group width x c) ≤ length (group width x d)
+bare_grows width x c d wide above least h is =
+    let base = base_least width x wide in
+    elim (shape_of width x d (omega arith)) [
+      | one e t ↦ absurd (omega arith)
+      | two e t ↦ absurd (omega arith)
+      | three z e t ↦ absurd (omega arith)
+      | zeros z l t ↦ absurd (omega arith)
+      | bare p l w t ↦ elim (digits_grow 5 (digit_base width x) (c - 3) (d - 3) (omega arith) (omega arith)) [
+        | inl shorter ↦ omega (arith, length_bare width x d _ t)
+        | inr same ↦ omega (arith, length_bare width x d _ t, same.0)
+        ]
+      | guarded p l w t ↦ elim (digits_grow 5 (digit_base width x) (c - 3) (d - 3) (omega arith) (omega arith)) [
+        | inl shorter ↦ omega (arith, length_guarded width x d _ t)
+        | inr same ↦ omega (arith, length_guarded width x d _ t, same.0)
+        ]
+    ]
+
+guarded_grows : (width x c d : ℕ) → 8 ≤ width → 0 < x → 3 ≤ c → c ≤ d → x < written x (get_or (digits 5 (digit_base width x) (c - 3)) 0 0)
+    → length (group width x c) ≡ length (digits 5 (digit_base width x) (c - 3)) + 3 → length (group width x c) ≤ length (group width x d)
+guarded_grows width x c d wide above least h greater is =
+    let base = base_least width x wide in
+    elim (shape_of width x d (omega arith)) [
+      | one e t ↦ absurd (omega arith)
+      | two e t ↦ absurd (omega arith)
+      | three z e t ↦ absurd (omega arith)
+      | zeros z l t ↦ absurd (omega arith)
+      | bare p l w t ↦ elim (digits_grow 5 (digit_base width x) (c - 3) (d - 3) (omega arith) (omega arith)) [
+        | inl shorter ↦ omega (arith, length_bare width x d _ t)
+        | inr same ↦ absurd (omega (arith, written-grows x (get_or (digits 5 (digit_base width x) (c - 3)) 0 0) (get_or (digits 5 (digit_base width x) (d - 3)) 0 0) same.1))
+        ]
+      | guarded p l w t ↦ elim (digits_grow 5 (digit_base width x) (c - 3) (d - 3) (omega arith) (omega arith)) [
+        | inl shorter ↦ omega (arith, length_guarded width x d _ t)
+        | inr same ↦ omega (arith, length_guarded width x d _ t, same.0)
+        ]
+    ]
+
+zeros_grow : (width x c d : ℕ) → 8 ≤ width → x ≡ 0 → 4 ≤ c → c ≤ d → length (group width x c) ≡ length (digits 5 (digit_base width 0) (c - 4)) + 3 → length (group width x c) ≤ length (group width x d)
+zeros_grow width x c d wide z least h is =
+    let base = base_least width 0 wide in
+    elim (shape_of width x d (omega arith)) [
+      | one e t ↦ absurd (omega arith)
+      | two e t ↦ absurd (omega arith)
+      | three y e t ↦ absurd (omega arith)
+      | bare p l w t ↦ absurd (omega arith)
+      | guarded p l w t ↦ absurd (omega arith)
+      | zeros y l t ↦ elim (digits_grow 5 (digit_base width 0) (c - 4) (d - 4) (omega arith) (omega arith)) [
+        | inl shorter ↦ omega (arith, length_zeros width d _ t)
+        | inr same ↦ omega (arith, length_zeros width d _ t, same.0)
+        ]
+    ]
+
+three_grows : (width x d : ℕ) → x ≡ 0 → 3 ≤ d → 3 ≤ length (group width x d)
+three_grows width x d z least =
+    let some = length_digits-positive 5 (digit_base width 0) (d - 4) in
+    elim (shape_of width x d (omega arith)) [
+      | one e t ↦ absurd (omega arith)
+      | two e t ↦ absurd (omega arith)
+      | three y e t ↦ omega (arith, ap (λ (t : List ℕ). length t) t)
+      | bare p l w t ↦ absurd (omega arith)
+      | guarded p l w t ↦ absurd (omega arith)
+      | zeros y l t ↦ omega (arith, length_zeros width d _ t)
+    ]
+
+-- a group never gets shorter as its count rises
+pub length_group-grows : (width x c d : ℕ) → 8 ≤ width → 1 ≤ c → c ≤ d → length (group width x c) ≤ length (group width x d)
+length_group-grows width x c d wide positive h =
+    let some = length_group-positive width x d (omega arith) in
+    elim (shape_of width x c positive) [
+      | one e is ↦ omega (arith, ap (λ (t : List ℕ). length t) is)
+      | two e is ↦ omega (arith, ap (λ (t : List ℕ). length t) is, least_length width x d (omega arith))
+      | three z e is ↦ omega (arith, ap (λ (t : List ℕ). length t) is, three_grows width x d z (omega arith))
+      | zeros z l is ↦ zeros_grow width x c d wide z l h (length_zeros width c _ is)
+      | bare p l w is ↦ bare_grows width x c d wide p l h (length_bare width x c _ is)
+      | guarded p l w is ↦ guarded_grows width x c d wide p l h w (length_guarded width x c _ is)
+    ]

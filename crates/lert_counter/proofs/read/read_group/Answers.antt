@@ -1,0 +1,48 @@
+use Rattle.std.proofs.Common.{◌≡◌, ◌≢◌, ◌<◌, ◌≤◌, ◌^◌, ℕ, arith, Some, None, ◌++◌, ◌∷◌, List, length, get_or, drop, ap, ◌∙◌, sym, subst, refl, inl, inr}
+use Rattle.lert_counter.specs.Group.{group, BeginsWith}
+use Rattle.lert_counter.specs.Reading.{read_as, HasTwoZeros}
+use Rattle.std.proofs.Common.{length-append}
+use Rattle.std.proofs.lemmas.Bool.Decides.{nat_tests}
+use Rattle.lert_counter.proofs.CounterLemmas.{group-one}
+use Rattle.lert_counter.proofs.GroupLemmas.{length_group-positive}
+use Rattle.lert_counter.proofs.FrontLemmas.{short_of, read_one, begins_front}
+use Rattle.lert_counter.proofs.FrontLemmas.ShortOf.{known, alone_or_counter, behind_counter}
+use Rattle.lert_counter.proofs.read.read_group.Goals as goal
+
+pub returns-then-is_empty-clause-in_run : goal.returns-then-is_empty-clause-in_run
+returns-then-is_empty-clause-in_run c = λ x count back counts text follows.
+    let none : length c.args.rest.now ≡ 0 = grind (arith, nat_tests) in
+    let some = length_group-positive c.args.width x count counts.0 in
+    absurd (omega (arith, ap (λ (t : List ℕ). length t) text, length-append (group c.args.width x count) back))
+
+pub returns-in-Some-clause-in_run : goal.returns-in-Some-clause-in_run
+returns-in-Some-clause-in_run c = λ x count back counts text follows.
+    elim (short_of c.args.width x count back c.args.rest.now (Some c.in-Some.group) counts text follows c.in-Some.ensures) [
+      | known e ↦ e
+      | alone_or_counter z none long first which ↦ cc none
+      | behind_counter p none long first least ↦ cc none
+    ]
+
+pub returns-then-rest-eq0-clause-in_run : goal.returns-then-rest-eq0-clause-in_run
+returns-then-rest-eq0-clause-in_run c = λ x count back counts text follows.
+    elim (short_of c.args.width x count back c.args.rest.now c.short_group.result counts text follows c.short_group.ensures) [
+      | known e ↦ cc (e, c.in_default.is)
+      | behind_counter p none long first least ↦ absurd (omega arith)
+      | alone_or_counter z none long first which ↦ elim which [
+        | inl e ↦ (let is : c.args.rest.now ≡ x ∷ back = text ∙ ap (λ n. group c.args.width x n ++ back) e ∙ ap (λ (t : List ℕ). t ++ back) (group-one c.args.width x) in
+            c.read_zero.ensures.alone (λ zeros. follows.apart z (subst HasTwoZeros (ap (λ (t : List ℕ). drop 1 t) is) zeros))
+            ∙ ap Some (sym (read_one c.args.width x count e ∙ ap (λ y. record { x = y; count = 1; used = 1 }) z)))
+        | inr least ↦ (let whole : c.args.rest.now ≡ group c.args.width 0 count ++ back = text ∙ ap (λ y. group c.args.width y count ++ back) z in
+            c.read_zero.ensures.zero.there count least counts.1 (begins_front c.args.rest.now (group c.args.width 0 count) back whole) ∙ ap (λ y. Some (read_as c.args.width y count)) (sym z))
+        ]
+    ]
+
+pub returns-clause-in_run : goal.returns-clause-in_run
+returns-clause-in_run c = λ x count back counts text follows.
+    elim (short_of c.args.width x count back c.args.rest.now c.short_group.result counts text follows c.short_group.ensures) [
+      | known e ↦ cc (e, c.in_default.is)
+      | alone_or_counter z none long first which ↦ absurd (omega arith)
+      | behind_counter p none long first least ↦
+          (let whole : c.args.rest.now ≡ group c.args.width (get_or c.args.rest.now 0 0) count ++ back = text ∙ ap (λ y. group c.args.width y count ++ back) (sym first) in
+          c.read_counter.ensures.there count least counts.1 (begins_front c.args.rest.now (group c.args.width (get_or c.args.rest.now 0 0) count) back whole) ∙ ap (λ y. Some (read_as c.args.width y count)) first)
+    ]
