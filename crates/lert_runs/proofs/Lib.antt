@@ -1,0 +1,4 @@
+pub mod GrowLemmas
+pub mod ReadLemmas
+pub mod RunLemmas
+pub mod WalkLemmas

@@ -1,0 +1,37 @@
+//! How a run grows.
+
+ghost use Rattle.std.specs.Prelude.{◌≡◌, ℕ, ◌+◌, ◌^◌, ◌≤◌, List};
+ghost use Rattle.lert_runs.specs.Growth.{IsGrowthOf};
+ghost use Rattle.lert_runs.specs.RunText.{count_in, IsTextOf, IsRunText};
+
+use crate::place::find;
+use lert_counter::write_group;
+
+/// The first `len` values of `text` are to stand in place of the `old` values from `start` on.
+#[derive(Clone, Copy, Debug, PartialEq, Eq)]
+pub struct Growth {
+    pub start: usize,
+    pub old: usize,
+    pub text: [u64; 9],
+    pub len: usize,
+}
+
+/// What a run text needs so that the count of `x` rises by `n`. Nothing is written.
+pub fn grown(width: u32, run: &[u64], x: u64, n: u64) -> Growth
+    requires narrow { 8 ≤ width }
+    requires wide { width ≤ 62 }
+    requires run_text { IsRunText width run.now }
+    requires positive { 1 ≤ n }
+    requires most { (ps : List (ℕ × ℕ)) → IsTextOf width run.now ps → count_in ps x + n ≤ 2 ^ 47 }
+    ensures { (ps : List (ℕ × ℕ)) → IsTextOf width run.now ps → IsGrowthOf width x n run.now ps result }
+{
+    let place = find(width, run, x);
+    let mut text = [0; 9];
+    let len = write_group(width, x, place.count + n, &mut text);
+    Growth {
+        start: place.start,
+        old: place.used,
+        text,
+        len,
+    }
+}

@@ -1,0 +1,14 @@
+//! Runs: the groups of one quotient, in ascending remainders.
+//!
+//! A run is a list of slots that holds the groups of `lert_counter` one behind the other. `find` and `grown`
+//! answer where a remainder stands and what has to be written to raise its count, without writing it.
+//! `read_all` tells run texts from all other lists, and `group_at` walks over one. Nothing here allocates.
+#![tactic(auto)]
+
+mod grow;
+mod place;
+mod walk;
+
+pub use grow::{Growth, grown};
+pub use place::{Place, find};
+pub use walk::{group_at, read_all};
