@@ -20,6 +20,7 @@ joined_below high low j k fits less = rw (pow-add 2 j k) (whole high low (2 ^ j)
   where
     use_mul : (a b m : ℕ) → a + 1 ≤ m → (a + 1) * b ≤ m * b
     use_mul a b m h = grind arith
+
     whole : (a b m n : ℕ) → a < m → b < n → a * n + b < m * n
     whole a b m n h k = let room = use_mul a n m (omega arith) in let e : (a + 1) * n ≡ a * n + n = grind arith in omega arith
 

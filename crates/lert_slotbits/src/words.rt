@@ -14,7 +14,7 @@ fn joined(high: u64, width: u32, low: u64) -> u64
 }
 
 /// The lowest `width` bits of a word.
-fn lowest(word: u64, width: u32) -> u64
+pub fn lowest(word: u64, width: u32) -> u64
     requires { width < 64 }
     ensures { result ≡ word % 2 ^ width }
 {
@@ -43,7 +43,11 @@ pub fn with_bit(word: u64, at: u32, on: bool) -> u64
     ensures here { bit_at result at ≡ (if on then 1 else 0) }
     ensures others { (i : ℕ) → i < 64 → i ≢ at → bit_at result i ≡ bit_at word i }
 {
-    if on { word | 1u64 << at } else { word & !(1u64 << at) }
+    if on {
+        word | 1u64 << at
+    } else {
+        word & !(1u64 << at)
+    }
 }
 
 /// The bit of a word.

@@ -17,19 +17,19 @@ joined-requires-2-clause-high c =
 pub returns-clause-below : goal.returns-clause-below
 returns-clause-below c = λ i less.
     rw (c.joined-2.ensures, c.joined-upper.ensures, c.joined.ensures, c.lowest-moved.ensures, c.lowest.ensures)
-      (moved_below c.args.word c.args.low c.args.high c.args.carry c.requires.order c.requires.carry i less)
+    (moved_below c.args.word c.args.low c.args.high c.args.carry c.requires.order c.requires.carry i less)
 
 pub returns-clause-first : goal.returns-clause-first
 returns-clause-first c =
     rw (c.joined-2.ensures, c.joined-upper.ensures, c.joined.ensures, c.lowest-moved.ensures, c.lowest.ensures)
-      (moved_first c.args.word c.args.low c.args.high c.args.carry c.requires.order c.requires.carry)
+    (moved_first c.args.word c.args.low c.args.high c.args.carry c.requires.order c.requires.carry)
 
 pub returns-clause-inside : goal.returns-clause-inside
 returns-clause-inside c = λ i less most.
     rw (c.joined-2.ensures, c.joined-upper.ensures, c.joined.ensures, c.lowest-moved.ensures, c.lowest.ensures)
-      (moved_inside c.args.word c.args.low c.args.high c.args.carry c.requires.order c.requires.carry i less most)
+    (moved_inside c.args.word c.args.low c.args.high c.args.carry c.requires.order c.requires.carry i less most)
 
 pub returns-clause-above : goal.returns-clause-above
 returns-clause-above c = λ i more within.
     rw (c.joined-2.ensures, c.joined-upper.ensures, c.joined.ensures, c.lowest-moved.ensures, c.lowest.ensures)
-      (moved_above c.args.word c.args.low c.args.high c.args.carry c.requires.order c.requires.carry i more)
+    (moved_above c.args.word c.args.low c.args.high c.args.carry c.requires.order c.requires.carry i more)
