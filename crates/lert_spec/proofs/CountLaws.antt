@@ -1,9 +1,9 @@
 -- Laws of counts in windows of a list of events, and of the first position up to which a key occurs so often.
-use Rattle.std.proofs.Common.{ℕ, ◌≡◌, ◌≢◌, ◌+◌, ◌-◌, ◌<◌, ◌≤◌, zero, suc, Bool, true, false, cond, eqb, leb, List, ◌++◌, length, take, drop, Some, refl, ap, sym, ◌∙◌, arith, inl, inr, sum_by, find}
+use Rattle.std.proofs.Common.{ℕ, ◌≡◌, ◌+◌, ◌-◌, ◌<◌, ◌≤◌, Bool, cond, eqb, leb, List, ◌++◌, length, take, drop, Some, refl, ap, sym, ◌∙◌, arith, inl, inr, sum_by}
 use Rattle.std.proofs.Math.Seq.{take-add}
-use Rattle.std.proofs.lemmas.Bool.{cases_lt, cases_Bool, false≢true, le-leb, leb-true, leb-false}
+use Rattle.std.proofs.lemmas.Bool.{cases_lt, le-leb, leb-true, leb-false}
 use Rattle.std.proofs.lemmas.List.Sums.{sum_by-append}
-use Rattle.std.specs.List.{range_with_len}
+use Rattle.lert_spec.proofs.FirstPass.{first_pass}
 use Rattle.lert_spec.specs.Counts.{count, nth_occurrence}
 
 -- a window is what is left of a front behind a shorter one
@@ -20,44 +20,6 @@ count_parts key events from to before =
 -- a longer front has no fewer
 pub count_never_falls : (key : ℕ) (events : List ℕ) (from to : ℕ) → from ≤ to → count key events 0 from ≤ count key events 0 to
 count_never_falls key events from to before = omega (arith, count_parts key events from to before)
-
--- the first number of a range that passes a test
-pub record FirstPass (test : ℕ → Bool) (low n : ℕ) : Type 0 where
-  pub at : ℕ
-  pub found : find test (range_with_len low n) ≡ Some at
-  pub from : low ≤ at
-  pub within : at < low + n
-  pub passes : test at ≡ true
-  pub earlier : (k : ℕ) → low ≤ k → k < at → test k ≡ false
-
--- where some number of a range passes, there is a first one
-pub first_pass : (test : ℕ → Bool) (low n m : ℕ) → low ≤ m → m < low + n → test m ≡ true → FirstPass test low n
-first_pass test low zero m from within passes = absurd (omega arith)
-first_pass test low (suc n) m from within passes =
-    elim (cases_Bool (test low)) [
-      | inl here ↦ record {
-        at = low;
-        found = ap (λ t. cond t (Some low) (find test (range_with_len (low + 1) n))) here;
-        from = omega arith;
-        within = omega arith;
-        passes = here;
-        earlier = λ k above below. absurd (omega arith);
-      }
-      | inr fails ↦ (
-          let other : low ≢ m = λ same. false≢true (sym fails ∙ ap test same ∙ passes) in
-          let later = first_pass test (low + 1) n m (omega arith) (omega arith) passes in
-          record {
-            at = later.at;
-            found = ap (λ t. cond t (Some low) (find test (range_with_len (low + 1) n))) fails ∙ later.found;
-            from = omega (arith, later.from);
-            within = omega (arith, later.within);
-            passes = later.passes;
-            earlier = λ k above below. elim (cases_lt low k) [
-              | inl further ↦ later.earlier k (omega arith) below
-              | inr here ↦ (let same : k ≡ low = omega arith in ap test same ∙ fails)
-            ];
-          })
-    ]
 
 -- at `at` a key occurs for the n-th time
 pub record NthAt (n key : ℕ) (events : List ℕ) : Type 0 where

@@ -230,3 +230,74 @@ module _ (s : Numbers) (base : 1 ≤ s.base) (ratio : 1 ≤ s.ratio) where
       let none : steps s oldest p ≡ 0 = div-eq_of_lt-le {k = 0} (span s oldest) {m = p - offset s oldest} (omega arith) (omega arith) in
       let still = ap (λ c. span s oldest * c) none in
       due_by q p oldest first (omega arith) (omega arith)
+
+  -- an edge moves at each whole number of spans above its offset
+  pub moves_there : (level m : ℕ) → offset s level < m → (m - offset s level) % span s level ≡ 0 → edge s level m ≢ edge s level (m - 1)
+  moves_there level m above whole_spans same =
+      let width = span s level in
+      let positive = wide level in
+      let count = (m - offset s level) / width in
+      let parts = div-add-mod (m - offset s level) width in
+      let some : 1 ≤ count = elim (cases_lt 0 count) [
+        | inl more ↦ more
+        | inr none ↦ (let zero_count : count ≡ 0 = omega arith in
+            let nothing = ap (λ c. width * c) zero_count in absurd (omega arith))
+      ] in
+      let again : count ≡ suc (count - 1) = omega arith in
+      let product = ap (λ c. width * c) again in
+      let whole : m - offset s level ≡ width * suc (count - 1) = omega arith in
+      let here = steps_at level m (count - 1) whole in
+      let before = steps_before level m (count - 1) whole in
+      let equal = same_factor width (steps s level m) (steps s level (m - 1)) positive same in
+      omega arith
+
+  -- and nowhere else
+  pub stays_elsewhere : (level m : ℕ) → (offset s level < m → (m - offset s level) % span s level ≢ 0) → edge s level m ≡ edge s level (m - 1)
+  stays_elsewhere level m other =
+      let width = span s level in
+      let positive = wide level in
+      let above = m - offset s level in
+      elim (cases_lt (offset s level) m) [
+        | inl moved ↦ (
+            let parts = div-add-mod above width in
+            let rest = mod-lt above {m = width} positive in
+            let some : 1 ≤ above % width = elim (cases_lt 0 (above % width)) [
+              | inl more ↦ more
+              | inr none ↦ absurd (other moved (let zero_rest : above % width ≡ 0 = omega arith in zero_rest))
+            ] in
+            let count = above / width in
+            let one_more = mul-add width count 1 in
+            let before : (m - 1 - offset s level) / width ≡ count =
+            div-eq_of_lt-le {k = count} width {m = m - 1 - offset s level} (omega (arith, mul_comm count width)) (omega (arith, mul_comm (count + 1) width)) in
+            ap (λ c. width * c) (sym before))
+        | inr below ↦ (let same : m - offset s level ≡ m - 1 - offset s level = omega arith in ap (λ n. width * (n / width)) same)
+      ]
+
+  -- where an edge stays, those of older levels stay
+  stays_together : (level more m : ℕ) → edge s level m ≡ edge s level (m - 1) → edge s (level + more) m ≡ edge s (level + more) (m - 1)
+  stays_together level zero m stays = rw (add-zero level) stays
+  stays_together level (suc more) m stays = rw (add-suc level more) (moves_together (level + more) m (m - 1) (stays_together level more m stays))
+
+  -- a flush reaches as many levels as move in a row
+  pub deepest_is : (top reached m : ℕ) → reached ≤ top → ((level : ℕ) → level < reached → edge s level m ≢ edge s level (m - 1)) → (reached < top → edge s reached m ≡ edge s reached (m - 1)) → deepest s top m ≡ reached
+  deepest_is zero reached m within moves stays = omega arith
+  deepest_is (suc top) reached m within moves stays =
+      elim (cases_lt top reached) [
+        | inl all ↦ ap (λ t. cond t (deepest s top m) (suc top)) (ne_eqb (edge s top m) (edge s top (m - 1)) (moves top all)) ∙ omega arith
+        | inr fewer ↦ (
+            let still = stays (omega arith) in
+            let older = stays_together reached (top - reached) m still in
+            let here : reached + (top - reached) ≡ top = omega arith in
+            let stays_here = rw here at older in
+            ap (λ t. cond t (deepest s top m) (suc top)) (eq-eqb (edge s top m) (edge s top (m - 1)) stays_here)
+            ∙ deepest_is top reached m fewer moves (λ less. still))
+      ]
+
+  -- a flush goes no deeper than the levels
+  pub deepest_within : (top m : ℕ) → deepest s top m ≤ top
+  deepest_within zero m = omega arith
+  deepest_within (suc top) m =
+      elim (cases_eq (edge s top m) (edge s top (m - 1))) [
+        | inl stays ↦ omega (arith, deepest_within top m, ap (λ t. cond t (deepest s top m) (suc top)) (eq-eqb (edge s top m) (edge s top (m - 1)) stays))
+        | inr moves ↦ omega (arith, ap (λ t. cond t (deepest s top m) (suc top)) (ne_eqb (edge s top m) (edge s top (m - 1)) moves))
+      ]

@@ -1,7 +1,9 @@
+mod Examples
+mod LookExamples
 pub mod CountLaws
 pub mod EdgeLaws
+pub mod FirstPass
+pub mod LimitLaws
 pub mod ReportLaws
-mod LookExamples
-mod Examples
 pub mod Tables
 pub mod TimeBound

@@ -184,7 +184,7 @@ module _ (s : Numbers) (valid : IsValid s) (events : List ℕ) where
     listed_then : (m : ℕ) → 1 ≤ m → s.threshold ≤ count key events (lookback s m) m → times_listed key (look_to s events m) ≡ 1
     listed_then zero positive enough = absurd (omega arith)
     listed_then (suc m) positive enough =
-        times_enough s.threshold events (lookback s (suc m)) (suc m) (look_to s events m) key valid.threshold_from enough (listed_once m)
+        times_enough s.threshold events (lookback s (suc m)) (suc m) (look_to s events m) key valid.limits.threshold_from enough (listed_once m)
 
     listed_at : (m : ℕ) → times_listed key (look_to s events m) ≡ 1 → ListedAt s events key m
     listed_at zero listed = absurd (omega arith)
@@ -244,16 +244,16 @@ module _ (s : Numbers) (valid : IsValid s) (events : List ℕ) where
 
     module _ (fits : length events ≤ capacity s) (heavy : s.threshold ≤ count key events 0 (length events)) where
       reached : NthAt s.threshold key events
-      reached = nth_at s.threshold key events valid.threshold_from heavy
+      reached = nth_at s.threshold key events valid.limits.threshold_from heavy
 
       begun : NthAt 1 key events
-      begun = nth_at 1 key events (omega arith) (omega (arith, valid.threshold_from))
+      begun = nth_at 1 key events (omega arith) (omega (arith, valid.limits.threshold_from))
 
       -- where a window that reaches behind the first occurrence ends
       due_at_latest : DueAt s begun.at reached.at
       due_at_latest =
-          let base : 1 ≤ s.base = omega (arith, valid.base_from) in
-          let ratio : 1 ≤ s.ratio = omega (arith, valid.ratio_from) in
+          let base : 1 ≤ s.base = omega (arith, valid.limits.base_from) in
+          let ratio : 1 ≤ s.ratio = omega (arith, valid.limits.ratio_from) in
           let wide = span_pos s s.levels base ratio in
           due s base ratio begun.at reached.at begun.from (omega (arith, reached.within))
 
@@ -261,7 +261,7 @@ module _ (s : Numbers) (valid : IsValid s) (events : List ℕ) where
       in_order : begun.at ≤ reached.at
       in_order =
           elim (cases_lt reached.at begun.at) [
-            | inl later ↦ absurd (omega (arith, begun.earlier reached.at later, reached.enough, valid.threshold_from))
+            | inl later ↦ absurd (omega (arith, begun.earlier reached.at later, reached.enough, valid.limits.threshold_from))
             | inr fine ↦ fine
           ]
 
@@ -309,7 +309,7 @@ module _ (s : Numbers) (valid : IsValid s) (events : List ℕ) where
               | inr none ↦ (
                   let shorter = mul-le-mul_right (s.bins - 1) (let less : (last - reached.at) + 1 ≤ due_at_latest.at - reached.at = omega (arith, reached.within) in less) in
                   let regrouped = right_add (last - reached.at) (s.bins - 1) in
-                  inr (omega arith, omega (arith, due_at_latest.in_time, valid.bins_from)))
+                  inr (omega arith, omega (arith, due_at_latest.in_time, valid.limits.bins_from)))
             ]
             | inr soon ↦ (
                 let listed = listed_then due_at_latest.at (omega (arith, due_at_latest.from, reached.from)) enough_then in
@@ -337,7 +337,7 @@ module _ (s : Numbers) (valid : IsValid s) (events : List ℕ) where
       reported_at_closing =
           let last = length events in
           let reports = look s events in
-          let once : times_listed key (closing s events) ≡ 1 = times_enough s.threshold events 0 last reports key valid.threshold_from heavy (listed_once last) in
+          let once : times_listed key (closing s events) ≡ 1 = times_enough s.threshold events 0 last reports key valid.limits.threshold_from heavy (listed_once last) in
           elim reported_or_missing [
             | inl in_time ↦ record {
               at = in_time.at;
