@@ -7,8 +7,10 @@
 #![tactic(auto)]
 
 mod count_table;
+mod settings;
 mod words;
 
 pub use count_table::CountTable;
 pub use lert_spec::{Numbers, Piece, Report};
+pub use settings::{BadSetting, Settings};
 pub use words::Words;

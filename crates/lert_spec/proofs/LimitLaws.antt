@@ -1,12 +1,15 @@
 -- What the rules of the settings give, and how large a level's numbers get.
-use Rattle.std.proofs.Common.{ℕ, ◌≡◌, ◌+◌, ◌-◌, ◌*◌, ◌^◌, ◌<◌, ◌≤◌, zero, suc, Bool, true, false, not, leb, List, [], ◌∷◌, ◌++◌, length, get_or, Some, None, refl, ap, sym, ◌∙◌, arith, inl, inr, ◌⊎◌, lit<, unwrap_or}
+use Rattle.std.proofs.Common.{ℕ, ◌≡◌, ◌+◌, ◌-◌, ◌*◌, ◌^◌, ◌<◌, ◌≤◌, zero, suc, Bool, true, false, not, leb, List, [], ◌∷◌, ◌++◌, length, get_or, Some, None, refl, ap, sym, ◌∙◌, arith, inl, inr, ◌⊎◌, lit<, unwrap_or, max}
+use Rattle.std.specs.Int.Count.{count_leading_zeros}
+use Rattle.std.proofs.lemmas.Nat.{leading_top}
 use Rattle.std.specs.List.{position_from}
-use Rattle.std.proofs.Math.Nat.{pow-le-pow_left, pow-le-pow_right}
-use Rattle.std.proofs.lemmas.Bool.{and_parts, leb-true, le-leb, lt-leb}
+use Rattle.std.proofs.Math.Nat.{pow-le-pow_left, pow-le-pow_right, mul-le-mul_left, one-le-pow}
+use Rattle.std.proofs.lemmas.Bool.{and_parts, cases_lt, leb-true, le-leb, lt-leb}
 use Rattle.std.proofs.lemmas.Nat.{mul-le}
+use Rattle.lert_spec.proofs.EdgeLaws.{span_pos}
 use Rattle.lert_spec.proofs.FirstPass.{find_is}
 use Rattle.lert_spec.specs.declared.numbers.Numbers.{Numbers}
-use Rattle.lert_spec.specs.Edges.{span, spans, offset, quotient_bits}
+use Rattle.lert_spec.specs.Edges.{span, spans, offset, capacity, quotient_bits}
 use Rattle.lert_spec.specs.Limits.{lies, limits_kept, sums_kept, first_broken, IsInLimits, IsValid}
 
 -- where none fails, each holds
@@ -103,3 +106,56 @@ quotient_bits_is s level q from within holds_it least =
     (λ k above below.
     let fewer = pow-le-pow_right {n = 2} (lit< tt) {i = k} {j = q - 1} (omega arith) in
     lt-leb (span s level) (2 ^ k) (omega (arith, least (omega arith)))))
+
+span_le-spans : (s : Numbers) (level : ℕ) → span s level ≤ spans s level
+span_le-spans s zero = omega arith
+span_le-spans s (suc level) = omega arith
+
+-- a cone takes some events, and fewer than 2^32
+pub capacity_from : (s : Numbers) → IsValid s → 1 ≤ capacity s
+capacity_from s valid =
+    let wide = span_pos s s.levels (omega (arith, valid.limits.base_from)) (omega (arith, valid.limits.ratio_from)) in
+    let first = span_pos s 0 (omega (arith, valid.limits.base_from)) (omega (arith, valid.limits.ratio_from)) in
+    let far = mul-le 1 1 (s.bins - 1) (spans s s.levels) (omega (arith, valid.limits.bins_from)) (omega (arith, span_le-spans s s.levels)) in
+    let some = mul-le 1 1 s.threshold s.room valid.limits.threshold_from valid.limits.room_from in
+    omega arith
+
+pub capacity_to : (s : Numbers) → IsValid s → capacity s < 2 ^ 32
+capacity_to s valid =
+    let wide = span_pos s s.levels (omega (arith, valid.limits.base_from)) (omega (arith, valid.limits.ratio_from)) in
+    omega (arith, valid.positions_fit)
+
+-- an older level's span is no less
+pub span_grows : (s : Numbers) (level older : ℕ) → 1 ≤ s.ratio → level ≤ older → span s level ≤ span s older
+span_grows s level older ratio before = mul-le-mul_left s.base (pow-le-pow_right ratio before)
+
+-- a span within the positions of a cone
+span_in_positions : (s : Numbers) (level : ℕ) → span s level ≤ span s s.levels → IsValid s → span s level ≤ 2 ^ 32
+span_in_positions s level grows valid = omega (arith, valid.positions_fit)
+
+span_from_base : (s : Numbers) → IsValid s → 4 ≤ span s 0
+span_from_base s valid = mul-le 4 1 s.base (s.ratio ^ 0) valid.limits.base_from (one-le-pow 0 s.ratio (omega (arith, valid.limits.ratio_from)))
+
+-- the least number of bits by the zeros in front of the last event of a span
+pub quotient_bits_by_zeros : (s : Numbers) (level : ℕ) → IsValid s → level ≤ s.levels → (max (64 - count_leading_zeros 64 (span s level - 1)) 6 ≡ quotient_bits s level) × (max (64 - count_leading_zeros 64 (span s level - 1)) 6 ≤ 32)
+quotient_bits_by_zeros s level valid within =
+    let ratio : 1 ≤ s.ratio = omega (arith, valid.limits.ratio_from) in
+    let grows = span_grows s level s.levels ratio within in
+    let fits = span_in_positions s level grows valid in
+    let least = span_grows s 0 level ratio (omega arith) in
+    let wide = span_from_base s valid in
+    let top = leading_top 64 (span s level - 1) (omega arith) (omega arith) in
+    let j = top.0 in
+    let few : suc j ≤ 32 = elim (cases_lt j 32) [
+      | inl less ↦ less
+      | inr more ↦ absurd (let power = pow-le-pow_right {n = 2} (lit< tt) {i = 32} {j = j} more in omega (arith, top.2))
+    ] in
+    elim (cases_lt 6 (suc j)) [
+      | inl above ↦ (
+          let q : max (64 - count_leading_zeros 64 (span s level - 1)) 6 ≡ suc j = omega (arith, top.1) in
+          (q ∙ sym (quotient_bits_is s level (suc j) (omega arith) (omega arith) (omega (arith, top.3)) (λ _. (let same : suc j - 1 ≡ j = omega arith in let power = ap (λ n. 2 ^ n) same in omega (arith, top.2)))), omega arith))
+      | inr below ↦ (
+          let q : max (64 - count_leading_zeros 64 (span s level - 1)) 6 ≡ 6 = omega (arith, top.1) in
+          let power = pow-le-pow_right {n = 2} (lit< tt) {i = suc j} {j = 6} below in
+          (q ∙ sym (quotient_bits_is s level 6 (omega arith) (omega arith) (omega (arith, top.3)) (λ more. absurd (omega arith))), omega arith))
+    ]
