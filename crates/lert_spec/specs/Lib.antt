@@ -1,6 +1,12 @@
 pub mod AtOnce
+pub mod Bins
 pub mod CountLaws
 pub mod Counts
+pub mod Edges
+pub mod Limits
 pub mod Lines
+pub mod Look
+pub mod Mix
+pub mod Table
 pub mod Timely
 pub mod Trace

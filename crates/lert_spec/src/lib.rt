@@ -5,6 +5,10 @@
 //! worked examples. Every other crate's contracts are stated with these words.
 #![tactic(auto)]
 
+mod numbers;
+mod piece;
 mod report;
 
+pub use numbers::Numbers;
+pub use piece::Piece;
 pub use report::Report;

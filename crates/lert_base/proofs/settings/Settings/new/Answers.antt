@@ -1,0 +1,14 @@
+use Rattle.std.proofs.Common.{arith}
+use Rattle.lert_spec.specs.Limits.{IsInLimits}
+use Rattle.lert_base.proofs.Filled.{end_is, end_within}
+use Rattle.lert_base.proofs.settings.Settings.new.Goals as goal
+
+pub overflow_add-offsets : goal.overflow_add-offsets
+overflow_add-offsets c =
+    let limits : IsInLimits c.args.numbers = rw c.in_default.is at c.broken_limit.ensures.none in
+    omega (arith, end_is c.args.numbers _ _ limits c.spans_of-spans.ensures c.offsets_of-offsets.ensures, end_within c.args.numbers limits)
+
+pub broken_sum-requires-clause-end : goal.broken_sum-requires-clause-end
+broken_sum-requires-clause-end c =
+    let limits : IsInLimits c.args.numbers = rw c.in_default.is at c.broken_limit.ensures.none in
+    end_is c.args.numbers _ _ limits c.spans_of-spans.ensures c.offsets_of-offsets.ensures

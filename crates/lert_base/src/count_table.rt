@@ -1,0 +1,82 @@
+//! Count tables: how often each tail occurred, in ascending tails.
+
+ghost use Rattle.std.specs.Prelude.{◌≡◌, ℕ, ◌+◌, ◌-◌, ◌*◌, ◌^◌, ◌<◌, ◌≤◌, ◌↔◌, List, [], ◌∷◌, IfOk, MatchOption, IsNone};
+ghost use Rattle.lert_spec.specs.Table.{count_of, total, plus, IsTable};
+ghost use Rattle.lert_spec.specs.declared.piece.Piece.{Piece};
+
+use lert_io::OutOfMemory;
+use lert_spec::Piece;
+use std::alloc::Global;
+
+/// A table of counts, seen as its pieces in ascending tails and a room in events.
+///
+/// Only `new` takes memory.
+pub trait CountTable: Drop {
+    /// A place between two pieces of a table.
+    type Cursor: Drop;
+
+    /// The pieces, a count table.
+    ghost pieces: { Self → List Piece };
+
+    /// At most so many events.
+    ghost room: { Self → ℕ };
+
+    /// Tails have so many bits.
+    ghost tail_bits: { Self → ℕ };
+
+    /// The cursor was started on this table, and the table is as it was then.
+    ghost stands: { Self → Self.Cursor → Type 0 };
+
+    /// The pieces that the cursor has still to give.
+    ghost left: { Self → Self.Cursor → List Piece };
+
+    /// An empty table for tails of `quotient_bits + width` bits and at most `events` events.
+    fn new(alloc: Global, quotient_bits: u32, width: u32, events: u64) -> Result<Self, OutOfMemory>
+        requires least_quotient { 6 ≤ quotient_bits }
+        requires most_quotient { quotient_bits ≤ 39 }
+        requires least_width { 8 ≤ width }
+        requires most_width { width ≤ 58 }
+        requires events { events ≤ 2 ^ 39 }
+        ensures empty { IfOk result (λ t. pieces t ≡ []) }
+        ensures room { IfOk result (λ t. room t ≡ events) }
+        ensures tail_bits { IfOk result (λ t. tail_bits t ≡ quotient_bits + width) };
+
+    /// Raises the count of `tail` by `n`.
+    fn add(&mut self, tail: u64, n: u64)
+        requires positive { 1 ≤ n }
+        requires has_room { total (pieces self.old) + n ≤ room self.old }
+        requires below { tail < 2 ^ tail_bits self.old }
+        ensures pieces { pieces self.new ≡ plus (pieces self.old) tail n }
+        ensures room { room self.new ≡ room self.old }
+        ensures tail_bits { tail_bits self.new ≡ tail_bits self.old };
+
+    /// How often `tail` was added, 0 where it is absent.
+    fn count(&self, tail: u64) -> u64
+        ensures { result ≡ count_of (pieces self.now) tail };
+
+    /// The sum of all counts.
+    fn events(&self) -> u64
+        ensures sum { result ≡ total (pieces self.now) }
+        ensures in_room { result ≤ room self.now };
+
+    /// Empties the table; room and width stay.
+    fn clear(&mut self)
+        ensures pieces { pieces self.new ≡ [] }
+        ensures room { room self.new ≡ room self.old }
+        ensures tail_bits { tail_bits self.new ≡ tail_bits self.old };
+
+    /// A cursor before the first piece.
+    fn start(&self) -> Self::Cursor
+        ensures stands { stands self.now result }
+        ensures left { left self.now result ≡ pieces self.now }
+        ensures ascending { IsTable (2 ^ tail_bits self.now) (pieces self.now) };
+
+    /// The next piece in ascending tails.
+    fn step(&self, cursor: &mut Self::Cursor) -> Option<Piece>
+        requires { stands self.now cursor.old }
+        ensures stands { stands self.now cursor.new }
+        ensures next { MatchOption result
+            (left self.now cursor.old ≡ [])
+            (λ p. left self.now cursor.old ≡ p ∷ left self.now cursor.new) }
+        ensures end { IsNone result → left self.now cursor.new ≡ [] };
+}

@@ -1,0 +1,49 @@
+-- The edges of a cone's levels after so many events, as whole numbers. Positions count from 1.
+--
+-- Level 0 holds the positions above its edge, and an older level those above its edge up to the edge of the next
+-- younger level.
+use Rattle.std.specs.Prelude.{ℕ, zero, suc, ◌+◌, ◌-◌, ◌*◌, ◌/◌, ◌^◌, ◌==◌, nat_le, min, find, unwrap_or, if◌then◌else◌}
+use Rattle.std.specs.List.{range_with_len}
+use Rattle.lert_spec.specs.declared.numbers.Numbers.{Numbers}
+
+-- the width of a level's bins
+abbrev pub span : Numbers → ℕ → ℕ
+span s level = s.base * s.ratio ^ level
+
+-- the spans of the levels up to this one, together
+abbrev pub spans : Numbers → ℕ → ℕ
+spans s zero = span s 0
+spans s (suc level) = spans s level + span s (suc level)
+
+-- how many events a level's edge stays behind at least
+abbrev pub offset : Numbers → ℕ → ℕ
+offset s level = (s.bins - 1) * spans s level
+
+-- the edge of a level after n events: the whole spans in the events above its offset, and 0 below it
+abbrev pub edge : Numbers → ℕ → ℕ → ℕ
+edge s level n = span s level * ((n - offset s level) / span s level)
+
+-- how many events a cone takes: the edge of its oldest level never moves, and no more keys than the room reach the threshold
+abbrev pub capacity : Numbers → ℕ
+capacity s = min (offset s s.levels + span s s.levels - 1) (s.threshold * s.room)
+
+-- the greatest of the levels up to `level` for which the edge of the next younger level moves at position m, or 0
+abbrev pub deepest : Numbers → ℕ → ℕ → ℕ
+deepest s zero m = 0
+deepest s (suc level) m = if edge s level m == edge s level (m - 1) then deepest s level m else suc level
+
+-- how deep the flush at position m goes: 0 where m is no flush position
+abbrev pub depth : Numbers → ℕ → ℕ
+depth s m = deepest s s.levels m
+
+-- up to which position the flush at position m looks back
+abbrev pub lookback : Numbers → ℕ → ℕ
+lookback s m = edge s (depth s m) (m - 1)
+
+-- the quotient bits of a level's tables: the least number from 6 on with a quotient for each event of a span
+abbrev pub quotient_bits : Numbers → ℕ → ℕ
+quotient_bits s level = unwrap_or (find (λ q. nat_le (span s level) (2 ^ q)) (range_with_len 6 58)) 64
+
+-- the width of a level's tables: the bits of a key that name neither the cone nor the quotient
+abbrev pub width : Numbers → ℕ → ℕ
+width s level = 64 - s.cone_bits - quotient_bits s level

@@ -1,0 +1,30 @@
+-- A count table: pieces in ascending tails, each with a count of at least 1.
+use Rattle.std.specs.Prelude.{ℕ, ◌+◌, ◌<◌, ◌≤◌, ◌==◌, List, [], ◌∷◌, nat_lt, if◌then◌else◌}
+use Rattle.lert_spec.specs.declared.piece.Piece.{Piece}
+
+-- how often a tail stands in the table, 0 where it is absent
+abbrev pub count_of : List Piece → ℕ → ℕ
+count_of [] tail = 0
+count_of (p ∷ ps) tail = if p.tail == tail then p.count else count_of ps tail
+
+-- the sum of all counts
+abbrev pub total : List Piece → ℕ
+total [] = 0
+total (p ∷ ps) = p.count + total ps
+
+-- the table with `n` more of a tail: its count is raised, or a new piece stands in its place
+abbrev pub plus : List Piece → ℕ → ℕ → List Piece
+plus [] tail n = record { tail = tail; count = n } ∷ []
+plus (p ∷ ps) tail n =
+    if nat_lt tail p.tail then record { tail = tail; count = n } ∷ p ∷ ps else
+    (if p.tail == tail then record { tail = tail; count = p.count + n } ∷ ps else p ∷ plus ps tail n)
+
+-- the tails ascend from `least` on and stay below `limit`, and each count is at least 1
+abbrev pub AscendsFrom : ℕ → ℕ → List Piece → Type 0
+AscendsFrom least limit [] = Unit {0}
+AscendsFrom least limit (p ∷ ps) =
+    (least ≤ p.tail) × (p.tail < limit) × (1 ≤ p.count) × AscendsFrom (p.tail + 1) limit ps
+
+-- a count table of tails below `limit`
+abbrev pub IsTable : ℕ → List Piece → Type 0
+IsTable limit ps = AscendsFrom 0 limit ps
