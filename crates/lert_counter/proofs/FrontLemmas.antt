@@ -215,8 +215,9 @@ zeros_later rest n second (suc k, within, first, next) =
     let a = get_or-take n rest (suc k) 0 (omega arith) in
     let b = get_or-take n rest (suc k + 1) 0 (omega arith) in
     let at : 1 + k ≡ suc k = omega arith in
-    let at_next : 1 + (k + 1) ≡ suc k + 1 = omega arith in
-    ( k
-    , simp length-drop (omega arith)
-    , get_or-drop 1 rest k 0 ∙ rw at (sym a ∙ first)
-    , get_or-drop 1 rest (k + 1) 0 ∙ rw at_next (sym b ∙ next))
+    let at_next : 1 + (k + 1) ≡ suc k + 1 = omega arith in (
+      k,
+      simp length-drop (omega arith),
+      get_or-drop 1 rest k 0 ∙ rw at (sym a ∙ first),
+      get_or-drop 1 rest (k + 1) 0 ∙ rw at_next (sym b ∙ next),
+    )

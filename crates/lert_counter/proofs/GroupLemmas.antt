@@ -1,12 +1,12 @@
 -- The length of a group, its first value, and that it has no two zeros beside each other.
-use Rattle.std.proofs.Common.{◌≡◌, ℕ, suc, zero, ◌+◌, ◌-◌, ◌*◌, ◌/◌, ◌%◌, ◌^◌, ◌<◌, ◌≤◌, ◌≢◌, Bool, true, false, cond, ltb, eqb, List, [], ◌∷◌, ◌++◌, length, map, take, drop, get_or, set, refl, sym, ap, ◌∙◌, subst, inl, inr, ◌⊎◌, arith, rules, length-append, append_assoc, add-one}
+use Rattle.std.proofs.Common.{◌≡◌, ℕ, suc, zero, ◌+◌, ◌-◌, ◌<◌, ◌≤◌, List, [], ◌∷◌, ◌++◌, length, map, get_or, sym, ap, ◌∙◌, subst, inl, inr, arith, length-append, append_assoc, add-one}
 use Rattle.std.proofs.lemmas.List.{length-map}
 use Rattle.std.proofs.lemmas.Bool.{cases_lt, cases_eq}
-use Rattle.lert_counter.specs.Group.{digits, written, digit_base, counter, group, IsCount}
+use Rattle.lert_counter.specs.Group.{digits, written, digit_base, group}
 use Rattle.lert_counter.specs.Reading.{HasTwoZeros}
 use Rattle.lert_counter.proofs.DigitLemmas.{length_digits-le, length_digits-positive}
 use Rattle.lert_counter.proofs.CounterLemmas.{counter-zero, counter-guarded, counter-bare, group-counter, group-one, group-two, group-three}
-use Rattle.lert_counter.proofs.ScanLemmas.{written-positive, written-apart}
+use Rattle.lert_counter.proofs.ScanLemmas.{written-positive}
 
 -- the six texts that a group can have
 pub data Shape (width x c : ℕ) : Type 0 where
@@ -29,14 +29,14 @@ shape_of width x c positive =
           | inl z ↦ elim (cases_eq c 3) [
             | inl e ↦ three z e (ap (λ y. group width y c) z ∙ ap (group width 0) e ∙ group-three width)
             | inr more ↦ zeros z (omega arith) (ap (λ y. group width y c) z ∙ group-counter width 0 c (omega arith) (λ _. omega arith) ∙ counter-zero width c)
-            ]
+          ]
           | inr above ↦ elim (cases_lt x (written x (get_or (digits 5 (digit_base width x) (c - 3)) 0 0))) [
             | inl greater ↦ guarded (omega arith) (omega arith) greater (group-counter width x c (omega arith) (λ z. absurd (above z)) ∙ counter-guarded width x c (omega arith) greater)
             | inr less ↦ bare (omega arith) (omega arith) less (group-counter width x c (omega arith) (λ z. absurd (above z)) ∙ counter-bare width x c (omega arith) less)
-            ]
           ]
         ]
       ]
+    ]
 
 -- the length of digits between two ends
 pub length_middle : (x n b : ℕ) (tail : List ℕ) → length (map (written x) (digits 5 b n) ++ tail) ≡ length (digits 5 b n) + length tail
@@ -100,7 +100,7 @@ guard_apart : (x : ℕ) (ds back : List ℕ) → 0 < length ds → HasTwoZeros (
 guard_apart x [] back some h = absurd (omega arith)
 guard_apart x (d ∷ ds) back some h =
     zeros_behind_digits x ds back (zeros_behind (written x d) (map (written x) ds ++ back) (written-positive x d)
-      (zeros_behind_guard (written x d) (map (written x) ds ++ back) (written-positive x d) h))
+    (zeros_behind_guard (written x d) (map (written x) ds ++ back) (written-positive x d) h))
 
 pub group-apart : (width x c : ℕ) (back : List ℕ) → 1 ≤ c → 0 < x → HasTwoZeros (group width x c ++ back) → HasTwoZeros back
 group-apart width x c back positive above h =
@@ -111,10 +111,10 @@ group-apart width x c back positive above h =
       | zeros z l is ↦ absurd (omega arith)
       | bare p l w is ↦ (let ds = digits 5 (digit_base width x) (c - 3) in
           zeros_behind x back above (zeros_behind_digits x ds (x ∷ back)
-            (zeros_behind x (map (written x) ds ++ x ∷ back) above
-              (subst HasTwoZeros (ap (λ (t : List ℕ). t ++ back) is ∙ ap (λ (t : List ℕ). x ∷ t) (append_assoc (map (written x) ds) (x ∷ []) back)) h))))
+          (zeros_behind x (map (written x) ds ++ x ∷ back) above
+          (subst HasTwoZeros (ap (λ (t : List ℕ). t ++ back) is ∙ ap (λ (t : List ℕ). x ∷ t) (append_assoc (map (written x) ds) (x ∷ []) back)) h))))
       | guarded p l w is ↦ (let ds = digits 5 (digit_base width x) (c - 3) in
           zeros_behind x back above (guard_apart x ds (x ∷ back) (length_digits-positive 5 (digit_base width x) (c - 3))
-            (zeros_behind x (0 ∷ (map (written x) ds ++ x ∷ back)) above
-              (subst HasTwoZeros (ap (λ (t : List ℕ). t ++ back) is ∙ ap (λ (t : List ℕ). x ∷ 0 ∷ t) (append_assoc (map (written x) ds) (x ∷ []) back)) h))))
+          (zeros_behind x (0 ∷ (map (written x) ds ++ x ∷ back)) above
+          (subst HasTwoZeros (ap (λ (t : List ℕ). t ++ back) is ∙ ap (λ (t : List ℕ). x ∷ 0 ∷ t) (append_assoc (map (written x) ds) (x ∷ []) back)) h))))
     ]

@@ -1,14 +1,14 @@
 -- How the length of a group grows with its count.
-use Rattle.std.proofs.Common.{◌≡◌, ℕ, suc, zero, ◌+◌, ◌-◌, ◌*◌, ◌/◌, ◌%◌, ◌^◌, ◌<◌, ◌≤◌, ◌≢◌, Bool, true, false, cond, ltb, eqb, List, [], ◌∷◌, ◌++◌, length, map, take, drop, get_or, set, refl, sym, ap, ◌∙◌, subst, inl, inr, ◌⊎◌, arith, rules, length-append, append_assoc}
-use Rattle.std.proofs.lemmas.List.{length-map, get_or_append_left}
+use Rattle.std.proofs.Common.{◌≡◌, ℕ, suc, zero, ◌+◌, ◌-◌, ◌*◌, ◌/◌, ◌%◌, ◌<◌, ◌≤◌, List, [], ◌∷◌, ◌++◌, length, map, get_or, refl, ap, ◌∙◌, inl, inr, ◌⊎◌, arith, length-append}
+use Rattle.std.proofs.lemmas.List.{get_or_append_left}
 use Rattle.std.proofs.Math.Nat.{div-lt_self, div-mul-le_self}
 use Rattle.std.proofs.lemmas.Nat.{le-div}
-use Rattle.std.proofs.lemmas.Bool.{cases_lt, cases_eq}
+use Rattle.std.proofs.lemmas.Bool.{cases_lt}
 use Rattle.std.proofs.lemmas.Bool.Decides.{nat_tests}
-use Rattle.lert_counter.specs.Group.{digits, written, digit_base, counter, group, IsCount}
-use Rattle.lert_counter.proofs.DigitLemmas.{length_digits-le, length_digits-positive, digits-suc, digits-last}
+use Rattle.lert_counter.specs.Group.{digits, written, digit_base, group}
+use Rattle.lert_counter.proofs.DigitLemmas.{length_digits-positive, digits-suc, digits-last}
 use Rattle.lert_counter.proofs.Widths.{width_least}
-use Rattle.lert_counter.proofs.GroupLemmas.{Shape, shape_of, length_middle, length_group-positive}
+use Rattle.lert_counter.proofs.GroupLemmas.{shape_of, length_middle, length_group-positive}
 use Rattle.lert_counter.proofs.GroupLemmas.Shape.{one, two, three, zeros, bare, guarded}
 
 -- a number's digits are at most one more than the number
@@ -104,11 +104,11 @@ bare_grows width x c d wide above least h is =
       | bare p l w t ↦ elim (digits_grow 5 (digit_base width x) (c - 3) (d - 3) (omega arith) (omega arith)) [
         | inl shorter ↦ omega (arith, length_bare width x d _ t)
         | inr same ↦ omega (arith, length_bare width x d _ t, same.0)
-        ]
+      ]
       | guarded p l w t ↦ elim (digits_grow 5 (digit_base width x) (c - 3) (d - 3) (omega arith) (omega arith)) [
         | inl shorter ↦ omega (arith, length_guarded width x d _ t)
         | inr same ↦ omega (arith, length_guarded width x d _ t, same.0)
-        ]
+      ]
     ]
 
 guarded_grows : (width x c d : ℕ) → 8 ≤ width → 0 < x → 3 ≤ c → c ≤ d → x < written x (get_or (digits 5 (digit_base width x) (c - 3)) 0 0)
@@ -123,11 +123,11 @@ guarded_grows width x c d wide above least h greater is =
       | bare p l w t ↦ elim (digits_grow 5 (digit_base width x) (c - 3) (d - 3) (omega arith) (omega arith)) [
         | inl shorter ↦ omega (arith, length_bare width x d _ t)
         | inr same ↦ absurd (omega (arith, written-grows x (get_or (digits 5 (digit_base width x) (c - 3)) 0 0) (get_or (digits 5 (digit_base width x) (d - 3)) 0 0) same.1))
-        ]
+      ]
       | guarded p l w t ↦ elim (digits_grow 5 (digit_base width x) (c - 3) (d - 3) (omega arith) (omega arith)) [
         | inl shorter ↦ omega (arith, length_guarded width x d _ t)
         | inr same ↦ omega (arith, length_guarded width x d _ t, same.0)
-        ]
+      ]
     ]
 
 zeros_grow : (width x c d : ℕ) → 8 ≤ width → x ≡ 0 → 4 ≤ c → c ≤ d → length (group width x c) ≡ length (digits 5 (digit_base width 0) (c - 4)) + 3 → length (group width x c) ≤ length (group width x d)
@@ -142,7 +142,7 @@ zeros_grow width x c d wide z least h is =
       | zeros y l t ↦ elim (digits_grow 5 (digit_base width 0) (c - 4) (d - 4) (omega arith) (omega arith)) [
         | inl shorter ↦ omega (arith, length_zeros width d _ t)
         | inr same ↦ omega (arith, length_zeros width d _ t, same.0)
-        ]
+      ]
     ]
 
 three_grows : (width x d : ℕ) → x ≡ 0 → 3 ≤ d → 3 ≤ length (group width x d)

@@ -1,5 +1,5 @@
 -- The slots of a group are below 2 to its width.
-use Rattle.std.proofs.Common.{◌≡◌, ℕ, suc, zero, ◌+◌, ◌-◌, ◌*◌, ◌/◌, ◌%◌, ◌^◌, ◌<◌, ◌≤◌, ◌≢◌, Bool, true, false, cond, ltb, eqb, List, [], ◌∷◌, ◌++◌, length, map, take, drop, get_or, set, refl, sym, ap, ◌∙◌, subst, inl, inr, ◌⊎◌, arith, rules, All, lit≤}
+use Rattle.std.proofs.Common.{◌≡◌, ℕ, suc, zero, ◌-◌, ◌*◌, ◌/◌, ◌%◌, ◌^◌, ◌<◌, ◌≤◌, List, [], ◌∷◌, ◌++◌, map, ap, ◌∙◌, inl, inr, arith, All}
 use Rattle.std.proofs.lemmas.List.Elements.{All-append, All-map, All-cons, All-nil, All-same, All-weaker}
 use Rattle.std.proofs.Math.Nat.{pow-le-pow_left, pow-suc, pow-zero, one-mul}
 use Rattle.std.proofs.lemmas.Nat.{div_below, mod_below}
@@ -19,8 +19,8 @@ digits_below (suc room) b n positive h =
       | inl less ↦ All-same (λ d. d < b) _ (n ∷ []) (digits-last room b n less) (All-cons (λ d. d < b) n [] less (All-nil (λ d. d < b)))
       | inr more ↦ All-same (λ d. d < b) _ _ (digits-suc room b n more)
           (All-append (λ d. d < b) (digits room b (n / b)) (n % b ∷ [])
-            (digits_below room b (n / b) positive (div_below n b (b ^ suc room) positive (rw (← pow-suc b (suc room)) h)))
-            (All-cons (λ d. d < b) (n % b) [] (mod_below n b positive) (All-nil (λ d. d < b))))
+          (digits_below room b (n / b) positive (div_below n b (b ^ suc room) positive (rw (← pow-suc b (suc room)) h)))
+          (All-cons (λ d. d < b) (n % b) [] (mod_below n b positive) (All-nil (λ d. d < b))))
     ]
 
 -- six digits are enough for each count
@@ -40,7 +40,7 @@ digits_fit : (width x n : ℕ) → 8 ≤ width → n ≤ 2 ^ 47 → All (λ slot
 digits_fit width x n wide most =
     let base = base_fits width x wide in
     all_written (2 ^ width) (digit_base width x) x _ (λ d h. written_fits width x d wide h)
-      (digits_below 5 (digit_base width x) n (omega arith) (count_below (digit_base width x) n base most))
+    (digits_below 5 (digit_base width x) n (omega arith) (count_below (digit_base width x) n base most))
 
 pub slots_below : (width x c : ℕ) → 8 ≤ width → IsCount c → x < 2 ^ width → All (λ slot. slot < 2 ^ width) (group width x c)
 slots_below width x c wide counts fits =

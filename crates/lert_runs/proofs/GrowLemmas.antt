@@ -1,9 +1,9 @@
 -- How a run text changes as a remainder's count rises.
-use Rattle.std.proofs.Common.{◌≡◌, ℕ, suc, zero, ◌+◌, ◌-◌, ◌*◌, ◌<◌, ◌≤◌, ◌≢◌, Bool, true, false, cond, ltb, eqb, List, [], ◌∷◌, ◌++◌, length, take, drop, get_or, refl, sym, ap, ◌∙◌, subst, inl, inr, ◌⊎◌, arith, rules, length-append, append_assoc}
-use Rattle.std.proofs.lemmas.List.{append-nil, drop_at, take_at}
+use Rattle.std.proofs.Common.{◌≡◌, ℕ, ◌+◌, ◌<◌, ◌≤◌, List, [], ◌∷◌, ◌++◌, length, take, drop, refl, sym, ap, ◌∙◌, inl, inr, arith, length-append, append_assoc}
+use Rattle.std.proofs.lemmas.List.{drop_at, take_at}
 use Rattle.std.proofs.lemmas.Bool.{cases_order, cases_eq}
 use Rattle.lert_counter.specs.Group.{group, IsCount}
-use Rattle.lert_counter.proofs.GroupLemmas.{length_group-le, length_group-positive}
+use Rattle.lert_counter.proofs.GroupLemmas.{length_group-le}
 use Rattle.lert_counter.proofs.GrowthLemmas.{length_group-grows}
 use Rattle.lert_runs.specs.RunText.{run_text, RemaindersAscend, IsTextOf, count_in, pairs_below, pairs_plus, group_in}
 use Rattle.lert_runs.specs.Growth.{IsGrowthOf}

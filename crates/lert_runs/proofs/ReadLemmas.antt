@@ -1,12 +1,12 @@
 -- Reading a run group by group.
-use Rattle.std.proofs.Common.{◌≡◌, ℕ, suc, zero, ◌+◌, ◌-◌, ◌*◌, ◌<◌, ◌≤◌, ◌≢◌, Bool, true, false, cond, ltb, eqb, List, [], ◌∷◌, ◌++◌, length, take, drop, get_or, refl, sym, ap, ◌∙◌, subst, inl, inr, ◌⊎◌, arith, rules, length-append, append_assoc}
-use Rattle.std.proofs.lemmas.List.{append-nil, drop_at, take_at, take_rest, length-take-le, take-append-drop, take_all, take-take, drop-take, length-drop, length-take}
+use Rattle.std.proofs.Common.{◌≡◌, ℕ, ◌+◌, ◌-◌, ◌<◌, ◌≤◌, List, [], ◌∷◌, ◌++◌, length, take, drop, refl, sym, ap, ◌∙◌, subst, inl, inr, ◌⊎◌, arith}
+use Rattle.std.proofs.lemmas.List.{append-nil, take_rest, take_all, length-drop, length-take}
 use Rattle.std.proofs.Math.Seq.{take-add}
-use Rattle.lert_counter.specs.Group.{group, IsCount, BeginsWith}
+use Rattle.lert_counter.specs.Group.{group, IsCount}
 use Rattle.lert_counter.specs.Reading.{IsReadFrom}
 use Rattle.lert_counter.specs.declared.group.Group.{Group}
-use Rattle.lert_counter.proofs.GroupLemmas.{length_group-positive, length_group-le}
-use Rattle.lert_runs.specs.RunText.{run_text, RemaindersAscend, IsTextOf, IsRunText}
+use Rattle.lert_counter.proofs.GroupLemmas.{length_group-positive}
+use Rattle.lert_runs.specs.RunText.{run_text, RemaindersAscend, IsRunText}
 use Rattle.lert_runs.proofs.RunLemmas.{run_text-append}
 
 -- all remainders are below y

@@ -1,11 +1,10 @@
 -- Laws of run texts.
-use Rattle.std.proofs.Common.{◌≡◌, ℕ, suc, zero, ◌+◌, ◌-◌, ◌*◌, ◌<◌, ◌≤◌, ◌≢◌, Bool, true, false, cond, ltb, eqb, List, [], ◌∷◌, ◌++◌, length, take, drop, get_or, refl, sym, ap, ◌∙◌, subst, inl, inr, ◌⊎◌, arith, rules, length-append, append_assoc}
-use Rattle.std.proofs.lemmas.Bool.{cases_lt, cases_eq, cases_order}
+use Rattle.std.proofs.Common.{◌≡◌, ℕ, ◌+◌, ◌<◌, ◌≤◌, ◌≢◌, cond, eqb, List, [], ◌∷◌, ◌++◌, refl, sym, ap, ◌∙◌, arith, append_assoc}
 use Rattle.std.proofs.lemmas.Bool.Decides.{nat_tests}
-use Rattle.lert_counter.specs.Group.{group, IsCount}
+use Rattle.lert_counter.specs.Group.{group}
 use Rattle.lert_counter.specs.Reading.{HasTwoZeros, Follows}
-use Rattle.lert_counter.proofs.GroupLemmas.{length_group-positive, group-first, group-apart}
-use Rattle.lert_runs.specs.RunText.{run_text, RemaindersAscend, IsTextOf, count_in, pairs_below, pairs_plus, group_in}
+use Rattle.lert_counter.proofs.GroupLemmas.{group-first, group-apart}
+use Rattle.lert_runs.specs.RunText.{run_text, RemaindersAscend, count_in, pairs_below, pairs_plus, group_in}
 
 -- a run text of two parts
 pub run_text-append : (width : ℕ) (ps qs : List (ℕ × ℕ)) → run_text width (ps ++ qs) ≡ run_text width ps ++ run_text width qs

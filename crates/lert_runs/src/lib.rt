@@ -7,6 +7,8 @@
 
 mod grow;
 mod place;
+#[cfg(test)]
+mod tests;
 mod walk;
 
 pub use grow::{Growth, grown};

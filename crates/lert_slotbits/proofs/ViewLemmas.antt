@@ -1,7 +1,7 @@
 -- The bits of a row that are shown: the first so many of its words'.
-use Rattle.std.proofs.Common.{◌≡◌, ℕ, suc, zero, ◌+◌, ◌-◌, ◌*◌, ◌/◌, ◌%◌, ◌^◌, ◌<◌, ◌≤◌, ◌≢◌, ◌↔◌, Bool, true, false, cond, List, [], ◌∷◌, ◌++◌, length, take, drop, get_or, set, replicate, refl, sym, ap, ◌∙◌, arith, Some, None, slice_get}
-use Rattle.std.proofs.lemmas.List.{length-take-le, take-append-drop, take_at, length-take, take-replicate, replicate-append-replicate, set-append_left, take-take, get_or-take, length-set}
-use Rattle.std.proofs.lemmas.List.Edits.{insert-append_left, remove-append_left, length-insert, length-remove}
+use Rattle.std.proofs.Common.{◌≡◌, ℕ, suc, zero, ◌+◌, ◌*◌, ◌/◌, ◌<◌, ◌≤◌, Bool, true, false, List, ◌∷◌, ◌++◌, length, take, drop, get_or, set, replicate, refl, sym, ap, ◌∙◌, arith, Some, slice_get}
+use Rattle.std.proofs.lemmas.List.{length-take-le, take-append-drop, take_at, take-replicate, replicate-append-replicate, set-append_left, take-take, get_or-take, length-set}
+use Rattle.std.proofs.lemmas.List.Edits.{insert-append_left, remove-append_left, length-remove}
 use Rattle.std.proofs.lemmas.Option.{slice_get-get_or}
 use Rattle.std.specs.Prelude.{insert, remove}
 use Rattle.lert_slotbits.specs.Bits.{bits_in, word_bits, row_of, gapped, trues}

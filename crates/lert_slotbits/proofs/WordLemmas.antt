@@ -1,8 +1,8 @@
 -- Bits of one word.
-use Rattle.std.proofs.Common.{◌≡◌, ℕ, suc, zero, ◌+◌, ◌-◌, ◌*◌, ◌/◌, ◌%◌, ◌^◌, ◌<◌, ◌≤◌, ◌≢◌, refl, sym, ap, ◌∙◌, arith, bit_and, bit_or}
+use Rattle.std.proofs.Common.{◌≡◌, ℕ, ◌+◌, ◌-◌, ◌*◌, ◌/◌, ◌%◌, ◌^◌, ◌<◌, ◌≤◌, sym, ap, ◌∙◌, arith, bit_and, bit_or}
 use Rattle.std.specs.Int.{bit_at}
-use Rattle.std.proofs.lemmas.Nat.{one_shl, and_mask, or_shifted, shl_whole, shr_below, shr_split, shr-shr, pow_pos, pow-add, mod_below, shl_below}
-use Rattle.std.proofs.lemmas.Nat.Bits.{bit_at_cat_low, bit_at_cat_high, bit_at-lt, bit_at_lowest}
+use Rattle.std.proofs.lemmas.Nat.{one_shl, and_mask, or_shifted, shl_whole, shr_below, shr_split, shr-shr, pow_pos, pow-add, mod_below}
+use Rattle.std.proofs.lemmas.Nat.Bits.{bit_at_cat_low, bit_at_cat_high, bit_at_lowest}
 use Rattle.std.proofs.Math.Pow.{pow_mono}
 
 -- `high << width | low`

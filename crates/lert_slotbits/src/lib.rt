@@ -10,6 +10,8 @@ mod count;
 mod gap;
 mod row;
 mod scan;
+#[cfg(test)]
+mod tests;
 mod words;
 
 pub use bits::Bits;

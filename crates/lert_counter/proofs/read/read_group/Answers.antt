@@ -1,5 +1,5 @@
-use Rattle.std.proofs.Common.{◌≡◌, ◌≢◌, ◌<◌, ◌≤◌, ◌^◌, ℕ, arith, Some, None, ◌++◌, ◌∷◌, List, length, get_or, drop, ap, ◌∙◌, sym, subst, refl, inl, inr}
-use Rattle.lert_counter.specs.Group.{group, BeginsWith}
+use Rattle.std.proofs.Common.{◌≡◌, ℕ, arith, Some, ◌++◌, ◌∷◌, List, length, get_or, drop, ap, ◌∙◌, sym, subst, inl, inr}
+use Rattle.lert_counter.specs.Group.{group}
 use Rattle.lert_counter.specs.Reading.{read_as, HasTwoZeros}
 use Rattle.std.proofs.Common.{length-append}
 use Rattle.std.proofs.lemmas.Bool.Decides.{nat_tests}
@@ -34,7 +34,7 @@ returns-then-rest-eq0-clause-in_run c = λ x count back counts text follows.
             ∙ ap Some (sym (read_one c.args.width x count e ∙ ap (λ y. record { x = y; count = 1; used = 1 }) z)))
         | inr least ↦ (let whole : c.args.rest.now ≡ group c.args.width 0 count ++ back = text ∙ ap (λ y. group c.args.width y count ++ back) z in
             c.read_zero.ensures.zero.there count least counts.1 (begins_front c.args.rest.now (group c.args.width 0 count) back whole) ∙ ap (λ y. Some (read_as c.args.width y count)) (sym z))
-        ]
+      ]
     ]
 
 pub returns-clause-in_run : goal.returns-clause-in_run

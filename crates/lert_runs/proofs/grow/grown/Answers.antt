@@ -1,4 +1,4 @@
-use Rattle.std.proofs.Common.{◌≡◌, ◌+◌, ℕ, ap, ◌∙◌, length, arith}
+use Rattle.std.proofs.Common.{◌≡◌, ◌+◌, ap, ◌∙◌, length, arith}
 use Rattle.lert_counter.specs.Group.{group}
 use Rattle.lert_runs.specs.RunText.{count_in}
 use Rattle.lert_runs.proofs.GrowLemmas.{growth_of}

@@ -1,9 +1,9 @@
-use Rattle.std.proofs.Common.{◌≡◌, ◌<◌, ℕ, List, ap, sym, ◌∙◌, refl, Some, None, arith, length, ◌+◌}
+use Rattle.std.proofs.Common.{◌≡◌, ap, sym, ◌∙◌, refl, arith, length}
 use Rattle.lert_counter.specs.Group.{group}
 use Rattle.lert_counter.specs.Reading.{read_as}
 use Rattle.lert_counter.specs.declared.group.Group.{Group}
 use Rattle.lert_runs.specs.RunText.{run_text}
-use Rattle.lert_runs.proofs.WalkLemmas.{Looks, looks_first, next, looks_next, place_here, place_before, place_end}
+use Rattle.lert_runs.proofs.WalkLemmas.{looks_first, next, looks_next, place_here, place_before, place_end}
 use Rattle.lert_runs.proofs.place.find.Goals as goal
 
 pub loop-start-init : goal.loop-start-init

@@ -1,4 +1,4 @@
-use Rattle.std.proofs.Common.{◌≡◌, ◌<◌, ◌+◌, ℕ, ap, sym, ◌∙◌, length, List, ◌∷◌, Some, None, arith}
+use Rattle.std.proofs.Common.{◌≡◌, ℕ, ap, ◌∙◌, ◌∷◌, Some, arith}
 use Rattle.lert_counter.specs.Reading.{read_as}
 use Rattle.lert_runs.specs.RunText.{run_text}
 use Rattle.lert_runs.proofs.WalkLemmas.{stands_at, next, no_room}

@@ -1,10 +1,10 @@
-use Rattle.std.proofs.Common.{◌≡◌, ◌<◌, ◌+◌, ℕ, ap, sym, ◌∙◌, length, List, ◌∷◌, Some, None, arith, refl, inl, inr, ◌⊎◌}
+use Rattle.std.proofs.Common.{◌≡◌, ◌<◌, ap, length, arith, inl, inr, ◌⊎◌}
 use Rattle.lert_counter.specs.Group.{group}
 use Rattle.lert_counter.specs.Reading.{read_as}
 use Rattle.lert_counter.specs.declared.group.Group.{Group}
 use Rattle.lert_runs.specs.RunText.{run_text}
 use Rattle.lert_runs.proofs.WalkLemmas.{stands_first, stands_next, next}
-use Rattle.lert_runs.proofs.ReadLemmas.{read_first, read_more, read_end, read_some}
+use Rattle.lert_runs.proofs.ReadLemmas.{read_first, read_more, read_some}
 use Rattle.lert_runs.proofs.walk.read_all.Goals as goal
 use Rattle.lert_runs.proofs.walk.read_all.Goals.{else-at-gt0-via-then-at-gt0+else-group-last, else-at-gt0-via-else-at-gt0}
 

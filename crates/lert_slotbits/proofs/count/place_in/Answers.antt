@@ -1,6 +1,6 @@
-use Rattle.std.proofs.Common.{◌≡◌, ◌+◌, ◌<◌, arith, ap, sym, ◌∙◌, take, ◌==◌, true, refl}
+use Rattle.std.proofs.Common.{◌≡◌, arith, ◌∙◌, refl}
 use Rattle.std.specs.Int.{bit_at}
-use Rattle.lert_slotbits.specs.Bits.{word_bits, trues}
+use Rattle.lert_slotbits.specs.Bits.{word_bits}
 use Rattle.lert_slotbits.proofs.RowLemmas.{bit_of_word, length_word_bits}
 use Rattle.lert_slotbits.proofs.CountLemmas.{bit_yes, bit_no, trues_all}
 use Rattle.lert_slotbits.proofs.count.place_in.Goals as goal

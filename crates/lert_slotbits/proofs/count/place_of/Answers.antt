@@ -1,6 +1,4 @@
-use Rattle.std.proofs.Common.{◌≡◌, ◌+◌, ◌*◌, ◌≤◌, ◌<◌, arith, ap, sym, ◌∙◌, take, get_or, length, count_ones, ◌==◌}
-use Rattle.std.specs.Int.{bit_at}
-use Rattle.lert_slotbits.specs.Bits.{row_of, trues, word_bits}
+use Rattle.std.proofs.Common.{arith, sym, ◌∙◌, get_or}
 use Rattle.lert_slotbits.proofs.RowLemmas.{bit_of_word}
 use Rattle.lert_slotbits.proofs.GapLemmas.{row_bit}
 use Rattle.lert_slotbits.proofs.CountLemmas.{trues_word_more, trues_to, trues-word, trues_whole}

@@ -1,4 +1,4 @@
-use Rattle.std.proofs.Common.{◌≡◌, ◌+◌, ◌-◌, ◌*◌, ◌/◌, ◌<◌, ◌≤◌, ℕ, get_or, false}
+use Rattle.std.proofs.Common.{◌≡◌, ◌-◌, ◌*◌, ◌/◌, ◌<◌, ◌≤◌, ℕ, get_or, false}
 use Rattle.std.specs.Int.{bit_at}
 use Rattle.lert_slotbits.specs.Bits.{row_of, gapped}
 use Rattle.lert_slotbits.proofs.gap.open.Given as goal

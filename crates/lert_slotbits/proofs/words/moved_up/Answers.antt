@@ -1,6 +1,4 @@
-use Rattle.std.proofs.Common.{◌≡◌, ◌+◌, ◌*◌, ◌/◌, ◌%◌, ◌^◌, ◌-◌, ◌<◌, ℕ, arith, ap, ◌∙◌}
-use Rattle.std.proofs.lemmas.Nat.{pow_pos, mod_below}
-use Rattle.lert_slotbits.proofs.WordLemmas.{moved_word, moved_below, moved_first, moved_inside, moved_above, above_fits, middle_fits, upper_fits}
+use Rattle.lert_slotbits.proofs.WordLemmas.{moved_below, moved_first, moved_inside, moved_above, above_fits, middle_fits, upper_fits}
 use Rattle.lert_slotbits.proofs.words.moved_up.Goals as goal
 
 pub joined-requires-clause-high : goal.joined-requires-clause-high

@@ -1,4 +1,4 @@
-use Rattle.std.proofs.Common.{vec_len, ◌≡◌, ◌+◌, ◌/◌, ap, sym, ◌∙◌, length, take, replicate, List, ℕ, Bool, false}
+use Rattle.std.proofs.Common.{vec_len, ◌≡◌, ◌+◌, ◌/◌, ap, sym, ◌∙◌, length, take, replicate, List, ℕ, false}
 use Rattle.lert_slotbits.specs.Bits.{row_of}
 use Rattle.lert_slotbits.proofs.ViewLemmas.{length_view, clear_view}
 use Rattle.lert_slotbits.proofs.bits.Bits.clear.Goals as goal

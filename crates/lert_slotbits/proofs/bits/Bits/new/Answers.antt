@@ -1,4 +1,4 @@
-use Rattle.std.proofs.Common.{ap, sym, ◌∙◌, take, List, ℕ}
+use Rattle.std.proofs.Common.{ap, ◌∙◌, take, List, ℕ}
 use Rattle.lert_slotbits.specs.Bits.{row_of}
 use Rattle.lert_slotbits.proofs.ViewLemmas.{clear_view}
 use Rattle.lert_slotbits.proofs.bits.Bits.new.Goals as goal

@@ -1,5 +1,4 @@
-use Rattle.std.proofs.Common.{◌≡◌, ◌<◌, ◌≤◌, ◌*◌, arith, ap, sym, ◌∙◌, get_or, true, false, take, length, slice_get, Some, List, Bool, subst, refl}
-use Rattle.std.proofs.lemmas.List.{length-take}
+use Rattle.std.proofs.Common.{◌≡◌, ◌<◌, ◌≤◌, ◌*◌, arith, get_or, true, false, take, length, slice_get, Some, List, Bool, subst, refl}
 use Rattle.lert_slotbits.specs.Bits.{row_of, trues}
 use Rattle.lert_slotbits.proofs.CountLemmas.{trues_take_grows}
 use Rattle.lert_slotbits.proofs.ViewLemmas.{long_enough, selected}
