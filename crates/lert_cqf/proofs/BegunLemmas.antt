@@ -7,16 +7,12 @@ use Rattle.std.proofs.lemmas.Bool.{cases_lt, cases_eq}
 use Rattle.lert_slotbits.specs.Bits.{gapped}
 use Rattle.lert_cqf.specs.Cells.{cells_from, cells, stop, end_before, first_free}
 use Rattle.lert_cqf.specs.Layout.{ends_of}
-use Rattle.lert_cqf.specs.Rows.{reshaped, used_text, IsSpread}
+use Rattle.lert_cqf.specs.Rows.{reshaped, used_text, IsSpread, filled_gap, IsRaised}
+use Rattle.lert_cqf.specs.Around.{HomesAscend, HomesBelow, IsAround, total_length}
 use Rattle.lert_cqf.proofs.CellLemmas.{first_free-from, free_there, free_later}
-use Rattle.lert_cqf.proofs.GrownLemmas.{HomesAscend, filled_gap, front_of, start_of, length_front, cells_at, grown_cells, cells_empty, stop-from}
-use Rattle.lert_cqf.proofs.SpillLemmas.{HomesBelow, spill_within, spill_beyond, spill_empty, below_unmoved, behind_run, home_start, home_end}
-use Rattle.lert_cqf.proofs.SpreadLemmas.{stop-reshaped, free-reshaped, reshaped-append, start-reshaped, length_ends_of, length_used_text, IsAround, IsRaised, used_grown, free-from, raised_spill}
-
--- all slots of runs
-abbrev pub total_length : {C : Type 0} → List (ℕ × List C) → ℕ
-total_length [] = 0
-total_length (r ∷ rs) = length r.1 + total_length rs
+use Rattle.lert_cqf.proofs.GrownLemmas.{front_of, start_of, length_front, cells_at, grown_cells, cells_empty, stop-from}
+use Rattle.lert_cqf.proofs.SpillLemmas.{spill_within, spill_beyond, spill_empty, below_unmoved, behind_run, home_start, home_end}
+use Rattle.lert_cqf.proofs.SpreadLemmas.{stop-reshaped, free-reshaped, reshaped-append, start-reshaped, length_ends_of, length_used_text, used_grown, free-from, raised_spill}
 
 pub total-append : {C : Type 0} (xs ys : List (ℕ × List C)) → total_length (xs ++ ys) ≡ total_length xs + total_length ys
 total-append [] ys = omega arith

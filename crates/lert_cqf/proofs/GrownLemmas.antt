@@ -4,17 +4,10 @@ use Rattle.std.specs.Prelude.{insert, remove}
 use Rattle.std.proofs.lemmas.List.{length-replicate, replicate-append-replicate, take_at, drop_at, append-nil}
 use Rattle.std.proofs.lemmas.List.Edits.{remove-append_right, insert-append_right, insert-append_left}
 use Rattle.std.proofs.lemmas.Bool.{cases_lt, cases_eq}
+use Rattle.lert_cqf.specs.Around.{HomesAscend}
+use Rattle.lert_cqf.specs.Rows.{filled_gap}
 use Rattle.lert_cqf.specs.Cells.{cells_from, cells, stop, end_before, first_free}
 use Rattle.lert_cqf.proofs.CellLemmas.{pushed, first_free-from}
-
--- the quotients ascend from `least` on, below `limit`
-abbrev pub HomesAscend : {C : Type 0} → ℕ → ℕ → List (ℕ × List C) → Type 0
-HomesAscend least limit [] = Unit {0}
-HomesAscend least limit (r ∷ rs) = (least ≤ r.0) × (r.0 < limit) × HomesAscend (r.0 + 1) limit rs
-
--- a gap with a value in it: `to` is lost
-abbrev pub filled_gap : {C : Type 0} → List C → ℕ → ℕ → C → List C
-filled_gap xs from to v = insert (remove xs to) from v
 
 -- a gap behind a front
 gap_behind : {C : Type 0} (front u w back : List C) (v : C) (to : ℕ) → length (front ++ (u ++ w)) ≤ to

@@ -1,5 +1,9 @@
 pub mod BegunLemmas
 pub mod CellLemmas
 pub mod GrownLemmas
+pub mod OpeningLemmas
+pub mod QuotientLemmas
+pub mod RotateLemmas
 pub mod SpillLemmas
+pub mod SplitLemmas
 pub mod SpreadLemmas

@@ -4,7 +4,8 @@ use Rattle.std.proofs.lemmas.Bool.{cases_lt, cases_eq}
 use Rattle.std.proofs.lemmas.Bool.Decides.{nat_tests}
 use Rattle.lert_cqf.specs.Cells.{cells_from, cells, stop, end_before, first_free}
 use Rattle.lert_cqf.proofs.CellLemmas.{first_free-from, free_there, free_later}
-use Rattle.lert_cqf.proofs.GrownLemmas.{HomesAscend, stop-from}
+use Rattle.lert_cqf.specs.Around.{HomesAscend, HomesBelow}
+use Rattle.lert_cqf.proofs.GrownLemmas.{stop-from}
 
 -- the test of a home
 pub end_passes : {C : Type 0} (at g : ℕ) (r : ℕ × List C) (rs : List (ℕ × List C)) → r.0 < g → end_before at g (r ∷ rs) ≡ end_before (max at r.0 + length r.1) g rs
@@ -61,10 +62,6 @@ pushed_beyond at g (r ∷ rs) h =
     ]
 
 -- runs whose homes are all below g are passed
-abbrev pub HomesBelow : {C : Type 0} → ℕ → List (ℕ × List C) → Type 0
-HomesBelow g [] = Unit {0}
-HomesBelow g (r ∷ rs) = (r.0 < g) × HomesBelow g rs
-
 pub below_passed : {C : Type 0} (at g : ℕ) (before rest : List (ℕ × List C)) → HomesBelow g before → end_before at g (before ++ rest) ≡ end_before (stop at before) g rest
 below_passed at g [] rest h = refl
 below_passed at g (r ∷ before) rest h = end_passes at g r (before ++ rest) h.0 ∙ below_passed (max at r.0 + length r.1) g before rest h.1

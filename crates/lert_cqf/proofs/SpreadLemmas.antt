@@ -7,10 +7,11 @@ use Rattle.std.proofs.lemmas.Bool.{cases_lt, cases_eq, false≢true}
 use Rattle.lert_slotbits.specs.Bits.{IsFirst, gapped}
 use Rattle.lert_cqf.specs.Cells.{cells_from, cells, stop, end_before, first_free}
 use Rattle.lert_cqf.specs.Layout.{ends_of}
-use Rattle.lert_cqf.specs.Rows.{reshaped, used_text, IsSpread}
+use Rattle.lert_cqf.specs.Rows.{reshaped, used_text, IsSpread, filled_gap, IsRaised}
+use Rattle.lert_cqf.specs.Around.{HomesAscend, HomesBelow, IsAround}
 use Rattle.lert_cqf.proofs.CellLemmas.{pushed, first_free-from, free_there, free_later, apart_cells, stuck_cells}
-use Rattle.lert_cqf.proofs.GrownLemmas.{HomesAscend, filled_gap, front_of, start_of, length_front, cells_at, grown_cells, cells_empty, stop-from}
-use Rattle.lert_cqf.proofs.SpillLemmas.{HomesBelow, spill_within, spill_beyond, spill_empty, below_unmoved, home_start, home_end}
+use Rattle.lert_cqf.proofs.GrownLemmas.{front_of, start_of, length_front, cells_at, grown_cells, cells_empty, stop-from}
+use Rattle.lert_cqf.proofs.SpillLemmas.{spill_within, spill_beyond, spill_empty, below_unmoved, home_start, home_end}
 
 -- runs of other cells in the same places
 module _ {C D : Type 0} (f : ℕ → List D) (same : (k : ℕ) → length (f k) ≡ k) where
@@ -49,13 +50,6 @@ ends_of-more k j h =
     let one_more : j + suc (k - j) ≡ suc k = omega arith in
     ( sym (append_assoc (replicate j false) (replicate (k - j) false) (true ∷ [])) ∙ ap (λ (t : List Bool). t ++ true ∷ []) (replicate-append-replicate j (k - j) false ∙ ap (λ m. replicate m false) whole)
     , sym (append_assoc (replicate j false) (replicate (suc (k - j)) false) (true ∷ [])) ∙ ap (λ (t : List Bool). t ++ true ∷ []) (replicate-append-replicate j (suc (k - j)) false ∙ ap (λ m. replicate m false) one_more))
-
--- the order of the homes around one
-pub record IsAround {C : Type 0} (n homes q : ℕ) (before after : List (ℕ × List C)) : Type 0 where
-  pub below : HomesBelow q before
-  pub above : HomesAscend (q + 1) homes after
-  pub within : q < homes
-  pub fits : homes ≤ n
 
 -- the used cells from the end of a run on, up to the first free one
 used_up : (n at : ℕ) (rs : List (ℕ × List ℕ)) → first_free at rs < n → (rest : List Bool) × (cells_from false n at (reshaped used_text rs) ≡ replicate (first_free at rs - at) true ++ false ∷ rest)
@@ -163,13 +157,6 @@ module _ (n q : ℕ) (t : List ℕ) (before after : List (ℕ × List ℕ)) (roo
       ∙ set_at (front ++ replicate (free - start) true) false a.1 true free (omega (arith, length-append front (replicate (free - start) true), length-replicate (free - start) true, a.2))
       ∙ append_assoc front (replicate (free - start) true) (true ∷ a.1)
       ∙ ap (λ (c : List Bool). front ++ c) (sym marks) ∙ sym new
-
--- spills raised by one on a part of the homes
-pub record IsRaised (old new : List ℕ) (from to : ℕ) : Type 0 where
-  pub long : length new ≡ length old
-  pub inside : (g : ℕ) → from ≤ g → g ≤ to → g < length old → get_or new g 0 ≡ get_or old g 0 + 1
-  pub below : (g : ℕ) → g < from → get_or new g 0 ≡ get_or old g 0
-  pub above : (g : ℕ) → to < g → get_or new g 0 ≡ get_or old g 0
 
 -- the spills as the run of q has one cell more
 pub raised_spill : (n homes q : ℕ) (t s : List ℕ) (before after : List (ℕ × List ℕ)) (spill raised : List ℕ) → length spill ≡ homes + 1

@@ -18,3 +18,14 @@ pub record IsSpread (n homes : ℕ) (ts : List (ℕ × List ℕ)) (slots : List 
   pub used_are : used ≡ cells false n (reshaped used_text ts)
   pub spill_long : length spill ≡ homes + 1
   pub spill_is : (g : ℕ) → g ≤ homes → slice_index spill g ≡ end_before 0 g ts - g
+
+-- a gap with a value in it: what stood at `to` is lost
+abbrev pub filled_gap : {C : Type 0} → List C → ℕ → ℕ → C → List C
+filled_gap xs from to v = insert (remove xs to) from v
+
+-- numbers raised by one from a place on up to another
+pub record IsRaised (old new : List ℕ) (from to : ℕ) : Type 0 where
+  pub long : length new ≡ length old
+  pub inside : (g : ℕ) → from ≤ g → g ≤ to → g < length old → slice_index new g ≡ slice_index old g + 1
+  pub below : (g : ℕ) → g < from → slice_index new g ≡ slice_index old g
+  pub above : (g : ℕ) → to < g → slice_index new g ≡ slice_index old g

@@ -1,1 +1,4 @@
 #![tactic(auto)]
+
+mod cells;
+mod rows;

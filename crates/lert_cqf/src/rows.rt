@@ -1,0 +1,101 @@
+//! The rows of a table.
+//!
+//! Beside the slots, the occupied quotients and the run ends stand two rows that no layout shows: which cells
+//! are used, and for each quotient how far the runs below it reach past its home. So a run is found with no
+//! counting of bits, and the first free cell behind a place by a scan of words.
+
+ghost use Rattle.std.specs.Prelude.{◌≡◌, ℕ, ◌+◌, ◌-◌, ◌^◌, ◌<◌, ◌≤◌, ◌++◌, [], ◌∷◌, List, Bool, true, false, length, replicate, slice_index, slice_set, min, IfOk};
+ghost use Rattle.lert_slotbits.specs.Bits.{IsFirst, gapped};
+ghost use Rattle.lert_cqf.specs.Around.{IsOpening, IsWidened};
+ghost use Rattle.lert_cqf.specs.Rows.{IsRaised, filled_gap};
+
+use crate::cells::{raise, rotate_up};
+use lert_io::OutOfMemory;
+use lert_slotbits::Bits;
+use std::alloc::Global;
+
+/// The rows of a table.
+#[derive(Drop)]
+pub struct Rows {
+    pub slots: Vec<u64>,
+    pub occupied: Bits,
+    pub run_ends: Bits,
+    pub used: Bits,
+    pub spill: Vec<u32>,
+}
+
+impl Rows {
+    /// Empty rows for so many homes and slots.
+    pub fn new(alloc: Global, homes: u64, slots: u64) -> Result<Rows, OutOfMemory>
+        requires { homes < 2 ^ 63 }
+        ensures slots { IfOk result (λ r. r.slots.items ≡ replicate slots 0) }
+        ensures occupied { IfOk result (λ r. r.occupied ≡ replicate homes false) }
+        ensures run_ends { IfOk result (λ r. r.run_ends ≡ replicate slots false) }
+        ensures used { IfOk result (λ r. r.used ≡ replicate slots false) }
+        ensures spill { IfOk result (λ r. r.spill.items ≡ replicate (homes + 1) 0) }
+    {
+        Ok(Rows {
+            slots: vec![in alloc; 0; slots as usize]?,
+            occupied: Bits::new(alloc, homes)?,
+            run_ends: Bits::new(alloc, slots)?,
+            used: Bits::new(alloc, slots)?,
+            spill: vec![in alloc; 0; homes as usize + 1]?,
+        })
+    }
+
+    /// Where the runs below `home` end, or `home` itself behind them.
+    pub fn start(&self, home: u64) -> u64
+        requires within { home < length self.now.spill.items }
+        requires fits { home + slice_index self.now.spill.items home < 2 ^ 64 }
+        ensures { result ≡ home + slice_index self.now.spill.items home }
+    {
+        home + u64::from(self.spill[home as usize])
+    }
+
+    /// Makes room for one slot at `place` in the run of `home`: the cells from there up to the first free one
+    /// move one place up. The run's mark stands behind `mark`, so it moves too.
+    pub fn open_slot(&mut self, home: u64, place: u64, mark: u64)
+        requires mark { mark ≤ place }
+        requires home { home ≤ place }
+        requires homes { home + 1 < length self.old.spill.items }
+        requires slots_long { length self.old.slots.items ≡ length self.old.used }
+        requires ends_long { length self.old.run_ends ≡ length self.old.used }
+        requires free { (f : ℕ) × IsFirst false self.old.used place f }
+        requires room { (g : ℕ) → g < length self.old.spill.items
+            → slice_index self.old.spill.items g + 1 < 2 ^ 32 }
+        ensures slots { (f : ℕ) → IsFirst false self.old.used place f
+            → self.new.slots.items ≡ filled_gap self.old.slots.items place f (slice_index self.old.slots.items f) }
+        ensures run_ends { (f : ℕ) → IsFirst false self.old.used place f
+            → self.new.run_ends ≡ gapped self.old.run_ends mark f }
+        ensures used { (f : ℕ) → IsFirst false self.old.used place f
+            → self.new.used ≡ slice_set self.old.used f true }
+        ensures spill { (f : ℕ) → IsFirst false self.old.used place f
+            → IsRaised self.old.spill.items self.new.spill.items (home + 1)
+                (min f (length self.old.spill.items - 1)) }
+        ensures occupied { self.new.occupied ≡ self.old.occupied }
+    {
+        let Some(free) = self.used.next_false(place) else {
+            unreachable!()
+        };
+        rotate_up(&mut self.slots, place as usize, free as usize);
+        self.run_ends.open_gap(mark, free);
+        self.used.set(free, true);
+        let last_home = self.spill.len() - 1;
+        raise(&mut self.spill, home as usize + 1, last_home.min(free as usize));
+    }
+
+    /// Makes room for `extra` slots at `place` in the run of `home`, whose last slot is `last`.
+    pub fn widen(&mut self, home: u64, place: u64, last: u64, extra: usize)
+        requires { (n : ℕ) × (homes : ℕ) × IsOpening n homes home place last extra
+            self.old.slots.items self.old.run_ends self.old.used self.old.spill.items }
+        ensures widened { (n homes : ℕ) (o : IsOpening n homes home place last extra
+                self.old.slots.items self.old.run_ends self.old.used self.old.spill.items)
+            → IsWidened n homes home extra o.before o.after o.front o.back
+                self.new.slots.items self.new.run_ends self.new.used self.new.spill.items }
+        ensures occupied { self.new.occupied ≡ self.old.occupied }
+    {
+        for count in 0..extra {
+            self.open_slot(home, place, place.min(last + count as u64));
+        }
+    }
+}
