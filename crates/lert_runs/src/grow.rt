@@ -2,7 +2,7 @@
 
 ghost use Rattle.std.specs.Prelude.{◌≡◌, ℕ, ◌+◌, ◌^◌, ◌≤◌, List};
 ghost use Rattle.lert_runs.specs.Growth.{IsGrowthOf};
-ghost use Rattle.lert_runs.specs.RunText.{count_in, IsTextOf, IsRunText};
+ghost use Rattle.lert_runs.specs.RunText.{count_in, IsTextOf};
 
 use crate::place::find;
 use lert_counter::write_group;
@@ -20,9 +20,8 @@ pub struct Growth {
 pub fn grown(width: u32, run: &[u64], x: u64, n: u64) -> Growth
     requires narrow { 8 ≤ width }
     requires wide { width ≤ 62 }
-    requires run_text { IsRunText width run.now }
     requires positive { 1 ≤ n }
-    requires most { (ps : List (ℕ × ℕ)) → IsTextOf width run.now ps → count_in ps x + n ≤ 2 ^ 47 }
+    requires run_text { (ps : List (ℕ × ℕ)) × IsTextOf width run.now ps × (count_in ps x + n ≤ 2 ^ 47) }
     ensures { (ps : List (ℕ × ℕ)) → IsTextOf width run.now ps → IsGrowthOf width x n run.now ps result }
 {
     let place = find(width, run, x);
