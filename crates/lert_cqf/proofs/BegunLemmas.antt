@@ -202,3 +202,10 @@ pub begins_at : (n homes q : ℕ) (before after : List (ℕ × List ℕ)) (slots
 begins_at n homes q before after slots ends used spill around s =
     let e = spread_empty n homes q before after slots ends used spill around s in
     let first = e.spill_is q (omega (arith, around.within)) ∙ ap (λ e. e - q) (home_start q [] before after around.below) in omega arith
+
+-- a run stands within the slots
+pub text_within : (n q : ℕ) (t slots : List ℕ) (before after : List (ℕ × List ℕ)) → slots ≡ cells 0 n (before ++ (q, t) ∷ after) → max (stop 0 before) q + length t ≤ length slots
+text_within n q t slots before after is =
+    let front = front_of 0 q before in
+    let back = cells_from 0 n (max (stop 0 before) q + length t) after in
+    omega (arith, ap (λ (c : List ℕ). length c) (is ∙ cells_at 0 n q t before after), length-append front (t ++ back), length-append t back, length_front 0 q before)

@@ -1,5 +1,6 @@
 pub mod BegunLemmas
 pub mod CellLemmas
+pub mod GrowingLemmas
 pub mod GrownLemmas
 pub mod OpeningLemmas
 pub mod QuotientLemmas

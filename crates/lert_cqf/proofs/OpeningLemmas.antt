@@ -35,7 +35,7 @@ spill_small n homes ts slots ends used spill s fits short g within =
     let bound = end_bound 0 g ts in omega arith
 
 -- the cells of all runs as one has another text
-total_at : (q : ℕ) (t : List ℕ) (before after : List (ℕ × List ℕ)) → total_length (before ++ (q, t) ∷ after) ≡ total_length before + length t + total_length after
+pub total_at : (q : ℕ) (t : List ℕ) (before after : List (ℕ × List ℕ)) → total_length (before ++ (q, t) ∷ after) ≡ total_length before + length t + total_length after
 total_at q t before after = let e = total-append before ((q, t) ∷ after) in omega arith
 
 module _ (n homes home place last extra i : ℕ) (slots0 : List ℕ) (ends0 used0 : List Bool) (spill0 : List ℕ) (o : IsOpening n homes home place last extra slots0 ends0 used0 spill0)

@@ -1,4 +1,5 @@
 pub mod Around
 pub mod Cells
+pub mod Growing
 pub mod Layout
 pub mod Rows

@@ -84,6 +84,7 @@ growth_of width x n run ps g wide positive text start old len written =
     record {
       start = start;
       old = old;
+      len = len;
       text = written;
       grown = rw (m.0, m.1, written) (sym a.becomes);
       within = m.2;

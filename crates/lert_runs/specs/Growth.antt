@@ -8,6 +8,7 @@ use Rattle.lert_runs.specs.declared.grow.Growth.{Growth}
 pub record IsGrowthOf (width x n : ℕ) (run : List ℕ) (ps : List (ℕ × ℕ)) (growth : Growth) : Type 0 where
   pub start : growth.start ≡ length (run_text width (pairs_below ps x))
   pub old : growth.old ≡ length (group_in width ps x)
+  pub len : growth.len ≡ length (group width x (count_in ps x + n))
   pub text : take growth.len growth.text ≡ group width x (count_in ps x + n)
   pub grown : take growth.start run ++ (take growth.len growth.text ++ drop (growth.start + growth.old) run)
       ≡ run_text width (pairs_plus ps x n)
