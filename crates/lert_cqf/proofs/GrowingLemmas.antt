@@ -9,7 +9,7 @@ use Rattle.lert_runs.specs.RunText.{run_text, RemaindersAscend, IsTextOf, count_
 use Rattle.lert_runs.specs.Growth.{IsGrowthOf}
 use Rattle.lert_runs.specs.declared.grow.Growth.{Growth}
 use Rattle.lert_cqf.specs.Cells.{cells, stop, end_before, first_free}
-use Rattle.lert_cqf.specs.Rows.{IsSpread, filled_gap, IsRaised}
+use Rattle.lert_cqf.specs.Rows.{IsSpread, filled_gap, IsRaised, run_slots}
 use Rattle.lert_cqf.specs.Around.{IsAround, total_length, HaveLengths, IsOpening, IsWidened}
 use Rattle.lert_cqf.specs.Growing.{Stand, IsGrowing, IsBeginning, HasBegun}
 use Rattle.lert_cqf.proofs.CellLemmas.{first_free-from}
@@ -25,6 +25,9 @@ length_text-positive width least (p ∷ ps) some h = let one = length_group-posi
 over_long : (at : ℕ) (xs ys : List ℕ) → at + length ys ≤ length xs → length (take at xs ++ (ys ++ drop (at + length ys) xs)) ≡ length xs
 over_long at xs ys h = omega (arith, length-append (take at xs) (ys ++ drop (at + length ys) xs), length-append ys (drop (at + length ys) xs), length-take at xs, length-drop (at + length ys) xs)
 
+pub one_some : (v : ℕ) → 0 < length (v ∷ [])
+one_some v = omega arith
+
 -- a run that begins
 module _ (n homes width home x count : ℕ) (slots : List ℕ) (ends used : List Bool) (spill : List ℕ) (b : IsBeginning n homes width home x count slots ends used spill) where
   abbrev pub begin_place : ℕ
@@ -33,10 +36,10 @@ module _ (n homes width home x count : ℕ) (slots : List ℕ) (ends used : List
   abbrev pub begin_free : ℕ
   begin_free = first_free (max (stop 0 b.before) home) b.after
 
-  begin_text : 0 < length (run_text width ((x, count) ∷ []))
+  pub begin_text : 0 < length (run_text width ((x, count) ∷ []))
   begin_text = length_text-positive width 0 ((x, count) ∷ []) (omega arith) (omega arith, b.fits, tt)
 
-  begin_total : homes + total_length (b.before ++ (home, []) ∷ b.after) + 1 ≤ n
+  pub begin_total : homes + total_length (b.before ++ (home, []) ∷ b.after) + 1 ≤ n
   begin_total =
       let a = total_at home [] b.before b.after in
       let c = total_at home (run_text width ((x, count) ∷ [])) b.before b.after in
@@ -99,34 +102,36 @@ module _ (n homes width home x count : ℕ) (slots : List ℕ) (ends used : List
       }
 
   -- and then takes the other slots of its group behind the first
-  pub begin_opening : (slots' : List ℕ) (ends' used' : List Bool) (spill' : List ℕ) → HasBegun n homes home b.before b.after slots' ends' used' spill'
-      → IsOpening n homes home (begin_place + 1) begin_place (length (group width x count) - 1) slots' ends' used' spill'
-  begin_opening slots' ends' used' spill' h =
+  pub begin_fits : (v : ℕ) → homes + total_length (b.before ++ (home, v ∷ []) ∷ b.after) + (length (group width x count) - 1) ≤ n
+  begin_fits v =
       let some = begin_text in
       let one = length-append (group width x count) [] in
       let room = b.room in
-      let a = total_at home (h.value ∷ []) b.before b.after in
-      let c = total_at home (run_text width ((x, count) ∷ [])) b.before b.after in
-      record {
-        before = b.before;
-        after = b.after;
-        front = h.value ∷ [];
-        back = [];
-        around = b.around;
-        spread = (h.stand).spread;
-        lengths = (h.stand).lengths;
-        place_is = refl;
-        last_is = refl;
-        some = omega arith;
-        room = omega arith;
-      }
+      let a = total_at home (v ∷ []) b.before b.after in
+      let c = total_at home (run_text width ((x, count) ∷ [])) b.before b.after in omega arith
+
+  abbrev pub begin_opening : (place last extra : ℕ) → place ≡ begin_place + 1 → last ≡ begin_place → extra ≡ length (group width x count) - 1 → (slots' : List ℕ) (ends' used' : List Bool) (spill' : List ℕ)
+      → HasBegun n homes home b.before b.after slots' ends' used' spill' → IsOpening n homes home place last extra slots' ends' used' spill'
+  begin_opening place last extra place_is last_is extra_is slots' ends' used' spill' h = record {
+    before = b.before;
+    after = b.after;
+    front = h.value ∷ [];
+    back = [];
+    around = b.around;
+    spread = (h.stand).spread;
+    lengths = (h.stand).lengths;
+    place_is = place_is;
+    last_is = ap (λ k. k + 1) last_is;
+    some = one_some h.value;
+    room = rw extra_is (begin_fits h.value);
+  }
 
   -- and is written over
   pub begin_written : (slots' : List ℕ) (ends' used' : List Bool) (spill' : List ℕ) (h : HasBegun n homes home b.before b.after slots' ends' used' spill')
-      (slots'' over : List ℕ) (ends'' used'' : List Bool) (spill'' : List ℕ) → IsWidened n homes home (length (group width x count) - 1) b.before b.after (h.value ∷ []) [] slots'' ends'' used'' spill''
+      (extra : ℕ) → extra ≡ length (group width x count) - 1 → (slots'' over : List ℕ) (ends'' used'' : List Bool) (spill'' : List ℕ) → IsWidened n homes home extra b.before b.after (h.value ∷ []) [] slots'' ends'' used'' spill''
       → over ≡ take begin_place slots'' ++ (group width x count ++ drop (begin_place + length (group width x count)) slots'')
       → Stand n homes (b.before ++ (home, run_text width ((x, count) ∷ [])) ∷ b.after) over ends'' used'' spill''
-  begin_written slots' ends' used' spill' h slots'' over ends'' used'' spill'' w is =
+  begin_written slots' ends' used' spill' h extra extra_is slots'' over ends'' used'' spill'' w is =
       let some = length_group-positive width x count (b.fits).0 in
       let text = h.value ∷ w.added in
       let added = w.added_long in
@@ -149,12 +154,21 @@ module _ (n homes width home x count : ℕ) (slots : List ℕ) (ends used : List
         };
       }
 
+-- where the slots of a run lie
+pub record RunBounds (home : ℕ) (text slots spill : List ℕ) : Type 0 where
+  pub within : home + 1 < length spill
+  pub order : get_or spill home 0 ≤ 1 + get_or spill (home + 1) 0
+  pub end : home + 1 + get_or spill (home + 1) 0 ≤ length slots
+  pub joined : home + get_or spill home 0 + length text ≡ home + 1 + get_or spill (home + 1) 0
+  pub short : length slots + 1 < 2 ^ 32
+  pub slice : run_slots home slots spill ≡ text
+
 -- a run that grows
 module _ (n homes width home x count : ℕ) (slots : List ℕ) (ends used : List Bool) (spill : List ℕ) (g : IsGrowing n homes width home x count slots ends used spill) where
   abbrev pub run : List ℕ
   run = run_text width g.pairs
 
-  run_some : 0 < length run
+  pub run_some : 0 < length run
   run_some = length_text-positive width 0 g.pairs g.some g.ascend
 
   pub grow_stands : StandsAt home (home + get_or spill home 0) (home + 1 + get_or spill (home + 1) 0) run slots g.before
@@ -163,11 +177,35 @@ module _ (n homes width home x count : ℕ) (slots : List ℕ) (ends used : List
   pub grow_text : IsTextOf width run g.pairs
   grow_text = record { ascend = g.ascend; text = refl }
 
+  -- what bounds its slice
+  pub grow_bounds : RunBounds home run slots spill
+  grow_bounds =
+      let at = grow_stands in
+      let start = at.start_is in
+      let end = at.end_is in
+      let within = at.within in
+      let some = run_some in
+      let lengths = (g.stand).lengths in
+      let slots_long = lengths.slots_long in
+      let short = lengths.short in
+      record {
+        within = (let l = lengths.spill_long in let h = (g.around).within in omega arith);
+        order = omega arith;
+        end = within;
+        joined = omega arith;
+        short = omega arith;
+        slice = at.text;
+      }
+
+  -- what is to be written, whichever slice the run was read from
+  pub grow_of : (slice : List ℕ) (growth : Growth) → slice ≡ run → ((ps : List (ℕ × ℕ)) → IsTextOf width slice ps → IsGrowthOf width x count slice ps growth) → IsGrowthOf width x count run g.pairs growth
+  grow_of slice growth same told = subst (λ (t : List ℕ). IsGrowthOf width x count t g.pairs growth) same (told g.pairs (record { ascend = g.ascend; text = same }))
+
   module _ (growth : Growth) (is : IsGrowthOf width x count run g.pairs growth) where
     abbrev pub behind : ℕ
     behind = growth.start + growth.old
 
-    new_long : length (run_text width (pairs_plus g.pairs x count)) + growth.old ≡ length run + growth.len
+    pub new_long : length (run_text width (pairs_plus g.pairs x count)) + growth.old ≡ length run + growth.len
     new_long =
         let within = is.within in
         let text = ap (λ (t : List ℕ). length t) (is.grown) in
@@ -176,41 +214,49 @@ module _ (n homes width home x count : ℕ) (slots : List ℕ) (ends used : List
         let len = is.len in
         omega (arith, length-append (take growth.start run) (take growth.len growth.text ++ drop behind run), length-append (take growth.len growth.text) (drop behind run), length-take growth.start run, length-drop behind run)
 
-    pub grow_opening : IsOpening n homes home (home + get_or spill home 0 + growth.start + growth.old) (home + 1 + get_or spill (home + 1) 0 - 1) (growth.len - growth.old) slots ends used spill
-    grow_opening =
-        let at = grow_stands in
-        let start = at.start_is in
-        let end = at.end_is in
-        let within = is.within in
-        let some = run_some in
+    pub grow_last : home + 1 + get_or spill (home + 1) 0 ≡ max (stop 0 g.before) home + length (take behind run ++ drop behind run)
+    grow_last = let at = grow_stands in let end = at.end_is in let all = ap (λ (t : List ℕ). length t) (take-append-drop behind run) in omega arith
+
+    pub grow_place : home + get_or spill home 0 + growth.start + growth.old ≡ max (stop 0 g.before) home + length (take behind run)
+    grow_place = let at = grow_stands in let start = at.start_is in let within = is.within in let front_long = length-take behind run in omega arith
+
+    pub grow_some : 0 < length (take behind run ++ drop behind run)
+    grow_some = let some = run_some in let all = ap (λ (t : List ℕ). length t) (take-append-drop behind run) in omega arith
+
+    pub grow_fits : homes + total_length (g.before ++ (home, take behind run ++ drop behind run) ∷ g.after) + (growth.len - growth.old) ≤ n
+    grow_fits =
         let long = new_long in
         let room = g.room in
         let longer = is.longer in
-        let front_long = length-take behind run in
-        let whole = take-append-drop behind run in
-        let a = total_at home run g.before g.after in
+        let all = ap (λ (t : List ℕ). length t) (take-append-drop behind run) in
         let c = total_at home (run_text width (pairs_plus g.pairs x count)) g.before g.after in
-        let all = ap (λ (t : List ℕ). length t) whole in
-        let b = total_at home (take behind run ++ drop behind run) g.before g.after in
-        record {
-          before = g.before;
-          after = g.after;
-          front = take behind run;
-          back = drop behind run;
-          around = g.around;
-          spread = rw whole ((g.stand).spread);
-          lengths = (g.stand).lengths;
-          place_is = omega arith;
-          last_is = omega arith;
-          some = omega arith;
-          room = omega arith;
-        }
+        let b = total_at home (take behind run ++ drop behind run) g.before g.after in omega arith
+
+    pub grow_spread : IsSpread n homes (g.before ++ (home, take behind run ++ drop behind run) ∷ g.after) slots ends used spill
+    grow_spread = rw (take-append-drop behind run) ((g.stand).spread)
+
+    abbrev pub grow_opening : (place last : ℕ) → place ≡ home + get_or spill home 0 + growth.start + growth.old → last + 1 ≡ home + 1 + get_or spill (home + 1) 0
+        → IsOpening n homes home place last (growth.len - growth.old) slots ends used spill
+    grow_opening place last place_is last_is = record {
+      before = g.before;
+      after = g.after;
+      front = take behind run;
+      back = drop behind run;
+      around = g.around;
+      spread = grow_spread;
+      lengths = (g.stand).lengths;
+      place_is = place_is ∙ grow_place;
+      last_is = last_is ∙ grow_last;
+      some = grow_some;
+      room = grow_fits;
+    }
 
     pub grow_written : (slots'' over : List ℕ) (ends'' used'' : List Bool) (spill'' : List ℕ)
         → IsWidened n homes home (growth.len - growth.old) g.before g.after (take behind run) (drop behind run) slots'' ends'' used'' spill''
-        → over ≡ take (home + get_or spill home 0 + growth.start) slots'' ++ (take growth.len growth.text ++ drop (home + get_or spill home 0 + growth.start + length (take growth.len growth.text)) slots'')
+        → (at : ℕ) → at ≡ home + get_or spill home 0 + growth.start
+        → over ≡ take at slots'' ++ (take growth.len growth.text ++ drop (at + length (take growth.len growth.text)) slots'')
         → Stand n homes (g.before ++ (home, run_text width (pairs_plus g.pairs x count)) ∷ g.after) over ends'' used'' spill''
-    grow_written slots'' over ends'' used'' spill'' w written =
+    grow_written slots'' over ends'' used'' spill'' w where_at where_is written =
         let at = grow_stands in
         let start = at.start_is in
         let within = is.within in
@@ -231,7 +277,7 @@ module _ (n homes width home x count : ℕ) (slots : List ℕ) (ends used : List
         let rest_long = length-drop growth.start run in
         let same : length new ≡ length middle = omega arith in
         let was : slots'' ≡ cells 0 n (g.before ++ (home, u ++ (middle ++ back)) ∷ g.after) = (w.spread).slots_are ∙ ap (λ (t : List ℕ). cells 0 n (g.before ++ (home, t) ∷ g.after)) split in
-        let place : home + get_or spill home 0 + growth.start ≡ max (stop 0 g.before) home + length u = omega arith in
+        let place : where_at ≡ max (stop 0 g.before) home + length u = omega arith in
         let over_is : over ≡ take (max (stop 0 g.before) home + length u) slots'' ++ (new ++ drop (max (stop 0 g.before) home + length u + length new) slots'') = (rw place at written) in
         let is_over : over ≡ cells 0 n (g.before ++ (home, run_text width (pairs_plus g.pairs x count)) ∷ g.after) =
             over_is ∙ cells_over n home u middle back new slots'' g.before g.after same was ∙ ap (λ (t : List ℕ). cells 0 n (g.before ++ (home, t) ∷ g.after)) is.grown in

@@ -1,5 +1,6 @@
 pub mod Around
 pub mod Cells
+pub mod Contents
 pub mod Growing
 pub mod Layout
 pub mod Rows

@@ -1,5 +1,5 @@
 -- The rows of a table, as they stand for the texts of runs.
-use Rattle.std.specs.Prelude.{ℕ, ◌+◌, ◌-◌, ◌≡◌, ◌<◌, ◌≤◌, Bool, true, false, List, [], ◌∷◌, ◌++◌, length, map, replicate, slice_index, insert, remove, max}
+use Rattle.std.specs.Prelude.{ℕ, ◌+◌, ◌-◌, ◌≡◌, ◌<◌, ◌≤◌, Bool, true, false, List, [], ◌∷◌, ◌++◌, length, map, take, drop, replicate, slice_index, insert, remove, max}
 use Rattle.lert_cqf.specs.Cells.{cells, end_before, stop}
 use Rattle.lert_cqf.specs.Layout.{ends_of}
 
@@ -29,3 +29,7 @@ pub record IsRaised (old new : List ℕ) (from to : ℕ) : Type 0 where
   pub inside : (g : ℕ) → from ≤ g → g ≤ to → g < length old → slice_index new g ≡ slice_index old g + 1
   pub below : (g : ℕ) → g < from → slice_index new g ≡ slice_index old g
   pub above : (g : ℕ) → to < g → slice_index new g ≡ slice_index old g
+
+-- the slots between where the runs below a home end and where its own run ends
+abbrev pub run_slots : ℕ → List ℕ → List ℕ → List ℕ
+run_slots home slots spill = take (home + 1 + slice_index spill (home + 1) - (home + slice_index spill home)) (drop (home + slice_index spill home) slots)

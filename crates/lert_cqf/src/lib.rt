@@ -2,3 +2,6 @@
 
 mod cells;
 mod rows;
+mod table;
+
+pub use table::Cqf;

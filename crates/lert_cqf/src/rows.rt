@@ -6,11 +6,15 @@
 
 ghost use Rattle.std.specs.Prelude.{◌≡◌, ℕ, ◌+◌, ◌-◌, ◌^◌, ◌<◌, ◌≤◌, ◌++◌, [], ◌∷◌, List, Bool, true, false, length, replicate, slice_index, slice_set, min, IfOk};
 ghost use Rattle.lert_slotbits.specs.Bits.{IsFirst, gapped};
+ghost use Rattle.lert_runs.specs.RunText.{run_text, pairs_plus};
 ghost use Rattle.lert_cqf.specs.Around.{IsOpening, IsWidened};
-ghost use Rattle.lert_cqf.specs.Rows.{IsRaised, filled_gap};
+ghost use Rattle.lert_cqf.specs.Growing.{Stand, IsGrowing, IsBeginning, HasBegun};
+ghost use Rattle.lert_cqf.specs.Rows.{IsRaised, filled_gap, run_slots};
 
-use crate::cells::{raise, rotate_up};
+use crate::cells::{overwrite, raise, rotate_up};
+use lert_counter::write_group;
 use lert_io::OutOfMemory;
+use lert_runs::grown;
 use lert_slotbits::Bits;
 use std::alloc::Global;
 
@@ -50,6 +54,18 @@ impl Rows {
         ensures { result ≡ home + slice_index self.now.spill.items home }
     {
         home + u64::from(self.spill[home as usize])
+    }
+
+    /// The slots of the run of `home`.
+    pub fn run(&self, home: u64) -> &[u64]
+        requires within { home + 1 < length self.now.spill.items }
+        requires order { slice_index self.now.spill.items home
+            ≤ 1 + slice_index self.now.spill.items (home + 1) }
+        requires end { home + 1 + slice_index self.now.spill.items (home + 1)
+            ≤ length self.now.slots.items }
+        ensures { result.now ≡ run_slots home self.now.slots.items self.now.spill.items }
+    {
+        &self.slots[self.start(home) as usize..self.start(home + 1) as usize]
     }
 
     /// Makes room for one slot at `place` in the run of `home`: the cells from there up to the first free one
@@ -97,5 +113,63 @@ impl Rows {
         for count in 0..extra {
             self.open_slot(home, place, place.min(last + count as u64));
         }
+    }
+
+    /// Begins a run of one slot at `home`; its value is written later.
+    fn begin_run(&mut self, width: u32, home: u64, x: u64, count: u64)
+        requires beginning { (n : ℕ) × (homes : ℕ) × IsBeginning n homes width home x count
+            self.old.slots.items self.old.run_ends self.old.used self.old.spill.items }
+        requires occupied { home < length self.old.occupied }
+        ensures begun { (n homes : ℕ) (b : IsBeginning n homes width home x count
+                self.old.slots.items self.old.run_ends self.old.used self.old.spill.items)
+            → HasBegun n homes home b.before b.after
+                self.new.slots.items self.new.run_ends self.new.used self.new.spill.items }
+        ensures occupied { self.new.occupied ≡ slice_set self.old.occupied home true }
+    {
+        let place = self.start(home);
+        self.open_slot(home, place, place);
+        self.run_ends.set(place, true);
+        self.occupied.set(home, true);
+    }
+
+    /// Begins the run of `home` with the group of `x` and `count`.
+    pub fn add_run(&mut self, width: u32, home: u64, x: u64, count: u64)
+        requires narrow { 8 ≤ width }
+        requires wide { width ≤ 62 }
+        requires beginning { (n : ℕ) × (homes : ℕ) × IsBeginning n homes width home x count
+            self.old.slots.items self.old.run_ends self.old.used self.old.spill.items }
+        requires occupied { home < length self.old.occupied }
+        ensures stand { (n homes : ℕ) (b : IsBeginning n homes width home x count
+                self.old.slots.items self.old.run_ends self.old.used self.old.spill.items)
+            → Stand n homes (b.before ++ (home, run_text width ((x, count) ∷ [])) ∷ b.after)
+                self.new.slots.items self.new.run_ends self.new.used self.new.spill.items }
+        ensures occupied { self.new.occupied ≡ slice_set self.old.occupied home true }
+    {
+        let start = self.start(home);
+        self.begin_run(width, home, x, count);
+        let mut text = [0; 9];
+        let len = write_group(width, x, count, &mut text);
+        self.widen(home, start + 1, start, len - 1);
+        overwrite(&mut self.slots, start as usize, &text[..len]);
+    }
+
+    /// Raises the count of `x` by `count` in the run of `home`.
+    pub fn grow_run(&mut self, width: u32, home: u64, x: u64, count: u64)
+        requires narrow { 8 ≤ width }
+        requires wide { width ≤ 62 }
+        requires positive { 1 ≤ count }
+        requires growing { (n : ℕ) × (homes : ℕ) × IsGrowing n homes width home x count
+            self.old.slots.items self.old.run_ends self.old.used self.old.spill.items }
+        ensures stand { (n homes : ℕ) (g : IsGrowing n homes width home x count
+                self.old.slots.items self.old.run_ends self.old.used self.old.spill.items)
+            → Stand n homes (g.before ++ (home, run_text width (pairs_plus g.pairs x count)) ∷ g.after)
+                self.new.slots.items self.new.run_ends self.new.used self.new.spill.items }
+        ensures occupied { self.new.occupied ≡ self.old.occupied }
+    {
+        let growth = grown(width, self.run(home), x, count);
+        let at = self.start(home) + growth.start as u64;
+        let last = self.start(home + 1) - 1;
+        self.widen(home, at + growth.old as u64, last, growth.len - growth.old);
+        overwrite(&mut self.slots, at as usize, &growth.text[..growth.len]);
     }
 }
