@@ -1,18 +1,18 @@
 -- The rows as a run begins, or is written over; and where a run stands.
-use Rattle.std.proofs.Common.{◌≡◌, ℕ, suc, zero, ◌+◌, ◌-◌, ◌*◌, ◌<◌, ◌≤◌, ◌≢◌, Bool, true, false, cond, ltb, List, [], ◌∷◌, ◌++◌, length, take, drop, replicate, get_or, set, max, min, map, refl, sym, ap, ◌∙◌, subst, inl, inr, ◌⊎◌, arith, length-append, append_assoc}
-use Rattle.std.specs.Prelude.{insert, remove}
-use Rattle.std.proofs.lemmas.List.{length-replicate, take_at, drop_at, append-nil, map-append, set_at, length-take-le, length-take}
+use Rattle.std.proofs.Common.{◌≡◌, ℕ, ◌+◌, ◌-◌, ◌<◌, ◌≤◌, Bool, true, false, List, [], ◌∷◌, ◌++◌, length, take, drop, replicate, get_or, set, max, min, refl, sym, ap, ◌∙◌, inl, inr, arith, length-append, append_assoc}
+use Rattle.std.specs.Prelude.{remove}
+use Rattle.std.proofs.lemmas.List.{length-replicate, take_at, drop_at, map-append, set_at, length-take-le}
 use Rattle.std.proofs.lemmas.List.Edits.{length-remove}
-use Rattle.std.proofs.lemmas.Bool.{cases_lt, cases_eq}
+use Rattle.std.proofs.lemmas.Bool.{cases_lt}
 use Rattle.lert_slotbits.specs.Bits.{gapped}
 use Rattle.lert_cqf.specs.Cells.{cells_from, cells, stop, end_before, first_free}
 use Rattle.lert_cqf.specs.Layout.{ends_of}
 use Rattle.lert_cqf.specs.Rows.{reshaped, used_text, IsSpread, filled_gap, IsRaised}
 use Rattle.lert_cqf.specs.Around.{HomesAscend, HomesBelow, IsAround, total_length}
 use Rattle.lert_cqf.proofs.CellLemmas.{first_free-from, free_there, free_later}
-use Rattle.lert_cqf.proofs.GrownLemmas.{front_of, start_of, length_front, cells_at, grown_cells, cells_empty, stop-from}
-use Rattle.lert_cqf.proofs.SpillLemmas.{spill_within, spill_beyond, spill_empty, below_unmoved, behind_run, home_start, home_end}
-use Rattle.lert_cqf.proofs.SpreadLemmas.{stop-reshaped, free-reshaped, reshaped-append, start-reshaped, length_ends_of, length_used_text, used_grown, free-from, raised_spill}
+use Rattle.lert_cqf.proofs.GrownLemmas.{front_of, start_of, length_front, cells_at, grown_cells, cells_empty}
+use Rattle.lert_cqf.proofs.SpillLemmas.{spill_empty, below_unmoved, behind_run, home_start, home_end}
+use Rattle.lert_cqf.proofs.SpreadLemmas.{free-reshaped, reshaped-append, start-reshaped, length_ends_of, length_used_text, used_grown, raised_spill}
 
 pub total-append : {C : Type 0} (xs ys : List (ℕ × List C)) → total_length (xs ++ ys) ≡ total_length xs + total_length ys
 total-append [] ys = omega arith

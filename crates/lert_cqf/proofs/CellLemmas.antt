@@ -1,11 +1,10 @@
 -- A run that grows by one cell moves the cells up to the first free one.
-use Rattle.std.proofs.Common.{◌≡◌, ℕ, suc, zero, ◌+◌, ◌-◌, ◌*◌, ◌<◌, ◌≤◌, ◌≢◌, Bool, true, false, cond, ltb, List, [], ◌∷◌, ◌++◌, length, take, drop, replicate, get_or, max, refl, sym, ap, ◌∙◌, subst, inl, inr, ◌⊎◌, arith, length-append, append_assoc}
-use Rattle.std.specs.Prelude.{insert, remove}
-use Rattle.std.proofs.lemmas.List.{length-replicate, replicate-append-replicate, take_at, drop_at}
-use Rattle.std.proofs.lemmas.List.Edits.{remove-append_right, insert-append_right, insert-append_left}
-use Rattle.std.proofs.lemmas.Bool.{cases_lt, cases_eq}
+use Rattle.std.proofs.Common.{◌≡◌, ℕ, suc, ◌+◌, ◌-◌, ◌<◌, ◌≤◌, List, [], ◌∷◌, ◌++◌, length, max, refl, sym, ap, ◌∙◌, inl, inr, arith}
+use Rattle.std.specs.Prelude.{remove}
+use Rattle.std.proofs.lemmas.List.Edits.{remove-append_right}
+use Rattle.std.proofs.lemmas.Bool.{cases_lt}
 use Rattle.std.proofs.lemmas.Bool.Decides.{nat_tests}
-use Rattle.lert_cqf.specs.Cells.{cells_from, stop, end_before, first_free}
+use Rattle.lert_cqf.specs.Cells.{cells_from, first_free}
 
 -- the test of a home
 pub free_there : {C : Type 0} (at : ℕ) (r : ℕ × List C) (rs : List (ℕ × List C)) → at < r.0 → first_free at (r ∷ rs) ≡ at

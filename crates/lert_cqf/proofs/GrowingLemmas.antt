@@ -1,20 +1,20 @@
 -- A run that begins or grows, as a whole.
-use Rattle.std.proofs.Common.{◌≡◌, ℕ, suc, zero, ◌+◌, ◌-◌, ◌*◌, ◌^◌, ◌<◌, ◌≤◌, ◌≢◌, Bool, true, false, List, [], ◌∷◌, ◌++◌, length, take, drop, replicate, get_or, set, max, min, refl, sym, ap, ◌∙◌, subst, inl, inr, ◌⊎◌, arith, length-append, append_assoc}
+use Rattle.std.proofs.Common.{◌≡◌, ℕ, ◌+◌, ◌-◌, ◌^◌, ◌<◌, ◌≤◌, Bool, true, false, List, [], ◌∷◌, ◌++◌, length, take, drop, get_or, set, max, min, refl, sym, ap, ◌∙◌, subst, arith, length-append, append_assoc}
 use Rattle.std.proofs.Math.Seq.{take-add}
-use Rattle.std.proofs.lemmas.List.{length-set, append-nil, take-append-drop, length-take, length-drop, take_at, drop_at, length-take-le, drop-drop}
+use Rattle.std.proofs.lemmas.List.{length-set, take-append-drop, length-take, length-drop}
 use Rattle.lert_slotbits.specs.Bits.{IsFirst, gapped}
-use Rattle.lert_counter.specs.Group.{group, IsCount}
+use Rattle.lert_counter.specs.Group.{group}
 use Rattle.lert_counter.proofs.GroupLemmas.{length_group-positive}
 use Rattle.lert_runs.specs.RunText.{run_text, RemaindersAscend, IsTextOf, count_in, pairs_plus}
 use Rattle.lert_runs.specs.Growth.{IsGrowthOf}
 use Rattle.lert_runs.specs.declared.grow.Growth.{Growth}
-use Rattle.lert_cqf.specs.Cells.{cells, stop, end_before, first_free}
+use Rattle.lert_cqf.specs.Cells.{cells, stop, first_free}
 use Rattle.lert_cqf.specs.Rows.{IsSpread, filled_gap, IsRaised, run_slots}
-use Rattle.lert_cqf.specs.Around.{IsAround, total_length, HaveLengths, IsOpening, IsWidened}
+use Rattle.lert_cqf.specs.Around.{total_length, IsOpening, IsWidened}
 use Rattle.lert_cqf.specs.Growing.{Stand, IsGrowing, IsBeginning, HasBegun}
 use Rattle.lert_cqf.proofs.CellLemmas.{first_free-from}
 use Rattle.lert_cqf.proofs.SpreadLemmas.{free_found}
-use Rattle.lert_cqf.proofs.BegunLemmas.{total-append, free_within, spread_begun, begins_at, spread_empty, StandsAt, stands_at, cells_over, spread_over, text_within}
+use Rattle.lert_cqf.proofs.BegunLemmas.{free_within, spread_begun, begins_at, spread_empty, StandsAt, stands_at, cells_over, spread_over, text_within}
 use Rattle.lert_cqf.proofs.OpeningLemmas.{length_filled, spill_small, total_at}
 
 -- a run text has a slot

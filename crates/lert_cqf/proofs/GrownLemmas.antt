@@ -1,12 +1,11 @@
 -- The cells as one run grows.
-use Rattle.std.proofs.Common.{◌≡◌, ℕ, suc, zero, ◌+◌, ◌-◌, ◌*◌, ◌<◌, ◌≤◌, ◌≢◌, Bool, true, false, cond, ltb, List, [], ◌∷◌, ◌++◌, length, take, drop, replicate, get_or, max, map, refl, sym, ap, ◌∙◌, subst, inl, inr, ◌⊎◌, arith, length-append, append_assoc}
+use Rattle.std.proofs.Common.{◌≡◌, ℕ, suc, ◌+◌, ◌-◌, ◌<◌, ◌≤◌, List, [], ◌∷◌, ◌++◌, length, replicate, max, refl, sym, ap, ◌∙◌, arith, length-append, append_assoc}
 use Rattle.std.specs.Prelude.{insert, remove}
-use Rattle.std.proofs.lemmas.List.{length-replicate, replicate-append-replicate, take_at, drop_at, append-nil}
-use Rattle.std.proofs.lemmas.List.Edits.{remove-append_right, insert-append_right, insert-append_left}
-use Rattle.std.proofs.lemmas.Bool.{cases_lt, cases_eq}
+use Rattle.std.proofs.lemmas.List.{length-replicate, replicate-append-replicate}
+use Rattle.std.proofs.lemmas.List.Edits.{remove-append_right, insert-append_right}
 use Rattle.lert_cqf.specs.Around.{HomesAscend}
 use Rattle.lert_cqf.specs.Rows.{filled_gap}
-use Rattle.lert_cqf.specs.Cells.{cells_from, cells, stop, end_before, first_free}
+use Rattle.lert_cqf.specs.Cells.{cells_from, cells, stop, first_free}
 use Rattle.lert_cqf.proofs.CellLemmas.{pushed, first_free-from}
 
 -- a gap behind a front

@@ -8,3 +8,5 @@ pub mod RotateLemmas
 pub mod SpillLemmas
 pub mod SplitLemmas
 pub mod SpreadLemmas
+pub mod StandingLemmas
+pub mod TableLemmas

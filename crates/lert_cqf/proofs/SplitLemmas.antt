@@ -1,11 +1,11 @@
 -- The run of a quotient among the others, and the occupied row.
-use Rattle.std.proofs.Common.{◌≡◌, ℕ, suc, zero, ◌+◌, ◌-◌, ◌*◌, ◌/◌, ◌%◌, ◌^◌, ◌<◌, ◌≤◌, ◌≢◌, Bool, true, false, cond, ltb, eqb, List, [], ◌∷◌, ◌++◌, length, map, replicate, get_or, set, refl, sym, ap, ◌∙◌, subst, inl, inr, ◌⊎◌, arith, length-append, append_assoc}
-use Rattle.std.proofs.lemmas.Bool.{cases_lt, cases_eq, cases_order}
+use Rattle.std.proofs.Common.{◌≡◌, ℕ, suc, ◌+◌, ◌-◌, ◌<◌, ◌≤◌, Bool, true, false, List, [], ◌∷◌, ◌++◌, length, replicate, get_or, set, refl, sym, ap, ◌∙◌, subst, inl, inr, ◌⊎◌, arith, length-append, append_assoc}
+use Rattle.std.proofs.lemmas.Bool.{cases_order}
 use Rattle.std.proofs.lemmas.List.{map-append, length-replicate, get_or_append_left, get_or-append_right, get_or_at, set_at, get_or-replicate, replicate-append-replicate, set-append_right}
 use Rattle.lert_runs.specs.RunText.{run_text, RemaindersAscend, count_in, pairs_plus}
 use Rattle.lert_cqf.specs.Layout.{texts, homes_from}
 use Rattle.lert_cqf.specs.Around.{HomesAscend, HomesBelow, IsAround}
-use Rattle.lert_cqf.proofs.QuotientLemmas.{Runs, RunsAscend, runs_plus, plus-later, plus-same, plus-before, count_runs, count-same, count-other, count_runs-above}
+use Rattle.lert_cqf.proofs.QuotientLemmas.{Runs, RunsAscend, runs_plus, plus-later, plus-same, plus-before, count_runs, count-same, count-other}
 
 -- the runs ascend in their homes
 pub runs_homes : (homes q x : ℕ) (rs : Runs) → RunsAscend homes q x rs → HomesAscend q homes rs

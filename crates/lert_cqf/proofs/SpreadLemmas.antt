@@ -1,17 +1,17 @@
 -- The rows as a run grows.
-use Rattle.std.proofs.Common.{◌≡◌, ℕ, suc, zero, ◌+◌, ◌-◌, ◌*◌, ◌<◌, ◌≤◌, ◌≢◌, Bool, true, false, cond, ltb, List, [], ◌∷◌, ◌++◌, length, take, drop, replicate, get_or, set, max, min, map, refl, sym, ap, ◌∙◌, subst, inl, inr, ◌⊎◌, arith, length-append, append_assoc}
-use Rattle.std.specs.Prelude.{insert, remove}
-use Rattle.std.proofs.lemmas.List.{length-replicate, replicate-append-replicate, take_at, drop_at, append-nil, map-append, get_or_append_left, get_or-append-add, get_or-replicate, get_or_at, set_at, replicate_more, length-set, get_or-append_right}
-use Rattle.std.proofs.lemmas.List.Edits.{remove-append_right, insert-append_right, insert-append_left}
-use Rattle.std.proofs.lemmas.Bool.{cases_lt, cases_eq, false≢true}
+use Rattle.std.proofs.Common.{◌≡◌, ℕ, suc, zero, ◌+◌, ◌-◌, ◌<◌, ◌≤◌, Bool, true, false, List, [], ◌∷◌, ◌++◌, length, replicate, get_or, set, max, min, refl, sym, ap, ◌∙◌, inl, inr, arith, length-append, append_assoc}
+use Rattle.std.specs.Prelude.{remove}
+use Rattle.std.proofs.lemmas.List.{length-replicate, replicate-append-replicate, map-append, get_or_append_left, get_or-append-add, get_or-replicate, get_or_at, set_at, replicate_more}
+use Rattle.std.proofs.lemmas.List.Edits.{remove-append_right}
+use Rattle.std.proofs.lemmas.Bool.{cases_lt, false≢true}
 use Rattle.lert_slotbits.specs.Bits.{IsFirst, gapped}
 use Rattle.lert_cqf.specs.Cells.{cells_from, cells, stop, end_before, first_free}
 use Rattle.lert_cqf.specs.Layout.{ends_of}
 use Rattle.lert_cqf.specs.Rows.{reshaped, used_text, IsSpread, filled_gap, IsRaised}
-use Rattle.lert_cqf.specs.Around.{HomesAscend, HomesBelow, IsAround}
+use Rattle.lert_cqf.specs.Around.{IsAround}
 use Rattle.lert_cqf.proofs.CellLemmas.{pushed, first_free-from, free_there, free_later, apart_cells, stuck_cells}
-use Rattle.lert_cqf.proofs.GrownLemmas.{front_of, start_of, length_front, cells_at, grown_cells, cells_empty, stop-from}
-use Rattle.lert_cqf.proofs.SpillLemmas.{spill_within, spill_beyond, spill_empty, below_unmoved, home_start, home_end}
+use Rattle.lert_cqf.proofs.GrownLemmas.{front_of, start_of, length_front, cells_at, grown_cells}
+use Rattle.lert_cqf.proofs.SpillLemmas.{spill_within, spill_beyond, below_unmoved}
 
 -- runs of other cells in the same places
 module _ {C D : Type 0} (f : ℕ → List D) (same : (k : ℕ) → length (f k) ≡ k) where

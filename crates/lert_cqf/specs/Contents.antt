@@ -1,5 +1,5 @@
 -- What a table is seen as, and what its rows keep.
-use Rattle.std.specs.Prelude.{ℕ, ◌+◌, ◌*◌, ◌^◌, ◌≡◌, ◌<◌, ◌≤◌, Bool, List, [], fold}
+use Rattle.std.specs.Prelude.{ℕ, ◌+◌, ◌*◌, ◌/◌, ◌%◌, ◌^◌, ◌≡◌, ◌<◌, ◌≤◌, Bool, List, [], fold}
 use Rattle.lert_spec.specs.Table.{total, plus, AscendsFrom}
 use Rattle.lert_spec.specs.declared.piece.Piece.{Piece}
 use Rattle.lert_cqf.specs.Layout.{by_quotient, texts, homes_from, slot_count}
@@ -33,3 +33,12 @@ pub record IsKept (pieces : List Piece) (quotient_bits width events room : ℕ) 
   pub in_room : events ≤ room
   pub stand : Stand (slot_count quotient_bits room) (2 ^ quotient_bits) (texts width (by_quotient width pieces)) slots ends used spill
   pub occupied_is : occupied ≡ homes_from (2 ^ quotient_bits) 0 (by_quotient width pieces)
+
+-- n more of a tail fit, whose quotient and remainder are these
+pub record IsPutting (table : List Piece) (quotient_bits width room tail n home x : ℕ) : Type 0 where
+  pub positive : 1 ≤ n
+  pub fits : total table + n ≤ room
+  pub below : tail < 2 ^ (quotient_bits + width)
+  pub word : tail < 2 ^ 64
+  pub home_is : home ≡ tail / 2 ^ width
+  pub rest_is : x ≡ tail % 2 ^ width

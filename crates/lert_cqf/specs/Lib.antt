@@ -4,3 +4,4 @@ pub mod Contents
 pub mod Growing
 pub mod Layout
 pub mod Rows
+pub mod Standing

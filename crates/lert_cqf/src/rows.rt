@@ -4,10 +4,13 @@
 //! are used, and for each quotient how far the runs below it reach past its home. So a run is found with no
 //! counting of bits, and the first free cell behind a place by a scan of words.
 
-ghost use Rattle.std.specs.Prelude.{◌≡◌, ℕ, ◌+◌, ◌-◌, ◌^◌, ◌<◌, ◌≤◌, ◌++◌, [], ◌∷◌, List, Bool, true, false, length, replicate, slice_index, slice_set, min, IfOk};
+ghost use Rattle.std.specs.Prelude.{◌≡◌, ℕ, ◌+◌, ◌-◌, ◌^◌, ◌<◌, ◌≤◌, ◌++◌, [], ◌∷◌, List, Bool, true, false, length, replicate, slice_index, slice_set, min, take, drop, IfOk};
 ghost use Rattle.lert_slotbits.specs.Bits.{IsFirst, gapped};
 ghost use Rattle.lert_runs.specs.RunText.{run_text, pairs_plus};
 ghost use Rattle.lert_cqf.specs.Around.{IsOpening, IsWidened};
+ghost use Rattle.lert_spec.specs.Table.{plus};
+ghost use Rattle.lert_spec.specs.declared.piece.Piece.{Piece};
+ghost use Rattle.lert_cqf.specs.Contents.{IsKept, IsPutting};
 ghost use Rattle.lert_cqf.specs.Growing.{Stand, IsGrowing, IsBeginning, HasBegun};
 ghost use Rattle.lert_cqf.specs.Rows.{IsRaised, filled_gap, run_slots};
 
@@ -65,7 +68,16 @@ impl Rows {
             ≤ length self.now.slots.items }
         ensures { result.now ≡ run_slots home self.now.slots.items self.now.spill.items }
     {
-        &self.slots[self.start(home) as usize..self.start(home + 1) as usize]
+        self.part(self.start(home), self.start(home + 1))
+    }
+
+    /// The slots `at..end`.
+    pub fn part(&self, at: u64, end: u64) -> &[u64]
+        requires order { at ≤ end }
+        requires within { end ≤ length self.now.slots.items }
+        ensures { result.now ≡ take (end - at) (drop at self.now.slots.items) }
+    {
+        &self.slots[at as usize..end as usize]
     }
 
     /// Makes room for one slot at `place` in the run of `home`: the cells from there up to the first free one
@@ -171,5 +183,40 @@ impl Rows {
         let last = self.start(home + 1) - 1;
         self.widen(home, at + growth.old as u64, last, growth.len - growth.old);
         overwrite(&mut self.slots, at as usize, &growth.text[..growth.len]);
+    }
+
+    /// Raises the count of a tail by `n`: its quotient's run grows, or begins.
+    pub fn put(&mut self, width: u32, home: u64, x: u64, n: u64)
+        requires kept { (table : List Piece) × (quotient_bits : ℕ) × (events : ℕ) × (room : ℕ)
+            × IsKept table quotient_bits width events room self.old.slots.items self.old.occupied
+                self.old.run_ends self.old.used self.old.spill.items
+            × (tail : ℕ) × IsPutting table quotient_bits width room tail n home x }
+        ensures { (table : List Piece) (quotient_bits events room tail : ℕ)
+            → IsKept table quotient_bits width events room self.old.slots.items self.old.occupied
+                self.old.run_ends self.old.used self.old.spill.items
+            → IsPutting table quotient_bits width room tail n home x
+            → IsKept (plus table tail n) quotient_bits width (events + n) room self.new.slots.items self.new.occupied
+                self.new.run_ends self.new.used self.new.spill.items }
+    {
+        if self.occupied.get(home) {
+            self.grow_run(width, home, x, n);
+        } else {
+            self.add_run(width, home, x, n);
+        }
+    }
+
+    /// Empties all rows.
+    pub fn clear(&mut self)
+        ensures slots { self.new.slots.items ≡ replicate (length self.old.slots.items) 0 }
+        ensures occupied { self.new.occupied ≡ replicate (length self.old.occupied) false }
+        ensures run_ends { self.new.run_ends ≡ replicate (length self.old.run_ends) false }
+        ensures used { self.new.used ≡ replicate (length self.old.used) false }
+        ensures spill { self.new.spill.items ≡ replicate (length self.old.spill.items) 0 }
+    {
+        self.slots.fill(0);
+        self.occupied.clear();
+        self.run_ends.clear();
+        self.used.clear();
+        self.spill.fill(0);
     }
 }

@@ -1,9 +1,8 @@
-use Rattle.std.proofs.Common.{◌≡◌, ◌<◌, ◌≤◌, ◌+◌, ◌-◌, ◌++◌, ℕ, arith, sym, ◌∙◌, refl, get_or, length, ap, List, ◌∷◌, [], take, drop, length-append}
+use Rattle.std.proofs.Common.{◌+◌, ◌-◌, ◌++◌, ℕ, arith, ◌∙◌, refl, length, ap, List, ◌∷◌, [], take, drop, length-append}
 use Rattle.std.proofs.lemmas.List.{with_items_is}
-use Rattle.lert_counter.specs.Group.{group}
 use Rattle.lert_counter.proofs.GroupLemmas.{length_group-positive}
 use Rattle.lert_cqf.proofs.BegunLemmas.{text_within}
-use Rattle.lert_cqf.proofs.GrowingLemmas.{begin_place, begin_free, begin_room, begin_start, begin_low, begin_opening, begin_written}
+use Rattle.lert_cqf.proofs.GrowingLemmas.{begin_room, begin_start, begin_low, begin_opening, begin_written}
 use Rattle.lert_cqf.proofs.rows.Rows.add_run.Goals as goal
 
 pub start-start-requires-clause-fits : goal.start-start-requires-clause-fits

@@ -1,8 +1,7 @@
-use Rattle.std.proofs.Common.{◌≡◌, ◌<◌, ◌≤◌, ◌+◌, ◌-◌, ◌++◌, ℕ, arith, sym, ◌∙◌, refl, get_or, length, ap, List, take, drop, length-append}
+use Rattle.std.proofs.Common.{◌+◌, ◌-◌, ◌++◌, ℕ, arith, ◌∙◌, length, ap, List, take, drop, length-append}
 use Rattle.std.proofs.lemmas.List.{with_items_is, length-take, length-drop}
-use Rattle.lert_runs.specs.Growth.{IsGrowthOf}
 use Rattle.lert_cqf.proofs.BegunLemmas.{text_within}
-use Rattle.lert_cqf.proofs.GrowingLemmas.{grow_stands, grow_bounds, grow_of, grow_opening, grow_written, behind, run}
+use Rattle.lert_cqf.proofs.GrowingLemmas.{grow_stands, grow_bounds, grow_of, grow_opening, grow_written, run}
 use Rattle.lert_cqf.proofs.rows.Rows.grow_run.Goals as goal
 
 pub run-requires-clause-within : goal.run-requires-clause-within

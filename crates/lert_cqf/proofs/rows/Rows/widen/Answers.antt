@@ -1,5 +1,4 @@
-use Rattle.std.proofs.Common.{◌≡◌, ◌<◌, ◌+◌, ℕ, arith, sym, ◌∙◌, refl, get_or}
-use Rattle.lert_cqf.specs.Around.{IsOpening, IsWidened}
+use Rattle.std.proofs.Common.{◌≡◌, arith, sym, ◌∙◌, refl, get_or}
 use Rattle.lert_cqf.proofs.OpeningLemmas.{free_place, free_first, spill_room, opened, last_small, place_reached, widened_first}
 use Rattle.lert_cqf.proofs.rows.Rows.widen.Goals as goal
 
