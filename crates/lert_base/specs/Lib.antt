@@ -1,1 +1,4 @@
 pub mod Computed
+pub mod Keys
+pub mod Packet
+pub mod Entries

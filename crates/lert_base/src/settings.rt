@@ -1,19 +1,19 @@
 //! The settings of a cone, and what they make of a position.
 
-ghost use Rattle.std.specs.Prelude.{◌≡◌, ℕ, ◌+◌, ◌-◌, ◌*◌, ◌/◌, ◌^◌, ◌<◌, ◌≤◌, List, length, map, Some, None, MatchResult, IfNone, not, IsTrue, ◌↔◌, ◌≢◌};
-ghost use Rattle.std.specs.List.{position_from};
+ghost use Rattle.std.specs.Prelude.{◌≡◌, ◌≢◌, ℕ, ◌-◌, ◌^◌, ◌<◌, ◌≤◌, ◌↔◌, Some, None, MatchResult, IsTrue};
 ghost use Rattle.lert_spec.specs.Edges.{span, offset, edge, depth, lookback, capacity, quotient_bits, width};
-ghost use Rattle.lert_spec.specs.Limits.{first_broken, limits_kept, sums_kept, lies, IsValid, IsInLimits};
-ghost use Rattle.lert_base.specs.Computed.{spans_of, offsets_of};
+ghost use Rattle.lert_spec.specs.Limits.{first_broken, IsValid};
 
 use lert_spec::Numbers;
+use levels::{offsets_of, spans_of};
+pub use rules::BadSetting;
+use rules::{broken_limit, broken_sum};
 use std::marker::Model;
 
-/// A rule of the settings that is broken, counted from 1: the first one.
-#[derive(Clone, Copy, Debug, PartialEq, Eq)]
-pub struct BadSetting {
-    pub rule: u8,
-}
+mod levels;
+mod rules;
+#[cfg(test)]
+mod tests;
 
 /// Eight numbers that keep all rules, with the span and the offset of each level computed once.
 ///
@@ -187,89 +187,4 @@ impl Settings {
         let offset = self.offsets[level as usize];
         offset < m && (m - offset) % self.spans[level as usize] == 0
     }
-}
-
-// A number lies from `least` to `most`.
-fn lies(least: u64, most: u64, n: u64) -> bool
-    ensures { result ≡ lies least most n }
-{
-    least <= n && n <= most
-}
-
-// The number of the first rule that isn't kept, the first of them having the number `first`.
-fn first_false(first: u8, kept: &[bool]) -> Option<u8>
-    requires { first + length kept.now ≤ 255 }
-    ensures { result ≡ position_from not first kept.now }
-{
-    for (place, kept) in kept.iter().enumerate() {
-        if !*kept {
-            return Some(first + place as u8);
-        }
-    }
-    None
-}
-
-// The first of the rules 1 to 8 that is broken.
-fn broken_limit(numbers: &Numbers) -> Option<u8>
-    ensures value { result ≡ position_from not 1 (limits_kept numbers.now) }
-    ensures none { IfNone result (IsInLimits numbers.now) }
-{
-    first_false(
-        1,
-        &[
-            lies(1, 4_294_967_295, numbers.threshold),
-            lies(2, 16, numbers.bins),
-            lies(2, 16, numbers.ratio),
-            lies(4, 65_536, numbers.base),
-            lies(1, 8, numbers.levels),
-            lies(0, 8, numbers.cone_bits),
-            lies(1, 4_194_304, numbers.room),
-            lies(1, 1_024, numbers.packet),
-        ],
-    )
-}
-
-// The first of the rules 9 to 11 that is broken, `end` being the offset and the span of the oldest level together.
-fn broken_sum(numbers: &Numbers, end: u64) -> Option<u8>
-    requires limits { IsInLimits numbers.now }
-    requires end { end ≡ offset numbers.now numbers.now.levels + span numbers.now numbers.now.levels }
-    ensures value { result ≡ position_from not 9 (sums_kept numbers.now) }
-    ensures none { IfNone result (IsValid numbers.now) }
-{
-    let cones = 1 << numbers.cone_bits;
-    first_false(
-        9,
-        &[
-            cones * numbers.bins * numbers.base <= 1 << 24,
-            cones * numbers.room <= 1 << 24,
-            end <= 1 << 32,
-        ],
-    )
-}
-
-// The spans of the levels from 0 to 8.
-fn spans_of(numbers: &Numbers) -> [u64; 9]
-    requires { IsInLimits numbers.now }
-    ensures { result ≡ spans_of numbers.now }
-{
-    let mut spans = [numbers.base; 9];
-    for level in 1..9 {
-        spans[level] = spans[level - 1] * numbers.ratio;
-    }
-    spans
-}
-
-// The offsets of the levels from 0 to 8.
-fn offsets_of(numbers: &Numbers, spans: &[u64; 9]) -> [u64; 9]
-    requires limits { IsInLimits numbers.now }
-    requires spans { spans.now ≡ spans_of numbers.now }
-    ensures { result ≡ offsets_of numbers.now }
-{
-    let mut offsets = [0; 9];
-    let mut sum = 0;
-    for level in 0..9 {
-        sum += spans[level];
-        offsets[level] = (numbers.bins - 1) * sum;
-    }
-    offsets
 }

@@ -1,6 +1,6 @@
 //! The words of a command line.
 
-ghost use Rattle.std.specs.Prelude.{◌≡◌, [], ◌∷◌, ◌++◌, length, slice_get, Some, IfOk, OnOk, OnErr, IfSome, IfNone, ◌≤◌};
+ghost use Rattle.std.specs.Prelude.{◌≡◌, [], ◌∷◌, ◌++◌, length, slice_get, Some, IfOk, OnOk, OnErr, ◌<◌};
 
 use lert_io::OutOfMemory;
 use std::alloc::Global;
@@ -50,11 +50,11 @@ impl Words {
         self.words.len()
     }
 
-    /// The word with a number, from 0, where there is one.
-    pub fn get(&self, number: usize) -> Option<&str>
-        ensures word { IfSome result (λ word. slice_get self.now number ≡ Some word.now) }
-        ensures none { IfNone result (length self.now ≤ number) }
+    /// The word with a number, from 0.
+    pub fn word(&self, number: usize) -> &str
+        requires { number < length self.now }
+        ensures { slice_get self.now number ≡ Some result.now }
     {
-        Some(self.words.get(number)?.as_str())
+        self.words[number].as_str()
     }
 }

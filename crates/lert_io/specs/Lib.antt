@@ -1,3 +1,4 @@
 pub mod Fault
+pub mod Memory
 pub mod Reading
 pub mod Trail

@@ -7,13 +7,20 @@
 #![tactic(auto)]
 
 mod call_list;
+mod copy;
 mod faulty;
+mod mem_sink;
+mod mem_source;
 mod seen;
 mod sink;
 mod source;
+mod steady_source;
 
 pub use call_list::CallList;
 pub use faulty::{Failed, Faulty, OutOfMemory};
+pub use mem_sink::MemSink;
+pub use mem_source::MemSource;
 pub use seen::Seen;
 pub use sink::{Sink, write_all};
 pub use source::Source;
+pub use steady_source::SteadySource;

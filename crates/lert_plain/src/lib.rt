@@ -7,3 +7,6 @@
 mod table;
 
 pub use table::{PlainCursor, PlainTable};
+
+#[cfg(test)]
+mod tests;

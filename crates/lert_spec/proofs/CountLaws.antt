@@ -1,58 +1,100 @@
--- Laws of counts in windows of a list of events, and of the first position up to which a key occurs so often.
-use Rattle.std.proofs.Common.{ℕ, ◌≡◌, ◌+◌, ◌-◌, ◌<◌, ◌≤◌, Bool, cond, eqb, leb, List, ◌++◌, length, take, drop, Some, refl, ap, sym, ◌∙◌, arith, inl, inr, sum_by}
-use Rattle.std.proofs.Math.Seq.{take-add}
-use Rattle.std.proofs.lemmas.Bool.{cases_lt, le-leb, leb-true, leb-false}
+-- How counts, and reports made at once, grow with one more event.
+use Rattle.std.proofs.Common.{◌≡◌, ℕ, zero, suc, ◌+◌, ◌-◌, ◌≤◌, Bool, true, false, cond, List, [], ◌∷◌, ◌++◌, length, get_or, map, refl, ap, sym, ◌∙◌, arith, length-append}
+use Rattle.std.specs.Prelude.{count_by, sum_by, filter, ◌==◌}
+use Rattle.std.specs.List.{range_with_len}
+use Rattle.std.proofs.Math.Seq.{take-length}
+use Rattle.std.proofs.lemmas.List.{map-append, take-append-le, get_or-append-add}
+use Rattle.std.proofs.lemmas.List.Elements.{filter-append}
 use Rattle.std.proofs.lemmas.List.Sums.{sum_by-append}
-use Rattle.lert_spec.proofs.FirstPass.{first_pass}
-use Rattle.lert_spec.specs.Counts.{count, nth_occurrence}
+use Rattle.std.proofs.lemmas.Slice.{between_from_start}
+use Rattle.std.proofs.Math.ListN.{get_or-append}
+use Rattle.lert_spec.specs.declared.report.Report.{Report}
+use Rattle.lert_spec.specs.Counts.{count}
+use Rattle.lert_spec.specs.AtOnce.{at_once, event_at, reaches, report_at}
 
--- a window is what is left of a front behind a shorter one
-pub count_parts : (key : ℕ) (events : List ℕ) (from to : ℕ) → from ≤ to → count key events 0 from + count key events from to ≡ count key events 0 to
-count_parts key events from to before =
-    let one : ℕ → ℕ = λ event. cond (eqb event key) 1 0 in
-    let start : from ≡ from - 0 = omega arith in
-    let whole : (from - 0) + (to - from) ≡ to - 0 = omega arith in
-    sym (sum_by-append one (take (from - 0) events) (take (to - from) (drop from events)))
-    ∙ ap (λ n. sum_by one (take (from - 0) events ++ take (to - from) (drop n events))) start
-    ∙ ap (sum_by one) (sym (take-add (from - 0) (to - from) events))
-    ∙ ap (λ n. sum_by one (take n events)) whole
+-- the count over a whole list
+pub count-whole : (key : ℕ) (events : List ℕ) → count key events 0 (length events) ≡ count_by (λ event. event == key) events
+count-whole key events =
+    ap (λ xs. count_by (λ event. event == key) xs) (between_from_start events (length events) ∙ take-length events)
 
--- a longer front has no fewer
-pub count_never_falls : (key : ℕ) (events : List ℕ) (from to : ℕ) → from ≤ to → count key events 0 from ≤ count key events 0 to
-count_never_falls key events from to before = omega (arith, count_parts key events from to before)
+-- what comes later changes no count before it
+pub count-append : (key : ℕ) (events others : List ℕ) (to : ℕ) → to ≤ length events → count key (events ++ others) 0 to ≡ count key events 0 to
+count-append key events others to within =
+    ap (λ xs. count_by (λ event. event == key) xs)
+    (between_from_start (events ++ others) to ∙ take-append-le to events others within ∙ sym (between_from_start events to))
 
--- at `at` a key occurs for the n-th time
-pub record NthAt (n key : ℕ) (events : List ℕ) : Type 0 where
-  pub at : ℕ
-  pub is : nth_occurrence n key events ≡ Some at
-  pub from : 1 ≤ at
-  pub within : at ≤ length events
-  pub enough : n ≤ count key events 0 at
-  pub earlier : (m : ℕ) → m < at → count key events 0 m < n
+-- one more event counts for its key alone
+pub count-push : (key : ℕ) (events : List ℕ) (event : ℕ) →
+    count key (events ++ event ∷ []) 0 (length (events ++ event ∷ [])) ≡ count key events 0 (length events) + cond (event == key) 1 0
+count-push key events event =
+    count-whole key (events ++ event ∷ [])
+    ∙ sum_by-append (λ e. cond (e == key) 1 0) events (event ∷ [])
+    ∙ ap (λ n. n + sum_by (λ e. cond (e == key) 1 0) (event ∷ [])) (sym (count-whole key events))
+    ∙ ap (λ n. count key events 0 (length events) + n) (omega arith)
 
--- nothing stands before the first position
-count_none : (key : ℕ) (events : List ℕ) → count key events 0 0 ≡ 0
-count_none key events = refl
+-- the event at a position of a list stays there as the list grows
+event_at-append : (events others : List ℕ) (m : ℕ) → 1 ≤ m → m ≤ length events → event_at (events ++ others) m ≡ event_at events m
+event_at-append events others m some within = get_or-append events others 0 (m - 1) (omega arith)
 
--- a key that occurs n times, n at least 1, occurs for the n-th time somewhere
-pub nth_at : (n key : ℕ) (events : List ℕ) → 1 ≤ n → n ≤ count key events 0 (length events) → NthAt n key events
-nth_at n key events positive enough =
-    let test : ℕ → Bool = λ m. leb n (count key events 0 m) in
-    let some : 1 ≤ length events = elim (cases_lt 0 (length events)) [
-      | inl longer ↦ longer
-      | inr none ↦ (let empty : length events ≡ 0 = omega arith in
-          let nothing = ap (count key events 0) empty in absurd (omega (arith, count_none key events)))
-    ] in
-    let pass = first_pass test 1 (length events) (length events) some (omega arith) (le-leb n (count key events 0 (length events)) enough) in
-    record {
-      at = pass.at;
-      is = pass.found;
-      from = pass.from;
-      within = omega (arith, pass.within);
-      enough = leb-true n (count key events 0 pass.at) pass.passes;
-      earlier = λ m before. elim (cases_lt 0 m) [
-        | inl positive_place ↦ leb-false n (count key events 0 m) (pass.earlier m positive_place before)
-        | inr start ↦ (let zero_place : m ≡ 0 = omega arith in
-            let nothing = ap (count key events 0) zero_place in omega (arith, count_none key events))
-      ];
-    }
+reaches-append : (threshold : ℕ) (events others : List ℕ) (m : ℕ) → 1 ≤ m → m ≤ length events →
+    reaches threshold (events ++ others) m ≡ reaches threshold events m
+reaches-append threshold events others m some within =
+    ap (λ n. n == threshold)
+    (ap (λ key. count key (events ++ others) 0 m) (event_at-append events others m some within)
+    ∙ count-append (event_at events m) events others m within)
+
+-- the reports at the first positions
+abbrev pub reports_to : ℕ → List ℕ → ℕ → List Report
+reports_to threshold events n = map (report_at events) (filter (reaches threshold events) (range_with_len 1 n))
+
+range_with_len-more : (from n : ℕ) → range_with_len from (suc n) ≡ range_with_len from n ++ (from + n) ∷ []
+range_with_len-more from zero = ap (λ m. m ∷ []) (omega arith)
+range_with_len-more from (suc n) =
+    ap (λ xs. from ∷ xs) (range_with_len-more (from + 1) n)
+    ∙ ap (λ m. (from ∷ range_with_len (from + 1) n) ++ m ∷ []) (omega arith)
+
+-- one more position adds its report, where its key reaches the threshold there
+pub reports_to-more : (threshold : ℕ) (events : List ℕ) (n : ℕ) →
+    reports_to threshold events (suc n)
+    ≡ reports_to threshold events n ++ cond (reaches threshold events (1 + n)) (report_at events (1 + n) ∷ []) []
+reports_to-more threshold events n =
+    ap (λ ms. map (report_at events) (filter (reaches threshold events) ms)) (range_with_len-more 1 n)
+    ∙ ap (map (report_at events)) (filter-append (reaches threshold events) (range_with_len 1 n) ((1 + n) ∷ []))
+    ∙ map-append (report_at events) (filter (reaches threshold events) (range_with_len 1 n)) (filter (reaches threshold events) ((1 + n) ∷ []))
+    ∙ ap (λ rs. reports_to threshold events n ++ rs) (one (reaches threshold events (1 + n)))
+  where
+    one : (b : Bool) → map (report_at events) (cond b ((1 + n) ∷ []) []) ≡ cond b (report_at events (1 + n) ∷ []) []
+    one true = refl
+    one false = refl
+
+reports_to-append : (threshold : ℕ) (events others : List ℕ) (n : ℕ) → n ≤ length events →
+    reports_to threshold (events ++ others) n ≡ reports_to threshold events n
+reports_to-append threshold events others zero within = refl
+reports_to-append threshold events others (suc n) within =
+    let before = reports_to-append threshold events others n (omega (arith, within)) in
+    let test = reaches-append threshold events others (1 + n) (omega arith) (omega (arith, within)) in
+    let event = event_at-append events others (1 + n) (omega arith) (omega (arith, within)) in
+    reports_to-more threshold (events ++ others) n
+    ∙ ap (λ rs. rs ++ cond (reaches threshold (events ++ others) (1 + n)) (report_at (events ++ others) (1 + n) ∷ []) []) before
+    ∙ ap (λ b. reports_to threshold events n ++ cond b (report_at (events ++ others) (1 + n) ∷ []) []) test
+    ∙ ap (λ key. reports_to threshold events n ++ cond (reaches threshold events (1 + n)) (record { key = key; at = 1 + n } ∷ []) []) event
+    ∙ sym (reports_to-more threshold events n)
+
+-- an event is reported at once where it is the threshold-th of its key
+pub at_once-push : (threshold : ℕ) (events : List ℕ) (event : ℕ) →
+    at_once threshold (events ++ event ∷ [])
+    ≡ at_once threshold events
+    ++ cond (count event (events ++ event ∷ []) 0 (length (events ++ event ∷ [])) == threshold) (record { key = event; at = length events + 1 } ∷ []) []
+at_once-push threshold events event =
+    let all = events ++ event ∷ [] in
+    let longer : length all ≡ suc (length events) = omega (arith, length-append events (event ∷ [])) in
+    let next : 1 + length events ≡ length all = omega (arith, length-append events (event ∷ [])) in
+    let here : event_at all (length all) ≡ event =
+    ap (λ i. get_or all i 0) (omega (arith, longer)) ∙ get_or-append-add events (event ∷ []) 0 0 in
+    ap (λ n. reports_to threshold all n) longer
+    ∙ reports_to-more threshold all (length events)
+    ∙ ap (λ rs. rs ++ cond (reaches threshold all (1 + length events)) (report_at all (1 + length events) ∷ []) [])
+    (reports_to-append threshold events (event ∷ []) (length events) (omega arith))
+    ∙ ap (λ m. at_once threshold events ++ cond (reaches threshold all m) (report_at all m ∷ []) []) next
+    ∙ ap (λ key. at_once threshold events ++ cond (count key all 0 (length all) == threshold) (record { key = key; at = length all } ∷ []) []) here
+    ∙ ap (λ m. at_once threshold events ++ cond (count event all 0 (length all) == threshold) (record { key = event; at = m } ∷ []) []) (omega (arith, longer))

@@ -42,12 +42,21 @@ steps-suc s level n wide =
     ∙ ap (λ x. x - (s.bins - 1)) (ap (λ w. (n - offset s level) / w) (span-suc s level) ∙ sym (div-div-eq-div-mul (n - offset s level) (span s level) s.ratio))
 
 -- a quotient never falls
-div_never_falls : (m n w : ℕ) → 1 ≤ w → m ≤ n → m / w ≤ n / w
+pub div_never_falls : (m n w : ℕ) → 1 ≤ w → m ≤ n → m / w ≤ n / w
 div_never_falls m n w wide below =
     (le-div_iff_mul-le {k = w} {x = m / w} {y = n} wide).1 (omega (arith, div-mul-le_self m w))
 
 same_factor : (w a b : ℕ) → 1 ≤ w → w * a ≡ w * b → a ≡ b
 same_factor w a b wide same = sym (mul-div_right a {m = w} wide) ∙ ap (λ x. x / w) same ∙ mul-div_right b {m = w} wide
+
+-- the spans of the levels below this one, together
+abbrev pub spans_below : Numbers → ℕ → ℕ
+spans_below s zero = 0
+spans_below s (suc level) = spans s level
+
+pub spans_below-add : (s : Numbers) (level : ℕ) → spans_below s level + span s level ≡ spans_below s (level + 1)
+spans_below-add s zero = omega arith
+spans_below-add s (suc level) = ap (spans_below s) (let same : suc (suc level) ≡ suc level + 1 = omega arith in same)
 
 -- at `at`, soon after p, the edge of a level moves, and its steps just before are no more than at p
 pub record NextMove (s : Numbers) (level p : ℕ) : Type 0 where
@@ -63,6 +72,20 @@ pub record DueAt (s : Numbers) (q p : ℕ) : Type 0 where
   pub from : p ≤ at
   pub in_time : (at - p) * (s.bins - 1) ≤ p - q
   pub reaches : lookback s at < q
+
+-- one step of the way down from the oldest level
+pub deepest_moves : (s : Numbers) (level m : ℕ) → 1 ≤ level → edge s (level - 1) m ≢ edge s (level - 1) (m - 1) → deepest s level m ≡ level
+deepest_moves s zero m from moves = absurd (omega arith)
+deepest_moves s (suc level) m from moves =
+    let same : suc level - 1 ≡ level = omega arith in
+    ap (λ t. cond t (deepest s level m) (suc level)) (ne_eqb (edge s level m) (edge s level (m - 1)) (rw same at moves))
+
+pub deepest_stays : (s : Numbers) (level m : ℕ) → 1 ≤ level → edge s (level - 1) m ≡ edge s (level - 1) (m - 1) → deepest s level m ≡ deepest s (level - 1) m
+deepest_stays s zero m from stays = absurd (omega arith)
+deepest_stays s (suc level) m from stays =
+    let same : suc level - 1 ≡ level = omega arith in
+    ap (λ t. cond t (deepest s level m) (suc level)) (eq-eqb (edge s level m) (edge s level (m - 1)) (rw same at stays))
+    ∙ ap (λ i. deepest s i m) (sym same)
 
 module _ (s : Numbers) (base : 1 ≤ s.base) (ratio : 1 ≤ s.ratio) where
   wide : (level : ℕ) → 1 ≤ span s level
@@ -300,4 +323,28 @@ module _ (s : Numbers) (base : 1 ≤ s.base) (ratio : 1 ≤ s.ratio) where
       elim (cases_eq (edge s top m) (edge s top (m - 1))) [
         | inl stays ↦ omega (arith, deepest_within top m, ap (λ t. cond t (deepest s top m) (suc top)) (eq-eqb (edge s top m) (edge s top (m - 1)) stays))
         | inr moves ↦ omega (arith, ap (λ t. cond t (deepest s top m) (suc top)) (ne_eqb (edge s top m) (edge s top (m - 1)) moves))
+      ]
+
+  -- an edge that moves does so by one span
+  pub moves_by_one : (level m : ℕ) → edge s level m ≢ edge s level (m - 1) → steps s level m ≡ suc (steps s level (m - 1))
+  moves_by_one level m moves =
+      let width = span s level in
+      let above = m - offset s level in
+      elim (cases_lt (offset s level) m) [
+        | inl later ↦ elim (cases_lt 0 (above % width)) [
+          | inl between ↦ absurd (moves (stays_elsewhere level m (λ _ none. omega arith)))
+          | inr none ↦ (
+              let parts = div-add-mod above width in
+              let count = above / width in
+              let some : 1 ≤ count = elim (cases_lt 0 count) [
+                | inl more ↦ more
+                | inr nothing ↦ (let zero_count : count ≡ 0 = omega arith in
+                    let product = ap (λ c. width * c) zero_count in absurd (omega arith))
+              ] in
+              let again : count ≡ suc (count - 1) = omega arith in
+              let product = ap (λ c. width * c) again in
+              let whole : above ≡ width * suc (count - 1) = omega arith in
+              steps_at level m (count - 1) whole ∙ ap suc (sym (steps_before level m (count - 1) whole)))
+        ]
+        | inr early ↦ absurd (moves (stays_elsewhere level m (λ later none. omega arith)))
       ]

@@ -3,10 +3,11 @@ use Rattle.std.proofs.Common.{◌≡◌, ℕ, ◌+◌, cond, eqb, List, [], ◌�
 use Rattle.std.specs.List.{range_with_len, list_any}
 use Rattle.lert_spec.specs.declared.numbers.Numbers.{Numbers}
 use Rattle.lert_spec.specs.declared.report.Report.{Report}
+use Rattle.lert_spec.specs.Bins.{Bin, bins}
 use Rattle.lert_spec.specs.Edges.{span, offset, depth, lookback, capacity, quotient_bits, width}
 use Rattle.lert_spec.specs.Limits.{first_broken}
 use Rattle.lert_spec.specs.Look.{look, closing}
-use Rattle.lert_spec.specs.Mix.{mix}
+use Rattle.lert_spec.specs.Mix.{mix, cone_of, tail_of, part_of}
 
 abbrev small : Numbers
 small = record { threshold = 3; bins = 3; ratio = 2; base = 4; levels = 2; cone_bits = 0; room = 32; packet = 8 }
@@ -50,6 +51,32 @@ bits_of_small = refl
 
 widths_as_shipped : map (width shipped) (0 ∷ 5 ∷ []) ≡ 48 ∷ 38 ∷ []
 widths_as_shipped = refl
+
+-- 32 events: the two bins of level 1, and the one of level 2
+abbrev ends : Bin → ℕ × ℕ
+ends bin = (bin.from, bin.to)
+
+bins_of_level_1 : map ends (bins small (sevens_at 32 []) 1) ≡ (8, 16) ∷ (16, 24) ∷ []
+unfolding mix
+bins_of_level_1 = refl
+
+bins_of_level_2 : map ends (bins small (sevens_at 32 []) 2) ≡ (0, 8) ∷ []
+unfolding mix
+bins_of_level_2 = refl
+
+-- of 12 events the oldest four are cut off: three of one key and one of another, in ascending tails
+counts_of_a_bin : map (λ bin. bin.pieces) (bins small (7 ∷ 1 ∷ 7 ∷ 7 ∷ sevens_at 8 []) 1)
+    ≡ (record { tail = tail_of small 7; count = 3 } ∷ record { tail = tail_of small 1; count = 1 } ∷ []) ∷ []
+unfolding mix
+counts_of_a_bin = refl
+
+cones_of_keys : map (cone_of (record small { cone_bits = 1 })) (0 ∷ 1 ∷ 18446744073709551615 ∷ []) ≡ 0 ∷ 1 ∷ 0 ∷ []
+unfolding mix
+cones_of_keys = refl
+
+part_of_cone_0 : part_of (record small { cone_bits = 1 }) 0 (0 ∷ 1 ∷ 18446744073709551615 ∷ 0 ∷ []) ≡ 0 ∷ 18446744073709551615 ∷ 0 ∷ []
+unfolding mix
+part_of_cone_0 = refl
 
 mixed_one : mix 1 ≡ 0xb456bcfc34c2cb2c
 unfolding mix

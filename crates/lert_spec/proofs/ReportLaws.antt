@@ -17,7 +17,7 @@ times key keys = count_by (λ other. eqb other key) keys
 times-cons : (key other : ℕ) (keys : List ℕ) → times key (other ∷ keys) ≡ cond (eqb other key) 1 0 + times key keys
 times-cons key other keys = sum_by-cons (λ x. cond (eqb x key) 1 0) other keys
 
-times-cons_same : (key other : ℕ) (keys : List ℕ) → other ≡ key → times key (other ∷ keys) ≡ 1 + times key keys
+pub times-cons_same : (key other : ℕ) (keys : List ℕ) → other ≡ key → times key (other ∷ keys) ≡ 1 + times key keys
 times-cons_same key other keys same =
     times-cons key other keys ∙ ap (λ (t : Bool). cond {A = ℕ} t 1 0 + times key keys) (eq-eqb other key same)
 
@@ -47,17 +47,17 @@ count_le-times key events from to =
     let late = times-drop key from events in omega arith
 
 -- keys in the order of their mixed values, from `low` on
-abbrev MixedFrom : ℕ → List ℕ → Type 0
+abbrev pub MixedFrom : ℕ → List ℕ → Type 0
 MixedFrom low [] = Unit {0}
 MixedFrom low (key ∷ keys) = (low ≤ mix key) × MixedFrom (mix key) keys
 
-insert_before : (key other : ℕ) (others : List ℕ) → mix key < mix other → insert_mixed key (other ∷ others) ≡ key ∷ other ∷ others
+pub insert_before : (key other : ℕ) (others : List ℕ) → mix key < mix other → insert_mixed key (other ∷ others) ≡ key ∷ other ∷ others
 insert_before key other others less = grind (arith, nat_tests)
 
-insert_same : (key other : ℕ) (others : List ℕ) → mix other ≤ mix key → key ≡ other → insert_mixed key (other ∷ others) ≡ other ∷ others
+pub insert_same : (key other : ℕ) (others : List ℕ) → mix other ≤ mix key → key ≡ other → insert_mixed key (other ∷ others) ≡ other ∷ others
 insert_same key other others less same = grind (arith, nat_tests)
 
-insert_behind : (key other : ℕ) (others : List ℕ) → mix other ≤ mix key → key ≢ other → insert_mixed key (other ∷ others) ≡ other ∷ insert_mixed key others
+pub insert_behind : (key other : ℕ) (others : List ℕ) → mix other ≤ mix key → key ≢ other → insert_mixed key (other ∷ others) ≡ other ∷ insert_mixed key others
 insert_behind key other others less differs = grind (arith, nat_tests)
 
 MixedFrom-insert_mixed : (low key : ℕ) (keys : List ℕ) → low ≤ mix key → MixedFrom low keys → MixedFrom low (insert_mixed key keys)
@@ -71,12 +71,12 @@ MixedFrom-insert_mixed low key (other ∷ others) above ordered =
       ]
     ]
 
-MixedFrom-mixed_order : (events : List ℕ) → MixedFrom 0 (mixed_order events)
+pub MixedFrom-mixed_order : (events : List ℕ) → MixedFrom 0 (mixed_order events)
 MixedFrom-mixed_order [] = tt
 MixedFrom-mixed_order (event ∷ events) = MixedFrom-insert_mixed 0 event (mixed_order events) (omega arith) (MixedFrom-mixed_order events)
 
 -- a key with a lesser mixed value isn't among them
-times-below : (low key : ℕ) (keys : List ℕ) → mix key < low → MixedFrom low keys → times key keys ≡ 0
+pub times-below : (low key : ℕ) (keys : List ℕ) → mix key < low → MixedFrom low keys → times key keys ≡ 0
 times-below low key [] less ordered = refl
 times-below low key (other ∷ others) less ordered =
     let differs : other ≢ key = λ same. (let mixed = ap mix same in omega (arith, ordered.0)) in

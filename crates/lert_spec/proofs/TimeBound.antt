@@ -12,7 +12,7 @@ use Rattle.lert_spec.specs.Edges.{lookback, capacity}
 use Rattle.lert_spec.specs.Limits.{IsValid}
 use Rattle.lert_spec.specs.Look.{is_listed, is_due, with_due, mixed_order, look_to, look, closing}
 use Rattle.lert_spec.specs.Timely.{times_listed, IsReportedOnTime, IsNotYetDue, IsTimely, IsTimelySoFar}
-use Rattle.lert_spec.proofs.CountLaws.{NthAt, count_parts, count_never_falls, nth_at}
+use Rattle.lert_spec.proofs.WindowLaws.{NthAt, count_parts, count_never_falls, nth_at}
 use Rattle.lert_spec.proofs.EdgeLaws.{DueAt, due, span_pos}
 use Rattle.lert_spec.proofs.ReportLaws.{times, times-cons_other, times-filter, times-mixed_order, times-mixed_order_le, count_le-times, is_listed-times, times_listed-with_due}
 
@@ -50,7 +50,7 @@ module _ (threshold : ℕ) (events : List ℕ) (from to : ℕ) (reports : List R
       ap₂ (λ a b. a && not b) (le-leb threshold (count key events from to) enough)
       (is_listed-times key reports ∙ le-ltb 0 (times_listed key reports) (omega arith))
 
-  not_due_if_listed : 1 ≤ times_listed key reports → is_due threshold events from to reports key ≡ false
+  pub not_due_if_listed : 1 ≤ times_listed key reports → is_due threshold events from to reports key ≡ false
   not_due_if_listed listed =
       and_right (leb threshold (count key events from to)) (not (is_listed key reports))
       (ap not (is_listed-times key reports ∙ lt-ltb 0 (times_listed key reports) listed))
@@ -181,7 +181,7 @@ module _ (s : Numbers) (valid : IsValid s) (events : List ℕ) where
     listed_once (suc m) = times_le_one s.threshold events (lookback s (suc m)) (suc m) (look_to s events m) key (listed_once m)
 
     -- a key in whose window there are enough is listed then
-    listed_then : (m : ℕ) → 1 ≤ m → s.threshold ≤ count key events (lookback s m) m → times_listed key (look_to s events m) ≡ 1
+    pub listed_then : (m : ℕ) → 1 ≤ m → s.threshold ≤ count key events (lookback s m) m → times_listed key (look_to s events m) ≡ 1
     listed_then zero positive enough = absurd (omega arith)
     listed_then (suc m) positive enough =
         times_enough s.threshold events (lookback s (suc m)) (suc m) (look_to s events m) key valid.limits.threshold_from enough (listed_once m)

@@ -1,6 +1,5 @@
 pub mod AtOnce
 pub mod Bins
-pub mod CountLaws
 pub mod Counts
 pub mod Edges
 pub mod Limits

@@ -1,5 +1,5 @@
 -- A count table: pieces in ascending tails, each with a count of at least 1.
-use Rattle.std.specs.Prelude.{ℕ, ◌+◌, ◌<◌, ◌≤◌, ◌==◌, List, [], ◌∷◌, nat_lt, if◌then◌else◌}
+use Rattle.std.specs.Prelude.{ℕ, ◌+◌, ◌<◌, ◌≤◌, ◌==◌, ◌^◌, All, List, [], ◌∷◌, nat_lt, if◌then◌else◌}
 use Rattle.lert_spec.specs.declared.piece.Piece.{Piece}
 
 -- how often a tail stands in the table, 0 where it is absent
@@ -28,3 +28,8 @@ AscendsFrom least limit (p ∷ ps) =
 -- a count table of tails below `limit`
 abbrev pub IsTable : ℕ → List Piece → Type 0
 IsTable limit ps = AscendsFrom 0 limit ps
+
+-- pieces that a stream gave: a count table of tails below `limit`, each count at most 2^47
+pub record AreGiven (limit : ℕ) (pieces : List Piece) : Type 0 where
+  pub table : IsTable limit pieces
+  pub counts : All (λ piece. piece.count ≤ 2 ^ 47) pieces

@@ -5,9 +5,11 @@
 //! worked examples. Every other crate's contracts are stated with these words.
 #![tactic(auto)]
 
+pub mod edges;
 mod numbers;
 mod piece;
 mod report;
+pub mod reports;
 
 pub use numbers::Numbers;
 pub use piece::Piece;

@@ -1,2 +1,5 @@
+pub mod Ending
+pub mod KeysRead
+pub mod Parsing
 pub mod Printing
 pub mod Taking

@@ -1,10 +1,12 @@
 -- The steps of a text that goes to a sink page by page.
-use Rattle.std.proofs.Common.{◌≡◌, ℕ, ◌+◌, ◌<◌, List, [], ◌++◌, length, get_or, take, drop, Option, Some, None, ap, sym, ◌∙◌, append_assoc, append-nil}
+use Rattle.std.proofs.Common.{◌≡◌, ℕ, ◌+◌, ◌<◌, List, [], ◌++◌, length, get_or, take, drop, Option, Some, None, ap, sym, ◌∙◌, arith, true, append_assoc, append-nil}
 use Rattle.std.specs.List.{flat_map}
 use Rattle.std.proofs.lemmas.Grind.{flat_map-append}
 use Rattle.std.proofs.lemmas.List.{flat_map_more, take-append-drop, take_more}
 use Rattle.lert_spec.specs.declared.report.Report.{Report}
-use Rattle.lert_spec.specs.Lines.{report_line}
+use Rattle.lert_spec.specs.AtOnce.{at_once}
+use Rattle.lert_spec.specs.Lines.{cone_text, report_line, total_line}
+use Rattle.lert_top.specs.Run.{text_of}
 use Rattle.lert_top.specs.Page.{IsPrinting, IsCut}
 
 module _ (start now : Option (List ℕ)) (page text : List ℕ) (printing : IsPrinting start now page text) where
@@ -80,3 +82,29 @@ module _ (text head : List ℕ) (reports : List Report) (i : ℕ) where
       ∙ ap (λ xs. head ++ xs)
       (sym (flat_map-append report_line (take i reports) (drop i reports))
       ∙ ap (flat_map report_line) (take-append-drop i reports)))
+
+-- nothing was printed yet
+pub IsPrinting-start : (start : Option (List ℕ)) (page : List ℕ) → page ≡ [] → IsPrinting start start page []
+IsPrinting-start start page empty = record {
+  told = λ before was. ([], was ∙ ap Some (sym (append-nil before)), empty);
+  untold = λ was. was;
+}
+
+-- all was printed, and the page is empty
+pub IsPrinting-all : (start now : Option (List ℕ)) (text : List ℕ) → IsPrinting start now [] text →
+    (before : List ℕ) → start ≡ Some before → now ≡ Some (before ++ text)
+IsPrinting-all start now text printing before was =
+    let x = printing.told before was in
+    x.1 ∙ ap (λ done. Some (before ++ done)) (sym (append-nil x.0) ∙ x.2)
+
+-- the text of a run is its one cone's, and the totals
+pub text_of-parts : (threshold : ℕ) (events : List ℕ) (number : ℕ) (reports : List Report) → number ≡ length events →
+    reports ≡ at_once threshold events →
+    cone_text 0 (record { events = number; reports = reports; closed = true }) ++ total_line number (length reports) ≡ text_of threshold events
+text_of-parts threshold events number reports counted listed =
+    ap (λ n. cone_text 0 (record { events = n; reports = reports; closed = true }) ++ total_line n (length reports)) counted
+    ∙ ap (λ rs. cone_text 0 (record { events = length events; reports = rs; closed = true }) ++ total_line (length events) (length rs)) listed
+    ∙ ap (λ xs. xs ++ total_line (length events) (length (at_once threshold events)))
+    (sym (append-nil (cone_text 0 (record { events = length events; reports = at_once threshold events; closed = true }))))
+    ∙ ap (λ n. (cone_text 0 (record { events = length events; reports = at_once threshold events; closed = true }) ++ []) ++ total_line n (length (at_once threshold events))) (omega arith)
+    ∙ ap (λ n. (cone_text 0 (record { events = length events; reports = at_once threshold events; closed = true }) ++ []) ++ total_line (0 + length events) n) (omega arith)

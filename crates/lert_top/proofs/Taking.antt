@@ -7,7 +7,7 @@ use Rattle.std.specs.BTreeMap.{BTreeMap, get, Updates}
 use Rattle.lert_spec.specs.declared.report.Report.{Report}
 use Rattle.lert_spec.specs.AtOnce.{at_once}
 use Rattle.lert_spec.specs.Counts.{count}
-use Rattle.lert_spec.specs.CountLaws.{at_once-push, count-push}
+use Rattle.lert_spec.proofs.CountLaws.{at_once-push, count-push}
 use Rattle.lert_top.specs.Detector.{IsDetecting}
 
 module _ (threshold : ℕ) (events : List ℕ) (counts counts' : BTreeMap ℕ ℕ) (reports : List Report) (taken key : ℕ)

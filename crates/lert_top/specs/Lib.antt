@@ -1,2 +1,8 @@
+pub mod Command
 pub mod Detector
+pub mod Opening
 pub mod Page
+pub mod Run
+pub mod Shelf
+pub mod Status
+pub mod Word

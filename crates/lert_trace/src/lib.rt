@@ -10,6 +10,8 @@
 mod fault;
 mod header;
 mod reader;
+#[cfg(test)]
+mod tests;
 mod window;
 
 pub use fault::TraceFault;

@@ -17,6 +17,7 @@ pub const MOST_KEYS: u64 = 68_719_476_736;
 
 /// A reader of the keys of one trace, seen as its source now and as it was when the reader was made,
 /// its limit, how many keys it gave, and the fault that it met.
+#[derive(Drop)]
 pub struct TraceReader<S: Source> {
     window: Window<S>,
     limit: u64,

@@ -18,6 +18,7 @@ pub const BLOCK: usize = 4096;
 pub const KEY: usize = 8;
 
 /// A source and the bytes of it that are pending, seen as both.
+#[derive(Drop)]
 pub struct Window<S: Source> {
     source: S,
     block: [u8; BLOCK],

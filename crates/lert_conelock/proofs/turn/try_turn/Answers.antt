@@ -1,0 +1,49 @@
+use Rattle.std.proofs.Common.{refl}
+use Rattle.lert_conelock.proofs.Turning.{taker, fitting, trying, short_history, me_pass, lock_taken, lock_refused, reasoned, was_taken_as, was_refused_as}
+use Rattle.lert_conelock.proofs.SameTurn.{same_done, same_refused}
+use Rattle.lert_conelock.proofs.turn.try_turn.Goals as goal
+
+pub apply-requires : goal.apply-requires
+apply-requires g c = let may = c.requires.idle in fitting _ _ _ _ _
+    (c.in-Some.ensures.won may.pass (taker may)) g.S.Held.fits (c.requires.fits may.pass (taker may))
+
+pub commit-requires-clause-trying : goal.commit-requires-clause-trying
+commit-requires-clause-trying g c = let may = c.requires.idle in trying _ _ _ _ _ (c.in-Some.ensures.won may.pass (taker may))
+
+pub note-requires-clause-trying : goal.note-requires-clause-trying
+note-requires-clause-trying g c = let may = c.requires.idle in trying _ _ _ _ _ (c.in-Some.ensures.won may.pass (taker may))
+
+pub commit-requires-clause-short : goal.commit-requires-clause-short
+commit-requires-clause-short g c = let may = c.requires.idle in short_history _ _ _ _ _
+    (c.in-Some.ensures.won may.pass (taker may)) g.met.S.Held.short
+
+pub bring_home-requires-clause-lock : goal.bring_home-requires-clause-lock
+bring_home-requires-clause-lock g c = let may = c.requires.idle in
+    let took = c.in-Some.ensures.won may.pass (taker may) in let did = c.in-Ok.ensures in
+    lock_taken _ _ _ _ _ took _ did.terms did.stopped did.stands_for did.over _
+    (c.commit.ensures.committed _ _ (me_pass _ _ _ _ _ took) refl)
+
+pub note-requires-clause-reason : goal.note-requires-clause-reason
+note-requires-clause-reason g c = let may = c.requires.idle in
+    let took = c.in-Some.ensures.won may.pass (taker may) in let did = c.in-Err.ensures in
+    reasoned _ _ _ _ _ took _ did.terms did.stopped _ did.unchanged did.refuses
+
+pub bring_home-requires-in-Err-clause-lock : goal.bring_home-requires-in-Err-clause-lock
+bring_home-requires-in-Err-clause-lock g c = let may = c.requires.idle in
+    let took = c.in-Some.ensures.won may.pass (taker may) in let did = c.in-Err.ensures in
+    lock_refused _ _ _ _ _ took _ did.terms did.stopped _ did.unchanged did.refuses _
+    (c.note.ensures.noted _ _ (me_pass _ _ _ _ _ took) refl)
+
+pub returns-in-Ok-clause-done : goal.returns-in-Ok-clause-done
+returns-in-Ok-clause-done g c p reply is same = let may = c.requires.idle in let took = c.in-Some.ensures.won p is in
+    let did = c.in-Ok.ensures in
+    let at = c.commit.ensures.committed _ _ (me_pass _ _ _ _ _ took) refl in
+    was_taken_as _ _ _ _ _ took _ reply g.C.Counting.more did.answers (same_done _ _ same) _
+    (c.bring_home.ensures.freed _ (λ i. (at i).0))
+
+pub returns-in-Err-clause-refused : goal.returns-in-Err-clause-refused
+returns-in-Err-clause-refused g c p refusal is same = let may = c.requires.idle in
+    let took = c.in-Some.ensures.won p is in let did = c.in-Err.ensures in
+    let at = c.note.ensures.noted _ _ (me_pass _ _ _ _ _ took) refl in
+    was_refused_as _ _ _ _ _ took _ did.terms did.stopped _ did.unchanged did.refuses refusal g.C.Counting.more
+    (same_refused _ _ same) _ (c.bring_home-in-Err.ensures.freed _ (λ i. (at i).0))

@@ -1,0 +1,40 @@
+-- What one try of a call leaves its pass with.
+use Rattle.std.specs.Prelude.{◌≡◌, ℕ, ◌+◌, Bool, List, [], ◌∷◌, ◌++◌, ◌⊎◌, None, IsTrue}
+use Rattle.lert_base.specs.declared.held.Held.{Ghosts as HeldOf}
+use Rattle.lert_base.specs.Packet.{Packet}
+use Rattle.lert_conelock.specs.Prefix.{IsPrefix}
+use Rattle.lert_conelock.specs.After.{AnswersAfter, RefusesAfter}
+use Rattle.lert_conelock.specs.Shown.{Shown}
+
+module _ {H T R F : Type 0} (held : HeldOf H T R F) where
+  -- p was answered so, after the past: q is what it shows now
+  pub record WasTaken (e : Packet) (reply : R) (more : ℕ) (p q : Shown H F) : Type 0 where
+    pub past : List Packet
+    pub stop : Bool
+    pub begins : IsPrefix p.seen past
+    pub answer : AnswersAfter held p.first past e reply
+    pub stops : IsTrue p.stopped → IsTrue stop
+    pub shows : q ≡ record p {
+      seen = past ++ e ∷ [];
+      calls = p.calls ++ e ∷ [];
+      waits = p.waits + more;
+      stopped = stop;
+      tries = None;
+      known = [];
+    }
+
+  -- p was refused so, after the past
+  pub record WasRefused (e : Packet) (f : F) (more : ℕ) (p q : Shown H F) : Type 0 where
+    pub past : List Packet
+    pub stop : Bool
+    pub begins : IsPrefix p.seen past
+    pub cause : IsTrue stop ⊎ RefusesAfter held p.first past e f
+    pub stops : IsTrue p.stopped → IsTrue stop
+    pub shows : q ≡ record p {
+      seen = past;
+      refused = p.refused ++ (e, f) ∷ [];
+      waits = p.waits + more;
+      stopped = stop;
+      tries = None;
+      known = [];
+    }

@@ -1,0 +1,88 @@
+//! How a run ends.
+
+ghost use Rattle.std.specs.Prelude.{◌≡◌};
+ghost use Rattle.lert_top.specs.Status.{status_number, stop_status};
+
+use lert_io::OutOfMemory;
+use lert_trace::TraceFault;
+use std::fmt;
+
+/// How a run ends. Each status has a number, which is the program's exit status, and each but `Done`
+/// a line.
+#[derive(Clone, Copy, Debug, PartialEq, Eq)]
+pub enum Status {
+    /// All was read and printed.
+    Done,
+    /// The words aren't a line of a known form (rule 0), or its numbers break a rule.
+    Usage { rule: u8 },
+    /// A trace can't be opened.
+    PlaceFault,
+    /// A read of a trace failed.
+    TraceFault { trace: u32 },
+    /// The bytes of a trace leave its format first at the offset `at`.
+    BadTrace { trace: u32, at: u64 },
+    /// A trace has more than 2^36 keys.
+    TooLong { trace: u32 },
+    /// A write of the text failed. A part of it may have been written.
+    OutFault,
+    /// There is no memory.
+    OutOfMemory,
+}
+
+impl Status {
+    /// The number of the status, from 0 to 12.
+    pub fn number(self) -> u8
+        ensures { result ≡ status_number self }
+    {
+        match self {
+            Status::Done => 0,
+            Status::Usage { rule: _ } => 1,
+            Status::PlaceFault => 2,
+            Status::TraceFault { trace: _ } => 3,
+            Status::BadTrace { trace: _, at: _ } => 4,
+            Status::TooLong { trace: _ } => 5,
+            Status::OutFault => 11,
+            Status::OutOfMemory => 12,
+        }
+    }
+
+    /// The status of a run that a fault of this trace stops.
+    pub fn of_trace(trace: u32, fault: TraceFault) -> Status
+        ensures { result ≡ stop_status trace fault }
+    {
+        match fault {
+            TraceFault::ReadFailed => Status::TraceFault { trace },
+            TraceFault::BadHeader { at } | TraceFault::CutKey { at } => Status::BadTrace {
+                trace,
+                at,
+            },
+            TraceFault::TooLong => Status::TooLong { trace },
+        }
+    }
+}
+
+impl From<OutOfMemory> for Status {
+    ghost use Rattle.std.specs.Prelude.{◌≡◌};
+    ghost use Rattle.lert_top.specs.declared.status.Status.TheVariants.{OutOfMemory};
+
+    ghost from_gives = { λ _ status. status ≡ OutOfMemory };
+
+    fn from(_error: OutOfMemory) -> Status {
+        Status::OutOfMemory
+    }
+}
+
+impl fmt::Display for Status {
+    fn fmt<W: fmt::Write>(&self, f: &mut fmt::Formatter<W>) -> fmt::Result {
+        match self {
+            Status::Done => write!(f, "lert: done"),
+            Status::Usage { rule } => write!(f, "lert: usage rule {rule}"),
+            Status::PlaceFault => write!(f, "lert: place fault"),
+            Status::TraceFault { trace } => write!(f, "lert: trace {trace} fault"),
+            Status::BadTrace { trace, at } => write!(f, "lert: trace {trace} bad at {at}"),
+            Status::TooLong { trace } => write!(f, "lert: trace {trace} too long"),
+            Status::OutFault => write!(f, "lert: output fault"),
+            Status::OutOfMemory => write!(f, "lert: out of memory"),
+        }
+    }
+}
