@@ -86,8 +86,8 @@ pub spread_begun : (n homes q v : ℕ) (before after : List (ℕ × List ℕ)) (
     → first_free (max (stop 0 before) q) after < n → IsSpread n homes (before ++ after) slots ends used spill
     → IsRaised spill raised (q + 1) (min (first_free (max (stop 0 before) q) after) homes)
     → IsSpread n homes (before ++ (q, v ∷ []) ∷ after) (filled_gap slots (max (stop 0 before) q) (first_free (max (stop 0 before) q) after) v)
-        (set (gapped ends (max (stop 0 before) q) (first_free (max (stop 0 before) q) after)) (max (stop 0 before) q) true)
-        (set used (first_free (max (stop 0 before) q) after) true) raised
+    (set (gapped ends (max (stop 0 before) q) (first_free (max (stop 0 before) q) after)) (max (stop 0 before) q) true)
+    (set used (first_free (max (stop 0 before) q) after) true) raised
 spread_begun n homes q v before after slots ends used spill raised around room s r =
     let e = spread_empty n homes q before after slots ends used spill around s in
     let home = max (stop 0 before) q in
@@ -95,7 +95,7 @@ spread_begun n homes q v before after slots ends used spill raised around room s
     let place : first_free (home + 0) after ≡ first_free home after = ap (λ k. first_free k after) same in
     let start = start-reshaped ends_of length_ends_of q before in
     let ends_place : first_free (start_of false q (reshaped ends_of before) + 0) (reshaped ends_of after) ≡ first_free home after =
-        ap (λ k. first_free k (reshaped ends_of after)) (let e : start_of false q (reshaped ends_of before) + 0 ≡ home = omega arith in e) ∙ free-reshaped ends_of length_ends_of home after in
+    ap (λ k. first_free k (reshaped ends_of after)) (let e : start_of false q (reshaped ends_of before) + 0 ≡ home = omega arith in e) ∙ free-reshaped ends_of length_ends_of home after in
     let low = first_free-from home after in
     let long : n ≤ length ends = (let whole = length_cells false n 0 (reshaped ends_of (before ++ (q, []) ∷ after)) in rw e.ends_are (omega arith)) in
     record {
@@ -131,25 +131,26 @@ spread_over n homes q t s before after slots over ends used spill around same sp
         → cells false n (reshaped f (before ++ (q, t) ∷ after)) ≡ cells false n (reshaped f (before ++ (q, s) ∷ after))
     reshaped_same f fits before q t s after same =
         ap (cells false n) (reshaped-append f fits before q t after ∙ ap (λ k. reshaped f before ++ (q, f k) ∷ reshaped f after) (sym same) ∙ sym (reshaped-append f fits before q s after))
+
     ends_same : (g : ℕ) → end_before 0 g (before ++ (q, t) ∷ after) ≡ end_before 0 g (before ++ (q, s) ∷ after)
     ends_same g = elim (cases_lt q g) [
-        | inl behind ↦ behind_run g q t before after around.below behind ∙ ap (λ k. end_before (max (stop 0 before) q + k) g after) (sym same) ∙ sym (behind_run g q s before after around.below behind)
-        | inr low ↦ below_unmoved 0 g q t s before after low
-      ]
+      | inl behind ↦ behind_run g q t before after around.below behind ∙ ap (λ k. end_before (max (stop 0 before) q + k) g after) (sym same) ∙ sym (behind_run g q s before after around.below behind)
+      | inr low ↦ below_unmoved 0 g q t s before after low
+    ]
 
 -- a part of a list between two others is written over
 middle_over : (front u x w back y : List ℕ) → length y ≡ length x
     → take (length front + length u) (front ++ ((u ++ (x ++ w)) ++ back)) ++ (y ++ drop (length front + length u + length y) (front ++ ((u ++ (x ++ w)) ++ back)))
-      ≡ front ++ ((u ++ (y ++ w)) ++ back)
+    ≡ front ++ ((u ++ (y ++ w)) ++ back)
 middle_over front u x w back y same =
     let split : front ++ ((u ++ (x ++ w)) ++ back) ≡ (front ++ u) ++ (x ++ (w ++ back)) =
-        ap (λ (t : List ℕ). front ++ t) (append_assoc u (x ++ w) back ∙ ap (λ (t : List ℕ). u ++ t) (append_assoc x w back)) ∙ sym (append_assoc front u (x ++ (w ++ back))) in
+    ap (λ (t : List ℕ). front ++ t) (append_assoc u (x ++ w) back ∙ ap (λ (t : List ℕ). u ++ t) (append_assoc x w back)) ∙ sym (append_assoc front u (x ++ (w ++ back))) in
     let long = length-append front u in
     let first : take (length front + length u) (front ++ ((u ++ (x ++ w)) ++ back)) ≡ front ++ u =
-        ap (take (length front + length u)) split ∙ take_at (front ++ u) (x ++ (w ++ back)) (length front + length u) long in
+    ap (take (length front + length u)) split ∙ take_at (front ++ u) (x ++ (w ++ back)) (length front + length u) long in
     let rest : drop (length front + length u + length y) (front ++ ((u ++ (x ++ w)) ++ back)) ≡ w ++ back =
-        ap (drop (length front + length u + length y)) (split ∙ sym (append_assoc (front ++ u) x (w ++ back)))
-        ∙ drop_at ((front ++ u) ++ x) (w ++ back) (length front + length u + length y) (omega (arith, length-append (front ++ u) x)) in
+    ap (drop (length front + length u + length y)) (split ∙ sym (append_assoc (front ++ u) x (w ++ back)))
+    ∙ drop_at ((front ++ u) ++ x) (w ++ back) (length front + length u + length y) (omega (arith, length-append (front ++ u) x)) in
     ap (λ (t : List ℕ). t ++ (y ++ drop (length front + length u + length y) (front ++ ((u ++ (x ++ w)) ++ back)))) first
     ∙ ap (λ (t : List ℕ). (front ++ u) ++ (y ++ t)) rest
     ∙ append_assoc front u (y ++ (w ++ back)) ∙ ap (λ (t : List ℕ). front ++ t) (ap (λ (t : List ℕ). u ++ t) (sym (append_assoc y w back)) ∙ sym (append_assoc u (y ++ w) back))

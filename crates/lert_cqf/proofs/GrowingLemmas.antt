@@ -140,7 +140,7 @@ module _ (n homes width home x count : ℕ) (slots : List ℕ) (ends used : List
       let written = cells_over n home [] text [] (group width x count) slots'' b.before b.after same whole in
       let place : begin_place + length {A = ℕ} [] ≡ begin_place = omega arith in
       let is_over : over ≡ cells 0 n (b.before ++ (home, run_text width ((x, count) ∷ [])) ∷ b.after) =
-          is ∙ (rw place at written) in
+      is ∙ (rw place at written) in
       let lengths = w.lengths in
       record {
         spread = spread_over n homes home (text ++ []) (run_text width ((x, count) ∷ [])) b.before b.after slots'' over ends'' used'' spill'' b.around
@@ -268,9 +268,9 @@ module _ (n homes width home x count : ℕ) (slots : List ℕ) (ends used : List
         let new = take growth.len growth.text in
         let new_is : length new ≡ growth.len = ap (λ (t : List ℕ). length t) is.text ∙ sym is.len in
         let split : take behind run ++ (w.added ++ back) ≡ u ++ (middle ++ back) =
-            ap (λ (t : List ℕ). t ++ (w.added ++ back)) (take-add growth.start growth.old run)
-            ∙ append_assoc u (take growth.old (drop growth.start run)) (w.added ++ back)
-            ∙ ap (λ (t : List ℕ). u ++ t) (sym (append_assoc (take growth.old (drop growth.start run)) w.added back)) in
+        ap (λ (t : List ℕ). t ++ (w.added ++ back)) (take-add growth.start growth.old run)
+        ∙ append_assoc u (take growth.old (drop growth.start run)) (w.added ++ back)
+        ∙ ap (λ (t : List ℕ). u ++ t) (sym (append_assoc (take growth.old (drop growth.start run)) w.added back)) in
         let u_long = length-take growth.start run in
         let middle_long = length-append (take growth.old (drop growth.start run)) w.added in
         let old_long = length-take growth.old (drop growth.start run) in
@@ -280,11 +280,11 @@ module _ (n homes width home x count : ℕ) (slots : List ℕ) (ends used : List
         let place : where_at ≡ max (stop 0 g.before) home + length u = omega arith in
         let over_is : over ≡ take (max (stop 0 g.before) home + length u) slots'' ++ (new ++ drop (max (stop 0 g.before) home + length u + length new) slots'') = (rw place at written) in
         let is_over : over ≡ cells 0 n (g.before ++ (home, run_text width (pairs_plus g.pairs x count)) ∷ g.after) =
-            over_is ∙ cells_over n home u middle back new slots'' g.before g.after same was ∙ ap (λ (t : List ℕ). cells 0 n (g.before ++ (home, t) ∷ g.after)) is.grown in
+        over_is ∙ cells_over n home u middle back new slots'' g.before g.after same was ∙ ap (λ (t : List ℕ). cells 0 n (g.before ++ (home, t) ∷ g.after)) is.grown in
         let inside = text_within n home (u ++ (middle ++ back)) slots'' g.before g.after was in
         let lengths = w.lengths in
         let total_long : length (run_text width (pairs_plus g.pairs x count)) ≡ length (take behind run ++ (w.added ++ back)) =
-            ap (λ (t : List ℕ). length t) (sym is.grown) ∙ (omega (arith, length-append u (new ++ back), length-append new back, ap (λ (t : List ℕ). length t) split, length-append u (middle ++ back), length-append middle back)) in
+        ap (λ (t : List ℕ). length t) (sym is.grown) ∙ (omega (arith, length-append u (new ++ back), length-append new back, ap (λ (t : List ℕ). length t) split, length-append u (middle ++ back), length-append middle back)) in
         record {
           spread = spread_over n homes home (take behind run ++ (w.added ++ back)) (run_text width (pairs_plus g.pairs x count)) g.before g.after slots'' over ends'' used'' spill'' g.around total_long w.spread is_over;
           lengths = record {

@@ -17,9 +17,9 @@ gap_behind front u w back v to low =
     let behind = length-append front u in
     let rest = remove back (to - length (front ++ (u ++ w))) in
     let removed : remove (front ++ ((u ++ w) ++ back)) to ≡ (front ++ u) ++ (w ++ rest) =
-        ap (λ (t : List _). remove t to) (sym (append_assoc front (u ++ w) back))
-        ∙ remove-append_right (front ++ (u ++ w)) back (length (front ++ (u ++ w))) to refl low
-        ∙ append_assoc front (u ++ w) rest ∙ ap (λ (t : List _). front ++ t) (append_assoc u w rest) ∙ sym (append_assoc front u (w ++ rest)) in
+    ap (λ (t : List _). remove t to) (sym (append_assoc front (u ++ w) back))
+    ∙ remove-append_right (front ++ (u ++ w)) back (length (front ++ (u ++ w))) to refl low
+    ∙ append_assoc front (u ++ w) rest ∙ ap (λ (t : List _). front ++ t) (append_assoc u w rest) ∙ sym (append_assoc front u (w ++ rest)) in
     ap (λ (t : List _). insert t (length front + length u) v) removed
     ∙ insert-append_right (front ++ u) (w ++ rest) (length front + length u) (length front + length u) v behind (omega arith)
     ∙ ap (λ k. (front ++ u) ++ insert (w ++ rest) k v) (let e : length front + length u - (length front + length u) ≡ 0 = omega arith in e)
@@ -68,7 +68,7 @@ module _ {C : Type 0} (z : C) where
   -- a run grows by one cell
   pub grown_cells : (n q : ℕ) (v : C) (u w : List C) (before after : List (ℕ × List C)) → first_free (start_of q before + length (u ++ w)) after < n
       → cells z n (before ++ (q, u ++ v ∷ w) ∷ after)
-        ≡ filled_gap (cells z n (before ++ (q, u ++ w) ∷ after)) (start_of q before + length u) (first_free (start_of q before + length (u ++ w)) after) v
+      ≡ filled_gap (cells z n (before ++ (q, u ++ w) ∷ after)) (start_of q before + length u) (first_free (start_of q before + length (u ++ w)) after) v
   grown_cells n q v u w before after room =
       let e = start_of q before + length (u ++ w) in
       let front = front_of q before in

@@ -19,23 +19,23 @@ rotated xs ys from to order within is =
     let inner_long : length inner ≡ m = length-take-le m rest (omega arith) in
     let read : get_or rest m 0 ≡ v = get_or-drop from xs m 0 ∙ ap (λ k. get_or xs k 0) (let e : from + m ≡ to = omega arith in e) in
     let middle : take (to + 1 - from) rest ≡ inner ++ v ∷ [] =
-        ap (λ k. take k rest) (let e : to + 1 - from ≡ m + 1 = omega arith in e) ∙ take_more rest m 0 (omega arith) ∙ ap (λ k. inner ++ k ∷ []) read in
+    ap (λ k. take k rest) (let e : to + 1 - from ≡ m + 1 = omega arith in e) ∙ take_more rest m 0 (omega arith) ∙ ap (λ k. inner ++ k ∷ []) read in
     let last : length (take (to + 1 - from) rest) - 1 ≡ m = (let whole = ap (λ (t : List ℕ). length t) middle in let parts = length-append inner (v ∷ []) in omega arith) in
     let turned : ys ≡ v ∷ inner =
-        is ∙ ap (λ k. drop k (take (to + 1 - from) rest) ++ take k (take (to + 1 - from) rest)) last
-        ∙ ap (λ (t : List ℕ). drop m t ++ take m t) middle
-        ∙ ap (λ (t : List ℕ). t ++ take m (inner ++ v ∷ [])) (drop_at inner (v ∷ []) m inner_long)
-        ∙ ap (λ (t : List ℕ). (v ∷ []) ++ t) (take_at inner (v ∷ []) m inner_long) in
+    is ∙ ap (λ k. drop k (take (to + 1 - from) rest) ++ take k (take (to + 1 - from) rest)) last
+    ∙ ap (λ (t : List ℕ). drop m t ++ take m t) middle
+    ∙ ap (λ (t : List ℕ). t ++ take m (inner ++ v ∷ [])) (drop_at inner (v ∷ []) m inner_long)
+    ∙ ap (λ (t : List ℕ). (v ∷ []) ++ t) (take_at inner (v ∷ []) m inner_long) in
     let behind : drop (to + 1 - from) rest ≡ drop (suc to) xs = drop-drop (to + 1 - from) from xs ∙ ap (λ k. drop k xs) (let e : from + (to + 1 - from) ≡ suc to = omega arith in e) in
     let front_long : length (take from xs) ≡ from = length-take-le from xs (omega arith) in
     let removed : remove xs to ≡ take from xs ++ (inner ++ drop (suc to) xs) =
-        ap (λ (t : List ℕ). t ++ drop (suc to) xs) (ap (λ k. take k xs) (let e : to ≡ from + m = omega arith in e) ∙ take-add from m xs)
-        ∙ append_assoc (take from xs) inner (drop (suc to) xs) in
+    ap (λ (t : List ℕ). t ++ drop (suc to) xs) (ap (λ k. take k xs) (let e : to ≡ from + m = omega arith in e) ∙ take-add from m xs)
+    ∙ append_assoc (take from xs) inner (drop (suc to) xs) in
     ap (λ (t : List ℕ). take from xs ++ (t ++ drop (to + 1 - from) rest)) turned
     ∙ ap (λ (t : List ℕ). take from xs ++ ((v ∷ inner) ++ t)) behind
     ∙ sym (ap (λ (t : List ℕ). insert t from v) removed
-      ∙ ap (λ (t : List ℕ). t ++ v ∷ drop from (take from xs ++ (inner ++ drop (suc to) xs))) (take_at (take from xs) (inner ++ drop (suc to) xs) from front_long)
-      ∙ ap (λ (t : List ℕ). take from xs ++ v ∷ t) (drop_at (take from xs) (inner ++ drop (suc to) xs) from front_long))
+    ∙ ap (λ (t : List ℕ). t ++ v ∷ drop from (take from xs ++ (inner ++ drop (suc to) xs))) (take_at (take from xs) (inner ++ drop (suc to) xs) from front_long)
+    ∙ ap (λ (t : List ℕ). take from xs ++ v ∷ t) (drop_at (take from xs) (inner ++ drop (suc to) xs) from front_long))
 
 -- only one place is the first
 pub first_unique : (b : Bool) (bits : List Bool) (from p q : ℕ) → IsFirst b bits from p → IsFirst b bits from q → p ≡ q

@@ -11,7 +11,7 @@ use Rattle.lert_cqf.proofs.QuotientLemmas.{Runs, RunsAscend, runs_plus, plus-lat
 pub runs_homes : (homes q x : ℕ) (rs : Runs) → RunsAscend homes q x rs → HomesAscend q homes rs
 runs_homes homes q x [] h = tt
 runs_homes homes q x (r ∷ rs) h =
-    (elim (h.0) [ | inl a ↦ omega (arith, a.0) | inr a ↦ omega (arith, a.0) ], h.1, runs_homes homes (r.0 + 1) 0 rs h.3)
+    (elim (h.0) [ inl a ↦ omega (arith, a.0) | inr a ↦ omega (arith, a.0) ], h.1, runs_homes homes (r.0 + 1) 0 rs h.3)
 
 -- a quotient has a run
 pub record Holds (homes q : ℕ) (rs : Runs) : Type 0 where
@@ -86,23 +86,23 @@ pub find_quotient : (homes y x q : ℕ) (rs : Runs) → RunsAscend homes y x rs 
 find_quotient homes y x q [] h = inr (record { before = []; after = []; split = refl; below = tt; above = tt; plus = λ x n. refl; count = λ x. refl })
 find_quotient homes y x q (r ∷ rs) h =
     elim (cases_order r.0 q) [
-      | inl same ↦ inl (holds_here homes q r rs same h.1 (elim (h.0) [ | inl a ↦ a.1 | inr a ↦ from_zero x r.1 a.1 ]) h.2 (runs_homes homes (r.0 + 1) 0 rs h.3))
-      | inr (inl less) ↦ elim (find_quotient homes (r.0 + 1) 0 q rs h.3) [ | inl f ↦ inl (holds_later homes q r rs less f) | inr f ↦ inr (lacks_later homes q r rs less f) ]
+      | inl same ↦ inl (holds_here homes q r rs same h.1 (elim (h.0) [ inl a ↦ a.1 | inr a ↦ from_zero x r.1 a.1 ]) h.2 (runs_homes homes (r.0 + 1) 0 rs h.3))
+      | inr (inl less) ↦ elim (find_quotient homes (r.0 + 1) 0 q rs h.3) [ inl f ↦ inl (holds_later homes q r rs less f) | inr f ↦ inr (lacks_later homes q r rs less f) ]
       | inr (inr more) ↦ inr (record {
-          before = [];
-          after = r ∷ rs;
-          split = refl;
-          below = tt;
-          above = (omega arith, h.1, runs_homes homes (r.0 + 1) 0 rs h.3);
-          plus = λ x n. plus-before r rs q x n more;
-          count = λ x. count-other r rs q x (omega arith) ∙ behind homes q r.0 x rs more h.3;
-        })
+        before = [];
+        after = r ∷ rs;
+        split = refl;
+        below = tt;
+        above = (omega arith, h.1, runs_homes homes (r.0 + 1) 0 rs h.3);
+        plus = λ x n. plus-before r rs q x n more;
+        count = λ x. count-other r rs q x (omega arith) ∙ behind homes q r.0 x rs more h.3;
+      })
     ]
   where
     behind : (homes q r x : ℕ) (rs : Runs) → q < r → RunsAscend homes (r + 1) 0 rs → count_runs rs q x ≡ 0
     behind homes q r x [] more h = refl
     behind homes q r x (s ∷ rs) more h =
-        let above : q < s.0 = elim (h.0) [ | inl a ↦ omega (arith, a.0) | inr a ↦ omega (arith, a.0) ] in
+        let above : q < s.0 = elim (h.0) [ inl a ↦ omega (arith, a.0) | inr a ↦ omega (arith, a.0) ] in
         count-other s rs q x (omega arith) ∙ behind homes q s.0 x rs above h.3
 
 -- the texts around

@@ -47,9 +47,10 @@ pub ends_of-more : (k j : ℕ) → j ≤ k → (replicate j false ++ (replicate 
     × (replicate j false ++ false ∷ (replicate (k - j) false ++ true ∷ []) ≡ ends_of (suc (suc k)))
 ends_of-more k j h =
     let whole : j + (k - j) ≡ k = omega arith in
-    let one_more : j + suc (k - j) ≡ suc k = omega arith in
-    ( sym (append_assoc (replicate j false) (replicate (k - j) false) (true ∷ [])) ∙ ap (λ (t : List Bool). t ++ true ∷ []) (replicate-append-replicate j (k - j) false ∙ ap (λ m. replicate m false) whole)
-    , sym (append_assoc (replicate j false) (replicate (suc (k - j)) false) (true ∷ [])) ∙ ap (λ (t : List Bool). t ++ true ∷ []) (replicate-append-replicate j (suc (k - j)) false ∙ ap (λ m. replicate m false) one_more))
+    let one_more : j + suc (k - j) ≡ suc k = omega arith in (
+      sym (append_assoc (replicate j false) (replicate (k - j) false) (true ∷ [])) ∙ ap (λ (t : List Bool). t ++ true ∷ []) (replicate-append-replicate j (k - j) false ∙ ap (λ m. replicate m false) whole),
+      sym (append_assoc (replicate j false) (replicate (suc (k - j)) false) (true ∷ [])) ∙ ap (λ (t : List Bool). t ++ true ∷ []) (replicate-append-replicate j (suc (k - j)) false ∙ ap (λ m. replicate m false) one_more),
+    )
 
 -- the used cells from the end of a run on, up to the first free one
 used_up : (n at : ℕ) (rs : List (ℕ × List ℕ)) → first_free at rs < n → (rest : List Bool) × (cells_from false n at (reshaped used_text rs) ≡ replicate (first_free at rs - at) true ++ false ∷ rest)
@@ -63,13 +64,14 @@ used_up n at (r ∷ rs) h =
       | inr stuck ↦ (let f = free_later at r rs stuck in
           let low = first_free-from (at + length r.1) rs in
           let more = used_up n (at + length r.1) rs (omega arith) in
-          let parts : length r.1 + (first_free (at + length r.1) rs - (at + length r.1)) ≡ first_free at (r ∷ rs) - at = omega arith in
-          ( more.0
-          , stuck_cells false n at (r.0, used_text (length r.1)) (reshaped used_text rs) stuck
-            ∙ ap (λ k. used_text (length r.1) ++ cells_from false n (at + k) (reshaped used_text rs)) (length_used_text (length r.1))
-            ∙ ap (λ (t : List Bool). used_text (length r.1) ++ t) more.1
-            ∙ sym (append_assoc (used_text (length r.1)) (replicate (first_free (at + length r.1) rs - (at + length r.1)) true) (false ∷ more.0))
-            ∙ ap (λ (t : List Bool). t ++ false ∷ more.0) (replicate-append-replicate (length r.1) (first_free (at + length r.1) rs - (at + length r.1)) true ∙ ap (λ m. replicate m true) parts)))
+          let parts : length r.1 + (first_free (at + length r.1) rs - (at + length r.1)) ≡ first_free at (r ∷ rs) - at = omega arith in (
+            more.0,
+            stuck_cells false n at (r.0, used_text (length r.1)) (reshaped used_text rs) stuck
+                ∙ ap (λ k. used_text (length r.1) ++ cells_from false n (at + k) (reshaped used_text rs)) (length_used_text (length r.1))
+                ∙ ap (λ (t : List Bool). used_text (length r.1) ++ t) more.1
+                ∙ sym (append_assoc (used_text (length r.1)) (replicate (first_free (at + length r.1) rs - (at + length r.1)) true) (false ∷ more.0))
+                ∙ ap (λ (t : List Bool). t ++ false ∷ more.0) (replicate-append-replicate (length r.1) (first_free (at + length r.1) rs - (at + length r.1)) true ∙ ap (λ m. replicate m true) parts),
+          ))
     ]
 
 -- the used cells around one run: all from its start up to the first free cell
@@ -90,16 +92,18 @@ module _ (n q : ℕ) (t : List ℕ) (before after : List (ℕ × List ℕ)) (roo
       let up = used_up n (start + length t) after room in
       let low = free-from in
       let at : start_of false q (reshaped used_text before) ≡ start = start-reshaped used_text length_used_text q before in
-      let parts : length t + (free - (start + length t)) ≡ free - start = omega arith in
-      ( front, up.0
-      , length_front false q (reshaped used_text before) ∙ at
-      , ap (cells false n) (reshaped-append used_text length_used_text before q t after)
-        ∙ cells_at false n q (used_text (length t)) (reshaped used_text before) (reshaped used_text after)
-        ∙ ap (λ k. front ++ (used_text (length t) ++ cells_from false n k (reshaped used_text after))) (let e : start_of false q (reshaped used_text before) + length (used_text (length t)) ≡ start + length t = omega (arith, length_used_text (length t)) in e)
-        ∙ ap (λ (s : List Bool). front ++ (used_text (length t) ++ s)) up.1
-        ∙ ap (λ (s : List Bool). front ++ s) (sym (append_assoc (used_text (length t)) (replicate (free - (start + length t)) true) (false ∷ up.0)))
-        ∙ ap (λ (s : List Bool). front ++ (s ++ false ∷ up.0)) (replicate-append-replicate (length t) (free - (start + length t)) true ∙ ap (λ m. replicate m true) parts)
-      , up.1)
+      let parts : length t + (free - (start + length t)) ≡ free - start = omega arith in (
+        front,
+        up.0,
+        length_front false q (reshaped used_text before) ∙ at,
+        ap (cells false n) (reshaped-append used_text length_used_text before q t after)
+            ∙ cells_at false n q (used_text (length t)) (reshaped used_text before) (reshaped used_text after)
+            ∙ ap (λ k. front ++ (used_text (length t) ++ cells_from false n k (reshaped used_text after))) (let e : start_of false q (reshaped used_text before) + length (used_text (length t)) ≡ start + length t = omega (arith, length_used_text (length t)) in e)
+            ∙ ap (λ (s : List Bool). front ++ (used_text (length t) ++ s)) up.1
+            ∙ ap (λ (s : List Bool). front ++ s) (sym (append_assoc (used_text (length t)) (replicate (free - (start + length t)) true) (false ∷ up.0)))
+            ∙ ap (λ (s : List Bool). front ++ (s ++ false ∷ up.0)) (replicate-append-replicate (length t) (free - (start + length t)) true ∙ ap (λ m. replicate m true) parts),
+        up.1,
+      )
 
   -- the scan for a free cell from a place in the run finds it
   pub free_found : (used : List Bool) (place : ℕ) → used ≡ cells false n (reshaped used_text (before ++ (q, t) ∷ after)) → start ≤ place → place ≤ start + length t → IsFirst false used place free
@@ -109,21 +113,21 @@ module _ (n q : ℕ) (t : List ℕ) (before after : List (ℕ × List ℕ)) (roo
       let all = is ∙ a.3 in
       let marks = length-replicate (free - start) true in
       let long : length used ≡ start + (free - start) + 1 + length a.1 =
-          omega (arith, ap (λ (s : List Bool). length s) all, length-append a.0 (replicate (free - start) true ++ false ∷ a.1), length-append (replicate (free - start) true) (false ∷ a.1), a.2) in
+      omega (arith, ap (λ (s : List Bool). length s) all, length-append a.0 (replicate (free - start) true ++ false ∷ a.1), length-append (replicate (free - start) true) (false ∷ a.1), a.2) in
       record {
         behind = omega arith;
         within = omega arith;
         found = ap (λ (s : List Bool). get_or s free false) (all ∙ sym (append_assoc a.0 (replicate (free - start) true) (false ∷ a.1)))
             ∙ get_or_at (a.0 ++ replicate (free - start) true) false a.1 false free (omega (arith, length-append a.0 (replicate (free - start) true), a.2));
         others = λ k h less none.
-          let inside : k ≡ length a.0 + (k - start) = omega (arith, a.2) in
-          let set : get_or used k false ≡ true =
-              ap (λ (s : List Bool). get_or s k false) all
-              ∙ ap (λ m. get_or (a.0 ++ (replicate (free - start) true ++ false ∷ a.1)) m false) inside
-              ∙ get_or-append-add a.0 (replicate (free - start) true ++ false ∷ a.1) (k - start) false
-              ∙ get_or_append_left (replicate (free - start) true) (false ∷ a.1) false (k - start) (omega arith)
-              ∙ get_or-replicate (free - start) (k - start) true false (omega arith) in
-          false≢true (sym none ∙ set);
+            let inside : k ≡ length a.0 + (k - start) = omega (arith, a.2) in
+            let set : get_or used k false ≡ true =
+            ap (λ (s : List Bool). get_or s k false) all
+            ∙ ap (λ m. get_or (a.0 ++ (replicate (free - start) true ++ false ∷ a.1)) m false) inside
+            ∙ get_or-append-add a.0 (replicate (free - start) true ++ false ∷ a.1) (k - start) false
+            ∙ get_or_append_left (replicate (free - start) true) (false ∷ a.1) false (k - start) (omega arith)
+            ∙ get_or-replicate (free - start) (k - start) true false (omega arith) in
+            false≢true (sym none ∙ set);
       }
 
   -- the used cells once the run has one cell more
@@ -138,21 +142,21 @@ module _ (n q : ℕ) (t : List ℕ) (before after : List (ℕ × List ℕ)) (roo
       let gap = free - (start + length t) in
       let up : first_free (start + length t) (reshaped used_text after) ≡ free = free-reshaped used_text length_used_text (start + length t) after in
       let tail : cells_from false n (start + length s) (reshaped used_text after) ≡ replicate gap true ++ a.1 =
-          ap (λ k. cells_from false n k (reshaped used_text after)) (let e : start + length s ≡ suc (start + length t) = omega arith in e)
-          ∙ pushed false n (start + length t) (reshaped used_text after) (omega arith)
-          ∙ ap (λ (c : List Bool). remove c (first_free (start + length t) (reshaped used_text after) - (start + length t))) a.4
-          ∙ ap (λ k. remove (replicate gap true ++ false ∷ a.1) (k - (start + length t))) up
-          ∙ remove-append_right (replicate gap true) (false ∷ a.1) gap gap (length-replicate gap true) (omega arith)
-          ∙ ap (λ k. replicate gap true ++ remove (false ∷ a.1) k) (let e : gap - gap ≡ 0 = omega arith in e) in
+      ap (λ k. cells_from false n k (reshaped used_text after)) (let e : start + length s ≡ suc (start + length t) = omega arith in e)
+      ∙ pushed false n (start + length t) (reshaped used_text after) (omega arith)
+      ∙ ap (λ (c : List Bool). remove c (first_free (start + length t) (reshaped used_text after) - (start + length t))) a.4
+      ∙ ap (λ k. remove (replicate gap true ++ false ∷ a.1) (k - (start + length t))) up
+      ∙ remove-append_right (replicate gap true) (false ∷ a.1) gap gap (length-replicate gap true) (omega arith)
+      ∙ ap (λ k. replicate gap true ++ remove (false ∷ a.1) k) (let e : gap - gap ≡ 0 = omega arith in e) in
       let new : cells false n (reshaped used_text (before ++ (q, s) ∷ after)) ≡ front ++ (used_text (length s) ++ (replicate gap true ++ a.1)) =
-          ap (cells false n) (reshaped-append used_text length_used_text before q s after)
-          ∙ cells_at false n q (used_text (length s)) (reshaped used_text before) (reshaped used_text after)
-          ∙ ap (λ k. front ++ (used_text (length s) ++ cells_from false n k (reshaped used_text after))) (let e : start_of false q (reshaped used_text before) + length (used_text (length s)) ≡ start + length s = omega (arith, length_used_text (length s)) in e)
-          ∙ ap (λ (c : List Bool). front ++ (used_text (length s) ++ c)) tail in
+      ap (cells false n) (reshaped-append used_text length_used_text before q s after)
+      ∙ cells_at false n q (used_text (length s)) (reshaped used_text before) (reshaped used_text after)
+      ∙ ap (λ k. front ++ (used_text (length s) ++ cells_from false n k (reshaped used_text after))) (let e : start_of false q (reshaped used_text before) + length (used_text (length s)) ≡ start + length s = omega (arith, length_used_text (length s)) in e)
+      ∙ ap (λ (c : List Bool). front ++ (used_text (length s) ++ c)) tail in
       let marks : used_text (length s) ++ (replicate gap true ++ a.1) ≡ replicate (free - start) true ++ true ∷ a.1 =
-          sym (append_assoc (used_text (length s)) (replicate gap true) a.1)
-          ∙ ap (λ (c : List Bool). c ++ a.1) (replicate-append-replicate (length s) gap true ∙ ap (λ m. replicate m true) (let e : length s + gap ≡ free - start + 1 = omega arith in e) ∙ sym (replicate_more (free - start) true))
-          ∙ append_assoc (replicate (free - start) true) (true ∷ []) a.1 in
+      sym (append_assoc (used_text (length s)) (replicate gap true) a.1)
+      ∙ ap (λ (c : List Bool). c ++ a.1) (replicate-append-replicate (length s) gap true ∙ ap (λ m. replicate m true) (let e : length s + gap ≡ free - start + 1 = omega arith in e) ∙ sym (replicate_more (free - start) true))
+      ∙ append_assoc (replicate (free - start) true) (true ∷ []) a.1 in
       ap (λ (c : List Bool). set c free true) (is ∙ a.3 ∙ sym (append_assoc front (replicate (free - start) true) (false ∷ a.1)))
       ∙ set_at (front ++ replicate (free - start) true) false a.1 true free (omega (arith, length-append front (replicate (free - start) true), length-replicate (free - start) true, a.2))
       ∙ append_assoc front (replicate (free - start) true) (true ∷ a.1)
@@ -170,7 +174,7 @@ raised_spill n homes q t s before after spill raised spill_long was around longe
       | inl behind ↦ elim (cases_lt (first_free (max (stop 0 before) q + length t) after) g) [
         | inl beyond ↦ r.above g (omega arith) ∙ old ∙ sym (spill_beyond q t s before after around.below longer g behind beyond)
         | inr reached ↦ r.inside g (omega arith) (omega arith) (omega arith) ∙ ap (λ e. e + 1) old ∙ sym (spill_within q t s before after around.below longer g behind reached)
-        ]
+      ]
     ]
 
 -- the ends of a run that has one cell more: a mark moves on, or comes in
@@ -195,7 +199,7 @@ module _ (n q : ℕ) (u w : List ℕ) (v : ℕ) (before after : List (ℕ × Lis
       let marks_long : length marks ≡ length (u ++ w) = ap (λ (s : List Bool). length s) (sym old) ∙ length_ends_of (length (u ++ w)) in
       let start_same : start_of false q (reshaped ends_of before) + length marks ≡ home + length (u ++ w) = omega arith in
       let free_same : first_free (start_of false q (reshaped ends_of before) + length marks) (reshaped ends_of after) ≡ place =
-          ap (λ m. first_free m (reshaped ends_of after)) start_same ∙ free-reshaped ends_of length_ends_of (home + length (u ++ w)) after in
+      ap (λ m. first_free m (reshaped ends_of after)) start_same ∙ free-reshaped ends_of length_ends_of (home + length (u ++ w)) after in
       let grown = grown_cells false n q false (replicate j false) (replicate (k - j) false ++ true ∷ []) (reshaped ends_of before) (reshaped ends_of after) (omega arith) in
       ap (λ (s : List Bool). gapped s (home + j) place) (is ∙ ap (cells false n) (reshaped-append ends_of length_ends_of before q (u ++ w) after) ∙ ap (λ (s : List Bool). cells false n (reshaped ends_of before ++ (q, s) ∷ reshaped ends_of after)) old)
       ∙ ap (λ m. gapped (cells false n (reshaped ends_of before ++ (q, marks) ∷ reshaped ends_of after)) m place) (let e : home + j ≡ start_of false q (reshaped ends_of before) + length (replicate j false) = omega arith in e)

@@ -56,7 +56,7 @@ from_zero x (p ∷ ps) h = (omega arith, h.1, h.2)
 
 run_at : (homes q x : ℕ) (before : Runs) (r : ℕ × List (ℕ × ℕ)) (after : Runs) → RunsAscend homes q x (before ++ r ∷ after) → RunAt homes r after
 run_at homes q x [] r after h = record {
-  ascend = elim (h.0) [ | inl a ↦ a.1 | inr a ↦ from_zero x r.1 a.1 ];
+  ascend = elim (h.0) [ inl a ↦ a.1 | inr a ↦ from_zero x r.1 a.1 ];
   some = h.2;
   above = runs_homes homes (r.0 + 1) 0 after h.3;
   within = h.1;
@@ -162,30 +162,33 @@ module _ (pieces : List Piece) (quotient_bits width events room : ℕ) (slots : 
     where
       long : length occupied ≡ 2 ^ quotient_bits
       long = occupied_long pieces quotient_bits width events room slots occupied ends used spill k
+
       absent : (after : Runs) → by_quotient width pieces ≡ b.before ++ after → HomesAscend (home + 1) (2 ^ quotient_bits) after → get_or occupied home false ≡ false
       absent after split above =
           ap (λ (t : List Bool). get_or t home false) (k.occupied_is ∙ ap (homes_from (2 ^ quotient_bits) 0) split)
           ∙ ap (λ i. get_or (homes_from (2 ^ quotient_bits) 0 (b.before ++ after)) i false) (let e : home ≡ home - 0 = omega arith in e)
           ∙ home_lacks (2 ^ quotient_bits) 0 home b.before after (omega arith) (let w = f.within in omega (arith, long)) (subst (λ (t : Runs). HomesAscend 0 (2 ^ quotient_bits) t) split homes_are)
-              (below_more c.next home b.before f.behind b.below) above
+          (below_more c.next home b.before f.behind b.below) above
+
       there : (r : ℕ × List (ℕ × ℕ)) (after : Runs) → by_quotient width pieces ≡ b.before ++ r ∷ after → c.next ≤ r.0 → get_or occupied r.0 false ≡ true
       there r after split low =
           ap (λ (t : List Bool). get_or t r.0 false) (k.occupied_is ∙ ap (homes_from (2 ^ quotient_bits) 0) split)
           ∙ ap (λ i. get_or (homes_from (2 ^ quotient_bits) 0 (b.before ++ r ∷ after)) i false) (let e : r.0 ≡ r.0 - 0 = omega arith in e)
           ∙ home_holds (2 ^ quotient_bits) 0 r.0 b.before r.1 after (omega arith) (subst (λ (t : Runs). HomesAscend 0 (2 ^ quotient_bits) t) split homes_are) (below_more c.next r.0 b.before low b.below)
+
       go : (after : Runs) → by_quotient width pieces ≡ b.before ++ after → HomesAscend c.next (2 ^ quotient_bits) after → drop c.given pieces ≡ pieces_of width after → NextRun c home
       go [] split above left_is = absurd (true≢false (sym f.found ∙ absent [] split tt))
       go (r ∷ after) split above left_is =
           elim (cases_order r.0 home) [
             | inl same ↦ (let split_here : by_quotient width pieces ≡ b.before ++ (home, r.1) ∷ after = split ∙ ap (λ q. b.before ++ (q, r.1) ∷ after) same in record {
-                before = b.before;
-                pairs = r.1;
-                after = after;
-                split = split_here;
-                below = below_more c.next home b.before f.behind b.below;
-                is = run_at (2 ^ quotient_bits) 0 0 b.before (home, r.1) after (subst (λ (t : Runs). RunsAscend (2 ^ quotient_bits) 0 0 t) split_here ascends);
-                left_is = left_is ∙ ap (λ q. pieces_at width q r.1 ++ pieces_of width after) same;
-              })
+              before = b.before;
+              pairs = r.1;
+              after = after;
+              split = split_here;
+              below = below_more c.next home b.before f.behind b.below;
+              is = run_at (2 ^ quotient_bits) 0 0 b.before (home, r.1) after (subst (λ (t : Runs). RunsAscend (2 ^ quotient_bits) 0 0 t) split_here ascends);
+              left_is = left_is ∙ ap (λ q. pieces_at width q r.1 ++ pieces_of width after) same;
+            })
             | inr (inl less) ↦ absurd (f.others r.0 above.0 less (there r after split above.0))
             | inr (inr more) ↦ absurd (true≢false (sym f.found ∙ absent (r ∷ after) split (omega arith, above.1, above.2)))
           ]
@@ -201,7 +204,7 @@ module _ (pieces : List Piece) (quotient_bits width events room : ℕ) (slots : 
     pub run_stands : StandsAt home (home + get_or spill home 0) (home + 1 + get_or spill (home + 1) 0) (run_text width n.pairs) slots (texts width n.before)
     run_stands =
         stands_at (slot_count quotient_bits room) (2 ^ quotient_bits) home (run_text width n.pairs) (texts width n.before) (texts width n.after) slots ends used spill run_around run_long
-          (subst (λ (t : List (ℕ × List ℕ)). IsSpread (slot_count quotient_bits room) (2 ^ quotient_bits) t slots ends used spill) (ap (texts width) n.split ∙ texts-split width home n.before n.pairs n.after) (k.stand).spread)
+        (subst (λ (t : List (ℕ × List ℕ)). IsSpread (slot_count quotient_bits room) (2 ^ quotient_bits) t slots ends used spill) (ap (texts width) n.split ∙ texts-split width home n.before n.pairs n.after) (k.stand).spread)
 
     pub entered : (at end : ℕ) → at ≡ home + get_or spill home 0 → end ≡ home + 1 + get_or spill (home + 1) 0
         → IsInRun seen (record { next = home + 1; at = at; end = end; given = c.given }) × (at < end)
@@ -209,23 +212,25 @@ module _ (pieces : List Piece) (quotient_bits width events room : ℕ) (slots : 
         let s = run_stands in
         let start = s.start_is in
         let stop_is = s.end_is in
-        let some = run_long in
-        (record {
-          before = n.before;
-          quotient = home;
-          done = [];
-          rest = n.pairs;
-          after = n.after;
-          split = n.split;
-          below = n.below;
-          above = (n.is).above;
-          within = (n.is).within;
-          ascend = (n.is).ascend;
-          next_is = refl;
-          at_is = omega arith;
-          end_is = omega arith;
-          left_is = n.left_is;
-        }, omega arith)
+        let some = run_long in (
+          record {
+            before = n.before;
+            quotient = home;
+            done = [];
+            rest = n.pairs;
+            after = n.after;
+            split = n.split;
+            below = n.below;
+            above = (n.is).above;
+            within = (n.is).within;
+            ascend = (n.is).ascend;
+            next_is = refl;
+            at_is = omega arith;
+            end_is = omega arith;
+            left_is = n.left_is;
+          },
+          omega arith,
+        )
 
   -- the next pair of the run that a cursor stands in
   pub record NextPair (c : CqfCursor) (i : IsInRun seen c) : Type 0 where
@@ -244,6 +249,7 @@ module _ (pieces : List Piece) (quotient_bits width events room : ℕ) (slots : 
     where
       start : ℕ
       start = max (stop 0 (texts width i.before)) i.quotient
+
       go : (rest : List (ℕ × ℕ)) → i.rest ≡ rest → NextPair c i
       go [] is = absurd (
           let at = i.at_is in
@@ -257,12 +263,12 @@ module _ (pieces : List Piece) (quotient_bits width events room : ℕ) (slots : 
           let n = slot_count quotient_bits room in
           let all : run_text width (i.done ++ i.rest) ≡ done ++ rest = ap (λ (t : List (ℕ × ℕ)). run_text width (i.done ++ t)) is ∙ run_text-append width i.done (p ∷ back) in
           let cells_are : slots ≡ cells 0 n (texts width i.before ++ (i.quotient, done ++ rest) ∷ texts width i.after) =
-              ((k.stand).spread).slots_are ∙ ap (λ (t : Runs). cells 0 n (texts width t)) i.split ∙ ap (cells 0 n) (texts-split width i.quotient i.before (i.done ++ i.rest) i.after)
-              ∙ ap (λ (t : List ℕ). cells 0 n (texts width i.before ++ (i.quotient, t) ∷ texts width i.after)) all in
+          ((k.stand).spread).slots_are ∙ ap (λ (t : Runs). cells 0 n (texts width t)) i.split ∙ ap (cells 0 n) (texts-split width i.quotient i.before (i.done ++ i.rest) i.after)
+          ∙ ap (λ (t : List ℕ). cells 0 n (texts width i.before ++ (i.quotient, t) ∷ texts width i.after)) all in
           let tail = cells_from 0 n (start + length (done ++ rest)) (texts width i.after) in
           let whole : slots ≡ (front ++ done) ++ (rest ++ tail) =
-              cells_are ∙ cells_at 0 n i.quotient (done ++ rest) (texts width i.before) (texts width i.after)
-              ∙ ap (λ (t : List ℕ). front ++ t) (append_assoc done rest tail) ∙ sym (append_assoc front done (rest ++ tail)) in
+          cells_are ∙ cells_at 0 n i.quotient (done ++ rest) (texts width i.before) (texts width i.after)
+          ∙ ap (λ (t : List ℕ). front ++ t) (append_assoc done rest tail) ∙ sym (append_assoc front done (rest ++ tail)) in
           let front_long = length_front 0 i.quotient (texts width i.before) in
           let both = length-append front done in
           let at = i.at_is in
@@ -304,7 +310,7 @@ module _ (pieces : List Piece) (quotient_bits width events room : ℕ) (slots : 
         let word = tail_word in
         let home : (c.next - 1) * 2 ^ width ≡ i.quotient * 2 ^ width = ap (λ q. q * 2 ^ width) (let e = i.next_is in omega arith) in
         let small : i.quotient * 2 ^ width % 2 ^ 64 ≡ i.quotient * 2 ^ width = (let e : 0 * 2 ^ 64 + i.quotient * 2 ^ width ≡ i.quotient * 2 ^ width = omega arith in
-            ap (λ j. j % 2 ^ 64) (sym e) ∙ mod-mul-add 0 (2 ^ 64) (i.quotient * 2 ^ width) (omega arith)) in
+        ap (λ j. j % 2 ^ 64) (sym e) ∙ mod-mul-add 0 (2 ^ 64) (i.quotient * 2 ^ width) (omega arith)) in
         ap (λ j. j % 2 ^ 64 + x) home ∙ ap (λ j. j + x) small ∙ ap (λ j. i.quotient * 2 ^ width + j) is
 
     left_next : drop (c.given + 1) pieces ≡ pieces_at width i.quotient n.back ++ pieces_of width i.after

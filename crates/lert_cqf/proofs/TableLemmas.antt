@@ -58,7 +58,7 @@ module _ (pieces : List Piece) (quotient_bits width events room : ℕ) (slots : 
   pub runs_ascend : RunsAscend homes 0 0 runs
   runs_ascend =
       subst (λ a. RunsAscend homes a 0 runs) (zero_div width)
-        (subst (λ b. RunsAscend homes (0 / 2 ^ width) b runs) (zero_mod width) (by_quotient-ascends width homes 0 pieces k.ascend few_more))
+      (subst (λ b. RunsAscend homes (0 / 2 ^ width) b runs) (zero_mod width) (by_quotient-ascends width homes 0 pieces k.ascend few_more))
 
   pub homes_ascend : HomesAscend 0 homes runs
   homes_ascend = runs_homes homes 0 0 runs runs_ascend
@@ -84,21 +84,21 @@ module _ (pieces : List Piece) (quotient_bits width events room : ℕ) (slots : 
 
   pub held : (q : ℕ) → q < homes → get_or occupied q false ≡ true → Holds homes q runs
   held q within is = elim (find_quotient homes 0 0 q runs runs_ascend) [
-      | inl h ↦ h
-      | inr l ↦ absurd (true≢false (sym is ∙ lacked q within l))
-    ]
+    | inl h ↦ h
+    | inr l ↦ absurd (true≢false (sym is ∙ lacked q within l))
+  ]
 
   pub not_held : (q : ℕ) → get_or occupied q false ≡ false → Lacks homes q runs
   not_held q is = elim (find_quotient homes 0 0 q runs runs_ascend) [
-      | inl h ↦ absurd (true≢false (sym (was_held q h) ∙ is))
-      | inr l ↦ l
-    ]
+    | inl h ↦ absurd (true≢false (sym (was_held q h) ∙ is))
+    | inr l ↦ l
+  ]
 
   pub beyond : (q : ℕ) → homes ≤ q → Lacks homes q runs
   beyond q out = elim (find_quotient homes 0 0 q runs runs_ascend) [
-      | inl h ↦ absurd (let w = h.within in omega arith)
-      | inr l ↦ l
-    ]
+    | inl h ↦ absurd (let w = h.within in omega arith)
+    | inr l ↦ l
+  ]
 
   pub count_is : (tail : ℕ) → count_of pieces tail ≡ count_runs runs (tail / 2 ^ width) (tail % 2 ^ width)
   count_is tail = count_by_quotient width homes 0 pieces tail k.ascend few_more
@@ -226,18 +226,18 @@ module _ (pieces : List Piece) (quotient_bits width events room : ℕ) (slots : 
         → IsKept (plus pieces tail n) quotient_bits width (events + n) room slots' occupied' ends' used' spill'
     kept_grown h slots' occupied' ends' used' spill' stand same =
         next_kept slots' occupied' ends' used' spill' (h.before ++ (home, pairs_plus h.pairs rest n) ∷ h.after) (h.plus rest n)
-          (subst (λ (t : List (ℕ × List ℕ)). Stand places homes t slots' ends' used' spill') (sym (texts-split width home h.before (pairs_plus h.pairs rest n) h.after)) stand)
-          (same ∙ k.occupied_is ∙ ap (homes_from homes 0) h.split ∙ homes_alike homes 0 home h.before h.pairs (pairs_plus h.pairs rest n) h.after)
+        (subst (λ (t : List (ℕ × List ℕ)). Stand places homes t slots' ends' used' spill') (sym (texts-split width home h.before (pairs_plus h.pairs rest n) h.after)) stand)
+        (same ∙ k.occupied_is ∙ ap (homes_from homes 0) h.split ∙ homes_alike homes 0 home h.before h.pairs (pairs_plus h.pairs rest n) h.after)
 
     pub kept_begun : (l : Lacks homes home runs) (slots' : List ℕ) (occupied' ends' used' : List Bool) (spill' : List ℕ)
         → Stand places homes (texts width l.before ++ (home, run_text width ((rest, n) ∷ [])) ∷ texts width l.after) slots' ends' used' spill' → occupied' ≡ set occupied home true
         → IsKept (plus pieces tail n) quotient_bits width (events + n) room slots' occupied' ends' used' spill'
     kept_begun l slots' occupied' ends' used' spill' stand now =
         next_kept slots' occupied' ends' used' spill' (l.before ++ (home, (rest, n) ∷ []) ∷ l.after) (l.plus rest n)
-          (subst (λ (t : List (ℕ × List ℕ)). Stand places homes t slots' ends' used' spill') (sym (texts-split width home l.before ((rest, n) ∷ []) l.after)) stand)
-          (now ∙ ap (λ (t : List Bool). set t home true) (k.occupied_is ∙ ap (homes_from homes 0) l.split)
-            ∙ ap (λ i. set (homes_from homes 0 (l.before ++ l.after)) i true) (minus_zero home)
-            ∙ home_set homes 0 home l.before ((rest, n) ∷ []) l.after (omega arith) put_within (subst (λ (t : Runs). HomesAscend 0 homes t) l.split homes_ascend) l.below l.above)
+        (subst (λ (t : List (ℕ × List ℕ)). Stand places homes t slots' ends' used' spill') (sym (texts-split width home l.before ((rest, n) ∷ []) l.after)) stand)
+        (now ∙ ap (λ (t : List Bool). set t home true) (k.occupied_is ∙ ap (homes_from homes 0) l.split)
+        ∙ ap (λ i. set (homes_from homes 0 (l.before ++ l.after)) i true) (minus_zero home)
+        ∙ home_set homes 0 home l.before ((rest, n) ∷ []) l.after (omega arith) put_within (subst (λ (t : Runs). HomesAscend 0 homes t) l.split homes_ascend) l.below l.above)
 
 -- one more add
 pub built_more : (adds : List Piece) (tail n : ℕ) → built (adds ++ record { tail = tail; count = n } ∷ []) ≡ plus (built adds) tail n

@@ -41,7 +41,7 @@ slots_of quotient_bits width events table = cells 0 (slot_count quotient_bits ev
 
 abbrev pub run_ends_of : ℕ → ℕ → ℕ → List Piece → List Bool
 run_ends_of quotient_bits width events table =
-  cells false (slot_count quotient_bits events) (marked_ends (texts width (by_quotient width table)))
+    cells false (slot_count quotient_bits events) (marked_ends (texts width (by_quotient width table)))
 
 abbrev pub occupied_of : ℕ → ℕ → List Piece → List Bool
 occupied_of quotient_bits width table = homes_from (2 ^ quotient_bits) 0 (by_quotient width table)

@@ -99,7 +99,7 @@ impl Rows {
             → self.new.used ≡ slice_set self.old.used f true }
         ensures spill { (f : ℕ) → IsFirst false self.old.used place f
             → IsRaised self.old.spill.items self.new.spill.items (home + 1)
-                (min f (length self.old.spill.items - 1)) }
+            (min f (length self.old.spill.items - 1)) }
         ensures occupied { self.new.occupied ≡ self.old.occupied }
     {
         let Some(free) = self.used.next_false(place) else {
@@ -109,7 +109,11 @@ impl Rows {
         self.run_ends.open_gap(mark, free);
         self.used.set(free, true);
         let last_home = self.spill.len() - 1;
-        raise(&mut self.spill, home as usize + 1, last_home.min(free as usize));
+        raise(
+            &mut self.spill,
+            home as usize + 1,
+            last_home.min(free as usize),
+        );
     }
 
     /// Makes room for `extra` slots at `place` in the run of `home`, whose last slot is `last`.
@@ -117,9 +121,9 @@ impl Rows {
         requires { (n : ℕ) × (homes : ℕ) × IsOpening n homes home place last extra
             self.old.slots.items self.old.run_ends self.old.used self.old.spill.items }
         ensures widened { (n homes : ℕ) (o : IsOpening n homes home place last extra
-                self.old.slots.items self.old.run_ends self.old.used self.old.spill.items)
+            self.old.slots.items self.old.run_ends self.old.used self.old.spill.items)
             → IsWidened n homes home extra o.before o.after o.front o.back
-                self.new.slots.items self.new.run_ends self.new.used self.new.spill.items }
+            self.new.slots.items self.new.run_ends self.new.used self.new.spill.items }
         ensures occupied { self.new.occupied ≡ self.old.occupied }
     {
         for count in 0..extra {
@@ -133,9 +137,9 @@ impl Rows {
             self.old.slots.items self.old.run_ends self.old.used self.old.spill.items }
         requires occupied { home < length self.old.occupied }
         ensures begun { (n homes : ℕ) (b : IsBeginning n homes width home x count
-                self.old.slots.items self.old.run_ends self.old.used self.old.spill.items)
+            self.old.slots.items self.old.run_ends self.old.used self.old.spill.items)
             → HasBegun n homes home b.before b.after
-                self.new.slots.items self.new.run_ends self.new.used self.new.spill.items }
+            self.new.slots.items self.new.run_ends self.new.used self.new.spill.items }
         ensures occupied { self.new.occupied ≡ slice_set self.old.occupied home true }
     {
         let place = self.start(home);
@@ -152,9 +156,9 @@ impl Rows {
             self.old.slots.items self.old.run_ends self.old.used self.old.spill.items }
         requires occupied { home < length self.old.occupied }
         ensures stand { (n homes : ℕ) (b : IsBeginning n homes width home x count
-                self.old.slots.items self.old.run_ends self.old.used self.old.spill.items)
+            self.old.slots.items self.old.run_ends self.old.used self.old.spill.items)
             → Stand n homes (b.before ++ (home, run_text width ((x, count) ∷ [])) ∷ b.after)
-                self.new.slots.items self.new.run_ends self.new.used self.new.spill.items }
+            self.new.slots.items self.new.run_ends self.new.used self.new.spill.items }
         ensures occupied { self.new.occupied ≡ slice_set self.old.occupied home true }
     {
         let start = self.start(home);
@@ -173,9 +177,9 @@ impl Rows {
         requires growing { (n : ℕ) × (homes : ℕ) × IsGrowing n homes width home x count
             self.old.slots.items self.old.run_ends self.old.used self.old.spill.items }
         ensures stand { (n homes : ℕ) (g : IsGrowing n homes width home x count
-                self.old.slots.items self.old.run_ends self.old.used self.old.spill.items)
+            self.old.slots.items self.old.run_ends self.old.used self.old.spill.items)
             → Stand n homes (g.before ++ (home, run_text width (pairs_plus g.pairs x count)) ∷ g.after)
-                self.new.slots.items self.new.run_ends self.new.used self.new.spill.items }
+            self.new.slots.items self.new.run_ends self.new.used self.new.spill.items }
         ensures occupied { self.new.occupied ≡ self.old.occupied }
     {
         let growth = grown(width, self.run(home), x, count);
@@ -189,14 +193,14 @@ impl Rows {
     pub fn put(&mut self, width: u32, home: u64, x: u64, n: u64)
         requires kept { (table : List Piece) × (quotient_bits : ℕ) × (events : ℕ) × (room : ℕ)
             × IsKept table quotient_bits width events room self.old.slots.items self.old.occupied
-                self.old.run_ends self.old.used self.old.spill.items
+            self.old.run_ends self.old.used self.old.spill.items
             × (tail : ℕ) × IsPutting table quotient_bits width room tail n home x }
         ensures { (table : List Piece) (quotient_bits events room tail : ℕ)
             → IsKept table quotient_bits width events room self.old.slots.items self.old.occupied
-                self.old.run_ends self.old.used self.old.spill.items
+            self.old.run_ends self.old.used self.old.spill.items
             → IsPutting table quotient_bits width room tail n home x
             → IsKept (plus table tail n) quotient_bits width (events + n) room self.new.slots.items self.new.occupied
-                self.new.run_ends self.new.used self.new.spill.items }
+            self.new.run_ends self.new.used self.new.spill.items }
     {
         if self.occupied.get(home) {
             self.grow_run(width, home, x, n);

@@ -6,8 +6,8 @@ ghost use Rattle.lert_cqf.specs.Standing.{Stands, IsInRun};
 
 use crate::cursor::CqfCursor;
 use crate::rows::Rows;
-use lert_counter::scan_group;
 use lert_base::CountTable;
+use lert_counter::scan_group;
 use lert_io::{OutOfMemory, Seen};
 use lert_runs::find;
 use lert_slotbits::Bits;
@@ -38,10 +38,10 @@ impl Model for Cqf {
     ghost Value = { Contents };
 
     ghost view = { λ t. record {
-        pieces = built t.added;
-        room = t.room;
-        quotient_bits = t.quotient_bits;
-        width = t.width;
+      pieces = built t.added;
+      room = t.room;
+      quotient_bits = t.quotient_bits;
+      width = t.width;
     } };
 
     ghost invariant = { λ t. IsKept (built t.added) t.quotient_bits t.width t.events t.room
@@ -116,7 +116,12 @@ impl CountTable for Cqf {
 
     ghost left = { λ t c. drop c.given t.pieces };
 
-    fn new(alloc: Global, quotient_bits: u32, width: u32, events: u64) -> Result<Self, OutOfMemory> {
+    fn new(
+        alloc: Global,
+        quotient_bits: u32,
+        width: u32,
+        events: u64,
+    ) -> Result<Self, OutOfMemory> {
         let homes = 1u64 << quotient_bits;
         let slots = homes + 2 * events;
         if slots >= TOO_MANY_SLOTS {

@@ -41,10 +41,12 @@ widen-requires c =
     let n = c.requires.beginning.0 in
     let homes = c.requires.beginning.1 in
     let start = c.start-start.ensures ∙ begin_start n homes c.args.width c.args.home c.args.x c.args.count _ _ _ _ b in
-    let extra = ap (λ k. k - 1) c.write_group-len.ensures.len in
-    ( n, homes
-    , begin_opening n homes c.args.width c.args.home c.args.x c.args.count _ _ _ _ b (c.start-start.result + 1) c.start-start.result (c.write_group-len.result - 1)
-        (ap (λ k. k + 1) start) start extra _ _ _ _ (c.begin_run.ensures.begun n homes b))
+    let extra = ap (λ k. k - 1) c.write_group-len.ensures.len in (
+      n,
+      homes,
+      begin_opening n homes c.args.width c.args.home c.args.x c.args.count _ _ _ _ b (c.start-start.result + 1) c.start-start.result (c.write_group-len.result - 1)
+          (ap (λ k. k + 1) start) start extra _ _ _ _ (c.begin_run.ensures.begun n homes b),
+    )
 
 pub overwrite-requires : goal.overwrite-requires
 overwrite-requires c =
@@ -55,7 +57,7 @@ overwrite-requires c =
     let extra = ap (λ k. k - 1) c.write_group-len.ensures.len in
     let h = c.begin_run.ensures.begun n homes b in
     let o = begin_opening n homes c.args.width c.args.home c.args.x c.args.count _ _ _ _ b (c.start-start.result + 1) c.start-start.result (c.write_group-len.result - 1)
-        (ap (λ k. k + 1) start) start extra _ _ _ _ h in
+    (ap (λ k. k + 1) start) start extra _ _ _ _ h in
     let w = c.widen.ensures.widened n homes o in
     let inside = text_within n c.args.home _ _ b.before b.after (w.spread).slots_are in
     let text = ap (λ (t : List ℕ). length t) c.write_group-len.ensures.front in
@@ -69,10 +71,10 @@ returns-clause-stand c = λ n homes b.
     let extra = ap (λ k. k - 1) c.write_group-len.ensures.len in
     let h = c.begin_run.ensures.begun n homes b in
     let o = begin_opening n homes c.args.width c.args.home c.args.x c.args.count _ _ _ _ b (c.start-start.result + 1) c.start-start.result (c.write_group-len.result - 1)
-        (ap (λ k. k + 1) start) start extra _ _ _ _ h in
+    (ap (λ k. k + 1) start) start extra _ _ _ _ h in
     let w = c.widen.ensures.widened n homes o in
     begin_written n homes c.args.width c.args.home c.args.x c.args.count _ _ _ _ b _ _ _ _ h (c.write_group-len.result - 1) extra _ _ _ _ _ w
-      (with_items_is c.widen.new.self.slots c.overwrite.new.slots (c.overwrite.auto.slots ∙ c.deref_mut.ensures.len)
-        ∙ c.overwrite.ensures
-        ∙ ap (λ (t : List ℕ). take c.start-start.result t ++ (take c.write_group-len.result c.write_group-len.new.into ++ drop (c.start-start.result + length (take c.write_group-len.result c.write_group-len.new.into)) t)) c.deref_mut.ensures.value
-        ∙ rw (c.write_group-len.ensures.front, start) refl)
+    (with_items_is c.widen.new.self.slots c.overwrite.new.slots (c.overwrite.auto.slots ∙ c.deref_mut.ensures.len)
+    ∙ c.overwrite.ensures
+    ∙ ap (λ (t : List ℕ). take c.start-start.result t ++ (take c.write_group-len.result c.write_group-len.new.into ++ drop (c.start-start.result + length (take c.write_group-len.result c.write_group-len.new.into)) t)) c.deref_mut.ensures.value
+    ∙ rw (c.write_group-len.ensures.front, start) refl)

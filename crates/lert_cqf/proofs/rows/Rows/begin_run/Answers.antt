@@ -33,9 +33,10 @@ open_slot-requires-clause-ends_long c =
 pub open_slot-requires-clause-free : goal.open_slot-requires-clause-free
 open_slot-requires-clause-free c =
     let b = c.requires.beginning.2 in
-    let place = c.start-place.ensures ∙ begin_start c.requires.beginning.0 c.requires.beginning.1 c.args.width c.args.home c.args.x c.args.count _ _ _ _ b in
-    ( begin_free c.requires.beginning.0 c.requires.beginning.1 c.args.width c.args.home c.args.x c.args.count _ _ _ _ b
-    , rw place (begin_first c.requires.beginning.0 c.requires.beginning.1 c.args.width c.args.home c.args.x c.args.count _ _ _ _ b))
+    let place = c.start-place.ensures ∙ begin_start c.requires.beginning.0 c.requires.beginning.1 c.args.width c.args.home c.args.x c.args.count _ _ _ _ b in (
+      begin_free c.requires.beginning.0 c.requires.beginning.1 c.args.width c.args.home c.args.x c.args.count _ _ _ _ b,
+      rw place (begin_first c.requires.beginning.0 c.requires.beginning.1 c.args.width c.args.home c.args.x c.args.count _ _ _ _ b),
+    )
 
 pub open_slot-requires-clause-room : goal.open_slot-requires-clause-room
 open_slot-requires-clause-room c =
@@ -63,6 +64,6 @@ returns-clause-begun c = λ n homes b.
     let place = c.start-place.ensures ∙ begin_start n homes c.args.width c.args.home c.args.x c.args.count _ _ _ _ b in
     let first : IsFirst false c.args.self.now.used c.start-place.result free = rw place (begin_first n homes c.args.width c.args.home c.args.x c.args.count _ _ _ _ b) in
     begun n homes c.args.width c.args.home c.args.x c.args.count _ _ _ _ b (get_or c.args.self.now.slots.items free 0) _ _ _ _
-      (rw place at (c.open_slot.ensures.slots free first))
-      (rw place at (c.set.ensures ∙ ap (λ (t : List Bool). set t c.start-place.result true) (c.open_slot.ensures.run_ends free first)))
-      (c.open_slot.ensures.used free first) (c.open_slot.ensures.spill free first)
+    (rw place at (c.open_slot.ensures.slots free first))
+    (rw place at (c.set.ensures ∙ ap (λ (t : List Bool). set t c.start-place.result true) (c.open_slot.ensures.run_ends free first)))
+    (c.open_slot.ensures.used free first) (c.open_slot.ensures.spill free first)

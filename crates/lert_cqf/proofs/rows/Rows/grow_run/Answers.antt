@@ -83,11 +83,13 @@ pub widen-requires : goal.widen-requires
 widen-requires c =
     let g = c.requires.growing.2 in
     let bounds = grow_bounds c.requires.growing.0 c.requires.growing.1 c.args.width c.args.home c.args.x c.args.count _ _ _ _ g in
-    let is = grow_of c.requires.growing.0 c.requires.growing.1 c.args.width c.args.home c.args.x c.args.count _ _ _ _ g c.run.result.now c.grown-growth.result (c.run.ensures ∙ bounds.slice) c.grown-growth.ensures in
-    ( c.requires.growing.0, c.requires.growing.1
-    , grow_opening c.requires.growing.0 c.requires.growing.1 c.args.width c.args.home c.args.x c.args.count _ _ _ _ g c.grown-growth.result is
-        (c.start.result + c.grown-growth.result.start + c.grown-growth.result.old) (c.start-last.result - 1)
-        (ap (λ k. k + c.grown-growth.result.start + c.grown-growth.result.old) c.start.ensures) (omega (arith, c.start-last.ensures)))
+    let is = grow_of c.requires.growing.0 c.requires.growing.1 c.args.width c.args.home c.args.x c.args.count _ _ _ _ g c.run.result.now c.grown-growth.result (c.run.ensures ∙ bounds.slice) c.grown-growth.ensures in (
+      c.requires.growing.0,
+      c.requires.growing.1,
+      grow_opening c.requires.growing.0 c.requires.growing.1 c.args.width c.args.home c.args.x c.args.count _ _ _ _ g c.grown-growth.result is
+          (c.start.result + c.grown-growth.result.start + c.grown-growth.result.old) (c.start-last.result - 1)
+          (ap (λ k. k + c.grown-growth.result.start + c.grown-growth.result.old) c.start.ensures) (omega (arith, c.start-last.ensures)),
+    )
 
 pub shared_ref_as_front-overwrite : goal.shared_ref_as_front-overwrite
 shared_ref_as_front-overwrite c =
@@ -104,8 +106,8 @@ overwrite-requires c =
     let n = c.requires.growing.0 in
     let homes = c.requires.growing.1 in
     let o = grow_opening n homes c.args.width c.args.home c.args.x c.args.count _ _ _ _ g c.grown-growth.result is
-        (c.start.result + c.grown-growth.result.start + c.grown-growth.result.old) (c.start-last.result - 1)
-        (ap (λ k. k + c.grown-growth.result.start + c.grown-growth.result.old) c.start.ensures) (omega (arith, c.start-last.ensures)) in
+    (c.start.result + c.grown-growth.result.start + c.grown-growth.result.old) (c.start-last.result - 1)
+    (ap (λ k. k + c.grown-growth.result.start + c.grown-growth.result.old) c.start.ensures) (omega (arith, c.start-last.ensures)) in
     let w = c.widen.ensures.widened n homes o in
     let slots_long = (w.lengths).slots_long in
     let long = ap (λ (t : List ℕ). length t) c.deref_mut.ensures.value in
@@ -113,19 +115,28 @@ overwrite-requires c =
     let stands = (grow_stands n homes c.args.width c.args.home c.args.x c.args.count _ _ _ _ g).start_is in
     let text_run = run n homes c.args.width c.args.home c.args.x c.args.count _ _ _ _ g in
     let inside = text_within n c.args.home _ _ g.before g.after (w.spread).slots_are in
-    omega (arith, c.start.ensures, is.within, is.longer, w.added_long, length-append (take (c.grown-growth.result.start + c.grown-growth.result.old) text_run) (w.added ++ drop (c.grown-growth.result.start + c.grown-growth.result.old) text_run),
-      length-append w.added (drop (c.grown-growth.result.start + c.grown-growth.result.old) text_run), length-take (c.grown-growth.result.start + c.grown-growth.result.old) text_run, length-drop (c.grown-growth.result.start + c.grown-growth.result.old) text_run)
+    omega (
+      arith,
+      c.start.ensures,
+      is.within,
+      is.longer,
+      w.added_long,
+      length-append (take (c.grown-growth.result.start + c.grown-growth.result.old) text_run) (w.added ++ drop (c.grown-growth.result.start + c.grown-growth.result.old) text_run),
+      length-append w.added (drop (c.grown-growth.result.start + c.grown-growth.result.old) text_run),
+      length-take (c.grown-growth.result.start + c.grown-growth.result.old) text_run,
+      length-drop (c.grown-growth.result.start + c.grown-growth.result.old) text_run,
+    )
 
 pub returns-clause-stand : goal.returns-clause-stand
 returns-clause-stand c = λ n homes g.
     let bounds = grow_bounds n homes c.args.width c.args.home c.args.x c.args.count _ _ _ _ g in
     let is = grow_of n homes c.args.width c.args.home c.args.x c.args.count _ _ _ _ g c.run.result.now c.grown-growth.result (c.run.ensures ∙ bounds.slice) c.grown-growth.ensures in
     let o = grow_opening n homes c.args.width c.args.home c.args.x c.args.count _ _ _ _ g c.grown-growth.result is
-        (c.start.result + c.grown-growth.result.start + c.grown-growth.result.old) (c.start-last.result - 1)
-        (ap (λ k. k + c.grown-growth.result.start + c.grown-growth.result.old) c.start.ensures) (omega (arith, c.start-last.ensures)) in
+    (c.start.result + c.grown-growth.result.start + c.grown-growth.result.old) (c.start-last.result - 1)
+    (ap (λ k. k + c.grown-growth.result.start + c.grown-growth.result.old) c.start.ensures) (omega (arith, c.start-last.ensures)) in
     let w = c.widen.ensures.widened n homes o in
     grow_written n homes c.args.width c.args.home c.args.x c.args.count _ _ _ _ g c.grown-growth.result is _ _ _ _ _ w (c.start.result + c.grown-growth.result.start)
-      (ap (λ k. k + c.grown-growth.result.start) c.start.ensures)
-      (with_items_is c.widen.new.self.slots c.overwrite.new.slots (c.overwrite.auto.slots ∙ c.deref_mut.ensures.len)
-        ∙ c.overwrite.ensures
-        ∙ ap (λ (t : List ℕ). take (c.start.result + c.grown-growth.result.start) t ++ (take c.grown-growth.result.len c.grown-growth.result.text ++ drop (c.start.result + c.grown-growth.result.start + length (take c.grown-growth.result.len c.grown-growth.result.text)) t)) c.deref_mut.ensures.value)
+    (ap (λ k. k + c.grown-growth.result.start) c.start.ensures)
+    (with_items_is c.widen.new.self.slots c.overwrite.new.slots (c.overwrite.auto.slots ∙ c.deref_mut.ensures.len)
+    ∙ c.overwrite.ensures
+    ∙ ap (λ (t : List ℕ). take (c.start.result + c.grown-growth.result.start) t ++ (take c.grown-growth.result.len c.grown-growth.result.text ++ drop (c.start.result + c.grown-growth.result.start + length (take c.grown-growth.result.len c.grown-growth.result.text)) t)) c.deref_mut.ensures.value)

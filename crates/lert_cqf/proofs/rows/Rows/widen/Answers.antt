@@ -42,9 +42,10 @@ open_slot-requires-clause-ends_long c =
 pub open_slot-requires-clause-free : goal.open_slot-requires-clause-free
 open_slot-requires-clause-free c =
     let o = c.requires.2 in
-    let w = c.loop-count.invariant.widened c.requires.0 c.requires.1 o in
-    ( free_place c.requires.0 c.requires.1 c.args.home c.args.place c.args.last c.args.extra c.loop-count.count _ _ _ _ o _ _ _ _ w c.loop-count-test.true
-    , free_first c.requires.0 c.requires.1 c.args.home c.args.place c.args.last c.args.extra c.loop-count.count _ _ _ _ o _ _ _ _ w c.loop-count-test.true)
+    let w = c.loop-count.invariant.widened c.requires.0 c.requires.1 o in (
+      free_place c.requires.0 c.requires.1 c.args.home c.args.place c.args.last c.args.extra c.loop-count.count _ _ _ _ o _ _ _ _ w c.loop-count-test.true,
+      free_first c.requires.0 c.requires.1 c.args.home c.args.place c.args.last c.args.extra c.loop-count.count _ _ _ _ o _ _ _ _ w c.loop-count-test.true,
+    )
 
 pub open_slot-requires-clause-room : goal.open_slot-requires-clause-room
 open_slot-requires-clause-room c =
@@ -55,11 +56,11 @@ open_slot-requires-clause-room c =
 pub loop-count-preserved : goal.loop-count-preserved
 loop-count-preserved c = record {
   widened = λ n homes o.
-    let w = c.loop-count.invariant.widened n homes o in
-    let free = free_place n homes c.args.home c.args.place c.args.last c.args.extra c.loop-count.count _ _ _ _ o _ _ _ _ w c.loop-count-test.true in
-    let first = free_first n homes c.args.home c.args.place c.args.last c.args.extra c.loop-count.count _ _ _ _ o _ _ _ _ w c.loop-count-test.true in
-    let mark = c.min.ensures in
-    opened n homes c.args.home c.args.place c.args.last c.args.extra c.loop-count.count _ _ _ _ o _ _ _ _ w c.loop-count-test.true
+      let w = c.loop-count.invariant.widened n homes o in
+      let free = free_place n homes c.args.home c.args.place c.args.last c.args.extra c.loop-count.count _ _ _ _ o _ _ _ _ w c.loop-count-test.true in
+      let first = free_first n homes c.args.home c.args.place c.args.last c.args.extra c.loop-count.count _ _ _ _ o _ _ _ _ w c.loop-count-test.true in
+      let mark = c.min.ensures in
+      opened n homes c.args.home c.args.place c.args.last c.args.extra c.loop-count.count _ _ _ _ o _ _ _ _ w c.loop-count-test.true
       (get_or c.loop-count.self.slots.items free 0) _ _ _ _
       (c.open_slot.ensures.slots free first) (rw (← mark) (c.open_slot.ensures.run_ends free first)) (c.open_slot.ensures.used free first) (c.open_slot.ensures.spill free first);
   occupied = c.open_slot.ensures.occupied ∙ c.loop-count.invariant.occupied;

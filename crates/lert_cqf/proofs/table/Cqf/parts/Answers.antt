@@ -6,4 +6,4 @@ pub returns-clause-remainder : goal.returns-clause-remainder
 returns-clause-remainder c =
     let most = (c.self.invariant.limits).most_width in
     ap (λ n. bit_and c.args.tail (n - 1)) (one_shl c.self.inside.width 64 (omega arith)) ∙ and_mask c.args.tail c.self.inside.width
-      ∙ ap (λ (t : _). c.args.tail % 2 ^ t.width) c.self.view_is
+    ∙ ap (λ (t : _). c.args.tail % 2 ^ t.width) c.self.view_is

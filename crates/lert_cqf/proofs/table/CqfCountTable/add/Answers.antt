@@ -18,5 +18,5 @@ invariant_of-self c =
     } in
     let more : built c.push.new.self ≡ plus (built c.self.inside.added) c.args.tail c.args.n = ap built c.push.ensures ∙ built_more c.self.inside.added c.args.tail c.args.n in
     subst (λ (t : List Piece). IsKept t c.self.inside.quotient_bits c.self.inside.width (c.self.inside.events + c.args.n) c.self.inside.room c.put.new.self.slots.items c.put.new.self.occupied c.put.new.self.run_ends c.put.new.self.used c.put.new.self.spill.items)
-      (sym more)
-      (c.put.ensures (built c.self.inside.added) c.self.inside.quotient_bits c.self.inside.events c.self.inside.room c.args.tail c.self.invariant putting)
+    (sym more)
+    (c.put.ensures (built c.self.inside.added) c.self.inside.quotient_bits c.self.inside.events c.self.inside.room c.args.tail c.self.invariant putting)

@@ -22,7 +22,7 @@ pub run-requires-clause-within : goal.run-requires-clause-within
 run-requires-clause-within c =
     let long = occupied_long _ _ _ _ _ _ _ _ _ _ c.self.invariant in
     let h = held _ _ _ _ _ _ _ _ _ _ c.self.invariant c.parts-home.result.0 (let low = c.if-home-len.false in let len = c.len.ensures in omega arith)
-        (get_or_from_slice_get c.self.inside.rows.occupied c.parts-home.result.0 true false c.if-not-get.ensures) in
+    (get_or_from_slice_get c.self.inside.rows.occupied c.parts-home.result.0 true false c.if-not-get.ensures) in
     let bounds = hold_bounds _ _ _ _ _ _ _ _ _ _ c.self.invariant c.parts-home.result.0 h in
     bounds.within
 
@@ -30,7 +30,7 @@ pub run-requires-clause-order : goal.run-requires-clause-order
 run-requires-clause-order c =
     let long = occupied_long _ _ _ _ _ _ _ _ _ _ c.self.invariant in
     let h = held _ _ _ _ _ _ _ _ _ _ c.self.invariant c.parts-home.result.0 (let low = c.if-home-len.false in let len = c.len.ensures in omega arith)
-        (get_or_from_slice_get c.self.inside.rows.occupied c.parts-home.result.0 true false c.if-not-get.ensures) in
+    (get_or_from_slice_get c.self.inside.rows.occupied c.parts-home.result.0 true false c.if-not-get.ensures) in
     let bounds = hold_bounds _ _ _ _ _ _ _ _ _ _ c.self.invariant c.parts-home.result.0 h in
     bounds.order
 
@@ -38,7 +38,7 @@ pub run-requires-clause-end : goal.run-requires-clause-end
 run-requires-clause-end c =
     let long = occupied_long _ _ _ _ _ _ _ _ _ _ c.self.invariant in
     let h = held _ _ _ _ _ _ _ _ _ _ c.self.invariant c.parts-home.result.0 (let low = c.if-home-len.false in let len = c.len.ensures in omega arith)
-        (get_or_from_slice_get c.self.inside.rows.occupied c.parts-home.result.0 true false c.if-not-get.ensures) in
+    (get_or_from_slice_get c.self.inside.rows.occupied c.parts-home.result.0 true false c.if-not-get.ensures) in
     let bounds = hold_bounds _ _ _ _ _ _ _ _ _ _ c.self.invariant c.parts-home.result.0 h in
     bounds.end
 
@@ -46,7 +46,7 @@ pub find-requires-clause-run_text : goal.find-requires-clause-run_text
 find-requires-clause-run_text c =
     let long = occupied_long _ _ _ _ _ _ _ _ _ _ c.self.invariant in
     let h = held _ _ _ _ _ _ _ _ _ _ c.self.invariant c.parts-home.result.0 (let low = c.if-home-len.false in let len = c.len.ensures in omega arith)
-        (get_or_from_slice_get c.self.inside.rows.occupied c.parts-home.result.0 true false c.if-not-get.ensures) in
+    (get_or_from_slice_get c.self.inside.rows.occupied c.parts-home.result.0 true false c.if-not-get.ensures) in
     let bounds = hold_bounds _ _ _ _ _ _ _ _ _ _ c.self.invariant c.parts-home.result.0 h in
     (h.pairs, record { ascend = h.ascend; text = c.run.ensures ∙ bounds.slice })
 
@@ -54,10 +54,10 @@ pub returns : goal.returns
 returns c =
     let long = occupied_long _ _ _ _ _ _ _ _ _ _ c.self.invariant in
     let h = held _ _ _ _ _ _ _ _ _ _ c.self.invariant c.parts-home.result.0 (let low = c.if-home-len.false in let len = c.len.ensures in omega arith)
-        (get_or_from_slice_get c.self.inside.rows.occupied c.parts-home.result.0 true false c.if-not-get.ensures) in
+    (get_or_from_slice_get c.self.inside.rows.occupied c.parts-home.result.0 true false c.if-not-get.ensures) in
     let bounds = hold_bounds _ _ _ _ _ _ _ _ _ _ c.self.invariant c.parts-home.result.0 h in
     let q_is = c.parts-home.ensures.quotient ∙ ap (λ (t : Contents). c.args.tail / 2 ^ t.width) (sym c.self.view_is) in
     let x_is = c.parts-home.ensures.remainder ∙ ap (λ (t : Contents). c.args.tail % 2 ^ t.width) (sym c.self.view_is) in
     (c.find.ensures h.pairs (record { ascend = h.ascend; text = c.run.ensures ∙ bounds.slice })).count
-      ∙ count_present _ _ _ _ _ _ _ _ _ _ c.self.invariant c.args.tail c.parts-home.result.0 c.parts-home.result.1 q_is x_is h
-      ∙ ap (λ (t : Contents). count_of t.pieces c.args.tail) c.self.view_is
+    ∙ count_present _ _ _ _ _ _ _ _ _ _ c.self.invariant c.args.tail c.parts-home.result.0 c.parts-home.result.1 q_is x_is h
+    ∙ ap (λ (t : Contents). count_of t.pieces c.args.tail) c.self.view_is

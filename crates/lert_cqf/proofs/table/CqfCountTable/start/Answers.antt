@@ -13,4 +13,4 @@ returns-clause-stands c =
 pub returns-clause-ascending : goal.returns-clause-ascending
 returns-clause-ascending c =
     subst (λ (t : Contents). IsTable (2 ^ (t.quotient_bits + t.width)) t.pieces) c.self.view_is
-      (subst (λ limit. AscendsFrom 0 limit (built c.self.inside.added)) (sym (pow-add 2 c.self.inside.quotient_bits c.self.inside.width)) c.self.invariant.ascend)
+    (subst (λ limit. AscendsFrom 0 limit (built c.self.inside.added)) (sym (pow-add 2 c.self.inside.quotient_bits c.self.inside.width)) c.self.invariant.ascend)

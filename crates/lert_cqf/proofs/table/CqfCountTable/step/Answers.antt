@@ -37,7 +37,7 @@ overflow_add-cursor c =
     let i = subst (λ (t : Contents). IsInRun t c.enter.new.cursor) (sym c.self.view_is) e.0 in
     let n = next_pair _ _ _ _ _ _ _ _ _ _ c.self.invariant c.enter.new.cursor i e.1 in
     let same : c.in-Some.group ≡ read_as c.self.inside.width (n.pair).0 (n.pair).1 =
-        cc (c.scan_group.ensures.there (n.pair).0 (n.pair).1 (run_text c.self.inside.width n.back) n.counts (c.part.ensures ∙ n.text) n.follows, c.in-Some.is) in
+    cc (c.scan_group.ensures.there (n.pair).0 (n.pair).1 (run_text c.self.inside.width n.back) n.counts (c.part.ensures ∙ n.text) n.follows, c.in-Some.is) in
     let used = ap (λ (g : Group). g.used) same in
     let x = ap (λ (g : Group). g.x) same in
     let lengths = ((c.self.invariant).stand).lengths in
@@ -57,7 +57,7 @@ overflow_add-result c =
     let i = subst (λ (t : Contents). IsInRun t c.enter.new.cursor) (sym c.self.view_is) e.0 in
     let n = next_pair _ _ _ _ _ _ _ _ _ _ c.self.invariant c.enter.new.cursor i e.1 in
     let same : c.in-Some.group ≡ read_as c.self.inside.width (n.pair).0 (n.pair).1 =
-        cc (c.scan_group.ensures.there (n.pair).0 (n.pair).1 (run_text c.self.inside.width n.back) n.counts (c.part.ensures ∙ n.text) n.follows, c.in-Some.is) in
+    cc (c.scan_group.ensures.there (n.pair).0 (n.pair).1 (run_text c.self.inside.width n.back) n.counts (c.part.ensures ∙ n.text) n.follows, c.in-Some.is) in
     let used = ap (λ (g : Group). g.used) same in
     let x = ap (λ (g : Group). g.x) same in
     let word = tail_word _ _ _ _ _ _ _ _ _ _ c.self.invariant c.enter.new.cursor i n in
@@ -70,12 +70,12 @@ returns-clause-stands c =
     let i = subst (λ (t : Contents). IsInRun t c.enter.new.cursor) (sym c.self.view_is) e.0 in
     let n = next_pair _ _ _ _ _ _ _ _ _ _ c.self.invariant c.enter.new.cursor i e.1 in
     let same : c.in-Some.group ≡ read_as c.self.inside.width (n.pair).0 (n.pair).1 =
-        cc (c.scan_group.ensures.there (n.pair).0 (n.pair).1 (run_text c.self.inside.width n.back) n.counts (c.part.ensures ∙ n.text) n.follows, c.in-Some.is) in
+    cc (c.scan_group.ensures.there (n.pair).0 (n.pair).1 (run_text c.self.inside.width n.back) n.counts (c.part.ensures ∙ n.text) n.follows, c.in-Some.is) in
     let used = ap (λ (g : Group). g.used) same in
     let x = ap (λ (g : Group). g.x) same in
     subst (λ (t : Contents). Stands t (record { next = c.enter.new.cursor.next; at = c.enter.new.cursor.at + c.in-Some.group.used; end = c.enter.new.cursor.end; given = c.enter.new.cursor.given + 1 }))
-      c.self.view_is
-      (stands_next _ _ _ _ _ _ _ _ _ _ c.self.invariant c.enter.new.cursor i n c.in-Some.group.used used)
+    c.self.view_is
+    (stands_next _ _ _ _ _ _ _ _ _ _ c.self.invariant c.enter.new.cursor i n c.in-Some.group.used used)
 
 pub returns-clause-next : goal.returns-clause-next
 returns-clause-next c =
@@ -83,7 +83,7 @@ returns-clause-next c =
     let i = subst (λ (t : Contents). IsInRun t c.enter.new.cursor) (sym c.self.view_is) e.0 in
     let n = next_pair _ _ _ _ _ _ _ _ _ _ c.self.invariant c.enter.new.cursor i e.1 in
     let same : c.in-Some.group ≡ read_as c.self.inside.width (n.pair).0 (n.pair).1 =
-        cc (c.scan_group.ensures.there (n.pair).0 (n.pair).1 (run_text c.self.inside.width n.back) n.counts (c.part.ensures ∙ n.text) n.follows, c.in-Some.is) in
+    cc (c.scan_group.ensures.there (n.pair).0 (n.pair).1 (run_text c.self.inside.width n.back) n.counts (c.part.ensures ∙ n.text) n.follows, c.in-Some.is) in
     let used = ap (λ (g : Group). g.used) same in
     let x = ap (λ (g : Group). g.x) same in
     let count = ap (λ (g : Group). g.count) same in
@@ -91,5 +91,5 @@ returns-clause-next c =
     let is = tail_is _ _ _ _ _ _ _ _ _ _ c.self.invariant c.enter.new.cursor i n c.in-Some.group.x x in
     ap (λ g. drop g c.args.self.now.pieces) (sym c.if-not-enter.ensures.given)
     ∙ subst (λ (t : Contents). drop c.enter.new.cursor.given t.pieces ≡ record { tail = tail; count = c.in-Some.group.count } ∷ drop (c.enter.new.cursor.given + 1) t.pieces)
-        c.self.view_is
-        (pair_given _ _ _ _ _ _ _ _ _ _ c.self.invariant c.enter.new.cursor i n tail c.in-Some.group.count is count)
+    c.self.view_is
+    (pair_given _ _ _ _ _ _ _ _ _ _ c.self.invariant c.enter.new.cursor i n tail c.in-Some.group.count is count)
