@@ -1,0 +1,12 @@
+pub mod BegunLemmas
+pub mod CellLemmas
+pub mod GrowingLemmas
+pub mod GrownLemmas
+pub mod OpeningLemmas
+pub mod QuotientLemmas
+pub mod RotateLemmas
+pub mod SpillLemmas
+pub mod SplitLemmas
+pub mod SpreadLemmas
+pub mod StandingLemmas
+pub mod TableLemmas

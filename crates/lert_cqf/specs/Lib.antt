@@ -1,0 +1,7 @@
+pub mod Around
+pub mod Cells
+pub mod Contents
+pub mod Growing
+pub mod Layout
+pub mod Rows
+pub mod Standing

@@ -1,0 +1,41 @@
+//! Writes to a part of a row.
+
+ghost use Rattle.std.specs.Prelude.{◌≡◌, ℕ, ◌+◌, ◌^◌, ◌<◌, ◌≤◌, ◌++◌, List, length, take, drop, slice_index};
+ghost use Rattle.lert_cqf.specs.Rows.{IsRaised, filled_gap};
+
+/// Moves the values `from..to` one place up; the one at `to` comes to `from`.
+pub fn rotate_up(slots: &mut [u64], from: usize, to: usize)
+    requires order { from ≤ to }
+    requires within { to < length slots.old }
+    ensures { slots.new ≡ filled_gap slots.old from to (slice_index slots.old to) }
+{
+    slots[from..to + 1].rotate_right(1);
+}
+
+/// Writes `text` from `at` on.
+pub fn overwrite(slots: &mut [u64], at: usize, text: &[u64])
+    requires { at + length text.now ≤ length slots.old }
+    ensures { slots.new ≡ take at slots.old ++ (text.now ++ drop (at + length text.now) slots.old) }
+{
+    slots[at..at + text.len()].copy_from_slice(text);
+}
+
+/// Raises each number by one.
+fn raise_all(numbers: &mut [u32])
+    requires { (g : ℕ) → g < length numbers.old → slice_index numbers.old g + 1 < 2 ^ 32 }
+    ensures { (g : ℕ) → g < length numbers.old → slice_index numbers.new g ≡ slice_index numbers.old g + 1 }
+{
+    for number in numbers.iter_mut() {
+        *number += 1;
+    }
+}
+
+/// Raises the numbers from `from` up to `to` by one.
+pub fn raise(numbers: &mut [u32], from: usize, to: usize)
+    requires order { from ≤ to + 1 }
+    requires within { to < length numbers.old }
+    requires room { (g : ℕ) → g < length numbers.old → slice_index numbers.old g + 1 < 2 ^ 32 }
+    ensures { IsRaised numbers.old numbers.new from to }
+{
+    raise_all(&mut numbers[from..to + 1]);
+}

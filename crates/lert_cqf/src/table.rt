@@ -1,0 +1,193 @@
+//! The table.
+
+ghost use Rattle.std.specs.Prelude.{◌≡◌, ℕ, ◌+◌, ◌/◌, ◌%◌, ◌^◌, ◌<◌, ◌≤◌, List, [], Bool, true, false, drop};
+ghost use Rattle.lert_cqf.specs.Layout.{slots_of, run_ends_of, occupied_of};
+ghost use Rattle.lert_cqf.specs.Standing.{Stands, IsInRun};
+
+use crate::cursor::CqfCursor;
+use crate::rows::Rows;
+use lert_base::CountTable;
+use lert_counter::scan_group;
+use lert_io::{OutOfMemory, Seen};
+use lert_runs::find;
+use lert_slotbits::Bits;
+use lert_spec::Piece;
+use std::alloc::Global;
+use std::marker::Model;
+
+/// More slots than a spill can count.
+const TOO_MANY_SLOTS: u64 = (1 << 32) - 1;
+
+/// A counting quotient filter: the counts of tails, in `2^q + 2 * events` slots.
+///
+/// Beside the slots it takes 4 bytes and a bit for each quotient, and two bits for each slot.
+#[derive(Drop)]
+pub struct Cqf {
+    rows: Rows,
+    quotient_bits: u32,
+    width: u32,
+    events: u64,
+    room: u64,
+    // Every add since the last `clear`, which contracts alone see.
+    added: Seen<Piece>,
+}
+
+impl Model for Cqf {
+    ghost use Rattle.lert_cqf.specs.Contents.{Contents, built, IsKept};
+
+    ghost Value = { Contents };
+
+    ghost view = { λ t. record {
+      pieces = built t.added;
+      room = t.room;
+      quotient_bits = t.quotient_bits;
+      width = t.width;
+    } };
+
+    ghost invariant = { λ t. IsKept (built t.added) t.quotient_bits t.width t.events t.room
+        t.rows.slots.items t.rows.occupied t.rows.run_ends t.rows.used t.rows.spill.items };
+}
+
+impl Cqf {
+    /// The slots, with 0 where no run stands.
+    pub fn slots(&self) -> &[u64]
+        ensures { result.now ≡ slots_of self.now.quotient_bits self.now.width self.now.room self.now.pieces }
+    {
+        &self.rows.slots
+    }
+
+    /// The quotients that occur.
+    pub fn occupied(&self) -> &Bits
+        ensures { result.now ≡ occupied_of self.now.quotient_bits self.now.width self.now.pieces }
+    {
+        &self.rows.occupied
+    }
+
+    /// The last slot of each run.
+    pub fn run_ends(&self) -> &Bits
+        ensures { result.now ≡ run_ends_of self.now.quotient_bits self.now.width self.now.room self.now.pieces }
+    {
+        &self.rows.run_ends
+    }
+}
+
+impl Cqf {
+    /// The quotient and the remainder of a tail.
+    fn parts(&self, tail: u64) -> (u64, u64)
+        ensures quotient { result.0 ≡ tail / 2 ^ self.now.width }
+        ensures remainder { result.1 ≡ tail % 2 ^ self.now.width }
+    {
+        (tail >> self.width, tail & ((1u64 << self.width) - 1))
+    }
+
+    /// Moves a cursor that stands at a run's end to the next run, if there is one.
+    fn enter(&self, cursor: &mut CqfCursor) -> bool
+        requires { Stands self.now cursor.old }
+        ensures entered { result ≡ true → IsInRun self.now cursor.new × (cursor.new.at < cursor.new.end) }
+        ensures given { cursor.new.given ≡ cursor.old.given }
+        ensures over { result ≡ false → (cursor.new ≡ cursor.old) × (drop cursor.old.given self.now.pieces ≡ []) }
+    {
+        if cursor.at < cursor.end {
+            return true;
+        }
+        let Some(home) = self.rows.occupied.next_true(cursor.next) else {
+            return false;
+        };
+        cursor.next = home + 1;
+        cursor.at = self.rows.start(home);
+        cursor.end = self.rows.start(home + 1);
+        true
+    }
+}
+
+impl CountTable for Cqf {
+    type Cursor = CqfCursor;
+
+    ghost use Rattle.std.specs.Prelude.{drop, ◌+◌};
+    ghost use Rattle.lert_cqf.specs.Standing.{Stands};
+
+    ghost pieces = { λ t. t.pieces };
+
+    ghost room = { λ t. t.room };
+
+    ghost tail_bits = { λ t. t.quotient_bits + t.width };
+
+    ghost stands = { λ t c. Stands t c };
+
+    ghost left = { λ t c. drop c.given t.pieces };
+
+    fn new(
+        alloc: Global,
+        quotient_bits: u32,
+        width: u32,
+        events: u64,
+    ) -> Result<Self, OutOfMemory> {
+        let homes = 1u64 << quotient_bits;
+        let slots = homes + 2 * events;
+        if slots >= TOO_MANY_SLOTS {
+            return Err(OutOfMemory);
+        }
+        let rows = Rows::new(alloc, homes, slots)?;
+        Ok(Cqf {
+            rows,
+            quotient_bits,
+            width,
+            events: 0,
+            room: events,
+            added: Seen::new(),
+        })
+    }
+
+    fn add(&mut self, tail: u64, n: u64) {
+        let (home, x) = self.parts(tail);
+        self.rows.put(self.width, home, x, n);
+        self.events += n;
+        self.added.push(&Piece { tail, count: n });
+    }
+
+    fn count(&self, tail: u64) -> u64 {
+        let (home, x) = self.parts(tail);
+        if home >= self.rows.occupied.len() {
+            return 0;
+        }
+        if !self.rows.occupied.get(home) {
+            return 0;
+        }
+        find(self.width, self.rows.run(home), x).count
+    }
+
+    fn events(&self) -> u64 {
+        self.events
+    }
+
+    fn clear(&mut self) {
+        self.rows.clear();
+        self.events = 0;
+        self.added = Seen::new();
+    }
+
+    fn start(&self) -> CqfCursor {
+        let _ = &self.rows;
+        CqfCursor {
+            next: 0,
+            at: 0,
+            end: 0,
+            given: 0,
+        }
+    }
+
+    fn step(&self, cursor: &mut CqfCursor) -> Option<Piece> {
+        if !self.enter(cursor) {
+            return None;
+        }
+        let Some(group) = scan_group(self.width, self.rows.part(cursor.at, cursor.end)) else {
+            unreachable!()
+        };
+        cursor.at += group.used as u64;
+        cursor.given += 1;
+        Some(Piece {
+            tail: ((cursor.next - 1) << self.width) + group.x,
+            count: group.count,
+        })
+    }
+}
