@@ -167,6 +167,7 @@ impl CountTable for Cqf {
     }
 
     fn start(&self) -> CqfCursor {
+        // Opens the invariant, from which the contract follows.
         let _ = &self.rows;
         CqfCursor {
             next: 0,
