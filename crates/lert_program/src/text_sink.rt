@@ -1,5 +1,7 @@
 //! A writer, such as standard output, as a sink.
 
+ghost use Rattle.std.specs.Prelude.{◌≡◌};
+
 use lert_io::{Failed, Faulty, Sink};
 use std::io::{ErrorKind, Write};
 
@@ -12,7 +14,9 @@ pub struct TextSink<W: Write + Drop> {
 
 impl<W: Write + Drop> TextSink<W> {
     /// A sink with no fault.
-    pub fn new(writer: W) -> TextSink<W> {
+    pub fn new(writer: W) -> TextSink<W>
+        ensures { result.faults ≡ 0 }
+    {
         TextSink { writer, faults: 0 }
     }
 }
