@@ -7,5 +7,9 @@
 #![tactic(auto)]
 
 mod bay;
+mod extent;
+mod mem_file;
+mod writes;
 
 pub use bay::{Bay, FRAMES, JOURNAL, LOG};
+pub use extent::Extent;
