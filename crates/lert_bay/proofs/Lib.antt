@@ -1,3 +1,5 @@
 pub mod Laid
 pub mod Tearing
 pub mod Undone
+pub mod Steps
+pub mod Crashing

@@ -49,11 +49,15 @@ pub torn_by_put : {T E : Type 0} (result : Result T E) (at landing : ℕ) (bytes
 torn_by_put (Ok _) at landing bytes piece old new part is ok err = (left_by_part at landing bytes old new part (subst (λ (xs : List ℕ). Holds at xs old new) is ok)).torn
 torn_by_put (Err _) at landing bytes piece old new part is ok err = subst (λ (xs : List ℕ). Torn at (length bytes) old xs) (sym err) (torn_same at (length bytes) old)
 
--- what is left of a file by a crash
-pub left_by_crash : (now synced : List ℕ) (written : List Extent) (least : ℕ) (unsynced : List Overwrite) (back left : List ℕ) (n : ℕ) → IsPending now synced written least unsynced → length back ≡ length now → ((place : ℕ) → All (λ w. IsOutside w.at (length w.old.items) place) unsynced → get_or back place 0 ≡ get_or now place 0) → least ≤ n → n ≤ length back → left ≡ take n back → IsTornSince synced written left
-left_by_crash now synced written least unsynced back left n pending long elsewhere lower upper is =
-    subst (λ (xs : List ℕ). IsTornSince synced written xs) (sym is)
-    (torn_cut synced written back n (torn_changed synced written now back pending.as_read long (λ place unwritten. elsewhere place (pending.covered place unwritten))) (omega (arith, pending.least_is, lower)) upper)
+-- writes are taken back and the end is cut off: the file still is an image
+pub pending_crashed : (now synced : List ℕ) (written : List Extent) (least : ℕ) (unsynced : List Overwrite) (back left : List ℕ) (n : ℕ) → IsPending now synced written least unsynced → length back ≡ length now → ((place : ℕ) → All (λ w. IsOutside w.at (length w.old.items) place) unsynced → get_or back place 0 ≡ get_or now place 0) → least ≤ n → n ≤ length back → left ≡ take n back → IsPending left synced written least unsynced
+pending_crashed now synced written least unsynced back left n pending long elsewhere lower upper is =
+    subst (λ (xs : List ℕ). IsPending xs synced written least unsynced) (sym is)
+    (record {
+      as_read = torn_cut synced written back n (torn_changed synced written now back pending.as_read long (λ place unwritten. elsewhere place (pending.covered place unwritten))) (omega (arith, pending.least_is, lower)) upper;
+      least_is = pending.least_is;
+      covered = pending.covered;
+    })
 
 -- bytes cut after a part of them was written back
 pub take_back_is : (n len : ℕ) (back items : List ℕ) → n ≤ len → n ≤ length back → take n (take len (back ++ drop (length back) items)) ≡ take n back

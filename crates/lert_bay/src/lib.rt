@@ -8,8 +8,11 @@
 
 mod bay;
 mod extent;
+mod mem_bay;
 mod mem_file;
+mod plan;
 mod writes;
 
 pub use bay::{Bay, FRAMES, JOURNAL, LOG};
 pub use extent::Extent;
+pub use mem_bay::MemBay;

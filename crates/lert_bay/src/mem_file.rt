@@ -3,7 +3,7 @@
 ghost use Rattle.std.specs.Prelude.{◌≡◌, ◌+◌, ◌≤◌, ◌<◌, ◌^◌, ◌++◌, [], ◌∷◌, length, take, IfOk, OnOk, OnErr};
 ghost use Rattle.lert_bay.specs.Files.{Holds, CopiesFrom};
 ghost use Rattle.lert_bay.specs.Since.{IsTornSince};
-ghost use Rattle.lert_bay.specs.Memory.{untouched};
+ghost use Rattle.lert_bay.specs.Memory.{untouched, durable};
 
 use crate::extent::Extent;
 use crate::writes::{Overwrite, covered, length_left, put, take_back};
@@ -39,12 +39,19 @@ impl MemFile {
     pub fn new(alloc: Global) -> MemFile
         ensures { result ≡ untouched }
     {
-        MemFile::durable(alloc, Vec::new(alloc))
+        MemFile::made_of(alloc, Vec::new(alloc))
     }
 
-    // A file of these bytes with nothing pending.
-    fn durable(alloc: Global, bytes: Vec<u8>) -> MemFile
-        ensures { result ≡ record { now = bytes.items; synced = bytes.items; written = [] } }
+    /// A file of these bytes with nothing pending.
+    pub fn holding(alloc: Global, bytes: &[u8]) -> Result<MemFile, OutOfMemory>
+        ensures { IfOk result (λ file. file ≡ durable bytes.now) }
+    {
+        Ok(MemFile::made_of(alloc, Vec::from_slice(alloc, bytes)?))
+    }
+
+    // The same of a vector.
+    fn made_of(alloc: Global, bytes: Vec<u8>) -> MemFile
+        ensures { result ≡ durable bytes.items }
     {
         MemFile {
             synced: Snapshot::of(&bytes),
@@ -85,6 +92,7 @@ impl MemFile {
         requires part { landing ≤ length bytes.now }
         ensures ok { OnOk result (Holds at (take landing bytes.now) self.old.now self.new.now) }
         ensures err { OnErr result (self.new.now ≡ self.old.now) }
+        ensures as_read { IsTornSince self.old.synced self.old.written self.old.now }
         ensures synced { self.new.synced ≡ self.old.synced }
         ensures written { self.new.written ≡ self.old.written ++ record { at = at; count = length bytes.now } ∷ [] }
     {
@@ -100,7 +108,7 @@ impl MemFile {
 
     /// Makes the bytes durable.
     pub fn sync(&mut self)
-        ensures { self.new ≡ record { now = self.old.now; synced = self.old.now; written = [] } }
+        ensures { self.new ≡ durable self.old.now }
     {
         self.synced = Snapshot::of(&self.bytes);
         self.written = Seen::new();
@@ -108,30 +116,14 @@ impl MemFile {
         self.unsynced.clear();
     }
 
-    /// Puts durable bytes in the place of all. A refusal leaves the file as it was.
-    pub fn load(&mut self, alloc: Global, bytes: &[u8]) -> Result<(), OutOfMemory>
-        ensures ok { OnOk result (self.new ≡ record { now = bytes.now; synced = bytes.now; written = [] }) }
-        ensures err { OnErr result (self.new ≡ self.old) }
+    /// Makes of the file what a crash may leave of it, by `pick`.
+    pub fn crash(&mut self, pick: u64)
+        ensures image { IsTornSince self.old.synced self.old.written self.new.now }
+        ensures durable { self.new ≡ durable self.new.now }
     {
-        *self = MemFile::durable(alloc, Vec::from_slice(alloc, bytes)?);
-        Ok(())
-    }
-
-    /// What a crash may leave of the file, by `pick`.
-    pub fn crashed(self, alloc: Global, pick: u64) -> MemFile
-        ensures image { IsTornSince self.synced self.written result.now }
-        ensures durable { result ≡ record { now = result.now; synced = result.now; written = [] } }
-    {
-        let MemFile {
-            mut bytes,
-            least,
-            unsynced,
-            synced: _,
-            written: _,
-        } = self;
-        take_back(&mut bytes, &unsynced, pick);
-        let length = length_left(pick, least, bytes.len());
-        bytes.truncate(length);
-        MemFile::durable(alloc, bytes)
+        take_back(&mut self.bytes, &self.unsynced, pick);
+        let length = length_left(pick, self.least, self.bytes.len());
+        self.bytes.truncate(length);
+        self.sync();
     }
 }
