@@ -11,6 +11,9 @@ use lert_io::{Failed, Faulty, OutOfMemory, Seen};
 use std::alloc::Global;
 use std::marker::Model;
 
+#[cfg(test)]
+mod tests;
+
 /// Three files in memory. It tells them, and what a crash at each moment since its making might have
 /// left of them.
 #[derive(Drop)]
