@@ -32,8 +32,8 @@ left_one index old new found file below within torn at_rest =
     record {
       long = length-set new index file ∙ below.long;
       left = λ number under. elim (cases_eq number index) [
-        inl same ↦ subst (λ (n : ℕ). IsLeft (file_of old n) (file_of (slice_set new index file) n)) (sym same) (subst (λ (f : FileState). IsLeft (file_of old index) f) (sym here) one)
-      | inr apart ↦ subst (λ (f : FileState). IsLeft (file_of old number) f) (sym (other number apart)) (below.left number (below_index number under apart))
+        | inl same ↦ subst (λ (n : ℕ). IsLeft (file_of old n) (file_of (slice_set new index file) n)) (sym same) (subst (λ (f : FileState). IsLeft (file_of old index) f) (sym here) one)
+        | inr apart ↦ subst (λ (f : FileState). IsLeft (file_of old number) f) (sym (other number apart)) (below.left number (below_index number under apart))
       ];
       rest = λ number from. other number (λ same. absurd (omega (arith, same, from))) ∙ below.rest number (omega (arith, from));
     }
@@ -48,17 +48,17 @@ untouched_past files number past = get_or_past files number untouched past
 -- all files together are an image
 pub left_all : (old new : List FileState) → LeftBelow (length old) old new → MayLeaveAll old (seen_of new)
 left_all old new all number = elim (cases_lt number (length old)) [
-      inl within ↦ inr (all.left number within).torn
-    | inr past ↦ inl (ap (λ f. f.now) (all.rest number past))
-    ]
+  | inl within ↦ inr (all.left number within).torn
+  | inr past ↦ inl (ap (λ f. f.now) (all.rest number past))
+]
 
 -- and the only one of what is left
 pub left_only : (old new : List FileState) → LeftBelow (length old) old new → (image : Files) → MayLeaveAll new image → image ≡ seen_of new
 left_only old new all image may =
     let each : (number : ℕ) → image number ≡ seen_of new number = λ number. elim (cases_lt number (length old)) [
-      inl within ↦ only_durable (file_of new number).now (image number) (subst (λ (f : FileState). MayLeave f (image number)) (all.left number within).at_rest (may number))
-    | inr past ↦
-        let none : file_of new number ≡ untouched = all.rest number past ∙ untouched_past old number past in
-        only_durable [] (image number) (subst (λ (f : FileState). MayLeave f (image number)) none (may number)) ∙ ap (λ f. f.now) (sym none)
+      | inl within ↦ only_durable (file_of new number).now (image number) (subst (λ (f : FileState). MayLeave f (image number)) (all.left number within).at_rest (may number))
+      | inr past ↦
+          let none : file_of new number ≡ untouched = all.rest number past ∙ untouched_past old number past in
+          only_durable [] (image number) (subst (λ (f : FileState). MayLeave f (image number)) none (may number)) ∙ ap (λ f. f.now) (sym none)
     ] in
     λ i number. each number i

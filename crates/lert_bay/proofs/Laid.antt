@@ -1,7 +1,7 @@
 -- Bytes laid over a file, place by place.
-use Rattle.std.proofs.Common.{◌≡◌, ℕ, ◌+◌, ◌-◌, ◌<◌, ◌≤◌, List, [], ◌++◌, length, take, drop, replicate, get_or, min, max, refl, sym, ap, ◌∙◌, subst, inl, inr, ⊎_elim, arith, length-append, length-take, length-drop}
+use Rattle.std.proofs.Common.{◌≡◌, ℕ, ◌+◌, ◌-◌, ◌<◌, ◌≤◌, List, ◌++◌, length, take, drop, replicate, get_or, max, refl, sym, ap, ◌∙◌, inl, inr, arith, length-append, length-take, length-drop}
 use Rattle.std.proofs.lemmas.Bool.{cases_lt}
-use Rattle.std.proofs.lemmas.List.{get_or_append_left, get_or-append_right, get_or-take, get_or-drop, get_or-replicate, get_or_past, take_all, take-append-le, drop_all, ext_get_or, length-take-le}
+use Rattle.std.proofs.lemmas.List.{get_or_append_left, get_or-append_right, get_or-take, get_or-drop, get_or-replicate, get_or_past, take_all, take-append-le, ext_get_or, length-take-le}
 use lib.ListN.{length-replicate}
 use Rattle.lert_bay.specs.Files.{padded, Holds, IsOutside}
 
@@ -9,13 +9,13 @@ use Rattle.lert_bay.specs.Files.{padded, Holds, IsOutside}
 pub zeros_past : (old : List ℕ) (k place : ℕ) → get_or (old ++ replicate {A = ℕ} k 0) place 0 ≡ get_or old place 0
 zeros_past old k place =
     elim (cases_lt place (length old)) [
-      inl within ↦ get_or_append_left old (replicate {A = ℕ} k 0) 0 place within
-    | inr past ↦
-        get_or-append_right old (replicate {A = ℕ} k 0) (length old) place 0 refl past
-        ∙ (elim (cases_lt (place - length old) k) [
-          inl zero_byte ↦ get_or-replicate k (place - length old) 0 0 zero_byte
-        | inr beyond ↦ get_or_past (replicate {A = ℕ} k 0) (place - length old) 0 (omega (arith, length-replicate {A = ℕ} k 0, beyond))
-        ] ∙ sym (get_or_past old place 0 past))
+      | inl within ↦ get_or_append_left old (replicate {A = ℕ} k 0) 0 place within
+      | inr past ↦
+          get_or-append_right old (replicate {A = ℕ} k 0) (length old) place 0 refl past
+          ∙ (elim (cases_lt (place - length old) k) [
+            | inl zero_byte ↦ get_or-replicate k (place - length old) 0 0 zero_byte
+            | inr beyond ↦ get_or_past (replicate {A = ℕ} k 0) (place - length old) 0 (omega (arith, length-replicate {A = ℕ} k 0, beyond))
+          ] ∙ sym (get_or_past old place 0 past))
     ]
 
 -- as much of the gap as reaches a place is the gap before it
@@ -23,8 +23,8 @@ pub take_zeros : (at : ℕ) (old : List ℕ) (n : ℕ) → at ≤ n → length o
 take_zeros at old n reach longer =
     ext_get_or 0 _ _ (simp (length-take, length-append, length-replicate) (omega arith))
     (λ i below.
-      let short : i < at = omega (arith, below, length-take at (old ++ replicate {A = ℕ} (n - length old) 0)) in
-      get_or-take at _ i 0 short ∙ (zeros_past old (n - length old) i ∙ sym (get_or-take at _ i 0 short ∙ zeros_past old (at - length old) i)))
+    let short : i < at = omega (arith, below, length-take at (old ++ replicate {A = ℕ} (n - length old) 0)) in
+    get_or-take at _ i 0 short ∙ (zeros_past old (n - length old) i ∙ sym (get_or-take at _ i 0 short ∙ zeros_past old (at - length old) i)))
 
 -- no zero byte stands behind the written range
 pub drop_zeros : (end : ℕ) (old : List ℕ) (n : ℕ) → n ≡ max (length old) end → drop end (old ++ replicate {A = ℕ} (n - length old) 0) ≡ drop end old

@@ -3,3 +3,4 @@ pub mod Tearing
 pub mod Undone
 pub mod Steps
 pub mod Crashing
+pub mod Settling

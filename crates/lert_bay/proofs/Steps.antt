@@ -1,5 +1,5 @@
 -- What a call of a bay in memory makes of its images, its files and its clock.
-use Rattle.std.proofs.Common.{◌≡◌, ◌≢◌, ℕ, ◌+◌, ◌-◌, ◌<◌, ◌≤◌, List, [], ◌∷◌, ◌++◌, length, cond, nat_eq, Bool, true, false, slice_index_or, slice_set, Option, Some, None, Result, Ok, Err, OnOk, OnErr, take, refl, sym, ap, ◌∙◌, ◌⊎◌, subst, inl, inr, arith, length-append}
+use Rattle.std.proofs.Common.{◌≡◌, ◌≢◌, ℕ, ◌+◌, ◌<◌, ◌≤◌, List, [], ◌∷◌, ◌++◌, length, cond, nat_eq, slice_index_or, slice_set, Some, Result, Ok, Err, OnOk, OnErr, take, refl, sym, ap, ◌∙◌, subst, inl, inr, arith, length-append}
 use Rattle.std.proofs.lemmas.Bool.{cases_lt, cases_eq, eq-eqb, ne_eqb}
 use Rattle.std.proofs.lemmas.List.{get_or_append_left, get_or_at, get_or_default, get_or-set_same, get_or-set_other}
 use Rattle.lert_bay.specs.Files.{Files, Changes, Turns, Torn, Holds, LeftByFailure}
@@ -20,17 +20,17 @@ elapses before after longer =
     record {
       later = omega (arith, longer_by);
       known = λ t image early since. elim since [
-        inl now ↦ inr now
-      | inr past ↦ elim (cases_lt past.0 (length before.past)) [
-          inl within ↦ inl (inr (past.0, past.1, within, subst (λ (files : List FileState). MayLeaveAll files image) (old past.0 within) past.3))
-        | inr at_end ↦
-            let here : past.0 ≡ length before.past = omega (arith, at_end, past.2, longer_by) in
-            inl (inl (subst (λ (files : List FileState). MayLeaveAll files image) (ap (λ k. slice_index_or after.past k []) here ∙ last) past.3))
+        | inl now ↦ inr now
+        | inr past ↦ elim (cases_lt past.0 (length before.past)) [
+          | inl within ↦ inl (inr (past.0, past.1, within, subst (λ (files : List FileState). MayLeaveAll files image) (old past.0 within) past.3))
+          | inr at_end ↦
+              let here : past.0 ≡ length before.past = omega (arith, at_end, past.2, longer_by) in
+              inl (inl (subst (λ (files : List FileState). MayLeaveAll files image) (ap (λ k. slice_index_or after.past k []) here ∙ last) past.3))
         ]
       ];
       kept = λ t image early since. elim since [
-        inl now ↦ inr (length before.past, early, omega (arith, longer_by), subst (λ (files : List FileState). MayLeaveAll files image) (sym last) now)
-      | inr past ↦ inr (past.0, past.1, omega (arith, longer_by, past.2), subst (λ (files : List FileState). MayLeaveAll files image) (sym (old past.0 past.2)) past.3)
+        | inl now ↦ inr (length before.past, early, omega (arith, longer_by), subst (λ (files : List FileState). MayLeaveAll files image) (sym last) now)
+        | inr past ↦ inr (past.0, past.1, omega (arith, longer_by, past.2), subst (λ (files : List FileState). MayLeaveAll files image) (sym (old past.0 past.2)) past.3)
       ];
       added = λ t image early now. inl now;
     }
@@ -92,20 +92,21 @@ follow old new number at count step tears wrote =
     let here : file_of new.files number ≡ wrote.file = file_here old.files new.files number wrote.file wrote.within wrote.files in
     record {
       comes = λ image may.
-        let from = left_less (file_of old.files number) wrote.file last torn wrote.synced wrote.written (image number) (subst (λ (file : FileState). MayLeave file (image number)) here (may number)) in
-        (with_file image number from.0,
-          λ other. elim (cases_eq other number) [
-            inl same ↦ subst (λ (n : ℕ). MayLeave (file_of old.files n) (with_file image number from.0 n)) (sym same) (subst (λ (bytes : List ℕ). MayLeave (file_of old.files number) bytes) (sym (with_file_here image number from.0)) from.1)
-          | inr apart ↦ subst (λ (bytes : List ℕ). MayLeave (file_of old.files other) bytes) (sym (with_file_other image number from.0 other apart)) (subst (λ (file : FileState). MayLeave file (image other)) (file_other old.files new.files number other wrote.file wrote.files apart) (may other))
-          ],
-          record {
-            here = subst (λ (bytes : List ℕ). Torn at count bytes (image number)) (sym (with_file_here image number from.0)) from.2;
-            others = λ other apart. sym (with_file_other image number from.0 other apart);
-          });
+          let from = left_less (file_of old.files number) wrote.file last torn wrote.synced wrote.written (image number) (subst (λ (file : FileState). MayLeave file (image number)) here (may number)) in (
+            with_file image number from.0,
+            λ other. elim (cases_eq other number) [
+              | inl same ↦ subst (λ (n : ℕ). MayLeave (file_of old.files n) (with_file image number from.0 n)) (sym same) (subst (λ (bytes : List ℕ). MayLeave (file_of old.files number) bytes) (sym (with_file_here image number from.0)) from.1)
+              | inr apart ↦ subst (λ (bytes : List ℕ). MayLeave (file_of old.files other) bytes) (sym (with_file_other image number from.0 other apart)) (subst (λ (file : FileState). MayLeave file (image other)) (file_other old.files new.files number other wrote.file wrote.files apart) (may other))
+            ],
+            record {
+              here = subst (λ (bytes : List ℕ). Torn at count bytes (image number)) (sym (with_file_here image number from.0)) from.2;
+              others = λ other apart. sym (with_file_other image number from.0 other apart);
+            },
+          );
       goes = λ earlier image may change other. elim (cases_eq other number) [
-        inl same ↦ subst (λ (n : ℕ). MayLeave (file_of new.files n) (image n)) (sym same) (subst (λ (file : FileState). MayLeave file (image number)) (sym here)
-          (left_more (file_of old.files number) wrote.file last wrote.as_read wrote.synced wrote.written (earlier number) (image number) (may number) change.here))
-      | inr apart ↦ subst (λ (file : FileState). MayLeave file (image other)) (sym (file_other old.files new.files number other wrote.file wrote.files apart)) (subst (λ (bytes : List ℕ). MayLeave (file_of old.files other) bytes) (sym (change.others other apart)) (may other))
+        | inl same ↦ subst (λ (n : ℕ). MayLeave (file_of new.files n) (image n)) (sym same) (subst (λ (file : FileState). MayLeave file (image number)) (sym here)
+            (left_more (file_of old.files number) wrote.file last wrote.as_read wrote.synced wrote.written (earlier number) (image number) (may number) change.here))
+        | inr apart ↦ subst (λ (file : FileState). MayLeave file (image other)) (sym (file_other old.files new.files number other wrote.file wrote.files apart)) (subst (λ (bytes : List ℕ). MayLeave (file_of old.files other) bytes) (sym (change.others other apart)) (may other))
       ];
     }
 
@@ -115,8 +116,8 @@ follow old new number at count step tears wrote =
 pub settled_seen : (files after : List FileState) (number : ℕ) → number < length files → after ≡ slice_set files number (durable (seen_of files number)) → seen_of after ≡ seen_of files
 settled_seen files after number within is =
     let each : (other : ℕ) → seen_of after other ≡ seen_of files other = λ other. elim (cases_eq other number) [
-      inl same ↦ subst (λ (n : ℕ). seen_of after n ≡ seen_of files n) (sym same) (ap (λ f. f.now) (file_here files after number (durable (seen_of files number)) within is))
-    | inr apart ↦ ap (λ f. f.now) (file_other files after number other (durable (seen_of files number)) is apart)
+      | inl same ↦ subst (λ (n : ℕ). seen_of after n ≡ seen_of files n) (sym same) (ap (λ f. f.now) (file_here files after number (durable (seen_of files number)) within is))
+      | inr apart ↦ ap (λ f. f.now) (file_other files after number other (durable (seen_of files number)) is apart)
     ] in
     λ i other. each other i
 
@@ -136,12 +137,12 @@ settled_images first files after number same_files within is seen told =
     record {
       durable = lasts;
       was = λ image may other. elim (cases_eq other number) [
-        inl same_number ↦ inl (subst (λ (n : ℕ). image n ≡ seen_of first n) (sym same_number) (lasts image may ∙ ap (λ (fs : Files). fs number) same))
-      | inr apart ↦ subst (λ (file : FileState). MayLeave file (image other)) (other_is other apart) (may other)
+        | inl same_number ↦ inl (subst (λ (n : ℕ). image n ≡ seen_of first n) (sym same_number) (lasts image may ∙ ap (λ (fs : Files). fs number) same))
+        | inr apart ↦ subst (λ (file : FileState). MayLeave file (image other)) (other_is other apart) (may other)
       ];
       stays = λ image may settled other. elim (cases_eq other number) [
-        inl same_number ↦ inl (subst (λ (n : ℕ). image n ≡ seen_of after n) (sym same_number) (settled ∙ (bytes ∙ ap (λ f. f.now) (sym durable_is))))
-      | inr apart ↦ subst (λ (file : FileState). MayLeave file (image other)) (sym (other_is other apart)) (may other)
+        | inl same_number ↦ inl (subst (λ (n : ℕ). image n ≡ seen_of after n) (sym same_number) (settled ∙ (bytes ∙ ap (λ f. f.now) (sym durable_is))))
+        | inr apart ↦ subst (λ (file : FileState). MayLeave file (image other)) (sym (other_is other apart)) (may other)
       ];
     }
 

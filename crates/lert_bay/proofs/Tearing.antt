@@ -1,12 +1,12 @@
 -- Torn files: what a write does to the images of one file, and how these steps join since a sync.
-use Rattle.std.proofs.Common.{◌≡◌, ℕ, ◌+◌, ◌-◌, ◌<◌, ◌≤◌, List, [], ◌∷◌, ◌++◌, length, take, drop, get_or, min, max, map, All, Option, Some, None, Bool, true, false, cond, ◌&&◌, nat_le, nat_lt, refl, sym, ap, ◌∙◌, ◌⊎◌, subst, inl, inr, arith, length-take}
+use Rattle.std.proofs.Common.{◌≡◌, ℕ, ◌+◌, ◌<◌, ◌≤◌, List, [], ◌∷◌, ◌++◌, length, take, get_or, min, max, map, Some, Bool, true, false, cond, ◌&&◌, nat_le, nat_lt, refl, sym, ap, ◌∙◌, ◌⊎◌, subst, inl, inr, arith, append-nil, append_assoc, ◌↔◌}
 use Rattle.std.specs.List.{range_with_len}
 use Rattle.std.proofs.lemmas.Bool.{cases_lt, and_from, and_left, and_right, le-leb, lt-leb, lt-ltb, le-ltb}
 use Rattle.std.proofs.lemmas.List.{get_or-take, get_or_past, take_all, ext_get_or, length-take-le}
 use Rattle.std.proofs.lemmas.List.FromFn.{length-map-range_with_len, get_or-map-range_with_len}
 use Rattle.std.proofs.lemmas.List.Elements.{All-push, All-pop}
 use Rattle.lert_bay.specs.Files.{Holds, IsOutside, Torn, LeftByFailure}
-use Rattle.lert_bay.specs.Since.{longest, IsUnwritten, IsTornSince}
+use Rattle.lert_bay.specs.Since.{longest, IsUnwritten, IsTornSince, TornInTurn}
 use Rattle.lert_bay.specs.declared.extent.Extent.{Extent}
 use Rattle.lert_bay.proofs.Laid.{length_held, elsewhere_held}
 
@@ -82,8 +82,8 @@ torn_more synced written last earlier image was torn =
       no_shorter = omega (arith, was.no_shorter, torn.no_shorter);
       no_longer = omega (arith, was.no_longer, torn.no_longer, longer);
       elsewhere = λ place within unwritten.
-        let both = All-pop (λ extent. IsOutside extent.at extent.count place) (written ++ last ∷ []) written (Some last) refl unwritten in
-        torn.elsewhere place (omega (arith, within, was.no_shorter)) both.1 ∙ was.elsewhere place within both.0;
+          let both = All-pop (λ extent. IsOutside extent.at extent.count place) (written ++ last ∷ []) written (Some last) refl unwritten in
+          torn.elsewhere place (omega (arith, within, was.no_shorter)) both.1 ∙ was.elsewhere place within both.0;
     }
 
 pub torn_noted : (synced : List ℕ) (written : List Extent) (last : Extent) (image : List ℕ) → IsTornSince synced written image → IsTornSince synced (written ++ last ∷ []) image
@@ -100,10 +100,10 @@ inside_not at count place (inr behind) = and_right (nat_le at place) (nat_lt pla
 inside_cases : (at count place : ℕ) → (inside at count place ≡ true) ⊎ IsOutside at count place
 inside_cases at count place =
     elim (cases_lt place at) [
-      inl before ↦ inr (inl before)
-    | inr from ↦ elim (cases_lt place (at + count)) [
-        inl within ↦ inl (and_from (nat_le at place) (nat_lt place (at + count)) (le-leb at place from) (lt-ltb place (at + count) within))
-      | inr behind ↦ inr (inr behind)
+      | inl before ↦ inr (inl before)
+      | inr from ↦ elim (cases_lt place (at + count)) [
+        | inl within ↦ inl (and_from (nat_le at place) (nat_lt place (at + count)) (le-leb at place from) (lt-ltb place (at + count) within))
+        | inr behind ↦ inr (inr behind)
       ]
     ]
 
@@ -132,25 +132,48 @@ pub torn_less : (synced : List ℕ) (written : List Extent) (last : Extent) (ima
 torn_less synced written last image torn =
     let least : length synced ≤ longest (length synced) written = longest_least (length synced) written in
     let longer = longest_last (length synced) written last in
-    let long = length_mended synced last.at last.count image (longest (length synced) written) in
-    (mended synced last.at last.count image (longest (length synced) written),
+    let long = length_mended synced last.at last.count image (longest (length synced) written) in (
+      mended synced last.at last.count image (longest (length synced) written),
       record {
         no_shorter = omega (arith, long, least, torn.no_shorter);
         no_longer = omega (arith, long);
         elsewhere = λ place within unwritten.
-          let short : place < min (length image) (longest (length synced) written) = omega (arith, within, least, torn.no_shorter) in
-          elim (inside_cases last.at last.count place) [
-            inl is ↦ mended_inside synced last.at last.count image (longest (length synced) written) place short is
-          | inr outside ↦
-              mended_outside synced last.at last.count image (longest (length synced) written) place short outside
-              ∙ torn.elsewhere place within (All-push (λ extent. IsOutside extent.at extent.count place) written last unwritten outside)
-          ];
+            let short : place < min (length image) (longest (length synced) written) = omega (arith, within, least, torn.no_shorter) in
+            elim (inside_cases last.at last.count place) [
+              | inl is ↦ mended_inside synced last.at last.count image (longest (length synced) written) place short is
+              | inr outside ↦
+                  mended_outside synced last.at last.count image (longest (length synced) written) place short outside
+                  ∙ torn.elsewhere place within (All-push (λ extent. IsOutside extent.at extent.count place) written last unwritten outside)
+            ];
       },
       record {
         no_shorter = omega (arith, long);
         no_longer = omega (arith, long, longer, torn.no_longer);
         elsewhere = λ place within outside. sym (mended_outside synced last.at last.count image (longest (length synced) written) place (omega (arith, long, within)) outside);
-      })
+      },
+    )
+
+-- what the writes may tear one after the other, they may tear together
+turns_join : (synced : List ℕ) (before rest : List Extent) (middle image : List ℕ) → IsTornSince synced before middle → TornInTurn rest middle image → IsTornSince synced (before ++ rest) image
+turns_join synced before [] middle image was same = subst (λ (ranges : List Extent). IsTornSince synced ranges image) (sym (append-nil before)) (subst (λ (bytes : List ℕ). IsTornSince synced before bytes) (sym same) was)
+turns_join synced before (first ∷ rest) middle image was torn =
+    subst (λ (ranges : List Extent). IsTornSince synced ranges image) (append_assoc before (first ∷ []) rest)
+    (turns_join synced (before ++ first ∷ []) rest torn.0 image (torn_more synced before first middle torn.0 was torn.1) torn.2)
+
+-- and what they may tear together comes in turn
+joint_turns : (synced : List ℕ) (before rest : List Extent) (image : List ℕ) → IsTornSince synced (before ++ rest) image → (middle : List ℕ) × IsTornSince synced before middle × TornInTurn rest middle image
+joint_turns synced before [] image torn = (image, subst (λ (ranges : List Extent). IsTornSince synced ranges image) (append-nil before) torn, refl)
+joint_turns synced before (first ∷ rest) image torn =
+    let later = joint_turns synced (before ++ first ∷ []) rest image (subst (λ (ranges : List Extent). IsTornSince synced ranges image) (sym (append_assoc before (first ∷ []) rest)) torn) in
+    let last = torn_less synced before first later.0 later.1 in
+    (last.0, last.1, (later.0, last.2, later.2))
+
+-- one by one, or at once
+pub turns_since : (synced : List ℕ) (written : List Extent) (image : List ℕ) → TornInTurn written synced image ↔ IsTornSince synced written image
+turns_since synced written image = (
+  λ torn. turns_join synced [] written synced image (torn_none synced) torn,
+  λ torn. let parts = joint_turns synced [] written image torn in subst (λ (bytes : List ℕ). TornInTurn written bytes image) (only_synced synced parts.0 parts.1) parts.2,
+)
 
 -- bytes changed in written ranges alone
 pub torn_changed : (synced : List ℕ) (written : List Extent) (image changed : List ℕ) → IsTornSince synced written image → length changed ≡ length image → ((place : ℕ) → IsUnwritten written place → get_or changed place 0 ≡ get_or image place 0) → IsTornSince synced written changed

@@ -1,10 +1,10 @@
 -- What a file in memory keeps through a write, and what is left of it by a crash.
-use Rattle.std.proofs.Common.{◌≡◌, ℕ, ◌+◌, ◌-◌, ◌<◌, ◌≤◌, List, [], ◌∷◌, ◌++◌, length, take, drop, replicate, get_or, min, All, Option, Some, None, Result, Ok, Err, OnOk, OnErr, refl, sym, ap, ◌∙◌, subst, inl, inr, arith, length-append, length-take}
+use Rattle.std.proofs.Common.{◌≡◌, ℕ, ◌-◌, ◌≤◌, List, [], ◌∷◌, ◌++◌, length, take, drop, replicate, get_or, All, Some, Result, Ok, Err, OnOk, OnErr, refl, sym, ap, ◌∙◌, subst, arith, length-append, length-take}
 use Rattle.std.proofs.lemmas.List.Elements.{All-push, All-pop}
-use Rattle.std.proofs.lemmas.List.{length-take-le, take-take, take-append-le}
+use Rattle.std.proofs.lemmas.List.{take-take, take-append-le}
 use lib.ListN.{length-replicate}
 use Rattle.lert_bay.specs.Files.{Holds, IsOutside, Torn}
-use Rattle.lert_bay.specs.Since.{IsUnwritten, IsTornSince}
+use Rattle.lert_bay.specs.Since.{IsUnwritten}
 use Rattle.lert_bay.specs.Pending.{IsPending}
 use Rattle.lert_bay.specs.declared.extent.Extent.{Extent}
 use Rattle.lert_bay.specs.declared.writes.Overwrite.{Overwrite}
@@ -39,9 +39,9 @@ pending_done now new synced written after least unsynced kept last write pending
       as_read = torn_more synced written last now new pending.as_read torn;
       least_is = pending.least_is;
       covered = λ place unwritten.
-        let both = unwritten_less written last place unwritten in
-        All-push (λ w. IsOutside w.at (length w.old.items) place) unsynced write (pending.covered place both.0)
-        (subst (λ (at : ℕ). IsOutside at (length write.old.items) place) (sym at_is) (subst (λ (count : ℕ). IsOutside last.at count place) (sym count_is) both.1));
+          let both = unwritten_less written last place unwritten in
+          All-push (λ w. IsOutside w.at (length w.old.items) place) unsynced write (pending.covered place both.0)
+          (subst (λ (at : ℕ). IsOutside at (length write.old.items) place) (sym at_is) (subst (λ (count : ℕ). IsOutside last.at count place) (sym count_is) both.1));
     }))
 
 -- whatever `put` answers, the file is a torn one

@@ -1,6 +1,6 @@
 -- What a crash may leave of one file, said at once for all writes since its last sync.
 use Rattle.std.specs.Prelude.{◌≡◌, ℕ, ◌+◌, ◌<◌, ◌≤◌, List, [], ◌∷◌, length, max, slice_index, All}
-use Rattle.lert_bay.specs.Files.{IsOutside}
+use Rattle.lert_bay.specs.Files.{IsOutside, Torn}
 use Rattle.lert_bay.specs.declared.extent.Extent.{Extent}
 
 -- the greatest length since a sync: the one at the sync, or how far a write was to reach
@@ -19,3 +19,8 @@ pub record IsTornSince (synced : List ℕ) (written : List Extent) (image : List
   pub no_shorter : length synced ≤ length image
   pub no_longer : length image ≤ longest (length synced) written
   pub elsewhere : (place : ℕ) → place < length synced → IsUnwritten written place → slice_index image place ≡ slice_index synced place
+
+-- the writes one after the other: each may tear what the one before it left
+abbrev pub TornInTurn : List Extent → List ℕ → List ℕ → Type 0
+TornInTurn [] old new = new ≡ old
+TornInTurn (first ∷ rest) old new = (middle : List ℕ) × Torn first.at first.count old middle × TornInTurn rest middle new

@@ -8,6 +8,7 @@
 
 mod bay;
 mod extent;
+mod laws;
 mod mem_bay;
 mod mem_file;
 mod plan;
@@ -15,4 +16,5 @@ mod writes;
 
 pub use bay::{Bay, FRAMES, JOURNAL, LOG};
 pub use extent::Extent;
+pub use laws::torn_since_a_sync;
 pub use mem_bay::MemBay;

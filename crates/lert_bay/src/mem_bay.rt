@@ -43,11 +43,20 @@ impl MemBay {
     /// Three empty files with nothing pending, and no call that is to fail.
     pub fn new(alloc: Global) -> Result<MemBay, OutOfMemory>
         ensures { IfOk result (λ bay. bay ≡ record {
-            files = untouched ∷ untouched ∷ untouched ∷ []; past = []; plan = calm; faults = 0; mark = 0 }) }
+          files = untouched ∷ untouched ∷ untouched ∷ [];
+          past = [];
+          plan = calm;
+          faults = 0;
+          mark = 0;
+        }) }
     {
         Ok(MemBay {
             alloc,
-            files: [MemFile::new(alloc), MemFile::new(alloc), MemFile::new(alloc)],
+            files: [
+                MemFile::new(alloc),
+                MemFile::new(alloc),
+                MemFile::new(alloc),
+            ],
             past: Seen::new(),
             plan: Plan::calm(),
             faults: 0,
@@ -111,7 +120,12 @@ impl MemBay {
         ensures image { IfOk result (λ bay. MayLeaveAll self.files (seen_of bay.files)) }
         ensures durable { IfOk result (λ bay. (image : Files) → MayLeaveAll bay.files image → image ≡ seen_of bay.files) }
         ensures rest { IfOk result (λ bay. bay ≡ record {
-            files = bay.files; past = []; plan = calm; faults = self.faults; mark = self.mark }) }
+          files = bay.files;
+          past = [];
+          plan = calm;
+          faults = self.faults;
+          mark = self.mark;
+        }) }
     {
         for file in &mut self.files {
             file.crash(pick);
@@ -135,8 +149,7 @@ impl MemBay {
     {
         self.past.push(&self.files);
         if self.plan.tick() {
-            self.faults = self.faults.saturating_add(1);
-            return Err(Failed);
+            return Err(self.count_fault());
         }
         Ok(())
     }

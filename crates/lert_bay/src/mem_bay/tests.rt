@@ -55,20 +55,16 @@ fn a_sync_makes_one_file_durable(rt: HostRuntime) -> Result<(), Fail> {
     }
     bay.sync(LOG)?;
     let bay = bay.crashed(0)?;
-    assert_eq!(rt; (bay.bytes(JOURNAL), bay.bytes(LOG), bay.bytes(FRAMES)), (b"".as_slice(), b"new".as_slice(), b"".as_slice()));
+    assert_eq!(rt;
+        (bay.bytes(JOURNAL), bay.bytes(LOG), bay.bytes(FRAMES)),
+        (b"".as_slice(), b"new".as_slice(), b"".as_slice())
+    );
     Ok(())
 }
 
 #[test]
-fn writes_over_one_another_are_taken_back_to_the_last_sync(
-    rt: HostRuntime,
-) -> Result<(), Fail> {
-    let left: Left = [
-        (0, b"aaaa"),
-        (1, b"abcc"),
-        (2, b"abaa"),
-        (3, b"aabc"),
-    ];
+fn writes_over_one_another_are_taken_back_to_the_last_sync(rt: HostRuntime) -> Result<(), Fail> {
+    let left: Left = [(0, b"aaaa"), (1, b"abcc"), (2, b"abaa"), (3, b"aabc")];
     for (pick, want) in left {
         let mut bay = written(rt.alloc(), b"aaaa", 1, b"bb")?;
         bay.write_at(JOURNAL, 2, b"cc")?;

@@ -1,4 +1,4 @@
-use Rattle.std.proofs.Common.{◌≡◌, ◌<◌, ℕ, length, ap, sym, subst, arith, ◌∙◌}
+use Rattle.std.proofs.Common.{◌≡◌, ◌<◌, ℕ, length, subst, arith, ◌∙◌}
 use Rattle.lert_bay.proofs.Crashing.{LeftBelow, left_none, left_one, left_all, left_only}
 use Rattle.lert_bay.proofs.mem_bay.MemBay.crashed.Goals as goal
 

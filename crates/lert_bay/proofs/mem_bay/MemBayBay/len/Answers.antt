@@ -1,4 +1,4 @@
-use Rattle.std.proofs.Common.{ap, ◌∙◌}
+use Rattle.std.proofs.Common.{ap}
 use Rattle.lert_bay.proofs.Steps.{elapses}
 use Rattle.lert_bay.proofs.mem_bay.MemBayBay.len.Goals as goal
 
