@@ -4,3 +4,4 @@ pub mod Undone
 pub mod Steps
 pub mod Crashing
 pub mod Settling
+pub mod Lasting

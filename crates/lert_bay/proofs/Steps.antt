@@ -44,14 +44,14 @@ file_other : (files after : List FileState) (number other : ℕ) (file : FileSta
 file_other files after number other file is apart = ap (λ xs. file_of xs other) is ∙ get_or-set_other files number other file untouched apart
 
 -- files with other bytes in the place of one
-with_file : Files → ℕ → List ℕ → Files
+pub with_file : Files → ℕ → List ℕ → Files
 with_file files number bytes other = cond (nat_eq other number) bytes (files other)
 
-with_file_here : (files : Files) (number : ℕ) (bytes : List ℕ) → with_file files number bytes number ≡ bytes
+pub with_file_here : (files : Files) (number : ℕ) (bytes : List ℕ) → with_file files number bytes number ≡ bytes
 unfolding with_file
 with_file_here files number bytes = ap (λ b. cond b bytes (files number)) (eq-eqb number number refl)
 
-with_file_other : (files : Files) (number : ℕ) (bytes : List ℕ) (other : ℕ) → other ≢ number → with_file files number bytes other ≡ files other
+pub with_file_other : (files : Files) (number : ℕ) (bytes : List ℕ) (other : ℕ) → other ≢ number → with_file files number bytes other ≡ files other
 unfolding with_file
 with_file_other files number bytes other apart = ap (λ b. cond b bytes (files other)) (ne_eqb other number apart)
 

@@ -26,3 +26,10 @@ pub record Elapses (before after : ℕ) (since_before since_after : ℕ → File
   pub known : (t : ℕ) (image : Files) → t ≤ before → since_after t image → since_before t image ⊎ leaves image
   pub kept : (t : ℕ) (image : Files) → t ≤ before → since_before t image → since_after t image
   pub added : (t : ℕ) (image : Files) → t ≤ before → leaves image → since_after t image
+
+-- Time goes on through several calls: what a crash since an earlier moment might have left is what it might have left
+-- before the first of them, or since then.
+pub record Lasts (before after : ℕ) (since_before since_after : ℕ → Files → Type 0) : Type 0 where
+  pub later : before ≤ after
+  pub known : (t : ℕ) (image : Files) → t ≤ before → since_after t image → since_before t image ⊎ since_after before image
+  pub kept : (t : ℕ) (image : Files) → t ≤ before → since_before t image → since_after t image

@@ -1,6 +1,7 @@
 //! What a crash leaves by each pick, what a failed call leaves, and each call once through its trait.
 
-ghost use Rattle.std.specs.Prelude.{◌+◌, ◌<◌, ◌^◌, length};
+ghost use Rattle.std.specs.Prelude.{◌≡◌, ◌+◌, ◌<◌, ◌^◌, List, ℕ, length};
+ghost use Rattle.lert_bay.specs.Files.{Files, IfTold, Holds};
 
 use super::*;
 use crate::bay::{FRAMES, JOURNAL, LOG};
@@ -106,6 +107,24 @@ fn a_crash_ends_the_failing(rt: HostRuntime) -> Result<(), Fail> {
     assert!(rt; bay.len(LOG).is_err());
     let mut bay = bay.crashed(0)?;
     assert_eq!(rt; bay.len(LOG)?, 0);
+    Ok(())
+}
+
+// Of every bay: after a write a crash may leave any other bytes in its range.
+fn tears<B: Bay>(bay: &mut B, file: u8, at: u64, bytes: &[u8]) -> Result<(), Failed>
+    requires file { file < 3 }
+    requires reach { at + length bytes.now < 2 ^ 63 }
+    ensures { IfTold (B.files bay.old) (λ seen. (others : List ℕ) → length others ≡ length bytes.now →
+        (image : Files) × B.leaves bay.new image × Holds at others (seen file) (image file)) }
+{
+    bay.write_at(file, at, bytes)
+}
+
+#[test]
+fn a_write_may_tear(rt: HostRuntime) -> Result<(), Fail> {
+    let mut bay = MemBay::new(rt.alloc())?;
+    tears(&mut bay, LOG, 0, b"ab")?;
+    assert_eq!(rt; bay.bytes(LOG), b"ab".as_slice());
     Ok(())
 }
 
