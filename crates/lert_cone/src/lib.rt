@@ -1,0 +1,9 @@
+//! One cone in memory, whose levels are lists: it takes keys one by one and lists its reports.
+//!
+//! The one contract is that of `ListCone`: after each call its reports are those that the definition
+//! makes of the keys taken so far, so they are in time. A refusal changes nothing.
+#![tactic(auto)]
+
+mod cone;
+
+pub use cone::{ListCone, ListFault};
