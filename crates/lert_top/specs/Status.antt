@@ -12,6 +12,7 @@ status_number status.PlaceFault = 2
 status_number (status.TraceFault trace) = 3
 status_number (status.BadTrace trace at) = 4
 status_number (status.TooLong trace) = 5
+status_number (status.CapacityFull cone n len) = 8
 status_number status.OutFault = 11
 status_number status.OutOfMemory = 12
 

@@ -1,7 +1,6 @@
 //! The top call of LERT.
 #![tactic(auto)]
 
-mod detector;
 mod line;
 mod mem_place;
 mod page;
@@ -12,7 +11,6 @@ mod status;
 mod top;
 mod word;
 
-pub use detector::Detector;
 pub use line::{Line, Usage};
 pub use mem_place::MemPlace;
 pub use page::Page;
