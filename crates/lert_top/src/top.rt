@@ -22,7 +22,7 @@ use std::alloc::Global;
 /// Reports each key that occurs as often as the line's threshold says, soon after it does. It opens
 /// the line's trace, reads it to its end into one cone, prints, and puts the trace back, in this
 /// order, and stops at the first fault; what was opened is put back in each case. Nothing is written
-/// before the trace was read to its end.
+/// before the trace was read to its end. What it holds in memory is the cone and a page of text.
 pub fn run<P: Place, K: Sink>(alloc: Global, words: &Words, place: &mut P, out: &mut K) -> Status
     requires asked { P.asked place.old ≡ [] }
     requires handed { P.handed place.old ≡ [] }

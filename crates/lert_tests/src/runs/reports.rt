@@ -4,7 +4,7 @@ use super::{Row, SMALL, check, check_long, short_form, trace, trace_with};
 use lert_top::Status;
 use std::test::Fail;
 
-// A run over so many keys, these at these positions.
+// How many keys there are, these at these positions, and the text.
 type Placed<'a> = (u8, &'a [(u8, u64)], &'a str);
 
 #[test]
