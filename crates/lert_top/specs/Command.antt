@@ -5,7 +5,7 @@ use Rattle.lert_spec.specs.Limits.{first_broken}
 use Rattle.lert_top.specs.Word.{is_option, option_at, is_word, are_names}
 use Rattle.lert_top.specs.declared.line.Line.{Line}
 
--- beside its number, the words are `run --threshold N --cone-bits 0 DIR TRACE`
+-- beside the two words of the threshold, these are `run --threshold N --cone-bits 0 DIR TRACE`
 abbrev pub has_short_words : List (List ℕ) → Bool
 has_short_words words =
     length words == 7 && is_word words 0 (codes "run") && is_word words 3 (codes "--cone-bits") && is_word words 4 (codes "0") && are_names words 5
@@ -47,7 +47,7 @@ long_settings words = record {
   packet = option_at words 15;
 }
 
--- beside the options, the words are `run`, the options, DIR and TRACE
+-- beside the words of the options, these are `run`, the eight options, DIR and TRACE
 abbrev pub has_long_words : List (List ℕ) → Bool
 has_long_words words = length words == 19 && is_word words 0 (codes "run") && are_names words 17
 

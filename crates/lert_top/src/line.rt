@@ -90,7 +90,7 @@ impl Line {
         Some(numbers)
     }
 
-    // Whether the words are those of the short form, whatever stands in the place of its threshold.
+    // Whether the words are those of the short form, beside the two of the threshold.
     fn has_short_words(words: &Words) -> bool
         ensures { result ≡ has_short_words words.now }
     {
@@ -101,7 +101,7 @@ impl Line {
             && are_names(words, 5)
     }
 
-    // Whether the words are those of the long form, whatever stands in the places of its options.
+    // Whether the words are those of the long form, beside those of the options.
     fn has_long_words(words: &Words) -> bool
         ensures { result ≡ has_long_words words.now }
     {

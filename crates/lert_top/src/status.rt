@@ -94,6 +94,11 @@ impl From<OutOfMemory> for Status {
 }
 
 impl fmt::Display for Status {
+    ghost use Rattle.std.specs.Prelude.{Some};
+    ghost use Rattle.lert_top.specs.Status.{status_line};
+
+    ghost output = { λ status. Some (status_line status) };
+
     fn fmt<W: fmt::Write>(&self, f: &mut fmt::Formatter<W>) -> fmt::Result {
         match self {
             Status::Done => write!(f, "lert: done"),
