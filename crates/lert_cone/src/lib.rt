@@ -5,5 +5,6 @@
 #![tactic(auto)]
 
 mod cone;
+mod merge;
 
 pub use cone::{ListCone, ListFault};
