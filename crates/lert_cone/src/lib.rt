@@ -5,6 +5,7 @@
 #![tactic(auto)]
 
 mod cone;
+mod listed;
 mod merge;
 
 pub use cone::{ListCone, ListFault};
