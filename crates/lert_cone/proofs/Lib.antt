@@ -1,4 +1,8 @@
 pub mod CountLemmas
+pub mod CountedLemmas
+pub mod GatherLemmas
 pub mod ListedLemmas
 pub mod MergeLemmas
+pub mod StandLemmas
 pub mod Timing
+pub mod Windows

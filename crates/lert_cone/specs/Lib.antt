@@ -1,3 +1,4 @@
 pub mod Listing
 pub mod Merging
 pub mod Placed
+pub mod Standing

@@ -5,7 +5,9 @@
 #![tactic(auto)]
 
 mod cone;
+mod levels;
 mod listed;
 mod merge;
+mod part;
 
 pub use cone::{ListCone, ListFault};
