@@ -1,5 +1,5 @@
 -- What a cone keeps of its keys, as they come and as bins change.
-use Rattle.std.proofs.Common.{ℕ, ◌≡◌, ◌≢◌, ◌+◌, ◌-◌, ◌*◌, ◌^◌, ◌<◌, ◌≤◌, zero, suc, List, [], ◌∷◌, ◌++◌, length, take, drop, get_or, set, refl, ap, ap₂, sym, ◌∙◌, arith, subst, slice_range, length-append}
+use Rattle.std.proofs.Common.{ℕ, ◌≡◌, ◌≢◌, ◌+◌, ◌-◌, ◌*◌, ◌^◌, ◌<◌, ◌≤◌, suc, List, [], ◌∷◌, ◌++◌, length, take, drop, get_or, set, refl, ap, ap₂, sym, ◌∙◌, arith, subst, slice_range, length-append}
 use Rattle.std.specs.Prelude.{remove}
 use Rattle.std.proofs.Math.Nat.{suc-mul}
 use Rattle.std.proofs.Math.Seq.{drop-append_seam}
@@ -15,7 +15,7 @@ use Rattle.lert_spec.proofs.LookLaws.{slice_range-append}
 use Rattle.lert_spec.proofs.TallyLaws.{tallied-push, total-tallied}
 use Rattle.lert_plain.specs.Contents.{Contents}
 use Rattle.lert_cone.specs.declared.part.Part.{Part}
-use Rattle.lert_cone.specs.Standing.{Counted, IsBin, Stand, AreCounted}
+use Rattle.lert_cone.specs.Standing.{Counted, IsBin, AreCounted}
 use Rattle.lert_cone.proofs.StandLemmas.{Stand-later, Stand-push, Stand-join, IsJoined, IsWhole-base, IsBin-at, neighbours}
 use Rattle.lert_cone.proofs.Windows.{slice_range-join, slice_range-none, IsTable-keys, total-window, merged-window}
 
@@ -162,7 +162,7 @@ module _ (s : Numbers) (events : List ℕ) (sealed : ℕ) (bins : List Part) (ne
     AreCounted-joined joined after from_is to_is table counts free are =
         let whole = merged-window s events x.from x.to y.to joined.pieces.items (omega (arith, older_is.some)) (omega (arith, newer_is.some, meet)) table
         (λ tail. counts tail ∙ ap₂ (λ a b. count_of a tail + count_of b tail) older_is.pieces_are
-            (newer_is.pieces_are ∙ ap (λ p. tallied s (slice_range events p y.to)) meet)) in
+        (newer_is.pieces_are ∙ ap (λ p. tallied s (slice_range events p y.to)) meet)) in
         let is : IsJoined s events (get_or bins (newer - 1) x) (get_or bins (suc (newer - 1)) x) joined =
         rw (sym x_is, sym there) (record { from_is = from_is; to_is = to_is; pieces_are = whole; free = free }) in
         rw (are ∙ ap (remove (set bins (newer - 1) joined)) (sym next))

@@ -1,14 +1,13 @@
 -- The counts of several bins and the newest table together: merged from the newest on, or added up from the oldest on.
-use Rattle.std.proofs.Common.{ℕ, ◌≡◌, ◌+◌, ◌-◌, ◌^◌, ◌<◌, ◌≤◌, suc, List, [], ◌∷◌, length, take, drop, get_or, refl, ap, ap₂, sym, ◌∙◌, arith, subst, slice_range}
+use Rattle.std.proofs.Common.{ℕ, ◌≡◌, ◌+◌, ◌-◌, ◌^◌, ◌<◌, ◌≤◌, suc, List, length, take, drop, get_or, ap, ap₂, sym, ◌∙◌, arith, slice_range}
 use Rattle.std.proofs.Math.Seq.{drop-length, take-length}
-use Rattle.std.proofs.lemmas.List.{get_or_default}
 use Rattle.lert_spec.specs.declared.numbers.Numbers.{Numbers}
 use Rattle.lert_spec.specs.declared.piece.Piece.{Piece}
 use Rattle.lert_spec.specs.Bins.{tallied}
 use Rattle.lert_spec.specs.Table.{count_of, total, IsTable}
 use Rattle.lert_cone.specs.declared.part.Part.{Part}
 use Rattle.lert_cone.specs.Standing.{IsBin, Stand}
-use Rattle.lert_cone.proofs.StandLemmas.{Stand-order, Stand-first, Stand-last}
+use Rattle.lert_cone.proofs.StandLemmas.{Stand-first, Stand-last}
 use Rattle.lert_cone.proofs.Windows.{IsTable-keys, total-window, count-window, count-window_le, slice_range-none, merged-window}
 
 -- the pieces hold the counts from the end of the first so many bins on
@@ -62,7 +61,7 @@ module _ (s : Numbers) (events : List ℕ) (from left : ℕ) (bins : List Part) 
     stand = last.0;
     pieces_are = merged-window s events bin.from bin.to (length events) both (omega (arith, last.1.some)) (omega (arith, last.2, gathering.within)) table
         (λ tail. counts tail ∙ ap₂ (λ a b. count_of a tail + count_of b tail) last.1.pieces_are
-            (gathering.pieces_are ∙ ap (λ p. tallied s (slice_range events p (length events))) (sym last.2)));
+        (gathering.pieces_are ∙ ap (λ p. tallied s (slice_range events p (length events))) (sym last.2)));
     within = omega (arith, last.1.some, last.2, gathering.within);
     left_within = omega (arith, gathering.left_within);
   }

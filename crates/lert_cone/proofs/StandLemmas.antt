@@ -1,16 +1,14 @@
 -- The bins of a cone as keys come, and as bins are put behind them, joined and counted.
-use Rattle.std.proofs.Common.{ℕ, ◌≡◌, ◌≢◌, ◌+◌, ◌-◌, ◌*◌, ◌/◌, ◌%◌, ◌^◌, ◌<◌, ◌≤◌, zero, suc, Bool, true, false, ltb, List, [], ◌∷◌, ◌++◌, length, take, drop, get_or, set, refl, ap, ap₂, sym, ◌∙◌, arith, inl, inr, subst, slice_range, length-append}
+use Rattle.std.proofs.Common.{ℕ, ◌≡◌, ◌≢◌, ◌+◌, ◌-◌, ◌*◌, ◌%◌, ◌^◌, ◌<◌, ◌≤◌, zero, suc, Bool, true, false, ltb, List, [], ◌∷◌, ◌++◌, length, take, drop, get_or, set, refl, ap, ap₂, sym, ◌∙◌, arith, inl, inr, subst, slice_range, length-append}
 use Rattle.std.specs.Prelude.{remove}
 use Rattle.std.proofs.Math.Nat.{mul_comm, mul_assoc, mul-le-mul_right, mul-le-mul_left, one-le-pow, suc-mul, mul-mod_left}
 use Rattle.std.proofs.Math.Seq.{drop-cons}
 use Rattle.std.proofs.lemmas.Bool.{cases_lt, ltb-true, ltb-false, lt-ltb}
 use Rattle.std.proofs.lemmas.List.{take_rest}
 use Rattle.std.specs.List.Sorted.{IsPartitionedBy, IsPartitionPoint}
-use Rattle.std.proofs.lemmas.Nat.{mul-le}
 use Rattle.lert_spec.specs.declared.numbers.Numbers.{Numbers}
-use Rattle.lert_spec.specs.declared.piece.Piece.{Piece}
 use Rattle.lert_spec.specs.Bins.{tallied}
-use Rattle.lert_spec.specs.Edges.{span, spans, offset, edge, capacity}
+use Rattle.lert_spec.specs.Edges.{span, edge}
 use Rattle.lert_spec.specs.Limits.{IsValid}
 use Rattle.lert_spec.proofs.EdgeLaws.{steps, edge_never_falls, edge_descends_to, edge_behind, offset_covers}
 use Rattle.lert_spec.proofs.LookLaws.{slice_range-append}
@@ -37,13 +35,15 @@ module _ (s : Numbers) (base : 1 ≤ s.base) (ratio : 1 ≤ s.ratio) where
   pub Stand-later : (events : List ℕ) (event from : ℕ) (bins : List Part) (to : ℕ) → Stand s events from bins to → to ≤ length events → Stand s (events ++ event ∷ []) from bins to
   Stand-later events event from [] to stand within = stand
   Stand-later events event from (bin ∷ bins) to stand within =
-      let ends = Stand-order s events bin.to bins to stand.1 in
-      (record {
-        begins = stand.0.begins;
-        some = stand.0.some;
-        pieces_are = stand.0.pieces_are ∙ ap (tallied s) (sym (slice_range-append events (event ∷ []) from bin.to (omega arith)));
-        whole = IsWhole-later (length events) (length (events ++ event ∷ [])) from bin.to (omega (arith, length-append events (event ∷ []))) stand.0.whole;
-      }, Stand-later events event bin.to bins to stand.1 within)
+      let ends = Stand-order s events bin.to bins to stand.1 in (
+        record {
+          begins = stand.0.begins;
+          some = stand.0.some;
+          pieces_are = stand.0.pieces_are ∙ ap (tallied s) (sym (slice_range-append events (event ∷ []) from bin.to (omega arith)));
+          whole = IsWhole-later (length events) (length (events ++ event ∷ [])) from bin.to (omega (arith, length-append events (event ∷ []))) stand.0.whole;
+        },
+        Stand-later events event bin.to bins to stand.1 within,
+      )
 
 -- a later bin doesn't begin earlier
 from_rises : (s : Numbers) (events : List ℕ) (from : ℕ) (bins : List Part) (to k : ℕ) (d : Part) → Stand s events from bins to → k < length bins → from ≤ (get_or bins k d).from

@@ -1,6 +1,6 @@
 //! The levels of a cone as lists in memory: how often each tail occurred, in bins that end where an edge may come to stand.
 
-ghost use Rattle.std.specs.Prelude.{◌≡◌, ◌≢◌, ℕ, ◌+◌, ◌-◌, ◌*◌, ◌%◌, ◌<◌, ◌≤◌, ◌↔◌, true, false, [], ◌∷◌, ◌++◌, length, slice_range, IsTrue, IfOk, OnOk, OnErr};
+ghost use Rattle.std.specs.Prelude.{◌≡◌, ◌≢◌, ℕ, ◌+◌, ◌-◌, ◌*◌, ◌%◌, ◌^◌, ◌<◌, ◌≤◌, ◌↔◌, true, false, [], ◌∷◌, ◌++◌, length, slice_range, IsTrue, IfOk, OnOk, OnErr};
 ghost use Rattle.lert_spec.specs.Bins.{tallied};
 ghost use Rattle.lert_spec.specs.Edges.{span, edge, capacity};
 ghost use Rattle.lert_spec.specs.Mix.{tail_of};
@@ -88,9 +88,10 @@ impl Levels {
 
     /// How often a key occurs in level 0.
     pub fn young_count(&self, key: u64) -> u64
-        ensures { result ≡ count_of (tallied self.now.settings (slice_range self.now.events
+        ensures value { result ≡ count_of (tallied self.now.settings (slice_range self.now.events
             (edge self.now.settings 0 (length self.now.events)) (length self.now.events)))
             (tail_of self.now.settings key) }
+        ensures few { result < 2 ^ 32 }
     {
         let tail = tail_of(&self.settings, key);
         let mut count = self.newest.count(tail);

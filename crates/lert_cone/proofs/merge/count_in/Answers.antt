@@ -1,4 +1,4 @@
-use Rattle.std.proofs.Common.{◌≡◌, ◌∙◌, sym, ap, arith, rules}
+use Rattle.std.proofs.Common.{◌∙◌, sym, ap, arith, rules}
 use Rattle.std.proofs.lemmas.List.Sorted.{IsPartitionPoint-from_clause}
 use Rattle.lert_cone.proofs.CountLemmas.{is_less, IsPartitionedBy-ascends, count_of-found, count_of-missed}
 use Rattle.lert_cone.proofs.merge.count_in.Goals as goal

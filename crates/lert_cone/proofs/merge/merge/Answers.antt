@@ -1,7 +1,6 @@
-use Rattle.std.proofs.Common.{◌≤◌, ◌⊎◌, inl, inr, length, arith, sym, ◌∙◌, ap, ◌++◌, take, drop, ◌-◌}
-use Rattle.lert_spec.specs.Table.{total}
+use Rattle.std.proofs.Common.{inl, inr, length, arith, ◌∙◌, ap, ◌++◌, take, drop, ◌-◌}
 use Rattle.lert_spec.proofs.Tables.{count_le-total}
-use Rattle.lert_cone.proofs.MergeLemmas.{Stepped, Stepped-more, IsMerged, IsMerged-done}
+use Rattle.lert_cone.proofs.MergeLemmas.{Stepped-more, IsMerged-done}
 use Rattle.lert_cone.proofs.merge.merge.Goals as goal
 use Rattle.lert_cone.proofs.merge.merge.Goals.{In_ok-push, In_ok-extend_from_slice-2, then-loop-i-test+else-j-right, else-loop-i-test}
 

@@ -6,7 +6,7 @@ abbrev pub invariant-loop-i : goal.invariant-loop-i
 invariant-loop-i l = record {
   left_within : l.i ≤ length l.left;
   right_within : l.j ≤ length l.right;
-  merging : IsMerging (2 ^ 64) l.left l.right l.both.items (drop l.i l.left) (drop l.j l.right)
+  merging : IsMerging (2 ^ 64) l.left l.right l.both.items (drop l.i l.left) (drop l.j l.right);
 }
 
 abbrev pub decreases-loop-i : goal.decreases-loop-i

@@ -1,4 +1,4 @@
-use Rattle.std.proofs.Common.{◌≡◌, ◌-◌, ℕ, List, length, take, drop, subst, ap, sym, ◌≤◌, rules}
+use Rattle.std.proofs.Common.{◌-◌, length, take, drop, subst, ap, sym, ◌≤◌, rules}
 use Rattle.std.proofs.lemmas.List.Sorted.{IsPartitionPoint-from_clause}
 use Rattle.lert_spec.specs.Edges.{edge}
 use Rattle.lert_cone.specs.Standing.{Counted, Stand}

@@ -1,4 +1,4 @@
-use Rattle.std.proofs.Common.{◌≡◌, ◌+◌, ◌-◌, ◌∙◌, sym, ap, ap₂}
+use Rattle.std.proofs.Common.{◌+◌, ◌∙◌, sym, ap, ap₂}
 use Rattle.lert_spec.specs.Table.{count_of}
 use Rattle.lert_cone.specs.declared.part.Part.{Part}
 use Rattle.lert_cone.proofs.CountedLemmas.{few_keys}

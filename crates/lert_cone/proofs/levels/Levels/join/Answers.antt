@@ -1,4 +1,4 @@
-use Rattle.std.proofs.Common.{ℕ, ◌≡◌, ◌≢◌, ◌*◌, ◌≤◌, ◌+◌, ◌∙◌, length, refl, arith, sym, subst, ap, ap₂}
+use Rattle.std.proofs.Common.{ℕ, ◌≢◌, ◌*◌, ◌≤◌, ◌+◌, ◌∙◌, length, refl, arith, sym, subst, ap₂}
 use Rattle.lert_spec.specs.Edges.{span, edge}
 use Rattle.lert_spec.specs.Table.{count_of}
 use Rattle.lert_cone.specs.Standing.{Counted}

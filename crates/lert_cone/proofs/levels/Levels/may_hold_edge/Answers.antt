@@ -1,4 +1,4 @@
-use Rattle.std.proofs.Common.{length, sym, arith}
+use Rattle.std.proofs.Common.{length}
 use Rattle.std.proofs.lemmas.Bool.{false≢true}
 use Rattle.lert_cone.proofs.StandLemmas.{no_edge_more}
 use Rattle.lert_cone.proofs.levels.Levels.may_hold_edge.Goals as goal

@@ -1,10 +1,9 @@
-use Rattle.std.proofs.Common.{◌≡◌, ◌+◌, false, All, ap, sym, ◌∙◌, subst, arith, Some, get_or}
+use Rattle.std.proofs.Common.{◌+◌, ap, ◌∙◌, subst, Some, get_or}
 use Rattle.std.specs.BTreeMap.{Updates}
 use Rattle.std.specs.Ordering.{nat_cmp}
 use Rattle.lert_spec.specs.Look.{is_listed}
 use Rattle.lert_spec.specs.declared.report.Report.{Report}
-use Rattle.lert_cone.specs.Placed.{ArePlacing}
-use Rattle.lert_cone.proofs.ListedLemmas.{ArePlacing-more, ArePlacing-none, ArePlaced-all}
+use Rattle.lert_cone.proofs.ListedLemmas.{ArePlacing-more}
 use Rattle.lert_cone.proofs.listed.Listed.append.Goals as goal
 
 pub loop-number-preserved : goal.loop-number-preserved

@@ -7,5 +7,5 @@ invariant-loop-number l = record {
   same : l.self-inside.reports.items ≡ l.fn.self;
   room : vec_len l.self-inside.reports + length l.due ≤ vec_capacity l.self-inside.reports;
   first_is : l.first ≡ length l.self-inside.reports.items;
-  placing : ArePlacing l.self-inside.reports.items l.due l.self-inside.places l.number
+  placing : ArePlacing l.self-inside.reports.items l.due l.self-inside.places l.number;
 }
