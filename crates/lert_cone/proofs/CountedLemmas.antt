@@ -14,7 +14,7 @@ use Rattle.lert_spec.proofs.LimitLaws.{capacity_from, capacity_to}
 use Rattle.lert_spec.proofs.LookLaws.{slice_range-append}
 use Rattle.lert_spec.proofs.TallyLaws.{tallied-push, total-tallied}
 use Rattle.lert_plain.specs.Contents.{Contents}
-use Rattle.lert_cone.specs.declared.part.Part.{Part}
+use Rattle.lert_cone.specs.declared.bin.Bin.{Bin}
 use Rattle.lert_cone.specs.Standing.{Counted, IsBin, AreCounted}
 use Rattle.lert_cone.proofs.StandLemmas.{Stand-later, Stand-push, Stand-join, IsJoined, IsWhole-base, IsBin-at, neighbours}
 use Rattle.lert_cone.proofs.Windows.{slice_range-join, slice_range-none, IsTable-keys, total-window, merged-window}
@@ -46,7 +46,7 @@ AreCounted-none s newest quotient remainder valid quotient_is remainder_is few n
   fits = omega (arith, capacity_from s valid);
 }
 
-module _ (s : Numbers) (events : List ℕ) (sealed : ℕ) (bins : List Part) (newest : Contents) (taken : ℕ) (counted : AreCounted s events sealed bins newest taken) where
+module _ (s : Numbers) (events : List ℕ) (sealed : ℕ) (bins : List Bin) (newest : Contents) (taken : ℕ) (counted : AreCounted s events sealed bins newest taken) where
   -- a cone has fewer keys than there are numbers of 32 bits
   pub few_keys : (seen : Counted) → record { settings = s; events = events; sealed = sealed } ≡ seen → length seen.events < 2 ^ 32
   few_keys seen is = subst (λ (v : Counted). length v.events < 2 ^ 32) is (omega (arith, counted.fits, capacity_to s counted.valid))
@@ -80,7 +80,7 @@ module _ (s : Numbers) (events : List ℕ) (sealed : ℕ) (bins : List Part) (ne
         fits = omega (arith, longer);
       }
 
-  pub AreCounted-seal : (bin : Part) (newest' : Contents) → length events ≡ sealed + s.base →
+  pub AreCounted-seal : (bin : Bin) (newest' : Contents) → length events ≡ sealed + s.base →
       bin.from ≡ sealed → bin.to ≡ taken → bin.pieces.items ≡ newest.pieces →
       newest'.pieces ≡ [] → newest'.room ≡ newest.room → newest'.tail_bits ≡ newest.tail_bits →
       AreCounted s events taken (bins ++ bin ∷ []) newest' taken
@@ -106,7 +106,7 @@ module _ (s : Numbers) (events : List ℕ) (sealed : ℕ) (bins : List Part) (ne
         fits = counted.fits;
       }
 
-  pub AreCounted-join : (k : ℕ) (d joined : Part) → suc k < length bins → IsJoined s events (get_or bins k d) (get_or bins (suc k) d) joined →
+  pub AreCounted-join : (k : ℕ) (d joined : Bin) → suc k < length bins → IsJoined s events (get_or bins k d) (get_or bins (suc k) d) joined →
       AreCounted s events sealed (remove (set bins k joined) (suc k)) newest taken
   AreCounted-join k d joined within is = record {
     valid = counted.valid;
@@ -123,7 +123,7 @@ module _ (s : Numbers) (events : List ℕ) (sealed : ℕ) (bins : List Part) (ne
   }
 
   -- two bins by their places
-  module _ (newer : ℕ) (x y : Part) (first : 1 ≤ newer) (within : newer < length bins) (x_is : x ≡ get_or bins (newer - 1) x) (y_is : y ≡ get_or bins newer y) where
+  module _ (newer : ℕ) (x y : Bin) (first : 1 ≤ newer) (within : newer < length bins) (x_is : x ≡ get_or bins (newer - 1) x) (y_is : y ≡ get_or bins newer y) where
     next : suc (newer - 1) ≡ newer
     next = omega arith
 
@@ -155,7 +155,7 @@ module _ (s : Numbers) (events : List ℕ) (sealed : ℕ) (bins : List Part) (ne
           ),
         )
 
-    pub AreCounted-joined : (joined : Part) (after : List Part) → joined.from ≡ x.from → joined.to ≡ y.to →
+    pub AreCounted-joined : (joined : Bin) (after : List Bin) → joined.from ≡ x.from → joined.to ≡ y.to →
         IsTable (2 ^ 64) joined.pieces.items → ((tail : ℕ) → count_of joined.pieces.items tail ≡ count_of x.pieces.items tail + count_of y.pieces.items tail) →
         ((level k : ℕ) → level ≤ s.levels → edge s level (length events) ≤ k * span s level → k * span s level ≢ y.from) →
         after ≡ remove (set bins (newer - 1) joined) newer → AreCounted s events sealed after newest taken

@@ -126,9 +126,6 @@ module _ (s : Numbers) (cone : ℕ) (events : List ℕ) (reports : List Report) 
 -- what is seen of a cone, from what it keeps
 module _ (s : Numbers) (cone : ℕ) (events : List ℕ) (closed : Bool) (reports : List Report) (listed : AreListed s cone events closed reports)
     (seen : Listing) (is : record { settings = s; cone = cone; events = events; closed = closed } ≡ seen) where
-  pub seen_reports : reports ≡ reports_of seen
-  seen_reports = listed.reports_are ∙ ap reports_of is
-
   pub seen_due_key : (piece : Piece) → due_key s cone reports piece ≡ due_key seen.settings seen.cone (reports_of seen) piece
   seen_due_key piece =
       ap (λ rs. due_key s cone rs piece) listed.reports_are
@@ -160,10 +157,6 @@ module _ (s : Numbers) (cone : ℕ) (events : List ℕ) (closed : Bool) (reports
     pub due_key-fresh : s.threshold ≤ piece.count → is_listed key reports ≡ false → Some key ≡ due_key seen.settings seen.cone (reports_of seen) piece
     due_key-fresh enough fresh =
         ap Some key_is ∙ sym (ap (λ t. cond t (Some (key_with s cone piece.tail)) None) (tested false enough fresh)) ∙ seen_due_key piece
-
-  pub due_key-few : (piece : Piece) → piece.count < s.threshold → None ≡ due_key seen.settings seen.cone (reports_of seen) piece
-  due_key-few piece few =
-      sym (ap (λ t. cond (t && not (is_listed (key_with s cone piece.tail) reports)) (Some (key_with s cone piece.tail)) None) (lt-leb s.threshold piece.count few)) ∙ seen_due_key piece
 
 -- a due piece has its key's report
 due_key-some : (s : Numbers) (cone : ℕ) (reports : List Report) (piece : Piece) (key : ℕ) → Some key ≡ due_key s cone reports piece → (is_due_piece s cone s.threshold reports piece ≡ true) × (key ≡ key_with s cone piece.tail)

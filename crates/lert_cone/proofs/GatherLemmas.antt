@@ -1,42 +1,25 @@
 -- The counts of several bins and the newest table together: merged from the newest on, or added up from the oldest on.
 use Rattle.std.proofs.Common.{ℕ, ◌≡◌, ◌+◌, ◌-◌, ◌^◌, ◌<◌, ◌≤◌, suc, List, length, take, drop, get_or, ap, ap₂, sym, ◌∙◌, arith, slice_range}
-use Rattle.std.proofs.Math.Seq.{drop-length, take-length}
+use Rattle.std.proofs.Math.Seq.{drop-length}
 use Rattle.lert_spec.specs.declared.numbers.Numbers.{Numbers}
 use Rattle.lert_spec.specs.declared.piece.Piece.{Piece}
 use Rattle.lert_spec.specs.Bins.{tallied}
 use Rattle.lert_spec.specs.Table.{count_of, total, IsTable}
-use Rattle.lert_cone.specs.declared.part.Part.{Part}
+use Rattle.lert_cone.specs.declared.bin.Bin.{Bin}
 use Rattle.lert_cone.specs.Standing.{IsBin, Stand}
 use Rattle.lert_cone.proofs.StandLemmas.{Stand-first, Stand-last}
-use Rattle.lert_cone.proofs.Windows.{IsTable-keys, total-window, count-window, count-window_le, slice_range-none, merged-window}
+use Rattle.lert_cone.proofs.Windows.{IsTable-keys, total-window, count-window, count-window_le, merged-window}
 
 -- the pieces hold the counts from the end of the first so many bins on
-pub record IsGathering (s : Numbers) (events : List ℕ) (from : ℕ) (bins : List Part) (left : ℕ) (pieces : List Piece) : Type 0 where
+pub record IsGathering (s : Numbers) (events : List ℕ) (from : ℕ) (bins : List Bin) (left : ℕ) (pieces : List Piece) : Type 0 where
   pub position : ℕ
   pub stand : Stand s events from (take left bins) position
   pub pieces_are : pieces ≡ tallied s (slice_range events position (length events))
   pub within : position ≤ length events
   pub left_within : left ≤ length bins
 
--- at first those of the newest table
-pub IsGathering-none : (s : Numbers) (events : List ℕ) (from sealed left : ℕ) (bins : List Part) (pieces : List Piece) → Stand s events from bins sealed → sealed ≤ length events → left ≡ length bins →
-    pieces ≡ tallied s (slice_range events sealed (length events)) → IsGathering s events from bins left pieces
-IsGathering-none s events from sealed left bins pieces stand within all are = record {
-  position = sealed;
-  stand = rw (all, take-length bins) stand;
-  pieces_are = are;
-  within = within;
-  left_within = omega (arith, all);
-}
-
--- in the end all
-pub IsGathering-all : (s : Numbers) (events : List ℕ) (from left : ℕ) (bins : List Part) (pieces : List Piece) → IsGathering s events from bins left pieces → left ≡ 0 → pieces ≡ tallied s (slice_range events from (length events))
-IsGathering-all s events from left bins pieces gathering none =
-    let stand : from ≡ gathering.position = rw none at gathering.stand in
-    gathering.pieces_are ∙ ap (λ p. tallied s (slice_range events p (length events))) (sym stand)
-
-module _ (s : Numbers) (events : List ℕ) (from left : ℕ) (bins : List Part) (pieces : List Piece) (gathering : IsGathering s events from bins left pieces)
-    (some : 0 < left) (small : length events < 2 ^ 32) (bin : Part) (bin_is : bin ≡ get_or bins (left - 1) bin) where
+module _ (s : Numbers) (events : List ℕ) (from left : ℕ) (bins : List Bin) (pieces : List Piece) (gathering : IsGathering s events from bins left pieces)
+    (some : 0 < left) (small : length events < 2 ^ 32) (bin : Bin) (bin_is : bin ≡ get_or bins (left - 1) bin) where
   last : Stand s events from (take (left - 1) bins) bin.from × IsBin s events bin.from bin × (bin.to ≡ gathering.position)
   last =
       let whole : left ≡ suc (left - 1) = omega arith in
@@ -67,24 +50,14 @@ module _ (s : Numbers) (events : List ℕ) (from left : ℕ) (bins : List Part) 
   }
 
 -- the count of a tail in the newest table, and in the first so many bins
-pub record IsCounting (s : Numbers) (events : List ℕ) (from sealed : ℕ) (bins : List Part) (tail number counted : ℕ) : Type 0 where
+pub record IsCounting (s : Numbers) (events : List ℕ) (from sealed : ℕ) (bins : List Bin) (tail number counted : ℕ) : Type 0 where
   pub position : ℕ
   pub stand : Stand s events position (drop number bins) sealed
   pub from_start : from ≤ position
   pub number_within : number ≤ length bins
   pub counted_is : counted ≡ count_of (tallied s (slice_range events sealed (length events))) tail + count_of (tallied s (slice_range events from position)) tail
 
-pub IsCounting-none : (s : Numbers) (events : List ℕ) (from sealed : ℕ) (bins : List Part) (tail counted : ℕ) → Stand s events from bins sealed →
-    counted ≡ count_of (tallied s (slice_range events sealed (length events))) tail → IsCounting s events from sealed bins tail 0 counted
-IsCounting-none s events from sealed bins tail counted stand is = record {
-  position = from;
-  stand = stand;
-  from_start = omega arith;
-  number_within = omega arith;
-  counted_is = omega (arith, is, ap (λ keys. count_of (tallied s keys) tail) (slice_range-none events from));
-}
-
-pub IsCounting-all : (s : Numbers) (events : List ℕ) (from sealed : ℕ) (bins : List Part) (tail number counted : ℕ) → IsCounting s events from sealed bins tail number counted → length bins ≤ number → sealed ≤ length events →
+pub IsCounting-all : (s : Numbers) (events : List ℕ) (from sealed : ℕ) (bins : List Bin) (tail number counted : ℕ) → IsCounting s events from sealed bins tail number counted → length bins ≤ number → sealed ≤ length events →
     counted ≡ count_of (tallied s (slice_range events from (length events))) tail
 IsCounting-all s events from sealed bins tail number counted counting all within =
     let whole : number ≡ length bins = omega (arith, counting.number_within) in
@@ -93,8 +66,8 @@ IsCounting-all s events from sealed bins tail number counted counting all within
     let counts = counting.counted_is ∙ ap (λ p. count_of (tallied s (slice_range events sealed (length events))) tail + count_of (tallied s (slice_range events from p)) tail) end in
     omega (arith, counts, parts)
 
-module _ (s : Numbers) (events : List ℕ) (from sealed : ℕ) (bins : List Part) (tail number counted : ℕ) (counting : IsCounting s events from sealed bins tail number counted)
-    (more : number < length bins) (small : length events < 2 ^ 32) (bin : Part) (bin_is : bin ≡ get_or bins number bin) where
+module _ (s : Numbers) (events : List ℕ) (from sealed : ℕ) (bins : List Bin) (tail number counted : ℕ) (counting : IsCounting s events from sealed bins tail number counted)
+    (more : number < length bins) (small : length events < 2 ^ 32) (bin : Bin) (bin_is : bin ≡ get_or bins number bin) where
   first : IsBin s events counting.position bin × Stand s events bin.to (drop (number + 1) bins) sealed
   first = rw (sym bin_is) at (Stand-first s events counting.position bins sealed number bin counting.stand more)
 

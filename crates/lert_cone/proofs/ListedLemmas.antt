@@ -1,6 +1,6 @@
 -- The places of reports as more are listed.
 use Rattle.std.proofs.Common.{ℕ, ◌≡◌, ◌≢◌, ◌+◌, ◌<◌, suc, true, false, eqb, List, [], ◌∷◌, ◌++◌, length, take, get_or, Some, ap, sym, ◌∙◌, arith, inl, inr, ◌⊎◌, subst, append_assoc, length-append}
-use Rattle.std.proofs.Math.Seq.{take-suc, take-length}
+use Rattle.std.proofs.Math.Seq.{take-suc}
 use Rattle.std.proofs.Math.ListN.{get_or-append}
 use Rattle.std.proofs.lemmas.Bool.{cases_eq, false≢true, eqb-true, or_cases}
 use Rattle.std.proofs.lemmas.List.{get_or-append-add, length-take}
@@ -10,7 +10,7 @@ use Rattle.std.specs.Ordering.{nat_cmp}
 use Rattle.std.specs.BTreeMap.{BTreeMap, get, is_at, Updates}
 use Rattle.lert_spec.specs.declared.report.Report.{Report}
 use Rattle.lert_spec.specs.Look.{is_listed}
-use Rattle.lert_cone.specs.Placed.{IsPlaced, ArePlaced, ArePlacing}
+use Rattle.lert_cone.specs.Placed.{IsPlaced, ArePlacing}
 
 -- a place among the first reports is one among more
 IsPlaced-append : (reports more : List Report) (key : ℕ) (found : _) → IsPlaced reports key found → IsPlaced (reports ++ more) key found
@@ -77,16 +77,3 @@ module _ (reports due : List Report) (places places' : BTreeMap ℕ ℕ) (number
           ]
         ];
   }
-
--- before the first of them none is placed
-pub ArePlacing-none : (reports due : List Report) (places : BTreeMap ℕ ℕ) → ArePlaced reports places → ArePlacing reports due places 0
-ArePlacing-none reports due places placed = record { listed = placed; next = λ key listed. absurd (false≢true listed) }
-
--- and in the end all are
-pub ArePlaced-all : (reports due : List Report) (places : BTreeMap ℕ ℕ) (number : ℕ) → number ≡ length due → ArePlacing reports due places number → ArePlaced (reports ++ due) places
-ArePlaced-all reports due places number all placing key listed =
-    let whole : take number due ≡ due = ap (λ n. take n due) all ∙ take-length due in
-    elim (or_cases (is_listed key reports) (is_listed key due) (sym (list_any-append (λ r. eqb r.key key) reports due) ∙ listed)) [
-      | inl before ↦ IsPlaced-append reports due key (get nat_cmp places key) (placing.listed key before)
-      | inr later ↦ (rw whole at placing.next) key later
-    ]

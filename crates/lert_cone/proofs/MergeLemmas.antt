@@ -1,11 +1,11 @@
 -- The steps of a merge.
-use Rattle.std.proofs.Common.{ℕ, ◌≡◌, ◌+◌, ◌-◌, ◌<◌, ◌≤◌, suc, List, [], ◌∷◌, ◌++◌, length, take, drop, get_or, refl, ap, sym, ◌∙◌, arith, inl, inr, ◌⊎◌, subst, append-nil}
+use Rattle.std.proofs.Common.{ℕ, ◌≡◌, ◌+◌, ◌-◌, ◌<◌, ◌≤◌, suc, List, [], ◌∷◌, ◌++◌, length, take, drop, get_or, ap, sym, ◌∙◌, arith, inl, inr, ◌⊎◌, subst, append-nil}
 use Rattle.std.proofs.Math.Seq.{drop-cons}
 use Rattle.std.proofs.Math.ListN.{drop_of_length-le}
 use Rattle.std.proofs.lemmas.List.{take_rest}
 use Rattle.std.proofs.lemmas.Bool.{cases_eq, cases_order}
 use Rattle.lert_spec.specs.declared.piece.Piece.{Piece}
-use Rattle.lert_spec.specs.Table.{count_of, AscendsFrom, IsTable}
+use Rattle.lert_spec.specs.Table.{count_of, AscendsFrom}
 use Rattle.lert_spec.proofs.Tables.{count_of-below}
 use Rattle.lert_spec.proofs.TallyLaws.{count_of-cons_same, count_of-cons_other}
 use Rattle.lert_cone.specs.Merging.{IsFirst, IsMerging}
@@ -28,12 +28,6 @@ AscendsFrom-append low least limit (p ∷ ps) qs under within first second = (
   first.2,
   AscendsFrom-append (p.tail + 1) least limit ps qs (omega (arith, first.1)) within first.3 second,
 )
-
--- a tail at or above the limit is absent
-pub count_of-above : (low limit : ℕ) (ps : List Piece) (tail : ℕ) → limit ≤ tail → AscendsFrom low limit ps → count_of ps tail ≡ 0
-count_of-above low limit [] tail above ascends = refl
-count_of-above low limit (p ∷ ps) tail above ascends =
-    count_of-cons_other p ps tail (λ same. omega (arith, ascends.1)) ∙ count_of-above (p.tail + 1) limit ps tail above ascends.3
 
 -- the counts of a table before another are those of both
 pub count_of-append : (low least limit : ℕ) (ps qs : List Piece) (tail : ℕ) → AscendsFrom low least ps → AscendsFrom least limit qs → count_of (ps ++ qs) tail ≡ count_of ps tail + count_of qs tail
@@ -134,17 +128,6 @@ module _ (limit : ℕ) (left right both : List Piece) where
             merging.counts in
             rw (taken.0, left_stays taken.1, right_on taken.2) step)
       ]
-
--- before a merge nothing is put out
-pub IsMerging-none : (limit : ℕ) (left right : List Piece) → IsTable limit left → IsTable limit right → IsMerging limit left right [] left right
-IsMerging-none limit left right left_table right_table = record {
-  least = 0;
-  within = omega arith;
-  put_out = tt;
-  left_ascends = left_table;
-  right_ascends = right_table;
-  counts = λ tail. omega arith;
-}
 
 -- how many pieces a first one is of each side
 of_sides : (x y p : Piece) (of_left of_right : ℕ) → IsFirst x y p of_left of_right → (of_left ≤ 1) × (of_right ≤ 1) × (1 ≤ of_left + of_right)

@@ -12,17 +12,17 @@ use Rattle.lert_spec.specs.Edges.{span, edge}
 use Rattle.lert_spec.specs.Limits.{IsValid}
 use Rattle.lert_spec.proofs.EdgeLaws.{steps, edge_never_falls, edge_descends_to, edge_behind, offset_covers}
 use Rattle.lert_spec.proofs.LookLaws.{slice_range-append}
-use Rattle.lert_cone.specs.declared.part.Part.{Part}
+use Rattle.lert_cone.specs.declared.bin.Bin.{Bin}
 use Rattle.lert_plain.specs.Contents.{Contents}
 use Rattle.lert_cone.specs.Standing.{IsWhole, IsBin, Stand, AreCounted}
 
 -- bins end where they say
-pub Stand-order : (s : Numbers) (events : List ℕ) (from : ℕ) (bins : List Part) (to : ℕ) → Stand s events from bins to → from ≤ to
+pub Stand-order : (s : Numbers) (events : List ℕ) (from : ℕ) (bins : List Bin) (to : ℕ) → Stand s events from bins to → from ≤ to
 Stand-order s events from [] to stand = omega arith
 Stand-order s events from (bin ∷ bins) to stand = omega (arith, stand.0.some, Stand-order s events bin.to bins to stand.1)
 
 -- one more bin behind the others
-pub Stand-push : (s : Numbers) (events : List ℕ) (from : ℕ) (bins : List Part) (to : ℕ) (bin : Part) → Stand s events from bins to → IsBin s events to bin → Stand s events from (bins ++ bin ∷ []) bin.to
+pub Stand-push : (s : Numbers) (events : List ℕ) (from : ℕ) (bins : List Bin) (to : ℕ) (bin : Bin) → Stand s events from bins to → IsBin s events to bin → Stand s events from (bins ++ bin ∷ []) bin.to
 Stand-push s events from [] to bin stand more = (subst (λ p. IsBin s events p bin) (sym stand) more, refl)
 Stand-push s events from (first ∷ bins) to bin stand more = (stand.0, Stand-push s events first.to bins to bin stand.1 more)
 
@@ -32,7 +32,7 @@ module _ (s : Numbers) (base : 1 ≤ s.base) (ratio : 1 ≤ s.ratio) where
   IsWhole-later n m from to later whole level k within reached more =
       whole level k within (omega (arith, edge_never_falls s base ratio level n m later)) more
 
-  pub Stand-later : (events : List ℕ) (event from : ℕ) (bins : List Part) (to : ℕ) → Stand s events from bins to → to ≤ length events → Stand s (events ++ event ∷ []) from bins to
+  pub Stand-later : (events : List ℕ) (event from : ℕ) (bins : List Bin) (to : ℕ) → Stand s events from bins to → to ≤ length events → Stand s (events ++ event ∷ []) from bins to
   Stand-later events event from [] to stand within = stand
   Stand-later events event from (bin ∷ bins) to stand within =
       let ends = Stand-order s events bin.to bins to stand.1 in (
@@ -46,13 +46,13 @@ module _ (s : Numbers) (base : 1 ≤ s.base) (ratio : 1 ≤ s.ratio) where
       )
 
 -- a later bin doesn't begin earlier
-from_rises : (s : Numbers) (events : List ℕ) (from : ℕ) (bins : List Part) (to k : ℕ) (d : Part) → Stand s events from bins to → k < length bins → from ≤ (get_or bins k d).from
+from_rises : (s : Numbers) (events : List ℕ) (from : ℕ) (bins : List Bin) (to k : ℕ) (d : Bin) → Stand s events from bins to → k < length bins → from ≤ (get_or bins k d).from
 from_rises s events from [] to k d stand within = absurd (omega arith)
 from_rises s events from (bin ∷ bins) to zero d stand within = omega (arith, stand.0.begins)
 from_rises s events from (bin ∷ bins) to (suc k) d stand within =
     omega (arith, stand.0.some, from_rises s events bin.to bins to k d stand.1 (omega arith))
 
-pub begins_in_order : (s : Numbers) (events : List ℕ) (from : ℕ) (bins : List Part) (to i j : ℕ) (d : Part) → Stand s events from bins to → i ≤ j → j < length bins → (get_or bins i d).from ≤ (get_or bins j d).from
+pub begins_in_order : (s : Numbers) (events : List ℕ) (from : ℕ) (bins : List Bin) (to i j : ℕ) (d : Bin) → Stand s events from bins to → i ≤ j → j < length bins → (get_or bins i d).from ≤ (get_or bins j d).from
 begins_in_order s events from [] to i j d stand before within = absurd (omega arith)
 begins_in_order s events from (bin ∷ bins) to zero j d stand before within =
     omega (arith, stand.0.begins, from_rises s events from (bin ∷ bins) to j d stand within)
@@ -61,10 +61,10 @@ begins_in_order s events from (bin ∷ bins) to (suc i) (suc j) d stand before w
     begins_in_order s events bin.to bins to i j d stand.1 (omega arith) (omega arith)
 
 -- the bins that don't begin below an edge are those above it
-pub Stand-above : (s : Numbers) (events : List ℕ) (from : ℕ) (bins : List Part) (to first level k : ℕ) → Stand s events from bins to →
+pub Stand-above : (s : Numbers) (events : List ℕ) (from : ℕ) (bins : List Bin) (to first level k : ℕ) → Stand s events from bins to →
     level ≤ s.levels → edge s level (length events) ≤ k * span s level → from ≤ k * span s level → k * span s level ≤ to → first ≤ length bins →
-    ((i : ℕ) (d : Part) → i < first → (get_or bins i d).from < k * span s level) →
-    ((i : ℕ) (d : Part) → first ≤ i → i < length bins → k * span s level ≤ (get_or bins i d).from) →
+    ((i : ℕ) (d : Bin) → i < first → (get_or bins i d).from < k * span s level) →
+    ((i : ℕ) (d : Bin) → first ≤ i → i < length bins → k * span s level ≤ (get_or bins i d).from) →
     Stand s events (k * span s level) (drop first bins) to
 Stand-above s events from [] to zero level k stand leveled reached after before within below above = omega (arith, stand)
 Stand-above s events from [] to (suc first) level k stand leveled reached after before within below above = absurd (omega arith)
@@ -80,7 +80,7 @@ Stand-above s events from (bin ∷ bins) to (suc first) level k stand leveled re
     (λ i d more inside. above (suc i) d (omega arith) (omega arith))
 
 -- the first of the bins from a place on
-pub Stand-first : (s : Numbers) (events : List ℕ) (from : ℕ) (bins : List Part) (to k : ℕ) (d : Part) → Stand s events from (drop k bins) to → k < length bins →
+pub Stand-first : (s : Numbers) (events : List ℕ) (from : ℕ) (bins : List Bin) (to k : ℕ) (d : Bin) → Stand s events from (drop k bins) to → k < length bins →
     IsBin s events from (get_or bins k d) × Stand s events (get_or bins k d).to (drop (k + 1) bins) to
 Stand-first s events from bins to k d stand within =
     let parts = rw (drop-cons bins k d within) at stand in
@@ -88,7 +88,7 @@ Stand-first s events from bins to k d stand within =
     rw next parts
 
 -- the last of the bins up to a place
-pub Stand-last : (s : Numbers) (events : List ℕ) (from : ℕ) (bins : List Part) (to k : ℕ) (d : Part) → Stand s events from (take (suc k) bins) to → k < length bins →
+pub Stand-last : (s : Numbers) (events : List ℕ) (from : ℕ) (bins : List Bin) (to k : ℕ) (d : Bin) → Stand s events from (take (suc k) bins) to → k < length bins →
     Stand s events from (take k bins) (get_or bins k d).from × IsBin s events (get_or bins k d).from (get_or bins k d) × ((get_or bins k d).to ≡ to)
 Stand-last s events from [] to k d stand within = absurd (omega arith)
 Stand-last s events from (bin ∷ bins) to zero d stand within =
@@ -98,13 +98,13 @@ Stand-last s events from (bin ∷ bins) to (suc k) d stand within =
     ((stand.0, rest.0), rest.1, rest.2)
 
 -- a bin of two that meet where no edge comes to stand
-pub record IsJoined (s : Numbers) (events : List ℕ) (older newer joined : Part) : Type 0 where
+pub record IsJoined (s : Numbers) (events : List ℕ) (older newer joined : Bin) : Type 0 where
   pub from_is : joined.from ≡ older.from
   pub to_is : joined.to ≡ newer.to
   pub pieces_are : joined.pieces.items ≡ tallied s (slice_range events older.from newer.to)
   pub free : (level k : ℕ) → level ≤ s.levels → edge s level (length events) ≤ k * span s level → k * span s level ≢ newer.from
 
-IsBin-joined : (s : Numbers) (events : List ℕ) (from : ℕ) (older newer joined : Part) → IsBin s events from older → IsBin s events older.to newer → IsJoined s events older newer joined → IsBin s events from joined
+IsBin-joined : (s : Numbers) (events : List ℕ) (from : ℕ) (older newer joined : Bin) → IsBin s events from older → IsBin s events older.to newer → IsJoined s events older newer joined → IsBin s events from joined
 IsBin-joined s events from older newer joined first second is = record {
   begins = is.from_is ∙ first.begins;
   some = omega (arith, first.some, second.some, is.to_is);
@@ -118,7 +118,7 @@ IsBin-joined s events from older newer joined first second is = record {
 }
 
 -- two bins joined in place
-pub Stand-join : (s : Numbers) (events : List ℕ) (from : ℕ) (bins : List Part) (to k : ℕ) (d joined : Part) → Stand s events from bins to → suc k < length bins →
+pub Stand-join : (s : Numbers) (events : List ℕ) (from : ℕ) (bins : List Bin) (to k : ℕ) (d joined : Bin) → Stand s events from bins to → suc k < length bins →
     IsJoined s events (get_or bins k d) (get_or bins (suc k) d) joined → Stand s events from (remove (set bins k joined) (suc k)) to
 Stand-join s events from [] to k d joined stand within is = absurd (omega arith)
 Stand-join s events from (older ∷ []) to k d joined stand within is = absurd (omega arith)
@@ -163,10 +163,10 @@ pub edge_is : (s : Numbers) (level n : ℕ) → edge s level n ≡ steps s level
 edge_is s level n = mul_comm (span s level) (steps s level n)
 
 -- a bin begins below a position
-abbrev pub begins_below : ℕ → Part → Bool
+abbrev pub begins_below : ℕ → Bin → Bool
 begins_below position bin = ltb bin.from position
 
-module _ (s : Numbers) (events : List ℕ) (sealed : ℕ) (bins : List Part) (newest : Contents) (taken level low : ℕ)
+module _ (s : Numbers) (events : List ℕ) (sealed : ℕ) (bins : List Bin) (newest : Contents) (taken level low : ℕ)
     (counted : AreCounted s events sealed bins newest taken) (is_edge : low ≡ edge s level taken) where
   edge_here : low ≡ steps s level (length events) * span s level
   edge_here = is_edge ∙ ap (edge s level) counted.taken_is ∙ edge_is s level (length events)
@@ -177,7 +177,7 @@ module _ (s : Numbers) (events : List ℕ) (sealed : ℕ) (bins : List Part) (ne
       lt-ltb (get_or bins i d).from low (omega (arith, begins_in_order s events 0 bins sealed i j d counted.stand before within))
 
   -- the bins from the place on at which they stop beginning below an edge are those above it
-  pub Stand-from_edge : (first : ℕ) (above : List Part) → level ≤ s.levels → first ≤ length bins → IsPartitionPoint (λ b. begins_below low b ≡ true) (λ b. begins_below low b ≡ false) bins first →
+  pub Stand-from_edge : (first : ℕ) (above : List Bin) → level ≤ s.levels → first ≤ length bins → IsPartitionPoint (λ b. begins_below low b ≡ true) (λ b. begins_below low b ≡ false) bins first →
       above ≡ take (length bins - first) (drop first bins) → Stand s events (edge s level (length events)) above sealed
   Stand-from_edge first above leveled within point are =
       let k = steps s level (length events) in
@@ -206,13 +206,13 @@ no_edge_more s n position now before none level k below reached same =
     ]
 
 -- a bin by its place
-pub IsBin-at : (s : Numbers) (events : List ℕ) (from : ℕ) (bins : List Part) (to k : ℕ) (d : Part) → Stand s events from bins to → k < length bins → IsBin s events (get_or bins k d).from (get_or bins k d)
+pub IsBin-at : (s : Numbers) (events : List ℕ) (from : ℕ) (bins : List Bin) (to k : ℕ) (d : Bin) → Stand s events from bins to → k < length bins → IsBin s events (get_or bins k d).from (get_or bins k d)
 IsBin-at s events from [] to k d stand within = absurd (omega arith)
 IsBin-at s events from (bin ∷ bins) to zero d stand within = subst (λ p. IsBin s events p bin) (sym stand.0.begins) stand.0
 IsBin-at s events from (bin ∷ bins) to (suc k) d stand within = IsBin-at s events bin.to bins to k d stand.1 (omega arith)
 
 -- a bin begins where the one before it ends
-pub neighbours : (s : Numbers) (events : List ℕ) (from : ℕ) (bins : List Part) (to k : ℕ) (d : Part) → Stand s events from bins to → suc k < length bins → (get_or bins (suc k) d).from ≡ (get_or bins k d).to
+pub neighbours : (s : Numbers) (events : List ℕ) (from : ℕ) (bins : List Bin) (to k : ℕ) (d : Bin) → Stand s events from bins to → suc k < length bins → (get_or bins (suc k) d).from ≡ (get_or bins k d).to
 neighbours s events from [] to k d stand within = absurd (omega arith)
 neighbours s events from (older ∷ []) to k d stand within = absurd (omega arith)
 neighbours s events from (older ∷ newer ∷ bins) to zero d stand within = stand.1.0.begins

@@ -5,7 +5,7 @@ use Rattle.lert_spec.specs.Bins.{tallied}
 use Rattle.lert_spec.specs.Edges.{span, edge, capacity}
 use Rattle.lert_spec.specs.Limits.{IsValid}
 use Rattle.lert_plain.specs.Contents.{Contents}
-use Rattle.lert_cone.specs.declared.part.Part.{Part}
+use Rattle.lert_cone.specs.declared.bin.Bin.{Bin}
 
 -- the settings of a cone, its keys, and up to which position they stand in bins
 pub record Counted : Type 0 where
@@ -19,19 +19,19 @@ IsWhole s n from to =
     (level k : ℕ) → level ≤ s.levels → edge s level n ≤ k * span s level → from < k * span s level → to ≤ k * span s level
 
 -- a bin with the counts of the positions above `from`
-pub record IsBin (s : Numbers) (events : List ℕ) (from : ℕ) (bin : Part) : Type 0 where
+pub record IsBin (s : Numbers) (events : List ℕ) (from : ℕ) (bin : Bin) : Type 0 where
   pub begins : bin.from ≡ from
   pub some : from < bin.to
   pub pieces_are : bin.pieces.items ≡ tallied s (slice_range events from bin.to)
   pub whole : IsWhole s (length events) from bin.to
 
 -- bins of the positions above `from` up to `to`, each beginning where the one before it ends
-abbrev pub Stand : Numbers → List ℕ → ℕ → List Part → ℕ → Type 0
+abbrev pub Stand : Numbers → List ℕ → ℕ → List Bin → ℕ → Type 0
 Stand s events from [] to = from ≡ to
 Stand s events from (bin ∷ bins) to = IsBin s events from bin × Stand s events bin.to bins to
 
 -- the bins of a cone cover its positions up to a whole number of bases, and the newest table those behind, at most a base
-pub record AreCounted (s : Numbers) (events : List ℕ) (sealed : ℕ) (bins : List Part) (newest : Contents) (taken : ℕ) : Type 0 where
+pub record AreCounted (s : Numbers) (events : List ℕ) (sealed : ℕ) (bins : List Bin) (newest : Contents) (taken : ℕ) : Type 0 where
   pub valid : IsValid s
   pub stand : Stand s events 0 bins sealed
   pub bases : ℕ

@@ -6,8 +6,8 @@ ghost use Rattle.lert_spec.specs.Edges.{span, edge, capacity};
 ghost use Rattle.lert_spec.specs.Mix.{tail_of};
 ghost use Rattle.lert_spec.specs.Table.{count_of};
 
+use crate::bin::{Bin, pieces_of};
 use crate::merge::{count_in, merge};
-use crate::part::{Part, pieces_of};
 use lert_base::{CountTable, Piece, Settings};
 use lert_io::{OutOfMemory, Seen};
 use lert_mixer::tail_of;
@@ -23,7 +23,7 @@ use std::marker::Model;
 pub struct Levels {
     alloc: Global,
     settings: Settings,
-    bins: Vec<Part>,
+    bins: Vec<Bin>,
     newest: PlainTable,
     sealed: u64,
     taken: u64,
@@ -76,7 +76,7 @@ impl Levels {
     }
 
     // The bins above a level's edge.
-    fn above(&self, level: u32) -> &[Part]
+    fn above(&self, level: u32) -> &[Bin]
         requires { level ≤ self.now.settings.levels }
         ensures { Stand self.now.settings self.now.events
             (edge self.now.settings level (length self.now.events)) result.now self.now.sealed }
@@ -138,7 +138,7 @@ impl Levels {
         ensures refused { OnErr result (self.new ≡ self.old) }
     {
         let pieces = pieces_of(self.alloc, &self.newest)?;
-        let bin = Part {
+        let bin = Bin {
             from: self.sealed,
             to: self.taken,
             pieces,
@@ -175,7 +175,7 @@ impl Levels {
             return Ok(());
         }
         let pieces = merge(self.alloc, &older_bin.pieces, &newer_bin.pieces)?;
-        let joined = Part {
+        let joined = Bin {
             from: older_bin.from,
             to: newer_bin.to,
             pieces,

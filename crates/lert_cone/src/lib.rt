@@ -7,12 +7,12 @@
 //! command that runs a trace through all cones stands on this crate.
 #![tactic(auto)]
 
+mod bin;
 mod cone;
 mod fault;
 mod levels;
 mod listed;
 mod merge;
-mod part;
 
 pub use cone::ListCone;
 pub use fault::ListFault;

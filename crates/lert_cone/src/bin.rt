@@ -8,7 +8,7 @@ use std::alloc::Global;
 
 /// The counts at the positions above `from`, up to `to`, in ascending tails.
 #[derive(Drop)]
-pub struct Part {
+pub struct Bin {
     pub from: u64,
     pub to: u64,
     pub pieces: Vec<Piece>,
