@@ -13,6 +13,8 @@ mod fault;
 mod levels;
 mod listed;
 mod merge;
+#[cfg(test)]
+mod tests;
 
 pub use cone::ListCone;
 pub use fault::ListFault;
