@@ -1,20 +1,28 @@
 -- The reports of a cone are in time.
-use Rattle.std.proofs.Common.{◌≡◌, ◌≤◌, true, false, cond, List, length, ap, sym, ◌∙◌, subst}
+use Rattle.std.proofs.Common.{ℕ, ◌≡◌, Bool, true, false, cond, List, ap, sym, ◌∙◌, subst}
+use Rattle.lert_spec.specs.declared.numbers.Numbers.{Numbers}
 use Rattle.lert_spec.specs.declared.report.Report.{Report}
-use Rattle.lert_spec.specs.Edges.{capacity}
-use Rattle.lert_spec.specs.Limits.{IsValid}
 use Rattle.lert_spec.specs.Look.{look, closing}
 use Rattle.lert_spec.specs.Timely.{IsTimely, IsTimelySoFar}
 use Rattle.lert_spec.proofs.TimeBound.{IsTimely-closing, IsTimelySoFar-look}
-use Rattle.lert_cone.specs.Listing.{Listing, reports_of}
+use Rattle.lert_cone.specs.Listing.{Listing, AreListed}
 
-module _ (cone : Listing) (reports : List Report) (valid : IsValid cone.settings) (fits : length cone.events ≤ capacity cone.settings) (are : reports ≡ reports_of cone) where
-  pub timely_if_closed : cone.closed ≡ true → IsTimely cone.settings.threshold cone.settings.bins cone.events reports
-  timely_if_closed closed =
-      let is = are ∙ ap (λ b. cond b (closing cone.settings cone.events) (look cone.settings cone.events)) closed in
-      subst (IsTimely cone.settings.threshold cone.settings.bins cone.events) (sym is) (IsTimely-closing cone.settings cone.events valid fits)
+module _ (s : Numbers) (cone : ℕ) (events : List ℕ) (closed : Bool) (reports : List Report) (listed : AreListed s cone events closed reports)
+    (seen : Listing) (is : record { settings = s; cone = cone; events = events; closed = closed } ≡ seen) (now : List Report) (same : now ≡ reports) where
+  here : now ≡ cond closed (closing s events) (look s events)
+  here = same ∙ listed.reports_are
 
-  pub timely_if_open : cone.closed ≡ false → IsTimelySoFar cone.settings.threshold cone.settings.bins cone.events reports
+  closed_is : closed ≡ seen.closed
+  closed_is = ap (λ (l : Listing). l.closed) is
+
+  pub timely_if_closed : seen.closed ≡ true → IsTimely seen.settings.threshold seen.settings.bins seen.events now
+  timely_if_closed ended =
+      let are = here ∙ ap (λ b. cond b (closing s events) (look s events)) (closed_is ∙ ended) in
+      subst (λ (l : Listing). IsTimely l.settings.threshold l.settings.bins l.events now) is
+      (subst (IsTimely s.threshold s.bins events) (sym are) (IsTimely-closing s events listed.valid listed.fits))
+
+  pub timely_if_open : seen.closed ≡ false → IsTimelySoFar seen.settings.threshold seen.settings.bins seen.events now
   timely_if_open still =
-      let is = are ∙ ap (λ b. cond b (closing cone.settings cone.events) (look cone.settings cone.events)) still in
-      subst (IsTimelySoFar cone.settings.threshold cone.settings.bins cone.events) (sym is) (IsTimelySoFar-look cone.settings cone.events valid fits)
+      let are = here ∙ ap (λ b. cond b (closing s events) (look s events)) (closed_is ∙ still) in
+      subst (λ (l : Listing). IsTimelySoFar l.settings.threshold l.settings.bins l.events now) is
+      (subst (IsTimelySoFar s.threshold s.bins events) (sym are) (IsTimelySoFar-look s events listed.valid listed.fits))

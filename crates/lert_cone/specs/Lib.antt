@@ -1,1 +1,5 @@
+pub mod Due
 pub mod Listing
+pub mod Merging
+pub mod Placed
+pub mod Standing
