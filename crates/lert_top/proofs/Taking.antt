@@ -2,8 +2,8 @@
 use Rattle.std.proofs.Common.{◌≡◌, ◌↔◌, ℕ, ◌<◌, ◌≤◌, ◌^◌, false, List, length, Option, Result, Ok, Err, refl, ap, sym, ◌∙◌, subst, arith, inl, inr}
 use Rattle.std.proofs.lemmas.Bool.{cases_lt}
 use Rattle.lert_io.specs.Reading.{IfTold}
-use Rattle.lert_cone.specs.declared.cone.ListFault.{ListFault}
-use Rattle.lert_cone.specs.declared.cone.ListFault.TheVariants as fault
+use Rattle.lert_cone.specs.declared.fault.ListFault.{ListFault}
+use Rattle.lert_cone.specs.declared.fault.ListFault.TheVariants as fault
 use Rattle.lert_spec.specs.declared.numbers.Numbers.{Numbers}
 use Rattle.lert_spec.specs.Edges.{capacity}
 use Rattle.lert_spec.specs.Mix.{cone_of}
