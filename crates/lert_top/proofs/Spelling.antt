@@ -4,7 +4,7 @@ use Rattle.lert_spec.specs.declared.numbers.Numbers.{Numbers}
 use Rattle.lert_spec.specs.Limits.{first_broken}
 use Rattle.lert_top.specs.declared.line.Line.{Line}
 use Rattle.lert_top.specs.declared.line.Usage.{Usage}
-use Rattle.lert_top.specs.Command.{command, usage, usage_of, is_short_form, short_settings, is_long_form, long_settings}
+use Rattle.lert_top.specs.Command.{usage, usage_of, is_short_form, short_settings, is_long_form, long_settings}
 
 -- what a test gave, and what it stands for
 given : {A B : Type 0} (b : Bool) (x y : A) (f : A → B) (other : B) → Some x ≡ cond b (Some y) None → cond b (f y) other ≡ f x
