@@ -15,7 +15,8 @@ use Rattle.lert_spec.proofs.LookLaws.{slice_range-append}
 use Rattle.lert_spec.proofs.TallyLaws.{tallied-push, total-tallied}
 use Rattle.lert_plain.specs.Contents.{Contents}
 use Rattle.lert_cone.specs.declared.bin.Bin.{Bin}
-use Rattle.lert_cone.specs.Standing.{Counted, IsBin, AreCounted}
+use Rattle.lert_cone.specs.Counted.{Counted}
+use Rattle.lert_cone.specs.Standing.{IsBin, AreCounted, begins}
 use Rattle.lert_cone.proofs.StandLemmas.{Stand-later, Stand-push, Stand-join, IsJoined, IsWhole-base, IsBin-at, neighbours}
 use Rattle.lert_cone.proofs.Windows.{slice_range-join, slice_range-none, IsTable-keys, total-window, merged-window}
 
@@ -48,7 +49,7 @@ AreCounted-none s newest quotient remainder valid quotient_is remainder_is few n
 
 module _ (s : Numbers) (events : List ℕ) (sealed : ℕ) (bins : List Bin) (newest : Contents) (taken : ℕ) (counted : AreCounted s events sealed bins newest taken) where
   -- a cone has fewer keys than there are numbers of 32 bits
-  pub few_keys : (seen : Counted) → record { settings = s; events = events; sealed = sealed } ≡ seen → length seen.events < 2 ^ 32
+  pub few_keys : (seen : Counted) → record { settings = s; events = events; sealed = sealed; cuts = begins bins } ≡ seen → length seen.events < 2 ^ 32
   few_keys seen is = subst (λ (v : Counted). length v.events < 2 ^ 32) is (omega (arith, counted.fits, capacity_to s counted.valid))
 
   -- the newest table has room for the keys that aren't in bins

@@ -2,6 +2,7 @@ pub mod CountLemmas
 pub mod CountedLemmas
 pub mod DueLemmas
 pub mod GatherLemmas
+pub mod HeldLemmas
 pub mod KeyLemmas
 pub mod ListedLemmas
 pub mod MergeLemmas

@@ -49,39 +49,39 @@ module _ (s : Numbers) (cone : ℕ) (events : List ℕ) (closed : Bool) (reports
           rw (one ∙ ap (λ p. record { key = key; at = p } ∷ []) at_is)
           (seen_look (record { key = key; at = suc (length events) } ∷ []) (look-reached s cone events reports (still_listed still) key below own_here young shallow_here young_is enough fresh))
 
-    -- a flush
-    module _ (reach : ℕ) (deep : reach ≡ depth seen.settings at) (older : List Piece) (older_is : older ≡ tallied s (slice_range events (edge s reach (length events)) (length events))) where
-      reach_is : reach ≡ depth s (suc (length events))
-      reach_is = subst (λ (l : Listing). reach ≡ depth l.settings at) (sym is) deep ∙ ap (depth s) at_is
-
+    -- a flush that gathers the levels up to one
+    module _ (level : ℕ) (older : List Piece) (older_is : older ≡ tallied s (slice_range events (edge s level (length events)) (length events))) where
       pub older_table : IsTable (2 ^ 64) older
-      older_table = rw older_is (IsTable-keys s (slice_range events (edge s reach (length events)) (length events)))
+      older_table = rw older_is (IsTable-keys s (slice_range events (edge s level (length events)) (length events)))
 
       pub older_fits : total older + 1 < 2 ^ 64
       older_fits =
           omega (
             arith,
             ap total older_is,
-            total-window s events (edge s reach (length events)) (length events),
+            total-window s events (edge s level (length events)) (length events),
             listed.fits,
             capacity_to s listed.valid,
           )
 
       module _ (tail : ℕ) (tail_is : tail ≡ tail_of s key) (pieces : List Piece) (table : IsTable (2 ^ 64) pieces)
           (counts : (t : ℕ) → count_of pieces t ≡ count_of older t + count_of (record { tail = tail; count = 1 } ∷ []) t) where
-        pieces_are : pieces ≡ tallied s (slice_range (events ++ key ∷ []) (edge s reach (length events)) (suc (length events)))
+        pieces_are : pieces ≡ tallied s (slice_range (events ++ key ∷ []) (edge s level (length events)) (suc (length events)))
         pieces_are =
-            pushed_pieces s cone events reports (still_listed still) key below own_here (edge s reach (length events)) pieces older (edge_within s reach (length events)) older_is table
+            pushed_pieces s cone events reports (still_listed still) key below own_here (edge s level (length events)) pieces older (edge_within s level (length events)) older_is table
             (λ t. counts t ∙ ap (λ x. count_of older t + count_of (record { tail = x; count = 1 } ∷ []) t) tail_is)
 
         pub flush_table : IsTable (2 ^ (64 - seen.settings.cone_bits)) pieces
         flush_table =
             subst (λ (l : Listing). IsTable (2 ^ (64 - l.settings.cone_bits)) pieces) is
-            (rw pieces_are (IsTable-tallied s (slice_range (events ++ key ∷ []) (edge s reach (length events)) (suc (length events)))))
+            (rw pieces_are (IsTable-tallied s (slice_range (events ++ key ∷ []) (edge s level (length events)) (suc (length events)))))
 
-        pub next-flush : (due : List Report) → due ≡ due_reports seen.settings seen.cone (reports_of seen) at pieces → look seen.settings (seen.events ++ key ∷ []) ≡ reports_of seen ++ due
-        next-flush due due_are =
-            let at_depth = pieces_are ∙ ap (λ d. tallied s (slice_range (events ++ key ∷ []) (edge s d (length events)) (suc (length events)))) reach_is in
+        -- brings the reports of its pieces, where it gathers as many levels as the edges that move
+        pub next-flush : level ≡ depth seen.settings at → (due : List Report) → due ≡ due_reports seen.settings seen.cone (reports_of seen) at pieces →
+            look seen.settings (seen.events ++ key ∷ []) ≡ reports_of seen ++ due
+        next-flush deep due due_are =
+            let reach : level ≡ depth s (suc (length events)) = subst (λ (l : Listing). level ≡ depth l.settings at) (sym is) deep ∙ ap (depth s) at_is in
+            let at_depth = pieces_are ∙ ap (λ d. tallied s (slice_range (events ++ key ∷ []) (edge s d (length events)) (suc (length events)))) reach in
             let looked = look-flush s cone events reports (still_listed still) key below own_here pieces at_depth in
             seen_look due
             (looked

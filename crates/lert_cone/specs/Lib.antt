@@ -1,3 +1,4 @@
+pub mod Counted
 pub mod Due
 pub mod Listing
 pub mod Merging

@@ -1,5 +1,5 @@
 -- The bins of a cone: which positions each covers, and where one may end.
-use Rattle.std.specs.Prelude.{ℕ, ◌≡◌, ◌+◌, ◌-◌, ◌*◌, ◌<◌, ◌≤◌, List, [], ◌∷◌, length, slice_range}
+use Rattle.std.specs.Prelude.{ℕ, ◌≡◌, ◌+◌, ◌-◌, ◌*◌, ◌<◌, ◌≤◌, List, [], ◌∷◌, length, map, slice_range}
 use Rattle.lert_spec.specs.declared.numbers.Numbers.{Numbers}
 use Rattle.lert_spec.specs.Bins.{tallied}
 use Rattle.lert_spec.specs.Edges.{span, edge, capacity}
@@ -7,11 +7,9 @@ use Rattle.lert_spec.specs.Limits.{IsValid}
 use Rattle.lert_plain.specs.Contents.{Contents}
 use Rattle.lert_cone.specs.declared.bin.Bin.{Bin}
 
--- the settings of a cone, its keys, and up to which position they stand in bins
-pub record Counted : Type 0 where
-  pub settings : Numbers
-  pub events : List ℕ
-  pub sealed : ℕ
+-- where bins begin
+abbrev pub begins : List Bin → List ℕ
+begins bins = map (λ (bin : Bin). bin.from) bins
 
 -- no whole number of a level's spans from the level's edge on lies between two positions: there an edge may come to stand
 abbrev pub IsWhole : Numbers → ℕ → ℕ → ℕ → Type 0

@@ -160,6 +160,7 @@ impl ListCone {
             look self.now.settings (self.now.events ++ key ∷ []) ≡ reports_of self.now ++ due.items) }
         ensures fresh { IfOk result (λ due. All (λ report. is_listed report.key (reports_of self.now) ≡ false) due.items) }
     {
+        let report = Report { key, at };
         let mut due = Vec::new(self.alloc);
         if self.levels.young_count(key) + 1 < self.levels.settings().numbers().threshold {
             return Ok(due);
@@ -167,7 +168,7 @@ impl ListCone {
         if self.listed.contains(key) {
             return Ok(due);
         }
-        due.push(Report { key, at })?;
+        due.push(report)?;
         Ok(due)
     }
 
@@ -214,7 +215,8 @@ impl ListCone {
             return None;
         }
         let key = key_of(settings, self.cone, piece.tail);
-        if self.listed.contains(key) {
+        let reported = self.listed.contains(key);
+        if reported {
             return None;
         }
         Some(key)

@@ -31,21 +31,24 @@ pub struct Levels {
 }
 
 impl Model for Levels {
-    ghost use Rattle.lert_cone.specs.Standing.{Counted, AreCounted};
+    ghost use Rattle.lert_cone.specs.Counted.{Counted};
 
     ghost Value = { Counted };
 
-    ghost view = { λ l. record { settings = l.settings; events = l.events; sealed = l.sealed } };
+    ghost use Rattle.lert_cone.specs.Standing.{AreCounted, begins};
+
+    ghost view = { λ l. record { settings = l.settings; events = l.events; sealed = l.sealed; cuts = begins l.bins.items } };
 
     ghost invariant = { λ l. AreCounted l.settings l.events l.sealed l.bins.items l.newest l.taken };
 }
 
 impl Levels {
-    ghost use Rattle.lert_cone.specs.Standing.{Counted, Stand};
+    ghost use Rattle.lert_cone.specs.Counted.{Counted, IsHeld, AreHeldFrom};
+    ghost use Rattle.lert_cone.specs.Standing.{Stand};
 
     /// No key.
     pub fn new(alloc: Global, settings: &Settings) -> Result<Levels, OutOfMemory>
-        ensures { IfOk result (λ l. l ≡ record { settings = settings.now; events = []; sealed = 0 }) }
+        ensures { IfOk result (λ l. l ≡ record { settings = settings.now; events = []; sealed = 0; cuts = [] }) }
     {
         let base = settings.numbers().base;
         let newest = PlainTable::new(alloc, settings.quotient_bits(0), settings.width(0), base)?;
@@ -118,24 +121,31 @@ impl Levels {
         Ok(pieces)
     }
 
-    /// Sees to it that the newest table takes another key. A refusal changes nothing that is seen.
+    /// Sees to it that the newest table takes another key: where it is full, it becomes a bin, and bins that meet where no
+    /// edge comes to stand any more are joined. A refusal leaves the keys as they were.
     pub fn make_room(&mut self) -> Result<(), OutOfMemory>
         ensures settings { self.new.settings ≡ self.old.settings }
         ensures events { self.new.events ≡ self.old.events }
         ensures room { OnOk result (length self.new.events < self.new.sealed + self.new.settings.base) }
+        ensures joined { OnOk result (self.new.sealed ≢ self.old.sealed →
+            AreHeldFrom self.new.settings (length self.new.events) self.new.cuts 1) }
     {
         if self.taken < self.sealed + self.settings.numbers().base {
             return Ok(());
         }
         self.join_bins()?;
-        self.seal()
+        self.seal()?;
+        Ok(())
     }
 
     // Puts the newest table behind the bins as one more.
     fn seal(&mut self) -> Result<(), OutOfMemory>
         requires { length self.old.events ≡ self.old.sealed + self.old.settings.base }
-        ensures ok { OnOk result (self.new ≡ record self.old { sealed = length self.old.events }) }
+        ensures ok { OnOk result (self.new ≡
+            record self.old { sealed = length self.old.events; cuts = self.old.cuts ++ self.old.sealed ∷ [] }) }
         ensures refused { OnErr result (self.new ≡ self.old) }
+        // An edge may come to stand where the new bin begins.
+        ensures held { OnOk result (IsHeld self.old.settings (length self.old.events) self.old.sealed) }
     {
         let pieces = pieces_of(self.alloc, &self.newest)?;
         let bin = Bin {
@@ -151,7 +161,8 @@ impl Levels {
 
     // Joins bins that meet where no edge comes to stand any more.
     fn join_bins(&mut self) -> Result<(), OutOfMemory>
-        ensures { self.new ≡ self.old }
+        ensures others { self.new ≡ record self.old { cuts = self.new.cuts } }
+        ensures joined { OnOk result (AreHeldFrom self.old.settings (length self.old.events) self.new.cuts 1) }
     {
         let mut newer = self.bins.len();
         while newer > 1 {
@@ -164,7 +175,10 @@ impl Levels {
     // Joins the bin with this number and the one before it, where no edge comes to stand between them any more.
     fn join(&mut self, newer: usize) -> Result<(), OutOfMemory>
         requires { 1 ≤ newer }
-        ensures { self.new ≡ self.old }
+        ensures others { self.new ≡ record self.old { cuts = self.new.cuts } }
+        ensures joined { OnOk result (
+            AreHeldFrom self.old.settings (length self.old.events) self.old.cuts (newer + 1) →
+            AreHeldFrom self.old.settings (length self.old.events) self.new.cuts newer) }
     {
         if newer >= self.bins.len() {
             return Ok(());
@@ -187,7 +201,8 @@ impl Levels {
 
     // Whether a level's edge stands at a position, or may come to stand there.
     fn may_hold_edge(&self, position: u64) -> bool
-        ensures joined { result ≡ false → (level k : ℕ) → level ≤ self.now.settings.levels →
+        ensures held { result ≡ true → IsHeld self.now.settings (length self.now.events) position }
+        ensures free { result ≡ false → (level k : ℕ) → level ≤ self.now.settings.levels →
             edge self.now.settings level (length self.now.events) ≤ k * span self.now.settings level →
             k * span self.now.settings level ≢ position }
     {
@@ -219,8 +234,7 @@ impl Levels {
         requires room { length self.old.events < self.old.sealed + self.old.settings.base }
         ensures { self.new ≡ record self.old { events = self.old.events ++ key ∷ [] } }
     {
-        let tail = tail_of(&self.settings, key);
-        self.newest.add(tail, 1);
+        self.newest.add(tail_of(&self.settings, key), 1);
         self.events.push(&key);
         self.taken += 1;
     }

@@ -1,7 +1,8 @@
 use Rattle.std.proofs.Common.{◌-◌, length, take, drop, subst, ap, sym, ◌≤◌, rules}
 use Rattle.std.proofs.lemmas.List.Sorted.{IsPartitionPoint-from_clause}
 use Rattle.lert_spec.specs.Edges.{edge}
-use Rattle.lert_cone.specs.Standing.{Counted, Stand}
+use Rattle.lert_cone.specs.Counted.{Counted}
+use Rattle.lert_cone.specs.Standing.{Stand}
 use Rattle.lert_cone.proofs.StandLemmas.{begins_below, IsPartitionedBy-bins, Stand-from_edge}
 use Rattle.lert_cone.proofs.levels.Levels.above.Goals as goal
 

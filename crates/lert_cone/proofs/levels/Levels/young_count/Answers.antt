@@ -3,7 +3,7 @@ use Rattle.lert_spec.specs.Bins.{tallied}
 use Rattle.lert_spec.specs.Edges.{edge}
 use Rattle.lert_spec.specs.Mix.{tail_of}
 use Rattle.lert_spec.specs.Table.{count_of}
-use Rattle.lert_cone.specs.Standing.{Counted}
+use Rattle.lert_cone.specs.Counted.{Counted}
 use Rattle.lert_cone.proofs.CountedLemmas.{few_keys}
 use Rattle.lert_cone.proofs.GatherLemmas.{may_count, IsCounting-more, IsCounting-all}
 use Rattle.lert_cone.proofs.Windows.{count-window_le}
