@@ -1,6 +1,7 @@
 //! The job of `lert run --threshold N --cone-bits 0 DIR TRACE` as a plain program: it counts in an
-//! ordered map and prints the same text. Words: N TRACE. It is the yardstick of `bench/first_path`,
-//! and ends at the first fault.
+//! ordered map, reports each key at the event that makes it reach the threshold, and prints the same
+//! lines. It takes as many keys as there are. Words: N TRACE. It is the yardstick of
+//! `bench/first_path`, and ends at the first fault.
 
 use std::collections::BTreeMap;
 use std::env;

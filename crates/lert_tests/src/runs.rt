@@ -7,7 +7,15 @@ use std::alloc::{AllocError, Global};
 use std::process::Abort;
 use std::test::Fail;
 
+mod faults;
+mod reports;
+mod usage;
+
 const HEADER: [u8; 8] = [0x4c, 0x45, 0x52, 0x54, 1, 0, 0, 0];
+
+// Threshold 3, 3 bins, ratio 2, base 4, 2 levels, no cone bit, room 32 and packet 8: the spans are 4,
+// 8 and 16, the offsets 8, 24 and 56, and the capacity is 71.
+const SMALL: [&str; 8] = ["3", "3", "2", "4", "2", "0", "32", "8"];
 
 // A run over one trace in memory: the calls of the trace and of the sink that fail, with 0 for none,
 // and what comes of it.
@@ -19,6 +27,54 @@ struct Row<'a> {
     failing_write: u64,
     status: Status,
     text: &'a str,
+}
+
+// The words of the short form.
+fn short_form(threshold: &str) -> [&str; 7] {
+    [
+        "run",
+        "--threshold",
+        threshold,
+        "--cone-bits",
+        "0",
+        "d",
+        "a",
+    ]
+}
+
+// The words of the long form, with its eight numbers.
+fn long_form<'a>(numbers: [&'a str; 8]) -> [&'a str; 19] {
+    let [
+        threshold,
+        bins,
+        ratio,
+        base,
+        levels,
+        cone_bits,
+        room,
+        packet,
+    ] = numbers;
+    [
+        "run",
+        "--threshold",
+        threshold,
+        "--bins",
+        bins,
+        "--ratio",
+        ratio,
+        "--base",
+        base,
+        "--levels",
+        levels,
+        "--cone-bits",
+        cone_bits,
+        "--room",
+        room,
+        "--packet",
+        packet,
+        "d",
+        "a",
+    ]
 }
 
 fn words(alloc: Global, texts: &[&str]) -> Result<Words, OutOfMemory> {
@@ -47,6 +103,21 @@ fn trace(alloc: Global, keys: &[u64]) -> Result<Vec<u8>, AllocError> {
     Ok(bytes)
 }
 
+// The bytes of a trace with so many keys: these at these positions, from 1, and a key of its own from
+// 1001 on at each other one.
+fn trace_with(alloc: Global, len: u8, placed: &[(u8, u64)]) -> Result<Vec<u8>, AllocError> {
+    let mut keys = Vec::new(alloc);
+    for position in 0..len {
+        keys.push(1_001 + u64::from(position))?;
+    }
+    for (position, key) in placed {
+        if let Some(place) = keys.get_mut(usize::from(*position).saturating_sub(1)) {
+            *place = *key;
+        }
+    }
+    trace(alloc, keys.as_slice())
+}
+
 // Runs a row over a place that has its trace under the name `a`.
 fn check(rt: &(impl Abort + AllocGlobal), row: &Row) -> Result<(), Fail> {
     let alloc = rt.alloc();
@@ -62,195 +133,21 @@ fn check(rt: &(impl Abort + AllocGlobal), row: &Row) -> Result<(), Fail> {
     Ok(())
 }
 
-#[test]
-fn each_key_is_reported_where_it_reaches_the_threshold(rt: HostRuntime) -> Result<(), Fail> {
-    let rows: [(&str, &[u64], &str); 4] = [
-        (
-            "3",
-            &[],
-            "cone 0 events 0 reports 0 closed\ntotal events 0 reports 0\n",
-        ),
-        (
-            "3",
-            &[7, 7, 7],
-            "cone 0 events 3 reports 1 closed\n7 3\ntotal events 3 reports 1\n",
-        ),
-        (
-            "1",
-            &[7, 7, 8],
-            "cone 0 events 3 reports 2 closed\n7 1\n8 3\ntotal events 3 reports 2\n",
-        ),
-        (
-            "4294967295",
-            &[7, 7, 8],
-            "cone 0 events 3 reports 0 closed\ntotal events 3 reports 0\n",
-        ),
-    ];
-    for (threshold, keys, text) in rows {
-        let trace = trace(rt.alloc(), keys)?;
-        let row = Row {
-            words: &[
-                "run",
-                "--threshold",
-                threshold,
-                "--cone-bits",
-                "0",
-                "d",
-                "a",
-            ],
-            trace: trace.as_slice(),
-            failing_read: 0,
-            failing_write: 0,
-            status: Status::Done,
-            text,
-        };
-        check(&rt, &row)?;
-    }
-    Ok(())
-}
-
-#[test]
-fn a_fault_is_answered_by_its_status_and_leaves_nothing_written(
-    rt: HostRuntime,
+// Runs the long form with these numbers over a trace, in which no call fails.
+fn check_long(
+    rt: &(impl Abort + AllocGlobal),
+    numbers: [&str; 8],
+    trace: &[u8],
+    status: Status,
+    text: &str,
 ) -> Result<(), Fail> {
-    let short = ["run", "--threshold", "3", "--cone-bits", "0", "d", "a"];
-    let lacking = ["run", "--threshold", "3", "--cone-bits", "0", "d", "b"];
-    let whole = trace(rt.alloc(), &[7, 7, 7])?;
-    let mut cut = trace(rt.alloc(), &[7, 7, 7])?;
-    cut.truncate(21);
-    let rows: [(&[&str], &[u8], u64, u64, Status); 8] = [
-        (&lacking, whole.as_slice(), 0, 0, Status::PlaceFault),
-        (
-            &short,
-            whole.as_slice(),
-            1,
-            0,
-            Status::TraceFault { trace: 0 },
-        ),
-        (
-            &short,
-            whole.as_slice(),
-            2,
-            0,
-            Status::TraceFault { trace: 0 },
-        ),
-        (&short, whole.as_slice(), 0, 1, Status::OutFault),
-        (
-            &short,
-            cut.as_slice(),
-            0,
-            0,
-            Status::BadTrace { trace: 0, at: 16 },
-        ),
-        (&short, &[], 0, 0, Status::BadTrace { trace: 0, at: 0 }),
-        (
-            &short,
-            &[0x4c, 0x45, 0x52, 0],
-            0,
-            0,
-            Status::BadTrace { trace: 0, at: 3 },
-        ),
-        (
-            &short,
-            &[0x4c, 0x45, 0x52, 0x54, 9, 0, 0, 0],
-            0,
-            0,
-            Status::BadTrace { trace: 0, at: 4 },
-        ),
-    ];
-    for (words, trace, failing_read, failing_write, status) in rows {
-        let row = Row {
-            words,
-            trace,
-            failing_read,
-            failing_write,
-            status,
-            text: "",
-        };
-        check(&rt, &row)?;
-    }
-    Ok(())
-}
-
-#[test]
-fn words_that_are_no_line_are_a_usage_fault(rt: HostRuntime) -> Result<(), Fail> {
-    let rows: [(&[&str], u8); 14] = [
-        (&[], 0),
-        (&["run", "d", "a"], 0),
-        (&["run", "--threshold", "3", "--cone-bits", "0", "d"], 0),
-        (
-            &["run", "--threshold", "3", "--cone-bits", "0", "d", "a", "a"],
-            0,
-        ),
-        (
-            &["Run", "--threshold", "3", "--cone-bits", "0", "d", "a"],
-            0,
-        ),
-        (
-            &["run", "--threshold", "+3", "--cone-bits", "0", "d", "a"],
-            0,
-        ),
-        (&["run", "--threshold", "", "--cone-bits", "0", "d", "a"], 0),
-        (
-            &[
-                "run",
-                "--threshold",
-                "000000000000000000003",
-                "--cone-bits",
-                "0",
-                "d",
-                "a",
-            ],
-            0,
-        ),
-        (
-            &[
-                "run",
-                "--threshold",
-                "18446744073709551616",
-                "--cone-bits",
-                "0",
-                "d",
-                "a",
-            ],
-            0,
-        ),
-        (
-            &["run", "--threshold", "3", "--cone-bits", "1", "d", "a"],
-            0,
-        ),
-        (
-            &["run", "--threshold", "3", "--cone-bits", "0", "-d", "a"],
-            0,
-        ),
-        (&["run", "--threshold", "3", "--cone-bits", "0", "d", ""], 0),
-        (
-            &["run", "--threshold", "00", "--cone-bits", "0", "d", "a"],
-            1,
-        ),
-        (
-            &[
-                "run",
-                "--threshold",
-                "4294967296",
-                "--cone-bits",
-                "0",
-                "d",
-                "a",
-            ],
-            1,
-        ),
-    ];
-    for (words, rule) in rows {
-        let row = Row {
-            words,
-            trace: &HEADER,
-            failing_read: 0,
-            failing_write: 0,
-            status: Status::Usage { rule },
-            text: "",
-        };
-        check(&rt, &row)?;
-    }
-    Ok(())
+    let row = Row {
+        words: &long_form(numbers),
+        trace,
+        failing_read: 0,
+        failing_write: 0,
+        status,
+        text,
+    };
+    check(rt, &row)
 }

@@ -1,23 +1,21 @@
 -- Which status a run ends with.
-use Rattle.std.proofs.Common.{◌≡◌, ◌⊎◌, ℕ, ◌≤◌, true, false, ◌&&◌, leb, cond, List, [], length, Option, Some, None, slice_get, refl, ap, sym, ◌∙◌, subst, inl, inr, arith}
-use Rattle.std.proofs.lemmas.Bool.{cases_lt}
+use Rattle.std.proofs.Common.{◌≡◌, ◌⊎◌, ℕ, ◌<◌, ◌≤◌, true, false, List, [], length, Option, Some, None, slice_get, refl, ap, sym, ◌∙◌, subst, inl, inr, arith}
 use Rattle.std.proofs.lemmas.Option.{get_or_from_slice_get}
 use Rattle.lert_io.specs.Fault.{HasRisen, IsFaultless}
 use Rattle.lert_spec.specs.Trace.{left, whole}
-use Rattle.lert_spec.proofs.AtOnceLaws.{at_once-timely}
-use Rattle.lert_top.specs.declared.line.Line.{Line}
+use Rattle.lert_spec.specs.declared.numbers.Numbers.{Numbers}
+use Rattle.lert_spec.specs.Edges.{capacity}
 use Rattle.lert_top.specs.declared.status.Status.{Status}
-use Rattle.lert_top.specs.declared.status.Status.TheVariants.{Done, Usage, PlaceFault, TraceFault, BadTrace, TooLong, OutFault, OutOfMemory}
-use Rattle.lert_top.specs.Command.{command, usage, usage_of}
-use Rattle.lert_top.specs.Run.{HasRun, StatusShows, most_keys}
+use Rattle.lert_top.specs.declared.status.Status.TheVariants.{Done, Usage, PlaceFault, TraceFault, BadTrace, TooLong, CapacityFull, OutFault, OutOfMemory}
+use Rattle.lert_top.specs.Run.{HasRun, IsFull, StatusShows, most_keys}
 use Rattle.lert_top.specs.Word.{word_at}
 
 -- a trace that was opened doesn't end in a fault of the place
 pub not_place_fault : {S K : Type 0} (remaining : S → Option (List ℕ)) (faults : S → ℕ) (taken : K → Option (List ℕ)) (sink_faults : K → ℕ)
-    (threshold : ℕ) (opened back : S) (before after : K) (status : Status) →
-    StatusShows remaining faults taken sink_faults threshold opened back before after status → status ≡ PlaceFault → ⊥
-not_place_fault remaining faults taken sink_faults threshold opened back before after status shows is =
-    subst (λ s. StatusShows remaining faults taken sink_faults threshold opened back before after s) is shows
+    (settings : Numbers) (opened back : S) (before after : K) (status : Status) →
+    StatusShows remaining faults taken sink_faults settings opened back before after status → status ≡ PlaceFault → ⊥
+not_place_fault remaining faults taken sink_faults settings opened back before after status shows is =
+    subst (λ s. StatusShows remaining faults taken sink_faults settings opened back before after s) is shows
 
 pub some_is : {X : Type 0} {x y : X} → Some x ≡ Some y → x ≡ y
 some_is same = cc
@@ -31,76 +29,75 @@ word_at-slice_get words number word at = sym (get_or_from_slice_get words number
 
 -- the same trace, the same source behind it and the same status
 pub StatusShows-along : {S K : Type 0} (remaining : S → Option (List ℕ)) (faults : S → ℕ) (taken : K → Option (List ℕ)) (sink_faults : K → ℕ)
-    (threshold : ℕ) (made opened source back : S) (before after : K) (here status : Status) → made ≡ opened → source ≡ back → here ≡ status →
-    StatusShows remaining faults taken sink_faults threshold made source before after here →
-    StatusShows remaining faults taken sink_faults threshold opened back before after status
-StatusShows-along remaining faults taken sink_faults threshold made opened source back before after here status is_opened is_back is_status shows =
-    subst (λ s. StatusShows remaining faults taken sink_faults threshold opened back before after s) is_status
-    (subst (λ s. StatusShows remaining faults taken sink_faults threshold opened s before after here) is_back
-    (subst (λ s. StatusShows remaining faults taken sink_faults threshold s source before after here) is_opened shows))
-
--- a rule that isn't broken bounds the threshold
-sound_threshold : (threshold : ℕ) → cond {A = Option ℕ} (leb 1 threshold && leb threshold 4294967295) None (Some 1) ≡ None → 1 ≤ threshold
-sound_threshold threshold sound =
-    elim (cases_lt 0 threshold) [
-      | inl some ↦ some
-      | inr none ↦ (let zero_is : threshold ≡ 0 = omega arith in
-          absurd (some_none (sym (ap (λ n. cond {A = Option ℕ} (leb 1 n && leb n 4294967295) None (Some 1)) zero_is) ∙ sound)))
-    ]
-  where
-    some_none : {x : ℕ} → Some x ≡ None → ⊥
-    some_none same = cc
-
-pub threshold-line : (words : List (List ℕ)) (line : Line) → command words ≡ Some line → usage words ≡ None → 1 ≤ line.threshold
-threshold-line words line spelled sound = sound_threshold line.threshold (sym (ap usage_of spelled) ∙ sound)
+    (settings : Numbers) (made opened source back : S) (before after : K) (here status : Status) → made ≡ opened → source ≡ back → here ≡ status →
+    StatusShows remaining faults taken sink_faults settings made source before after here →
+    StatusShows remaining faults taken sink_faults settings opened back before after status
+StatusShows-along remaining faults taken sink_faults settings made opened source back before after here status is_opened is_back is_status shows =
+    subst (λ s. StatusShows remaining faults taken sink_faults settings opened back before after s) is_status
+    (subst (λ s. StatusShows remaining faults taken sink_faults settings opened s before after here) is_back
+    (subst (λ s. StatusShows remaining faults taken sink_faults settings s source before after here) is_opened shows))
 
 module _ {S K : Type 0} (remaining : S → Option (List ℕ)) (faults : S → ℕ) (taken : K → Option (List ℕ)) (sink_faults : K → ℕ)
-    (threshold : ℕ) (opened back : S) (before after : K) where
+    (settings : Numbers) (opened back : S) (before after : K) where
   abbrev Shows : Status → Type 0
-  Shows = StatusShows remaining faults taken sink_faults threshold opened back before after
+  Shows = StatusShows remaining faults taken sink_faults settings opened back before after
 
   -- what rose had no room for a count without a fault
   no_rise : (a b : ℕ) → IsFaultless a b → HasRisen a b → ⊥
   no_rise a b none rose = absurd (omega (arith, none.same, rose none.below_last))
 
-  bad_exactly : (status : Status) → Shows status → IsFaultless (faults opened) (faults back) → (bytes : List ℕ) → remaining opened ≡ Some bytes →
-      (at : ℕ) → left bytes ≡ Some at → length (whole bytes) ≤ most_keys → (status ≡ BadTrace 0 at) ⊎ (status ≡ OutOfMemory)
-  bad_exactly Done shows none bytes was at leaves few = absurd (differ (sym (shows bytes was).0.well_formed ∙ leaves))
-    where
-      differ : None ≡ Some at → ⊥
-      differ same = cc
-  bad_exactly (Usage rule) shows none bytes was at leaves few = absurd shows
-  bad_exactly PlaceFault shows none bytes was at leaves few = absurd shows
-  bad_exactly (TraceFault trace) shows none bytes was at leaves few = absurd (no_rise (faults opened) (faults back) none shows.1)
-  bad_exactly (BadTrace trace place) shows none bytes was at leaves few =
-      let same : place ≡ at = some_is (sym (shows.1 bytes was) ∙ leaves) in
-      inl (ap (λ t. BadTrace t place) shows.0 ∙ ap (BadTrace 0) same)
-  bad_exactly (TooLong trace) shows none bytes was at leaves few = absurd (omega (arith, shows.1 bytes was, few))
-  bad_exactly OutFault shows none bytes was at leaves few = absurd (differ (sym (shows.1 bytes was).0.well_formed ∙ leaves))
-    where
-      differ : None ≡ Some at → ⊥
-      differ same = cc
-  bad_exactly OutOfMemory shows none bytes was at leaves few = inr refl
+  -- bytes that leave their format aren't well formed
+  leaves_or_not : (bytes : List ℕ) (at : ℕ) → left bytes ≡ None → left bytes ≡ Some at → ⊥
+  leaves_or_not bytes at formed leaves = cc
 
-  complete : (status : Status) → Shows status → IsFaultless (faults opened) (faults back) → IsFaultless (sink_faults before) (sink_faults after) →
-      (bytes : List ℕ) → remaining opened ≡ Some bytes → left bytes ≡ None → length (whole bytes) ≤ most_keys → (status ≡ Done) ⊎ (status ≡ OutOfMemory)
-  complete Done shows none kept bytes was formed few = inl refl
-  complete (Usage rule) shows none kept bytes was formed few = absurd shows
-  complete PlaceFault shows none kept bytes was formed few = absurd shows
-  complete (TraceFault trace) shows none kept bytes was formed few = absurd (no_rise (faults opened) (faults back) none shows.1)
-  complete (BadTrace trace place) shows none kept bytes was formed few = absurd (differ (sym formed ∙ shows.1 bytes was))
-    where
-      differ : None ≡ Some place → ⊥
-      differ same = cc
-  complete (TooLong trace) shows none kept bytes was formed few = absurd (omega (arith, shows.1 bytes was, few))
-  complete OutFault shows none kept bytes was formed few = absurd (no_rise (sink_faults before) (sink_faults after) kept shows.0)
-  complete OutOfMemory shows none kept bytes was formed few = inr refl
+  -- the numbers of a full cone are its capacity and one key more
+  full_is : (cone n len : ℕ) → IsFull settings cone n len → CapacityFull cone n len ≡ CapacityFull 0 (capacity settings) 1
+  full_is cone n len full = ap (λ c. CapacityFull c n len) full.first ∙ ap (λ k. CapacityFull 0 k len) full.all ∙ ap (CapacityFull 0 (capacity settings)) full.one
 
-  pub HasRun-shows : (status : Status) → Shows status → 1 ≤ threshold →
-      HasRun remaining faults taken sink_faults threshold opened back before after status
-  HasRun-shows status shows some = record {
+  module _ (none : IsFaultless (faults opened) (faults back)) (bytes : List ℕ) (was : remaining opened ≡ Some bytes)
+      (few : length (whole bytes) ≤ most_keys) where
+    bad_exactly : (status : Status) → Shows status → (at : ℕ) → left bytes ≡ Some at → length (whole bytes) ≤ capacity settings →
+        (status ≡ BadTrace 0 at) ⊎ (status ≡ OutOfMemory)
+    bad_exactly Done shows at leaves fits = absurd (leaves_or_not bytes at (shows bytes was).0.well_formed leaves)
+    bad_exactly (Usage rule) shows at leaves fits = absurd shows
+    bad_exactly PlaceFault shows at leaves fits = absurd shows
+    bad_exactly (TraceFault trace) shows at leaves fits = absurd (no_rise (faults opened) (faults back) none shows.1)
+    bad_exactly (BadTrace trace place) shows at leaves fits =
+        let same : place ≡ at = some_is (sym (shows.1 bytes was).leaves ∙ leaves) in
+        inl (ap (λ t. BadTrace t place) shows.0 ∙ ap (BadTrace 0) same)
+    bad_exactly (TooLong trace) shows at leaves fits = absurd (omega (arith, shows.1 bytes was, few))
+    bad_exactly (CapacityFull cone n len) shows at leaves fits = absurd (omega (arith, shows.1 bytes was, fits))
+    bad_exactly OutFault shows at leaves fits = absurd (leaves_or_not bytes at (shows.1 bytes was).0.well_formed leaves)
+    bad_exactly OutOfMemory shows at leaves fits = inr refl
+
+    full_exactly : (status : Status) → Shows status → capacity settings < length (whole bytes) →
+        (status ≡ CapacityFull 0 (capacity settings) 1) ⊎ (status ≡ OutOfMemory)
+    full_exactly Done shows many = absurd (omega (arith, (shows bytes was).0.fits, many))
+    full_exactly (Usage rule) shows many = absurd shows
+    full_exactly PlaceFault shows many = absurd shows
+    full_exactly (TraceFault trace) shows many = absurd (no_rise (faults opened) (faults back) none shows.1)
+    full_exactly (BadTrace trace place) shows many = absurd (omega (arith, (shows.1 bytes was).fits, many))
+    full_exactly (TooLong trace) shows many = absurd (omega (arith, shows.1 bytes was, few))
+    full_exactly (CapacityFull cone n len) shows many = inl (full_is cone n len shows.0)
+    full_exactly OutFault shows many = absurd (omega (arith, (shows.1 bytes was).0.fits, many))
+    full_exactly OutOfMemory shows many = inr refl
+
+    complete : (status : Status) → Shows status → IsFaultless (sink_faults before) (sink_faults after) → left bytes ≡ None →
+        length (whole bytes) ≤ capacity settings → (status ≡ Done) ⊎ (status ≡ OutOfMemory)
+    complete Done shows kept formed fits = inl refl
+    complete (Usage rule) shows kept formed fits = absurd shows
+    complete PlaceFault shows kept formed fits = absurd shows
+    complete (TraceFault trace) shows kept formed fits = absurd (no_rise (faults opened) (faults back) none shows.1)
+    complete (BadTrace trace place) shows kept formed fits = absurd (leaves_or_not bytes place formed (shows.1 bytes was).leaves)
+    complete (TooLong trace) shows kept formed fits = absurd (omega (arith, shows.1 bytes was, few))
+    complete (CapacityFull cone n len) shows kept formed fits = absurd (omega (arith, shows.1 bytes was, fits))
+    complete OutFault shows kept formed fits = absurd (no_rise (sink_faults before) (sink_faults after) kept shows.0)
+    complete OutOfMemory shows kept formed fits = inr refl
+
+  pub HasRun-shows : (status : Status) → Shows status → HasRun remaining faults taken sink_faults settings opened back before after status
+  HasRun-shows status shows = record {
     shows = shows;
-    bad_exactly = bad_exactly status shows;
-    complete = complete status shows;
-    timely = λ bytes was bins. at_once-timely threshold bins (whole bytes) some;
+    bad_exactly = λ none bytes was at leaves few fits. bad_exactly none bytes was few status shows at leaves fits;
+    full_exactly = λ none bytes was few many. full_exactly none bytes was few status shows many;
+    complete = λ none kept bytes was formed few fits. complete none bytes was few status shows kept formed fits;
   }

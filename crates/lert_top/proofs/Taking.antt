@@ -1,58 +1,40 @@
--- One more event of a detector.
-use Rattle.std.proofs.Common.{◌≡◌, ℕ, ◌+◌, cond, List, [], ◌∷◌, ◌++◌, length, Some, unwrap_or, refl, ap, sym, ◌∙◌, arith, length-append, append-nil, eq-eqb}
-use Rattle.std.proofs.lemmas.Grind.{common_steps}
-use Rattle.std.proofs.lemmas.Bool.{ne_eqb}
-use Rattle.std.specs.Ordering.{nat_cmp}
-use Rattle.std.specs.BTreeMap.{BTreeMap, get, Updates}
-use Rattle.lert_spec.specs.declared.report.Report.{Report}
-use Rattle.lert_spec.specs.AtOnce.{at_once}
-use Rattle.lert_spec.specs.Counts.{count}
-use Rattle.lert_spec.proofs.CountLaws.{at_once-push, count-push}
-use Rattle.lert_top.specs.Detector.{IsDetecting}
+-- One more key of a cone, and why one isn't taken.
+use Rattle.std.proofs.Common.{◌≡◌, ℕ, ◌<◌, ◌≤◌, ◌^◌, List, length, Option, refl, ap, sym, subst, arith, inl, inr}
+use Rattle.std.proofs.lemmas.Bool.{cases_lt}
+use Rattle.lert_io.specs.Reading.{IfTold}
+use Rattle.lert_cone.specs.declared.fault.ListFault.{ListFault}
+use Rattle.lert_cone.specs.declared.fault.ListFault.TheVariants as fault
+use Rattle.lert_spec.specs.declared.numbers.Numbers.{Numbers}
+use Rattle.lert_spec.specs.Edges.{capacity}
+use Rattle.lert_spec.specs.Mix.{cone_of}
+use Rattle.lert_spec.specs.Trace.{whole}
+use Rattle.lert_spec.proofs.MixLaws.{cone_below}
+use Rattle.lert_top.specs.declared.status.Status.{Status}
+use Rattle.lert_top.specs.declared.status.Status.TheVariants as status
+use Rattle.lert_top.specs.Run.{IsFull, StopShows}
 
-module _ (threshold : ℕ) (events : List ℕ) (counts counts' : BTreeMap ℕ ℕ) (reports : List Report) (taken key : ℕ)
-    (is : IsDetecting threshold events counts reports taken)
-    (updates : Updates nat_cmp counts counts' key (Some (unwrap_or (get nat_cmp counts key) 0 + 1))) where
-  counted : (q : ℕ) → unwrap_or (get nat_cmp counts' q) 0 ≡ count q (events ++ key ∷ []) 0 (length (events ++ key ∷ []))
-  counted q =
-      let grown = count-push q events key in
-      let before = is.counted q in
-      grind (arith, common_steps, updates.0 q, grown, before)
+-- with no bit for its number there is one cone, and each key is its
+pub cone_of-first : (s : Numbers) (key : ℕ) → s.cone_bits ≡ 0 → key < 2 ^ 64 → cone_of s key ≡ 0
+cone_of-first s key none below = omega (arith, cone_below s key (omega arith) below, ap (λ bits. 2 ^ bits) none)
 
-  -- the count of the event's key, with the event
-  count-key : count key (events ++ key ∷ []) 0 (length (events ++ key ∷ [])) ≡ unwrap_or (get nat_cmp counts key) 0 + 1
-  count-key =
-      count-push key events key
-      ∙ ap (λ b. count key events 0 (length events) + cond b 1 0) (eq-eqb key key refl)
-      ∙ ap (λ n. n + 1) (sym (is.counted key))
+-- a cone that took a key had room for it
+pub had_room : (s : Numbers) (events : List ℕ) → length events ≤ capacity s →
+    (length events ≡ capacity s → ⊥) → length events < capacity s
+had_room s events fits not_full =
+    elim (cases_lt (length events) (capacity s)) [
+      | inl room ↦ room
+      | inr none ↦ absurd (not_full (omega arith))
+    ]
 
-  longer : taken + 1 ≡ length (events ++ key ∷ [])
-  longer = omega (arith, is.number, length-append events (key ∷ []))
-
-  pub IsDetecting-reached : (reports' : List Report) → unwrap_or (get nat_cmp counts key) 0 + 1 ≡ threshold →
-      reports' ≡ reports ++ record { key = key; at = taken + 1 } ∷ [] → IsDetecting threshold (events ++ key ∷ []) counts' reports' (taken + 1)
-  IsDetecting-reached reports' reached more = record {
-    counted = counted;
-    listed =
-        more
-        ∙ ap (λ rs. rs ++ record { key = key; at = taken + 1 } ∷ []) is.listed
-        ∙ ap (λ n. at_once threshold events ++ record { key = key; at = n + 1 } ∷ []) is.number
-        ∙ sym (at_once-push threshold events key
-        ∙ ap (λ b. at_once threshold events ++ cond b (record { key = key; at = length events + 1 } ∷ []) [])
-        (eq-eqb _ threshold (count-key ∙ reached)));
-    number = longer;
-  }
-
-  pub IsDetecting-other : (reports' : List Report) → (unwrap_or (get nat_cmp counts key) 0 + 1 ≡ threshold → ⊥) → reports' ≡ reports →
-      IsDetecting threshold (events ++ key ∷ []) counts' reports' (taken + 1)
-  IsDetecting-other reports' other same = record {
-    counted = counted;
-    listed =
-        same
-        ∙ is.listed
-        ∙ sym (at_once-push threshold events key
-        ∙ ap (λ b. at_once threshold events ++ cond b (record { key = key; at = length events + 1 } ∷ []) [])
-        (ne_eqb _ threshold (λ reached. other (sym count-key ∙ reached)))
-        ∙ append-nil (at_once threshold events));
-    number = longer;
-  }
+-- what a refusal of the first cone says of the run
+module _ {S : Type 0} (remaining : S → Option (List ℕ)) (faults : S → ℕ) (settings : Numbers) (made now : S) where
+  pub StopShows-refused : (refusal : ListFault) (answer : Status) → (refusal ≡ fault.Closed → ⊥) →
+      ((n len : ℕ) → refusal ≡ fault.CapacityFull n len →
+      IsFull settings 0 n len × IfTold (remaining made) (λ bytes. capacity settings < length (whole bytes))) →
+      ((n len : ℕ) → refusal ≡ fault.CapacityFull n len → answer ≡ status.CapacityFull 0 n len) →
+      (refusal ≡ fault.OutOfMemory → answer ≡ status.OutOfMemory) → StopShows remaining faults settings made now answer
+  StopShows-refused fault.Closed answer unfinished full full_is memory_is = absurd (unfinished refl)
+  StopShows-refused (fault.CapacityFull n len) answer unfinished full full_is memory_is =
+      subst (λ a. StopShows remaining faults settings made now a) (sym (full_is n len refl)) (full n len refl)
+  StopShows-refused fault.OutOfMemory answer unfinished full full_is memory_is =
+      subst (λ a. StopShows remaining faults settings made now a) (sym (memory_is refl)) tt

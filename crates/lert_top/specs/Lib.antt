@@ -1,5 +1,4 @@
 pub mod Command
-pub mod Detector
 pub mod Opening
 pub mod Page
 pub mod Run

@@ -1,5 +1,5 @@
--- The words of a command line: texts, numbers and names.
-use Rattle.std.specs.Prelude.{ℕ, ◌==◌, nat_lt, nat_le, Bool, false, not, ◌&&◌, List, [], ◌∷◌, length, Option, Some, None, codes, slice_index_or, if◌then◌else◌}
+-- The words of a command line: texts, numbers, options and names.
+use Rattle.std.specs.Prelude.{ℕ, ◌+◌, ◌==◌, nat_lt, nat_le, Bool, false, not, ◌&&◌, List, [], ◌∷◌, length, Option, Some, None, slice_index_or, if◌then◌else◌}
 use Rattle.std.specs.Char.{is_ascii_digit}
 use Rattle.std.specs.List.{list_all}
 use Rattle.std.specs.Str.{bytes_eq}
@@ -13,20 +13,28 @@ word_at words number = slice_index_or words number []
 abbrev pub is_word : List (List ℕ) → ℕ → List ℕ → Bool
 is_word words number text = bytes_eq (word_at words number) text
 
--- the number that a word spells: one to twenty decimal digits of a number of at most 2^64-1
+-- whether a word spells a number: it has one to twenty decimal digits, and these make at most 2^64-1
+abbrev pub is_number : List ℕ → Bool
+is_number word =
+    nat_lt 0 (length word) && nat_le (length word) 20 && list_all is_ascii_digit word && nat_lt (digits_value 10 word) 18446744073709551616
+
+-- the number that a word spells
 abbrev pub number_of : List ℕ → Option ℕ
-number_of word =
-    if nat_lt 0 (length word) && nat_le (length word) 20 && list_all is_ascii_digit word && nat_lt (digits_value 10 word) 18446744073709551616
-    then Some (digits_value 10 word) else None
+number_of word = if is_number word then Some (digits_value 10 word) else None
+
+-- whether an option stands at a place of the words: its name, and a number behind it
+unfoldable pub is_option : List (List ℕ) → ℕ → List ℕ → Bool
+is_option words place name = is_word words place name && is_number (word_at words (place + 1))
+
+-- the number of the option at a place
+unfoldable pub option_at : List (List ℕ) → ℕ → ℕ
+option_at words place = digits_value 10 (word_at words (place + 1))
 
 -- a word can name a directory or a trace: it isn't empty, and doesn't begin with `-`
 abbrev pub is_name : List ℕ → Bool
 is_name [] = false
 is_name (byte ∷ bytes) = not (byte == 45)
 
--- beside its number, the words are `run --threshold N --cone-bits 0 DIR TRACE`
-abbrev pub is_short_form : List (List ℕ) → Bool
-is_short_form words =
-    length words == 7
-    && is_word words 0 (codes "run") && is_word words 1 (codes "--threshold") && is_word words 3 (codes "--cone-bits")
-    && is_word words 4 (codes "0") && is_name (word_at words 5) && is_name (word_at words 6)
+-- the names DIR and TRACE stand at a place of the words
+abbrev pub are_names : List (List ℕ) → ℕ → Bool
+are_names words place = is_name (word_at words place) && is_name (word_at words (place + 1))

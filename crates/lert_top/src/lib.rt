@@ -1,7 +1,11 @@
-//! The top call of LERT.
+//! The top call of LERT, `run`, with the places that it asks for traces, its words and its statuses.
+//!
+//! The one contract is that of `run`: it is decided by the words, the trace and the sink alone. With
+//! `Done` the text that was written is that of the trace's keys and of the reports that a closed cone
+//! makes of them, and these reports are in time; each other status says why there is no such text.
+//! The program stands on it.
 #![tactic(auto)]
 
-mod detector;
 mod line;
 mod mem_place;
 mod page;
@@ -12,7 +16,6 @@ mod status;
 mod top;
 mod word;
 
-pub use detector::Detector;
 pub use line::{Line, Usage};
 pub use mem_place::MemPlace;
 pub use page::Page;

@@ -1,15 +1,15 @@
 //! The command line, read by hand.
 
-ghost use Rattle.std.specs.Prelude.{◌≡◌, Some, None, IfOk, IfErr};
+ghost use Rattle.std.specs.Prelude.{◌≡◌, ◌+◌, ◌^◌, ◌<◌, ◌≤◌, length, Some, None, IfOk, IfErr, MatchResult, if◌then◌else◌};
+ghost use Rattle.lert_spec.specs.Limits.{first_broken};
 
-use crate::word::{is_short_form, number};
-use lert_base::Words;
+use crate::word::{are_names, is_word, option};
+use lert_base::{Numbers, Settings, Words};
 
-/// A line of the one form so far, `run --threshold N --cone-bits 0 DIR TRACE`: its threshold, and the
-/// places of its two names in the words.
-#[derive(Clone, Copy, Debug, PartialEq, Eq)]
+/// A line of `run`: its settings, and the places of its names in the words. Its cone bits are 0.
+#[derive(Clone, Copy, Drop)]
 pub struct Line {
-    pub threshold: u64,
+    pub settings: Settings,
     pub dir: usize,
     pub trace: usize,
 }
@@ -20,39 +20,108 @@ pub struct Usage {
     pub rule: u8,
 }
 
-// The greatest threshold.
-const MOST: u64 = 4_294_967_295;
-
 impl Line {
-    ghost use Rattle.lert_top.specs.Command.{command, usage};
+    ghost use Rattle.lert_top.specs.Command.{command, usage, is_short_form, short_settings, is_long_form, long_settings, has_short_words, has_long_words, are_options};
 
-    /// Reads a line from the words that it was given.
+    /// Reads a line from the words that it was given. It takes no memory.
     pub fn read(words: &Words) -> Result<Line, Usage>
         ensures line { IfOk result (λ line. command words.now ≡ Some line) }
         ensures sound { IfOk result (λ _. usage words.now ≡ None) }
         ensures usage { IfErr result (λ fault. usage words.now ≡ Some fault.rule) }
+        ensures one_cone { IfOk result (λ line. line.settings.cone_bits ≡ 0) }
     {
-        let Some(line) = Line::spelled(words) else {
-            return Err(Usage { rule: 0 });
-        };
-        if line.threshold < 1 || line.threshold > MOST {
-            return Err(Usage { rule: 1 });
+        if let Some(numbers) = Line::short_form(words) {
+            return Line::new(numbers, 5);
         }
-        Ok(line)
+        if let Some(numbers) = Line::long_form(words) {
+            return Line::new(numbers, 17);
+        }
+        Err(Usage { rule: 0 })
     }
 
-    // The line that the words spell, whatever its number.
-    fn spelled(words: &Words) -> Option<Line>
-        ensures { result ≡ command words.now }
+    // The line with these numbers, whose names stand from a place on.
+    fn new(numbers: Numbers, dir: usize) -> Result<Line, Usage>
+        requires { dir < 2 ^ 32 }
+        ensures { MatchResult result
+            (λ line. (first_broken numbers ≡ None) × (line ≡ record { settings = numbers; dir = dir; trace = dir + 1 }))
+            (λ fault. first_broken numbers ≡ Some fault.rule) }
     {
-        if !is_short_form(words) {
+        match Settings::new(numbers) {
+            Ok(settings) => Ok(Line {
+                settings,
+                dir,
+                trace: dir + 1,
+            }),
+            Err(bad) => Err(Usage { rule: bad.rule }),
+        }
+    }
+
+    // The numbers of the short form, where the words have it: its threshold, and the defaults.
+    fn short_form(words: &Words) -> Option<Numbers>
+        ensures { result ≡ (if is_short_form words.now then Some (short_settings words.now) else None) }
+    {
+        if !Line::has_short_words(words) {
             return None;
         }
-        let threshold = number(words.word(2))?;
-        Some(Line {
+        let threshold = option(words, 1, "--threshold")?;
+        Some(Numbers {
             threshold,
-            dir: 5,
-            trace: 6,
+            bins: 4,
+            ratio: 4,
+            base: 4_096,
+            levels: 5,
+            cone_bits: 0,
+            room: 262_144,
+            packet: 1_024,
+        })
+    }
+
+    // The numbers of the long form, where the words have it.
+    fn long_form(words: &Words) -> Option<Numbers>
+        ensures { result ≡ (if is_long_form words.now then Some (long_settings words.now) else None) }
+    {
+        if !Line::has_long_words(words) {
+            return None;
+        }
+        let numbers = Line::options(words)?;
+        if numbers.cone_bits != 0 {
+            return None;
+        }
+        Some(numbers)
+    }
+
+    // Whether the words are those of the short form, beside the two of the threshold.
+    fn has_short_words(words: &Words) -> bool
+        ensures { result ≡ has_short_words words.now }
+    {
+        words.len() == 7
+            && is_word(words, 0, "run")
+            && is_word(words, 3, "--cone-bits")
+            && is_word(words, 4, "0")
+            && are_names(words, 5)
+    }
+
+    // Whether the words are those of the long form, beside those of the options.
+    fn has_long_words(words: &Words) -> bool
+        ensures { result ≡ has_long_words words.now }
+    {
+        words.len() == 19 && is_word(words, 0, "run") && are_names(words, 17)
+    }
+
+    // The numbers of the eight options, which stand in their order behind the command.
+    fn options(words: &Words) -> Option<Numbers>
+        requires { 17 ≤ length words.now }
+        ensures { result ≡ (if are_options words.now then Some (long_settings words.now) else None) }
+    {
+        Some(Numbers {
+            threshold: option(words, 1, "--threshold")?,
+            bins: option(words, 3, "--bins")?,
+            ratio: option(words, 5, "--ratio")?,
+            base: option(words, 7, "--base")?,
+            levels: option(words, 9, "--levels")?,
+            cone_bits: option(words, 11, "--cone-bits")?,
+            room: option(words, 13, "--room")?,
+            packet: option(words, 15, "--packet")?,
         })
     }
 }

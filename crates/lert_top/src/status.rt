@@ -1,8 +1,9 @@
 //! How a run ends.
 
-ghost use Rattle.std.specs.Prelude.{◌≡◌};
+ghost use Rattle.std.specs.Prelude.{◌≡◌, ◌≢◌, ℕ};
 ghost use Rattle.lert_top.specs.Status.{status_number, stop_status};
 
+use lert_cone::ListFault;
 use lert_io::OutOfMemory;
 use lert_trace::TraceFault;
 use std::fmt;
@@ -23,6 +24,8 @@ pub enum Status {
     BadTrace { trace: u32, at: u64 },
     /// A trace has more than 2^36 keys.
     TooLong { trace: u32 },
+    /// A cone has as many keys as it takes: `n`, and `len` more were brought.
+    CapacityFull { cone: u32, n: u64, len: u64 },
     /// A write of the text failed. A part of it may have been written.
     OutFault,
     /// There is no memory.
@@ -41,6 +44,11 @@ impl Status {
             Status::TraceFault { trace: _ } => 3,
             Status::BadTrace { trace: _, at: _ } => 4,
             Status::TooLong { trace: _ } => 5,
+            Status::CapacityFull {
+                cone: _,
+                n: _,
+                len: _,
+            } => 8,
             Status::OutFault => 11,
             Status::OutOfMemory => 12,
         }
@@ -59,6 +67,19 @@ impl Status {
             TraceFault::TooLong => Status::TooLong { trace },
         }
     }
+
+    /// The status of a run that a refusal of an open cone stops.
+    pub fn of_cone(cone: u32, fault: ListFault) -> Status
+        requires { fault ≢ ListFault.Closed }
+        ensures full { (n len : ℕ) → fault ≡ ListFault.CapacityFull n len → result ≡ Status.CapacityFull cone n len }
+        ensures memory { fault ≡ ListFault.OutOfMemory → result ≡ Status.OutOfMemory }
+    {
+        match fault {
+            ListFault::Closed => unreachable!(),
+            ListFault::CapacityFull { n, len } => Status::CapacityFull { cone, n, len },
+            ListFault::OutOfMemory => Status::OutOfMemory,
+        }
+    }
 }
 
 impl From<OutOfMemory> for Status {
@@ -73,6 +94,11 @@ impl From<OutOfMemory> for Status {
 }
 
 impl fmt::Display for Status {
+    ghost use Rattle.std.specs.Prelude.{Some};
+    ghost use Rattle.lert_top.specs.Status.{status_line};
+
+    ghost output = { λ status. Some (status_line status) };
+
     fn fmt<W: fmt::Write>(&self, f: &mut fmt::Formatter<W>) -> fmt::Result {
         match self {
             Status::Done => write!(f, "lert: done"),
@@ -81,6 +107,9 @@ impl fmt::Display for Status {
             Status::TraceFault { trace } => write!(f, "lert: trace {trace} fault"),
             Status::BadTrace { trace, at } => write!(f, "lert: trace {trace} bad at {at}"),
             Status::TooLong { trace } => write!(f, "lert: trace {trace} too long"),
+            Status::CapacityFull { cone, n, len } => {
+                write!(f, "lert: cone {cone} full at {n} plus {len}")
+            }
             Status::OutFault => write!(f, "lert: output fault"),
             Status::OutOfMemory => write!(f, "lert: out of memory"),
         }

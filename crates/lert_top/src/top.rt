@@ -1,29 +1,28 @@
 //! The top call.
 
-ghost use Rattle.std.specs.Prelude.{◌≡◌, ◌↔◌, ◌++◌, ◌∷◌, ℕ, Bool, false, List, [], Some, None, OnOk, OnErr, IfErr};
+ghost use Rattle.std.specs.Prelude.{◌≡◌, ◌↔◌, ◌++◌, ◌∷◌, ℕ, Bool, false, true, List, [], Some, None, OnOk, OnErr, IfErr};
 ghost use Rattle.lert_io.specs.Fault.{HasCause, HasRisen};
 ghost use Rattle.lert_top.specs.Command.{command, usage};
 ghost use Rattle.lert_top.specs.Page.{IsCut};
-ghost use Rattle.lert_top.specs.Run.{HasRun, StatusShows, most_keys, text_of};
+ghost use Rattle.lert_top.specs.Run.{AreInTime, HasRun, StatusShows, most_keys, text_of};
 ghost use Rattle.lert_top.specs.Word.{word_at};
 
-use crate::detector::Detector;
 use crate::line::Line;
 use crate::page::Page;
 use crate::place::Place;
 use crate::print::{print_cone, print_total};
 use crate::reading::detect;
 use crate::status::Status;
-use lert_base::Words;
+use lert_base::{Settings, Words};
+use lert_cone::ListCone;
 use lert_io::{Failed, Sink, Source};
 use lert_trace::{MOST_KEYS, TraceReader};
 use std::alloc::Global;
 
-/// Reports each key that occurs as often as the line's threshold says, with the position of that
-/// occurrence. It opens the line's trace, reads it to its end, prints, and puts the trace back, in
-/// this order, and stops at the first fault; what was opened is put back in each case. Nothing is
-/// written before the trace was read to its end. What it holds in memory grows with the number of
-/// distinct keys alone.
+/// Reports each key that occurs as often as the line's threshold says, soon after it does. It opens
+/// the line's trace, reads it to its end into one cone, prints, and puts the trace back, in this
+/// order, and stops at the first fault; what was opened is put back in each case. Nothing is written
+/// before the trace was read to its end. What it holds in memory is the cone and a page of text.
 pub fn run<P: Place, K: Sink>(alloc: Global, words: &Words, place: &mut P, out: &mut K) -> Status
     requires asked { P.asked place.old ≡ [] }
     requires handed { P.handed place.old ≡ [] }
@@ -38,7 +37,7 @@ pub fn run<P: Place, K: Sink>(alloc: Global, words: &Words, place: &mut P, out: 
     // A trace that was opened is put back, and the status says what came of it.
     ensures ran { (line : Line) → command words.now ≡ Some line → usage words.now ≡ None → (result ≡ Status.PlaceFault → ⊥) →
         (opened : P.Trace) × (back : P.Trace) × (P.handed place.new ≡ opened ∷ []) × (P.returned place.new 0 ≡ Some back)
-        × (P.Trace.mark back ≡ 0) × HasRun P.Trace.remaining P.Trace.faults K.taken K.faults line.threshold opened back out.old out.new result }
+        × (P.Trace.mark back ≡ 0) × HasRun P.Trace.remaining P.Trace.faults K.taken K.faults line.settings opened back out.old out.new result }
 {
     let line = match Line::read(words) {
         Ok(line) => line,
@@ -48,7 +47,7 @@ pub fn run<P: Place, K: Sink>(alloc: Global, words: &Words, place: &mut P, out: 
         Ok(trace) => trace,
         Err(Failed) => return Status::PlaceFault,
     };
-    let (trace, status) = run_trace(alloc, line.threshold, trace, out);
+    let (trace, status) = run_trace(alloc, &line.settings, trace, out);
     place.put_back_trace(0, trace);
     status
 }
@@ -56,57 +55,61 @@ pub fn run<P: Place, K: Sink>(alloc: Global, words: &Words, place: &mut P, out: 
 // Runs over a trace that was opened, and gives it back.
 fn run_trace<S: Source, K: Sink>(
     alloc: Global,
-    threshold: u64,
+    settings: &Settings,
     trace: S,
     out: &mut K,
 ) -> (S, Status)
-    ensures shows { StatusShows S.remaining S.faults K.taken K.faults threshold trace result.0 out.old out.new result.1 }
+    requires one_cone { settings.now.cone_bits ≡ 0 }
+    ensures shows { StatusShows S.remaining S.faults K.taken K.faults settings.now trace result.0 out.old out.new result.1 }
     ensures mark { S.mark result.0 ≡ S.mark trace }
 {
     let mut reader = TraceReader::new(trace, MOST_KEYS);
-    let status = match report(alloc, threshold, &mut reader, out) {
+    let status = match report(alloc, settings, &mut reader, out) {
         Ok(()) => Status::Done,
         Err(status) => status,
     };
     (reader.into_source(), status)
 }
 
-// Reads a trace to its end and prints its reports.
+// Reads a trace to its end into a cone and prints its reports.
 fn report<S: Source, K: Sink>(
     alloc: Global,
-    threshold: u64,
+    settings: &Settings,
     reader: &mut TraceReader<S>,
     out: &mut K,
 ) -> Result<(), Status>
+    requires one_cone { settings.now.cone_bits ≡ 0 }
     requires fresh { reader.old.given ≡ 0 }
     requires sound { reader.old.fault ≡ None }
     requires limit { reader.old.limit ≡ most_keys }
-    ensures done { OnOk result (StatusShows S.remaining S.faults K.taken K.faults threshold
+    ensures done { OnOk result (StatusShows S.remaining S.faults K.taken K.faults settings.now
         reader.old.made reader.new.source out.old out.new Status.Done) }
-    ensures stopped { IfErr result (StatusShows S.remaining S.faults K.taken K.faults threshold
+    ensures stopped { IfErr result (StatusShows S.remaining S.faults K.taken K.faults settings.now
         reader.old.made reader.new.source out.old out.new) }
     ensures mark { S.mark reader.new.source ≡ S.mark reader.old.source }
 {
     let mut page = Page::new(alloc)?;
-    let detector = detect(alloc, threshold, reader)?;
-    match print(&mut page, out, &detector) {
+    let cone = detect(alloc, settings, reader)?;
+    match print(&mut page, out, &cone) {
         Ok(()) => Ok(()),
         Err(Failed) => Err(Status::OutFault),
     }
 }
 
-// Prints what a detector found.
-fn print<K: Sink>(page: &mut Page, out: &mut K, detector: &Detector) -> Result<(), Failed>
-    requires { page.old ≡ [] }
+// Prints a closed cone, the only one.
+fn print<K: Sink>(page: &mut Page, out: &mut K, cone: &ListCone) -> Result<(), Failed>
+    requires empty { page.old ≡ [] }
+    requires closed { cone.now.closed ≡ true }
+    ensures in_time { AreInTime cone.now.settings cone.now.events }
     ensures ok { (text : List ℕ) → K.taken out.old ≡ Some text →
-        OnOk result (K.taken out.new ≡ Some (text ++ text_of detector.now.threshold detector.now.events)) }
+        OnOk result (K.taken out.new ≡ Some (text ++ text_of cone.now.settings cone.now.events)) }
     ensures cut { OnErr result (IsCut (K.taken out.old) (K.taken out.new)
-        (text_of detector.now.threshold detector.now.events)) }
+        (text_of cone.now.settings cone.now.events)) }
     ensures cause { HasCause (K.faults out.old) (K.faults out.new) result }
     ensures mark { K.mark out.new ≡ K.mark out.old }
 {
-    let events = detector.len();
-    let reports = detector.reports();
+    let events = cone.events();
+    let reports = cone.reports();
     print_cone(page, out, 0, events, reports)?;
     print_total(page, out, events, reports.len() as u64)
 }

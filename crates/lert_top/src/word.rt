@@ -1,31 +1,27 @@
-//! The words of a command line: texts, numbers and names.
+//! The words of a command line: texts, numbers, options and names.
 
-ghost use Rattle.std.specs.Prelude.{◌≡◌, ◌<◌, length};
+ghost use Rattle.std.specs.Prelude.{◌≡◌, ◌+◌, ◌^◌, ◌<◌, length, Some, None, MatchOption, true, false};
 ghost use Rattle.std.specs.Char.{is_ascii_digit};
 ghost use Rattle.std.specs.List.{list_all};
-ghost use Rattle.lert_top.specs.Word.{is_name as name_test, is_short_form as short_form, is_word as word_test, number_of, word_at};
+ghost use Rattle.lert_top.specs.Word.{are_names as names_test, is_name as name_test, is_option, is_word as word_test, number_of, option_at, word_at};
 
 use lert_base::Words;
 
-/// Whether the words are those of the short form, whatever its number is.
-pub fn is_short_form(words: &Words) -> bool
-    ensures { result ≡ short_form words.now }
-{
-    words.len() == 7
-        && is_word(words, 0, "run")
-        && is_word(words, 1, "--threshold")
-        && is_word(words, 3, "--cone-bits")
-        && is_word(words, 4, "0")
-        && is_name(words, 5)
-        && is_name(words, 6)
-}
-
-// Whether the word with a number is a text.
-fn is_word(words: &Words, number: usize, text: &str) -> bool
+/// Whether the word with a number is a text.
+pub fn is_word(words: &Words, number: usize, text: &str) -> bool
     requires { number < length words.now }
     ensures { result ≡ word_test words.now number text.now }
 {
     words.word(number) == text
+}
+
+/// Whether the words at a place and behind it can name a directory and a trace.
+pub fn are_names(words: &Words, place: usize) -> bool
+    requires small { place < 2 ^ 32 }
+    requires within { place + 1 < length words.now }
+    ensures { result ≡ names_test words.now place }
+{
+    is_name(words, place) && is_name(words, place + 1)
 }
 
 // Whether the word with a number can name a directory or a trace.
@@ -39,8 +35,23 @@ fn is_name(words: &Words, number: usize) -> bool
     }
 }
 
-/// The number that a word spells: one to twenty decimal digits of a number of at most 2^64-1.
-pub fn number(word: &str) -> Option<u64>
+/// The number of the option of a name, where that stands at a place of the words.
+#[tactic(auto, unfolding(crate::specs::Word::is_option, crate::specs::Word::option_at))]
+pub fn option(words: &Words, place: usize, name: &str) -> Option<u64>
+    requires small { place < 2 ^ 32 }
+    requires within { place + 1 < length words.now }
+    ensures { MatchOption result
+        (is_option words.now place name.now ≡ false)
+        (λ number. (is_option words.now place name.now ≡ true) × (number ≡ option_at words.now place)) }
+{
+    if !is_word(words, place, name) {
+        return None;
+    }
+    number(words.word(place + 1))
+}
+
+// The number that a word spells: one to twenty decimal digits of a number of at most 2^64-1.
+fn number(word: &str) -> Option<u64>
     ensures { result ≡ number_of word.now }
 {
     if word.is_empty() {

@@ -1,7 +1,7 @@
 use Rattle.std.proofs.Common.{◌++◌, ◌∷◌, [], true, length, ap, sym, ◌∙◌, subst}
 use Rattle.lert_top.specs.Run.{StatusShows}
 use Rattle.lert_top.specs.Word.{word_at}
-use Rattle.lert_top.proofs.Ending.{HasRun-shows, not_place_fault, some_is, threshold-line, true_is_false, word_at-slice_get}
+use Rattle.lert_top.proofs.Ending.{HasRun-shows, not_place_fault, some_is, true_is_false, word_at-slice_get}
 use Rattle.lert_top.proofs.top.run.Goals as goal
 
 pub returns-clause-asked : goal.returns-clause-asked
@@ -16,7 +16,7 @@ returns-clause-asked g c = λ line spelled sound.
           ∙ ap (λ l. word_at c.args.words.now l.trace) same),
       (
         λ is. absurd (not_place_fault {S = g.row.P-Trace.Denot} {K = g.row.K.Denot} g.P.Trace.Source.remaining g.P.Trace.Faulty.faults g.K.Sink.taken g.K.Faulty.faults
-            c.in-Ok.line.threshold c.in-Ok-open_trace.trace c.run_trace-trace.result.0 c.args.out.now c.run_trace-trace.new.out c.run_trace-trace.result.1
+            c.in-Ok.line.settings c.in-Ok-open_trace.trace c.run_trace-trace.result.0 c.args.out.now c.run_trace-trace.new.out c.run_trace-trace.result.1
             c.run_trace-trace.ensures.shows is),
         λ is. absurd (true_is_false is),
       ),
@@ -31,9 +31,8 @@ returns-clause-ran g c = λ line spelled sound opened.
       c.put_back_trace.ensures.returned,
       c.run_trace-trace.ensures.mark ∙ c.in-Ok-open_trace.ensures.number ∙ ap length c.requires.handed,
       HasRun-shows {S = g.row.P-Trace.Denot} {K = g.row.K.Denot} g.P.Trace.Source.remaining g.P.Trace.Faulty.faults g.K.Sink.taken g.K.Faulty.faults
-          line.threshold c.in-Ok-open_trace.trace c.run_trace-trace.result.0 c.args.out.now c.run_trace-trace.new.out c.run_trace-trace.result.1
+          line.settings c.in-Ok-open_trace.trace c.run_trace-trace.result.0 c.args.out.now c.run_trace-trace.new.out c.run_trace-trace.result.1
           (subst (λ l. StatusShows {S = g.row.P-Trace.Denot} {K = g.row.K.Denot} g.P.Trace.Source.remaining g.P.Trace.Faulty.faults g.K.Sink.taken g.K.Faulty.faults
-          l.threshold c.in-Ok-open_trace.trace c.run_trace-trace.result.0 c.args.out.now c.run_trace-trace.new.out c.run_trace-trace.result.1) same
-          c.run_trace-trace.ensures.shows)
-          (threshold-line c.args.words.now line spelled sound),
+          l.settings c.in-Ok-open_trace.trace c.run_trace-trace.result.0 c.args.out.now c.run_trace-trace.new.out c.run_trace-trace.result.1) same
+          c.run_trace-trace.ensures.shows),
     )

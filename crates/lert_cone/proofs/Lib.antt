@@ -1,0 +1,12 @@
+pub mod CountLemmas
+pub mod CountedLemmas
+pub mod DueLemmas
+pub mod GatherLemmas
+pub mod HeldLemmas
+pub mod KeyLemmas
+pub mod ListedLemmas
+pub mod MergeLemmas
+pub mod NextLemmas
+pub mod StandLemmas
+pub mod Timing
+pub mod Windows

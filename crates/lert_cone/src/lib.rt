@@ -1,0 +1,20 @@
+//! One cone in memory, whose levels are lists: it takes keys one by one and lists its reports.
+//!
+//! The one contract is that of `ListCone`: after each call its reports are those that the definition
+//! makes of the keys taken so far, so they are in time. A refusal changes nothing.
+//!
+//! `Levels` counts the keys in bins, `merge` makes one table of two, and `Listed` keeps the reports. The
+//! command that runs a trace through all cones stands on this crate.
+#![tactic(auto)]
+
+mod bin;
+mod cone;
+mod fault;
+mod levels;
+mod listed;
+mod merge;
+#[cfg(test)]
+mod tests;
+
+pub use cone::ListCone;
+pub use fault::ListFault;
