@@ -4,7 +4,7 @@
 //! are used, and for each quotient how far the runs below it reach past its home. So a run is found with no
 //! counting of bits, and the first free cell behind a place by a scan of words.
 
-ghost use Rattle.std.specs.Prelude.{◌≡◌, ℕ, ◌+◌, ◌-◌, ◌^◌, ◌<◌, ◌≤◌, ◌++◌, [], ◌∷◌, List, Bool, true, false, length, replicate, slice_index, slice_set, min, take, drop, IfOk};
+ghost use Rattle.std.specs.Prelude.{◌≡◌, ◌≢◌, ℕ, ◌+◌, ◌-◌, ◌^◌, ◌<◌, ◌≤◌, ◌++◌, [], ◌∷◌, List, Bool, true, false, length, replicate, slice_index, slice_index_or, slice_set, min, take, drop, IfOk};
 ghost use Rattle.lert_slotbits.specs.Bits.{IsFirst, gapped};
 ghost use Rattle.lert_runs.specs.RunText.{run_text, pairs_plus};
 ghost use Rattle.lert_cqf.specs.Around.{IsOpening, IsWidened};
@@ -69,6 +69,19 @@ impl Rows {
         ensures { result.now ≡ run_slots home self.now.slots.items self.now.spill.items }
     {
         self.part(self.start(home), self.start(home + 1))
+    }
+
+    /// How often `x` stands in the run of `home`, if at most one slot, `at`, lies up to the next run.
+    pub fn count_single(&self, home: u64, at: u64, x: u64) -> u64
+        requires home { home < length self.now.occupied }
+        requires at { at < length self.now.slots.items }
+        ensures vacant { slice_index_or self.now.occupied home false ≡ false → result ≡ 0 }
+        ensures other { slice_index self.now.slots.items at ≢ x → result ≡ 0 }
+        ensures here { slice_index_or self.now.occupied home false ≡ true
+            → slice_index self.now.slots.items at ≡ x → result ≡ 1 }
+    {
+        // No branch on either: which of them holds can't be guessed.
+        u64::from(self.occupied.get(home) & (self.slots[at as usize] == x))
     }
 
     /// The slots `at..end`.

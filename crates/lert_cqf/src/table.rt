@@ -150,10 +150,12 @@ impl CountTable for Cqf {
         if home >= self.rows.occupied.len() {
             return 0;
         }
-        if !self.rows.occupied.get(home) {
-            return 0;
+        let at = self.rows.start(home);
+        let end = self.rows.start(home + 1);
+        if end <= at + 1 {
+            return self.rows.count_single(home, at, x);
         }
-        find(self.width, self.rows.run(home), x).count
+        find(self.width, self.rows.part(at, end), x).count
     }
 
     fn events(&self) -> u64 {
