@@ -72,10 +72,15 @@ find-requires-clause-run_text c =
     let long = occupied_long _ _ _ _ _ _ _ _ _ _ c.self.invariant in
     let h = long_run _ _ _ _ _ _ _ _ _ _ c.self.invariant c.parts-home.result.0 (let low = c.if-home-len.false in let len = c.len.ensures in omega arith)
     (omega (arith, c.start-at.ensures, c.start-end.ensures, c.if-end-at.false)) in
-    let bounds = hold_bounds _ _ _ _ _ _ _ _ _ _ c.self.invariant c.parts-home.result.0 h in
-    (h.pairs, record { ascend = h.ascend; text = c.part.ensures ∙ ap (λ k. take (k - c.start-at.result) (drop c.start-at.result c.self.inside.rows.slots.items)) c.start-end.ensures
-        ∙ ap (λ k. take (c.parts-home.result.0 + 1 + get_or c.self.inside.rows.spill.items (c.parts-home.result.0 + 1) 0 - k) (drop k c.self.inside.rows.slots.items)) c.start-at.ensures
-        ∙ bounds.slice })
+    let bounds = hold_bounds _ _ _ _ _ _ _ _ _ _ c.self.invariant c.parts-home.result.0 h in (
+      h.pairs,
+      record {
+        ascend = h.ascend;
+        text = c.part.ensures ∙ ap (λ k. take (k - c.start-at.result) (drop c.start-at.result c.self.inside.rows.slots.items)) c.start-end.ensures
+            ∙ ap (λ k. take (c.parts-home.result.0 + 1 + get_or c.self.inside.rows.spill.items (c.parts-home.result.0 + 1) 0 - k) (drop k c.self.inside.rows.slots.items)) c.start-at.ensures
+            ∙ bounds.slice;
+      },
+    )
 
 pub returns : goal.returns
 returns c =
@@ -85,8 +90,11 @@ returns c =
     let bounds = hold_bounds _ _ _ _ _ _ _ _ _ _ c.self.invariant c.parts-home.result.0 h in
     let q_is = c.parts-home.ensures.quotient ∙ ap (λ (t : Contents). c.args.tail / 2 ^ t.width) (sym c.self.view_is) in
     let x_is = c.parts-home.ensures.remainder ∙ ap (λ (t : Contents). c.args.tail % 2 ^ t.width) (sym c.self.view_is) in
-    (c.find.ensures h.pairs (record { ascend = h.ascend; text = c.part.ensures ∙ ap (λ k. take (k - c.start-at.result) (drop c.start-at.result c.self.inside.rows.slots.items)) c.start-end.ensures
-        ∙ ap (λ k. take (c.parts-home.result.0 + 1 + get_or c.self.inside.rows.spill.items (c.parts-home.result.0 + 1) 0 - k) (drop k c.self.inside.rows.slots.items)) c.start-at.ensures
-        ∙ bounds.slice })).count
+    (c.find.ensures h.pairs (record {
+      ascend = h.ascend;
+      text = c.part.ensures ∙ ap (λ k. take (k - c.start-at.result) (drop c.start-at.result c.self.inside.rows.slots.items)) c.start-end.ensures
+          ∙ ap (λ k. take (c.parts-home.result.0 + 1 + get_or c.self.inside.rows.spill.items (c.parts-home.result.0 + 1) 0 - k) (drop k c.self.inside.rows.slots.items)) c.start-at.ensures
+          ∙ bounds.slice;
+    })).count
     ∙ count_present _ _ _ _ _ _ _ _ _ _ c.self.invariant c.args.tail c.parts-home.result.0 c.parts-home.result.1 q_is x_is h
     ∙ ap (λ (t : Contents). count_of t.pieces c.args.tail) c.self.view_is
