@@ -1,9 +1,11 @@
--- A run of at most one slot: what it says of a remainder, and where it would stand if it is none.
-use Rattle.std.proofs.Common.{◌≡◌, ◌≢◌, ℕ, ◌+◌, ◌-◌, ◌*◌, ◌/◌, ◌%◌, ◌^◌, ◌<◌, ◌≤◌, Bool, true, false, List, [], ◌∷◌, ◌++◌, length, take, drop, get_or, max, refl, sym, ap, ◌∙◌, subst, inl, inr, ◌⊎◌, arith, length-append}
-use Rattle.std.proofs.lemmas.Bool.{cases_eq}
+-- A run of at most two slots: what it says of a remainder, and where it would stand if it is none.
+use Rattle.std.proofs.Common.{◌≡◌, ◌≢◌, ℕ, suc, ◌+◌, ◌-◌, ◌*◌, ◌/◌, ◌%◌, ◌^◌, ◌<◌, ◌≤◌, Bool, true, false, List, [], ◌∷◌, ◌++◌, length, take, drop, get_or, max, sym, ap, ◌∙◌, subst, inl, inr, ◌⊎◌, arith, length-append}
+use Rattle.std.proofs.lemmas.Bool.{cases_eq, cases_lt}
 use Rattle.std.proofs.lemmas.List.{get_or-drop, get_or-take}
-use Rattle.lert_counter.specs.Group.{group}
-use Rattle.lert_counter.proofs.GroupLemmas.{shape_of}
+use Rattle.std.proofs.Math.Seq.{drop-cons}
+use Rattle.lert_counter.specs.Group.{group, digit_base}
+use Rattle.lert_counter.proofs.DigitLemmas.{length_digits-positive}
+use Rattle.lert_counter.proofs.GroupLemmas.{shape_of, length_middle}
 use Rattle.lert_counter.proofs.GroupLemmas.Shape.{one, two, three, zeros, bare, guarded}
 use Rattle.lert_runs.specs.RunText.{run_text, RemaindersAscend, count_in}
 use Rattle.lert_runs.proofs.RunLemmas.{count_in-here, count_in-later}
@@ -44,6 +46,73 @@ single width (p ∷ r ∷ ps) some h short =
     let rest = length_text-positive width (p.0 + 1) (r ∷ ps) (omega arith) h.2 in
     let first = length_text-positive width 0 (p ∷ []) (omega arith) (h.0, h.1, tt) in
     absurd (omega (arith, length-append (group width p.0 p.1) (run_text width (r ∷ ps)), length-append (group width p.0 p.1) []))
+
+-- a group of two slots is a remainder that occurs twice
+two_slots : (width x c : ℕ) → 1 ≤ c → length (group width x c) ≡ 2 → (c ≡ 2) × (group width x c ≡ x ∷ x ∷ [])
+two_slots width x c positive two_long =
+    elim (shape_of width x c positive) [
+      | one e is ↦ absurd (omega (arith, ap (λ (t : List ℕ). length t) is))
+      | two e is ↦ (e, is)
+      | three z e is ↦ absurd (omega (arith, ap (λ (t : List ℕ). length t) is))
+      | zeros z l is ↦ absurd (omega (arith, length-append {A = ℕ}, ap (λ (t : List ℕ). length t) is))
+      | bare p l w is ↦ absurd (let some = length_digits-positive 5 (digit_base width x) (c - 3) in
+          let long = length_middle x (c - 3) (digit_base width x) (x ∷ []) in omega (arith, ap (λ (t : List ℕ). length t) is))
+      | guarded p l w is ↦ absurd (let some = length_digits-positive 5 (digit_base width x) (c - 3) in
+          let long = length_middle x (c - 3) (digit_base width x) (x ∷ []) in omega (arith, ap (λ (t : List ℕ). length t) is))
+    ]
+
+-- of a text of two slots, as many are x as x occurs
+pub pair_count : (width : ℕ) (ps : List (ℕ × ℕ)) (x a b m n : ℕ) → 0 < length ps → RemaindersAscend 0 ps → run_text width ps ≡ a ∷ b ∷ []
+    → (a ≢ x → m ≡ 0) → (a ≡ x → m ≡ 1) → (b ≢ x → n ≡ 0) → (b ≡ x → n ≡ 1) → m + n ≡ count_in ps x
+pair_count width [] x a b m n some h text a_not a_is b_not b_is = absurd (omega arith)
+pair_count width (p ∷ []) x a b m n some h text a_not a_is b_not b_is =
+    let long = ap (λ (t : List ℕ). length t) text in
+    let whole = length-append (group width p.0 p.1) [] in
+    let o = two_slots width p.0 p.1 (h.1).0 (omega arith) in
+    let same : p.0 ∷ p.0 ∷ [] ≡ a ∷ b ∷ [] = sym (ap (λ (t : List ℕ). t ++ []) o.1) ∙ text in
+    let first : p.0 ≡ a = cc in
+    let second : p.0 ≡ b = cc in
+    elim (cases_eq p.0 x) [
+      | inl is ↦ (let i = a_is (sym first ∙ is) in let j = b_is (sym second ∙ is) in let c = count_in-here p [] x is in omega (arith, o.0))
+      | inr not ↦ (let i = a_not (λ e. not (first ∙ e)) in let j = b_not (λ e. not (second ∙ e)) in let c = count_in-later p [] x not in omega arith)
+    ]
+pair_count width (p ∷ r ∷ []) x a b m n some h text a_not a_is b_not b_is =
+    let long = ap (λ (t : List ℕ). length t) text in
+    let whole = length-append (group width p.0 p.1) (run_text width (r ∷ [])) in
+    let rest = length-append (group width r.0 r.1) [] in
+    let front = length_text-positive width 0 (p ∷ []) (omega arith) (h.0, h.1, tt) in
+    let front_long = length-append (group width p.0 p.1) [] in
+    let back = length_text-positive width (p.0 + 1) (r ∷ []) (omega arith) h.2 in
+    let o = one_slot width p.0 p.1 (h.1).0 (omega arith) in
+    let q = one_slot width r.0 r.1 ((h.2).1).0 (omega arith) in
+    let same : p.0 ∷ r.0 ∷ [] ≡ a ∷ b ∷ [] = sym (ap (λ (t : List ℕ). t ++ run_text width (r ∷ [])) o.1 ∙ ap (λ (t : List ℕ). p.0 ∷ (t ++ [])) q.1) ∙ text in
+    let first : p.0 ≡ a = cc in
+    let second : r.0 ≡ b = cc in
+    let above : p.0 + 1 ≤ r.0 = (h.2).0 in
+    elim (cases_eq p.0 x) [
+      | inl is ↦ (let i = a_is (sym first ∙ is) in let j = b_not (λ e. absurd (omega arith)) in let c = count_in-here p (r ∷ []) x is in omega (arith, o.0))
+      | inr not ↦ (let i = a_not (λ e. not (first ∙ e)) in
+          let c = count_in-later p (r ∷ []) x not in
+          elim (cases_eq r.0 x) [
+            | inl is ↦ (let j = b_is (sym second ∙ is) in let d = count_in-here r [] x is in omega (arith, q.0))
+            | inr other ↦ (let j = b_not (λ e. other (second ∙ e)) in let d = count_in-later r [] x other in omega arith)
+          ])
+    ]
+pair_count width (p ∷ r ∷ s ∷ ps) x a b m n some h text a_not a_is b_not b_is =
+    let long = ap (λ (t : List ℕ). length t) text in
+    let whole = length-append (group width p.0 p.1) (run_text width (r ∷ s ∷ ps)) in
+    let rest = length-append (group width r.0 r.1) (run_text width (s ∷ ps)) in
+    let front = length_text-positive width 0 (p ∷ []) (omega arith) (h.0, h.1, tt) in
+    let front_long = length-append (group width p.0 p.1) [] in
+    let middle = length_text-positive width (p.0 + 1) (r ∷ []) (omega arith) ((h.2).0, (h.2).1, tt) in
+    let middle_long = length-append (group width r.0 r.1) [] in
+    let back = length_text-positive width (r.0 + 1) (s ∷ ps) (omega arith) (h.2).2 in
+    absurd (omega arith)
+
+-- two slots of a row
+two_of : (at : ℕ) (xs : List ℕ) → at + 1 < length xs → take 2 (drop at xs) ≡ get_or xs at 0 ∷ get_or xs (suc at) 0 ∷ []
+two_of at xs within =
+    ap (take 2) (drop-cons xs at 0 (omega arith) ∙ ap (λ (t : List ℕ). get_or xs at 0 ∷ t) (drop-cons xs (suc at) 0 (omega arith)))
 
 -- where a run of q stands, or would begin
 pub record Reaches (q : ℕ) (slots spill : List ℕ) : Type 0 where
@@ -121,41 +190,55 @@ module _ (pieces : List Piece) (quotient_bits width events room : ℕ) (slots : 
   pub reaches : Reaches q slots spill
   reaches = elim found [ inl h ↦ hold_reaches h | inr l ↦ (lack_reaches l).0 ]
 
-  -- more than one slot lies between them
-  pub long_run : q + get_or spill q 0 + 1 < q + 1 + get_or spill (q + 1) 0 → Holds (2 ^ quotient_bits) q (by_quotient width pieces)
+  -- more than two slots lie between them
+  pub long_run : q + get_or spill q 0 + 2 < q + 1 + get_or spill (q + 1) 0 → Holds (2 ^ quotient_bits) q (by_quotient width pieces)
   long_run more = elim found [ inl h ↦ h | inr l ↦ absurd (let short = (lack_reaches l).1 in omega arith) ]
 
-  -- at most one slot lies between them
-  pub short_count : (tail x result : ℕ) → q ≡ tail / 2 ^ width → x ≡ tail % 2 ^ width → q + 1 + get_or spill (q + 1) 0 ≤ q + get_or spill q 0 + 1
-      → (get_or occupied q false ≡ false → result ≡ 0) → (get_or slots (q + get_or spill q 0) 0 ≢ x → result ≡ 0)
-      → (get_or occupied q false ≡ true → get_or slots (q + get_or spill q 0) 0 ≡ x → result ≡ 1) → result ≡ count_of pieces tail
-  short_count tail x result q_is x_is short vacant other here =
+  -- at most two slots lie between them: m says whether x stands in the first, n whether in the second
+  pub short_count : (tail x m n : ℕ) → q ≡ tail / 2 ^ width → x ≡ tail % 2 ^ width → q + 1 + get_or spill (q + 1) 0 ≤ q + get_or spill q 0 + 2
+      → (get_or occupied q false ≡ false → m ≡ 0) → (get_or slots (q + get_or spill q 0) 0 ≢ x → m ≡ 0)
+      → (get_or occupied q false ≡ true → get_or slots (q + get_or spill q 0) 0 ≡ x → m ≡ 1)
+      → (q + 1 + get_or spill (q + 1) 0 ≤ q + get_or spill q 0 + 1 → n ≡ 0) → (get_or slots (q + get_or spill (q + 1) 0) 0 ≢ x → n ≡ 0)
+      → (q + get_or spill q 0 + 1 < q + 1 + get_or spill (q + 1) 0 → get_or slots (q + get_or spill (q + 1) 0) 0 ≡ x → n ≡ 1)
+      → m + n ≡ count_of pieces tail
+  short_count tail x m n q_is x_is short vacant other here none last_other last_here =
       elim found [
         | inl h ↦ hold_count h
-        | inr l ↦ vacant (lacked pieces quotient_bits width events room slots occupied ends used spill k q below l)
-            ∙ count_absent pieces quotient_bits width events room slots occupied ends used spill k tail q q_is l
+        | inr l ↦ (let reach = lack_reaches l in let zero_second = none reach.1 in
+            let zero_first = vacant (lacked pieces quotient_bits width events room slots occupied ends used spill k q below l) in
+            let absent = count_absent pieces quotient_bits width events room slots occupied ends used spill k tail q q_is l in omega arith)
       ]
     where
-      hold_count : (h : Holds (2 ^ quotient_bits) q (by_quotient width pieces)) → result ≡ count_of pieces tail
+      single_count : (h : Holds (2 ^ quotient_bits) q (by_quotient width pieces)) (y : ℕ) → h.pairs ≡ (y, 1) ∷ [] → get_or slots (q + get_or spill q 0) 0 ≡ y → m ≡ count_in h.pairs x
+      single_count h y is there =
+          elim (cases_eq y x) [
+            | inl same ↦ here (was_held pieces quotient_bits width events room slots occupied ends used spill k q h) (there ∙ same)
+                ∙ sym (ap (λ (t : List (ℕ × ℕ)). count_in t x) is ∙ count_in-here (y, 1) [] x same)
+            | inr apart ↦ other (λ e. apart (sym there ∙ e)) ∙ sym (ap (λ (t : List (ℕ × ℕ)). count_in t x) is ∙ count_in-later (y, 1) [] x apart)
+          ]
+
+      first_slot : (at end : ℕ) (xs : List ℕ) (y : ℕ) → at < end → take (end - at) (drop at xs) ≡ y ∷ [] → get_or xs at 0 ≡ y
+      first_slot at end xs y more is =
+          ap (λ i. get_or xs i 0) (let e : at ≡ at + 0 = omega arith in e) ∙ sym (get_or-drop at xs 0 0)
+          ∙ sym (get_or-take (end - at) (drop at xs) 0 0 (omega arith)) ∙ ap (λ (t : List ℕ). get_or t 0 0) is
+
+      hold_count : (h : Holds (2 ^ quotient_bits) q (by_quotient width pieces)) → m + n ≡ count_of pieces tail
       hold_count h =
           let at = hold_at pieces quotient_bits width events room slots occupied ends used spill k q h in
           let start = at.start_is in
           let end = at.end_is in
           let text = at.text in
-          let one = single width h.pairs h.some h.ascend (omega arith) in
-          let is : count_in h.pairs x ≡ count_of pieces tail = count_present pieces quotient_bits width events room slots occupied ends used spill k tail q x q_is x_is h in
+          let within = at.within in
           let some = hold_some pieces quotient_bits width events room slots occupied ends used spill k q h in
-          single_is h one.0 one.1 (first_slot (q + get_or spill q 0) (q + 1 + get_or spill (q + 1) 0) slots one.0 (omega arith) (text ∙ one.2)) ∙ is
-        where
-          first_slot : (at end : ℕ) (xs : List ℕ) (y : ℕ) → at < end → take (end - at) (drop at xs) ≡ y ∷ [] → get_or xs at 0 ≡ y
-          first_slot at end xs y more is =
-              ap (λ i. get_or xs i 0) (let e : at ≡ at + 0 = omega arith in e) ∙ sym (get_or-drop at xs 0 0)
-              ∙ sym (get_or-take (end - at) (drop at xs) 0 0 (omega arith)) ∙ ap (λ (t : List ℕ). get_or t 0 0) is
-
-          single_is : (h : Holds (2 ^ quotient_bits) q (by_quotient width pieces)) (y : ℕ) → h.pairs ≡ (y, 1) ∷ [] → get_or slots (q + get_or spill q 0) 0 ≡ y → result ≡ count_in h.pairs x
-          single_is h y is there =
-              elim (cases_eq y x) [
-                | inl same ↦ here (was_held pieces quotient_bits width events room slots occupied ends used spill k q h) (there ∙ same)
-                    ∙ sym (ap (λ (t : List (ℕ × ℕ)). count_in t x) is ∙ count_in-here (y, 1) [] x same)
-                | inr apart ↦ other (λ e. apart (sym there ∙ e)) ∙ sym (ap (λ (t : List (ℕ × ℕ)). count_in t x) is ∙ count_in-later (y, 1) [] x apart)
-              ]
+          let is : count_in h.pairs x ≡ count_of pieces tail = count_present pieces quotient_bits width events room slots occupied ends used spill k tail q x q_is x_is h in
+          elim (cases_lt (q + get_or spill q 0 + 1) (q + 1 + get_or spill (q + 1) 0)) [
+            | inr one_long ↦ (let one = single width h.pairs h.some h.ascend (omega arith) in
+                let first = single_count h one.0 one.1 (first_slot (q + get_or spill q 0) (q + 1 + get_or spill (q + 1) 0) slots one.0 (omega arith) (text ∙ one.2)) in
+                let second = none one_long in omega arith)
+            | inl two_long ↦ (let two_is : q + 1 + get_or spill (q + 1) 0 - (q + get_or spill q 0) ≡ 2 = omega arith in
+                let last_is : suc (q + get_or spill q 0) ≡ q + get_or spill (q + 1) 0 = omega arith in
+                let slots_are = sym text ∙ ap (λ i. take i (drop (q + get_or spill q 0) slots)) two_is ∙ two_of (q + get_or spill q 0) slots (omega arith)
+                ∙ ap (λ i. get_or slots (q + get_or spill q 0) 0 ∷ get_or slots i 0 ∷ []) last_is in
+                pair_count width h.pairs x _ _ m n h.some h.ascend slots_are other
+                (here (was_held pieces quotient_bits width events room slots occupied ends used spill k q h)) last_other (last_here two_long) ∙ is)
+          ]

@@ -61,17 +61,31 @@ impl Rows {
         self.part(self.start(home), self.start(home + 1))
     }
 
-    /// How often `x` stands in the run of `home`, if at most one slot, `at`, lies up to the next run.
-    pub fn count_single(&self, home: u64, at: u64, x: u64) -> u64
+    /// Whether `x` stands in the slot `at`, and a run of `home` does, as 1 or 0.
+    pub fn count_first(&self, home: u64, at: u64, x: u64) -> u64
         requires home { home < length self.now.occupied }
         requires at { at < length self.now.slots.items }
+        ensures small { result ≤ 1 }
         ensures vacant { slice_index_or self.now.occupied home false ≡ false → result ≡ 0 }
         ensures other { slice_index self.now.slots.items at ≢ x → result ≡ 0 }
         ensures here { slice_index_or self.now.occupied home false ≡ true
             → slice_index self.now.slots.items at ≡ x → result ≡ 1 }
     {
-        // No branch on either: which of them holds can't be guessed.
         u64::from(self.occupied.get(home) & (self.slots[at as usize] == x))
+    }
+
+    /// Whether `x` stands in the slot before `end`, and that isn't `at`, as 1 or 0.
+    pub fn count_second(&self, at: u64, end: u64, x: u64) -> u64
+        requires some { 0 < end }
+        requires at { at < length self.now.slots.items }
+        requires end { end ≤ length self.now.slots.items }
+        ensures small { result ≤ 1 }
+        ensures none { end ≤ at + 1 → result ≡ 0 }
+        ensures other { slice_index self.now.slots.items (end - 1) ≢ x → result ≡ 0 }
+        ensures here { at + 1 < end → slice_index self.now.slots.items (end - 1) ≡ x → result ≡ 1 }
+    {
+        let last = at.max(end - 1);
+        u64::from((at < last) & (self.slots[last as usize] == x))
     }
 
     /// The slots `at..end`.

@@ -152,8 +152,9 @@ impl CountTable for Cqf {
         }
         let at = self.rows.start(home);
         let end = self.rows.start(home + 1);
-        if end <= at + 1 {
-            return self.rows.count_single(home, at, x);
+        if end <= at + 2 {
+            // Two slots are two remainders or one twice. No branch tells them apart, since none could be guessed.
+            return self.rows.count_first(home, at, x) + self.rows.count_second(at, end, x);
         }
         find(self.width, self.rows.part(at, end), x).count
     }

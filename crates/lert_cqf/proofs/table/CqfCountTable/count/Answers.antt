@@ -1,4 +1,4 @@
-use Rattle.std.proofs.Common.{◌≡◌, ◌≢◌, ℕ, ◌+◌, ◌-◌, ◌/◌, ◌%◌, ◌^◌, ◌<◌, ◌≤◌, true, false, List, take, drop, get_or, arith, sym, ap, ◌∙◌, subst}
+use Rattle.std.proofs.Common.{◌≡◌, ◌+◌, ◌-◌, ◌/◌, ◌%◌, ◌^◌, take, drop, get_or, arith, sym, ap, ◌∙◌}
 use Rattle.lert_spec.specs.Table.{count_of}
 use Rattle.lert_cqf.specs.Contents.{Contents}
 use Rattle.lert_cqf.proofs.TableLemmas.{occupied_long, beyond, hold_bounds, count_absent, count_present}
@@ -41,24 +41,47 @@ overflow_add-at c =
     let r = reaches _ _ _ _ _ _ _ _ _ _ c.self.invariant c.parts-home.result.0 (let low = c.if-home-len.false in let len = c.len.ensures in omega arith) in
     omega (arith, r.begins, r.short, c.start-at.ensures)
 
-pub count_single-requires-clause-at : goal.count_single-requires-clause-at
-count_single-requires-clause-at c =
+pub count_first-requires-clause-at : goal.count_first-requires-clause-at
+count_first-requires-clause-at c =
     let long = occupied_long _ _ _ _ _ _ _ _ _ _ c.self.invariant in
     let r = reaches _ _ _ _ _ _ _ _ _ _ c.self.invariant c.parts-home.result.0 (let low = c.if-home-len.false in let len = c.len.ensures in omega arith) in
     omega (arith, r.begins, c.start-at.ensures)
 
+pub count_second-requires-clause-some : goal.count_second-requires-clause-some
+count_second-requires-clause-some c = omega (arith, c.start-end.ensures)
+
+pub count_second-requires-clause-at : goal.count_second-requires-clause-at
+count_second-requires-clause-at c =
+    let long = occupied_long _ _ _ _ _ _ _ _ _ _ c.self.invariant in
+    let r = reaches _ _ _ _ _ _ _ _ _ _ c.self.invariant c.parts-home.result.0 (let low = c.if-home-len.false in let len = c.len.ensures in omega arith) in
+    omega (arith, r.begins, c.start-at.ensures)
+
+pub count_second-requires-clause-end : goal.count_second-requires-clause-end
+count_second-requires-clause-end c =
+    let long = occupied_long _ _ _ _ _ _ _ _ _ _ c.self.invariant in
+    let r = reaches _ _ _ _ _ _ _ _ _ _ c.self.invariant c.parts-home.result.0 (let low = c.if-home-len.false in let len = c.len.ensures in omega arith) in
+    omega (arith, r.ends, c.start-end.ensures)
+
 pub returns-then-end-at : goal.returns-then-end-at
 returns-then-end-at c =
     let long = occupied_long _ _ _ _ _ _ _ _ _ _ c.self.invariant in
+    let slots = c.self.inside.rows.slots.items in
+    let home = c.parts-home.result.0 in
+    let x = c.parts-home.result.1 in
     let q_is = c.parts-home.ensures.quotient ∙ ap (λ (t : Contents). c.args.tail / 2 ^ t.width) (sym c.self.view_is) in
     let x_is = c.parts-home.ensures.remainder ∙ ap (λ (t : Contents). c.args.tail % 2 ^ t.width) (sym c.self.view_is) in
-    let answer = c.count_single.ensures in
-    let slot = λ (P : ℕ → Type 0) (h : P (get_or c.self.inside.rows.slots.items (c.parts-home.result.0 + get_or c.self.inside.rows.spill.items c.parts-home.result.0 0) 0)).
-    subst (λ i. P (get_or c.self.inside.rows.slots.items i 0)) (sym c.start-at.ensures) h in
-    short_count _ _ _ _ _ _ _ _ _ _ c.self.invariant c.parts-home.result.0 (let low = c.if-home-len.false in let len = c.len.ensures in omega arith)
-    c.args.tail c.parts-home.result.1 c.count_single.result q_is x_is (omega (arith, c.start-at.ensures, c.start-end.ensures, c.if-end-at.true))
-    answer.vacant (λ apart. answer.other (slot (λ v. v ≢ c.parts-home.result.1) apart))
-    (λ held there. answer.here held (slot (λ v. v ≡ c.parts-home.result.1) there))
+    let first = c.count_first.ensures in
+    let second = c.count_second.ensures in
+    let at = c.start-at.ensures in
+    let end = c.start-end.ensures in
+    let last : c.start-end.result - 1 ≡ home + get_or c.self.inside.rows.spill.items (home + 1) 0 = omega (arith, end) in
+    short_count _ _ _ _ _ _ _ _ _ _ c.self.invariant home (let low = c.if-home-len.false in let len = c.len.ensures in omega arith)
+    c.args.tail x c.count_first.result c.count_second.result q_is x_is (omega (arith, at, end, c.if-end-at.true))
+    first.vacant (λ apart. first.other (λ e. apart (ap (λ i. get_or slots i 0) (sym at) ∙ e)))
+    (λ held there. first.here held (ap (λ i. get_or slots i 0) at ∙ there))
+    (λ short. second.none (omega (arith, at, end, short)))
+    (λ apart. second.other (λ e. apart (ap (λ i. get_or slots i 0) (sym last) ∙ e)))
+    (λ more there. second.here (omega (arith, at, end, more)) (ap (λ i. get_or slots i 0) last ∙ there))
     ∙ ap (λ (t : Contents). count_of t.pieces c.args.tail) c.self.view_is
 
 pub part-requires-clause-within : goal.part-requires-clause-within
