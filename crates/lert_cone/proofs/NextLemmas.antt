@@ -103,16 +103,16 @@ module _ (s : Numbers) (cone : ℕ) (events : List ℕ) (closed : Bool) (reports
         ∙ sym (ap (λ b. reports_of (record { settings = s; cone = cone; events = events ++ key ∷ []; closed = b })) still);
   }
 
-  module _ (oldest : ℕ) (oldest_is : oldest ≡ s.levels) (pieces : List Piece) (are : pieces ≡ tallied s (slice_range events (edge s oldest (length events)) (length events))) where
+  module _ (level : ℕ) (pieces : List Piece) (are : pieces ≡ tallied s (slice_range events (edge s level (length events)) (length events))) where
     pub finish_table : (seen : Listing) → record { settings = s; cone = cone; events = events; closed = closed } ≡ seen → IsTable (2 ^ (64 - seen.settings.cone_bits)) pieces
     finish_table seen is =
         subst (λ (l : Listing). IsTable (2 ^ (64 - l.settings.cone_bits)) pieces) is
-        (rw are (IsTable-tallied s (slice_range events (edge s oldest (length events)) (length events))))
+        (rw are (IsTable-tallied s (slice_range events (edge s level (length events)) (length events))))
 
-    pub AreListed-finish : (seen : Listing) → record { settings = s; cone = cone; events = events; closed = closed } ≡ seen → (at : ℕ) → at ≡ length events → (due after : List Report) →
+    pub AreListed-finish : level ≡ s.levels → (seen : Listing) → record { settings = s; cone = cone; events = events; closed = closed } ≡ seen → (at : ℕ) → at ≡ length events → (due after : List Report) →
         due ≡ due_reports seen.settings seen.cone (reports_of seen) at pieces → after ≡ reports ++ due → AreListed s cone events true after
-    AreListed-finish seen is at at_is due after due_are after_is =
-        let whole = are ∙ ap (λ level. tallied s (slice_range events (edge s level (length events)) (length events))) oldest_is in
+    AreListed-finish oldest seen is at at_is due after due_are after_is =
+        let whole = are ∙ ap (λ n. tallied s (slice_range events (edge s n (length events)) (length events))) oldest in
         let ends = closing_is s cone events reports (subst (λ b. AreListed s cone events b reports) still listed) pieces whole in
         record {
           valid = listed.valid;

@@ -6,4 +6,5 @@ pub mod GrowthLemmas
 pub mod RoundTrip
 pub mod ScanLemmas
 pub mod SlotLemmas
+pub mod SpelledLemmas
 pub mod Widths

@@ -1,11 +1,37 @@
 -- What reading a group of a text answers.
-use Rattle.std.specs.Prelude.{ℕ, ◌+◌, ◌*◌, ◌^◌, ◌≡◌, ◌<◌, ◌≤◌, ◌⊎◌, Option, Some, IfNone, IfSome, List, fold, take, length, slice_index}
-use Rattle.lert_counter.specs.Group.{group, IsCount, BeginsWith}
+use Rattle.std.specs.Prelude.{ℕ, ◌+◌, ◌*◌, ◌^◌, ◌≡◌, ◌<◌, ◌≤◌, ◌==◌, ◌⊎◌, Option, Some, IfNone, IfSome, List, ◌∷◌, ◌++◌, fold, map, take, drop, length, slice_index, if◌then◌else◌}
+use Rattle.lert_counter.specs.Group.{group, written, digit_base, IsCount, BeginsWith}
 use Rattle.lert_counter.specs.declared.group.Group.{Group}
 
 -- the number that digits in base b spell, the most significant first
 abbrev pub number_of : ℕ → List ℕ → ℕ
 number_of b ds = fold (λ n d. n * b + d) 0 ds
+
+-- the slots begin with `len` digits beside x and x again, which spell the count less `least`
+pub record Spells (base x least : ℕ) (slots : List ℕ) (count len : ℕ) : Type 0 where
+  pub ds : List ℕ
+  pub back : List ℕ
+  pub few : length ds ≤ 6
+  pub text : slots ≡ map (written x) ds ++ x ∷ back
+  pub count_is : count ≡ number_of base ds + least
+  pub small : count ≤ 2 ^ 47
+  pub len_is : len ≡ length ds
+
+-- where the digits of a counter begin: behind its first value, and behind the 0 that may guard them
+abbrev pub digits_at : List ℕ → ℕ
+digits_at text = if slice_index text 1 == 0 then 2 else 1
+
+-- digits are closed by the first value, which is above 0, and spell a count
+abbrev pub SpellsCounter : ℕ → List ℕ → ℕ → ℕ → Type 0
+SpellsCounter width text count len =
+    Spells (digit_base width (slice_index text 0)) (slice_index text 0) 3 (drop (digits_at text) text) count len
+
+-- a counter is read with no test of its digits
+pub record IsSpelled (width : ℕ) (text : List ℕ) (g : Group) : Type 0 where
+  pub len : ℕ
+  pub spells : SpellsCounter width text g.count len
+  pub first : g.x ≡ slice_index text 0
+  pub used_is : g.used ≡ digits_at text + len + 1
 
 -- the group of x and c, as read
 abbrev pub read_as : ℕ → ℕ → ℕ → Group

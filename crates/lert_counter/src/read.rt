@@ -2,7 +2,7 @@
 
 ghost use Rattle.std.specs.Prelude.{◌≡◌, ℕ, ◌+◌, ◌-◌, ◌*◌, ◌^◌, ◌<◌, ◌≤◌, ◌≢◌, ◌↔◌, ◌++◌, [], ◌∷◌, List, map, take, drop, length, slice_index, IsTrue, IfSome, Some, None, IsSome, IsNone, IfNone, true, false};
 ghost use Rattle.lert_counter.specs.Group.{group, written, IsCount, BeginsWith};
-ghost use Rattle.lert_counter.specs.Reading.{read_as, number_of, HasTwoZeros, IsReadFrom, IsCounterRead, IsZeroRead, Follows};
+ghost use Rattle.lert_counter.specs.Reading.{read_as, number_of, HasTwoZeros, IsReadFrom, IsCounterRead, IsZeroRead, Follows, Spells, SpellsCounter, IsSpelled};
 
 use crate::digits::base_beside;
 use crate::group::{GREATEST_COUNT, Group};
@@ -26,6 +26,7 @@ fn digit_of(x: u64, slot: u64) -> u64
     requires positive { 0 < slot }
     requires apart { slot ≢ x }
     ensures digit { (d : ℕ) → slot ≡ written x d → result ≡ d }
+    ensures slot { slot ≡ written x result }
 {
     if x == 0 || slot < x {
         slot - 1
@@ -39,6 +40,7 @@ fn scan_digits(x: u64, base: u64, slots: &[u64]) -> Option<Digits>
     requires { 0 < base }
     ensures there { (ds back : List ℕ) → length ds ≤ 6 → slots.now ≡ map (written x) ds ++ x ∷ back
         → number_of base ds ≤ 2 ^ 47 → result ≡ Some (record { number = number_of base ds; len = length ds }) }
+    ensures read { IfSome result (λ d. Spells base x 0 slots.now d.number d.len) }
     ensures number { IfSome result (λ d. d.number ≤ 2 ^ 47) }
     ensures len { IfSome result (λ d. d.len < length slots.now) }
     ensures stops { IfSome result (λ d. slice_index slots.now d.len ≡ x) }
@@ -62,7 +64,7 @@ fn scan_digits(x: u64, base: u64, slots: &[u64]) -> Option<Digits>
 /// The group of `x` and `count`, unless the count is too great.
 fn counted(x: u64, count: u64, used: usize) -> Option<Group>
     ensures within { count ≤ 2 ^ 47 → result ≡ Some (record { x = x; count = count; used = used }) }
-    ensures shape { IfSome result (λ g. (g.x ≡ x) × (g.count ≡ count) × (count ≤ 2 ^ 47)) }
+    ensures shape { IfSome result (λ g. (g.x ≡ x) × (g.count ≡ count) × (count ≤ 2 ^ 47) × (g.used ≡ used)) }
 {
     if count > GREATEST_COUNT {
         return None;
@@ -70,7 +72,8 @@ fn counted(x: u64, count: u64, used: usize) -> Option<Group>
     Some(Group { x, count, used })
 }
 
-/// The counter of a remainder above 0 that stands at the front of `rest`, if one does; else any guess.
+/// The counter of a remainder above 0 that stands at the front of `rest`, if one does. Else what its digits spell,
+/// which aren't tested, or None where none are closed, or where they spell no count.
 fn scan_counter(width: u32, rest: &[u64]) -> Option<Group>
     requires narrow { 8 ≤ width }
     requires wide { width ≤ 62 }
@@ -80,6 +83,8 @@ fn scan_counter(width: u32, rest: &[u64]) -> Option<Group>
         → rest.now ≡ group width (slice_index rest.now 0) c ++ back
         → result ≡ Some (read_as width (slice_index rest.now 0) c) }
     ensures shape { IfSome result (λ g. (g.x ≡ slice_index rest.now 0) × (3 ≤ g.count) × (g.count ≤ 2 ^ 47)) }
+    ensures read { IfSome result (IsSpelled width rest.now) }
+    ensures none { result ≡ None → (count len : ℕ) → ¬ SpellsCounter width rest.now count len }
 {
     let x = rest[0];
     let start = if rest[1] == 0 { 2 } else { 1 };
@@ -284,12 +289,19 @@ pub fn read_group(width: u32, rest: &[u64]) -> Option<Group>
 }
 
 /// The group at the front of the rest of a run text, which isn't tested. Up to eight slots are read.
+///
+/// None comes exactly where the second value is below the first, and the first doesn't close digits that
+/// spell a count.
 pub fn scan_group(width: u32, rest: &[u64]) -> Option<Group>
     requires narrow { 8 ≤ width }
     requires wide { width ≤ 62 }
     requires some { 0 < length rest.now }
     ensures there { (x c : ℕ) (back : List ℕ) → IsCount c → rest.now ≡ group width x c ++ back
         → Follows x back → result ≡ Some (read_as width x c) }
+    ensures spelled { 1 < length rest.now → slice_index rest.now 1 < slice_index rest.now 0
+        → IfSome result (IsSpelled width rest.now) }
+    ensures none { result ≡ None → (1 < length rest.now) × (slice_index rest.now 1 < slice_index rest.now 0)
+        × ((count len : ℕ) → ¬ SpellsCounter width rest.now count len) }
 {
     if let Some(group) = short_group(rest) {
         return Some(group);

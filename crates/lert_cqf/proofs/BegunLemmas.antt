@@ -27,7 +27,7 @@ free_bound at (r ∷ rs) =
       | inr stuck ↦ (let e = free_later at r rs stuck in let h = free_bound (at + length r.1) rs in omega arith)
     ]
 
-stop_bound : {C : Type 0} (at g : ℕ) (rs : List (ℕ × List C)) → HomesBelow g rs → stop at rs ≤ max at g + total_length rs
+pub stop_bound : {C : Type 0} (at g : ℕ) (rs : List (ℕ × List C)) → HomesBelow g rs → stop at rs ≤ max at g + total_length rs
 stop_bound at g [] h = omega arith
 stop_bound at g (r ∷ rs) h = let more = stop_bound (max at r.0 + length r.1) g rs h.1 in omega (arith, h.0)
 

@@ -5,6 +5,7 @@ pub mod GrownLemmas
 pub mod OpeningLemmas
 pub mod QuotientLemmas
 pub mod RotateLemmas
+pub mod ShortLemmas
 pub mod SpillLemmas
 pub mod SplitLemmas
 pub mod SpreadLemmas

@@ -70,13 +70,13 @@ module _ (pieces : List Piece) (quotient_bits width events room : ℕ) (slots : 
   home_below tail below = div_below tail (2 ^ width) homes (pow_pos width) (let e = pow-add 2 quotient_bits width in omega arith)
 
   -- what the occupied row tells
-  lacked : (q : ℕ) → q < homes → Lacks homes q runs → get_or occupied q false ≡ false
+  pub lacked : (q : ℕ) → q < homes → Lacks homes q runs → get_or occupied q false ≡ false
   lacked q within l =
       ap (λ (t : List Bool). get_or t q false) (k.occupied_is ∙ ap (homes_from homes 0) l.split)
       ∙ ap (λ i. get_or (homes_from homes 0 (l.before ++ l.after)) i false) (minus_zero q)
       ∙ home_lacks homes 0 q l.before l.after (omega arith) within (subst (λ (t : Runs). HomesAscend 0 homes t) l.split homes_ascend) l.below l.above
 
-  was_held : (q : ℕ) → Holds homes q runs → get_or occupied q false ≡ true
+  pub was_held : (q : ℕ) → Holds homes q runs → get_or occupied q false ≡ true
   was_held q h =
       ap (λ (t : List Bool). get_or t q false) (k.occupied_is ∙ ap (homes_from homes 0) h.split)
       ∙ ap (λ i. get_or (homes_from homes 0 (h.before ++ (q, h.pairs) ∷ h.after)) i false) (minus_zero q)

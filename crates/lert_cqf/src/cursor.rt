@@ -4,10 +4,10 @@
 #[derive(Clone, Copy, Debug)]
 pub struct CqfCursor {
     // The first quotient that isn't begun.
-    pub next: u64,
+    pub(crate) next: u64,
     // The slots of the begun run that aren't given.
-    pub at: u64,
-    pub end: u64,
+    pub(crate) at: u64,
+    pub(crate) end: u64,
     // How many pieces were given.
-    pub given: u64,
+    pub(crate) given: u64,
 }

@@ -7,6 +7,7 @@
 #![tactic(auto)]
 
 mod cells;
+mod changes;
 mod cursor;
 mod rows;
 mod table;

@@ -150,10 +150,13 @@ impl CountTable for Cqf {
         if home >= self.rows.occupied.len() {
             return 0;
         }
-        if !self.rows.occupied.get(home) {
-            return 0;
+        let at = self.rows.start(home);
+        let end = self.rows.start(home + 1);
+        if end <= at + 2 {
+            // Two slots are two remainders or one twice. No branch tells them apart, since none could be guessed.
+            return self.rows.count_first(home, at, x) + self.rows.count_second(at, end, x);
         }
-        find(self.width, self.rows.run(home), x).count
+        find(self.width, self.rows.part(at, end), x).count
     }
 
     fn events(&self) -> u64 {

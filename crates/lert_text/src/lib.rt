@@ -9,9 +9,11 @@ ghost use Rattle.std.specs.Prelude.{◌≡◌, ◌≤◌, take};
 ghost use Rattle.lert_spec.specs.Lines.{cone_line as cone_text, report_line as report_text, total_line as total_text};
 
 mod pieces;
+mod status;
 
 use crate::pieces::{push_number, push_text};
 use lert_base::Report;
+pub use status::status_line;
 
 /// How long a buffer for a line is, in bytes. No line is longer.
 pub const LINE: usize = 160;
@@ -56,3 +58,6 @@ pub fn total_line(events: u64, reports: u64, into: &mut [u8; LINE]) -> usize
     let at = push_number(into, at, reports);
     push_text(into, at, b"\n")
 }
+
+#[cfg(test)]
+mod tests;

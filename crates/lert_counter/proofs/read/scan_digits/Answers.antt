@@ -1,6 +1,12 @@
 use Rattle.std.proofs.Common.{◌≡◌, ◌<◌, length, get_or, arith, refl, inl, inr}
 use Rattle.lert_counter.proofs.ScanLemmas.{ends_at_x, goes_on, bounded, reads_digit, spells_all, takes_digit, written-positive}
+use Rattle.lert_counter.proofs.SpelledLemmas.{spelled_more, spelled_all}
 use Rattle.lert_counter.proofs.read.scan_digits.Goals as goal
+
+pub returns-then-slot-x-clause-read : goal.returns-then-slot-x-clause-read
+returns-then-slot-x-clause-read c =
+    let i = c.loop-len.invariant in
+    spelled_all c.args.base c.args.x c.loop-len.len c.args.slots.now c.loop-len.number i.spelled i.few i.small (omega arith) c.if-slot-x.true
 
 pub returns-then-slot-x-clause-there : goal.returns-then-slot-x-clause-there
 returns-then-slot-x-clause-there c = λ ds back short text small.
@@ -41,6 +47,10 @@ returns-then-number-gt-GREATEST_COUNT-clause-there c = λ ds back short text sma
 pub loop-len-preserved : goal.loop-len-preserved
 loop-len-preserved c = record {
   small = omega arith;
+  few = (let i = c.loop-len.invariant in omega arith);
+  spelled = (let i = c.loop-len.invariant in
+      spelled_more c.args.base c.args.x c.loop-len.len c.args.slots.now c.loop-len.number c.digit_of.result _ i.spelled (omega arith) c.digit_of.ensures.slot
+      (omega (arith, c.in_ok-number.ensures, c.in_ok-checked_mul.ensures)));
   so_far = λ ds back short text small.
       let so_far = c.loop-len.invariant.so_far ds back short text small in
       let less : c.loop-len.len < length ds = goes_on c.args.x c.args.base c.loop-len.len c.loop-len.number ds back c.args.slots.now text so_far.0 c.if-slot-x.false in

@@ -1,5 +1,8 @@
-use Rattle.std.proofs.Common.{◌≡◌, ℕ, arith, Some, ◌++◌, ◌∷◌, List, get_or, drop, ap, ◌∙◌, sym, subst, refl, inl, inr}
+use Rattle.std.proofs.Common.{◌≡◌, ◌<◌, ℕ, arith, Option, Some, ◌++◌, ◌∷◌, List, get_or, drop, ap, ◌∙◌, sym, subst, refl, inl, inr}
+use Rattle.std.specs.Prelude.{is_some}
+use Rattle.std.proofs.lemmas.Bool.{cases_lt}
 use Rattle.lert_counter.specs.Group.{group}
+use Rattle.lert_counter.specs.declared.group.Group.{Group}
 use Rattle.lert_counter.specs.Reading.{read_as, HasTwoZeros}
 use Rattle.lert_counter.proofs.CounterLemmas.{group-one}
 use Rattle.lert_counter.proofs.FrontLemmas.{short_of, read_one}
@@ -14,6 +17,8 @@ returns-in-Some c = record {
         | alone_or_counter z none long first which ↦ cc none
         | behind_counter p none long first least ↦ cc none
       ];
+  spelled = λ more below. absurd (let e = c.in-Some.ensures.below more below in cc e);
+  none = λ e. absurd (cc e);
 }
 
 pub returns-then-rest-gt0 : goal.returns-then-rest-gt0
@@ -26,6 +31,15 @@ returns-then-rest-gt0 c = record {
             (let whole : c.args.rest.now ≡ group c.args.width (get_or c.args.rest.now 0 0) count ++ back = text ∙ ap (λ y. group c.args.width y count ++ back) (sym first) in
             c.scan_counter.ensures.there count back least counts.1 whole ∙ ap (λ y. Some (read_as c.args.width y count)) first)
       ];
+  spelled = λ more below. c.scan_counter.ensures.read;
+  none = λ e.
+      let n = c.short_group.ensures.none (ap (λ (o : Option Group). is_some o) c.in_default.is) in
+      let below : get_or c.args.rest.now 1 0 < get_or c.args.rest.now 0 0 =
+      elim (cases_lt (get_or c.args.rest.now 1 0) (get_or c.args.rest.now 0 0)) [
+        | inl less ↦ less
+        | inr more ↦ (let apart = n.1 in let above = c.short_group.ensures.above n.0 (omega arith) (omega arith) in absurd (cc (above, c.in_default.is)))
+      ] in
+      (n.0, below, c.scan_counter.ensures.none e);
 }
 
 pub returns-in-Some-scan_zero : goal.returns-in-Some-scan_zero
@@ -46,6 +60,8 @@ returns-in-Some-scan_zero c = record {
               same ∙ ap (λ y. Some (read_as c.args.width y count)) (sym z))
         ]
       ];
+  spelled = λ more below. absurd (omega arith);
+  none = λ e. absurd (cc e);
 }
 
 pub returns : goal.returns
@@ -61,4 +77,6 @@ returns c = record {
               cc (c.scan_zero.ensures.there count back least counts.1 whole, c.in_default-scan_zero.is))
         ]
       ];
+  spelled = λ more below. absurd (omega arith);
+  none = λ e. absurd (cc e);
 }

@@ -1,0 +1,6 @@
+pub mod Files
+pub mod Images
+pub mod Settled
+pub mod Since
+pub mod Memory
+pub mod Pending

@@ -1,0 +1,247 @@
+//! A bay in memory, whose calls fail where a plan says so, and which can crash.
+
+ghost use Rattle.std.specs.Prelude.{◌≡◌, ◌↔◌, ℕ, ◌+◌, ◌<◌, ◌≤◌, ◌^◌, ◌++◌, [], ◌∷◌, Some, None, length, take, min, slice_set, IfOk, OnOk, OnErr, IsErr};
+ghost use Rattle.lert_io.specs.Fault.{HasCause, HasRisen};
+ghost use Rattle.lert_bay.specs.Files.{Files, Holds};
+
+use crate::bay::Bay;
+use crate::mem_file::MemFile;
+use crate::plan::Plan;
+use lert_io::{Failed, Faulty, OutOfMemory, Seen};
+use std::alloc::Global;
+use std::marker::Model;
+
+#[cfg(test)]
+mod tests;
+
+/// Three files in memory. It tells them, and what a crash at each moment since its making might have
+/// left of them.
+#[derive(Drop)]
+pub struct MemBay {
+    alloc: Global,
+    files: [MemFile; 3],
+    past: Seen<[MemFile; 3]>,
+    plan: Plan,
+    faults: u64,
+    mark: u64,
+}
+
+impl Model for MemBay {
+    ghost use Rattle.std.specs.Prelude.{◌≡◌, length};
+    ghost use Rattle.lert_bay.specs.Memory.{Disk};
+
+    ghost Value = { Disk };
+
+    ghost view = { λ b. record { files = b.files; past = b.past; plan = b.plan; faults = b.faults; mark = b.mark } };
+
+    ghost invariant = { λ b. length b.files ≡ 3 };
+}
+
+impl MemBay {
+    ghost use Rattle.lert_bay.specs.Memory.{untouched, durable, calm, Strikes, ticked, seen_of, MayLeaveAll, Rewrites};
+
+    /// Three empty files with nothing pending, and no call that is to fail.
+    pub fn new(alloc: Global) -> Result<MemBay, OutOfMemory>
+        ensures { IfOk result (λ bay. bay ≡ record {
+          files = untouched ∷ untouched ∷ untouched ∷ [];
+          past = [];
+          plan = calm;
+          faults = 0;
+          mark = 0;
+        }) }
+    {
+        Ok(MemBay {
+            alloc,
+            files: [
+                MemFile::new(alloc),
+                MemFile::new(alloc),
+                MemFile::new(alloc),
+            ],
+            past: Seen::new(),
+            plan: Plan::calm(),
+            faults: 0,
+            mark: 0,
+        })
+    }
+
+    /// The bay with this mark.
+    pub fn marked(mut self, mark: u64) -> MemBay
+        ensures { result ≡ record self { mark = mark } }
+    {
+        self.mark = mark;
+        self
+    }
+
+    /// Makes the call with this number fail, counted from now on, beginning with 1. It takes the place of
+    /// an earlier one that hasn't come. A write that fails so is torn: the first half of its bytes
+    /// stands in the file.
+    pub fn fail_at(&mut self, call: u64)
+        ensures { self.new ≡ record self.old { plan = record self.old.plan { fail = Some call } } }
+    {
+        self.plan.fail = Some(call);
+    }
+
+    /// Makes the call with this number and all behind it fail, counted as by `fail_at`. It takes the place
+    /// of an earlier one.
+    pub fn stop_at(&mut self, call: u64)
+        ensures { self.new ≡ record self.old { plan = record self.old.plan { stop = Some call } } }
+    {
+        self.plan.stop = Some(call);
+    }
+
+    /// The bytes of a file as a read gives them.
+    pub fn bytes(&self, file: u8) -> &[u8]
+        requires { file < 3 }
+        ensures { result.now ≡ seen_of self.now.files file }
+    {
+        self.files[file as usize].bytes()
+    }
+
+    /// Replaces a file by these bytes, synced. It counts as no call of the bay. A refusal leaves the bay as
+    /// it was.
+    pub fn load(&mut self, file: u8, bytes: &[u8]) -> Result<(), OutOfMemory>
+        requires { file < 3 }
+        ensures ok { OnOk result (self.new ≡ record self.old {
+          files = slice_set self.old.files file (durable bytes.now);
+          past = self.old.past ++ self.old.files ∷ [];
+        }) }
+        ensures err { OnErr result (self.new ≡ self.old) }
+    {
+        let loaded = MemFile::holding(self.alloc, bytes)?;
+        self.past.push(&self.files);
+        self.files[file as usize] = loaded;
+        Ok(())
+    }
+
+    /// What a crash at this moment may leave, one of its images, as a bay with nothing pending and no call
+    /// that is to fail. The picks 0 to 3 give the bytes of the last syncs, those that a read gives, and
+    /// two mixes with different lengths; greater picks give other mixes.
+    pub fn crashed(mut self, pick: u64) -> Result<MemBay, OutOfMemory>
+        ensures image { IfOk result (λ bay. MayLeaveAll self.files (seen_of bay.files)) }
+        ensures durable { IfOk result (λ bay. (image : Files) → MayLeaveAll bay.files image → image ≡ seen_of bay.files) }
+        ensures rest { IfOk result (λ bay. bay ≡ record {
+          files = bay.files;
+          past = [];
+          plan = calm;
+          faults = self.faults;
+          mark = self.mark;
+        }) }
+    {
+        for file in &mut self.files {
+            file.crash(pick);
+        }
+        self.past = Seen::new();
+        self.plan = Plan::calm();
+        Ok(self)
+    }
+
+    // Counts a call and looks whether it is to fail.
+    fn begin(&mut self) -> Result<(), Failed>
+        ensures fails { IsErr result ↔ Strikes self.old.plan }
+        ensures begun { self.new ≡ record self.old {
+          past = self.old.past ++ self.old.files ∷ [];
+          plan = ticked self.old.plan;
+          faults = self.new.faults;
+        } }
+        ensures ok { OnOk result (self.new.faults ≡ self.old.faults) }
+        ensures err { OnErr result (self.new.faults ≡ min (self.old.faults + 1) 18446744073709551615) }
+        ensures cause { HasCause self.old.faults self.new.faults result }
+    {
+        self.past.push(&self.files);
+        if self.plan.tick() {
+            return Err(self.count_fault());
+        }
+        Ok(())
+    }
+
+    // Makes a file durable.
+    fn settle(&mut self, file: u8)
+        requires { file < 3 }
+        ensures within { file < length self.old.files }
+        ensures settled { self.new ≡ record self.old { files = slice_set self.old.files file (durable (seen_of self.old.files file)) } }
+    {
+        self.files[file as usize].sync();
+    }
+
+    // Counts a fault.
+    fn count_fault(&mut self) -> Failed
+        ensures fault { self.new ≡ record self.old { faults = min (self.old.faults + 1) 18446744073709551615 } }
+        ensures never_falls { self.old.faults ≤ self.new.faults }
+        ensures rose { HasRisen self.old.faults self.new.faults }
+    {
+        self.faults = self.faults.saturating_add(1);
+        Failed
+    }
+
+    // Writes the first `landing` of these bytes into a file, and notes that all may have been written.
+    fn write_part(
+        &mut self,
+        file: u8,
+        at: u64,
+        bytes: &[u8],
+        landing: usize,
+    ) -> Result<(), OutOfMemory>
+        requires file { file < 3 }
+        requires reach { at + length bytes.now < 2 ^ 63 }
+        requires part { landing ≤ length bytes.now }
+        ensures ok { OnOk result (Rewrites file at (length bytes.now) (Holds at (take landing bytes.now)) self.old self.new) }
+        ensures err { OnErr result (Rewrites file at (length bytes.now) (λ old new. new ≡ old) self.old self.new) }
+    {
+        self.files[file as usize].write(self.alloc, at, bytes, landing)
+    }
+}
+
+impl Faulty for MemBay {
+    ghost faults = { λ b. b.faults };
+
+    ghost mark = { λ b. b.mark };
+}
+
+impl Bay for MemBay {
+    ghost use Rattle.std.specs.Prelude.{Some, length};
+    ghost use Rattle.lert_bay.specs.Memory.{seen_of, MayLeaveAll, LeftSince, as_read, only_now, since_earlier};
+    ghost use Rattle.std.proofs.Common.{inl};
+
+    ghost files = { λ b. Some (seen_of b.files) };
+
+    ghost leaves = { λ b image. MayLeaveAll b.files image };
+
+    ghost moment = { λ b. length b.past };
+
+    ghost left_since = { LeftSince };
+
+    ghost as_read = { as_read };
+
+    ghost since_now = { λ b image now. inl now };
+
+    ghost only_now = { only_now };
+
+    ghost since_earlier = { since_earlier };
+
+    fn len(&mut self, file: u8) -> Result<u64, Failed> {
+        self.begin()?;
+        Ok(self.bytes(file).len() as u64)
+    }
+
+    fn read_at(&mut self, file: u8, at: u64, into: &mut [u8]) -> Result<usize, Failed> {
+        self.begin()?;
+        Ok(self.files[file as usize].read(at, into))
+    }
+
+    fn write_at(&mut self, file: u8, at: u64, bytes: &[u8]) -> Result<(), Failed> {
+        if self.begin().is_err() {
+            let _ = self.write_part(file, at, bytes, bytes.len() / 2);
+            return Err(Failed);
+        }
+        match self.write_part(file, at, bytes, bytes.len()) {
+            Ok(()) => Ok(()),
+            Err(OutOfMemory) => Err(self.count_fault()),
+        }
+    }
+
+    fn sync(&mut self, file: u8) -> Result<(), Failed> {
+        self.begin()?;
+        self.settle(file);
+        Ok(())
+    }
+}

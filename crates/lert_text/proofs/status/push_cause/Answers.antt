@@ -1,0 +1,45 @@
+use Rattle.std.proofs.Common.{◌++◌, take, codes, decimal}
+use Rattle.lert_text.proofs.Joined.{behind}
+use Rattle.lert_text.proofs.status.push_cause.Goals as goal
+
+pub returns-in-3-clause-text : goal.returns-in-3-clause-text
+returns-in-3-clause-text c = rw c.in-3.is c.push_around-in-3.ensures.text
+
+pub returns-in-5-clause-text : goal.returns-in-5-clause-text
+returns-in-5-clause-text c = rw c.in-5.is c.push_around-in-5.ensures.text
+
+pub returns-in-6-clause-text : goal.returns-in-6-clause-text
+returns-in-6-clause-text c = rw c.in-6.is c.push_around-in-6.ensures.text
+
+pub returns-in-7-clause-text : goal.returns-in-7-clause-text
+returns-in-7-clause-text c = rw c.in-7.is c.push_around-in-7.ensures.text
+
+pub returns-in-10-clause-text : goal.returns-in-10-clause-text
+returns-in-10-clause-text c = rw c.in-10.is c.push_around-in-10.ensures.text
+
+pub returns-in-11-clause-text : goal.returns-in-11-clause-text
+returns-in-11-clause-text c = rw c.in-11.is c.push_text-in-11.ensures.text
+
+pub returns-in-12-clause-text : goal.returns-in-12-clause-text
+returns-in-12-clause-text c = rw c.in-12.is c.push_text-in-12.ensures.text
+
+pub returns-in-4-clause-text : goal.returns-in-4-clause-text
+returns-in-4-clause-text c =
+    rw c.in-4.is (behind (take c.args.at c.args.into.now) (codes "trace " ++ decimal c.args.a ++ codes " bad at ") (decimal c.args.b) _ _
+    c.push_around-at.ensures.text c.push_number.ensures.text)
+
+pub returns-in-8-clause-text : goal.returns-in-8-clause-text
+returns-in-8-clause-text c =
+    let front = take c.args.at c.args.into.now in
+    let text = codes "cone " ++ decimal c.args.a ++ codes " full at " in
+    let count = behind front text (decimal c.args.b) _ _ c.push_around-at-in-8.ensures.text c.push_number-at.ensures.text in
+    let next = behind front (text ++ decimal c.args.b) (codes " plus ") _ _ count c.push_text-at.ensures.text in
+    rw c.in-8.is (behind front (text ++ decimal c.args.b ++ codes " plus ") (decimal c.args.d) _ _ next c.push_number-in-8.ensures.text)
+
+pub returns-in-9-clause-text : goal.returns-in-9-clause-text
+returns-in-9-clause-text c =
+    let front = take c.args.at c.args.into.now in
+    let text = codes "cone " ++ decimal c.args.a ++ codes " file " in
+    let count = behind front text (decimal c.args.b) _ _ c.push_around-at-in-9.ensures.text c.push_number-at-in-9.ensures.text in
+    let next = behind front (text ++ decimal c.args.b) (codes " malformed at ") _ _ count c.push_text-at-in-9.ensures.text in
+    rw c.in-9.is (behind front (text ++ decimal c.args.b ++ codes " malformed at ") (decimal c.args.d) _ _ next c.push_number-in-9.ensures.text)
