@@ -13,8 +13,9 @@ mod text_sink;
 use crate::file_place::FilePlace;
 use crate::text_sink::TextSink;
 use lert_base::Words;
+use lert_text::{LINE, status_line};
 use lert_top::{Status, run};
-use std::io::ErrorKind;
+use std::io::{ErrorKind, Write};
 use std::process::ExitCode;
 use std::{env, io};
 
@@ -27,11 +28,21 @@ fn main(rt: HostRuntime) -> ExitCode {
         }
         Err(status) => status,
     };
-    if status != Status::Done {
-        // The status tells it too, where standard error is closed.
-        let _ = eprintln!(rt; "{status}");
-    }
+    print_line(&rt, status);
     ExitCode::from(status.number())
+}
+
+// Prints the line of a status on standard error. `Done` has none.
+fn print_line(rt: &HostRuntime, status: Status) {
+    let number = status.number();
+    if number == 0 {
+        return;
+    }
+    let (a, b, d) = status.fields();
+    let mut line = [0; LINE];
+    let len = status_line(number, a, b, d, &mut line);
+    // The exit status tells it too, where standard error is closed.
+    let _ = rt.stderr().write_all(&line[..len]);
 }
 
 // The words after the program's name. One that isn't UTF-8 is no word of a line.

@@ -7,6 +7,7 @@ use std::alloc::{AllocError, Global};
 use std::process::Abort;
 use std::test::Fail;
 
+mod cones;
 mod faults;
 mod reports;
 mod usage;
@@ -124,7 +125,7 @@ fn check(rt: &(impl Abort + AllocGlobal), row: &Row) -> Result<(), Fail> {
     let source = MemSource::new(alloc, row.trace, &calls(alloc, row.failing_read)?)?;
     let mut place = MemPlace::new(alloc)?;
     place.add_trace("a", source)?;
-    let mut out = MemSink::new(alloc, 4_096, &calls(alloc, row.failing_write)?)?;
+    let mut out = MemSink::new(alloc, 16_384, &calls(alloc, row.failing_write)?)?;
     let status = run(alloc, &words(alloc, row.words)?, &mut place, &mut out);
     assert_eq!(rt; status, row.status);
     assert_eq!(rt; out.bytes(), row.text.as_bytes());

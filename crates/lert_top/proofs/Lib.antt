@@ -1,5 +1,8 @@
+pub mod ConeTexts
 pub mod Ending
+pub mod FewReports
 pub mod KeysRead
+pub mod LaneLaws
 pub mod Parsing
 pub mod Printing
 pub mod Spelling

@@ -1,14 +1,10 @@
 -- The steps of a text that goes to a sink page by page.
-use Rattle.std.proofs.Common.{◌≡◌, ℕ, ◌+◌, ◌<◌, List, [], ◌++◌, length, get_or, take, drop, Option, Some, None, ap, sym, ◌∙◌, arith, true, cond, append_assoc, append-nil}
+use Rattle.std.proofs.Common.{◌≡◌, ℕ, ◌+◌, ◌<◌, List, [], ◌++◌, length, get_or, take, drop, Option, Some, None, ap, sym, ◌∙◌, append_assoc, append-nil}
 use Rattle.std.specs.List.{flat_map}
 use Rattle.std.proofs.lemmas.Grind.{flat_map-append}
 use Rattle.std.proofs.lemmas.List.{flat_map_more, take-append-drop, take_more}
 use Rattle.lert_spec.specs.declared.report.Report.{Report}
-use Rattle.lert_spec.specs.declared.numbers.Numbers.{Numbers}
-use Rattle.lert_spec.specs.Lines.{cone_text, report_line, total_line}
-use Rattle.lert_spec.specs.Look.{closing, look}
-use Rattle.lert_cone.specs.Listing.{Listing, reports_of}
-use Rattle.lert_top.specs.Run.{text_of}
+use Rattle.lert_spec.specs.Lines.{report_line}
 use Rattle.lert_top.specs.Page.{IsPrinting, IsCut}
 
 module _ (start now : Option (List ℕ)) (page text : List ℕ) (printing : IsPrinting start now page text) where
@@ -98,19 +94,3 @@ pub IsPrinting-all : (start now : Option (List ℕ)) (text : List ℕ) → IsPri
 IsPrinting-all start now text printing before was =
     let x = printing.told before was in
     x.1 ∙ ap (λ done. Some (before ++ done)) (sym (append-nil x.0) ∙ x.2)
-
--- the text of a run is its one cone's, and the totals
-pub text_of-parts : (settings : Numbers) (events : List ℕ) (number : ℕ) (reports : List Report) → number ≡ length events →
-    reports ≡ closing settings events →
-    cone_text 0 (record { events = number; reports = reports; closed = true }) ++ total_line number (length reports) ≡ text_of settings events
-text_of-parts settings events number reports counted listed =
-    ap (λ n. cone_text 0 (record { events = n; reports = reports; closed = true }) ++ total_line n (length reports)) counted
-    ∙ ap (λ rs. cone_text 0 (record { events = length events; reports = rs; closed = true }) ++ total_line (length events) (length rs)) listed
-    ∙ ap (λ xs. xs ++ total_line (length events) (length (closing settings events)))
-    (sym (append-nil (cone_text 0 (record { events = length events; reports = closing settings events; closed = true }))))
-    ∙ ap (λ n. (cone_text 0 (record { events = length events; reports = closing settings events; closed = true }) ++ []) ++ total_line n (length (closing settings events))) (omega arith)
-    ∙ ap (λ n. (cone_text 0 (record { events = length events; reports = closing settings events; closed = true }) ++ []) ++ total_line (0 + length events) n) (omega arith)
-
--- the reports of a closed cone
-pub reports_of-closed : (cone : Listing) → cone.closed ≡ true → reports_of cone ≡ closing cone.settings cone.events
-reports_of-closed cone closed = ap (λ b. cond b (closing cone.settings cone.events) (look cone.settings cone.events)) closed

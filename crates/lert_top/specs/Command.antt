@@ -51,9 +51,9 @@ long_settings words = record {
 abbrev pub has_long_words : List (List ℕ) → Bool
 has_long_words words = length words == 19 && is_word words 0 (codes "run") && are_names words 17
 
--- the words are `run`, the eight options with the cone bits 0, DIR and TRACE
+-- the words are `run`, the eight options, DIR and TRACE
 abbrev pub is_long_form : List (List ℕ) → Bool
-is_long_form words = has_long_words words && are_options words && option_at words 11 == 0
+is_long_form words = has_long_words words && are_options words
 
 -- the line that words spell, with the places of its names
 abbrev pub command : List (List ℕ) → Option Line

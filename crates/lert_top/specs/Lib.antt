@@ -1,6 +1,8 @@
 pub mod Command
+pub mod Lanes
 pub mod Opening
 pub mod Page
+pub mod Router
 pub mod Run
 pub mod Shelf
 pub mod Status

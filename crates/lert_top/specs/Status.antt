@@ -1,5 +1,5 @@
--- The numbers and lines of statuses, and the status of a run that a fault of a trace stops.
-use Rattle.std.specs.Prelude.{ℕ, List, ◌++◌, codes, decimal}
+-- The numbers and fields of statuses, and the status of a run that a fault of a trace stops.
+use Rattle.std.specs.Prelude.{ℕ}
 use Rattle.lert_top.specs.declared.status.Status.{Status}
 use Rattle.lert_top.specs.declared.status.Status.TheVariants as status
 use Rattle.lert_trace.specs.declared.fault.TraceFault.{TraceFault}
@@ -16,18 +16,17 @@ status_number (status.CapacityFull cone n len) = 8
 status_number status.OutFault = 11
 status_number status.OutOfMemory = 12
 
--- the line of a status, without the byte that ends it
-abbrev pub status_line : Status → List ℕ
-status_line status.Done = codes "lert: done"
-status_line (status.Usage rule) = codes "lert: usage rule " ++ decimal rule
-status_line status.PlaceFault = codes "lert: place fault"
-status_line (status.TraceFault trace) = codes "lert: trace " ++ decimal trace ++ codes " fault"
-status_line (status.BadTrace trace at) = codes "lert: trace " ++ decimal trace ++ codes " bad at " ++ decimal at
-status_line (status.TooLong trace) = codes "lert: trace " ++ decimal trace ++ codes " too long"
-status_line (status.CapacityFull cone n len) =
-    codes "lert: cone " ++ decimal cone ++ codes " full at " ++ decimal n ++ codes " plus " ++ decimal len
-status_line status.OutFault = codes "lert: output fault"
-status_line status.OutOfMemory = codes "lert: out of memory"
+-- the fields of a status in their order, with 0 for the rest of three
+abbrev pub status_fields : Status → ℕ × ℕ × ℕ
+status_fields status.Done = (0, 0, 0)
+status_fields (status.Usage rule) = (rule, 0, 0)
+status_fields status.PlaceFault = (0, 0, 0)
+status_fields (status.TraceFault trace) = (trace, 0, 0)
+status_fields (status.BadTrace trace at) = (trace, at, 0)
+status_fields (status.TooLong trace) = (trace, 0, 0)
+status_fields (status.CapacityFull cone n len) = (cone, n, len)
+status_fields status.OutFault = (0, 0, 0)
+status_fields status.OutOfMemory = (0, 0, 0)
 
 abbrev pub stop_status : ℕ → TraceFault → Status
 stop_status trace fault.ReadFailed = status.TraceFault trace

@@ -1,8 +1,9 @@
 //! The top call of LERT, `run`, with the places that it asks for traces, its words and its statuses.
 //!
 //! The one contract is that of `run`: it is decided by the words, the trace and the sink alone. With
-//! `Done` the text that was written is that of the trace's keys and of the reports that a closed cone
-//! makes of them, and these reports are in time; each other status says why there is no such text.
+//! `Done` the text that was written is that of each cone's part of the trace and of the reports that
+//! the closed cone makes of it, and these reports are in time; each other status says why there is no
+//! such text.
 //! The program stands on it.
 #![tactic(auto)]
 
@@ -12,6 +13,7 @@ mod page;
 mod place;
 mod print;
 mod reading;
+mod router;
 mod status;
 mod top;
 mod word;
@@ -22,5 +24,6 @@ pub use page::Page;
 pub use place::{Opening, Place};
 pub use print::{print_cone, print_total};
 pub use reading::detect;
+pub use router::Router;
 pub use status::Status;
 pub use top::run;

@@ -6,7 +6,7 @@ ghost use Rattle.lert_spec.specs.Limits.{first_broken};
 use crate::word::{are_names, is_word, option};
 use lert_base::{Numbers, Settings, Words};
 
-/// A line of `run`: its settings, and the places of its names in the words. Its cone bits are 0.
+/// A line of `run`: its settings, and the places of its names in the words.
 #[derive(Clone, Copy, Drop)]
 pub struct Line {
     pub settings: Settings,
@@ -28,7 +28,6 @@ impl Line {
         ensures line { IfOk result (λ line. command words.now ≡ Some line) }
         ensures sound { IfOk result (λ _. usage words.now ≡ None) }
         ensures usage { IfErr result (λ fault. usage words.now ≡ Some fault.rule) }
-        ensures one_cone { IfOk result (λ line. line.settings.cone_bits ≡ 0) }
     {
         if let Some(numbers) = Line::short_form(words) {
             return Line::new(numbers, 5);
@@ -83,11 +82,7 @@ impl Line {
         if !Line::has_long_words(words) {
             return None;
         }
-        let numbers = Line::options(words)?;
-        if numbers.cone_bits != 0 {
-            return None;
-        }
-        Some(numbers)
+        Line::options(words)
     }
 
     // Whether the words are those of the short form, beside the two of the threshold.

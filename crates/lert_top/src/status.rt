@@ -1,12 +1,11 @@
 //! How a run ends.
 
-ghost use Rattle.std.specs.Prelude.{◌≡◌, ◌≢◌, ℕ};
-ghost use Rattle.lert_top.specs.Status.{status_number, stop_status};
+ghost use Rattle.std.specs.Prelude.{◌≡◌, ◌≢◌, ◌≤◌, ℕ};
+ghost use Rattle.lert_top.specs.Status.{status_fields, status_number, stop_status};
 
 use lert_cone::ListFault;
 use lert_io::OutOfMemory;
 use lert_trace::TraceFault;
-use std::fmt;
 
 /// How a run ends. Each status has a number, which is the program's exit status, and each but `Done`
 /// a line.
@@ -35,7 +34,8 @@ pub enum Status {
 impl Status {
     /// The number of the status, from 0 to 12.
     pub fn number(self) -> u8
-        ensures { result ≡ status_number self }
+        ensures value { result ≡ status_number self }
+        ensures within { result ≤ 12 }
     {
         match self {
             Status::Done => 0,
@@ -51,6 +51,20 @@ impl Status {
             } => 8,
             Status::OutFault => 11,
             Status::OutOfMemory => 12,
+        }
+    }
+
+    /// The fields of the status in their order, with 0 for the rest of three.
+    pub fn fields(self) -> (u64, u64, u64)
+        ensures { result ≡ status_fields self }
+    {
+        match self {
+            Status::Usage { rule } => (u64::from(rule), 0, 0),
+            Status::TraceFault { trace } => (u64::from(trace), 0, 0),
+            Status::BadTrace { trace, at } => (u64::from(trace), at, 0),
+            Status::TooLong { trace } => (u64::from(trace), 0, 0),
+            Status::CapacityFull { cone, n, len } => (u64::from(cone), n, len),
+            Status::Done | Status::PlaceFault | Status::OutFault | Status::OutOfMemory => (0, 0, 0),
         }
     }
 
@@ -90,28 +104,5 @@ impl From<OutOfMemory> for Status {
 
     fn from(_error: OutOfMemory) -> Status {
         Status::OutOfMemory
-    }
-}
-
-impl fmt::Display for Status {
-    ghost use Rattle.std.specs.Prelude.{Some};
-    ghost use Rattle.lert_top.specs.Status.{status_line};
-
-    ghost output = { λ status. Some (status_line status) };
-
-    fn fmt<W: fmt::Write>(&self, f: &mut fmt::Formatter<W>) -> fmt::Result {
-        match self {
-            Status::Done => write!(f, "lert: done"),
-            Status::Usage { rule } => write!(f, "lert: usage rule {rule}"),
-            Status::PlaceFault => write!(f, "lert: place fault"),
-            Status::TraceFault { trace } => write!(f, "lert: trace {trace} fault"),
-            Status::BadTrace { trace, at } => write!(f, "lert: trace {trace} bad at {at}"),
-            Status::TooLong { trace } => write!(f, "lert: trace {trace} too long"),
-            Status::CapacityFull { cone, n, len } => {
-                write!(f, "lert: cone {cone} full at {n} plus {len}")
-            }
-            Status::OutFault => write!(f, "lert: output fault"),
-            Status::OutOfMemory => write!(f, "lert: out of memory"),
-        }
     }
 }

@@ -1,9 +1,12 @@
 //! The top call.
 
-ghost use Rattle.std.specs.Prelude.{◌≡◌, ◌↔◌, ◌++◌, ◌∷◌, ℕ, Bool, false, true, List, [], Some, None, OnOk, OnErr, IfErr};
+ghost use Rattle.std.specs.Prelude.{◌≡◌, ◌↔◌, ◌++◌, ◌∷◌, ◌^◌, ◌≤◌, ℕ, Bool, false, true, List, [], length, Some, None, OnOk, OnErr, IfErr};
 ghost use Rattle.lert_io.specs.Fault.{HasCause, HasRisen};
 ghost use Rattle.lert_top.specs.Command.{command, usage};
+ghost use Rattle.lert_spec.specs.Timely.{IsTimely};
+ghost use Rattle.lert_cone.specs.Listing.{reports_of};
 ghost use Rattle.lert_top.specs.Page.{IsCut};
+ghost use Rattle.lert_top.specs.Router.{IsFinished};
 ghost use Rattle.lert_top.specs.Run.{AreInTime, HasRun, StatusShows, most_keys, text_of};
 ghost use Rattle.lert_top.specs.Word.{word_at};
 
@@ -12,6 +15,7 @@ use crate::page::Page;
 use crate::place::Place;
 use crate::print::{print_cone, print_total};
 use crate::reading::detect;
+use crate::router::Router;
 use crate::status::Status;
 use lert_base::{Settings, Words};
 use lert_cone::ListCone;
@@ -20,9 +24,10 @@ use lert_trace::{MOST_KEYS, TraceReader};
 use std::alloc::Global;
 
 /// Reports each key that occurs as often as the line's threshold says, soon after it does. It opens
-/// the line's trace, reads it to its end into one cone, prints, and puts the trace back, in this
+/// the line's trace, reads it to its end into the cones, prints, and puts the trace back, in this
 /// order, and stops at the first fault; what was opened is put back in each case. Nothing is written
-/// before the trace was read to its end. What it holds in memory is the cone and a page of text.
+/// before the trace was read to its end. What it holds in memory is the cones, a ring of four packets
+/// for each of them, and a page of text.
 pub fn run<P: Place, K: Sink>(alloc: Global, words: &Words, place: &mut P, out: &mut K) -> Status
     requires asked { P.asked place.old ≡ [] }
     requires handed { P.handed place.old ≡ [] }
@@ -59,7 +64,6 @@ fn run_trace<S: Source, K: Sink>(
     trace: S,
     out: &mut K,
 ) -> (S, Status)
-    requires one_cone { settings.now.cone_bits ≡ 0 }
     ensures shows { StatusShows S.remaining S.faults K.taken K.faults settings.now trace result.0 out.old out.new result.1 }
     ensures mark { S.mark result.0 ≡ S.mark trace }
 {
@@ -71,14 +75,13 @@ fn run_trace<S: Source, K: Sink>(
     (reader.into_source(), status)
 }
 
-// Reads a trace to its end into a cone and prints its reports.
+// Reads a trace to its end into cones and prints their reports.
 fn report<S: Source, K: Sink>(
     alloc: Global,
     settings: &Settings,
     reader: &mut TraceReader<S>,
     out: &mut K,
 ) -> Result<(), Status>
-    requires one_cone { settings.now.cone_bits ≡ 0 }
     requires fresh { reader.old.given ≡ 0 }
     requires sound { reader.old.fault ≡ None }
     requires limit { reader.old.limit ≡ most_keys }
@@ -89,27 +92,46 @@ fn report<S: Source, K: Sink>(
     ensures mark { S.mark reader.new.source ≡ S.mark reader.old.source }
 {
     let mut page = Page::new(alloc)?;
-    let cone = detect(alloc, settings, reader)?;
-    match print(&mut page, out, &cone) {
+    let router = detect(alloc, settings, reader)?;
+    match print(&mut page, out, &router) {
         Ok(()) => Ok(()),
         Err(Failed) => Err(Status::OutFault),
     }
 }
 
-// Prints a closed cone, the only one.
-fn print<K: Sink>(page: &mut Page, out: &mut K, cone: &ListCone) -> Result<(), Failed>
+// Prints all cones, which are finished, in ascending order, and the totals.
+fn print<K: Sink>(page: &mut Page, out: &mut K, router: &Router) -> Result<(), Failed>
     requires empty { page.old ≡ [] }
-    requires closed { cone.now.closed ≡ true }
-    ensures in_time { AreInTime cone.now.settings cone.now.events }
+    requires finished { IsFinished router.now }
+    ensures in_time { OnOk result (AreInTime router.now.settings router.now.keys (2 ^ router.now.settings.cone_bits)) }
     ensures ok { (text : List ℕ) → K.taken out.old ≡ Some text →
-        OnOk result (K.taken out.new ≡ Some (text ++ text_of cone.now.settings cone.now.events)) }
+        OnOk result (K.taken out.new ≡ Some (text ++ text_of router.now.settings router.now.keys)) }
     ensures cut { OnErr result (IsCut (K.taken out.old) (K.taken out.new)
-        (text_of cone.now.settings cone.now.events)) }
+        (text_of router.now.settings router.now.keys)) }
     ensures cause { HasCause (K.faults out.old) (K.faults out.new) result }
     ensures mark { K.mark out.new ≡ K.mark out.old }
 {
-    let events = cone.events();
-    let reports = cone.reports();
-    print_cone(page, out, 0, events, reports)?;
-    print_total(page, out, events, reports.len() as u64)
+    let mut events = 0;
+    let mut reports = 0;
+    for number in 0..router.cones() {
+        let cone = router.cone(number);
+        print_cone(page, out, number, cone.events(), cone.reports())?;
+        let (events_here, reports_here) = numbers_of(router.settings(), cone);
+        events += events_here;
+        reports += reports_here;
+    }
+    print_total(page, out, events, reports)
+}
+
+// How many events and reports a closed cone has.
+fn numbers_of(settings: &Settings, cone: &ListCone) -> (u64, u64)
+    requires settings { cone.now.settings ≡ settings.now }
+    requires closed { cone.now.closed ≡ true }
+    ensures events { result.0 ≡ length cone.now.events }
+    ensures reports { result.1 ≡ length (reports_of cone.now) }
+    ensures few_events { result.0 ≤ 4294967295 }
+    ensures few_reports { result.1 ≤ 4294967295 }
+{
+    let _valid = settings.numbers();
+    (cone.events(), cone.reports().len() as u64)
 }

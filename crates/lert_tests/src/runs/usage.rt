@@ -55,10 +55,7 @@ fn a_word_that_spells_no_number_is_no_line(rt: HostRuntime) -> Result<(), Fail> 
 }
 
 #[test]
-fn the_long_form_has_its_options_in_one_order_and_one_cone(rt: HostRuntime) -> Result<(), Fail> {
-    let [threshold, bins, ratio, base, levels, _, room, packet] = SMALL;
-    let two_cones = [threshold, bins, ratio, base, levels, "1", room, packet];
-    check_usage(&rt, &long_form(two_cones), 0)?;
+fn the_long_form_has_its_options_in_one_order(rt: HostRuntime) -> Result<(), Fail> {
     let whole = long_form(SMALL);
     let mut swapped = whole;
     swapped[3] = "--ratio";
@@ -103,4 +100,24 @@ fn the_first_broken_rule_is_named(rt: HostRuntime) -> Result<(), Fail> {
     }
     check_usage(&rt, &short_form("00"), 1)?;
     check_usage(&rt, &short_form("4294967296"), 1)
+}
+
+#[test]
+fn the_rules_on_many_cones_are_named(rt: HostRuntime) -> Result<(), Fail> {
+    let [threshold, bins, ratio, base, levels, _, room, packet] = SMALL;
+    let rows: [([&str; 8], u8); 3] = [
+        ([threshold, bins, ratio, base, levels, "9", room, packet], 6),
+        (
+            [threshold, "16", ratio, "65536", levels, "5", room, packet],
+            9,
+        ),
+        (
+            [threshold, bins, ratio, base, levels, "8", "65537", packet],
+            10,
+        ),
+    ];
+    for (numbers, rule) in rows {
+        check_usage(&rt, &long_form(numbers), rule)?;
+    }
+    Ok(())
 }
