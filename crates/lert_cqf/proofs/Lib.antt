@@ -11,3 +11,4 @@ pub mod SplitLemmas
 pub mod SpreadLemmas
 pub mod StandingLemmas
 pub mod TableLemmas
+pub mod ThreeLemmas

@@ -24,7 +24,7 @@ use Rattle.lert_cqf.proofs.SplitLemmas.{Holds, Lacks, find_quotient, texts-appen
 use Rattle.lert_cqf.proofs.TableLemmas.{runs_ascend, hold_at, hold_some, count_absent, count_present, was_held, lacked}
 
 -- a group of one slot is a remainder that occurs once
-one_slot : (width x c : ℕ) → 1 ≤ c → length (group width x c) ≤ 1 → (c ≡ 1) × (group width x c ≡ x ∷ [])
+pub one_slot : (width x c : ℕ) → 1 ≤ c → length (group width x c) ≤ 1 → (c ≡ 1) × (group width x c ≡ x ∷ [])
 one_slot width x c positive short =
     elim (shape_of width x c positive) [
       | one e is ↦ (e, is)
@@ -48,7 +48,7 @@ single width (p ∷ r ∷ ps) some h short =
     absurd (omega (arith, length-append (group width p.0 p.1) (run_text width (r ∷ ps)), length-append (group width p.0 p.1) []))
 
 -- a group of two slots is a remainder that occurs twice
-two_slots : (width x c : ℕ) → 1 ≤ c → length (group width x c) ≡ 2 → (c ≡ 2) × (group width x c ≡ x ∷ x ∷ [])
+pub two_slots : (width x c : ℕ) → 1 ≤ c → length (group width x c) ≡ 2 → (c ≡ 2) × (group width x c ≡ x ∷ x ∷ [])
 two_slots width x c positive two_long =
     elim (shape_of width x c positive) [
       | one e is ↦ absurd (omega (arith, ap (λ (t : List ℕ). length t) is))

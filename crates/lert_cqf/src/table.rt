@@ -6,6 +6,7 @@ ghost use Rattle.lert_cqf.specs.Standing.{Stands, IsInRun};
 
 use crate::cursor::CqfCursor;
 use crate::rows::Rows;
+use crate::three::count_in_three;
 use lert_base::CountTable;
 use lert_counter::scan_group;
 use lert_io::{OutOfMemory, Seen};
@@ -156,7 +157,11 @@ impl CountTable for Cqf {
             // Two slots are two remainders or one twice. No branch tells them apart, since none could be guessed.
             return self.rows.count_first(home, at, x) + self.rows.count_second(at, end, x);
         }
-        find(self.width, self.rows.part(at, end), x).count
+        let run = self.rows.part(at, end);
+        if let [first, middle, last] = run {
+            return count_in_three(*first, *middle, *last, x);
+        }
+        find(self.width, run, x).count
     }
 
     fn events(&self) -> u64 {

@@ -1,8 +1,9 @@
 use Rattle.std.proofs.Common.{◌≡◌, ◌+◌, ◌-◌, ◌/◌, ◌%◌, ◌^◌, take, drop, get_or, arith, sym, ap, ◌∙◌}
 use Rattle.lert_spec.specs.Table.{count_of}
-use Rattle.lert_cqf.specs.Contents.{Contents}
-use Rattle.lert_cqf.proofs.TableLemmas.{occupied_long, beyond, hold_bounds, count_absent, count_present}
+use Rattle.lert_cqf.specs.Contents.{Contents, built}
+use Rattle.lert_cqf.proofs.TableLemmas.{occupied_long, beyond, hold_bounds, count_absent, count_present, count_le, few}
 use Rattle.lert_cqf.proofs.ShortLemmas.{reaches, long_run, short_count}
+use Rattle.lert_cqf.proofs.ThreeLemmas.{three_count, three_answer, three_of}
 use Rattle.lert_cqf.proofs.table.CqfCountTable.count.Goals as goal
 
 pub returns-then-home-len : goal.returns-then-home-len
@@ -84,8 +85,8 @@ returns-then-end-at c =
     (λ more there. second.here (omega (arith, at, end, more)) (ap (λ i. get_or slots i 0) last ∙ there))
     ∙ ap (λ (t : Contents). count_of t.pieces c.args.tail) c.self.view_is
 
-pub part-requires-clause-within : goal.part-requires-clause-within
-part-requires-clause-within c =
+pub part-run-requires-clause-within : goal.part-run-requires-clause-within
+part-run-requires-clause-within c =
     let long = occupied_long _ _ _ _ _ _ _ _ _ _ c.self.invariant in
     let r = reaches _ _ _ _ _ _ _ _ _ _ c.self.invariant c.parts-home.result.0 (let low = c.if-home-len.false in let len = c.len.ensures in omega arith) in
     omega (arith, r.ends, c.start-end.ensures)
@@ -99,7 +100,7 @@ find-requires-clause-run_text c =
       h.pairs,
       record {
         ascend = h.ascend;
-        text = c.part.ensures ∙ ap (λ k. take (k - c.start-at.result) (drop c.start-at.result c.self.inside.rows.slots.items)) c.start-end.ensures
+        text = c.part-run.ensures ∙ ap (λ k. take (k - c.start-at.result) (drop c.start-at.result c.self.inside.rows.slots.items)) c.start-end.ensures
             ∙ ap (λ k. take (c.parts-home.result.0 + 1 + get_or c.self.inside.rows.spill.items (c.parts-home.result.0 + 1) 0 - k) (drop k c.self.inside.rows.slots.items)) c.start-at.ensures
             ∙ bounds.slice;
       },
@@ -115,9 +116,29 @@ returns c =
     let x_is = c.parts-home.ensures.remainder ∙ ap (λ (t : Contents). c.args.tail % 2 ^ t.width) (sym c.self.view_is) in
     (c.find.ensures h.pairs (record {
       ascend = h.ascend;
-      text = c.part.ensures ∙ ap (λ k. take (k - c.start-at.result) (drop c.start-at.result c.self.inside.rows.slots.items)) c.start-end.ensures
+      text = c.part-run.ensures ∙ ap (λ k. take (k - c.start-at.result) (drop c.start-at.result c.self.inside.rows.slots.items)) c.start-end.ensures
           ∙ ap (λ k. take (c.parts-home.result.0 + 1 + get_or c.self.inside.rows.spill.items (c.parts-home.result.0 + 1) 0 - k) (drop k c.self.inside.rows.slots.items)) c.start-at.ensures
           ∙ bounds.slice;
     })).count
     ∙ count_present _ _ _ _ _ _ _ _ _ _ c.self.invariant c.args.tail c.parts-home.result.0 c.parts-home.result.1 q_is x_is h
     ∙ ap (λ (t : Contents). count_of t.pieces c.args.tail) c.self.view_is
+
+pub returns-in-len3 : goal.returns-in-len3
+returns-in-len3 c =
+    let long = occupied_long _ _ _ _ _ _ _ _ _ _ c.self.invariant in
+    let h = long_run _ _ _ _ _ _ _ _ _ _ c.self.invariant c.parts-home.result.0 (let low = c.if-home-len.false in let len = c.len.ensures in omega arith)
+    (omega (arith, c.start-at.ensures, c.start-end.ensures, c.if-end-at.false)) in
+    let bounds = hold_bounds _ _ _ _ _ _ _ _ _ _ c.self.invariant c.parts-home.result.0 h in
+    let q_is = c.parts-home.ensures.quotient ∙ ap (λ (t : Contents). c.args.tail / 2 ^ t.width) (sym c.self.view_is) in
+    let x_is = c.parts-home.ensures.remainder ∙ ap (λ (t : Contents). c.args.tail % 2 ^ t.width) (sym c.self.view_is) in
+    let text = c.part-run.ensures ∙ ap (λ k. take (k - c.start-at.result) (drop c.start-at.result c.self.inside.rows.slots.items)) c.start-end.ensures
+    ∙ ap (λ k. take (c.parts-home.result.0 + 1 + get_or c.self.inside.rows.spill.items (c.parts-home.result.0 + 1) 0 - k) (drop k c.self.inside.rows.slots.items)) c.start-at.ensures
+    ∙ bounds.slice in
+    let count = count_present _ _ _ _ _ _ _ _ _ _ c.self.invariant c.args.tail c.parts-home.result.0 c.parts-home.result.1 q_is x_is h in
+    let few_events = few _ _ _ _ _ _ _ _ _ _ c.self.invariant in
+    let below = count_le (built c.self.inside.added) c.args.tail in
+    let three = three_count c.self.inside.width h.pairs c.parts-home.result.1 _ _ _ h.some h.ascend
+    (sym text ∙ three_of c.part-run.result.now (omega (arith, c.in-len3.len_at_least, c.in-len3.len_below))) in
+    three_answer _ _ _ c.parts-home.result.1 _ c.count_in_three.result three (omega arith)
+    c.count_in_three.ensures.other c.count_in_three.ensures.counter c.count_in_three.ensures.apart
+    ∙ count ∙ ap (λ (t : Contents). count_of t.pieces c.args.tail) c.self.view_is
