@@ -1,11 +1,13 @@
 //! One filter and the tails that it takes.
 
-ghost use Rattle.std.specs.Prelude.{◌≡◌, ◌+◌, ◌^◌, ◌<◌, ◌≤◌};
+ghost use Rattle.std.specs.Prelude.{◌≡◌, ◌+◌, ◌^◌, ◌<◌, ◌≤◌, ◌↔◌, [], IfOk, IsTrue};
+ghost use Rattle.lert_spec.specs.Table.{count_of, total, plus};
 
 use lert_base::CountTable;
 use lert_cqf::Cqf;
 use lert_io::OutOfMemory;
 use std::alloc::Global;
+use std::marker::Model;
 
 /// The numbers of a filter.
 #[derive(Clone, Copy)]
@@ -27,12 +29,25 @@ pub struct Shape {
 pub struct Bin {
     shape: Shape,
     table: Cqf,
-    ghost room_is: { table.room ≡ shape.room },
-    ghost bits_are: { table.quotient_bits + table.width ≡ shape.quotient_bits + shape.width },
+}
+
+impl Model for Bin {
+    ghost use Rattle.std.specs.Prelude.{◌≡◌, ◌+◌};
+    ghost use Rattle.lert_bench.specs.Filled.{Filled};
+
+    ghost Value = { Filled };
+
+    ghost view = { λ b. record { pieces = b.table.pieces; room = b.shape.room; greatest = b.shape.greatest } };
+
+    ghost invariant = { λ b. (b.table.room ≡ b.shape.room)
+        × (b.table.quotient_bits + b.table.width ≡ b.shape.quotient_bits + b.shape.width) };
 }
 
 impl Bin {
-    pub fn new(alloc: Global, shape: Shape) -> Result<Bin, OutOfMemory> {
+    /// An empty filter.
+    pub fn new(alloc: Global, shape: Shape) -> Result<Bin, OutOfMemory>
+        ensures { IfOk result (λ b. b ≡ record { pieces = []; room = shape.room; greatest = shape.greatest }) }
+    {
         let table = Cqf::new(alloc, shape.quotient_bits, shape.width, shape.room)?;
         Ok(Bin { shape, table })
     }
@@ -47,12 +62,19 @@ impl Bin {
     }
 
     /// Whether it has room for no more event.
-    pub fn is_full(&self) -> bool {
+    pub fn is_full(&self) -> bool
+        ensures { IsTrue result ↔ (self.now.room ≤ total self.now.pieces) }
+    {
         self.table.events() >= self.shape.room
     }
 
     /// Counts one event of the tail, if there is room and the tail isn't too great.
-    pub fn add(&mut self, tail: u64) {
+    pub fn add(&mut self, tail: u64)
+        ensures taken { tail ≤ self.old.greatest → total self.old.pieces < self.old.room
+            → self.new ≡ record self.old { pieces = plus self.old.pieces tail 1 } }
+        ensures great { self.old.greatest < tail → self.new ≡ self.old }
+        ensures full { self.old.room ≤ total self.old.pieces → self.new ≡ self.old }
+    {
         if tail > self.shape.greatest {
             return;
         }
@@ -62,11 +84,17 @@ impl Bin {
         self.table.add(tail, 1);
     }
 
-    pub fn count(&self, tail: u64) -> u64 {
+    /// How often the tail was added.
+    pub fn count(&self, tail: u64) -> u64
+        ensures { result ≡ count_of self.now.pieces tail }
+    {
         self.table.count(tail)
     }
 
-    pub fn clear(&mut self) {
+    /// Empties it.
+    pub fn clear(&mut self)
+        ensures { self.new ≡ record self.old { pieces = [] } }
+    {
         self.table.clear();
     }
 }

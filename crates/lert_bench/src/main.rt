@@ -3,7 +3,8 @@
 //!
 //! Words: WORKLOAD KEYS EVENTS SEED. The workload is `one` or `sixteen`, for the windows of so many
 //! cones, or `hits` or `misses`, for one table; the keys are `distinct` or `skewed`. It prints the sum
-//! of all counts that it asked for, and on standard error the nanoseconds that the loop took.
+//! of all counts that it asked for, and on standard error the nanoseconds that the loop took. The loops
+//! are proved safe, and a bin is proved to count; that the sums are right is seen beside a plain map's.
 #![tactic(auto)]
 
 mod bin;

@@ -15,7 +15,8 @@ use lert_plain::PlainTable;
 use std::alloc::Global;
 use std::marker::Model;
 
-/// The counts of a cone's keys, seen as its settings, the keys, and up to which position they stand in bins.
+/// The counts of a cone's keys, seen as its settings, the keys, up to which position they stand in bins, and where these
+/// begin.
 ///
 /// The keys behind that position, at most a base of them, stand in a table that `new` made. A position at which an edge
 /// may come to stand lies between two bins, and bins that meet at any other are joined, so there are few.

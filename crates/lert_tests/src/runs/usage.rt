@@ -20,13 +20,14 @@ fn check_usage(rt: &(impl Abort + AllocGlobal), words: &[&str], rule: u8) -> Res
 
 #[test]
 fn words_of_another_form_are_no_line(rt: HostRuntime) -> Result<(), Fail> {
-    let rows: [&[&str]; 8] = [
+    let rows: [&[&str]; 9] = [
         &[],
         &["run", "d", "a"],
         &["run", "--threshold", "3", "--cone-bits", "0", "d"],
         &["run", "--threshold", "3", "--cone-bits", "0", "d", "a", "a"],
         &["Run", "--threshold", "3", "--cone-bits", "0", "d", "a"],
         &["run", "--threshold", "3", "--cone-bits", "00", "d", "a"],
+        &["run", "--threshold", "3", "--cone-bits", "1", "d", "a"],
         &["run", "--threshold", "3", "--cone-bits", "0", "-d", "a"],
         &["run", "--threshold", "3", "--cone-bits", "0", "d", ""],
     ];
