@@ -59,7 +59,7 @@ impl Router {
         Ok(cones)
     }
 
-    /// Takes the next key. After a refusal, which names the cone, the router isn't to be used.
+    /// Takes the next key. After a refusal, a full cone's or for want of memory, no call is to be made.
     pub fn take(&mut self, key: u64) -> Result<(), Status>
         requires taking { IsTaking self.old }
         ensures settings { self.new.settings ≡ self.old.settings }
@@ -76,7 +76,7 @@ impl Router {
     }
 
     /// Hands out what the rings hold, in ascending cones, and then finishes the cones, in ascending
-    /// order. After a refusal, which names the cone, the router isn't to be used.
+    /// order. After a refusal, a full cone's or for want of memory, no call is to be made.
     pub fn finish(&mut self) -> Result<(), Status>
         requires taking { IsTaking self.old }
         ensures settings { self.new.settings ≡ self.old.settings }
