@@ -1,11 +1,11 @@
 -- The two writes of an append, each with its sync: the record behind the closed gate, then the gate.
-use Rattle.std.proofs.Common.{◌≡◌, ◌≢◌, ℕ, ◌+◌, ◌-◌, ◌<◌, ◌≤◌, List, [], ◌∷◌, ◌++◌, length, get_or, refl, sym, ap, ◌∙◌, ◌⊎◌, subst, inl, inr, arith}
+use Rattle.std.proofs.Common.{◌≡◌, ◌≢◌, ℕ, ◌+◌, ◌<◌, ◌≤◌, List, [], ◌∷◌, ◌++◌, length, sym, ap, ◌∙◌, ◌⊎◌, subst, inl, inr, arith}
 use Rattle.lert_bay.specs.Files.{Files, Changes, Holds, Torn}
-use Rattle.lert_bay.specs.Settled.{part, Keeps, IsSettled}
+use Rattle.lert_bay.specs.Settled.{part, Keeps}
 use Rattle.lert_bay.proofs.Tearing.{torn_held}
 use Rattle.lert_gatelog.specs.Gated.{IsGated, IsClosed, appendix, next_gate}
 use Rattle.lert_gatelog.specs.Kept.{ComesByWrite, IsWithOrWithout, IsWhollySettled, InEach}
-use Rattle.lert_gatelog.proofs.GatedLaws.{length_appendix, held_part, gated_behind, gated_with, gated_either, gate_held, closed_after}
+use Rattle.lert_gatelog.proofs.GatedLaws.{held_part, gated_behind, gated_with, gated_either, gate_held, closed_after}
 
 -- ---- one write and its sync
 
@@ -57,8 +57,8 @@ module _ (most file gate : ℕ) (payload : List ℕ) (leaves_first leaves_second
   gated_always behind first payloads some fits small gated image now =
       let early = gated_first most file gate (length (appendix payload)) leaves_first since_first first payloads behind.first gated in
       elim (behind.all image now) [
-        inl past ↦ inl (early image past)
-      | inr later ↦ gated_either most first payloads gate payload (seen_second file) (image file) (early seen_second (behind.counts seen_second behind.as_read)) (there behind) some fits small (torn_gate behind image later)
+        | inl past ↦ inl (early image past)
+        | inr later ↦ gated_either most first payloads gate payload (seen_second file) (image file) (early seen_second (behind.counts seen_second behind.as_read)) (there behind) some fits small (torn_gate behind image later)
       ]
 
   -- once the gate is open on the disk, they are those and this one
@@ -79,6 +79,6 @@ module _ (most file gate : ℕ) (payload : List ℕ) (leaves_first leaves_second
   keeps_both behind other from to apart keeps image now =
       let early = keeps_one leaves_first since_first file (gate + 1) (length (appendix payload)) seen_first other from to behind.first apart keeps in
       elim (behind.all image now) [
-        inl past ↦ early image past
-      | inr later ↦ keeps_one leaves_second since_second file gate 1 seen_first other from to behind.second apart (λ earlier at_second. early earlier (behind.counts earlier at_second)) image later
+        | inl past ↦ early image past
+        | inr later ↦ keeps_one leaves_second since_second file gate 1 seen_first other from to behind.second apart (λ earlier at_second. early earlier (behind.counts earlier at_second)) image later
       ]

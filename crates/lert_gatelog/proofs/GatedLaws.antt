@@ -1,5 +1,5 @@
 -- Gated texts: what writes behind a closed gate and at it leave of the records.
-use Rattle.std.proofs.Common.{◌≡◌, ◌≢◌, ℕ, ◌+◌, ◌-◌, ◌*◌, ◌^◌, ◌<◌, ◌≤◌, List, [], ◌∷◌, ◌++◌, length, take, drop, replicate, get_or, refl, sym, ap, ◌∙◌, ◌⊎◌, subst, inl, inr, arith, length-append, length-take, length-drop, append-nil}
+use Rattle.std.proofs.Common.{◌≡◌, ℕ, ◌+◌, ◌-◌, ◌<◌, ◌≤◌, List, [], ◌∷◌, ◌++◌, length, take, drop, replicate, get_or, refl, sym, ap, ◌∙◌, subst, inl, inr, arith, length-append, length-take, length-drop, append-nil}
 use Rattle.std.proofs.lemmas.Bool.{cases_eq}
 use Rattle.std.proofs.lemmas.List.{get_or_at, ext_get_or, take_at, drop_at, take-append-le, length-take-le}
 use Rattle.byteorder.specs.Endian.{little_number, little_bytes}
@@ -8,7 +8,7 @@ use lib.ListN.{length-replicate}
 use Rattle.lert_bay.specs.Files.{Torn, Holds, padded}
 use Rattle.lert_bay.specs.Settled.{part}
 use Rattle.lert_bay.proofs.Settling.{part_at, part_same, part_torn, length_part}
-use Rattle.lert_gatelog.specs.Gated.{body, next_gate, counted_at, IsOpen, IsClosed, Records, IsGated, appendix}
+use Rattle.lert_gatelog.specs.Gated.{body, next_gate, IsOpen, IsClosed, Records, IsGated, appendix}
 use Rattle.lert_gatelog.specs.Kept.{IsWithOrWithout}
 
 -- ---- two texts that agree up to a place
@@ -45,11 +45,11 @@ part_of_part bytes xs from to a b x y is end some order within x_is y_is =
     let right : length (part xs a b) ≡ b - a = length_part xs a b within in
     ext_get_or 0 (part bytes x y) (part xs a b) (left ∙ sym right)
     (λ k below.
-      let under : a + k < b = omega (arith, below, left) in
-      part_at bytes x y k (omega (arith, under, x_is, y_is))
-      ∙ (ap (λ n. get_or bytes n 0) (omega (arith, x_is))
-      ∙ (sym (part_at bytes from to (a + k) (omega (arith, under, within, end)))
-      ∙ (ap (λ ys. get_or ys (a + k) 0) is ∙ sym (part_at xs a b k under)))))
+    let under : a + k < b = omega (arith, below, left) in
+    part_at bytes x y k (omega (arith, under, x_is, y_is))
+    ∙ (ap (λ n. get_or bytes n 0) (omega (arith, x_is))
+    ∙ (sym (part_at bytes from to (a + k) (omega (arith, under, within, end)))
+    ∙ (ap (λ ys. get_or ys (a + k) 0) is ∙ sym (part_at xs a b k under)))))
 
 -- one byte of a part
 pub byte_of_part : (bytes xs : List ℕ) (from to k : ℕ) → part bytes from to ≡ xs → to ≡ from + length xs → k < length xs → get_or bytes (from + k) 0 ≡ get_or xs k 0
@@ -74,9 +74,10 @@ records_ascend most first (payload ∷ rest) bytes end records = omega (arith, r
 
 records_kept : (most first : ℕ) (payloads : List (List ℕ)) (old new : List ℕ) (end : ℕ) → Records most old first payloads end → Agree end old new → Records most new first payloads end
 records_kept most first [] old new end records agree = records
-records_kept most first (payload ∷ rest) old new end records agree =
-    (open_kept most first end payload old new records.0 (records_ascend most (next_gate first payload) rest old end records.1) agree,
-      records_kept most (next_gate first payload) rest old new end records.1 agree)
+records_kept most first (payload ∷ rest) old new end records agree = (
+  open_kept most first end payload old new records.0 (records_ascend most (next_gate first payload) rest old end records.1) agree,
+  records_kept most (next_gate first payload) rest old new end records.1 agree,
+)
 
 -- one record more
 records_more : (most first : ℕ) (payloads : List (List ℕ)) (payload bytes : List ℕ) (gate : ℕ) → Records most bytes first payloads gate → IsOpen most bytes gate payload → Records most bytes first (payloads ++ payload ∷ []) (next_gate gate payload)
@@ -182,8 +183,8 @@ pub gated_either : (most first : ℕ) (payloads : List (List ℕ)) (gate : ℕ) 
 gated_either most first payloads gate payload old new gated is some fits small torn =
     let agree : Agree gate old new = torn_agrees gate 1 gate old new torn (omega arith) (omega (arith, gated.closed.within)) in
     elim (cases_eq (get_or new gate 0) 1) [
-      inl one ↦ inr (gated_with most first payloads gate payload old new gated is some fits small torn one)
-    | inr other ↦ inl (record {
+      | inl one ↦ inr (gated_with most first payloads gate payload old new gated is some fits small torn one)
+      | inr other ↦ inl (record {
         records = records_kept most first payloads old new gate gated.records agree;
         closed = record { within = omega (arith, gated.closed.within, torn.no_shorter); shut = other };
       })

@@ -1,10 +1,10 @@
 -- What a header's text is, and what the bytes at a gate say.
-use Rattle.std.proofs.Common.{◌≡◌, ℕ, ◌+◌, ◌-◌, ◌<◌, ◌≤◌, List, [], ◌∷◌, ◌++◌, length, take, drop, get_or, min, refl, sym, ap, ◌∙◌, subst, inl, arith, length-append, length-drop, length-take, append-nil, append_assoc}
+use Rattle.std.proofs.Common.{◌≡◌, ℕ, ◌+◌, ◌<◌, ◌≤◌, List, [], ◌∷◌, ◌++◌, length, take, drop, get_or, refl, sym, ap, ◌∙◌, subst, inl, arith, length-append, length-drop, append-nil, append_assoc}
 use Rattle.std.proofs.lemmas.List.{drop_more, drop_all, take_at, take_all, drop-take}
 use Rattle.byteorder.specs.Endian.{little_number}
-use Rattle.lert_bay.specs.Files.{Holds, CopiesFrom, padded}
+use Rattle.lert_bay.specs.Files.{Holds, CopiesFrom}
 use Rattle.lert_bay.specs.Settled.{part}
-use Rattle.lert_gatelog.specs.Gated.{IsAnnounced, IsOpen, BreaksAt, Cut_payload, next_gate, counted_at}
+use Rattle.lert_gatelog.specs.Gated.{IsAnnounced, IsOpen, BreaksAt, Cut_payload, next_gate}
 use Rattle.lert_gatelog.proofs.GatedLaws.{part_of_part, byte_of_part}
 
 -- the front of a block of zero bytes with a header in it
@@ -26,10 +26,10 @@ announced most gate read count head bytes copied five long one number =
     let read_is : read ≡ 5 = omega (arith, copied.count_is, five, long) in
     let whole : gate + 5 ≤ length bytes = omega (arith, copied.count_is, five) in
     let there : part bytes gate (gate + 5) ≡ head =
-      drop-take gate 5 bytes ∙ (ap (λ n. take n (drop gate bytes)) (sym read_is) ∙ (sym copied.copied ∙ take_all read head (omega (arith, long, five)))) in
+    drop-take gate 5 bytes ∙ (ap (λ n. take n (drop gate bytes)) (sym read_is) ∙ (sym copied.copied ∙ take_all read head (omega (arith, long, five)))) in
     let behind : part bytes (gate + 1) (gate + 5) ≡ take 4 (drop 1 head) =
-      part_of_part bytes head gate (gate + 5) 1 5 (gate + 1) (gate + 5) there (omega (arith, long)) (omega (arith, long)) (omega arith) (omega (arith, long)) refl refl
-      ∙ (ap (drop 1) (take_all 5 head (omega (arith, long))) ∙ sym (take_all 4 (drop 1 head) (omega (arith, long, length-drop 1 head)))) in
+    part_of_part bytes head gate (gate + 5) 1 5 (gate + 1) (gate + 5) there (omega (arith, long)) (omega (arith, long)) (omega arith) (omega (arith, long)) refl refl
+    ∙ (ap (drop 1) (take_all 5 head (omega (arith, long))) ∙ sym (take_all 4 (drop 1 head) (omega (arith, long, length-drop 1 head)))) in
     record {
       opened = ap (λ n. get_or bytes n 0) (omega arith) ∙ (byte_of_part bytes head gate (gate + 5) 0 there (omega (arith, long)) (omega (arith, long)) ∙ one);
       whole = whole;
@@ -41,8 +41,8 @@ pub opened : (most gate count read : ℕ) (payload into bytes : List ℕ) → Is
 opened most gate count read payload into bytes said some fits copied long all is =
     let read_is : read ≡ count = omega (arith, copied.count_is, all, long) in
     let there : part bytes (gate + 5) (next_gate gate into) ≡ into =
-      ap (λ n. part bytes (gate + 5) (gate + 5 + n)) (long ∙ sym read_is)
-      ∙ (drop-take (gate + 5) read bytes ∙ (sym copied.copied ∙ take_all read into (omega (arith, long, all)))) in
+    ap (λ n. part bytes (gate + 5) (gate + 5 + n)) (long ∙ sym read_is)
+    ∙ (drop-take (gate + 5) read bytes ∙ (sym copied.copied ∙ take_all read into (omega (arith, long, all)))) in
     subst (λ (bytes_read : List ℕ). IsOpen most bytes gate bytes_read) (sym is)
     (record {
       opened = said.opened;
@@ -55,5 +55,7 @@ opened most gate count read payload into bytes said some fits copied long all is
 -- fewer bytes than the length says
 pub cut_payload : (most gate count read end at : ℕ) (into bytes : List ℕ) → IsAnnounced most bytes gate count → 0 < count → count ≤ most → CopiesFrom (gate + 5) read into bytes → length into ≡ count → read < count → end ≡ length bytes → end ≡ at → BreaksAt most bytes gate at
 cut_payload most gate count read end at into bytes said some fits copied long short end_is at_is =
-    inl (sym at_is ∙ end_is,
-      Cut_payload said.opened (omega (arith, said.counted, some)) (omega (arith, said.counted, fits)) said.whole (omega (arith, said.counted, copied.count_is, long, short, said.whole)))
+    inl (
+      sym at_is ∙ end_is,
+      Cut_payload said.opened (omega (arith, said.counted, some)) (omega (arith, said.counted, fits)) said.whole (omega (arith, said.counted, copied.count_is, long, short, said.whole)),
+    )

@@ -1,5 +1,5 @@
 -- What each image of each moment of a call comes from.
-use Rattle.std.proofs.Common.{◌≡◌, ℕ, ◌≤◌, List, Option, Some, None, Result, Ok, Err, OnOk, OnErr, length, refl, sym, ap, ◌∙◌, subst, inl, inr, arith}
+use Rattle.std.proofs.Common.{◌≡◌, ℕ, ◌≤◌, List, Option, Some, Result, Ok, Err, OnOk, OnErr, length, refl, sym, ◌∙◌, subst, inl, inr, arith}
 use Rattle.std.proofs.lemmas.List.{take_all}
 use Rattle.lert_bay.specs.Files.{Files, Changes, Turns, Torn, Holds, LeftByFailure}
 use Rattle.lert_bay.specs.Images.{Elapses, Follow, Settles, KeepsImages}
@@ -14,16 +14,16 @@ comes_same leaves file at count image now = (image, now, record { here = torn_sa
 pub moments_write : (before after : ℕ) (since_before since_after : ℕ → Files → Type 0) (leaves_before leaves_after : Files → Type 0) (file at count : ℕ) → ((image : Files) → since_before before image → leaves_before image) → Follow (Changes (Torn at count) file) leaves_before leaves_after → Elapses before after since_before since_after leaves_after → (image : Files) → since_after before image → ComesByWrite leaves_before file at count image
 moments_write before after since_before since_after leaves_before leaves_after file at count only_now follow elapsed image since =
     elim (elapsed.known before image (omega arith) since) [
-      inl past ↦ comes_same leaves_before file at count image (only_now image past)
-    | inr now ↦ follow.comes image now
+      | inl past ↦ comes_same leaves_before file at count image (only_now image past)
+      | inr now ↦ follow.comes image now
     ]
 
 -- and through the sync, after which each image is one from before it
 pub moments_sync : (first before after : ℕ) (since_before since_after : ℕ → Files → Type 0) (leaves_first leaves_before leaves_after : Files → Type 0) (file at count : ℕ) → first ≤ before → ((image : Files) → since_before first image → ComesByWrite leaves_first file at count image) → Follow (Changes (Torn at count) file) leaves_first leaves_before → ((image : Files) → leaves_after image → leaves_before image) → Elapses before after since_before since_after leaves_after → (image : Files) → since_after first image → ComesByWrite leaves_first file at count image
 moments_sync first before after since_before since_after leaves_first leaves_before leaves_after file at count early came follow was elapsed image since =
     elim (elapsed.known first image early since) [
-      inl past ↦ came image past
-    | inr now ↦ follow.comes image (was image now)
+      | inl past ↦ came image past
+      | inr now ↦ follow.comes image (was image now)
     ]
 
 -- a sync leaves images of before, whatever it answers

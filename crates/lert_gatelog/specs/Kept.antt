@@ -1,5 +1,5 @@
 -- What the calls of a log keep of a bay.
-use Rattle.std.specs.Prelude.{◌≡◌, ◌≢◌, ℕ, ◌+◌, List, [], ◌∷◌, ◌++◌, length}
+use Rattle.std.specs.Prelude.{◌≡◌, ◌≢◌, ℕ, List, [], ◌∷◌, ◌++◌, length}
 use Rattle.std.proofs.Common.{◌⊎◌}
 use Rattle.lert_bay.specs.Files.{Files, Changes, Torn}
 use Rattle.lert_bay.specs.Settled.{Keeps, IsSettled}

@@ -120,11 +120,7 @@ impl GateLog {
     /// Reads the payload of the open record here into the front of `into`, answers its length, and moves
     /// on to the next gate. None comes exactly at a closed gate, and the log stays there. After a refusal
     /// it stands where it stood, and any bytes are in `into`. It changes no file.
-    pub fn next<B: Bay>(
-        &mut self,
-        bay: &mut B,
-        into: &mut [u8],
-    ) -> Result<Option<usize>, LogFault>
+    pub fn next<B: Bay>(&mut self, bay: &mut B, into: &mut [u8]) -> Result<Option<usize>, LogFault>
         requires room { self.old.most ≤ length into.old }
         requires reach { self.old.gate ≤ 2 ^ 62 }
 
@@ -142,6 +138,7 @@ impl GateLog {
         ensures stayed { OnErr result (self.new ≡ self.old) }
         ensures seen { B.files bay.new ≡ B.files bay.old }
         ensures images { KeepsImages (B.leaves bay.old) (B.leaves bay.new) }
+        ensures moments { (image : Files) → B.left_since bay.new (B.moment bay.old) image → B.leaves bay.old image }
         ensures time { Lasts (B.moment bay.old) (B.moment bay.new) (B.left_since bay.old) (B.left_since bay.new) }
         ensures never_falls { B.faults bay.old ≤ B.faults bay.new }
         ensures failed { IsErrOf result LogFault.Failed → HasRisen (B.faults bay.old) (B.faults bay.new) }
@@ -171,6 +168,7 @@ impl GateLog {
         ensures counted { IfOk result (λ found. IfSome found (λ count. (0 < count) × (count ≤ self.now.most))) }
         ensures seen { B.files bay.new ≡ B.files bay.old }
         ensures images { KeepsImages (B.leaves bay.old) (B.leaves bay.new) }
+        ensures moments { (image : Files) → B.left_since bay.new (B.moment bay.old) image → B.leaves bay.old image }
         ensures time { Lasts (B.moment bay.old) (B.moment bay.new) (B.left_since bay.old) (B.left_since bay.new) }
         ensures never_falls { B.faults bay.old ≤ B.faults bay.new }
         ensures failed { IsErrOf result LogFault.Failed → HasRisen (B.faults bay.old) (B.faults bay.new) }

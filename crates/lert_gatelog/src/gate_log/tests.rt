@@ -45,7 +45,10 @@ fn a_log_is_written_and_read(rt: HostRuntime) -> Result<(), Fail> {
     assert_eq!(rt; bay.bytes(LOG), b"head\0".as_slice());
     log.append(&mut bay, &FIRST)?;
     log.append(&mut bay, &SECOND)?;
-    assert_eq!(rt; bay.bytes(LOG), b"head\x01\x02\0\0\0ab\x01\x01\0\0\0c\0".as_slice());
+    assert_eq!(rt;
+        bay.bytes(LOG),
+        b"head\x01\x02\0\0\0ab\x01\x01\0\0\0c\0".as_slice()
+    );
     let mut log = GateLog::at_gate(LOG, 4, MOST);
     let mut payload = [0; MOST as usize];
     assert_eq!(rt; log.next(&mut bay, &mut payload), Ok(Some(2)));
@@ -70,7 +73,11 @@ fn a_stop_leaves_the_record_or_not(rt: HostRuntime) -> Result<(), Fail> {
     for (call, counts) in left {
         for (pick, want) in counts.iter().enumerate() {
             let mut bay = stopped(rt.alloc(), call, pick as u64)?;
-            assert_eq!(rt; records(&mut bay), Ok(*want), "at call {call} by pick {pick}");
+            assert_eq!(rt;
+                records(&mut bay),
+                Ok(*want),
+                "at call {call} by pick {pick}"
+            );
         }
     }
     Ok(())
@@ -89,7 +96,11 @@ fn a_file_leaves_the_format_at_a_place(rt: HostRuntime) -> Result<(), Fail> {
     for (bytes, at) in broken {
         let mut bay = MemBay::new(rt.alloc())?;
         bay.load(LOG, bytes)?;
-        assert_eq!(rt; records(&mut bay), Err(LogFault::Malformed { at }), "at {at}");
+        assert_eq!(rt;
+            records(&mut bay),
+            Err(LogFault::Malformed { at }),
+            "at {at}"
+        );
     }
     Ok(())
 }

@@ -1,6 +1,5 @@
-use Rattle.std.proofs.Common.{ℕ, List, ◌∷◌, ◌++◌, [], ◌≡◌, ◌+◌, ◌<◌, ◌≤◌, length, inl, ap, subst, sym, ◌∙◌, arith}
-use Rattle.lert_bay.specs.Files.{Files}
-use Rattle.lert_gatelog.specs.Gated.{appendix, IsGated, IsClosed, next_gate}
+use Rattle.std.proofs.Common.{ℕ, List, ◌∷◌, ◌++◌, [], ◌≡◌, ◌+◌, ◌<◌, ◌≤◌, length, inl, ap, subst, arith}
+use Rattle.lert_gatelog.specs.Gated.{IsGated, IsClosed, next_gate}
 use Rattle.lert_gatelog.specs.Kept.{InEach}
 use Rattle.lert_gatelog.proofs.GatedLaws.{length_appendix}
 use Rattle.lert_gatelog.proofs.Appending.{gated_first, gated_always, gated_last, closed_last, keeps_one, keeps_both, wholly_settled, IsBehind}

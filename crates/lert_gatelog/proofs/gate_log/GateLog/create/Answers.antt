@@ -1,4 +1,4 @@
-use Rattle.std.proofs.Common.{ℕ, List, ◌∷◌, ◌++◌, [], ◌≡◌, ◌+◌, length, take, drop, replicate, sym, ap, ◌∙◌, arith}
+use Rattle.std.proofs.Common.{ℕ, ◌++◌, [], ◌+◌, length, take, drop, replicate, ap, ◌∙◌, arith}
 use Rattle.lert_bay.proofs.Laid.{zeros_past}
 use Rattle.lert_gatelog.proofs.Looking.{text_alone, header_text}
 use Rattle.lert_gatelog.proofs.Appending.{keeps_one, wholly_settled}
