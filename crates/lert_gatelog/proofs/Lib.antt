@@ -1,0 +1,4 @@
+pub mod Moments
+pub mod GatedLaws
+pub mod Appending
+pub mod Looking

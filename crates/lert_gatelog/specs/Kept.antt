@@ -1,0 +1,30 @@
+-- What the calls of a log keep of a bay.
+use Rattle.std.specs.Prelude.{◌≡◌, ◌≢◌, ℕ, List, [], ◌∷◌, ◌++◌, length}
+use Rattle.std.proofs.Common.{◌⊎◌}
+use Rattle.lert_bay.specs.Files.{Files, Changes, Torn}
+use Rattle.lert_bay.specs.Settled.{Keeps, IsSettled}
+use Rattle.lert_gatelog.specs.Gated.{IsGated, next_gate}
+
+-- what holds of a file in each of these images
+abbrev pub InEach : (Files → Type 0) → ℕ → (List ℕ → Type 0) → Type 0
+InEach images file P = (image : Files) → images image → P (image file)
+
+-- what is settled in the other files before stays settled in these images
+abbrev pub KeepsOthers : (Files → Type 0) → (Files → Type 0) → Files → ℕ → Type 0
+KeepsOthers leaves since seen file = (other from to : ℕ) → other ≢ file → IsSettled leaves seen other from to → Keeps since seen other from to
+
+-- a file is settled from its first byte to its length
+abbrev pub IsWhollySettled : (Files → Type 0) → Files → ℕ → Type 0
+IsWhollySettled leaves seen file = IsSettled leaves seen file 0 (length (seen file))
+
+-- the open records are those of these payloads, or those and one more
+abbrev pub IsWithOrWithout : ℕ → ℕ → List (List ℕ) → ℕ → List ℕ → List ℕ → Type 0
+IsWithOrWithout most first payloads gate payload bytes = IsGated most bytes first payloads gate ⊎ IsGated most bytes first (payloads ++ payload ∷ []) (next_gate gate payload)
+
+-- the other files stay as a read gives them
+abbrev pub OthersStay : ℕ → Files → Files → Type 0
+OthersStay file old new = (other : ℕ) → other ≢ file → new other ≡ old other
+
+-- an image that comes by a write, torn or whole, from one of these
+abbrev pub ComesByWrite : (Files → Type 0) → ℕ → ℕ → ℕ → Files → Type 0
+ComesByWrite leaves file at count image = (earlier : Files) × leaves earlier × Changes (Torn at count) file earlier image
