@@ -1,5 +1,5 @@
 -- Several calls one after the other.
-use Rattle.std.proofs.Common.{◌≡◌, ℕ, ◌≤◌, ◌⊎◌, inl, inr, arith}
+use Rattle.std.proofs.Common.{ℕ, ◌≤◌, inl, inr, arith}
 use Rattle.lert_bay.specs.Files.{Files}
 use Rattle.lert_bay.specs.Images.{Elapses, Lasts}
 

@@ -1,5 +1,6 @@
 pub mod Laid
 pub mod Tearing
+pub mod TakenBack
 pub mod Undone
 pub mod Steps
 pub mod Crashing

@@ -90,14 +90,14 @@ pub torn_noted : (synced : List ℕ) (written : List Extent) (last : Extent) (im
 torn_noted synced written last image torn = torn_more synced written last image image torn (torn_same last.at last.count image)
 
 -- whether a place is in a range
-abbrev inside : ℕ → ℕ → ℕ → Bool
+abbrev pub inside : ℕ → ℕ → ℕ → Bool
 inside at count place = nat_le at place && nat_lt place (at + count)
 
-inside_not : (at count place : ℕ) → IsOutside at count place → inside at count place ≡ false
+pub inside_not : (at count place : ℕ) → IsOutside at count place → inside at count place ≡ false
 inside_not at count place (inl before) = and_left (nat_le at place) (nat_lt place (at + count)) (lt-leb at place before)
 inside_not at count place (inr behind) = and_right (nat_le at place) (nat_lt place (at + count)) (le-ltb place (at + count) behind)
 
-inside_cases : (at count place : ℕ) → (inside at count place ≡ true) ⊎ IsOutside at count place
+pub inside_cases : (at count place : ℕ) → (inside at count place ≡ true) ⊎ IsOutside at count place
 inside_cases at count place =
     elim (cases_lt place at) [
       | inl before ↦ inr (inl before)

@@ -11,6 +11,7 @@ mod extent;
 mod laws;
 mod mem_bay;
 mod mem_file;
+mod overwrite;
 mod plan;
 mod writes;
 

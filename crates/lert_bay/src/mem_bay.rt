@@ -38,7 +38,7 @@ impl Model for MemBay {
 }
 
 impl MemBay {
-    ghost use Rattle.lert_bay.specs.Memory.{untouched, durable, calm, Strikes, ticked, seen_of, MayLeaveAll, Rewrites};
+    ghost use Rattle.lert_bay.specs.Memory.{untouched, durable, calm, Strikes, ticked, file_of, seen_of, MayLeaveAll, Rewrites};
 
     /// Three empty files with nothing pending, and no call that is to fail.
     pub fn new(alloc: Global) -> Result<MemBay, OutOfMemory>
@@ -118,6 +118,7 @@ impl MemBay {
     /// two mixes with different lengths; greater picks give other mixes.
     pub fn crashed(mut self, pick: u64) -> Result<MemBay, OutOfMemory>
         ensures image { IfOk result (λ bay. MayLeaveAll self.files (seen_of bay.files)) }
+        ensures lost { pick ≡ 0 → IfOk result (λ bay. (number : ℕ) → seen_of bay.files number ≡ (file_of self.files number).synced) }
         ensures durable { IfOk result (λ bay. (image : Files) → MayLeaveAll bay.files image → image ≡ seen_of bay.files) }
         ensures rest { IfOk result (λ bay. bay ≡ record {
           files = bay.files;

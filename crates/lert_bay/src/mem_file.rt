@@ -6,7 +6,8 @@ ghost use Rattle.lert_bay.specs.Since.{IsTornSince};
 ghost use Rattle.lert_bay.specs.Memory.{untouched, durable};
 
 use crate::extent::Extent;
-use crate::writes::{Overwrite, covered, length_left, put, take_back};
+use crate::overwrite::Overwrite;
+use crate::writes::{covered, length_left, put, take_back};
 use lert_io::{OutOfMemory, Seen};
 use std::alloc::Global;
 use std::marker::Model;
@@ -119,6 +120,7 @@ impl MemFile {
     /// Makes of the file what a crash may leave of it, by `pick`.
     pub fn crash(&mut self, pick: u64)
         ensures image { IsTornSince self.old.synced self.old.written self.new.now }
+        ensures lost { pick ≡ 0 → self.new.now ≡ self.old.synced }
         ensures durable { self.new ≡ durable self.new.now }
     {
         take_back(&mut self.bytes, &self.unsynced, pick);

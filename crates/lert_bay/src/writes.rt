@@ -1,18 +1,12 @@
 //! Writes into bytes in memory, and how they are taken back.
 
-ghost use Rattle.std.specs.Prelude.{◌≡◌, ℕ, ◌+◌, ◌-◌, ◌<◌, ◌≤◌, ◌^◌, ◌++◌, length, take, drop, replicate, slice_index, All, IfOk, OnOk, OnErr};
+ghost use Rattle.std.specs.Prelude.{◌≡◌, ℕ, ◌+◌, ◌-◌, ◌<◌, ◌≤◌, ◌^◌, ◌++◌, [], ◌∷◌, length, take, drop, replicate, slice_index, All, IfOk, OnOk, OnErr};
 ghost use Rattle.lert_bay.specs.Files.{Holds, IsOutside};
+ghost use Rattle.lert_bay.specs.Pending.{before_all};
 
+use crate::overwrite::Overwrite;
 use lert_io::OutOfMemory;
 use std::alloc::Global;
-
-/// A write into a file and the bytes that stood in its range before, zero bytes where there were none.
-#[derive(Drop)]
-pub struct Overwrite {
-    pub at: usize,
-    pub old: Vec<u8>,
-    ghost in_reach: { at + length old.items < 9223372036854775808 },
-}
 
 /// What a crash leaves of a write that wasn't synced.
 #[derive(Clone, Copy)]
@@ -60,6 +54,7 @@ pub fn covered(alloc: Global, bytes: &[u8], at: usize, count: usize) -> Result<V
 pub fn take_back(bytes: &mut [u8], writes: &[Overwrite], pick: u64)
     ensures length { length bytes.new ≡ length bytes.old }
     ensures elsewhere { (place : ℕ) → All (λ write. IsOutside write.at (length write.old.items) place) writes.now → slice_index bytes.new place ≡ slice_index bytes.old place }
+    ensures lost { pick ≡ 0 → (place : ℕ) → place < length bytes.old → slice_index bytes.new place ≡ before_all writes.now place (slice_index bytes.old place) }
 {
     for index in (0..writes.len()).rev() {
         restore(bytes, &writes[index], fate_of(pick, index));
@@ -71,6 +66,7 @@ pub fn length_left(pick: u64, least: usize, greatest: usize) -> usize
     requires { least ≤ greatest }
     ensures least { least ≤ result }
     ensures greatest { result ≤ greatest }
+    ensures lost { pick ≡ 0 → result ≡ least }
 {
     match pick % 4 {
         0 => least,
@@ -80,7 +76,12 @@ pub fn length_left(pick: u64, least: usize, greatest: usize) -> usize
 }
 
 // Picks below 4 give all writes one fate.
-fn fate_of(pick: u64, index: usize) -> Fate {
+fn fate_of(pick: u64, index: usize) -> Fate
+    ensures { pick ≡ 0 → result ≡ Fate.Lost }
+{
+    if pick == 0 {
+        return Fate::Lost;
+    }
     let turns = 2 + 2 * (index % 31) as u32;
     match (pick ^ (pick >> turns)) % 4 {
         0 => Fate::Lost,
@@ -94,6 +95,7 @@ fn fate_of(pick: u64, index: usize) -> Fate {
 fn lost_part(fate: Fate, count: usize) -> (usize, usize)
     ensures ordered { result.0 ≤ result.1 }
     ensures within { result.1 ≤ count }
+    ensures lost { fate ≡ Fate.Lost → (result.0 ≡ 0) × (result.1 ≡ count) }
 {
     match fate {
         Fate::Lost => (0, count),
@@ -107,11 +109,12 @@ fn lost_part(fate: Fate, count: usize) -> (usize, usize)
 fn restore(bytes: &mut [u8], write: &Overwrite, fate: Fate)
     ensures length { length bytes.new ≡ length bytes.old }
     ensures elsewhere { (place : ℕ) → IsOutside write.now.at (length write.now.old.items) place → slice_index bytes.new place ≡ slice_index bytes.old place }
+    ensures lost { fate ≡ Fate.Lost → (place : ℕ) → place < length bytes.old → slice_index bytes.new place ≡ before_all (write.now ∷ []) place (slice_index bytes.old place) }
 {
     let (from, to) = lost_part(fate, write.old.len());
     let start = write.at + from;
     let end = bytes.len().min(write.at + to);
     if start < end {
-        bytes[start..end].copy_from_slice(&write.old[from..from + (end - start)]);
+        lay(bytes, start, &write.old[from..from + (end - start)]);
     }
 }

@@ -1,5 +1,5 @@
-use Rattle.std.proofs.Common.{◌≡◌, ℕ, ◌+◌, ◌++◌, List, length, take, drop, refl, ap, subst, sym}
-use Rattle.lert_bay.specs.Files.{padded, Torn, Holds}
+use Rattle.std.proofs.Common.{ℕ, ◌+◌, ◌++◌, List, length, take, drop, refl, subst, sym}
+use Rattle.lert_bay.specs.Files.{padded, Torn}
 use Rattle.lert_bay.proofs.Tearing.{torn_held}
 use Rattle.lert_bay.proofs.Steps.{with_file, with_file_here, with_file_other}
 use Rattle.lert_bay.proofs.mem_bay.tests.tears.Goals as goal
