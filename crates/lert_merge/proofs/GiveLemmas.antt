@@ -69,10 +69,11 @@ shared_out m after tail = record { streams = m.streams; seats = after.seats; roo
 seated_read : (tail limit : ℕ) (given : List Piece) (last : Option ℕ) (p : Piece) → tail ≤ p.tail → IsAhead limit given last p →
     IsSeated limit given (Some tail) (shared_head tail (Read p)).head
 seated_read tail limit given last p low is = elim (cases_eq p.tail tail) [
-    inl same ↦ subst (λ (s : Seat). IsSeated limit given (Some tail) s.head) (sym (shared_here tail p same))
+  | inl same ↦ subst (λ (s : Seat). IsSeated limit given (Some tail) s.head) (sym (shared_here tail p same))
       (λ before was. record { front = is.front; piece = p; is = is.is; above = let e : tail ≡ before = cc in omega arith })
   | inr ne ↦ subst (λ (s : Seat). IsSeated limit given (Some tail) s.head) (sym (shared_other tail p ne))
-      (record { given = is.given; front = is.front; is = is.is; above = λ before was. let e : tail ≡ before = cc in omega arith }) ]
+      (record { given = is.given; front = is.front; is = is.is; above = λ before was. let e : tail ≡ before = cc in omega arith })
+]
 
 seated_after : (tail limit : ℕ) (given : List Piece) (last : Option ℕ) (head : Head) → (head ≡ Unread → ⊥) → ((p : Piece) → head ≡ Read p → tail ≤ p.tail) →
     IsSeated limit given last head → IsSeated limit given (Some tail) (shared_head tail head).head
@@ -85,21 +86,24 @@ pub merging_after : {P : Type 0} (given : P → List Piece) (limit : P → ℕ) 
     IsSharedOut m after tail count → IsMerging given limit (shared_out m after tail)
 merging_after given limit m after tail count is read least out =
     let len : length m.seats ≡ length m.streams = is.len in let room : after.room ≡ m.room = out.room in let enough : length m.streams ≤ m.room = is.room in record {
-      few = is.few; room = omega arith; len = out.len ∙ is.len;
+      few = is.few;
+      room = omega arith;
+      len = out.len ∙ is.len;
       seated = λ k d under. subst (λ (s : Seat). IsSeated (limit (get_or m.streams k d)) (given (get_or m.streams k d)) (Some tail) s.head) (sym (out.seats k (omega arith)))
-        (seated_after tail (limit (get_or m.streams k d)) (given (get_or m.streams k d)) m.last (seat_at m.seats k).head (read k under) (λ p at. least.least k p (omega arith) at) (is.seated k d under));
+          (seated_after tail (limit (get_or m.streams k d)) (given (get_or m.streams k d)) m.last (seat_at m.seats k).head (read k under) (λ p at. least.least k p (omega arith) at) (is.seated k d under));
     }
 
 -- what was given of a stream after
 taken_read : (tail limit : ℕ) (given : List Piece) (last : Option ℕ) (p : Piece) (pieces : List Piece) → IsAhead limit given last p → given ≡ pieces ++ p ∷ [] →
     given ≡ (pieces ++ part_of tail (shared_head tail (Read p)).share) ++ ahead (shared_head tail (Read p)).head
 taken_read tail limit given last p pieces is was = elim (cases_eq p.tail tail) [
-    inl same ↦ subst (λ (s : Seat). given ≡ (pieces ++ part_of tail s.share) ++ ahead s.head) (sym (shared_here tail p same))
+  | inl same ↦ subst (λ (s : Seat). given ≡ (pieces ++ part_of tail s.share) ++ ahead s.head) (sym (shared_here tail p same))
       (subst (λ t. given ≡ (pieces ++ part_of t p.count) ++ []) same
       (subst (λ xs. given ≡ (pieces ++ xs) ++ []) (sym (part_some p (ends_one limit is.front p (subst (AscendsFrom 0 limit) is.is is.given.table)).1))
       (was ∙ sym (append-nil (pieces ++ p ∷ [])))))
   | inr ne ↦ subst (λ (s : Seat). given ≡ (pieces ++ part_of tail s.share) ++ ahead s.head) (sym (shared_other tail p ne))
-      (was ∙ ap (λ xs. xs ++ p ∷ []) (sym (append-nil pieces))) ]
+      (was ∙ ap (λ xs. xs ++ p ∷ []) (sym (append-nil pieces)))
+]
 
 taken_after : (tail limit : ℕ) (given : List Piece) (last : Option ℕ) (head : Head) (pieces : List Piece) → (head ≡ Unread → ⊥) → IsSeated limit given last head → given ≡ pieces ++ ahead head →
     given ≡ (pieces ++ part_of tail (shared_head tail head).share) ++ ahead (shared_head tail head).head
@@ -128,20 +132,27 @@ gives given limit m after tail count is read least out =
     let s = ahead_in given limit m is least.place (some_in m.streams least.place inside) least.piece inside least.read in
     let counted : 1 ≤ least.piece.count = (ends_one _ s.front least.piece (subst (AscendsFrom 0 _) s.is s.given.table)).1 in
     let whose : seat_at after.seats least.place ≡ record { head = Unread; share = least.piece.count } =
-      out.seats least.place least.within ∙ ap (shared_head tail) least.read ∙ shared_here tail least.piece least.its_tail in
+    out.seats least.place least.within ∙ ap (shared_head tail) least.read ∙ shared_here tail least.piece least.its_tail in
     let share : (seat_at after.seats least.place).share ≡ least.piece.count = ap (λ s. s.share) whose in
     let within : least.place < length after.seats = let l : length after.seats ≡ length m.seats = out.len in let w : least.place < length m.seats = least.within in omega arith in
     let part : (seat_at after.seats least.place).share ≤ sum_by (λ seat. seat.share) after.seats = get_or-le-sum_by (λ seat. seat.share) after.seats least.place fresh within in
     let sum : count ≡ sum_by (λ seat. seat.share) after.seats = out.sum in
     record {
-      streams = refl; room = out.room; last = refl;
+      streams = refl;
+      room = out.room;
+      last = refl;
       above = λ before was. let up : before < least.piece.tail = s.above before was in let same : least.piece.tail ≡ tail = least.its_tail in omega arith;
-      below = record { stream = least.place; within = inside;
+      below = record {
+        stream = least.place;
+        within = inside;
         below = λ d. let t = ahead_in given limit m is least.place d least.piece inside least.read in
-          subst (λ n. n < limit (get_or m.streams least.place d)) least.its_tail (ends_one _ t.front least.piece (subst (AscendsFrom 0 _) t.is t.given.table)).0 };
-      sum = out.sum; counted = omega arith; small = out.small;
+            subst (λ n. n < limit (get_or m.streams least.place d)) least.its_tail (ends_one _ t.front least.piece (subst (AscendsFrom 0 _) t.is t.given.table)).0;
+      };
+      sum = out.sum;
+      counted = omega arith;
+      small = out.small;
       taken = λ k pieces under was d. subst (λ (x : Seat). given (get_or m.streams k d) ≡ (pieces ++ part_of tail x.share) ++ ahead x.head) (sym (out.seats k (omega arith)))
-        (taken_after tail (limit (get_or m.streams k d)) (given (get_or m.streams k d)) m.last (seat_at m.seats k).head pieces (read k under) (is.seated k d under) (was d));
+          (taken_after tail (limit (get_or m.streams k d)) (given (get_or m.streams k d)) m.last (seat_at m.seats k).head pieces (read k under) (is.seated k d under) (was d));
     }
 
 -- the same of a merge that is seen as another

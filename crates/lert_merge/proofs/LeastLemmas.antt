@@ -16,31 +16,44 @@ none_more seats i none here k p within = below_more (λ k. (p : Piece) → (seat
 
 stays_least : (seats : List Seat) (i tail : ℕ) → IsLeast seats i tail → ((p : Piece) → (seat_at seats i).head ≡ Read p → tail ≤ p.tail) → IsLeast seats (i + 1) tail
 stays_least seats i tail is here = record {
-  place = is.place; within = omega arith; piece = is.piece; read = is.read; its_tail = is.its_tail;
+  place = is.place;
+  within = omega arith;
+  piece = is.piece;
+  read = is.read;
+  its_tail = is.its_tail;
   least = λ k p within. below_more (λ k. (p : Piece) → (seat_at seats k).head ≡ Read p → tail ≤ p.tail) i (λ k within p. is.least k p within) here k within p;
 }
 
 first_least : (seats : List Seat) (i : ℕ) (q : Piece) → IsNoneRead seats i → (seat_at seats i).head ≡ Read q → IsLeast seats (i + 1) q.tail
 first_least seats i q none is = record {
-  place = i; within = omega arith; piece = q; read = is; its_tail = refl;
+  place = i;
+  within = omega arith;
+  piece = q;
+  read = is;
+  its_tail = refl;
   least = λ k p within. below_more (λ k. (p : Piece) → (seat_at seats k).head ≡ Read p → q.tail ≤ p.tail) i
-    (λ k within p read. absurd (none k p within read))
-    (λ p read. let same : q ≡ p = cc in let tails : q.tail ≡ p.tail = ap (λ x. x.tail) same in omega arith) k within p;
+      (λ k within p read. absurd (none k p within read))
+      (λ p read. let same : q ≡ p = cc in let tails : q.tail ≡ p.tail = ap (λ x. x.tail) same in omega arith) k within p;
 }
 
 new_least : (seats : List Seat) (i tail : ℕ) (q : Piece) → IsLeast seats i tail → q.tail ≤ tail → (seat_at seats i).head ≡ Read q → IsLeast seats (i + 1) q.tail
 new_least seats i tail q old less is = record {
-  place = i; within = omega arith; piece = q; read = is; its_tail = refl;
+  place = i;
+  within = omega arith;
+  piece = q;
+  read = is;
+  its_tail = refl;
   least = λ k p within. below_more (λ k. (p : Piece) → (seat_at seats k).head ≡ Read p → q.tail ≤ p.tail) i
-    (λ k within p read. let above = old.least k p within read in omega arith)
-    (λ p read. let same : q ≡ p = cc in let tails : q.tail ≡ p.tail = ap (λ x. x.tail) same in omega arith) k within p;
+      (λ k within p read. let above = old.least k p within read in omega arith)
+      (λ p read. let same : q ≡ p = cc in let tails : q.tail ≡ p.tail = ap (λ x. x.tail) same in omega arith) k within p;
 }
 
 least_min : (seats : List Seat) (i tail : ℕ) (q : Piece) → IsLeast seats i tail → (seat_at seats i).head ≡ Read q → IsLeast seats (i + 1) (min tail q.tail)
 least_min seats i tail q old is = elim (cases_lt tail q.tail) [
-    inl less ↦ subst (IsLeast seats (i + 1)) (let e : tail ≡ min tail q.tail = omega arith in e)
+  | inl less ↦ subst (IsLeast seats (i + 1)) (let e : tail ≡ min tail q.tail = omega arith in e)
       (stays_least seats i tail old (λ p read. let same : q ≡ p = cc in let tails : q.tail ≡ p.tail = ap (λ x. x.tail) same in omega arith))
-  | inr more ↦ subst (IsLeast seats (i + 1)) (let e : q.tail ≡ min tail q.tail = omega arith in e) (new_least seats i tail q old more is) ]
+  | inr more ↦ subst (IsLeast seats (i + 1)) (let e : q.tail ≡ min tail q.tail = omega arith in e) (new_least seats i tail q old more is)
+]
 
 pub least_more : (seats : List Seat) (i : ℕ) (least : Option ℕ) (head : Head) → (seat_at seats i).head ≡ head → IsLeastOf seats i least → IsLeastOf seats (i + 1) (lesser_of least head)
 least_more seats i None (Read q) is none = first_least seats i q none is

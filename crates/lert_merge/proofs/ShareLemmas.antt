@@ -40,13 +40,13 @@ shared_step old new tail i sum seat so small within is =
     let part : seat.share ≡ (shared tail (seat_at new i)).share = ap (λ s. s.share) is in
     let bound : sum ≤ i * 2 ^ 47 = so.small in
     let whole : sum_by (λ s. s.share) (take (i + 1) (set new i seat)) ≡ sum_by (λ s. s.share) (take i new) + sum_by (λ s. s.share) (seat ∷ []) =
-      ap (sum_by (λ s. s.share)) (take_more_set new i seat within) ∙ sum_by-append (λ s. s.share) (take i new) (seat ∷ []) in
+    ap (sum_by (λ s. s.share)) (take_more_set new i seat within) ∙ sum_by-append (λ s. s.share) (take i new) (seat ∷ []) in
     let here : sum ≡ sum_by (λ s. s.share) (take i new) = so.summed in
     record {
       len = length-set new i seat ∙ so.len;
       done = λ k under. below_more (λ k. seat_at (set new i seat) k ≡ shared tail (seat_at old k)) i
-        (λ k under. let ne : k ≢ i = omega arith in get_or-set_other new i k seat fresh ne ∙ so.done k under)
-        (get_or-set_same new i seat fresh within ∙ is ∙ ap (shared tail) (so.others i (omega arith))) k under;
+          (λ k under. let ne : k ≢ i = omega arith in get_or-set_other new i k seat fresh ne ∙ so.done k under)
+          (get_or-set_same new i seat fresh within ∙ is ∙ ap (shared tail) (so.others i (omega arith))) k under;
       others = λ k above. let ne : k ≢ i = omega arith in get_or-set_other new i k seat fresh ne ∙ so.others k (omega arith);
       summed = omega (arith, whole, here);
       small = omega (arith, few, part, bound);

@@ -31,12 +31,17 @@ told_read to_come ctx s tail limit given last p rest low is told are =
     let up : AscendsFrom (p.tail + 1) limit rest = (ends_table 0 limit is.front p rest (subst (λ xs. AscendsFrom 0 limit (xs ++ rest)) is.is are.table)).2 in
     let all : All (λ other. tail ≤ other.tail) (p ∷ rest) = above_all (p.tail + 1) limit tail p rest low (omega arith) up in
     elim (cases_eq p.tail tail) [
-    inl same ↦ subst (λ (x : Seat). ToldShare to_come ctx s tail x (p ∷ rest)) (sym (shared_here tail p same)) (record {
-      share = sym (count_here tail p rest same); least = all;
-      then = subst (IsToCome to_come ctx s Unread) (sym (behind_here tail p rest same)) (record { rest = rest; told = told; is = refl; ended = λ no. absurd (cc) }) })
-  | inr ne ↦ subst (λ (x : Seat). ToldShare to_come ctx s tail x (p ∷ rest)) (sym (shared_other tail p ne)) (record {
-      share = sym (count_other tail p rest ne ∙ count_of-below (p.tail + 1) limit rest tail (omega arith) up); least = all;
-      then = subst (IsToCome to_come ctx s (Read p)) (sym (behind_other tail p rest ne)) (record { rest = rest; told = told; is = refl; ended = λ no. absurd (cc) }) }) ]
+      | inl same ↦ subst (λ (x : Seat). ToldShare to_come ctx s tail x (p ∷ rest)) (sym (shared_here tail p same)) (record {
+        share = sym (count_here tail p rest same);
+        least = all;
+        then = subst (IsToCome to_come ctx s Unread) (sym (behind_here tail p rest same)) (record { rest = rest; told = told; is = refl; ended = λ no. absurd (cc) });
+      })
+      | inr ne ↦ subst (λ (x : Seat). ToldShare to_come ctx s tail x (p ∷ rest)) (sym (shared_other tail p ne)) (record {
+        share = sym (count_other tail p rest ne ∙ count_of-below (p.tail + 1) limit rest tail (omega arith) up);
+        least = all;
+        then = subst (IsToCome to_come ctx s (Read p)) (sym (behind_other tail p rest ne)) (record { rest = rest; told = told; is = refl; ended = λ no. absurd (cc) });
+      })
+    ]
 
 told_share : {P C : Type 0} (to_come : P → C → Option (List Piece)) (given : P → List Piece) (limit : P → ℕ) (ctx : C) (s : P) (tail : ℕ) (last : Option ℕ) (head : Head) (pieces : List Piece) →
     ((ps : List Piece) → to_come s ctx ≡ Some ps → AreGiven (limit s) (given s ++ ps)) →
@@ -49,8 +54,10 @@ told_share to_come given limit ctx s tail last (Read p) pieces order asked low i
 told_share to_come given limit ctx s tail last Ended pieces order asked low is come =
     let none : pieces ≡ [] = come.is ∙ come.ended refl in
     subst (ToldShare to_come ctx s tail (shared_head tail Ended)) (sym none) (record {
-      share = refl; least = λ k d under. absurd (omega arith);
-      then = record { rest = []; told = come.told ∙ ap Some (come.ended refl); is = refl; ended = λ e. refl } })
+      share = refl;
+      least = λ k d under. absurd (omega arith);
+      then = record { rest = []; told = come.told ∙ ap Some (come.ended refl); is = refl; ended = λ e. refl };
+    })
 
 -- two lists of which equal numbers are summed up
 sum_by_same : {X Y : Type 0} (f : X → ℕ) (g : Y → ℕ) (xs : List X) (ys : List Y) (d : X) (e : Y) → length xs ≡ length ys →
@@ -71,16 +78,21 @@ told_next {P} {C} to_come given limit ctx m after tail count lists is read least
     let lens : length lists ≡ length m.streams = tells.len in
     let lena : length after.seats ≡ length m.seats = out.len in
     let each : (k : ℕ) (d : P) → k < length m.streams → ToldShare to_come ctx (get_or m.streams k d) tail (seat_at after.seats k) (get_or lists k []) =
-      λ k d under. subst (λ (x : Seat). ToldShare to_come ctx (get_or m.streams k d) tail x (get_or lists k [])) (sym (out.seats k (omega arith)))
-        (told_share to_come given limit ctx (get_or m.streams k d) tail m.last (seat_at m.seats k).head (get_or lists k []) (order (get_or m.streams k d) ctx)
-          (read k under) (λ p at. least.least k p (omega arith) at) (is.seated k d under) (tells.each k d under)) in
-    (record { counted = counted;
+    λ k d under. subst (λ (x : Seat). ToldShare to_come ctx (get_or m.streams k d) tail x (get_or lists k [])) (sym (out.seats k (omega arith)))
+    (told_share to_come given limit ctx (get_or m.streams k d) tail m.last (seat_at m.seats k).head (get_or lists k []) (order (get_or m.streams k d) ctx)
+    (read k under) (λ p at. least.least k p (omega arith) at) (is.seated k d under) (tells.each k d under)) in (
+      record {
+        counted = counted;
         count = out.sum ∙ sum_by_same (λ seat. seat.share) (λ pieces. count_of pieces tail) after.seats lists fresh [] (omega arith)
-          (λ k under. let in_m : k < length m.streams = omega arith in (each k (some_in m.streams k in_m) in_m).share);
-        least = λ k under. let in_m : k < length m.streams = omega arith in (each k (some_in m.streams k in_m) in_m).least },
-     (λ k under. let in_m : k < length m.streams = omega arith in (each k (some_in m.streams k in_m) in_m).share),
-     record { len = length-map lists (behind tail) ∙ tells.len;
-        each = λ k d under. subst (IsToCome to_come ctx (get_or m.streams k d) (seat_at after.seats k).head) (sym (get_or-map (behind tail) lists k [] [] (omega arith))) (each k d under).then })
+            (λ k under. let in_m : k < length m.streams = omega arith in (each k (some_in m.streams k in_m) in_m).share);
+        least = λ k under. let in_m : k < length m.streams = omega arith in (each k (some_in m.streams k in_m) in_m).least;
+      },
+      (λ k under. let in_m : k < length m.streams = omega arith in (each k (some_in m.streams k in_m) in_m).share),
+      record {
+        len = length-map lists (behind tail) ∙ tells.len;
+        each = λ k d under. subst (IsToCome to_come ctx (get_or m.streams k d) (seat_at after.seats k).head) (sym (get_or-map (behind tail) lists k [] [] (omega arith))) (each k d under).then;
+      },
+    )
 
 over_head : {P C : Type 0} (to_come : P → C → Option (List Piece)) (ctx : C) (s : P) (head : Head) (pieces : List Piece) → (head ≡ Unread → ⊥) → ((p : Piece) → head ≡ Read p → ⊥) →
     IsToCome to_come ctx s head pieces → pieces ≡ []
@@ -95,7 +107,7 @@ told_over to_come given limit ctx m lists is read none tells k under =
     let len : length m.seats ≡ length m.streams = is.len in let lens : length lists ≡ length m.streams = tells.len in
     let in_m : k < length m.streams = omega arith in
     over_head to_come ctx (get_or m.streams k (some_in m.streams k in_m)) (seat_at m.seats k).head (get_or lists k []) (read k in_m) (λ p at. none k p (omega arith) at)
-      (tells.each k (some_in m.streams k in_m) in_m)
+    (tells.each k (some_in m.streams k in_m) in_m)
 
 pub match_none : {X : Type 0} (o : Option X) (A : Type 0) (B : X → Type 0) → o ≡ None → A → MatchOption o A B
 match_none o A B none here = subst (λ o. MatchOption o A B) (sym none) here

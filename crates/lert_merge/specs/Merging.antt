@@ -45,7 +45,7 @@ pub record IsToCome {P C : Type 0} (to_come : P → C → Option (List Piece)) (
 pub record Tells {P C : Type 0} (to_come : P → C → Option (List Piece)) (ctx : C) (merge : Merging P) (lists : List (List Piece)) : Type 0 where
   pub len : length lists ≡ length merge.streams
   pub each : (k : ℕ) (d : P) → k < length merge.streams →
-    IsToCome to_come ctx (slice_index_or merge.streams k d) (seat_at merge.seats k).head (slice_index_or lists k [])
+      IsToCome to_come ctx (slice_index_or merge.streams k d) (seat_at merge.seats k).head (slice_index_or lists k [])
 
 -- how often a tail stands in all the lists
 abbrev pub count_in : List (List Piece) → ℕ → ℕ
@@ -115,7 +115,7 @@ pub record IsMerging {P : Type 0} (given : P → List Piece) (limit : P → ℕ)
   pub room : length merge.streams ≤ merge.room
   pub len : length merge.seats ≡ length merge.streams
   pub seated : (k : ℕ) (d : P) → k < length merge.streams →
-    IsSeated (limit (slice_index_or merge.streams k d)) (given (slice_index_or merge.streams k d)) merge.last (seat_at merge.seats k).head
+      IsSeated (limit (slice_index_or merge.streams k d)) (given (slice_index_or merge.streams k d)) merge.last (seat_at merge.seats k).head
 
 -- a stream and what is read ahead of it, before and after: what was given of it, its limit and its breaks are the same
 pub record Stays {P C : Type 0} (to_come : P → C → Option (List Piece)) (given : P → List Piece) (limit : P → ℕ) (breaks : P → C → ℕ → Type 0)
@@ -134,13 +134,13 @@ pub record AllStay {P C : Type 0} (to_come : P → C → Option (List Piece)) (g
   pub last : new.last ≡ old.last
   pub shares : (k : ℕ) → share_of new k ≡ share_of old k
   pub each : (k : ℕ) (d : P) → k < length old.streams → Stays to_come given limit breaks
-    before (slice_index_or old.streams k d) (seat_at old.seats k).head after (slice_index_or new.streams k d) (seat_at new.seats k).head
+      before (slice_index_or old.streams k d) (seat_at old.seats k).head after (slice_index_or new.streams k d) (seat_at new.seats k).head
 
 -- what is to come of each stream, with what was read ahead of it, is the same
 pub record AllTold {P C : Type 0} (to_come : P → C → Option (List Piece)) (before : C) (old : Merging P) (after : C) (new : Merging P) : Type 0 where
   pub each : (k : ℕ) (d : P) (pieces : List Piece) → k < length old.streams →
-    IsToCome to_come before (slice_index_or old.streams k d) (seat_at old.seats k).head pieces →
-    IsToCome to_come after (slice_index_or new.streams k d) (seat_at new.seats k).head pieces
+      IsToCome to_come before (slice_index_or old.streams k d) (seat_at old.seats k).head pieces →
+      IsToCome to_come after (slice_index_or new.streams k d) (seat_at new.seats k).head pieces
 
 -- no call changes how many streams there are, their limits, where they leave their format, or the room
 pub record AreSame {P C : Type 0} (limit : P → ℕ) (breaks : P → C → ℕ → Type 0) (before : C) (old : Merging P) (after : C) (new : Merging P) : Type 0 where
@@ -148,7 +148,7 @@ pub record AreSame {P C : Type 0} (limit : P → ℕ) (breaks : P → C → ℕ 
   pub room : new.room ≡ old.room
   pub limits : (k : ℕ) (d : P) → k < length old.streams → limit (slice_index_or new.streams k d) ≡ limit (slice_index_or old.streams k d)
   pub same_breaks : (k : ℕ) (d : P) (at : ℕ) → k < length old.streams →
-    breaks (slice_index_or new.streams k d) after at ↔ breaks (slice_index_or old.streams k d) before at
+      breaks (slice_index_or new.streams k d) after at ↔ breaks (slice_index_or old.streams k d) before at
 
 -- the least tail that was read ahead is given
 pub record Gives {P : Type 0} (given : P → List Piece) (limit : P → ℕ) (old new : Merging P) (piece : Piece) : Type 0 where
@@ -161,7 +161,7 @@ pub record Gives {P : Type 0} (given : P → List Piece) (limit : P → ℕ) (ol
   pub counted : 1 ≤ piece.count
   pub small : piece.count < 2 ^ 63
   pub taken : (k : ℕ) (pieces : List Piece) → k < length old.streams → HasTaken given old k pieces →
-    HasTaken given new k (pieces ++ part_of piece.tail (share_of new k))
+      HasTaken given new k (pieces ++ part_of piece.tail (share_of new k))
 
 -- one of the streams leaves its format here, and isn't told
 pub record Breaks {P C : Type 0} (to_come : P → C → Option (List Piece)) (breaks : P → C → ℕ → Type 0) (ctx : C) (streams : List P) (at : ℕ) : Type 0 where

@@ -100,8 +100,12 @@ impl Heads {
     // Puts down what a stream answered.
     pub(crate) fn put(&mut self, stream: usize, piece: Option<Piece>)
         requires { stream < length self.old.seats }
-        ensures { self.new ≡ record self.old { seats = slice_set self.old.seats stream (record {
-            head = head_from piece; share = (seat_at self.old.seats stream).share }) } }
+        ensures { self.new ≡ record self.old {
+          seats = slice_set self.old.seats stream (record {
+            head = head_from piece;
+            share = (seat_at self.old.seats stream).share;
+          });
+        } }
     {
         self.seats[stream].head = match piece {
             Some(piece) => Head::Read(piece),

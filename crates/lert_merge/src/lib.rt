@@ -8,6 +8,8 @@
 
 mod heads;
 mod merge;
+#[cfg(test)]
+mod tests;
 
 pub use heads::Heads;
 pub use merge::Merge;

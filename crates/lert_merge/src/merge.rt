@@ -32,7 +32,11 @@ impl<C: Faulty, P: Pieces<C>> Model for Merge<C, P> {
     ghost view = { λ m. record { streams = m.streams.items; seats = m.heads.seats; room = m.heads.room; last = m.last } };
 
     ghost invariant = { λ m. IsMerging P.given P.limit (record {
-        streams = m.streams.items; seats = m.heads.seats; room = m.heads.room; last = m.last }) };
+      streams = m.streams.items;
+      seats = m.heads.seats;
+      room = m.heads.room;
+      last = m.last;
+    }) };
 }
 
 impl<C: Faulty, P: Pieces<C>> Merge<C, P> {

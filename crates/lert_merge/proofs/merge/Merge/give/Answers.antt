@@ -26,7 +26,7 @@ pub returns-clause-told : goal.returns-clause-told
 returns-clause-told g c ctx lists tells = let out = c.share_out-count.ensures in
     let read = subst (λ (m : Merging _). IsAsked m) (sym c.self.view_is) c.requires in
     let shared : IsSharedOut _ c.share_out-count.new.self c.in_ok-tail.tail c.share_out-count.result =
-      record { room = out.room; len = out.len; seats = out.seats; sum = out.sum; small = out.small } in
+    record { room = out.room; len = out.len; seats = out.seats; sum = out.sum; small = out.small } in
     told_next g.P.Pieces.to_come g.P.Pieces.given g.P.Pieces.limit ctx _ c.share_out-count.new.self c.in_ok-tail.tail c.share_out-count.result lists c.self.invariant
     read c.in_ok-tail.ensures shared
     (gives g.P.Pieces.given g.P.Pieces.limit _ c.share_out-count.new.self c.in_ok-tail.tail c.share_out-count.result c.self.invariant read c.in_ok-tail.ensures shared).counted
