@@ -1,10 +1,9 @@
 -- One stream after another is asked.
-use Rattle.std.proofs.Common.{◌≡◌, ◌≢◌, ℕ, ◌+◌, ◌<◌, ◌≤◌, ◌↔◌, Option, Some, None, List, [], ◌∷◌, ◌++◌, length, get_or, arith, sym, ap, ◌∙◌, refl, subst, inl, inr, ◌⊎◌, below_more}
+use Rattle.std.proofs.Common.{◌≡◌, ◌≢◌, ℕ, ◌+◌, ◌<◌, ◌≤◌, Option, Some, None, List, ◌++◌, length, get_or, arith, sym, ap, ◌∙◌, refl, subst, inl, inr, ◌⊎◌, below_more}
 use Rattle.lert_spec.specs.declared.piece.Piece.{Piece}
-use Rattle.lert_merge.specs.declared.heads.Head.{Head}
-use Rattle.lert_merge.specs.declared.heads.Head.TheVariants.{Unread, Read, Ended}
+use Rattle.lert_merge.specs.declared.heads.Head.TheVariants.{Unread}
 use Rattle.lert_merge.specs.Seats.{seat_at, ahead}
-use Rattle.lert_merge.specs.Merging.{Merging, Stays, AllStay, IsToCome, AllTold, Breaks, share_of}
+use Rattle.lert_merge.specs.Merging.{Merging, AllStay, AllTold, Breaks}
 
 -- the first `count` streams were asked
 pub record IsFilled {P C : Type 0} (to_come : P → C → Option (List Piece)) (given : P → List Piece) (limit : P → ℕ) (breaks : P → C → ℕ → Type 0)

@@ -1,18 +1,15 @@
 -- The pieces of the least tail are given.
-use Rattle.std.proofs.Common.{◌≡◌, ◌≢◌, ℕ, zero, suc, ◌+◌, ◌*◌, ◌<◌, ◌≤◌, ◌^◌, ◌==◌, ◌⊎◌, Bool, true, false, cond, if◌then◌else◌, Option, Some, None, List, [], ◌∷◌, ◌++◌, length, set, map, take, drop, get_or, sum_by, All, arith, sym, ap, ◌∙◌, refl, subst, inl, inr, MatchOption, append_assoc, length-append, append-nil}
+use Rattle.std.proofs.Common.{◌≡◌, ℕ, ◌+◌, ◌<◌, ◌≤◌, ◌^◌, Bool, if◌then◌else◌, Option, Some, List, [], ◌∷◌, ◌++◌, length, get_or, sum_by, All, arith, sym, ap, ◌∙◌, refl, subst, inl, inr, length-append, append-nil}
 use Rattle.std.proofs.Math.Seq.{get_or-append_seam}
 use Rattle.std.proofs.lemmas.Bool.{cases_eq, eq-eqb, ne_eqb}
-use Rattle.std.proofs.lemmas.List.{get_or_default, get_or-map}
-use Rattle.std.proofs.lemmas.List.Elements.{All-cons}
 use Rattle.std.proofs.lemmas.List.Sums.{get_or-le-sum_by}
 use Rattle.lert_spec.specs.declared.piece.Piece.{Piece}
-use Rattle.lert_spec.specs.Table.{AreGiven, AscendsFrom, count_of}
-use Rattle.lert_spec.proofs.Tables.{count_of-below, tail_at_least}
+use Rattle.lert_spec.specs.Table.{AscendsFrom, count_of}
 use Rattle.lert_merge.specs.declared.heads.Head.{Head}
 use Rattle.lert_merge.specs.declared.heads.Head.TheVariants.{Unread, Read, Ended}
 use Rattle.lert_merge.specs.declared.heads.Seat.{Seat}
 use Rattle.lert_merge.specs.Seats.{Seats, seat_at, fresh, ahead, shared, shared_head, IsLeast, IsNoneRead, AreSmall}
-use Rattle.lert_merge.specs.Merging.{Merging, IsMerging, IsSeated, IsAhead, EndsAbove, IsAbove, IsBelowOne, IsToCome, Tells, HasTaken, Gives, AreOver, AreShares, IsNext, Breaks, share_of, part_of, behind, count_in, IsAsked}
+use Rattle.lert_merge.specs.Merging.{Merging, IsMerging, IsSeated, IsAhead, Gives, part_of, behind, IsAsked, AreEnded}
 
 -- a list that ends a table
 pub ends_table : (least limit : ℕ) (front : List Piece) (p : Piece) (rest : List Piece) → AscendsFrom least limit ((front ++ p ∷ []) ++ rest) →
@@ -139,6 +136,7 @@ gives given limit m after tail count is read least out =
     let sum : count ≡ sum_by (λ seat. seat.share) after.seats = out.sum in
     record {
       streams = refl;
+      seats = out.len;
       room = out.room;
       last = refl;
       above = λ before was. let up : before < least.piece.tail = s.above before was in let same : least.piece.tail ≡ tail = least.its_tail in omega arith;
@@ -161,3 +159,13 @@ pub gives_seen : {P : Type 0} (given : P → List Piece) (limit : P → ℕ) (m 
     IsSharedOut m after tail count → Gives given limit before (shared_out m after tail) (record { tail = tail; count = count })
 gives_seen given limit m before after tail count seen is read least out =
     subst (λ b. Gives given limit b (shared_out m after tail) (record { tail = tail; count = count })) seen (gives given limit m after tail count is read least out)
+
+-- where none was read ahead of the streams that were asked, all ended
+ended_head : (head : Head) → (head ≡ Unread → ⊥) → ((p : Piece) → head ≡ Read p → ⊥) → head ≡ Ended
+ended_head Unread asked none = absurd (asked refl)
+ended_head (Read p) asked none = absurd (none p refl)
+ended_head Ended asked none = refl
+
+pub all_ended : {P : Type 0} (m before : Merging P) → m ≡ before → length m.seats ≡ length m.streams → IsAsked before → IsNoneRead m.seats (length m.seats) → AreEnded before
+all_ended {P} m before seen len asked none = subst (λ (b : Merging P). AreEnded b) seen (λ k under.
+    ended_head (seat_at m.seats k).head (subst (λ (b : Merging P). IsAsked b) (sym seen) asked k under) (λ p at. none k p (omega arith) at))

@@ -1,14 +1,13 @@
 -- One stream of a merge is asked, and the others stay.
-use Rattle.std.proofs.Common.{◌≡◌, ◌≢◌, ℕ, ◌+◌, ◌<◌, ◌≤◌, ◌^◌, ◌↔◌, Option, Some, None, List, [], ◌∷◌, ◌++◌, length, set, get_or, arith, sym, ap, ◌∙◌, refl, subst, inl, inr, MatchOption, get_or-set_same, get_or-set_other, length-set, option_to_list, append_assoc}
+use Rattle.std.proofs.Common.{◌≡◌, ◌≢◌, ℕ, ◌+◌, ◌<◌, ◌≤◌, Option, Some, None, List, [], ◌∷◌, ◌++◌, length, set, get_or, arith, sym, ap, ◌∙◌, refl, subst, inl, inr, MatchOption, get_or-set_same, get_or-set_other, length-set, option_to_list}
 use Rattle.std.proofs.lemmas.Bool.{cases_eq}
 use Rattle.std.proofs.lemmas.List.{get_or_default}
 use Rattle.lert_spec.specs.declared.piece.Piece.{Piece}
 use Rattle.lert_spec.specs.Table.{AreGiven, AscendsFrom}
-use Rattle.lert_merge.specs.declared.heads.Head.{Head}
-use Rattle.lert_merge.specs.declared.heads.Head.TheVariants.{Unread, Read, Ended}
+use Rattle.lert_merge.specs.declared.heads.Head.TheVariants.{Unread}
 use Rattle.lert_merge.specs.declared.heads.Seat.{Seat}
-use Rattle.lert_merge.specs.Seats.{Seats, seat_at, fresh, ahead, head_from}
-use Rattle.lert_merge.specs.Merging.{Merging, IsMerging, IsSeated, IsAhead, EndsAbove, IsAbove, IsToCome, AllTold, Breaks}
+use Rattle.lert_merge.specs.Seats.{Seats, seat_at, fresh, head_from}
+use Rattle.lert_merge.specs.Merging.{Merging, IsMerging, IsSeated, EndsAbove, IsToCome, AllTold}
 
 -- what holds of the stream that was changed, and of each other, holds of each
 pub each_stream : {P : Type 0} (Q : ℕ → P → Type 0) (streams : List P) (i : ℕ) (new : P) → i < length streams → Q i new →

@@ -1,5 +1,5 @@
 -- What sharing a tail out gives, seat by seat.
-use Rattle.std.proofs.Common.{◌≡◌, ◌≢◌, ℕ, ◌+◌, ◌*◌, ◌^◌, ◌<◌, ◌≤◌, List, length, sum_by, take, set, arith, sym, ap, ◌∙◌, refl, below_more, subst, Bool, true, false, cond, ◌==◌, if◌then◌else◌, get_or-set_other, get_or-set_same, length-set, [], ◌∷◌, get_or}
+use Rattle.std.proofs.Common.{◌≡◌, ◌≢◌, ℕ, ◌+◌, ◌*◌, ◌^◌, ◌<◌, ◌≤◌, List, length, sum_by, take, set, arith, sym, ap, ◌∙◌, refl, below_more, subst, Bool, true, false, ◌==◌, if◌then◌else◌, get_or-set_other, get_or-set_same, length-set, [], ◌∷◌, get_or}
 use Rattle.std.proofs.lemmas.List.Sums.{sum_by-append}
 use Rattle.std.proofs.lemmas.List.{take_more_set, get_or_default}
 use Rattle.lert_spec.specs.declared.piece.Piece.{Piece}

@@ -1,7 +1,7 @@
 -- What is to come of a merge after the pieces of the least tail were given.
-use Rattle.std.proofs.Common.{◌≡◌, ◌≢◌, ℕ, zero, suc, ◌+◌, ◌*◌, ◌<◌, ◌≤◌, ◌^◌, ◌==◌, ◌⊎◌, Bool, true, false, Option, Some, None, List, [], ◌∷◌, ◌++◌, length, set, map, get_or, sum_by, All, arith, sym, ap, ap₂, ◌∙◌, refl, subst, inl, inr, MatchOption, append_assoc, length-append, append-nil}
+use Rattle.std.proofs.Common.{◌≡◌, ℕ, suc, ◌+◌, ◌<◌, ◌≤◌, Option, Some, None, List, [], ◌∷◌, ◌++◌, length, map, get_or, sum_by, All, arith, sym, ap, ap₂, ◌∙◌, refl, subst, inl, inr, MatchOption}
 use Rattle.std.proofs.lemmas.Bool.{cases_eq}
-use Rattle.std.proofs.lemmas.List.{get_or_default, get_or-map, length-map}
+use Rattle.std.proofs.lemmas.List.{get_or-map, length-map}
 use Rattle.std.proofs.lemmas.List.Elements.{All-cons}
 use Rattle.std.proofs.lemmas.List.Sums.{sum_by-append}
 use Rattle.lert_spec.specs.declared.piece.Piece.{Piece}
@@ -10,8 +10,8 @@ use Rattle.lert_spec.proofs.Tables.{count_of-below, tail_at_least}
 use Rattle.lert_merge.specs.declared.heads.Head.{Head}
 use Rattle.lert_merge.specs.declared.heads.Head.TheVariants.{Unread, Read, Ended}
 use Rattle.lert_merge.specs.declared.heads.Seat.{Seat}
-use Rattle.lert_merge.specs.Seats.{Seats, seat_at, fresh, ahead, shared, shared_head, IsLeast, IsNoneRead}
-use Rattle.lert_merge.specs.Merging.{Merging, IsMerging, IsSeated, IsAhead, IsToCome, AllTold, Tells, Gives, AreOver, AreShares, IsNext, share_of, behind, count_in}
+use Rattle.lert_merge.specs.Seats.{Seats, seat_at, fresh, shared_head, IsLeast, IsNoneRead}
+use Rattle.lert_merge.specs.Merging.{Merging, IsMerging, IsSeated, IsAhead, IsToCome, AllTold, Tells, AreOver, AreShares, IsNext, behind}
 use Rattle.lert_merge.proofs.GiveLemmas.{ends_table, shared_here, shared_other, behind_here, behind_other, count_here, count_other, IsSharedOut, shared_out, some_in}
 
 -- a stream whose piece may be given: its share, the tails that come, and what comes then

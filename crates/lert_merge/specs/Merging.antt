@@ -1,5 +1,5 @@
 -- A merge of streams: what was read ahead, what it gave of each stream, and what is still to come.
-use Rattle.std.specs.Prelude.{ℕ, ◌≡◌, ◌<◌, ◌≤◌, ◌==◌, ◌↔◌, All, Option, Some, None, List, [], ◌∷◌, ◌++◌, length, map, sum_by, if◌then◌else◌, slice_index_or, ◌^◌, Result, Ok, Err}
+use Rattle.std.specs.Prelude.{ℕ, ◌≡◌, ◌<◌, ◌≤◌, ◌==◌, ◌↔◌, All, Option, Some, None, List, [], ◌∷◌, ◌++◌, length, sum_by, if◌then◌else◌, slice_index_or, ◌^◌, Result, Ok, Err}
 use Rattle.lert_base.specs.declared.pieces.PieceFault.{PieceFault}
 use Rattle.lert_spec.specs.declared.piece.Piece.{Piece}
 use Rattle.lert_spec.specs.Table.{AreGiven, count_of}
@@ -78,6 +78,10 @@ IsAbove last tail = (before : ℕ) → last ≡ Some before → before < tail
 abbrev pub IsAsked : {P : Type 0} → Merging P → Type 0
 IsAsked merge = (k : ℕ) → k < length merge.streams → (seat_at merge.seats k).head ≡ Unread → ⊥
 
+-- each stream answered that no more comes, and all that it gave was given
+abbrev pub AreEnded : {P : Type 0} → Merging P → Type 0
+AreEnded merge = (k : ℕ) → k < length merge.streams → (seat_at merge.seats k).head ≡ Ended
+
 -- a tail below the limit of one of the streams
 pub record IsBelowOne {P : Type 0} (limit : P → ℕ) (streams : List P) (tail : ℕ) : Type 0 where
   pub stream : ℕ
@@ -145,6 +149,7 @@ pub record AllTold {P C : Type 0} (to_come : P → C → Option (List Piece)) (b
 -- no call changes how many streams there are, their limits, where they leave their format, or the room
 pub record AreSame {P C : Type 0} (limit : P → ℕ) (breaks : P → C → ℕ → Type 0) (before : C) (old : Merging P) (after : C) (new : Merging P) : Type 0 where
   pub streams : length new.streams ≡ length old.streams
+  pub seats : length new.seats ≡ length old.seats
   pub room : new.room ≡ old.room
   pub limits : (k : ℕ) (d : P) → k < length old.streams → limit (slice_index_or new.streams k d) ≡ limit (slice_index_or old.streams k d)
   pub same_breaks : (k : ℕ) (d : P) (at : ℕ) → k < length old.streams →
@@ -153,6 +158,7 @@ pub record AreSame {P C : Type 0} (limit : P → ℕ) (breaks : P → C → ℕ 
 -- the least tail that was read ahead is given
 pub record Gives {P : Type 0} (given : P → List Piece) (limit : P → ℕ) (old new : Merging P) (piece : Piece) : Type 0 where
   pub streams : new.streams ≡ old.streams
+  pub seats : length new.seats ≡ length old.seats
   pub room : new.room ≡ old.room
   pub last : new.last ≡ Some piece.tail
   pub above : IsAbove old.last piece.tail

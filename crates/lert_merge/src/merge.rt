@@ -1,10 +1,10 @@
 //! The merge.
 
-ghost use Rattle.std.specs.Prelude.{◌≡◌, ◌≢◌, ℕ, ◌+◌, ◌<◌, ◌≤◌, List, ◌++◌, ◌^◌, length, map, Some, None, Err, MatchOption, IfSome, IfOk, OnOk, OnErr, sum_by, slice_index_or};
+ghost use Rattle.std.specs.Prelude.{◌≡◌, ◌≢◌, ℕ, ◌+◌, ◌<◌, ◌≤◌, List, ◌++◌, ◌^◌, length, map, Some, None, Ok, Err, MatchOption, IfSome, IfOk, OnOk, OnErr, sum_by, slice_index_or};
 ghost use Rattle.lert_io.specs.Fault.{HasRisen};
 ghost use Rattle.lert_spec.specs.declared.piece.Piece.{Piece};
 ghost use Rattle.lert_merge.specs.Seats.{seat_at, fresh};
-ghost use Rattle.lert_merge.specs.Merging.{Merging, Tells, HasTaken, part_in, IsNext, AreShares, AreOver, IsAbove, IsBelowOne, IsNothingGiven, IsAsked, AllStay, AllTold, AreSame, Gives, Breaks, share_of, behind};
+ghost use Rattle.lert_merge.specs.Merging.{Merging, Tells, HasTaken, part_in, IsNext, AreShares, AreOver, IsAbove, IsBelowOne, IsNothingGiven, IsAsked, AreEnded, AllStay, AllTold, AreSame, Gives, Breaks, share_of, behind};
 ghost use Rattle.lert_merge.specs.declared.heads.Head.{Head};
 ghost use Rattle.lert_merge.specs.declared.heads.Head.TheVariants.{Unread};
 
@@ -45,6 +45,7 @@ impl<C: Faulty, P: Pieces<C>> Merge<C, P> {
         requires few { length streams.items ≤ 65535 }
         requires room { length streams.items ≤ heads.room }
         ensures streams { result.streams ≡ streams.items }
+        ensures len { length result.seats ≡ length streams.items }
         ensures fresh { (k : ℕ) → k < length streams.items → seat_at result.seats k ≡ fresh }
         ensures room { result.room ≡ heads.room }
         ensures last { result.last ≡ None }
@@ -88,6 +89,7 @@ impl<C: Faulty, P: Pieces<C>> Merge<C, P> {
             HasTaken P.given self.new k (pieces ++ part_in piece (share_of self.new k))) }
         ensures refused { OnErr result ((k : ℕ) (pieces : List Piece) → k < length self.old.streams →
             HasTaken P.given self.old k pieces → HasTaken P.given self.new k pieces) }
+        ensures over { result ≡ Ok None → AreEnded self.new }
         ensures nothing_given { IsNothingGiven result → (self.new.last ≡ self.old.last) ×
             ((k : ℕ) → share_of self.new k ≡ share_of self.old k) }
 
@@ -154,6 +156,7 @@ impl<C: Faulty, P: Pieces<C>> Merge<C, P> {
     fn give(&mut self) -> Option<Piece>
         requires { IsAsked self.old }
         ensures none { result ≡ None → self.new ≡ self.old }
+        ensures over { result ≡ None → AreEnded self.new }
         ensures some { IfSome result (Gives P.given P.limit self.old self.new) }
         ensures told { (ctx : C) (lists : List (List Piece)) → Tells P.to_come ctx self.old lists →
             MatchOption result (AreOver lists) (λ p. IsNext lists p × AreShares self.new lists p.tail ×

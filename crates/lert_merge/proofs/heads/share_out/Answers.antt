@@ -1,4 +1,4 @@
-use Rattle.std.proofs.Common.{◌≡◌, ◌<◌, ◌≤◌, ◌*◌, ◌^◌, length, arith}
+use Rattle.std.proofs.Common.{arith}
 use Rattle.lert_merge.proofs.ShareLemmas.{part_fits, shared_more}
 use Rattle.lert_merge.proofs.heads.share_out.Goals as goal
 

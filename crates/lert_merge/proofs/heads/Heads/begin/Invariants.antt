@@ -1,5 +1,4 @@
-use Rattle.std.proofs.Common.{◌≡◌, ℕ, ◌<◌, ◌≤◌, length, vec_capacity}
-use Rattle.lert_merge.specs.Seats.{seat_at, fresh}
+use Rattle.std.proofs.Common.{vec_capacity}
 use Rattle.lert_merge.proofs.BeginLemmas.{IsBegun}
 use Rattle.lert_merge.proofs.heads.Heads.begin.Given as goal
 

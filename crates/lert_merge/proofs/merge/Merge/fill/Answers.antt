@@ -1,4 +1,4 @@
-use Rattle.std.proofs.Common.{rules, ◌≡◌, ◌<◌, ℕ, length, arith}
+use Rattle.std.proofs.Common.{rules}
 use Rattle.lert_merge.proofs.FillLemmas.{filled_more, filled_breaks}
 use Rattle.lert_merge.proofs.merge.Merge.fill.Goals as goal
 

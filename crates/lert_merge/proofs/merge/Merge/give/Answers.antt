@@ -1,9 +1,6 @@
-use Rattle.std.proofs.Common.{rules, ◌≡◌, ◌≢◌, ◌<◌, ◌≤◌, ℕ, length, List, Some, None, MatchOption, IfSome, map, sym, subst, refl, ap}
-use Rattle.lert_spec.specs.declared.piece.Piece.{Piece}
-use Rattle.lert_merge.specs.declared.heads.Head.TheVariants.{Unread}
-use Rattle.lert_merge.specs.Seats.{seat_at, IsLeast}
-use Rattle.lert_merge.specs.Merging.{Merging, Tells, IsNext, AreShares, AreOver, Gives, behind, IsAsked}
-use Rattle.lert_merge.proofs.GiveLemmas.{IsSharedOut, shared_out, merging_after, small_seats, gives, gives_seen}
+use Rattle.std.proofs.Common.{rules, ◌≡◌, None, sym, subst}
+use Rattle.lert_merge.specs.Merging.{Merging, Tells, IsAsked}
+use Rattle.lert_merge.proofs.GiveLemmas.{IsSharedOut, merging_after, small_seats, gives, gives_seen, all_ended}
 use Rattle.lert_merge.proofs.ToldLemmas.{told_next, told_over, match_none}
 use Rattle.lert_merge.proofs.merge.Merge.give.Goals as goal
 
@@ -39,3 +36,6 @@ returns-in_err-tail-clause-told g c ctx lists tells =
     (told_over g.P.Pieces.to_come g.P.Pieces.given g.P.Pieces.limit ctx _ lists c.self.invariant
     (subst (λ (m : Merging _). IsAsked m) (sym c.self.view_is) c.requires) c.in_err-tail.ensures
     (subst (λ (m : Merging _). Tells g.P.Pieces.to_come ctx m lists) (sym c.self.view_is) tells))
+
+pub returns-in_err-tail-clause-over : goal.returns-in_err-tail-clause-over
+returns-in_err-tail-clause-over g c is = all_ended _ _ c.self.view_is c.self.invariant.len c.requires c.in_err-tail.ensures

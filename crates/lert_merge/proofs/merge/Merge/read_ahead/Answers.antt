@@ -1,4 +1,4 @@
-use Rattle.std.proofs.Common.{rules, ◌≡◌, ℕ, Err, refl, ap}
+use Rattle.std.proofs.Common.{rules, refl}
 use Rattle.lert_merge.proofs.ReadLemmas.{merging_refused, merging_put, all_told_put, breaks_at}
 use Rattle.lert_merge.proofs.merge.Merge.read_ahead.Goals as goal
 
