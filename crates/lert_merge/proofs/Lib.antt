@@ -1,0 +1,7 @@
+pub mod LeastLemmas
+pub mod ShareLemmas
+pub mod BeginLemmas
+pub mod FillLemmas
+pub mod ReadLemmas
+pub mod GiveLemmas
+pub mod ToldLemmas
