@@ -1,0 +1,70 @@
+-- The formats, computed on a journal of three keys 7 and on payloads that break them.
+use Rattle.std.proofs.Common.{◌≡◌, ℕ, List, [], ◌∷◌, ◌++◌, Some, None, refl}
+use Rattle.lert_base.specs.Packet.{Packet}
+use Rattle.lert_spec.specs.declared.numbers.Numbers.{Numbers}
+use Rattle.lert_spec.specs.Mix.{mix}
+use Rattle.lert_journal.specs.Header.{header, kept_in}
+use Rattle.lert_journal.specs.Payload.{payload_of, packet_in, left}
+
+-- settings with one cone, and with two
+abbrev alone : Numbers
+alone = record { threshold = 3; bins = 3; ratio = 2; base = 4; levels = 2; cone_bits = 0; room = 32; packet = 8 }
+
+abbrev halves : Numbers
+halves = record { threshold = 3; bins = 3; ratio = 2; base = 4; levels = 2; cone_bits = 1; room = 32; packet = 1 }
+
+abbrev sevens : Packet
+sevens = record { by = 0; trace = 0; keys = 7 ∷ 7 ∷ 7 ∷ [] }
+
+abbrev header_bytes : List ℕ
+header_bytes =
+    0x4c ∷ 0x45 ∷ 0x52 ∷ 0x54 ∷ 0x4a ∷ 1 ∷ 0 ∷ 0
+    ∷ 3 ∷ 0 ∷ 0 ∷ 0 ∷ 0x20 ∷ 0 ∷ 0 ∷ 0 ∷ 4 ∷ 0 ∷ 0 ∷ 0 ∷ 8 ∷ 0 ∷ 0 ∷ 0
+    ∷ 3 ∷ 2 ∷ 2 ∷ 0 ∷ 0 ∷ 0 ∷ 0 ∷ 0 ∷ []
+
+abbrev sevens_bytes : List ℕ
+sevens_bytes =
+    0 ∷ 0 ∷ 0 ∷ 0 ∷ 0 ∷ 0 ∷ 0 ∷ 0
+    ∷ 7 ∷ 0 ∷ 0 ∷ 0 ∷ 0 ∷ 0 ∷ 0 ∷ 0 ∷ 7 ∷ 0 ∷ 0 ∷ 0 ∷ 0 ∷ 0 ∷ 0 ∷ 0 ∷ 7 ∷ 0 ∷ 0 ∷ 0 ∷ 0 ∷ 0 ∷ 0 ∷ 0 ∷ []
+
+header_of_one_cone : header alone 0 ≡ header_bytes
+header_of_one_cone = refl
+
+header_read : kept_in header_bytes ≡ record { cone = 0; numbers = alone }
+header_read = refl
+
+payload_of_sevens : payload_of sevens ≡ sevens_bytes
+payload_of_sevens = refl
+
+packet_in_sevens : packet_in sevens_bytes ≡ sevens
+packet_in_sevens = refl
+
+whole : left alone 0 sevens_bytes ≡ None
+unfolding mix
+whole = refl
+
+-- no key, half a key, and five keys where four are the most
+no_key : left alone 0 (0 ∷ 0 ∷ 0 ∷ 0 ∷ 0 ∷ 0 ∷ 0 ∷ 0 ∷ []) ≡ Some 0
+no_key = refl
+
+half_a_key : left alone 0 (sevens_bytes ++ 0 ∷ 0 ∷ 0 ∷ 0 ∷ []) ≡ Some 0
+half_a_key = refl
+
+one_key_too_many : left halves 0 (payload_of (record { by = 0; trace = 0; keys = 0 ∷ 0 ∷ 0 ∷ 0 ∷ 0 ∷ [] })) ≡ Some 0
+one_key_too_many = refl
+
+-- the greatest numbers, and one more
+greatest : left halves 0 (payload_of (record { by = 63; trace = 1023; keys = 0 ∷ [] })) ≡ None
+unfolding mix
+greatest = refl
+
+by_too_great : left halves 0 (payload_of (record { by = 64; trace = 1024; keys = 0 ∷ [] })) ≡ Some 4
+by_too_great = refl
+
+trace_too_great : left halves 0 (payload_of (record { by = 63; trace = 1024; keys = 1 ∷ [] })) ≡ Some 8
+trace_too_great = refl
+
+-- key 1 is of the other cone
+key_of_the_other_cone : left halves 0 (payload_of (record { by = 0; trace = 0; keys = 0 ∷ 1 ∷ 1 ∷ [] })) ≡ Some 20
+unfolding mix
+key_of_the_other_cone = refl

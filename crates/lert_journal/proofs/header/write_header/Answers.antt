@@ -1,0 +1,16 @@
+-- Seven steps lay the header's fields one behind the other over the whole array.
+use Rattle.std.proofs.Common.{ap, subst, ◌∙◌, rules}
+use Rattle.lert_spec.specs.Limits.{IsInLimits}
+use Rattle.lert_journal.specs.Header.{header, kept_in}
+use Rattle.lert_journal.proofs.HeaderLaws.{laid, reads_back}
+use Rattle.lert_journal.proofs.header.write_header.Goals as goal
+
+pub returns-clause-text : goal.returns-clause-text
+returns-clause-text c =
+    laid 8 12 16 20 24 28 32 _ _ _ _ _ _ _ c.put.new.into c.put_number.new.into c.put_number-2.new.into c.put_number-3.new.into c.put_number-4.new.into c.put-2.new.into c.put_number-5.new.into
+    c.put.ensures c.put_number.ensures c.put_number-2.ensures c.put_number-3.ensures c.put_number-4.ensures c.put-2.ensures c.put_number-5.ensures (search rules)
+    ∙ ap (λ s. header s c.args.cone) c.numbers-numbers.ensures.value
+
+pub returns-clause-reads_back : goal.returns-clause-reads_back
+returns-clause-reads_back c =
+    ap kept_in (returns-clause-text c) ∙ reads_back c.args.settings.now c.args.cone (subst IsInLimits c.numbers-numbers.ensures.value c.numbers-numbers.ensures.valid.limits) c.ranges.cone.fits

@@ -1,0 +1,40 @@
+-- The header of a journal: eight bytes that begin it, the eight numbers of its settings, and its cone.
+use Rattle.std.specs.Prelude.{ℕ, List, [], ◌∷◌, ◌++◌, drop, slice_index}
+use Rattle.byteorder.specs.Endian.{little_number, little_bytes}
+use Rattle.lert_base.specs.declared.kept.Kept.{Kept}
+use Rattle.lert_spec.specs.declared.numbers.Numbers.{Numbers}
+
+-- the bytes that begin a journal: the letters LERTJ, and version 1
+abbrev pub magic : List ℕ
+magic = 76 ∷ 69 ∷ 82 ∷ 84 ∷ 74 ∷ 1 ∷ 0 ∷ 0 ∷ []
+
+-- the header of a cone's journal
+abbrev pub header : Numbers → ℕ → List ℕ
+header s cone =
+    magic
+    ++ little_bytes 4 s.threshold
+    ++ little_bytes 4 s.room
+    ++ little_bytes 4 s.base
+    ++ little_bytes 4 s.packet
+    ++ (s.bins ∷ s.ratio ∷ s.levels ∷ s.cone_bits ∷ [])
+    ++ little_bytes 4 cone
+
+-- the number in the four bytes from a place on
+abbrev pub number_at : List ℕ → ℕ → ℕ
+number_at bytes place = little_number 4 (drop place bytes)
+
+-- the cone and the numbers in the bytes of a header
+abbrev pub kept_in : List ℕ → Kept
+kept_in bytes = record {
+  cone = number_at bytes 28;
+  numbers = record {
+    threshold = number_at bytes 8;
+    bins = slice_index bytes 24;
+    ratio = slice_index bytes 25;
+    base = number_at bytes 16;
+    levels = slice_index bytes 26;
+    cone_bits = slice_index bytes 27;
+    room = number_at bytes 12;
+    packet = number_at bytes 20;
+  };
+}

@@ -1,0 +1,88 @@
+//! The header of a journal.
+
+ghost use Rattle.std.specs.Prelude.{◌≡◌, ◌≢◌, ◌+◌, ◌≤◌, ◌++◌, length, take, MatchOption};
+ghost use Rattle.byteorder.specs.Endian.{little_bytes};
+ghost use Rattle.lert_journal.specs.Header.{magic, header, number_at, kept_in};
+
+use byteorder::{ByteOrder, LittleEndian};
+use lert_base::{Kept, Numbers, Settings};
+
+#[cfg(test)]
+mod tests;
+
+/// How many bytes a header has. The first gate stands behind them.
+pub const HEADER_LEN: usize = 32;
+
+// The letters LERTJ, and version 1.
+const MAGIC: [u8; 8] = [0x4c, 0x45, 0x52, 0x54, 0x4a, 0x01, 0x00, 0x00];
+
+/// Writes the header of a cone's journal.
+pub fn write_header(settings: &Settings, cone: u32, into: &mut [u8; HEADER_LEN])
+    ensures text { into.new ≡ header settings.now cone }
+    ensures reads_back { kept_in into.new ≡ record { cone = cone; numbers = settings.now } }
+{
+    let numbers = settings.numbers();
+    put(into, 0, &MAGIC);
+    put_number(into, 8, numbers.threshold as u32);
+    put_number(into, 12, numbers.room as u32);
+    put_number(into, 16, numbers.base as u32);
+    put_number(into, 20, numbers.packet as u32);
+    let small = [
+        numbers.bins as u8,
+        numbers.ratio as u8,
+        numbers.levels as u8,
+        numbers.cone_bits as u8,
+    ];
+    put(into, 24, &small);
+    put_number(into, 28, cone);
+}
+
+/// The cone and the numbers in a header as they stand there, valid or not. None comes exactly where the
+/// bytes don't begin as a journal.
+pub fn read_header(bytes: &[u8; HEADER_LEN]) -> Option<Kept>
+    ensures { MatchOption result (take 8 bytes.now ≢ magic)
+        (λ kept. (take 8 bytes.now ≡ magic) × (kept ≡ kept_in bytes.now)) }
+{
+    if bytes[..8] != MAGIC[..] {
+        return None;
+    }
+    Some(Kept {
+        cone: number_at(bytes, 28),
+        numbers: Numbers {
+            threshold: u64::from(number_at(bytes, 8)),
+            bins: u64::from(bytes[24]),
+            ratio: u64::from(bytes[25]),
+            base: u64::from(number_at(bytes, 16)),
+            levels: u64::from(bytes[26]),
+            cone_bits: u64::from(bytes[27]),
+            room: u64::from(number_at(bytes, 12)),
+            packet: u64::from(number_at(bytes, 20)),
+        },
+    })
+}
+
+// Lays bytes over those from a place on; those before it stay.
+fn put(into: &mut [u8; HEADER_LEN], place: usize, bytes: &[u8])
+    requires { place + length bytes.now ≤ 32 }
+    ensures { take (place + length bytes.now) into.new ≡ take place into.old ++ bytes.now }
+{
+    into[place..place + bytes.len()].copy_from_slice(bytes);
+}
+
+// Lays a number's four bytes over those from a place on; those before it stay.
+fn put_number(into: &mut [u8; HEADER_LEN], place: usize, number: u32)
+    requires { place + 4 ≤ 32 }
+    ensures { take (place + 4) into.new ≡ take place into.old ++ little_bytes 4 number }
+{
+    let mut bytes = [0; 4];
+    LittleEndian::write_u32(&mut bytes, number);
+    put(into, place, &bytes);
+}
+
+// The number in the four bytes from a place on.
+fn number_at(bytes: &[u8; HEADER_LEN], place: usize) -> u32
+    requires { place + 4 ≤ 32 }
+    ensures { result ≡ number_at bytes.now place }
+{
+    LittleEndian::read_u32(&bytes[place..])
+}
