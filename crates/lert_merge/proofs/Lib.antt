@@ -5,3 +5,4 @@ pub mod FillLemmas
 pub mod ReadLemmas
 pub mod GiveLemmas
 pub mod ToldLemmas
+pub mod MergedLemmas
