@@ -1,2 +1,3 @@
 mod Examples
 pub mod HeaderLaws
+pub mod PayloadLaws
