@@ -1,3 +1,4 @@
 mod Examples
 pub mod HeaderLaws
+pub mod PayloadBack
 pub mod PayloadLaws
