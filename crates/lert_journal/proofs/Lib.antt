@@ -1,2 +1,4 @@
 mod Examples
 pub mod HeaderLaws
+pub mod PayloadBack
+pub mod PayloadLaws

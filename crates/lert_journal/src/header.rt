@@ -1,9 +1,9 @@
 //! The header of a journal.
 
-ghost use Rattle.std.specs.Prelude.{◌≡◌, ◌≢◌, ◌+◌, ◌≤◌, ◌++◌, length, take, MatchOption};
-ghost use Rattle.byteorder.specs.Endian.{little_bytes};
+ghost use Rattle.std.specs.Prelude.{◌≡◌, ◌≢◌, ◌+◌, ◌≤◌, take, MatchOption};
 ghost use Rattle.lert_journal.specs.Header.{magic, header, number_at, kept_in};
 
+use crate::lay::{put, put_number};
 use byteorder::{ByteOrder, LittleEndian};
 use lert_base::{Kept, Numbers, Settings};
 
@@ -59,24 +59,6 @@ pub fn read_header(bytes: &[u8; HEADER_LEN]) -> Option<Kept>
             packet: u64::from(number_at(bytes, 20)),
         },
     })
-}
-
-// Lays bytes over those from a place on; those before it stay.
-fn put(into: &mut [u8; HEADER_LEN], place: usize, bytes: &[u8])
-    requires { place + length bytes.now ≤ 32 }
-    ensures { take (place + length bytes.now) into.new ≡ take place into.old ++ bytes.now }
-{
-    into[place..place + bytes.len()].copy_from_slice(bytes);
-}
-
-// Lays a number's four bytes over those from a place on; those before it stay.
-fn put_number(into: &mut [u8; HEADER_LEN], place: usize, number: u32)
-    requires { place + 4 ≤ 32 }
-    ensures { take (place + 4) into.new ≡ take place into.old ++ little_bytes 4 number }
-{
-    let mut bytes = [0; 4];
-    LittleEndian::write_u32(&mut bytes, number);
-    put(into, place, &bytes);
 }
 
 // The number in the four bytes from a place on.

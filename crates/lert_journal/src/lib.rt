@@ -1,10 +1,14 @@
 //! The journal of a cone: which packets it took, in their order.
 //!
-//! The one contract is that of the header: what is written reads back as the same cone and the same
-//! eight numbers, and bytes that don't begin as a journal are none. The payload of a packet, and the
-//! place at which a payload first leaves the format, are defined here and not read or written yet.
+//! The one contract is that of `append_entry`: in every image of each of its moments the journal has
+//! the packets from before, or those and the new one, and after Ok it has the new one. Its header reads
+//! back as the cone and the eight numbers that it was written from. The place at which a payload first
+//! leaves the format is defined here; payloads are not read yet.
 #![tactic(auto)]
 
+mod entries;
 mod header;
+mod lay;
 
+pub use entries::append_entry;
 pub use header::{HEADER_LEN, read_header, write_header};

@@ -1,0 +1,91 @@
+//! The entries of a journal.
+
+ghost use Rattle.std.specs.Prelude.{◌≡◌, ℕ, ◌+◌, ◌*◌, ◌<◌, ◌≤◌, ◌^◌, List, [], ◌∷◌, ◌++◌, length, take, map, flat_map, OnOk, OnErr};
+ghost use Rattle.byteorder.specs.Endian.{little_bytes};
+ghost use Rattle.lert_base.specs.Entries.{packet_of};
+ghost use Rattle.lert_base.specs.Packet.{Packet};
+ghost use Rattle.lert_bay.specs.Files.{IfTold, Turns};
+ghost use Rattle.lert_bay.specs.Images.{Lasts};
+ghost use Rattle.lert_gatelog.specs.Gated.{appendix, next_gate, IsClosed};
+ghost use Rattle.lert_gatelog.specs.Kept.{InEach, KeepsOthers, IsWhollySettled, OthersStay};
+ghost use Rattle.lert_io.specs.Fault.{HasCause};
+ghost use Rattle.lert_journal.specs.Payload.{payload_of};
+ghost use Rattle.lert_journal.specs.Journal.{HasPackets, HasPacketsOrOneMore};
+
+use crate::lay::{put, put_key, put_number};
+use lert_base::Entry;
+use lert_bay::Bay;
+use lert_gatelog::GateLog;
+use lert_io::Failed;
+
+#[cfg(test)]
+mod tests;
+
+/// Appends the packet of an entry. `log` is a journal's, whose greatest payload has 8 + 32P bytes where a
+/// packet has at most 4P keys, and `buffer` holds five bytes more; any bytes are in it afterwards. After
+/// Ok the log stands at the closed gate behind the record, after `Failed` where it stood. Takes no memory.
+pub fn append_entry<B: Bay>(
+    log: &mut GateLog,
+    bay: &mut B,
+    entry: &Entry,
+    buffer: &mut [u8],
+) -> Result<(), Failed>
+    requires some { 0 < length entry.now.keys.keys }
+    requires few { 8 + 8 * length entry.now.keys.keys ≤ log.old.most }
+    requires counted { 8 + 8 * length entry.now.keys.keys < 2 ^ 32 }
+    requires room { log.old.most + 5 ≤ length buffer.old }
+    requires reach { log.old.gate + 14 + 8 * length entry.now.keys.keys < 2 ^ 63 }
+    requires closed { IfTold (B.files bay.old) (λ _. InEach (B.leaves bay.old) log.old.file (λ bytes. IsClosed bytes log.old.gate)) }
+    ensures moved { OnOk result (log.new ≡ record log.old { gate = next_gate log.old.gate (payload_of (packet_of entry.now)) }) }
+    ensures stayed { OnErr result (log.new ≡ log.old) }
+
+    // In every image of each moment of the call the journal has the packets from before, or those and this one.
+    ensures each_moment { IfTold (B.files bay.old) (λ _. (first : ℕ) (packets : List Packet) →
+        InEach (B.leaves bay.old) log.old.file (λ bytes. HasPackets log.old.most bytes first packets log.old.gate) →
+        InEach (B.left_since bay.new (B.moment bay.old)) log.old.file (HasPacketsOrOneMore log.old.most first packets log.old.gate (packet_of entry.now))) }
+
+    // After Ok it has those and this one.
+    ensures appended { IfTold (B.files bay.old) (λ _. (first : ℕ) (packets : List Packet) →
+        InEach (B.leaves bay.old) log.old.file (λ bytes. HasPackets log.old.most bytes first packets log.old.gate) →
+        OnOk result (InEach (B.leaves bay.new) log.old.file (λ bytes. HasPackets log.old.most bytes first (packets ++ packet_of entry.now ∷ []) log.new.gate))) }
+    ensures closed { IfTold (B.files bay.old) (λ _. OnOk result (InEach (B.leaves bay.new) log.old.file (λ bytes. IsClosed bytes log.new.gate))) }
+    ensures settled { OnOk result (IfTold (B.files bay.new) (λ seen. IsWhollySettled (B.leaves bay.new) seen log.old.file)) }
+    ensures others { IfTold (B.files bay.old) (λ seen. KeepsOthers (B.leaves bay.old) (B.left_since bay.new (B.moment bay.old)) seen log.old.file) }
+    ensures seen { Turns (OthersStay log.old.file) (B.files bay.old) (B.files bay.new) }
+    ensures time { Lasts (B.moment bay.old) (B.moment bay.new) (B.left_since bay.old) (B.left_since bay.new) }
+    ensures cause { HasCause (B.faults bay.old) (B.faults bay.new) result }
+    ensures mark { B.mark bay.new ≡ B.mark bay.old }
+{
+    let len = write_text(entry, buffer);
+    log.append(bay, &buffer[..len])
+}
+
+// Writes to the front what a log appends for an entry: the payload behind its length, and one byte 0.
+// Answers how many bytes these are.
+fn write_text(entry: &Entry, into: &mut [u8]) -> usize
+    requires room { 13 + 8 * length entry.now.keys.keys ≤ length into.old }
+    requires few { 8 + 8 * length entry.now.keys.keys < 2 ^ 32 }
+    ensures text { take result into.new ≡ appendix (payload_of (packet_of entry.now)) }
+    ensures counted { result ≡ 13 + 8 * length entry.now.keys.keys }
+{
+    let keys = entry.keys.as_slice();
+    let payload_len = 8 + 8 * keys.len();
+    put_number(into, 0, payload_len as u32);
+    put_number(into, 4, entry.by);
+    put_number(into, 8, entry.trace);
+    put_keys(into, keys);
+    put(into, 4 + payload_len, &[0]);
+    payload_len + 5
+}
+
+// Lays the bytes of keys behind the first twelve.
+fn put_keys(into: &mut [u8], keys: &[u64])
+    requires { 12 + 8 * length keys.now ≤ length into.old }
+    ensures { take (12 + 8 * length keys.now) into.new ≡ take 12 into.old ++ flat_map (little_bytes 8) keys.now }
+{
+    let mut place = 12;
+    for key in keys {
+        put_key(into, place, *key);
+        place += 8;
+    }
+}
