@@ -1,24 +1,24 @@
 -- One stream after another is asked.
 use Rattle.std.proofs.Common.{◌≡◌, ◌≢◌, ℕ, ◌+◌, ◌<◌, ◌≤◌, Option, Some, None, List, ◌++◌, length, get_or, arith, sym, ap, ◌∙◌, refl, subst, inl, inr, ◌⊎◌, below_more}
+use Rattle.std.proofs.lemmas.Bool.{cases_eq}
 use Rattle.lert_spec.specs.declared.piece.Piece.{Piece}
 use Rattle.lert_merge.specs.declared.heads.Head.TheVariants.{Unread}
 use Rattle.lert_merge.specs.Seats.{seat_at, ahead}
-use Rattle.lert_merge.specs.Merging.{Merging, AllStay, AllTold, Breaks}
+use Rattle.lert_merge.specs.Merging.{Merging, IsToAsk, AllStay, AllTold, Breaks}
 
--- the first `count` streams were asked
+-- some streams were asked
 pub record IsFilled {P C : Type 0} (to_come : P → C → Option (List Piece)) (given : P → List Piece) (limit : P → ℕ) (breaks : P → C → ℕ → Type 0)
-    (keeps : C → C → Type 0) (faults mark : C → ℕ) (before : C) (old : Merging P) (after : C) (new : Merging P) (count : ℕ) : Type 0 where
+    (keeps : C → C → Type 0) (faults mark : C → ℕ) (before : C) (old : Merging P) (after : C) (new : Merging P) : Type 0 where
   pub stay : AllStay to_come given limit breaks before old after new
   pub told : AllTold to_come before old after new
-  pub read : (k : ℕ) → k < count → (seat_at new.seats k).head ≢ Unread
-  pub rest : (k : ℕ) → count ≤ k → seat_at new.seats k ≡ seat_at old.seats k
+  pub rest : (k : ℕ) → (seat_at new.seats k).head ≡ Unread → seat_at new.seats k ≡ seat_at old.seats k
   pub faults_rise : faults before ≤ faults after
   pub same_mark : mark after ≡ mark before
   pub kept : keeps before after
 
 pub filled_none : {P C : Type 0} (to_come : P → C → Option (List Piece)) (given : P → List Piece) (limit : P → ℕ) (breaks : P → C → ℕ → Type 0)
     (keeps : C → C → Type 0) (faults mark : C → ℕ) (ctx : C) (m : Merging P) → ((c : C) → keeps c c) →
-    IsFilled to_come given limit breaks keeps faults mark ctx m ctx m 0
+    IsFilled to_come given limit breaks keeps faults mark ctx m ctx m
 filled_none to_come given limit breaks keeps faults mark ctx m same = record {
   stay = record {
     streams = refl;
@@ -29,8 +29,7 @@ filled_none to_come given limit breaks keeps faults mark ctx m same = record {
     each = λ k d under. record { taken = λ pieces is. is; untold = λ is. is; limits = refl; same_breaks = λ at. ((λ b. b), (λ b. b)) };
   };
   told = record { each = λ k d pieces under is. is };
-  read = λ k under. absurd (omega arith);
-  rest = λ k under. refl;
+  rest = λ k unread. refl;
   faults_rise = omega arith;
   same_mark = refl;
   kept = same ctx;
@@ -56,20 +55,21 @@ stay_on to_come given limit breaks a b c x y z first then = record {
 
 pub filled_more : {P C : Type 0} (to_come : P → C → Option (List Piece)) (given : P → List Piece) (limit : P → ℕ) (breaks : P → C → ℕ → Type 0)
     (keeps : C → C → Type 0) (faults mark : C → ℕ) (a b c : C) (x y z : Merging P) (i : ℕ) →
-    IsFilled to_come given limit breaks keeps faults mark a x b y i →
+    IsFilled to_come given limit breaks keeps faults mark a x b y →
     AllStay to_come given limit breaks b y c z → AllTold to_come b y c z → (seat_at z.seats i).head ≢ Unread →
     ((k : ℕ) → k ≢ i → seat_at z.seats k ≡ seat_at y.seats k) → faults b ≤ faults c → mark c ≡ mark b → keeps b c →
     ((a b c : C) → keeps a b → keeps b c → keeps a c) →
-    IsFilled to_come given limit breaks keeps faults mark a x c z (i + 1)
+    IsFilled to_come given limit breaks keeps faults mark a x c z
 filled_more to_come given limit breaks keeps faults mark a b c x y z i is stays told read others rise same kept on = record {
   stay = stay_on to_come given limit breaks a b c x y z is.stay stays;
   told = record {
     each = λ k d pieces under come. let more : length y.streams ≡ length x.streams = is.stay.streams in
         told.each k d pieces (omega arith) (is.told.each k d pieces under come);
   };
-  read = λ k under. below_more (λ k. (seat_at z.seats k).head ≢ Unread) i
-      (λ k under. let ne : k ≢ i = omega arith in subst (λ s. s.head ≢ Unread) (sym (others k ne)) (is.read k under)) read k under;
-  rest = λ k over. let ne : k ≢ i = omega arith in others k ne ∙ is.rest k (omega arith);
+  rest = λ k unread. elim (cases_eq k i) [
+    | inl here ↦ absurd (read (ap (λ n. (seat_at z.seats n).head) (sym here) ∙ unread))
+    | inr ne ↦ others k ne ∙ is.rest k (ap (λ s. s.head) (sym (others k ne)) ∙ unread)
+  ];
   faults_rise = let one : faults a ≤ faults b = is.faults_rise in omega arith;
   same_mark = same ∙ is.same_mark;
   kept = on a b c is.kept kept;
@@ -82,7 +82,7 @@ none_or (Some x) = inr (x, refl)
 -- a stream that leaves its format when it is asked wasn't told, and left it there before too
 pub filled_breaks : {P C : Type 0} (to_come : P → C → Option (List Piece)) (given : P → List Piece) (limit : P → ℕ) (breaks : P → C → ℕ → Type 0)
     (keeps : C → C → Type 0) (faults mark : C → ℕ) (a b : C) (x y : Merging P) (i at : ℕ) →
-    IsFilled to_come given limit breaks keeps faults mark a x b y i → i < length x.streams → (seat_at y.seats i).head ≡ Unread →
+    IsFilled to_come given limit breaks keeps faults mark a x b y → i < length x.streams → (seat_at y.seats i).head ≡ Unread →
     ((d : P) → (to_come (get_or y.streams i d) b ≡ None) × breaks (get_or y.streams i d) b at) →
     Breaks to_come breaks a x.streams at
 filled_breaks {P} to_come given limit breaks keeps faults mark a b x y i at is within unread both = record {
@@ -90,7 +90,7 @@ filled_breaks {P} to_come given limit breaks keeps faults mark a b x y i at is w
   within = within;
   untold = λ d. elim (none_or (to_come (get_or x.streams i d) a)) [
     | inl none ↦ none
-    | inr some ↦ let seat : seat_at y.seats i ≡ seat_at x.seats i = is.rest i (omega arith) in
+    | inr some ↦ let seat : seat_at y.seats i ≡ seat_at x.seats i = is.rest i unread in
         let was : (seat_at x.seats i).head ≡ Unread = sym (ap (λ s. s.head) seat) ∙ unread in
         let come = is.told.each i d (ahead (seat_at x.seats i).head ++ some.0) within
         (record { rest = some.0; told = some.1; is = refl; ended = λ ended. absurd (cc) }) in
@@ -98,3 +98,14 @@ filled_breaks {P} to_come given limit breaks keeps faults mark a b x y i at is w
   ];
   at_it = λ d. ((is.stay.each i d within).same_breaks at).0 (both d).1;
 }
+
+-- the same, where the merge that was asked is seen as another
+pub seen_breaks : {P C : Type 0} (to_come : P → C → Option (List Piece)) (given : P → List Piece) (limit : P → ℕ) (breaks : P → C → ℕ → Type 0)
+    (keeps : C → C → Type 0) (faults mark : C → ℕ) (a b : C) (x y seen : Merging P) (i at : ℕ) →
+    IsFilled to_come given limit breaks keeps faults mark a x b y → seen ≡ y → IsToAsk y i →
+    ((d : P) → (to_come (get_or seen.streams i d) b ≡ None) × breaks (get_or seen.streams i d) b at) →
+    Breaks to_come breaks a x.streams at
+seen_breaks {P} to_come given limit breaks keeps faults mark a b x y seen i at is same asked both =
+    let len : length y.streams ≡ length x.streams = is.stay.streams in let within : i < length y.streams = asked.within in
+    filled_breaks to_come given limit breaks keeps faults mark a b x y i at is (omega arith) asked.unread
+    (subst (λ (m : Merging P). (d : P) → (to_come (get_or m.streams i d) b ≡ None) × breaks (get_or m.streams i d) b at) same both)

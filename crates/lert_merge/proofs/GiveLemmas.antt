@@ -8,7 +8,7 @@ use Rattle.lert_spec.specs.Table.{AscendsFrom, count_of}
 use Rattle.lert_merge.specs.declared.heads.Head.{Head}
 use Rattle.lert_merge.specs.declared.heads.Head.TheVariants.{Unread, Read, Ended}
 use Rattle.lert_merge.specs.declared.heads.Seat.{Seat}
-use Rattle.lert_merge.specs.Seats.{Seats, seat_at, fresh, ahead, shared, shared_head, IsLeast, IsNoneRead, AreSmall}
+use Rattle.lert_merge.specs.Seats.{Seats, seat_at, fresh, ahead, shared, shared_head, IsLeast, IsNoneRead, AreAsked, AreSmall}
 use Rattle.lert_merge.specs.Merging.{Merging, IsMerging, IsSeated, IsAhead, Gives, part_of, behind, IsAsked, AreEnded}
 
 -- a list that ends a table
@@ -152,6 +152,10 @@ gives given limit m after tail count is read least out =
       taken = λ k pieces under was d. subst (λ (x : Seat). given (get_or m.streams k d) ≡ (pieces ++ part_of tail x.share) ++ ahead x.head) (sym (out.seats k (omega arith)))
           (taken_after tail (limit (get_or m.streams k d)) (given (get_or m.streams k d)) m.last (seat_at m.seats k).head pieces (read k under) (is.seated k d under) (was d));
     }
+
+-- no stream of a merge that is seen as another is to be asked
+pub asked_seats : {P : Type 0} (m before : Merging P) → m ≡ before → length m.seats ≡ length m.streams → IsAsked before → AreAsked m.seats
+asked_seats {P} m before seen len asked k under = subst (λ (b : Merging P). IsAsked b) (sym seen) asked k (omega arith)
 
 -- the same of a merge that is seen as another
 pub gives_seen : {P : Type 0} (given : P → List Piece) (limit : P → ℕ) (m before : Merging P) (after : Seats) (tail count : ℕ) → m ≡ before →

@@ -1,6 +1,6 @@
-pub mod LeastLemmas
 pub mod ShareLemmas
 pub mod BeginLemmas
+pub mod DrawLemmas
 pub mod FillLemmas
 pub mod ReadLemmas
 pub mod GiveLemmas

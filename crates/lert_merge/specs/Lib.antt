@@ -1,3 +1,4 @@
+pub mod Draws
 pub mod Seats
 pub mod Merging
 pub mod TwoStreams

@@ -78,6 +78,11 @@ IsAbove last tail = (before : ℕ) → last ≡ Some before → before < tail
 abbrev pub IsAsked : {P : Type 0} → Merging P → Type 0
 IsAsked merge = (k : ℕ) → k < length merge.streams → (seat_at merge.seats k).head ≡ Unread → ⊥
 
+-- a stream that is to be asked
+pub record IsToAsk {P : Type 0} (merge : Merging P) (stream : ℕ) : Type 0 where
+  pub within : stream < length merge.streams
+  pub unread : (seat_at merge.seats stream).head ≡ Unread
+
 -- each stream answered that no more comes, and all that it gave was given
 abbrev pub AreEnded : {P : Type 0} → Merging P → Type 0
 AreEnded merge = (k : ℕ) → k < length merge.streams → (seat_at merge.seats k).head ≡ Ended

@@ -8,6 +8,7 @@
 
 mod heads;
 mod merge;
+mod tournament;
 #[cfg(test)]
 mod tests;
 

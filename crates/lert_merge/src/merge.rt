@@ -3,8 +3,8 @@
 ghost use Rattle.std.specs.Prelude.{◌≡◌, ◌≢◌, ℕ, ◌+◌, ◌<◌, ◌≤◌, List, ◌++◌, ◌^◌, length, map, Some, None, Ok, Err, MatchOption, IfSome, IfOk, OnOk, OnErr, sum_by, slice_index_or};
 ghost use Rattle.lert_io.specs.Fault.{HasRisen};
 ghost use Rattle.lert_spec.specs.declared.piece.Piece.{Piece};
-ghost use Rattle.lert_merge.specs.Seats.{seat_at, fresh};
-ghost use Rattle.lert_merge.specs.Merging.{Merging, Tells, HasTaken, part_in, IsNext, AreShares, AreOver, IsAbove, IsBelowOne, IsNothingGiven, IsAsked, AreEnded, AllStay, AllTold, AreSame, Gives, Breaks, share_of, behind};
+ghost use Rattle.lert_merge.specs.Seats.{seat_at, fresh, unread_in};
+ghost use Rattle.lert_merge.specs.Merging.{Merging, Tells, HasTaken, part_in, IsNext, AreShares, AreOver, IsAbove, IsBelowOne, IsNothingGiven, IsAsked, IsToAsk, AreEnded, AllStay, AllTold, AreSame, Gives, Breaks, share_of, behind};
 ghost use Rattle.lert_merge.specs.declared.heads.Head.{Head};
 ghost use Rattle.lert_merge.specs.declared.heads.Head.TheVariants.{Unread};
 
@@ -57,12 +57,6 @@ impl<C: Faulty, P: Pieces<C>> Merge<C, P> {
             last: None,
             of: PhantomData,
         }
-    }
-
-    fn len(&self) -> usize
-        ensures { result ≡ length self.now.streams }
-    {
-        self.streams.len()
     }
 
     /// The least tail still to come, with the sum of its counts. None exactly where no stream has more.
@@ -120,22 +114,30 @@ impl<C: Faulty, P: Pieces<C>> Merge<C, P> {
         ensures mark { C.mark ctx.new ≡ C.mark ctx.old }
         ensures keeps { P.keeps ctx.old ctx.new }
     {
-        for stream in 0..self.len() {
+        while let Some(stream) = self.to_ask() {
             self.read_ahead(stream, ctx)?;
         }
         Ok(())
     }
 
-    // Reads a piece of a stream ahead, if none was.
+    // A stream that no piece was read ahead of, though it didn't end.
+    fn to_ask(&mut self) -> Option<usize>
+        ensures same { self.new ≡ self.old }
+        ensures found { MatchOption result (IsAsked self.old) (IsToAsk self.old) }
+    {
+        self.heads.to_ask()
+    }
+
+    // Reads a piece of a stream ahead.
     fn read_ahead(&mut self, stream: usize, ctx: &mut C) -> Result<(), PieceFault>
-        requires { stream < length self.old.streams }
+        requires { IsToAsk self.old stream }
         ensures stay { AllStay P.to_come P.given P.limit P.breaks ctx.old self.old ctx.new self.new }
         ensures told { OnOk result (AllTold P.to_come ctx.old self.old ctx.new self.new) }
         ensures read { OnOk result ((seat_at self.new.seats stream).head ≢ Unread) }
         ensures others { (k : ℕ) → k ≢ stream → seat_at self.new.seats k ≡ seat_at self.old.seats k }
+        ensures fewer { OnOk result (unread_in self.new.seats < unread_in self.old.seats) }
 
         ensures failed { result ≡ Err PieceFault.Failed → HasRisen (C.faults ctx.old) (C.faults ctx.new) }
-        ensures asked { OnErr result ((seat_at self.old.seats stream).head ≡ Unread) }
         ensures malformed { (at : ℕ) (d : P) → result ≡ Err (PieceFault.Malformed at) →
             (P.to_come (slice_index_or self.old.streams stream d) ctx.old ≡ None) ×
             P.breaks (slice_index_or self.old.streams stream d) ctx.old at }
@@ -144,9 +146,6 @@ impl<C: Faulty, P: Pieces<C>> Merge<C, P> {
         ensures mark { C.mark ctx.new ≡ C.mark ctx.old }
         ensures keeps { P.keeps ctx.old ctx.new }
     {
-        if !self.heads.is_unread(stream) {
-            return Ok(());
-        }
         let piece = self.streams[stream].next(ctx)?;
         self.heads.put(stream, piece);
         Ok(())

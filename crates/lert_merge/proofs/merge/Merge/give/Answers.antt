@@ -1,11 +1,14 @@
 use Rattle.std.proofs.Common.{rules, ◌≡◌, None, sym, subst}
 use Rattle.lert_merge.specs.Merging.{Merging, Tells, IsAsked}
-use Rattle.lert_merge.proofs.GiveLemmas.{IsSharedOut, merging_after, small_seats, gives, gives_seen, all_ended}
+use Rattle.lert_merge.proofs.GiveLemmas.{IsSharedOut, merging_after, small_seats, gives, gives_seen, all_ended, asked_seats}
 use Rattle.lert_merge.proofs.ToldLemmas.{told_next, told_over, match_none}
 use Rattle.lert_merge.proofs.merge.Merge.give.Goals as goal
 
 pub share_out-count-requires-clause-small : goal.share_out-count-requires-clause-small
 share_out-count-requires-clause-small g c = small_seats g.P.Pieces.given g.P.Pieces.limit _ c.self.invariant
+
+pub share_out-count-requires-clause-asked : goal.share_out-count-requires-clause-asked
+share_out-count-requires-clause-asked g c = asked_seats _ _ c.self.view_is c.self.invariant.len c.requires
 
 pub invariant_of-self : goal.invariant_of-self
 invariant_of-self g c = let out = c.share_out-count.ensures in

@@ -1,0 +1,5 @@
+use Rattle.lert_merge.proofs.ShareLemmas.{IsSilencing}
+use Rattle.lert_merge.proofs.heads.clear_shares.Given as goal
+
+abbrev pub invariant-loop-stream : goal.invariant-loop-stream
+invariant-loop-stream l = IsSilencing l.fn.seats l.seats l.given l.stream-index
