@@ -30,7 +30,7 @@ begun_is_seating seats given tournament count streams room seat_room given_room 
       same_room = is.same_room;
       entered = record {
         len = omega arith;
-        each = λ k under. is.out k (omega arith) ∙ sym (ap (λ (s : Seat). entrant_of k s.head) (is.fresh_seats k (omega arith)));
+        each = λ k under read. is.out k (omega arith) ∙ sym (ap (λ (s : Seat). entrant_of k s.head) (is.fresh_seats k (omega arith)));
       };
       due = record {
         streams = λ j under. let at : get_or given j 0 ≡ j = is.due j (omega arith) in omega arith;

@@ -3,7 +3,7 @@ use Rattle.std.proofs.Common.{◌≡◌, ◌≢◌, ℕ, zero, suc, ◌+◌, ◌
 use Rattle.std.proofs.lemmas.Bool.{cases_eq, cases_lt}
 use Rattle.std.proofs.lemmas.List.{get_or_default, get_or-drop, drop-set-lt, drop-set-add}
 use Rattle.lert_merge.specs.declared.tournament.Entrant.{Entrant}
-use Rattle.lert_merge.specs.Draws.{nobody, entrant_at, Beats, Wins, AreRivals, IsDrawn, IsKept, AreOut, IsFirst, HasNoTail}
+use Rattle.lert_merge.specs.Draws.{nobody, entrant_at, Beats, Wins, AreRivals, IsDrawn, IsKept, AreOut, IsFirst, AreOthersAbove}
 
 true_or_false : (b : Bool) → (b ≡ true) ⊎ (b ≡ false)
 true_or_false true = inl refl
@@ -237,3 +237,112 @@ begins_out places streams room capacity len out few in_room reserved = record {
   in_room = in_room;
   reserved = reserved;
 }
+
+-- the place that the winner of `place` has after so many matches
+halved : ℕ → ℕ → ℕ
+halved zero place = place
+halved (suc matches) place = halved matches place / 2
+
+halved_le : (matches place : ℕ) → halved matches place ≤ place
+unfolding halved
+halved_le zero place = omega arith
+halved_le (suc matches) place = let less = halved_le matches place in omega arith
+
+halved_half : (matches place : ℕ) → halved matches (place / 2) ≡ halved matches place / 2
+unfolding halved
+halved_half zero place = refl
+halved_half (suc matches) place = ap (λ n. n / 2) (halved_half matches place)
+
+-- `place` comes to `above` by some matches
+record IsUnder (above place : ℕ) : Type 0 where
+  matches : ℕ
+  comes : halved matches place ≡ above
+
+all_under_one : (most place : ℕ) → place ≤ most → 1 ≤ place → IsUnder 1 place
+unfolding halved
+all_under_one zero place low some = absurd (omega arith)
+all_under_one (suc most) place low some = elim (cases_eq place 1) [
+  | inl one ↦ record { matches = 0; comes = one }
+  | inr ne ↦ let half = all_under_one most (place / 2) (omega arith) (omega arith) in
+      record { matches = suc half.matches; comes = sym (halved_half half.matches place) ∙ half.comes }
+]
+
+beats_under : (places : List Entrant) (streams : ℕ) → IsDrawn places streams → (matches above place : ℕ) → halved matches place ≡ above → 1 ≤ above → place < streams + streams →
+    Beats (entrant_at places above) (entrant_at places place)
+unfolding halved
+beats_under places streams is zero above place comes some within = subst (λ n. Beats (entrant_at places n) (entrant_at places place)) comes (beats_itself (entrant_at places place))
+beats_under places streams is (suc matches) above place comes some within =
+    let low = halved_le matches place in
+    let next = halved matches place in
+    let below = beats_under places streams is matches next place refl (omega arith) within in
+    let won = is.played above some (omega arith) in
+    elim (cases_eq next (2 * above)) [
+      | inl even ↦ beats_on (entrant_at places above) (entrant_at places next) (entrant_at places place)
+          (subst (λ n. Beats (entrant_at places above) (entrant_at places n)) (sym even) won.first) below
+      | inr odd ↦ beats_on (entrant_at places above) (entrant_at places next) (entrant_at places place)
+          (subst (λ n. Beats (entrant_at places above) (entrant_at places n)) (let e : 2 * above + 1 ≡ next = omega arith in e) won.second) below
+    ]
+
+-- each other stream that comes to `above` has a greater tail
+record IsAloneUnder (places : List Entrant) (streams stream tail above : ℕ) : Type 0 where
+  others : (place : ℕ) → streams ≤ place → place < streams + streams → place ≢ streams + stream → IsUnder above place → (entrant_at places place).is_out ≡ false →
+      tail < (entrant_at places place).tail
+
+-- what stands while the matches of a stream are looked at
+pub record IsAloneTo (places : List Entrant) (streams stream tail place : ℕ) : Type 0 where
+  pub within : place < streams + streams
+  pub some : 1 ≤ place
+  alone : IsAloneUnder places streams stream tail place
+
+alone_itself : (streams stream place matches : ℕ) → streams ≤ place → place < streams + streams → place ≢ streams + stream → halved matches place ≡ streams + stream → ⊥
+unfolding halved
+alone_itself streams stream place zero high low ne comes = ne comes
+alone_itself streams stream place (suc matches) high low ne comes = let less = halved_le matches place in omega arith
+
+pub alone_begins : (places : List Entrant) (streams stream tail : ℕ) → stream < streams → IsAloneTo places streams stream tail (streams + stream)
+alone_begins places streams stream tail within = record {
+  within = omega arith;
+  some = omega arith;
+  alone = record { others = λ place high low ne under takes. absurd (alone_itself streams stream place under.matches high low ne under.comes) };
+}
+
+alone_under : (places : List Entrant) (streams stream tail above place rival other matches : ℕ) → IsDrawn places streams → IsAloneUnder places streams stream tail place → AreRivals above place rival →
+    1 ≤ above → above < streams → ((entrant_at places rival).is_out ≡ false → tail < (entrant_at places rival).tail) →
+    streams ≤ other → other < streams + streams → other ≢ streams + stream → halved matches other ≡ above → (entrant_at places other).is_out ≡ false →
+    tail < (entrant_at places other).tail
+unfolding halved
+alone_under places streams stream tail above place rival other zero is alone are some low greater high within ne comes takes = absurd (omega arith)
+alone_under places streams stream tail above place rival other (suc matches) is alone are some low greater high within ne comes takes =
+    let here : (halved matches other ≡ place) ⊎ (halved matches other ≡ rival) = elim are [
+      | inl left ↦ let a = left.0 in let b = left.1 in elim (cases_eq (halved matches other) place) [ inl same ↦ inl same | inr ne ↦ inr (omega arith) ]
+      | inr right ↦ let a = right.0 in let b = right.1 in elim (cases_eq (halved matches other) place) [ inl same ↦ inl same | inr ne ↦ inr (omega arith) ]
+    ] in
+    let rival_some : 1 ≤ rival = elim are [ inl left ↦ let b = left.1 in omega arith | inr right ↦ let b = right.1 in omega arith ] in
+    elim here [
+      | inl same ↦ alone.others other high within ne (record { matches = matches; comes = same }) takes
+      | inr met ↦ elim (beats_under places streams is matches rival other met rival_some within) [
+        | inl out ↦ absurd (let no : true ≡ false = sym out ∙ takes in cc)
+        | inr less ↦ let above_tail = greater less.0 in let more = less.1 in omega arith
+      ]
+    ]
+
+pub alone_goes_on : (places : List Entrant) (streams stream tail place rival : ℕ) (other d : Entrant) → IsDrawn places streams → IsAloneTo places streams stream tail place → 1 < place →
+    AreRivals (place / 2) place rival → other ≡ get_or places rival d → (other.is_out ≡ false → tail < other.tail) → IsAloneTo places streams stream tail (place / 2)
+alone_goes_on places streams stream tail place rival other d is so more are other_is greater =
+    let within : place < streams + streams = so.within in let len : length places ≡ streams + streams = is.len in
+    let low = rival_within streams place rival are more within in
+    let whole : other ≡ entrant_at places rival = other_is ∙ get_or_default places rival d nobody (omega arith) in record {
+      within = omega arith;
+      some = omega arith;
+      alone = record { others = λ next high below ne under takes. alone_under places streams stream tail (place / 2) place rival next under.matches is so.alone are (omega arith) (omega arith)
+          (subst (λ (e : Entrant). e.is_out ≡ false → tail < e.tail) whole greater) high below ne under.comes takes };
+    }
+
+pub alone_ends : (places : List Entrant) (streams stream tail place : ℕ) → IsDrawn places streams → IsAloneTo places streams stream tail place → place ≤ 1 →
+    AreOthersAbove (drop streams places) stream tail
+alone_ends places streams stream tail place is so over k under ne takes =
+    let some : 1 ≤ place = so.some in let one : 1 ≡ place = omega arith in
+    let here = all_of places streams k is under in let low : k < streams = here.0 in
+    subst (λ (e : Entrant). tail < e.tail) (sym here.1)
+    (so.alone.others (streams + k) (omega arith) (omega arith) (omega arith) (subst (λ n. IsUnder n (streams + k)) one (all_under_one (streams + k) (streams + k) (omega arith) (omega arith)))
+      (sym (ap (λ (e : Entrant). e.is_out) here.1) ∙ takes))

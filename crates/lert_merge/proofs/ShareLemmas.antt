@@ -10,7 +10,7 @@ use Rattle.lert_merge.specs.declared.heads.Head.{Head}
 use Rattle.lert_merge.specs.declared.heads.Head.TheVariants.{Unread, Read, Ended}
 use Rattle.lert_merge.specs.declared.heads.Seat.{Seat}
 use Rattle.lert_merge.specs.declared.tournament.Entrant.{Entrant}
-use Rattle.lert_merge.specs.Draws.{Draw, nobody, entrant_at, HasTail, HasNoTail}
+use Rattle.lert_merge.specs.Draws.{Draw, nobody, entrant_at, HasTail, HasNoTail, AreOthersAbove}
 use Rattle.lert_merge.specs.Seats.{seat_at, shared, shared_head, silent, fresh, entrant_of, IsIn, AreEntered, AreDue, HasShares, AreAsked, AreSilent, AreSmall, IsLeast}
 use Rattle.lert_merge.proofs.GiveLemmas.{shared_here, shared_other}
 
@@ -89,10 +89,15 @@ pub record WasGiven (old now : Seat) (given : List ℕ) (tail k : ℕ) : Type 0 
   pub unread : now.head ≡ Unread
   pub listed : IsIn given 0 k
 
+-- all streams stand in the tournament as they are, also those that are to be asked
+pub record AreAllEntered (seats : List Seat) (entrants : List Entrant) : Type 0 where
+  pub len : length entrants ≡ length seats
+  pub each : (k : ℕ) → k < length seats → entrant_at entrants k ≡ entrant_of k (seat_at seats k).head
+
 -- what stands while a tail is shared out
 pub record IsSharing (old seats : List Seat) (before now : Draw) (given : List ℕ) (tail sum capacity new_capacity : ℕ) : Type 0 where
   pub len : length seats ≡ length old
-  pub entered : AreEntered seats now.entrants
+  pub entered : AreAllEntered seats now.entrants
   pub room : now.room ≡ before.room
   pub each : (k : ℕ) → k < length old → WasGiven (seat_at old k) (seat_at seats k) given tail k ⊎ (seat_at seats k ≡ seat_at old k)
   pub streams : (j : ℕ) → j < length given → get_or given j 0 < length seats
@@ -102,12 +107,12 @@ pub record IsSharing (old seats : List Seat) (before now : Draw) (given : List �
   pub reserved : length seats ≤ new_capacity
   pub grown : capacity ≤ new_capacity
 
-pub sharing_begins : (old : List Seat) (draw : Draw) (given : List ℕ) (tail capacity : ℕ) → AreEntered old draw.entrants →
+pub sharing_begins : (old : List Seat) (draw : Draw) (given : List ℕ) (tail capacity : ℕ) → AreEntered old draw.entrants → AreAsked old →
     ((k : ℕ) → k < length old → (seat_at old k).share ≡ 0) → given ≡ [] → length old ≤ capacity → IsSharing old old draw draw given tail 0 capacity capacity
-sharing_begins old draw given tail capacity entered silent none room =
+sharing_begins old draw given tail capacity entered asked silent none room =
     let empty : length given ≡ 0 = ap length none in let most = read_most old in record {
       len = refl;
-      entered = entered;
+      entered = record { len = entered.len; each = λ k under. entered.each k under (asked k under) };
       room = refl;
       each = λ k under. inr refl;
       streams = λ j under. absurd (omega arith);
@@ -299,7 +304,9 @@ sharing_fits old seats before now given tail sum capacity new_capacity stream d 
 -- what a tail that was shared out leaves
 pub record IsSharedOff (old seats : List Seat) (entrants : List Entrant) (given : List ℕ) (tail sum : ℕ) : Type 0 where
   pub seats_are : (k : ℕ) → k < length old → seat_at seats k ≡ shared tail (seat_at old k)
+  pub summed : sum ≡ sum_by (λ seat. seat.share) seats
   pub small : sum < 2 ^ 63
+  pub entered : AreEntered seats entrants
   pub due : AreDue seats given 0
   pub shares : HasShares seats given
 
@@ -325,7 +332,9 @@ sharing_ends old seats before now given tail sum capacity new_capacity is none a
           let whole : seat_at old k ≡ record { head = (seat_at old k).head; share = 0 } = λ i. record { head = (seat_at old k).head; share = silent k under i } in
           same ∙ whole ∙ sym rest
       ];
+      summed = is.summed;
       small = omega arith;
+      entered = record { len = is.entered.len; each = λ k under read. is.entered.each k under };
       due = record {
         streams = is.streams;
         unread = λ k under unread. elim (is.each k (omega arith)) [
@@ -363,3 +372,43 @@ silent_least old seats tail len are is = let inside : is.place < length old = is
   its_tail = is.its_tail;
   least = λ k p under at. is.least k p (omega arith) (ap (λ (s : Seat). s.head) (sym (are k (omega arith))) ∙ at);
 }
+
+-- the last stream of a tail was given, and stays in the tournament until it is asked
+pub alone_shared : (old seats : List Seat) (before now : Draw) (given items : List ℕ) (tail sum part capacity new_capacity newer stream : ℕ) (d seat : Seat) (is_pushed : Bool) →
+    IsSharing old seats before now given tail sum capacity new_capacity → HasTail now.entrants tail stream → AreSmall old → AreSilent old →
+    seat ≡ shared tail (get_or seats stream d) → part ≡ seat.share →
+    items ≡ (if is_pushed then given ++ stream ∷ [] else given) → is_pushed ≡ true → new_capacity ≤ newer →
+    AreOthersAbove now.entrants stream tail → AreAsked old → length old ≤ 65535 →
+    IsSharedOff old (set seats stream seat) now.entrants items tail (sum + part)
+alone_shared old seats before now given items tail sum part capacity new_capacity newer stream d seat is_pushed is has small silent seat_is part_is items_are pushed grows others asked few =
+    let left : Draw = record { entrants = set now.entrants stream nobody; room = now.room } in
+    let more = sharing_step old seats before now left given items tail sum part capacity new_capacity newer stream d seat is_pushed is has small silent seat_is part_is refl items_are pushed grows in
+    let len : length (set now.entrants stream nobody) ≡ length now.entrants = length-set now.entrants stream nobody in
+    let within : stream < length now.entrants = has.within in
+    let off = sharing_ends old (set seats stream seat) before left items tail (sum + part) capacity newer more
+    (λ k under takes. elim (cases_eq k stream) [
+      | inl here ↦ absurd (let no : true ≡ false = sym (ap (λ (e : Entrant). e.is_out) (ap (entrant_at (set now.entrants stream nobody)) here ∙ get_or-set_same now.entrants stream nobody nobody within)) ∙ takes in cc)
+      | inr ne ↦ let same : entrant_at (set now.entrants stream nobody) k ≡ entrant_at now.entrants k = get_or-set_other now.entrants stream k nobody nobody ne in
+          subst (λ (e : Entrant). e.tail ≢ tail) (sym same)
+          (let above = others k (omega arith) ne (sym (ap (λ (e : Entrant). e.is_out) same) ∙ takes) in λ equal. absurd (omega arith))
+    ]) asked few silent in
+    let lens : length seats ≡ length old = is.len in let as_many : length now.entrants ≡ length seats = is.entered.len in
+    let same_len : length (set seats stream seat) ≡ length seats = length-set seats stream seat in
+    let was = was_read old seats before now given tail sum capacity new_capacity stream is has small silent in
+    let inside : stream < length seats = omega arith in
+    let becomes : seat ≡ shared tail (seat_at seats stream) = seat_is ∙ ap (shared tail) (get_or_default seats stream d fresh inside) in
+    let unread : seat.head ≡ Unread = ap (λ (s : Seat). s.head) (becomes ∙ was.given) in
+    record {
+      seats_are = off.seats_are;
+      summed = off.summed;
+      small = off.small;
+      entered = record {
+        len = as_many ∙ sym same_len;
+        each = λ k under read. elim (cases_eq k stream) [
+          | inl here ↦ absurd (read (ap (λ (s : Seat). s.head) (ap (seat_at (set seats stream seat)) here ∙ get_or-set_same seats stream seat fresh inside) ∙ unread))
+          | inr ne ↦ is.entered.each k (omega arith) ∙ sym (ap (λ (s : Seat). entrant_of k s.head) (get_or-set_other seats stream k seat fresh ne))
+        ];
+      };
+      due = off.due;
+      shares = off.shares;
+    }

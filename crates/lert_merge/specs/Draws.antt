@@ -60,3 +60,7 @@ pub record HasTail (entrants : List Entrant) (tail stream : ℕ) : Type 0 where
 -- no stream takes part with the tail
 abbrev pub HasNoTail : List Entrant → ℕ → Type 0
 HasNoTail entrants tail = (k : ℕ) → k < length entrants → (entrant_at entrants k).is_out ≡ false → (entrant_at entrants k).tail ≢ tail
+
+-- each other stream that takes part has a greater tail
+abbrev pub AreOthersAbove : List Entrant → ℕ → ℕ → Type 0
+AreOthersAbove entrants stream tail = (k : ℕ) → k < length entrants → k ≢ stream → (entrant_at entrants k).is_out ≡ false → tail < (entrant_at entrants k).tail

@@ -89,10 +89,10 @@ entrant_of k Unread = nobody
 entrant_of k (Read p) = record { tail = p.tail; stream = k; is_out = false }
 entrant_of k Ended = nobody
 
--- the streams of which a piece was read ahead take part with its tail
+-- the streams of which a piece was read ahead take part with its tail, and those that ended are out
 pub record AreEntered (seats : List Seat) (entrants : List Entrant) : Type 0 where
   pub len : length entrants ≡ length seats
-  pub each : (k : ℕ) → k < length seats → entrant_at entrants k ≡ entrant_of k (seat_at seats k).head
+  pub each : (k : ℕ) → k < length seats → (seat_at seats k).head ≢ Unread → entrant_at entrants k ≡ entrant_of k (seat_at seats k).head
 
 -- the number stands in the list, at `from` or behind
 pub record IsIn (numbers : List ℕ) (from number : ℕ) : Type 0 where

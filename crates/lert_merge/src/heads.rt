@@ -136,12 +136,16 @@ impl Heads {
                 self.tournament.enter(stream, piece.tail);
                 Head::Read(piece)
             }
-            None => Head::Ended,
+            None => {
+                self.tournament.leave(stream);
+                Head::Ended
+            }
         };
     }
 
     // The least tail that was read ahead.
     pub(crate) fn least(&self) -> Option<u64>
+        requires { AreAsked self.now.seats }
         ensures { MatchOption result (IsNoneRead self.now.seats (length self.now.seats))
             (IsLeast self.now.seats (length self.now.seats)) }
     {
@@ -241,10 +245,14 @@ fn give_all(
     let mut sum = 0;
     while let Some(stream) = tournament.first_at(tail) {
         sum += seats[stream].give(tail);
-        tournament.leave(stream);
         // There is room for each stream, and none is given twice.
         let is_given = given.push(stream).is_ok();
         prove!(is_given);
+        if tournament.is_alone(stream, tail) {
+            // It is entered anew, or leaves, once it is asked.
+            return sum;
+        }
+        tournament.leave(stream);
     }
     sum
 }

@@ -1,7 +1,7 @@
 //! The tournament of the streams: which of them has the least tail ahead.
 
-ghost use Rattle.std.specs.Prelude.{◌≡◌, ℕ, ◌+◌, ◌/◌, ◌^◌, ◌<◌, ◌≤◌, [], drop, false, length, IfOk, MatchOption, slice_set};
-ghost use Rattle.lert_merge.specs.Draws.{entrant_at, nobody, AreRivals, Wins, IsDrawn, IsFirst, AreOut, HasTail, HasNoTail};
+ghost use Rattle.std.specs.Prelude.{◌≡◌, ℕ, ◌+◌, ◌/◌, ◌^◌, ◌<◌, ◌≤◌, [], drop, false, length, IfOk, IsTrue, MatchOption, slice_set};
+ghost use Rattle.lert_merge.specs.Draws.{entrant_at, nobody, AreRivals, Wins, IsDrawn, IsFirst, AreOut, HasTail, HasNoTail, AreOthersAbove};
 
 use lert_io::OutOfMemory;
 use std::alloc::Global;
@@ -104,6 +104,14 @@ impl Tournament {
         Some(first.stream)
     }
 
+    /// Whether each other stream that takes part has a greater tail.
+    pub fn is_alone(&self, stream: usize, tail: u64) -> bool
+        requires { stream < length self.now.entrants }
+        ensures { IsTrue result → AreOthersAbove self.now.entrants stream tail }
+    {
+        is_alone(&self.places, self.streams, stream, tail)
+    }
+
     /// The stream takes part with this tail.
     pub fn enter(&mut self, stream: usize, tail: u64)
         requires { stream < length self.old.entrants }
@@ -144,6 +152,30 @@ fn replay(places: &mut [Entrant], streams: usize, stream: usize, entrant: Entran
         place /= 2;
         places[place] = winner;
     }
+}
+
+// Whether each match of the stream is against a greater tail.
+fn is_alone(places: &[Entrant], streams: usize, stream: usize, tail: u64) -> bool
+    requires few { streams ≤ 65535 }
+    requires drawn { IsDrawn places.now streams }
+    requires within { stream < streams }
+    ensures { IsTrue result → AreOthersAbove (drop streams places.now) stream tail }
+{
+    let mut place = streams + stream;
+    while place > 1 {
+        if !is_behind(places[rival_of(place)], tail) {
+            return false;
+        }
+        place /= 2;
+    }
+    true
+}
+
+// Whether the entrant is out, or has a greater tail.
+fn is_behind(entrant: Entrant, tail: u64) -> bool
+    ensures { IsTrue result → entrant.is_out ≡ false → tail < entrant.tail }
+{
+    entrant.is_out || tail < entrant.tail
 }
 
 // The place that meets this one.
