@@ -83,6 +83,19 @@ impl<P: Pieces> Tournament<P> {
         }
     }
 
+    /// Whether each match of the stream is against a greater tail.
+    fn is_alone(&self, stream: usize, tail: u64) -> bool {
+        let mut place = self.streams.len() + stream;
+        while place > 1 {
+            let rival = self.places[place ^ 1];
+            if !rival.is_out && rival.tail <= tail {
+                return false;
+            }
+            place /= 2;
+        }
+        true
+    }
+
     fn put(&mut self, stream: usize, entrant: Entrant) {
         let mut place = self.streams.len() + stream;
         let mut winner = entrant;
@@ -99,9 +112,12 @@ impl<P: Pieces> Merge for Tournament<P> {
     fn next(&mut self) -> Result<Option<Piece>, PieceFault> {
         for at in 0..self.given.len() {
             let stream = self.given[at];
-            if let Some(piece) = self.streams[stream].next()? {
-                self.counts[stream] = piece.count;
-                self.put(stream, Entrant { tail: piece.tail, stream, is_out: false });
+            match self.streams[stream].next()? {
+                Some(piece) => {
+                    self.counts[stream] = piece.count;
+                    self.put(stream, Entrant { tail: piece.tail, stream, is_out: false });
+                }
+                None => self.put(stream, NOBODY),
             }
         }
         let first = self.places[1];
@@ -118,6 +134,9 @@ impl<P: Pieces> Merge for Tournament<P> {
             self.shares[stream] = self.counts[stream];
             count += self.counts[stream];
             self.given.push(stream);
+            if self.is_alone(stream, first.tail) {
+                break;
+            }
             self.put(stream, NOBODY);
         }
         Ok(Some(Piece { tail: first.tail, count }))

@@ -1,7 +1,6 @@
 -- What stands while a merge begins.
 use Rattle.std.proofs.Common.{◌≡◌, ℕ, ◌<◌, ◌≤◌, List, length, get_or, arith, sym, ap, ◌∙◌}
 use Rattle.lert_merge.specs.declared.heads.Seat.{Seat}
-use Rattle.lert_merge.specs.declared.tournament.Entrant.{Entrant}
 use Rattle.lert_merge.specs.Draws.{Draw, nobody, entrant_at}
 use Rattle.lert_merge.specs.Seats.{seat_at, fresh, entrant_of, IsSeating}
 

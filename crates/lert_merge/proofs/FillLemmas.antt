@@ -1,5 +1,5 @@
 -- One stream after another is asked.
-use Rattle.std.proofs.Common.{◌≡◌, ◌≢◌, ℕ, ◌+◌, ◌<◌, ◌≤◌, Option, Some, None, List, ◌++◌, length, get_or, arith, sym, ap, ◌∙◌, refl, subst, inl, inr, ◌⊎◌, below_more}
+use Rattle.std.proofs.Common.{◌≡◌, ◌≢◌, ℕ, ◌<◌, ◌≤◌, Option, Some, None, List, ◌++◌, length, get_or, arith, sym, ap, ◌∙◌, refl, subst, inl, inr, ◌⊎◌}
 use Rattle.std.proofs.lemmas.Bool.{cases_eq}
 use Rattle.lert_spec.specs.declared.piece.Piece.{Piece}
 use Rattle.lert_merge.specs.declared.heads.Head.TheVariants.{Unread}

@@ -1,5 +1,5 @@
 -- What sharing a tail out gives, seat by seat.
-use Rattle.std.proofs.Common.{◌≡◌, ◌≢◌, ℕ, ◌+◌, ◌*◌, ◌^◌, ◌<◌, ◌≤◌, if◌then◌else◌, List, length, sum_by, set, arith, sym, ap, ◌∙◌, refl, below_more, subst, Bool, true, false, ◌⊎◌, inl, inr, get_or-set_other, get_or-set_same, length-set, length-append, [], ◌∷◌, ◌++◌, get_or, All}
+use Rattle.std.proofs.Common.{◌≡◌, ◌≢◌, ℕ, ◌+◌, ◌*◌, ◌^◌, ◌<◌, ◌≤◌, if◌then◌else◌, List, length, sum_by, set, arith, sym, ap, ◌∙◌, refl, below_more, subst, Bool, true, false, ◌⊎◌, inl, inr, get_or-set_other, get_or-set_same, length-set, length-append, [], ◌∷◌, ◌++◌, get_or}
 use Rattle.std.proofs.Math.ListN.{get_or-append}
 use Rattle.std.proofs.Math.Seq.{get_or-append_seam}
 use Rattle.std.proofs.lemmas.Bool.{cases_eq, cases_lt}

@@ -1,4 +1,4 @@
-use Rattle.std.proofs.Common.{rules, arith, ◌≡◌, is_ok, true}
+use Rattle.std.proofs.Common.{rules, ◌≡◌, is_ok, true}
 use Rattle.lert_merge.proofs.ShareLemmas.{alone_shared, sharing_begins, sharing_step}
 use Rattle.lert_merge.proofs.heads.give_all.Goals as goal
 

@@ -1,4 +1,4 @@
-use Rattle.std.proofs.Common.{vec_capacity, ℕ, ◌≤◌}
+use Rattle.std.proofs.Common.{vec_capacity}
 use Rattle.std.specs.List.{sum_by}
 use Rattle.lert_merge.proofs.ShareLemmas.{IsSharing, read_one}
 use Rattle.lert_merge.proofs.heads.give_all.Given as goal

@@ -1,4 +1,4 @@
-use Rattle.std.proofs.Common.{rules, arith}
+use Rattle.std.proofs.Common.{rules}
 use Rattle.lert_merge.proofs.ShareLemmas.{silent_least}
 use Rattle.lert_merge.proofs.heads.share_out.Goals as goal
 

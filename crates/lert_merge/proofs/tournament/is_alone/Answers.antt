@@ -1,5 +1,5 @@
-use Rattle.std.proofs.Common.{rules, arith, refl, false}
-use Rattle.lert_merge.proofs.DrawLemmas.{alone_begins, alone_goes_on, alone_ends, rival_within}
+use Rattle.std.proofs.Common.{rules, refl, false}
+use Rattle.lert_merge.proofs.DrawLemmas.{alone_begins, alone_goes_on, alone_ends}
 use Rattle.lert_merge.proofs.tournament.is_alone.Goals as goal
 
 pub loop-place-init : goal.loop-place-init

@@ -1,4 +1,4 @@
-use Rattle.std.proofs.Common.{rules, ◌≡◌, ℕ, ◌+◌, ◌/◌, ◌^◌, ◌<◌, ◌≤◌, length, arith, refl, false}
+use Rattle.std.proofs.Common.{arith, refl, false}
 use Rattle.lert_merge.proofs.DrawLemmas.{replay_begins, replay_goes_on, replay_ends, rival_within}
 use Rattle.lert_merge.proofs.tournament.replay.Goals as goal
 

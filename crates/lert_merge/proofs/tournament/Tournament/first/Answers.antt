@@ -1,6 +1,6 @@
-use Rattle.std.proofs.Common.{rules, ◌≡◌, ℕ, length, arith, refl, subst}
+use Rattle.std.proofs.Common.{subst}
 use Rattle.lert_merge.specs.Draws.{AreOut, IsFirst, Draw}
-use Rattle.lert_merge.proofs.DrawLemmas.{none_takes_part, all_are_out, one_is_first}
+use Rattle.lert_merge.proofs.DrawLemmas.{all_are_out, one_is_first}
 use Rattle.lert_merge.proofs.tournament.Tournament.first.Goals as goal
 
 pub returns-then-first : goal.returns-then-first

@@ -1,4 +1,4 @@
-use Rattle.std.proofs.Common.{rules, arith, ◌≡◌, ◌+◌, ◌<◌, ◌≤◌, ◌^◌}
+use Rattle.std.proofs.Common.{rules, arith, ◌≡◌, ◌+◌, ◌^◌}
 use Rattle.lert_merging.proofs.Rising.{given_more, given_wide}
 use Rattle.lert_merging.proofs.drawn.Random.pieces.Goals as goal
 
