@@ -70,13 +70,13 @@ played_here : (places : List Entrant) (next place rival : ℕ) (one other winner
     Wins (entrant_at places (2 * next)) (entrant_at places (2 * next + 1)) winner
 played_here places next place rival one other winner are one_is other_is wins = elim are [
   | inl left ↦
-    let first : entrant_at places (2 * next) ≡ one = ap (entrant_at places) (sym left.0) ∙ one_is in
-    let second : entrant_at places (2 * next + 1) ≡ other = ap (entrant_at places) (sym left.1) ∙ other_is in
-    subst (λ (x : Entrant). Wins x (entrant_at places (2 * next + 1)) winner) (sym first) (subst (λ (x : Entrant). Wins one x winner) (sym second) wins)
+      let first : entrant_at places (2 * next) ≡ one = ap (entrant_at places) (sym left.0) ∙ one_is in
+      let second : entrant_at places (2 * next + 1) ≡ other = ap (entrant_at places) (sym left.1) ∙ other_is in
+      subst (λ (x : Entrant). Wins x (entrant_at places (2 * next + 1)) winner) (sym first) (subst (λ (x : Entrant). Wins one x winner) (sym second) wins)
   | inr right ↦
-    let first : entrant_at places (2 * next) ≡ other = ap (entrant_at places) (sym right.1) ∙ other_is in
-    let second : entrant_at places (2 * next + 1) ≡ one = ap (entrant_at places) (sym right.0) ∙ one_is in
-    subst (λ (x : Entrant). Wins x (entrant_at places (2 * next + 1)) winner) (sym first)
+      let first : entrant_at places (2 * next) ≡ other = ap (entrant_at places) (sym right.1) ∙ other_is in
+      let second : entrant_at places (2 * next + 1) ≡ one = ap (entrant_at places) (sym right.0) ∙ one_is in
+      subst (λ (x : Entrant). Wins x (entrant_at places (2 * next + 1)) winner) (sym first)
       (subst (λ (x : Entrant). Wins other x winner) (sym second) (wins_either one other winner wins))
 ]
 
@@ -125,14 +125,14 @@ beats_all places streams is zero place low some within = absurd (omega arith)
 beats_all places streams is (suc most) place low some within = elim (cases_eq place 1) [
   | inl one ↦ subst (λ n. Beats (entrant_at places 1) (entrant_at places n)) (sym one) (beats_itself (entrant_at places 1))
   | inr ne ↦ let won = is.played (place / 2) (omega arith) (omega arith) in
-    let above = beats_all places streams is most (place / 2) (omega arith) (omega arith) (omega arith) in
-    elim (cases_eq place (2 * (place / 2))) [
-      | inl even ↦ subst (λ n. Beats (entrant_at places 1) (entrant_at places n)) (sym even)
-          (beats_on (entrant_at places 1) (entrant_at places (place / 2)) (entrant_at places (2 * (place / 2))) above won.first)
-      | inr odd ↦ let is_odd : place ≡ 2 * (place / 2) + 1 = omega arith in
-          subst (λ n. Beats (entrant_at places 1) (entrant_at places n)) (sym is_odd)
-          (beats_on (entrant_at places 1) (entrant_at places (place / 2)) (entrant_at places (2 * (place / 2) + 1)) above won.second)
-    ]
+      let above = beats_all places streams is most (place / 2) (omega arith) (omega arith) (omega arith) in
+      elim (cases_eq place (2 * (place / 2))) [
+        | inl even ↦ subst (λ n. Beats (entrant_at places 1) (entrant_at places n)) (sym even)
+            (beats_on (entrant_at places 1) (entrant_at places (place / 2)) (entrant_at places (2 * (place / 2))) above won.first)
+        | inr odd ↦ let is_odd : place ≡ 2 * (place / 2) + 1 = omega arith in
+            subst (λ n. Beats (entrant_at places 1) (entrant_at places n)) (sym is_odd)
+            (beats_on (entrant_at places 1) (entrant_at places (place / 2)) (entrant_at places (2 * (place / 2) + 1)) above won.second)
+      ]
 ]
 
 -- each winner is one of the streams
@@ -208,13 +208,13 @@ kept_after old places streams stream room capacity new_capacity entrant is withi
       drawn = drawn;
       own = λ k under. elim (cases_eq k stream) [
         | inl here ↦
-          let now : entrant_at places (streams + k) ≡ entrant = sym (get_or-drop streams places k nobody) ∙ ap (λ (es : List Entrant). entrant_at es k) entrants
-              ∙ ap (entrant_at (set (drop streams old) stream entrant)) here ∙ get_or-set_same (drop streams old) stream entrant nobody (omega arith) in
-          subst (λ (e : Entrant). e.is_out ≡ false → e.stream ≡ k) (sym now) (λ takes. own takes ∙ sym here)
+            let now : entrant_at places (streams + k) ≡ entrant = sym (get_or-drop streams places k nobody) ∙ ap (λ (es : List Entrant). entrant_at es k) entrants
+            ∙ ap (entrant_at (set (drop streams old) stream entrant)) here ∙ get_or-set_same (drop streams old) stream entrant nobody (omega arith) in
+            subst (λ (e : Entrant). e.is_out ≡ false → e.stream ≡ k) (sym now) (λ takes. own takes ∙ sym here)
         | inr ne ↦
-          let now : entrant_at places (streams + k) ≡ entrant_at old (streams + k) = sym (get_or-drop streams places k nobody) ∙ ap (λ (es : List Entrant). entrant_at es k) entrants
-              ∙ get_or-set_other (drop streams old) stream k entrant nobody ne ∙ get_or-drop streams old k nobody in
-          subst (λ (e : Entrant). e.is_out ≡ false → e.stream ≡ k) (sym now) (is.own k under)
+            let now : entrant_at places (streams + k) ≡ entrant_at old (streams + k) = sym (get_or-drop streams places k nobody) ∙ ap (λ (es : List Entrant). entrant_at es k) entrants
+            ∙ get_or-set_other (drop streams old) stream k entrant nobody ne ∙ get_or-drop streams old k nobody in
+            subst (λ (e : Entrant). e.is_out ≡ false → e.stream ≡ k) (sym now) (is.own k under)
       ];
       few = is.few;
       in_room = is.in_room;
@@ -334,8 +334,10 @@ alone_goes_on places streams stream tail place rival other d is so more are othe
     let whole : other ≡ entrant_at places rival = other_is ∙ get_or_default places rival d nobody (omega arith) in record {
       within = omega arith;
       some = omega arith;
-      alone = record { others = λ next high below ne under takes. alone_under places streams stream tail (place / 2) place rival next under.matches is so.alone are (omega arith) (omega arith)
-          (subst (λ (e : Entrant). e.is_out ≡ false → tail < e.tail) whole greater) high below ne under.comes takes };
+      alone = record {
+        others = λ next high below ne under takes. alone_under places streams stream tail (place / 2) place rival next under.matches is so.alone are (omega arith) (omega arith)
+            (subst (λ (e : Entrant). e.is_out ≡ false → tail < e.tail) whole greater) high below ne under.comes takes;
+      };
     }
 
 pub alone_ends : (places : List Entrant) (streams stream tail place : ℕ) → IsDrawn places streams → IsAloneTo places streams stream tail place → place ≤ 1 →
@@ -345,4 +347,4 @@ alone_ends places streams stream tail place is so over k under ne takes =
     let here = all_of places streams k is under in let low : k < streams = here.0 in
     subst (λ (e : Entrant). tail < e.tail) (sym here.1)
     (so.alone.others (streams + k) (omega arith) (omega arith) (omega arith) (subst (λ n. IsUnder n (streams + k)) one (all_under_one (streams + k) (streams + k) (omega arith) (omega arith)))
-      (sym (ap (λ (e : Entrant). e.is_out) here.1) ∙ takes))
+    (sym (ap (λ (e : Entrant). e.is_out) here.1) ∙ takes))

@@ -234,13 +234,13 @@ sharing_more old seats before now given tail sum capacity new_capacity newer str
       room = is.room;
       each = λ k under. elim (cases_eq k stream) [
         | inl here ↦
-          let now_at : seat_at (set seats stream seat) k ≡ seat = ap (seat_at (set seats stream seat)) here ∙ at_it in
-          let old_at : seat_at seats stream ≡ seat_at old k = was.same ∙ ap (seat_at old) (sym here) in
-          inl (record {
-            seat = now_at ∙ becomes ∙ ap (shared tail) old_at;
-            unread = ap (λ (s : Seat). s.head) now_at ∙ unread;
-            listed = subst (IsIn (given ++ stream ∷ []) 0) (sym here) (in_new given stream);
-          })
+            let now_at : seat_at (set seats stream seat) k ≡ seat = ap (seat_at (set seats stream seat)) here ∙ at_it in
+            let old_at : seat_at seats stream ≡ seat_at old k = was.same ∙ ap (seat_at old) (sym here) in
+            inl (record {
+              seat = now_at ∙ becomes ∙ ap (shared tail) old_at;
+              unread = ap (λ (s : Seat). s.head) now_at ∙ unread;
+              listed = subst (IsIn (given ++ stream ∷ []) 0) (sym here) (in_new given stream);
+            })
         | inr ne ↦ let now_at : seat_at (set seats stream seat) k ≡ seat_at seats k = get_or-set_other seats stream k seat fresh ne in elim (is.each k under) [
           | inl was_given ↦ inl (record {
             seat = now_at ∙ was_given.seat;
@@ -325,12 +325,12 @@ sharing_ends old seats before now given tail sum capacity new_capacity is none a
       seats_are = λ k under. elim (is.each k under) [
         | inl was ↦ was.seat
         | inr same ↦
-          let head : (seat_at seats k).head ≡ (seat_at old k).head = ap (λ (s : Seat). s.head) same in
-          let rest : shared_head tail (seat_at old k).head ≡ record { head = (seat_at old k).head; share = 0 } =
-          not_shared k tail (seat_at old k).head (entrant_at now.entrants k) (is.entered.each k (omega arith) ∙ ap (entrant_of k) head)
-          (none k (omega arith)) (asked k under) in
-          let whole : seat_at old k ≡ record { head = (seat_at old k).head; share = 0 } = λ i. record { head = (seat_at old k).head; share = silent k under i } in
-          same ∙ whole ∙ sym rest
+            let head : (seat_at seats k).head ≡ (seat_at old k).head = ap (λ (s : Seat). s.head) same in
+            let rest : shared_head tail (seat_at old k).head ≡ record { head = (seat_at old k).head; share = 0 } =
+            not_shared k tail (seat_at old k).head (entrant_at now.entrants k) (is.entered.each k (omega arith) ∙ ap (entrant_of k) head)
+            (none k (omega arith)) (asked k under) in
+            let whole : seat_at old k ≡ record { head = (seat_at old k).head; share = 0 } = λ i. record { head = (seat_at old k).head; share = silent k under i } in
+            same ∙ whole ∙ sym rest
       ];
       summed = is.summed;
       small = omega arith;
@@ -357,7 +357,7 @@ pub sharing_step : (old seats : List Seat) (before now after : Draw) (given item
 sharing_step old seats before now after given items tail sum part capacity new_capacity newer stream d seat is_pushed is has small silent seat_is part_is after_is items_are pushed grows =
     subst (λ (draw : Draw). IsSharing old (set seats stream seat) before draw items tail (sum + part) capacity newer) (sym after_is)
     (subst (λ (numbers : List ℕ). IsSharing old (set seats stream seat) before (record { entrants = set now.entrants stream nobody; room = now.room }) numbers tail (sum + part) capacity newer)
-      (sym (items_are ∙ ap (λ (b : Bool). if b then given ++ stream ∷ [] else given) pushed))
+    (sym (items_are ∙ ap (λ (b : Bool). if b then given ++ stream ∷ [] else given) pushed))
     (subst (λ n. IsSharing old (set seats stream seat) before (record { entrants = set now.entrants stream nobody; room = now.room }) (given ++ stream ∷ []) tail (sum + n) capacity newer) (sym part_is)
     (sharing_more old seats before now given tail sum capacity new_capacity newer stream d seat is has small silent seat_is grows)))
 

@@ -8,9 +8,9 @@
 
 mod heads;
 mod merge;
-mod tournament;
 #[cfg(test)]
 mod tests;
+mod tournament;
 
 pub use heads::Heads;
 pub use merge::Merge;

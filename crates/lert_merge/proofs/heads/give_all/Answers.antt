@@ -15,16 +15,16 @@ pub returns-then-is_alone-clause-small : goal.returns-then-is_alone-clause-small
 returns-then-is_alone-clause-small c =
     let pushed : is_ok c.push.result ≡ true = search rules in
     (alone_shared _ _ _ _ _ _ _ _ _ _ _ _ _ _ _ _ c.loop-stream.invariant c.in-Some.ensures c.requires.small c.requires.silent c.give-sum.ensures.seat c.give-sum.ensures.share
-      c.push.ensures.items pushed c.push.ensures.capacity (c.is_alone.ensures (search rules)) c.requires.asked c.requires.few).small
+    c.push.ensures.items pushed c.push.ensures.capacity (c.is_alone.ensures (search rules)) c.requires.asked c.requires.few).small
 
 pub returns-then-is_alone-clause-due : goal.returns-then-is_alone-clause-due
 returns-then-is_alone-clause-due c =
     let pushed : is_ok c.push.result ≡ true = search rules in
     (alone_shared _ _ _ _ _ _ _ _ _ _ _ _ _ _ _ _ c.loop-stream.invariant c.in-Some.ensures c.requires.small c.requires.silent c.give-sum.ensures.seat c.give-sum.ensures.share
-      c.push.ensures.items pushed c.push.ensures.capacity (c.is_alone.ensures (search rules)) c.requires.asked c.requires.few).due
+    c.push.ensures.items pushed c.push.ensures.capacity (c.is_alone.ensures (search rules)) c.requires.asked c.requires.few).due
 
 pub returns-then-is_alone-clause-shares : goal.returns-then-is_alone-clause-shares
 returns-then-is_alone-clause-shares c =
     let pushed : is_ok c.push.result ≡ true = search rules in
     (alone_shared _ _ _ _ _ _ _ _ _ _ _ _ _ _ _ _ c.loop-stream.invariant c.in-Some.ensures c.requires.small c.requires.silent c.give-sum.ensures.seat c.give-sum.ensures.share
-      c.push.ensures.items pushed c.push.ensures.capacity (c.is_alone.ensures (search rules)) c.requires.asked c.requires.few).shares
+    c.push.ensures.items pushed c.push.ensures.capacity (c.is_alone.ensures (search rules)) c.requires.asked c.requires.few).shares
