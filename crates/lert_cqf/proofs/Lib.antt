@@ -1,4 +1,5 @@
 pub mod BegunLemmas
+pub mod BelowLemmas
 pub mod CellLemmas
 pub mod GrowingLemmas
 pub mod GrownLemmas
@@ -11,4 +12,3 @@ pub mod SplitLemmas
 pub mod SpreadLemmas
 pub mod StandingLemmas
 pub mod TableLemmas
-pub mod ThreeLemmas

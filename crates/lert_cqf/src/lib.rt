@@ -13,7 +13,6 @@ mod rows;
 mod table;
 #[cfg(test)]
 mod tests;
-mod three;
 
 pub use cursor::CqfCursor;
 pub use table::Cqf;

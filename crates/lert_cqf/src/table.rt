@@ -6,11 +6,10 @@ ghost use Rattle.lert_cqf.specs.Standing.{Stands, IsInRun};
 
 use crate::cursor::CqfCursor;
 use crate::rows::Rows;
-use crate::three::count_in_three;
 use lert_base::CountTable;
 use lert_counter::scan_group;
 use lert_io::{OutOfMemory, Seen};
-use lert_runs::find;
+use lert_runs::{count_above_all, find};
 use lert_slotbits::Bits;
 use lert_spec::Piece;
 use std::alloc::Global;
@@ -158,8 +157,9 @@ impl CountTable for Cqf {
             return self.rows.count_first(home, at, x) + self.rows.count_second(at, end, x);
         }
         let run = self.rows.part(at, end);
-        if let [first, middle, last] = run {
-            return count_in_three(*first, *middle, *last, x);
+        if x > self.room {
+            // So do nearly all remainders: no count is greater than the room.
+            return count_above_all(run, x);
         }
         find(self.width, run, x).count
     }

@@ -1,4 +1,5 @@
 pub mod GrowLemmas
 pub mod ReadLemmas
 pub mod RunLemmas
+pub mod SearchLemmas
 pub mod WalkLemmas

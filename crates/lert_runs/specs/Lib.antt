@@ -1,3 +1,4 @@
 pub mod Growth
 pub mod Place
 pub mod RunText
+pub mod Search

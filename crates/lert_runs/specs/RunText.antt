@@ -1,5 +1,5 @@
 -- The text of a run: the groups of remainders that ascend.
-use Rattle.std.specs.Prelude.{ℕ, ◌+◌, ◌≡◌, ◌≤◌, ◌==◌, List, [], ◌∷◌, ◌++◌, nat_lt, if◌then◌else◌}
+use Rattle.std.specs.Prelude.{ℕ, ◌+◌, ◌≡◌, ◌<◌, ◌≤◌, ◌==◌, List, [], ◌∷◌, ◌++◌, nat_lt, if◌then◌else◌}
 use Rattle.lert_counter.specs.Group.{group, IsCount}
 
 -- the groups of remainders and their counts, one behind the other
@@ -25,6 +25,11 @@ IsRunText width slots = (ps : List (ℕ × ℕ)) × IsTextOf width slots ps
 abbrev pub count_in : List (ℕ × ℕ) → ℕ → ℕ
 count_in [] x = 0
 count_in (p ∷ ps) x = if p.0 == x then p.1 else count_in ps x
+
+-- each count is below m
+abbrev pub CountsBelow : ℕ → List (ℕ × ℕ) → Type 0
+CountsBelow m [] = Unit {0}
+CountsBelow m (p ∷ ps) = (p.1 < m) × CountsBelow m ps
 
 -- the pairs of the remainders below x
 abbrev pub pairs_below : List (ℕ × ℕ) → ℕ → List (ℕ × ℕ)

@@ -2,15 +2,18 @@
 //!
 //! A run is a list of slots that holds the groups of `lert_counter` one behind the other. `find` and `grown`
 //! answer where a remainder stands and what has to be written to raise its count, without writing it.
-//! `read_all` tells run texts from all other lists, and `group_at` walks over one. Nothing here allocates.
+//! `count_above_all` answers a count with no walk over the groups before it. `read_all` tells run texts from
+//! all other lists, and `group_at` walks over one. Nothing here allocates.
 #![tactic(auto)]
 
 mod grow;
 mod place;
+mod search;
 #[cfg(test)]
 mod tests;
 mod walk;
 
 pub use grow::{Growth, grown};
 pub use place::{Place, find};
+pub use search::count_above_all;
 pub use walk::{group_at, read_all};

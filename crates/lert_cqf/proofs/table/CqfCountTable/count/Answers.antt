@@ -1,9 +1,10 @@
 use Rattle.std.proofs.Common.{◌≡◌, ◌+◌, ◌-◌, ◌/◌, ◌%◌, ◌^◌, take, drop, get_or, arith, sym, ap, ◌∙◌}
+use Rattle.std.proofs.lemmas.Nat.{mod_below, pow_pos}
 use Rattle.lert_spec.specs.Table.{count_of}
 use Rattle.lert_cqf.specs.Contents.{Contents, built}
-use Rattle.lert_cqf.proofs.TableLemmas.{occupied_long, beyond, hold_bounds, count_absent, count_present, count_le, few}
+use Rattle.lert_cqf.proofs.TableLemmas.{occupied_long, beyond, hold_bounds, count_absent, count_present}
 use Rattle.lert_cqf.proofs.ShortLemmas.{reaches, long_run, short_count}
-use Rattle.lert_cqf.proofs.ThreeLemmas.{three_count, three_answer, three_of}
+use Rattle.lert_cqf.proofs.BelowLemmas.{held_below}
 use Rattle.lert_cqf.proofs.table.CqfCountTable.count.Goals as goal
 
 pub returns-then-home-len : goal.returns-then-home-len
@@ -123,22 +124,23 @@ returns c =
     ∙ count_present _ _ _ _ _ _ _ _ _ _ c.self.invariant c.args.tail c.parts-home.result.0 c.parts-home.result.1 q_is x_is h
     ∙ ap (λ (t : Contents). count_of t.pieces c.args.tail) c.self.view_is
 
-pub returns-in-len3 : goal.returns-in-len3
-returns-in-len3 c =
+pub returns-then-x-self : goal.returns-then-x-self
+returns-then-x-self c =
     let long = occupied_long _ _ _ _ _ _ _ _ _ _ c.self.invariant in
     let h = long_run _ _ _ _ _ _ _ _ _ _ c.self.invariant c.parts-home.result.0 (let low = c.if-home-len.false in let len = c.len.ensures in omega arith)
     (omega (arith, c.start-at.ensures, c.start-end.ensures, c.if-end-at.false)) in
     let bounds = hold_bounds _ _ _ _ _ _ _ _ _ _ c.self.invariant c.parts-home.result.0 h in
     let q_is = c.parts-home.ensures.quotient ∙ ap (λ (t : Contents). c.args.tail / 2 ^ t.width) (sym c.self.view_is) in
     let x_is = c.parts-home.ensures.remainder ∙ ap (λ (t : Contents). c.args.tail % 2 ^ t.width) (sym c.self.view_is) in
-    let text = c.part-run.ensures ∙ ap (λ k. take (k - c.start-at.result) (drop c.start-at.result c.self.inside.rows.slots.items)) c.start-end.ensures
-    ∙ ap (λ k. take (c.parts-home.result.0 + 1 + get_or c.self.inside.rows.spill.items (c.parts-home.result.0 + 1) 0 - k) (drop k c.self.inside.rows.slots.items)) c.start-at.ensures
-    ∙ bounds.slice in
-    let count = count_present _ _ _ _ _ _ _ _ _ _ c.self.invariant c.args.tail c.parts-home.result.0 c.parts-home.result.1 q_is x_is h in
-    let few_events = few _ _ _ _ _ _ _ _ _ _ c.self.invariant in
-    let below = count_le (built c.self.inside.added) c.args.tail in
-    let three = three_count c.self.inside.width h.pairs c.parts-home.result.1 _ _ _ h.some h.ascend
-    (sym text ∙ three_of c.part-run.result.now (omega (arith, c.in-len3.len_at_least, c.in-len3.len_below))) in
-    three_answer _ _ _ c.parts-home.result.1 _ c.count_in_three.result three (omega arith)
-    c.count_in_three.ensures.other c.count_in_three.ensures.counter c.count_in_three.ensures.apart
-    ∙ count ∙ ap (λ (t : Contents). count_of t.pieces c.args.tail) c.self.view_is
+    let few = (c.self.invariant).in_room in
+    let events = (c.self.invariant).events_are in
+    c.count_above_all.ensures c.self.inside.width h.pairs (let b = mod_below c.args.tail (2 ^ c.self.inside.width) (pow_pos c.self.inside.width) in omega (arith, c.parts-home.ensures.remainder, x_is))
+    (record {
+      ascend = h.ascend;
+      text = c.part-run.ensures ∙ ap (λ k. take (k - c.start-at.result) (drop c.start-at.result c.self.inside.rows.slots.items)) c.start-end.ensures
+          ∙ ap (λ k. take (c.parts-home.result.0 + 1 + get_or c.self.inside.rows.spill.items (c.parts-home.result.0 + 1) 0 - k) (drop k c.self.inside.rows.slots.items)) c.start-at.ensures
+          ∙ bounds.slice;
+    })
+    (held_below c.self.inside.width c.parts-home.result.1 _ c.parts-home.result.0 (built c.self.inside.added) h (omega (arith, few, events, c.if-x-self.true)))
+    ∙ count_present _ _ _ _ _ _ _ _ _ _ c.self.invariant c.args.tail c.parts-home.result.0 c.parts-home.result.1 q_is x_is h
+    ∙ ap (λ (t : Contents). count_of t.pieces c.args.tail) c.self.view_is
