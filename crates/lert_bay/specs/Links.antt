@@ -1,5 +1,5 @@
 -- The list that a chain of snapshots stands for.
-use Rattle.std.specs.Prelude.{ℕ, ◌+◌, List, [], ◌∷◌, ◌++◌}
+use Rattle.std.specs.Prelude.{◌+◌, [], ◌∷◌, ◌++◌}
 use Rattle.lert_bay.specs.Chain.{Chain}
 use Rattle.lert_bay.specs.declared.past.Link.{Link}
 use Rattle.lert_bay.specs.declared.past.Link.TheVariants.{Start, Then, Same}

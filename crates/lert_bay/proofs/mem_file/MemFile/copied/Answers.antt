@@ -1,4 +1,4 @@
-use Rattle.std.proofs.Common.{◌≡◌, map, ap, ◌∙◌}
+use Rattle.std.proofs.Common.{map, ap, ◌∙◌}
 use Rattle.lert_bay.specs.Pending.{bytes_of, kept_by}
 use Rattle.lert_bay.proofs.Copying.{pending_copied}
 use Rattle.lert_bay.proofs.mem_file.MemFile.copied.Goals as goal
