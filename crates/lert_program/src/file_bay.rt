@@ -56,6 +56,9 @@ fn read_whole(file: &File, at: u64, into: &mut [u8]) -> io::Result<usize>
 {
     let mut done = 0;
     for _ in 0..u64::MAX {
+        if done == into.len() {
+            return Ok(done);
+        }
         match file.read_at(&mut into[done..], at.saturating_add(done as u64)) {
             Ok(0) => return Ok(done),
             Ok(count) => done += count,
