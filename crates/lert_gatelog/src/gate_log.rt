@@ -55,8 +55,12 @@ impl GateLog {
 
     /// The place of the gate that the log stands at.
     pub fn gate(&self) -> u64
-        ensures { result ≡ self.now.gate }
+        ensures value { result ≡ self.now.gate }
+
+        // The greatest length of a payload fits the four bytes that stand before one.
+        ensures most { self.now.most < 2 ^ 32 }
     {
+        let _ = &self.most;
         self.gate
     }
 

@@ -9,6 +9,7 @@
 mod entries;
 mod header;
 mod lay;
+mod payload;
 
-pub use entries::append_entry;
+pub use entries::{append_entry, read_entry};
 pub use header::{HEADER_LEN, read_header, write_header};
