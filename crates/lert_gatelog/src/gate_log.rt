@@ -76,6 +76,7 @@ impl GateLog {
         requires empty { IfTold (B.files bay.old) (λ seen. seen file ≡ []) }
         ensures made { IfOk result (λ log. log ≡ record { file = file; gate = length header.now; most = most }) }
         ensures text { IfTold (B.files bay.old) (λ _. OnOk result (InEach (B.leaves bay.new) file (λ bytes. bytes ≡ header.now ++ 0 ∷ []))) }
+        ensures closed { IfTold (B.files bay.old) (λ _. OnOk result (InEach (B.leaves bay.new) file (λ bytes. IsClosed bytes (length header.now)))) }
         ensures settled { OnOk result (IfTold (B.files bay.new) (λ seen. IsWhollySettled (B.leaves bay.new) seen file)) }
         ensures others { IfTold (B.files bay.old) (λ seen. KeepsOthers (B.leaves bay.old) (B.left_since bay.new (B.moment bay.old)) seen file) }
         ensures seen { Turns (OthersStay file) (B.files bay.old) (B.files bay.new) }

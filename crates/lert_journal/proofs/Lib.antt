@@ -4,3 +4,4 @@ pub mod PayloadBack
 pub mod PayloadLaws
 pub mod PayloadWhole
 pub mod OneAnswer
+pub mod BeginningLaws

@@ -12,4 +12,4 @@ mod lay;
 mod payload;
 
 pub use entries::{append_entry, read_entry};
-pub use header::{HEADER_LEN, read_header, write_header};
+pub use header::{HEADER_LEN, header_left, read_header, write_header};
