@@ -1,8 +1,8 @@
 -- The bytes at a gate are an open record, a closed gate or a place at which they leave the format: only one of these.
-use Rattle.std.proofs.Common.{◌≡◌, ℕ, ◌+◌, ◌<◌, ◌≤◌, List, length, take, drop, get_or, refl, sym, ap, ◌∙◌, inl, inr, arith, length-take, length-drop}
+use Rattle.std.proofs.Common.{◌≡◌, ℕ, ◌+◌, ◌≤◌, List, [], ◌∷◌, length, get_or, refl, sym, subst, ap, ap₂, ◌∙◌, inl, inr, arith}
 use Rattle.std.proofs.lemmas.List.{get_or_past}
 use Rattle.lert_bay.specs.Settled.{part}
-use Rattle.lert_gatelog.specs.Gated.{next_gate, counted_at, IsOpen, IsClosed, IsCutShort, No_gate, Cut_length, Cut_payload, IsMiscounted, BreaksAt}
+use Rattle.lert_gatelog.specs.Gated.{next_gate, IsOpen, IsClosed, Records, IsGated, IsCutShort, No_gate, Cut_length, Cut_payload, IsMiscounted, BreaksAt}
 use Rattle.lert_gatelog.proofs.GatedLaws.{part_within}
 
 -- a gate that is 1 lies in the file
@@ -54,3 +54,15 @@ one_place most bytes gate at other (inl (at_is, cut)) (inl (other_is, cut_too)) 
 one_place most bytes gate at other (inl (at_is, cut)) (inr (other_is, miscounted)) = absurd (cut_or_miscounted most bytes gate cut miscounted)
 one_place most bytes gate at other (inr (at_is, miscounted)) (inl (other_is, cut)) = absurd (cut_or_miscounted most bytes gate cut miscounted)
 one_place most bytes gate at other (inr (at_is, miscounted)) (inr (other_is, miscounted_too)) = at_is ∙ sym other_is
+
+-- the open records of a file are one list, which ends at one gate
+pub one_list : (most : ℕ) (bytes : List ℕ) (first : ℕ) (one other : List (List ℕ)) (end too : ℕ) → IsGated most bytes first one end → IsGated most bytes first other too → (one ≡ other) × (end ≡ too)
+one_list most bytes first [] [] end too a b = (refl, a.records ∙ sym b.records)
+one_list most bytes first [] (payload ∷ rest) end too a b = absurd (open_or_closed most bytes first payload b.records.0 (subst (λ (gate : ℕ). IsClosed bytes gate) a.records a.closed))
+one_list most bytes first (payload ∷ rest) [] end too a b = absurd (open_or_closed most bytes first payload a.records.0 (subst (λ (gate : ℕ). IsClosed bytes gate) b.records b.closed))
+one_list most bytes first (payload ∷ rest) (second ∷ others) end too a b =
+    let same = one_payload most bytes first payload second a.records.0 b.records.0 in
+    let behind = one_list most bytes (next_gate first payload) rest others end too
+    (record { records = a.records.1; closed = a.closed })
+    (record { records = subst (λ (text : List ℕ). Records most bytes (next_gate first text) others too) (sym same) b.records.1; closed = b.closed }) in
+    (ap₂ (λ x xs. x ∷ xs) same behind.0, behind.1)

@@ -60,7 +60,6 @@ impl GateLog {
         // The greatest length of a payload fits the four bytes that stand before one.
         ensures most { self.now.most < 2 ^ 32 }
     {
-        let _ = &self.most;
         self.gate
     }
 

@@ -1,15 +1,14 @@
 -- Bytes that leave the format nowhere are the payload of a packet that the journal may hold.
-use Rattle.std.proofs.Common.{◌≡◌, ℕ, zero, suc, ◌+◌, ◌-◌, ◌*◌, ◌/◌, ◌%◌, ◌<◌, ◌≤◌, ◌^◌, ◌&&◌, ◌==◌, Bool, true, false, not, cond, nat_lt, nat_le, Option, Some, None, List, [], ◌∷◌, ◌++◌, length, take, drop, get_or, map, refl, sym, subst, ap, ap₂, arith, ◌∙◌, append_assoc, length-drop, inl, inr}
+use Rattle.std.proofs.Common.{◌≡◌, ℕ, zero, suc, ◌+◌, ◌-◌, ◌*◌, ◌/◌, ◌%◌, ◌<◌, ◌≤◌, ◌^◌, ◌&&◌, ◌==◌, Bool, true, false, not, nat_lt, nat_le, Option, Some, None, List, [], ◌∷◌, ◌++◌, length, take, drop, map, refl, sym, subst, ap, ap₂, arith, ◌∙◌, append_assoc, length-drop, inl, inr}
 use Rattle.std.specs.Prelude.{flat_map, All, option_map, if◌then◌else◌, slice_index}
 use Rattle.std.specs.Int.{bytes_low_first, byte_at}
 use Rattle.std.specs.List.{range_with_len, position_from}
 use Rattle.std.proofs.lemmas.List.{drop_more, drop_all, take-append-drop, drop-drop, get_or-drop}
 use Rattle.std.proofs.lemmas.List.FromFn.{length-map-range_with_len}
-use Rattle.std.proofs.lemmas.Bool.{and_parts, cases_eq, eqb-true, ltb-false, leb-true, ne_eqb, eq-eqb, true≢false}
+use Rattle.std.proofs.lemmas.Bool.{and_parts, cases_eq, eqb-true, ltb-false, leb-true, ne_eqb, true≢false}
 use Rattle.std.proofs.Math.Nat.{div-div-eq-div-mul, pow-succ'}
 use Rattle.std.proofs.lemmas.Option.{none-some}
-use Rattle.byteorder.specs.Endian.{little_number, little_bytes, little_from}
-use Rattle.lert_base.specs.Packet.{Packet}
+use Rattle.byteorder.specs.Endian.{little_bytes, little_from}
 use Rattle.lert_spec.specs.declared.numbers.Numbers.{Numbers}
 use Rattle.lert_spec.specs.Mix.{cone_of}
 use Rattle.lert_journal.specs.Payload.{payload_of, packet_in, key_in, is_counted, left, IsJournaled}
@@ -113,8 +112,7 @@ whole_packet s cone payload none =
     let some : 1 ≤ keys = leb-true 1 keys bounds.0 in
     let few : keys ≤ 4 * s.packet = leb-true keys (4 * s.packet) bounds.1 in
     let whole : length payload % 8 ≡ 0 = eqb-true (length payload % 8) 0 counted.0 in
-    let long : length packet.keys ≡ keys = length-map-range_with_len (key_in payload) 0 keys in
-    (
+    let long : length packet.keys ≡ keys = length-map-range_with_len (key_in payload) 0 keys in (
       whole,
       omega (arith, some),
       record {

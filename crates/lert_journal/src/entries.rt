@@ -121,7 +121,9 @@ pub fn read_entry<B: Bay>(
     };
     let payload = &buffer[..count];
     if let Some(place) = place_left(settings, cone, payload) {
-        return Err(LogFault::Malformed { at: gate + 1 + place });
+        return Err(LogFault::Malformed {
+            at: gate + 1 + place,
+        });
     }
     fill(entry, payload);
     *log = ahead;

@@ -12,6 +12,7 @@ use lert_mixer::cone_of;
 
 // The greatest number of who brings a packet, and of a trace.
 const MOST_BY: u32 = 63;
+
 const MOST_TRACE: u32 = 1023;
 
 /// The place at which a payload first leaves the format, counted from its length on, which stands four

@@ -113,14 +113,7 @@ fn first_answer(
     let mut log = GateLog::at_gate(JOURNAL, HEADER_LEN as u64, MOST_OF_HALVES);
     let mut entry = blank(alloc, 4)?;
     let mut buffer = [0; MOST_OF_HALVES as usize];
-    Ok(read_entry(
-        &mut log,
-        &mut bay,
-        settings,
-        0,
-        &mut entry,
-        &mut buffer,
-    ))
+    Ok(read_entry(&mut log, &mut bay, settings, 0, &mut entry, &mut buffer))
 }
 
 #[test]

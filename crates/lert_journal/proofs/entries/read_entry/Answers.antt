@@ -1,14 +1,12 @@
 -- What `next` said of the record, and what `place_left` said of its payload, decide the answer.
-use Rattle.std.proofs.Common.{◌≡◌, ℕ, ◌+◌, ◌<◌, List, Ok, Err, length, take, slice_index, None, Some, refl, sym, subst, ap, ◌∙◌, inl, inr, arith, rules, IsErrAnd, MatchResult}
+use Rattle.std.proofs.Common.{◌≡◌, ℕ, ◌+◌, Err, length, take, refl, sym, subst, ap, ◌∙◌, inl, inr, arith}
 use Rattle.std.proofs.lemmas.Result.{err_from_is_err_and}
 use Rattle.std.proofs.lemmas.List.{length-take-le}
 use Rattle.lert_base.specs.Entries.{packet_of}
-use Rattle.lert_bay.specs.Files.{Files}
 use Rattle.lert_gatelog.specs.declared.fault.LogFault.TheVariants.{Malformed}
-use Rattle.lert_gatelog.specs.Gated.{IsOpen, next_gate}
+use Rattle.lert_gatelog.specs.Gated.{IsOpen}
 use Rattle.lert_gatelog.proofs.Deciding.{open_or_closed, one_payload}
-use Rattle.lert_journal.specs.Payload.{payload_of, packet_in, left, IsJournaled}
-use Rattle.lert_journal.specs.Journal.{HoldsPacket, LeavesAt}
+use Rattle.lert_journal.specs.Payload.{payload_of, packet_in, IsJournaled}
 use Rattle.lert_journal.proofs.OneAnswer.{packet_or_left, closed_or_left, left_by_payload, one_place_left, same_fault, same_place, fails, fails_there}
 use Rattle.lert_journal.proofs.PayloadBack.{packet_back}
 use Rattle.lert_journal.proofs.PayloadWhole.{whole_packet}

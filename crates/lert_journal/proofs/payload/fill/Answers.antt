@@ -13,10 +13,10 @@ push-requires c =
 pub loop-n-preserved : goal.loop-n-preserved
 loop-n-preserved c = record {
   keys =
-    ap (λ list. list.keys) c.push.ensures
-    ∙ (ap (λ keys. keys ++ c.key_in.result ∷ []) c.loop-n.invariant.keys
-    ∙ (ap (λ key. map (key_in c.args.payload.now) (range_with_len 0 c.loop-n.n) ++ key ∷ []) c.key_in.ensures
-    ∙ sym (map-range_with_len_more (key_in c.args.payload.now) 0 c.loop-n.n c.loop-n.n (omega arith))));
+      ap (λ list. list.keys) c.push.ensures
+      ∙ (ap (λ keys. keys ++ c.key_in.result ∷ []) c.loop-n.invariant.keys
+      ∙ (ap (λ key. map (key_in c.args.payload.now) (range_with_len 0 c.loop-n.n) ++ key ∷ []) c.key_in.ensures
+      ∙ sym (map-range_with_len_more (key_in c.args.payload.now) 0 c.loop-n.n c.loop-n.n (omega arith))));
   room = ap (λ list. list.room) c.push.ensures ∙ c.loop-n.invariant.room;
   by = c.loop-n.invariant.by;
   trace = c.loop-n.invariant.trace;
