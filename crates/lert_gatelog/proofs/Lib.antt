@@ -2,3 +2,4 @@ pub mod Moments
 pub mod GatedLaws
 pub mod Appending
 pub mod Looking
+pub mod Deciding

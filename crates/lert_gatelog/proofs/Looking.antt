@@ -1,10 +1,10 @@
 -- What a header's text is, and what the bytes at a gate say.
 use Rattle.std.proofs.Common.{◌≡◌, ℕ, ◌+◌, ◌<◌, ◌≤◌, List, [], ◌∷◌, ◌++◌, length, take, drop, get_or, refl, sym, ap, ◌∙◌, subst, inl, arith, length-append, length-drop, append-nil, append_assoc}
-use Rattle.std.proofs.lemmas.List.{drop_more, drop_all, take_at, take_all, drop-take}
+use Rattle.std.proofs.lemmas.List.{get_or_at, drop_more, drop_all, take_at, take_all, drop-take}
 use Rattle.byteorder.specs.Endian.{little_number}
 use Rattle.lert_bay.specs.Files.{Holds, CopiesFrom}
 use Rattle.lert_bay.specs.Settled.{part}
-use Rattle.lert_gatelog.specs.Gated.{IsAnnounced, IsOpen, BreaksAt, Cut_payload, next_gate}
+use Rattle.lert_gatelog.specs.Gated.{IsAnnounced, IsOpen, IsClosed, BreaksAt, Cut_payload, next_gate}
 use Rattle.lert_gatelog.proofs.GatedLaws.{part_of_part, byte_of_part}
 
 -- the front of a block of zero bytes with a header in it
@@ -19,6 +19,13 @@ header_text header block short zero_bytes =
 pub text_alone : (old text new : List ℕ) → Holds 0 text old new → old ≡ [] → new ≡ text
 text_alone old text new held empty =
     held ∙ (ap (λ bytes. text ++ drop (0 + length text) bytes) empty ∙ (ap (λ bytes. text ++ bytes) (drop_all {X = ℕ} (0 + length text) [] (omega arith)) ∙ append-nil text))
+
+-- a closed gate stands behind the header
+pub closed_text : (header bytes : List ℕ) → bytes ≡ header ++ 0 ∷ [] → IsClosed bytes (length header)
+closed_text header bytes is = record {
+  within = omega (arith, ap length is, length-append header (0 ∷ []));
+  shut = λ one. absurd (omega (arith, one, ap (λ text. get_or text (length header) 0) is, get_or_at header 0 [] 0 (length header) refl));
+}
 
 -- five bytes that were read at a gate
 pub announced : (most gate read count : ℕ) (head bytes : List ℕ) → CopiesFrom gate read head bytes → 5 ≤ read → length head ≡ 5 → get_or head 0 0 ≡ 1 → count ≡ little_number 4 (take 4 (drop 1 head)) → IsAnnounced most bytes gate count

@@ -55,7 +55,10 @@ impl GateLog {
 
     /// The place of the gate that the log stands at.
     pub fn gate(&self) -> u64
-        ensures { result ≡ self.now.gate }
+        ensures value { result ≡ self.now.gate }
+
+        // The greatest length of a payload fits the four bytes that stand before one.
+        ensures most { self.now.most < 2 ^ 32 }
     {
         self.gate
     }
@@ -72,6 +75,7 @@ impl GateLog {
         requires empty { IfTold (B.files bay.old) (λ seen. seen file ≡ []) }
         ensures made { IfOk result (λ log. log ≡ record { file = file; gate = length header.now; most = most }) }
         ensures text { IfTold (B.files bay.old) (λ _. OnOk result (InEach (B.leaves bay.new) file (λ bytes. bytes ≡ header.now ++ 0 ∷ []))) }
+        ensures closed { IfTold (B.files bay.old) (λ _. OnOk result (InEach (B.leaves bay.new) file (λ bytes. IsClosed bytes (length header.now)))) }
         ensures settled { OnOk result (IfTold (B.files bay.new) (λ seen. IsWhollySettled (B.leaves bay.new) seen file)) }
         ensures others { IfTold (B.files bay.old) (λ seen. KeepsOthers (B.leaves bay.old) (B.left_since bay.new (B.moment bay.old)) seen file) }
         ensures seen { Turns (OthersStay file) (B.files bay.old) (B.files bay.new) }

@@ -1,9 +1,9 @@
 -- The formats, computed on a journal of three keys 7 and on payloads that break them.
-use Rattle.std.proofs.Common.{◌≡◌, ℕ, List, [], ◌∷◌, ◌++◌, Some, None, refl}
+use Rattle.std.proofs.Common.{◌≡◌, ℕ, List, [], ◌∷◌, ◌++◌, take, Some, None, refl}
 use Rattle.lert_base.specs.Packet.{Packet}
 use Rattle.lert_spec.specs.declared.numbers.Numbers.{Numbers}
 use Rattle.lert_spec.specs.Mix.{mix}
-use Rattle.lert_journal.specs.Header.{header, kept_in}
+use Rattle.lert_journal.specs.Header.{header, header_left, kept_in}
 use Rattle.lert_journal.specs.Payload.{payload_of, packet_in, left}
 
 -- settings with one cone, and with two
@@ -32,6 +32,19 @@ header_of_one_cone = refl
 
 header_read : kept_in header_bytes ≡ record { cone = 0; numbers = alone }
 header_read = refl
+
+-- no byte, a cut one, another version, and a header that nothing stands behind
+no_byte : header_left [] ≡ Some 0
+no_byte = refl
+
+cut_header : header_left (take 31 header_bytes) ≡ Some 31
+cut_header = refl
+
+other_version : header_left (0x4c ∷ 0x45 ∷ 0x52 ∷ 0x54 ∷ 0x4a ∷ 2 ∷ []) ≡ Some 5
+other_version = refl
+
+header_alone : header_left header_bytes ≡ None
+header_alone = refl
 
 payload_of_sevens : payload_of sevens ≡ sevens_bytes
 payload_of_sevens = refl

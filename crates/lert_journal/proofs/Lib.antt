@@ -2,3 +2,6 @@ mod Examples
 pub mod HeaderLaws
 pub mod PayloadBack
 pub mod PayloadLaws
+pub mod PayloadWhole
+pub mod OneAnswer
+pub mod BeginningLaws

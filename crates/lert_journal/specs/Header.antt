@@ -1,8 +1,9 @@
 -- The header of a journal: eight bytes that begin it, the eight numbers of its settings, and its cone.
-use Rattle.std.specs.Prelude.{ℕ, List, [], ◌∷◌, ◌++◌, drop, slice_index}
+use Rattle.std.specs.Prelude.{ℕ, List, [], ◌∷◌, ◌++◌, length, drop, slice_index, nat_lt, Option, Some, None, if◌then◌else◌}
 use Rattle.byteorder.specs.Endian.{little_number, little_bytes}
 use Rattle.lert_base.specs.declared.kept.Kept.{Kept}
 use Rattle.lert_spec.specs.declared.numbers.Numbers.{Numbers}
+use Rattle.lert_spec.specs.Trace.{agreed}
 
 -- the bytes that begin a journal: the letters LERTJ, and version 1
 abbrev pub magic : List ℕ
@@ -38,3 +39,11 @@ kept_in bytes = record {
     packet = number_at bytes 20;
   };
 }
+
+-- the place at which a file leaves the header of a journal: at the first of its first eight bytes that differs from
+-- those that begin one, else at its length, where it ends inside the header; none where it has a header, of whatever
+-- numbers. A file that ends behind its header leaves the format at its length too, for want of a gate
+abbrev pub header_left : List ℕ → Option ℕ
+header_left bytes =
+    if nat_lt (agreed magic bytes) 8 then Some (agreed magic bytes)
+    else (if nat_lt (length bytes) 32 then Some (length bytes) else None)

@@ -1,21 +1,22 @@
 //! The entries of a journal.
 
-ghost use Rattle.std.specs.Prelude.{◌≡◌, ℕ, ◌+◌, ◌*◌, ◌<◌, ◌≤◌, ◌^◌, List, [], ◌∷◌, ◌++◌, length, take, map, flat_map, OnOk, OnErr};
+ghost use Rattle.std.specs.Prelude.{◌≡◌, ◌⊎◌, ℕ, ◌+◌, ◌*◌, ◌<◌, ◌≤◌, ◌^◌, List, [], ◌∷◌, ◌++◌, length, take, flat_map, IfOk, OnOk, OnErr, IsErrAnd, MatchResult, IsTrue, IsFalse, IsErrOf, All};
 ghost use Rattle.byteorder.specs.Endian.{little_bytes};
 ghost use Rattle.lert_base.specs.Entries.{packet_of};
 ghost use Rattle.lert_base.specs.Packet.{Packet};
-ghost use Rattle.lert_bay.specs.Files.{IfTold, Turns};
-ghost use Rattle.lert_bay.specs.Images.{Lasts};
-ghost use Rattle.lert_gatelog.specs.Gated.{appendix, next_gate, IsClosed};
+ghost use Rattle.lert_bay.specs.Files.{Files, IfTold, Turns};
+ghost use Rattle.lert_bay.specs.Images.{KeepsImages, Lasts};
+ghost use Rattle.lert_gatelog.specs.Gated.{appendix, next_gate, IsOpen, IsClosed};
 ghost use Rattle.lert_gatelog.specs.Kept.{InEach, KeepsOthers, IsWhollySettled, OthersStay};
-ghost use Rattle.lert_io.specs.Fault.{HasCause};
-ghost use Rattle.lert_journal.specs.Payload.{payload_of};
-ghost use Rattle.lert_journal.specs.Journal.{HasPackets, HasPacketsOrOneMore};
+ghost use Rattle.lert_io.specs.Fault.{HasCause, HasRisen};
+ghost use Rattle.lert_journal.specs.Payload.{payload_of, IsJournaled};
+ghost use Rattle.lert_journal.specs.Journal.{HasPackets, HasPacketsOrOneMore, HoldsPacket, LeavesAt};
 
 use crate::lay::{put, put_key, put_number};
-use lert_base::Entry;
+use crate::payload::{fill, place_left};
+use lert_base::{Entry, Settings};
 use lert_bay::Bay;
-use lert_gatelog::GateLog;
+use lert_gatelog::{GateLog, LogFault};
 use lert_io::Failed;
 
 #[cfg(test)]
@@ -32,7 +33,6 @@ pub fn append_entry<B: Bay>(
 ) -> Result<(), Failed>
     requires some { 0 < length entry.now.keys.keys }
     requires few { 8 + 8 * length entry.now.keys.keys ≤ log.old.most }
-    requires counted { 8 + 8 * length entry.now.keys.keys < 2 ^ 32 }
     requires room { log.old.most + 5 ≤ length buffer.old }
     requires reach { log.old.gate + 14 + 8 * length entry.now.keys.keys < 2 ^ 63 }
     requires closed { IfTold (B.files bay.old) (λ _. InEach (B.leaves bay.old) log.old.file (λ bytes. IsClosed bytes log.old.gate)) }
@@ -56,8 +56,78 @@ pub fn append_entry<B: Bay>(
     ensures cause { HasCause (B.faults bay.old) (B.faults bay.new) result }
     ensures mark { B.mark bay.new ≡ B.mark bay.old }
 {
+    // Its clause bounds the payload's length.
+    let _ = log.gate();
     let len = write_text(entry, buffer);
     log.append(bay, &buffer[..len])
+}
+
+/// Reads the packet of the open record here into an entry, and moves on to the next gate. `log` is a journal's,
+/// whose greatest payload has 8 + 32P bytes, `entry` has a room of 4P keys, and `buffer` holds a payload; any
+/// bytes are in it afterwards. False comes exactly at a closed gate. After false and after a refusal the log
+/// stands where it stood, and the entry is as it was. It changes no file and takes no memory.
+pub fn read_entry<B: Bay>(
+    log: &mut GateLog,
+    bay: &mut B,
+    settings: &Settings,
+    cone: u32,
+    entry: &mut Entry,
+    buffer: &mut [u8],
+) -> Result<bool, LogFault>
+    requires most { log.old.most ≡ 8 + 32 * settings.now.packet }
+    requires entry { 4 * settings.now.packet ≤ entry.old.keys.room }
+    requires room { log.old.most ≤ length buffer.old }
+    requires reach { log.old.gate ≤ 2 ^ 62 }
+
+    // Where the file is told, the answer is what stands here.
+    ensures found { IfTold (B.files bay.old) (λ seen. IfOk result (λ found. IsTrue found →
+        IsOpen log.old.most (seen log.old.file) log.old.gate (payload_of (packet_of entry.new)))) }
+    ensures closed { IfTold (B.files bay.old) (λ seen. IfOk result (λ found. IsFalse found →
+        IsClosed (seen log.old.file) log.old.gate)) }
+    ensures malformed { IfTold (B.files bay.old) (λ seen. (at : ℕ) → IsErrOf result (LogFault.Malformed at) →
+        LeavesAt settings.now cone log.old.most (seen log.old.file) log.old.gate at) }
+
+    // And what stands here is the answer, but where a call of the bay fails.
+    ensures reads_back { IfTold (B.files bay.old) (λ seen. (packet : Packet) →
+        HoldsPacket settings.now cone log.old.most (seen log.old.file) log.old.gate packet →
+        MatchResult result (λ found. IsTrue found × (packet_of entry.new ≡ packet)) (λ fault. fault ≡ LogFault.Failed)) }
+    ensures ends { IfTold (B.files bay.old) (λ seen. IsClosed (seen log.old.file) log.old.gate →
+        MatchResult result (λ found. IsFalse found) (λ fault. fault ≡ LogFault.Failed)) }
+    ensures refuses { IfTold (B.files bay.old) (λ seen. (at : ℕ) →
+        LeavesAt settings.now cone log.old.most (seen log.old.file) log.old.gate at →
+        IsErrAnd result (λ fault. (fault ≡ LogFault.Failed) ⊎ (fault ≡ LogFault.Malformed at))) }
+
+    // Told or not, the packet is one that this cone's journal may hold.
+    ensures journaled { IfOk result (λ found. IsTrue found → IsJournaled settings.now cone (packet_of entry.new)) }
+    ensures moved { IfOk result (λ found. IsTrue found →
+        log.new ≡ record log.old { gate = next_gate log.old.gate (payload_of (packet_of entry.new)) }) }
+    ensures forward { IfOk result (λ found. IsTrue found →
+        (log.old.gate < log.new.gate) × (log.new.gate ≤ log.old.gate + 13 + 32 * settings.now.packet)) }
+    ensures waits { IfOk result (λ found. IsFalse found → (log.new ≡ log.old) × (entry.new ≡ entry.old)) }
+    ensures stayed { OnErr result ((log.new ≡ log.old) × (entry.new ≡ entry.old)) }
+    ensures room { entry.new.keys.room ≡ entry.old.keys.room }
+    ensures seen { B.files bay.new ≡ B.files bay.old }
+    ensures images { KeepsImages (B.leaves bay.old) (B.leaves bay.new) }
+    ensures moments { (image : Files) → B.left_since bay.new (B.moment bay.old) image → B.leaves bay.old image }
+    ensures time { Lasts (B.moment bay.old) (B.moment bay.new) (B.left_since bay.old) (B.left_since bay.new) }
+    ensures never_falls { B.faults bay.old ≤ B.faults bay.new }
+    ensures failed { IsErrOf result LogFault.Failed → HasRisen (B.faults bay.old) (B.faults bay.new) }
+    ensures mark { B.mark bay.new ≡ B.mark bay.old }
+{
+    let gate = log.gate();
+    let mut ahead = *log;
+    let Some(count) = ahead.next(bay, buffer)? else {
+        return Ok(false);
+    };
+    let payload = &buffer[..count];
+    if let Some(place) = place_left(settings, cone, payload) {
+        return Err(LogFault::Malformed {
+            at: gate + 1 + place,
+        });
+    }
+    fill(entry, payload);
+    *log = ahead;
+    Ok(true)
 }
 
 // Writes to the front what a log appends for an entry: the payload behind its length, and one byte 0.

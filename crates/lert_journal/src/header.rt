@@ -1,7 +1,8 @@
 //! The header of a journal.
 
-ghost use Rattle.std.specs.Prelude.{◌≡◌, ◌≢◌, ◌+◌, ◌≤◌, take, MatchOption};
-ghost use Rattle.lert_journal.specs.Header.{magic, header, number_at, kept_in};
+ghost use Rattle.std.specs.Prelude.{◌≡◌, ◌≢◌, ℕ, ◌+◌, ◌≤◌, List, length, take, MatchOption, IfNone};
+ghost use Rattle.lert_journal.specs.Header.{magic, header, header_left, number_at, kept_in};
+ghost use Rattle.lert_spec.specs.Trace.{agreed};
 
 use crate::lay::{put, put_number};
 use byteorder::{ByteOrder, LittleEndian};
@@ -59,6 +60,34 @@ pub fn read_header(bytes: &[u8; HEADER_LEN]) -> Option<Kept>
             packet: u64::from(number_at(bytes, 20)),
         },
     })
+}
+
+/// The place at which a file leaves the header of a journal, from its first 32 bytes, or all where it has fewer. It
+/// is that of the first of eight bytes that begins no journal, else the file's length, where it ends inside the
+/// header. None where a header stands there, of whatever numbers.
+pub fn header_left(bytes: &[u8]) -> Option<u64>
+    ensures place { (file : List ℕ) → bytes.now ≡ take 32 file → result ≡ header_left file }
+    ensures whole { IfNone result ((32 ≤ length bytes.now) × (take 8 bytes.now ≡ magic)) }
+{
+    let same = agreed(&MAGIC, bytes);
+    if same < MAGIC.len() {
+        return Some(same as u64);
+    }
+    if bytes.len() < HEADER_LEN {
+        return Some(bytes.len() as u64);
+    }
+    None
+}
+
+// How many bytes two texts have in common, from the front on.
+fn agreed(text: &[u8], bytes: &[u8]) -> usize
+    ensures { result ≡ agreed text.now bytes.now }
+{
+    let mut same = 0;
+    while same < text.len() && same < bytes.len() && text[same] == bytes[same] {
+        same += 1;
+    }
+    same
 }
 
 // The number in the four bytes from a place on.

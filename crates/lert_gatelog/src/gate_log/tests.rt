@@ -106,6 +106,18 @@ fn a_file_leaves_the_format_at_a_place(rt: HostRuntime) -> Result<(), Fail> {
 }
 
 #[test]
+fn a_header_and_its_gate_are_one_write(rt: HostRuntime) -> Result<(), Fail> {
+    let mut bay = MemBay::new(rt.alloc())?;
+    bay.stop_at(2);
+    assert_eq!(rt;
+        GateLog::create(&mut bay, LOG, b"head", MOST).is_err(),
+        true
+    );
+    assert_eq!(rt; bay.bytes(LOG), b"head\0".as_slice());
+    Ok(())
+}
+
+#[test]
 fn a_failed_call_is_told(rt: HostRuntime) -> Result<(), Fail> {
     let mut bay = MemBay::new(rt.alloc())?;
     bay.load(LOG, b"head\0")?;

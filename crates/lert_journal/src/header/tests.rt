@@ -61,3 +61,20 @@ fn other_first_bytes_begin_no_journal(rt: HostRuntime) {
         assert_eq!(rt; read_header(&bytes), None, "at {place}");
     }
 }
+
+#[test]
+fn a_file_leaves_the_header_at_a_place(rt: HostRuntime) {
+    let broken: [(&[u8], Option<u64>); 8] = [
+        (b"", Some(0)),
+        (b"LER", Some(3)),
+        (b"LERt", Some(3)),
+        (b"LERTJ\x02\0\0\x03", Some(5)),
+        (b"LERTJ\x01\0\0", Some(8)),
+        (b"LERTJ\x01\0\0\x03", Some(9)),
+        (&TEXT[..31], Some(31)),
+        (&TEXT, None),
+    ];
+    for (bytes, at) in broken {
+        assert_eq!(rt; header_left(bytes), at);
+    }
+}

@@ -1,6 +1,6 @@
 use Rattle.std.proofs.Common.{ℕ, ◌++◌, [], ◌+◌, length, take, drop, replicate, ap, ◌∙◌, arith}
 use Rattle.lert_bay.proofs.Laid.{zeros_past}
-use Rattle.lert_gatelog.proofs.Looking.{text_alone, header_text}
+use Rattle.lert_gatelog.proofs.Looking.{text_alone, header_text, closed_text}
 use Rattle.lert_gatelog.proofs.Appending.{keeps_one, wholly_settled}
 use Rattle.lert_gatelog.proofs.gate_log.GateLog.create.Goals as goal
 
@@ -22,3 +22,6 @@ returns-clause-text g c seen told image now =
     ∙ (text_alone (seen c.args.file) _ (wrote.0 c.args.file) wrote.2.here (c.requires.empty seen told)
     ∙ (ap (λ front. take (length c.args.header.now + 1) (front ++ drop (length c.args.header.now) (replicate {A = ℕ} 33 0))) c.copy_from_slice.ensures.after
     ∙ header_text c.args.header.now (replicate {A = ℕ} 33 0) (omega (arith, c.requires.header)) (zeros_past [] 33)))
+
+pub returns-clause-closed : goal.returns-clause-closed
+returns-clause-closed g c seen told image now = closed_text c.args.header.now (image c.args.file) (returns-clause-text g c seen told image now)

@@ -1,0 +1,30 @@
+-- Where a file leaves the header is decided by its first bytes.
+use Rattle.std.proofs.Common.{◌≡◌, ℕ, zero, suc, ◌<◌, ◌≤◌, ◌==◌, cond, nat_lt, Some, None, List, [], ◌∷◌, length, take, refl, sym, ap, ◌∙◌, arith, length-take}
+use Rattle.std.specs.Prelude.{if◌then◌else◌}
+use Rattle.std.proofs.lemmas.Bool.{lt-ltb, le-ltb}
+use Rattle.std.proofs.lemmas.List.{take_all}
+use Rattle.lert_spec.specs.Trace.{agreed}
+use Rattle.lert_journal.specs.Header.{magic, header_left}
+
+-- bytes past the text change nothing
+agreed_front : (text bytes : List ℕ) (n : ℕ) → length text ≤ n → agreed text (take n bytes) ≡ agreed text bytes
+agreed_front [] bytes n enough = refl
+agreed_front (x ∷ text) bytes zero enough = absurd (omega (arith, enough))
+agreed_front (x ∷ text) [] (suc n) enough = refl
+agreed_front (x ∷ text) (y ∷ bytes) (suc n) enough = ap (λ rest. cond (x == y) (suc rest) 0) (agreed_front text bytes n (omega (arith, enough)))
+
+-- behind the right eight bytes the length decides
+length_decides : (file : List ℕ) → 8 ≤ agreed magic file → header_left file ≡ (if nat_lt (length file) 32 then Some (length file) else None)
+length_decides file begins = ap (λ b. if b then Some (agreed magic file) else (if nat_lt (length file) 32 then Some (length file) else None)) (le-ltb (agreed magic file) 8 begins)
+
+-- a file that ends inside the header
+pub front_short : (file bytes : List ℕ) → bytes ≡ take 32 file → 8 ≤ agreed magic bytes → length bytes < 32 → Some (length bytes) ≡ header_left file
+front_short file bytes is begins short =
+    let same : bytes ≡ file = is ∙ take_all 32 file (omega (arith, short, ap length is, length-take 32 file)) in
+    sym (sym (ap header_left same) ∙ (length_decides bytes begins ∙ ap (λ b. if b then Some (length bytes) else None) (lt-ltb (length bytes) 32 short)))
+
+-- a file with a header
+pub front_whole : (file bytes : List ℕ) → bytes ≡ take 32 file → 8 ≤ agreed magic bytes → 32 ≤ length bytes → None ≡ header_left file
+front_whole file bytes is begins whole =
+    let begins_file : 8 ≤ agreed magic file = omega (arith, begins, ap (agreed magic) is, agreed_front magic file 32 (omega arith)) in
+    sym (length_decides file begins_file ∙ ap (λ b. if b then Some (length file) else None) (le-ltb (length file) 32 (omega (arith, whole, ap length is, length-take 32 file))))
