@@ -1,4 +1,4 @@
-//! The cone and its calls.
+//! A cone in memory, whose levels are lists.
 
 ghost use Rattle.std.specs.Prelude.{◌≡◌, ℕ, ◌+◌, ◌-◌, ◌^◌, ◌<◌, ◌≤◌, ◌↔◌, true, false, [], ◌∷◌, ◌++◌, length, map, filter, slice_range, All, IfOk, OnOk, OnErr};
 ghost use Rattle.lert_spec.specs.Bins.{tallied};
@@ -59,6 +59,23 @@ impl ListCone {
             listed: Listed::new(alloc),
             closed: false,
         })
+    }
+
+    // The cone with this number in the place of its own.
+    pub(crate) fn numbered(mut self, cone: u32) -> ListCone
+        requires empty { self.events ≡ [] }
+        requires named { cone < 2 ^ self.settings.cone_bits }
+        ensures { result ≡ record self { cone = cone } }
+    {
+        self.cone = cone;
+        self
+    }
+
+    /// The settings.
+    pub fn settings(&self) -> &Settings
+        ensures { result.now ≡ self.now.settings }
+    {
+        self.levels.settings()
     }
 
     /// Takes the next key, and lists the reports that are due with it.

@@ -3,8 +3,8 @@ use Rattle.lert_spec.specs.declared.piece.Piece.{Piece}
 use Rattle.lert_spec.specs.declared.report.Report.{Report}
 use Rattle.lert_cone.specs.Listing.{reports_of}
 use Rattle.lert_cone.proofs.DueLemmas.{tail_within, due_reports-some, due_reports-none}
-use Rattle.lert_cone.proofs.cone.ListCone.due_among.Goals as goal
-use Rattle.lert_cone.proofs.cone.ListCone.due_among.Goals.{in-Some+in_ok-push, in_default}
+use Rattle.lert_cone.proofs.list_cone.ListCone.due_among.Goals as goal
+use Rattle.lert_cone.proofs.list_cone.ListCone.due_among.Goals.{in-Some+in_ok-push, in_default}
 
 pub due_key-requires : goal.due_key-requires
 due_key-requires c = tail_within 0 _ c.args.pieces.now c.loop-piece.piece-index _ c.requires c.loop-piece-test.true

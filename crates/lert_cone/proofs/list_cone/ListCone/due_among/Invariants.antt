@@ -3,7 +3,7 @@ use Rattle.lert_spec.specs.Look.{is_listed}
 use Rattle.lert_spec.specs.declared.report.Report.{Report}
 use Rattle.lert_cone.specs.Due.{due_reports}
 use Rattle.lert_cone.specs.Listing.{reports_of}
-use Rattle.lert_cone.proofs.cone.ListCone.due_among.Given as goal
+use Rattle.lert_cone.proofs.list_cone.ListCone.due_among.Given as goal
 
 abbrev pub invariant-loop-piece : goal.invariant-loop-piece
 invariant-loop-piece l = record {

@@ -7,7 +7,7 @@ use Rattle.lert_spec.specs.Table.{count_of, total}
 use Rattle.lert_cone.specs.Due.{due_reports}
 use Rattle.lert_cone.specs.Listing.{reports_of}
 use Rattle.lert_cone.proofs.NextLemmas.{older_table, older_fits, flush_table, next-flush}
-use Rattle.lert_cone.proofs.cone.ListCone.due_flush.Goals as goal
+use Rattle.lert_cone.proofs.list_cone.ListCone.due_flush.Goals as goal
 
 pub merge-requires-clause-left : goal.merge-requires-clause-left
 merge-requires-clause-left c =

@@ -1,7 +1,7 @@
 use Rattle.std.proofs.Common.{◌≤◌, sym, ◌∙◌, subst}
 use Rattle.lert_spec.specs.declared.numbers.Numbers.{Numbers}
 use Rattle.lert_cone.proofs.DueLemmas.{due_key-listed, due_key-fresh}
-use Rattle.lert_cone.proofs.cone.ListCone.due_key.Goals as goal
+use Rattle.lert_cone.proofs.list_cone.ListCone.due_key.Goals as goal
 
 pub returns-then-reported : goal.returns-then-reported
 returns-then-reported c =

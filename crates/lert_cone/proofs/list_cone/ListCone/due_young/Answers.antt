@@ -2,7 +2,7 @@ use Rattle.std.proofs.Common.{[], ◌∷◌, ◌++◌, List, ◌+◌, ◌<◌, �
 use Rattle.lert_spec.specs.declared.numbers.Numbers.{Numbers}
 use Rattle.lert_spec.specs.declared.report.Report.{Report}
 use Rattle.lert_cone.proofs.NextLemmas.{next-few, next-listed, next-reached}
-use Rattle.lert_cone.proofs.cone.ListCone.due_young.Goals as goal
+use Rattle.lert_cone.proofs.list_cone.ListCone.due_young.Goals as goal
 
 pub returns-then-young_count-numbers-clause-value :
     goal.returns-then-young_count-numbers-clause-value

@@ -3,7 +3,7 @@ use Rattle.lert_spec.specs.declared.numbers.Numbers.{Numbers}
 use Rattle.lert_cone.specs.Due.{due_reports}
 use Rattle.lert_cone.specs.Listing.{reports_of}
 use Rattle.lert_cone.proofs.NextLemmas.{finish_table, AreListed-finish}
-use Rattle.lert_cone.proofs.cone.ListCone.finish.Goals as goal
+use Rattle.lert_cone.proofs.list_cone.ListCone.finish.Goals as goal
 
 pub due_among-requires : goal.due_among-requires
 due_among-requires c =

@@ -1,5 +1,5 @@
 use Rattle.lert_cone.proofs.Timing.{timely_if_closed, timely_if_open}
-use Rattle.lert_cone.proofs.cone.ListCone.reports.Goals as goal
+use Rattle.lert_cone.proofs.list_cone.ListCone.reports.Goals as goal
 
 pub returns-clause-in_time : goal.returns-clause-in_time
 returns-clause-in_time c = timely_if_closed _ _ _ _ _ c.self.invariant c.args.self.now c.self.view_is _ c.as_slice.ensures

@@ -3,7 +3,7 @@ use Rattle.lert_spec.specs.Edges.{capacity}
 use Rattle.lert_spec.specs.Mix.{cone_of}
 use Rattle.lert_cone.specs.Listing.{Listing}
 use Rattle.lert_cone.proofs.NextLemmas.{AreListed-take}
-use Rattle.lert_cone.proofs.cone.ListCone.take.Goals as goal
+use Rattle.lert_cone.proofs.list_cone.ListCone.take.Goals as goal
 
 room_left : (length capacity n most : ℕ) → n ≡ length → n ≤ capacity → most ≡ capacity → (n ≡ most → ⊥) → length < capacity
 room_left length capacity n most is within most_is differs = omega arith
