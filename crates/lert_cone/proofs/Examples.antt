@@ -1,5 +1,5 @@
 -- The definitions, computed on the files that three keys 7 leave.
-use Rattle.std.proofs.Common.{◌≡◌, ℕ, zero, suc, List, [], ◌∷◌, ◌++◌, All, refl, arith, rules}
+use Rattle.std.proofs.Common.{◌≡◌, ℕ, zero, suc, List, [], ◌∷◌, refl, arith}
 use Rattle.std.proofs.lemmas.List.Elements.{All-nil, All-cons}
 use Rattle.lert_base.specs.Packet.{Packet}
 use Rattle.lert_bay.specs.Files.{Files}
@@ -7,7 +7,7 @@ use Rattle.lert_journal.specs.Payload.{IsJournaled}
 use Rattle.lert_spec.specs.declared.numbers.Numbers.{Numbers}
 use Rattle.lert_spec.specs.Mix.{mix, cone_of}
 use Rattle.lert_cone.specs.History.{events_of, most_payload, end_of}
-use Rattle.lert_cone.specs.Sound.{IsSound, log_text}
+use Rattle.lert_cone.specs.Sound.{IsSound}
 
 abbrev small : Numbers
 small = record { threshold = 3; bins = 3; ratio = 2; base = 4; levels = 2; cone_bits = 0; room = 32; packet = 8 }

@@ -1,26 +1,23 @@
 -- The files of a cone as their headers leave them, and through an append.
-use Rattle.std.proofs.Common.{◌≡◌, ◌≢◌, ℕ, ◌+◌, ◌*◌, ◌<◌, ◌≤◌, List, [], ◌∷◌, ◌++◌, length, take, get_or, Option, Some, None, All, refl, sym, ap, ◌∙◌, ◌⊎◌, subst, inl, inr, arith, length-append, length-take}
-use Rattle.std.specs.Prelude.{flat_map}
+use Rattle.std.proofs.Common.{◌≡◌, ℕ, ◌+◌, ◌*◌, ◌<◌, ◌≤◌, List, [], ◌∷◌, ◌++◌, length, take, get_or, Option, Some, None, All, refl, sym, ap, ◌∙◌, subst, arith, length-append}
 use Rattle.std.proofs.Common.{append-nil, suc}
 use Rattle.std.proofs.Math.Seq.{get_or-append_seam}
 use Rattle.std.proofs.lemmas.Grind.{flat_map-append}
 use Rattle.std.proofs.lemmas.List.{take-take, take_at, take_all}
-use Rattle.std.proofs.lemmas.List.Elements.{All-append, All-nil, All-cons}
+use Rattle.std.proofs.lemmas.List.Elements.{All-nil}
 use Rattle.std.proofs.lemmas.Option.{none-some, same_Some}
 use Rattle.lert_base.specs.Packet.{Packet}
-use Rattle.lert_bay.specs.Files.{Files, Turns, IfTold}
-use Rattle.lert_bay.specs.Settled.{part, Keeps, IsSettled}
+use Rattle.lert_bay.specs.Files.{Files, Turns}
+use Rattle.lert_bay.specs.Settled.{part, Keeps}
 use Rattle.lert_gatelog.specs.Gated.{IsClosed, next_gate}
-use Rattle.lert_gatelog.specs.Kept.{InEach, KeepsOthers, KeepsBefore, IsWhollySettled, OthersStay}
+use Rattle.lert_gatelog.specs.Kept.{InEach, KeepsOthers, IsWhollySettled, OthersStay}
 use Rattle.lert_gatelog.proofs.GatedLaws.{byte_of_part, part_within}
 use Rattle.lert_journal.specs.Header.{header}
-use Rattle.lert_journal.specs.Journal.{HasPackets, HasPacketsOrOneMore}
 use Rattle.lert_journal.specs.Payload.{payload_of, IsJournaled}
 use Rattle.lert_journal.proofs.PayloadLaws.{length_payload}
 use Rattle.lert_spec.specs.declared.numbers.Numbers.{Numbers}
-use Rattle.lert_spec.specs.Edges.{capacity}
-use Rattle.lert_cone.specs.History.{events_of, most_payload, end_of}
-use Rattle.lert_cone.specs.Sound.{IsSound, IsSoundOver, IsKept, IsKeptWhole, log_text}
+use Rattle.lert_cone.specs.History.{events_of, end_of}
+use Rattle.lert_cone.specs.Sound.{IsSound, IsKeptWhole, log_text}
 
 -- ---- told files
 

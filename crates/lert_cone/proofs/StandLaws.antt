@@ -1,11 +1,11 @@
 -- Which lists a cone stands for: when it is made, through an append, and when it is finished.
-use Rattle.std.proofs.Common.{◌≡◌, ◌≢◌, ℕ, ◌+◌, ◌*◌, ◌<◌, ◌≤◌, Bool, true, false, List, [], ◌∷◌, ◌++◌, length, Option, Some, None, All, Result, Ok, Err, OnOk, OnErr, cond, refl, sym, ap, ◌∙◌, ◌⊎◌, subst, inl, inr, arith, length-append}
+use Rattle.std.proofs.Common.{◌≡◌, ℕ, ◌+◌, ◌<◌, ◌≤◌, Bool, true, false, List, [], ◌∷◌, ◌++◌, length, Option, Some, None, All, Result, Ok, Err, OnOk, OnErr, cond, refl, sym, ap, ◌∙◌, subst, inl, inr, arith, length-append}
 use Rattle.std.proofs.lemmas.Bool.{false≢true, cases_lt}
 use Rattle.std.proofs.lemmas.List.Elements.{All-append, All-nil, All-cons}
 use Rattle.std.specs.Result.{is_err}
 use Rattle.lert_base.specs.Packet.{Packet}
 use Rattle.lert_bay.specs.Files.{Files, IfTold, Turns}
-use Rattle.lert_bay.specs.Settled.{part, Keeps, IsSettled}
+use Rattle.lert_bay.specs.Settled.{part}
 use Rattle.lert_gatelog.specs.Gated.{IsClosed, Log, next_gate}
 use Rattle.lert_gatelog.specs.Kept.{InEach, KeepsOthers, KeepsBefore, IsWhollySettled, OthersStay}
 use Rattle.lert_io.specs.Fault.{HasRisen, last_count}
@@ -17,12 +17,12 @@ use Rattle.lert_spec.specs.Edges.{capacity}
 use Rattle.lert_spec.specs.Limits.{IsValid}
 use Rattle.lert_cone.specs.declared.state.ConeState.{ConeState}
 use Rattle.lert_cone.specs.declared.state.ConeState.TheVariants.{Running, Finished, BrokenByBay, BrokenByMemory}
-use Rattle.lert_cone.specs.History.{events_of, most_payload, end_of}
+use Rattle.lert_cone.specs.History.{events_of, most_payload}
 use Rattle.lert_spec.specs.Look.{look, closing}
 use Rattle.lert_cone.specs.Listing.{Listing, reports_of}
-use Rattle.lert_cone.specs.Sound.{IsSound, IsSoundOver, IsKept, IsKeptWhole, log_text}
-use Rattle.lert_cone.specs.Stands.{Standing, StandsFor, IsCone, IsWhole, is_broken, is_finished}
-use Rattle.lert_cone.proofs.SoundLaws.{events_more, counted_more, end_more, end_near, turns_back}
+use Rattle.lert_cone.specs.Sound.{IsSound, IsSoundOver, IsKept, IsKeptWhole}
+use Rattle.lert_cone.specs.Stands.{Standing, StandsFor, IsCone, IsWhole, is_broken}
+use Rattle.lert_cone.proofs.SoundLaws.{events_more, counted_more, end_more, turns_back}
 
 -- ---- an append, where the bay tells its files
 

@@ -1,5 +1,5 @@
 -- The memory of a cone before it has a number.
-use Rattle.std.specs.Prelude.{◌≡◌, ℕ, ◌+◌, List, [], false}
+use Rattle.std.specs.Prelude.{◌≡◌, ℕ, ◌+◌, [], false}
 use Rattle.lert_spec.specs.declared.numbers.Numbers.{Numbers}
 use Rattle.lert_spec.specs.Limits.{IsValid}
 use Rattle.lert_cone.specs.History.{most_payload}

@@ -1,4 +1,4 @@
-use Rattle.std.proofs.Common.{◌≡◌, ◌∙◌, length, take, ap, arith, Err, length-append, length-take}
+use Rattle.std.proofs.Common.{◌∙◌, length, take, ap, arith, Err, length-append, length-take}
 use Rattle.lert_spec.specs.Edges.{capacity}
 use Rattle.lert_cone.specs.Listing.{Listing}
 use Rattle.lert_cone.proofs.cone.take_keys.Goals as goal

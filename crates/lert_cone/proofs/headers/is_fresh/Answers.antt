@@ -1,4 +1,4 @@
-use Rattle.std.proofs.Common.{rules, ◌≡◌, ◌∙◌, sym, ap, length, arith}
+use Rattle.std.proofs.Common.{rules, ◌∙◌, ap, length, arith}
 use Rattle.std.proofs.lemmas.List.{nil_from_length}
 use Rattle.lert_cone.proofs.headers.is_fresh.Goals as goal
 

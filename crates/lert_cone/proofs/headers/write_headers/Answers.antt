@@ -1,9 +1,7 @@
-use Rattle.std.proofs.Common.{◌≡◌, ◌∙◌, ◌++◌, ◌∷◌, [], sym, ap, length, refl}
+use Rattle.std.proofs.Common.{◌∙◌, ◌++◌, ◌∷◌, [], ap, refl}
 use Rattle.lert_bay.proofs.Lasting.{lasts_on}
-use Rattle.lert_bay.specs.Files.{Files}
 use Rattle.lert_gatelog.specs.Kept.{OthersStay}
-use Rattle.lert_journal.specs.Header.{header}
-use Rattle.lert_cone.proofs.SoundLaws.{turns_back, IsBegun, begun_closed, begun_whole}
+use Rattle.lert_cone.proofs.SoundLaws.{turns_back, begun_closed, begun_whole}
 use Rattle.lert_cone.proofs.headers.write_headers.Goals as goal
 
 pub returns-clause-time : goal.returns-clause-time

@@ -1,10 +1,8 @@
-use Rattle.std.proofs.Common.{ℕ, ◌≡◌, ◌∙◌, ◌+◌, ◌++◌, ◌∷◌, [], List, length, take, drop, refl, sym, ap, subst, inl, arith, rules, Some, Err}
+use Rattle.std.proofs.Common.{ℕ, ◌≡◌, ◌∙◌, ◌+◌, ◌++◌, List, length, take, drop, refl, sym, ap, subst, inl, arith, rules, Some}
 use Rattle.lert_base.specs.declared.entry.Entry.{Entry}
 use Rattle.lert_base.specs.Entries.{packet_of}
-use Rattle.lert_base.specs.Packet.{Packet}
 use Rattle.std.specs.Prelude.{◌≤◌}
 use Rattle.std.specs.List.{length_refill}
-use Rattle.lert_bay.specs.Files.{Files}
 use Rattle.lert_gatelog.specs.Gated.{IsClosed, Log}
 use Rattle.lert_gatelog.specs.Kept.{InEach, IsWhollySettled, OthersStay}
 use Rattle.lert_spec.specs.Edges.{capacity}

@@ -1,5 +1,5 @@
-use Rattle.std.proofs.Common.{◌≡◌, ◌∙◌, ap, length, false, true, rules, refl}
-use Rattle.lert_cone.specs.Stands.{is_broken, is_finished}
+use Rattle.std.proofs.Common.{◌∙◌, ap, length, rules}
+use Rattle.lert_cone.specs.Stands.{is_broken}
 use Rattle.lert_cone.proofs.StandLaws.{stands_finished, stands_unfinished, finished_cone, ended_reports, when_ok, when_err}
 use Rattle.lert_cone.proofs.cone.Cone.finish.Goals as goal
 

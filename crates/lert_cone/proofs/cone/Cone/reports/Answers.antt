@@ -1,5 +1,4 @@
-use Rattle.std.proofs.Common.{◌≡◌, ◌∙◌, ap, false, true, cond}
-use Rattle.lert_spec.specs.Look.{look, closing}
+use Rattle.std.proofs.Common.{◌∙◌, ap}
 use Rattle.lert_cone.specs.Stands.{is_broken, is_finished}
 use Rattle.lert_cone.proofs.StandLaws.{reports_running, reports_finished}
 use Rattle.lert_cone.proofs.cone.Cone.reports.Goals as goal
