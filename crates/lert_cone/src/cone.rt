@@ -1,224 +1,361 @@
-//! The cone and its calls.
+//! A cone over its files.
 
-ghost use Rattle.std.specs.Prelude.{◌≡◌, ℕ, ◌+◌, ◌-◌, ◌^◌, ◌<◌, ◌≤◌, ◌↔◌, true, false, [], ◌∷◌, ◌++◌, length, map, filter, slice_range, All, IfOk, OnOk, OnErr};
-ghost use Rattle.lert_spec.specs.Bins.{tallied};
-ghost use Rattle.lert_spec.specs.Edges.{edge, depth, capacity};
-ghost use Rattle.lert_spec.specs.Look.{is_listed, look};
+ghost use Rattle.std.specs.Prelude.{◌≡◌, ℕ, ◌+◌, ◌<◌, ◌≤◌, ◌^◌, ◌↔◌, ◌++◌, [], ◌∷◌, true, false, List, length, Some, None, Err, All, IfOk, IfErr, OnOk, OnErr, IsErrOf};
+ghost use Rattle.lert_base.specs.Entries.{packet_of};
+ghost use Rattle.lert_base.specs.Packet.{Packet};
+ghost use Rattle.lert_bay.specs.Files.{Files, IfTold, Turns};
+ghost use Rattle.lert_bay.specs.Images.{Lasts, KeepsImages};
+ghost use Rattle.lert_gatelog.specs.Gated.{IsClosed, next_gate};
+ghost use Rattle.lert_gatelog.specs.Kept.{InEach, OthersStay};
+ghost use Rattle.lert_io.specs.Fault.{HasRisen};
+ghost use Rattle.lert_journal.specs.Payload.{IsJournaled, payload_of};
+ghost use Rattle.lert_spec.specs.Edges.{capacity};
+ghost use Rattle.lert_spec.specs.Look.{look, closing};
 ghost use Rattle.lert_spec.specs.Mix.{cone_of};
-ghost use Rattle.lert_spec.specs.Table.{IsTable};
 ghost use Rattle.lert_spec.specs.Timely.{IsTimely, IsTimelySoFar};
+ghost use Rattle.lert_cone.specs.History.{events_of, most_payload};
+ghost use Rattle.lert_cone.specs.Listing.{reports_of};
+ghost use Rattle.lert_cone.specs.Sound.{AreEmpty, FramesStay, IsSound, IsSoundOver, IsKeptWhole};
+ghost use Rattle.lert_cone.specs.Stands.{StandsFor, Answers, IsSameCone, is_broken, is_refusal};
 
+use crate::acked::Acked;
 use crate::fault::ListFault;
-use crate::levels::Levels;
-use crate::listed::Listed;
-use crate::merge::merge;
-use lert_base::{Piece, Report, Settings};
-use lert_io::OutOfMemory;
-use lert_mixer::{key_of, tail_of};
-use std::alloc::Global;
+use crate::headers::{is_fresh, write_headers};
+use crate::list_cone::ListCone;
+use crate::refusal::{ConeFault, CreateFault, CreateRefused};
+use crate::room::ConeRoom;
+use crate::state::ConeState;
+use lert_base::{Entry, Report, Settings};
+use lert_bay::Bay;
+use lert_gatelog::GateLog;
+use lert_io::{Failed, OutOfMemory};
+use lert_journal::append_entry;
 use std::marker::Model;
+use std::snapshot::Snapshot;
 
-/// A cone with its keys, seen as its settings, its number, the keys taken so far and whether it is finished.
+#[cfg(test)]
+mod tests;
+
+/// A cone that acknowledges a packet only when its record is on the disk.
 ///
-/// A key costs a look-up in each bin of level 0, and a place in the newest one. At each whole number of bases the counts
-/// of as many levels as the flush reaches are merged.
+/// It stands for the list of the packets that it acknowledged. A packet costs the four calls of one append, two of
+/// them syncs, and each of its keys what it costs a `ListCone`.
 #[derive(Drop)]
-pub struct ListCone {
-    alloc: Global,
-    cone: u32,
-    levels: Levels,
-    listed: Listed,
-    closed: bool,
+pub struct Cone<B: Bay> {
+    bay: B,
+    made: Snapshot<B>,
+    list: ListCone,
+    journal: GateLog,
+    buffer: Vec<u8>,
+    events: u64,
+    state: ConeState,
+    over: Option<Snapshot<Entry>>,
 }
 
-impl Model for ListCone {
-    ghost use Rattle.lert_cone.specs.Listing.{Listing, AreListed};
+impl<B: Bay> Model for Cone<B> {
+    ghost use Rattle.std.specs.Prelude.{length};
+    ghost use Rattle.lert_cone.specs.Stands.{Standing, IsCone, over_of};
 
-    ghost Value = { Listing };
+    ghost Value = { Standing B };
 
-    ghost view = { λ c. record { settings = c.levels.settings; cone = c.cone; events = c.levels.events; closed = c.closed } };
+    ghost view = { λ c. record {
+      bay = c.bay;
+      made = c.made.value;
+      listing = c.list;
+      events = c.events;
+      state = c.state;
+      over = over_of c.over;
+      gate = c.journal.gate;
+    } };
 
-    ghost invariant = { λ c. AreListed c.levels.settings c.cone c.levels.events c.closed c.listed };
+    ghost invariant = { λ c. IsCone B.files B.leaves B.faults (record {
+      bay = c.bay;
+      made = c.made.value;
+      listing = c.list;
+      events = c.events;
+      state = c.state;
+      over = over_of c.over;
+      gate = c.journal.gate;
+    }) c.journal (length c.buffer.items) };
 }
 
-impl ListCone {
-    ghost use Rattle.lert_cone.specs.Listing.{reports_of};
-    ghost use Rattle.lert_cone.specs.Due.{due_reports, due_key};
+impl<B: Bay> Cone<B> {
+    /// A cone without a packet: writes and syncs the headers and the first gates of the journal and the log. Takes no
+    /// memory. A refusal hands the bay and the room back; after `Failed` any bytes may stand in these two files.
+    pub fn create(room: ConeRoom, cone: u32, mut bay: B) -> Result<Cone<B>, CreateRefused<B>>
+        requires { cone < 2 ^ room.cone_bits }
+        ensures made { IfOk result (λ c. c ≡ record {
+          bay = c.bay;
+          made = c.bay;
+          listing = record { settings = room; cone = cone; events = []; closed = false };
+          events = 0;
+          state = ConeState.Running;
+          over = None;
+          gate = 32;
+        }) }
+        ensures stands_for { IfOk result (λ c. StandsFor B.files B.leaves B.faults c []) }
+        ensures frames { IfOk result (λ c. Turns FramesStay (B.files bay) (B.files c.bay)) }
+        ensures never_falls { IfOk result (λ c. B.faults bay ≤ B.faults c.bay) }
+        ensures mark { IfOk result (λ c. B.mark c.bay ≡ B.mark bay) }
 
-    /// A cone with no key.
-    pub fn new(alloc: Global, settings: &Settings, cone: u32) -> Result<ListCone, OutOfMemory>
-        requires { cone < 2 ^ settings.now.cone_bits }
-        ensures { IfOk result (λ c. c ≡ record { settings = settings.now; cone = cone; events = []; closed = false }) }
+        // Where the bay tells its files, Ok comes only where all are empty, and NotFresh only where one isn't.
+        ensures fresh { IfTold (B.files bay) (λ seen. OnOk result (AreEmpty seen)) }
+        ensures not_fresh { IfTold (B.files bay) (λ seen. IfErr result (λ refused. refused.fault ≡ CreateFault.NotFresh → AreEmpty seen → ⊥)) }
+
+        // Nothing is written but into empty files.
+        ensures unwritten { IfTold (B.files bay) (λ seen. IfErr result (λ refused. (AreEmpty seen → ⊥) →
+            (B.files refused.bay ≡ B.files bay) × KeepsImages (B.leaves bay) (B.leaves refused.bay))) }
+        ensures handed_back { IfErr result (λ refused. (refused.room ≡ room)
+            × Turns FramesStay (B.files bay) (B.files refused.bay)
+            × (B.faults bay ≤ B.faults refused.bay) × (B.mark refused.bay ≡ B.mark bay)) }
+        ensures failed { IfErr result (λ refused. refused.fault ≡ CreateFault.Failed → HasRisen (B.faults bay) (B.faults refused.bay)) }
     {
-        let _valid = settings.numbers();
-        let levels = Levels::new(alloc, settings)?;
-        Ok(ListCone {
-            alloc,
-            cone,
-            levels,
-            listed: Listed::new(alloc),
-            closed: false,
+        match begin(&mut bay, room.settings(), cone) {
+            Ok(journal) => {
+                let (list, buffer) = room.into_parts(cone);
+                Ok(Cone {
+                    made: Snapshot::of(&bay),
+                    bay,
+                    list,
+                    journal,
+                    buffer,
+                    events: 0,
+                    state: ConeState::Running,
+                    over: None,
+                })
+            }
+            Err(fault) => Err(CreateRefused { fault, bay, room }),
+        }
+    }
+
+    /// Takes the packet of an entry: appends it to the journal, and then takes its keys, one after another. Ok comes
+    /// when the packet is on the disk and its keys are counted.
+    pub fn admit(&mut self, entry: &Entry) -> Result<Acked, ConeFault>
+        requires fits { IsJournaled self.old.listing.settings self.old.listing.cone (packet_of entry.now) }
+
+        // Ok makes the list into the list and the packet.
+        ensures stands_for { OnOk result ((h : List Packet) → StandsFor B.files B.leaves B.faults self.old h →
+            StandsFor B.files B.leaves B.faults self.new (h ++ packet_of entry.now ∷ [])) }
+        ensures answers { IfOk result (λ acked. (h : List Packet) → StandsFor B.files B.leaves B.faults self.old h →
+            Answers (B.files self.old.bay) self.old.listing.settings h (packet_of entry.now) acked) }
+        ensures acked { IfOk result (λ acked. acked ≡ record {
+          from = self.old.events + 1;
+          to = self.old.events + length entry.now.keys.keys;
+          reports = length (look self.old.listing.settings self.new.listing.events);
+        }) }
+        ensures taken { OnOk result (self.new ≡ record self.old {
+          bay = self.new.bay;
+          listing = record self.old.listing { events = self.old.listing.events ++ entry.now.keys.keys };
+          events = self.old.events + length entry.now.keys.keys;
+          gate = next_gate self.old.gate (payload_of (packet_of entry.now));
+        }) }
+
+        // A refusal leaves the lists, and the first three leave all.
+        ensures stays { OnErr result ((h : List Packet) → StandsFor B.files B.leaves B.faults self.old h →
+            StandsFor B.files B.leaves B.faults self.new h) }
+        ensures unchanged { IfErr result (λ fault. is_refusal fault ≡ true → self.new ≡ self.old) }
+        ensures broke { IfErr result (λ fault. is_refusal fault ≡ false → self.new ≡ record self.old {
+          bay = self.new.bay;
+          listing = record self.old.listing { events = self.new.listing.events };
+          state = self.new.state;
+          over = Some (packet_of entry.now);
+          gate = self.new.gate;
+        }) }
+
+        ensures same_cone { IsSameCone self.old self.new }
+
+        // Why it refuses.
+        ensures closed { (result ≡ Err ConeFault.Closed) ↔ (self.old.state ≡ ConeState.Finished) }
+        ensures broken { (result ≡ Err ConeFault.Broken) ↔ (is_broken self.old.state ≡ true) }
+        ensures full { (n len : ℕ) → (result ≡ Err (ConeFault.CapacityFull n len)) ↔
+            ((self.old.state ≡ ConeState.Running) × (n ≡ self.old.events) × (len ≡ length entry.now.keys.keys)
+            × (capacity self.old.listing.settings < n + len)) }
+        ensures bay_failed { IsErrOf result ConeFault.BayFailed →
+            (self.new.state ≡ ConeState.BrokenByBay) × HasRisen (B.faults self.old.bay) (B.faults self.new.bay) }
+        ensures out_of_memory { IsErrOf result ConeFault.OutOfMemory → self.new.state ≡ ConeState.BrokenByMemory }
+
+        // In each image of each moment of the call the files are sound for the list, or for the list and the packet.
+        ensures each_moment { is_broken self.old.state ≡ false → IfTold (B.files self.old.bay) (λ _. (h : List Packet) →
+            StandsFor B.files B.leaves B.faults self.old h → (image : Files) →
+            B.left_since self.new.bay (B.moment self.old.bay) image →
+            IsSoundOver self.old.listing.settings self.old.listing.cone h (Some (packet_of entry.now)) image) }
+        ensures seen { Turns (OthersStay 0) (B.files self.old.bay) (B.files self.new.bay) }
+        ensures time { Lasts (B.moment self.old.bay) (B.moment self.new.bay) (B.left_since self.old.bay) (B.left_since self.new.bay) }
+        ensures never_falls { B.faults self.old.bay ≤ B.faults self.new.bay }
+        ensures mark { B.mark self.new.bay ≡ B.mark self.old.bay }
+    {
+        let len = entry.keys.len() as u64;
+        self.test(len)?;
+        if append_entry(&mut self.journal, &mut self.bay, entry, &mut self.buffer).is_err() {
+            self.over = Some(Snapshot::of(entry));
+            self.state = ConeState::BrokenByBay;
+            return Err(ConeFault::BayFailed);
+        }
+        if take_keys(&mut self.list, entry.keys.as_slice()).is_err() {
+            self.over = Some(Snapshot::of(entry));
+            self.state = ConeState::BrokenByMemory;
+            return Err(ConeFault::OutOfMemory);
+        }
+        let from = self.events + 1;
+        self.events += len;
+        Ok(Acked {
+            from,
+            to: self.events,
+            reports: self.list.reports().len() as u64,
         })
     }
 
-    /// Takes the next key, and lists the reports that are due with it.
-    pub fn take(&mut self, key: u64) -> Result<(), ListFault>
-        requires { cone_of self.old.settings key ≡ self.old.cone }
-        ensures ok { OnOk result (self.new ≡ record self.old { events = self.old.events ++ key ∷ [] }) }
-        ensures refused { OnErr result (self.new ≡ self.old) }
+    /// Ends the cone: makes the reports that are left, and answers how many stand then. It makes no call of the bay.
+    pub fn finish(&mut self) -> Result<u64, ConeFault>
+        ensures stands_for { OnOk result ((h : List Packet) → StandsFor B.files B.leaves B.faults self.old h →
+            StandsFor B.files B.leaves B.faults self.new h) }
+        ensures answers { IfOk result (λ reports. (h : List Packet) → StandsFor B.files B.leaves B.faults self.old h →
+            IfTold (B.files self.old.bay) (λ _. reports ≡ length (closing self.old.listing.settings (events_of h)))) }
+        ensures reports { IfOk result (λ reports. reports ≡ length (closing self.old.listing.settings self.old.listing.events)) }
+        ensures finished { OnOk result (self.new ≡ record self.old {
+          listing = record self.old.listing { closed = true };
+          state = ConeState.Finished;
+        }) }
 
-        ensures closed { (result ≡ Err ListFault.Closed) ↔ (self.old.closed ≡ true) }
-        ensures full { (n len : ℕ) → (result ≡ Err (ListFault.CapacityFull n len)) ↔
-            ((self.old.closed ≡ false) × (length self.old.events ≡ capacity self.old.settings) ×
-            (n ≡ length self.old.events) × (len ≡ 1)) }
+        // A refusal leaves the list, and the first two leave all.
+        ensures stays { OnErr result ((h : List Packet) → StandsFor B.files B.leaves B.faults self.old h →
+            StandsFor B.files B.leaves B.faults self.new h) }
+        ensures unchanged { IfErr result (λ fault. is_refusal fault ≡ true → self.new ≡ self.old) }
+        ensures broke { IfErr result (λ fault. is_refusal fault ≡ false →
+            (fault ≡ ConeFault.OutOfMemory) × (self.new ≡ record self.old { state = ConeState.BrokenByMemory })) }
+
+        ensures same_cone { IsSameCone self.old self.new }
+
+        // Why it refuses.
+        ensures closed { (result ≡ Err ConeFault.Closed) ↔ (self.old.state ≡ ConeState.Finished) }
+        ensures broken { (result ≡ Err ConeFault.Broken) ↔ (is_broken self.old.state ≡ true) }
+        ensures never_full { (n len : ℕ) → result ≡ Err (ConeFault.CapacityFull n len) → ⊥ }
     {
-        if self.closed {
-            return Err(ListFault::Closed);
+        self.test_state()?;
+        if self.list.finish().is_err() {
+            self.state = ConeState::BrokenByMemory;
+            return Err(ConeFault::OutOfMemory);
         }
-        let n = self.levels.len();
-        if n == self.levels.settings().capacity() {
-            return Err(ListFault::CapacityFull { n, len: 1 });
-        }
-        self.levels.make_room()?;
-        let due = self.due(key)?;
-        self.listed.append(&due)?;
-        self.levels.add(key);
-        Ok(())
+        self.state = ConeState::Finished;
+        Ok(self.list.reports().len() as u64)
     }
 
-    /// Ends the cone, and lists the reports that are left.
-    pub fn finish(&mut self) -> Result<(), ListFault>
-        ensures ok { OnOk result (self.new ≡ record self.old { closed = true }) }
-        ensures refused { OnErr result (self.new ≡ self.old) }
-
-        ensures closed { (result ≡ Err ListFault.Closed) ↔ (self.old.closed ≡ true) }
-        ensures never_full { (n len : ℕ) → result ≡ Err (ListFault.CapacityFull n len) → ⊥ }
-    {
-        if self.closed {
-            return Err(ListFault::Closed);
-        }
-        let oldest = self.levels.settings().numbers().levels as u32;
-        let pieces = self.levels.gather(oldest)?;
-        let due = self.due_among(&pieces, self.levels.len())?;
-        self.listed.append(&due)?;
-        self.closed = true;
-        Ok(())
-    }
-
-    /// The reports, in the order of their positions. No key is in them twice.
+    /// The reports, in the order of their positions. No key is in them twice. Of a broken cone's nothing is said.
     pub fn reports(&self) -> &[Report]
-        ensures value { result.now ≡ reports_of self.now }
+        ensures value { result.now ≡ reports_of self.now.listing }
+        ensures running { self.now.state ≡ ConeState.Running → (h : List Packet) → StandsFor B.files B.leaves B.faults self.now h →
+            IfTold (B.files self.now.bay) (λ _. result.now ≡ look self.now.listing.settings (events_of h)) }
+        ensures finished { self.now.state ≡ ConeState.Finished → (h : List Packet) → StandsFor B.files B.leaves B.faults self.now h →
+            IfTold (B.files self.now.bay) (λ _. result.now ≡ closing self.now.listing.settings (events_of h)) }
+
         // A key that reaches the threshold stands there, and soon enough.
-        ensures in_time { self.now.closed ≡ true →
-            IsTimely self.now.settings.threshold self.now.settings.bins self.now.events result.now }
-        ensures in_time_so_far { self.now.closed ≡ false →
-            IsTimelySoFar self.now.settings.threshold self.now.settings.bins self.now.events result.now }
+        ensures in_time { self.now.state ≡ ConeState.Finished →
+            IsTimely self.now.listing.settings.threshold self.now.listing.settings.bins self.now.listing.events result.now }
+        ensures in_time_so_far { self.now.state ≡ ConeState.Running →
+            IsTimelySoFar self.now.listing.settings.threshold self.now.listing.settings.bins self.now.listing.events result.now }
     {
-        self.listed.as_slice()
+        self.list.reports()
     }
 
-    /// How many keys it took.
+    /// How many keys the packets have that it acknowledged.
     pub fn events(&self) -> u64
-        ensures count { result ≡ length self.now.events }
-        ensures within { result ≤ capacity self.now.settings }
+        ensures count { result ≡ self.now.events }
+        ensures within { result ≤ capacity self.now.listing.settings }
+        ensures memory { is_broken self.now.state ≡ false → result ≡ length self.now.listing.events }
     {
-        self.levels.len()
+        self.events
     }
 
-    /// Whether it is finished.
-    pub fn is_closed(&self) -> bool
-        ensures { result ≡ self.now.closed }
+    /// What it may still do. It is broken by its bay only where the bay's count rose since the cone was made.
+    pub fn state(&self) -> ConeState
+        ensures value { result ≡ self.now.state }
+        ensures by_bay { result ≡ ConeState.BrokenByBay → HasRisen (B.faults self.now.made) (B.faults self.now.bay) }
     {
-        self.closed
+        self.state
     }
 
-    // The reports that the next key brings.
-    fn due(&self, key: u64) -> Result<Vec<Report>, OutOfMemory>
-        requires still { self.now.closed ≡ false }
-        requires own { cone_of self.now.settings key ≡ self.now.cone }
-        requires fits { length self.now.events < capacity self.now.settings }
-        ensures value { IfOk result (λ due.
-            look self.now.settings (self.now.events ++ key ∷ []) ≡ reports_of self.now ++ due.items) }
-        ensures fresh { IfOk result (λ due. All (λ report. is_listed report.key (reports_of self.now) ≡ false) due.items) }
+    /// The bay, whatever the state.
+    pub fn into_bay(self) -> B
+        ensures { result ≡ self.bay }
     {
-        let at = self.levels.len() + 1;
-        let depth = self.levels.settings().depth(at);
-        if depth == 0 {
-            self.due_young(key, at)
-        } else {
-            self.due_flush(key, at, depth)
-        }
+        let Cone { bay, .. } = self;
+        bay
     }
 
-    // The report that the next key brings where no edge moves: its own, where level 0 holds enough of it.
-    fn due_young(&self, key: u64, at: u64) -> Result<Vec<Report>, OutOfMemory>
-        requires still { self.now.closed ≡ false }
-        requires own { cone_of self.now.settings key ≡ self.now.cone }
-        requires next { at ≡ length self.now.events + 1 }
-        requires shallow { 0 ≡ depth self.now.settings at }
-        ensures value { IfOk result (λ due.
-            look self.now.settings (self.now.events ++ key ∷ []) ≡ reports_of self.now ++ due.items) }
-        ensures fresh { IfOk result (λ due. All (λ report. is_listed report.key (reports_of self.now) ≡ false) due.items) }
+    // The tests of a packet of so many keys, in their order.
+    fn test(&self, len: u64) -> Result<(), ConeFault>
+        requires { len < 2 ^ 32 }
+        ensures ok { OnOk result ((self.now.state ≡ ConeState.Running) × (self.now.events + len ≤ capacity self.now.listing.settings)) }
+        ensures closed { (result ≡ Err ConeFault.Closed) ↔ (self.now.state ≡ ConeState.Finished) }
+        ensures broken { (result ≡ Err ConeFault.Broken) ↔ (is_broken self.now.state ≡ true) }
+        ensures full { (n more : ℕ) → (result ≡ Err (ConeFault.CapacityFull n more)) ↔
+            ((self.now.state ≡ ConeState.Running) × (n ≡ self.now.events) × (more ≡ len)
+            × (capacity self.now.listing.settings < n + more)) }
+        ensures refusal { IfErr result (λ fault. is_refusal fault ≡ true) }
     {
-        let report = Report { key, at };
-        let mut due = Vec::new(self.alloc);
-        if self.levels.young_count(key) + 1 < self.levels.settings().numbers().threshold {
-            return Ok(due);
+        self.test_state()?;
+        let capacity = self.list.settings().capacity();
+        if self.events + len > capacity {
+            return Err(ConeFault::CapacityFull {
+                n: self.events,
+                len,
+            });
         }
-        if self.listed.contains(key) {
-            return Ok(due);
-        }
-        due.push(report)?;
-        Ok(due)
+        Ok(())
     }
 
-    // The reports that the next key brings where the edges of `reach` levels move: those of all keys that are due.
-    fn due_flush(&self, key: u64, at: u64, reach: u32) -> Result<Vec<Report>, OutOfMemory>
-        requires still { self.now.closed ≡ false }
-        requires own { cone_of self.now.settings key ≡ self.now.cone }
-        requires next { at ≡ length self.now.events + 1 }
-        requires deep { reach ≡ depth self.now.settings at }
-        requires leveled { reach ≤ self.now.settings.levels }
-        ensures value { IfOk result (λ due.
-            look self.now.settings (self.now.events ++ key ∷ []) ≡ reports_of self.now ++ due.items) }
-        ensures fresh { IfOk result (λ due. All (λ report. is_listed report.key (reports_of self.now) ≡ false) due.items) }
+    // The tests of any call.
+    fn test_state(&self) -> Result<(), ConeFault>
+        ensures ok { OnOk result (self.now.state ≡ ConeState.Running) }
+        ensures closed { (result ≡ Err ConeFault.Closed) ↔ (self.now.state ≡ ConeState.Finished) }
+        ensures broken { (result ≡ Err ConeFault.Broken) ↔ (is_broken self.now.state ≡ true) }
+        ensures refusal { IfErr result (λ fault. is_refusal fault ≡ true) }
+        ensures never_full { (n len : ℕ) → result ≡ Err (ConeFault.CapacityFull n len) → ⊥ }
     {
-        let older = self.levels.gather(reach)?;
-        let tail = tail_of(self.levels.settings(), key);
-        let pieces = merge(self.alloc, &older, &[Piece { tail, count: 1 }])?;
-        self.due_among(&pieces, at)
+        match self.state {
+            ConeState::Running => Ok(()),
+            ConeState::Finished => Err(ConeFault::Closed),
+            ConeState::BrokenByBay | ConeState::BrokenByMemory => Err(ConeFault::Broken),
+        }
     }
+}
 
-    // The reports at a position of the pieces that reach the threshold, where the key isn't reported.
-    fn due_among(&self, pieces: &[Piece], at: u64) -> Result<Vec<Report>, OutOfMemory>
-        requires { IsTable (2 ^ (64 - self.now.settings.cone_bits)) pieces.now }
-        ensures value { IfOk result (λ due.
-            due.items ≡ due_reports self.now.settings self.now.cone (reports_of self.now) at pieces.now) }
-        ensures fresh { IfOk result (λ due. All (λ report. is_listed report.key (reports_of self.now) ≡ false) due.items) }
-    {
-        let mut due = Vec::new(self.alloc);
-        for piece in pieces {
-            if let Some(key) = self.due_key(piece) {
-                due.push(Report { key, at })?;
-            }
-        }
-        Ok(due)
+// Writes the headers into files that are all empty.
+fn begin<B: Bay>(bay: &mut B, settings: &Settings, cone: u32) -> Result<GateLog, CreateFault>
+    requires named { cone < 2 ^ settings.now.cone_bits }
+    ensures journal { IfOk result (λ log. log ≡ record { file = 0; gate = 32; most = most_payload settings.now }) }
+    ensures sound { OnOk result (IfTold (B.files bay.new) (λ seen. IsKeptWhole (B.leaves bay.new) seen (IsSound settings.now cone []))) }
+    ensures closed { OnOk result (IfTold (B.files bay.new) (λ _. InEach (B.leaves bay.new) 0 (λ bytes. IsClosed bytes 32))) }
+    ensures fresh { IfTold (B.files bay.old) (λ seen. OnOk result (AreEmpty seen)) }
+    ensures not_fresh { IfTold (B.files bay.old) (λ seen. IsErrOf result CreateFault.NotFresh → AreEmpty seen → ⊥) }
+    ensures unwritten { IfTold (B.files bay.old) (λ seen. OnErr result ((AreEmpty seen → ⊥) →
+        (B.files bay.new ≡ B.files bay.old) × KeepsImages (B.leaves bay.old) (B.leaves bay.new))) }
+    ensures frames { Turns FramesStay (B.files bay.old) (B.files bay.new) }
+    ensures never_falls { B.faults bay.old ≤ B.faults bay.new }
+    ensures failed { IsErrOf result CreateFault.Failed → HasRisen (B.faults bay.old) (B.faults bay.new) }
+    ensures mark { B.mark bay.new ≡ B.mark bay.old }
+{
+    if !is_fresh(bay)? {
+        return Err(CreateFault::NotFresh);
     }
+    Ok(write_headers(bay, settings, cone)?)
+}
 
-    // The key of a piece, where the piece reaches the threshold and the key isn't reported.
-    fn due_key(&self, piece: &Piece) -> Option<u64>
-        requires { piece.now.tail < 2 ^ (64 - self.now.settings.cone_bits) }
-        ensures { result ≡ due_key self.now.settings self.now.cone (reports_of self.now) piece.now }
-    {
-        let settings = self.levels.settings();
-        if piece.count < settings.numbers().threshold {
-            return None;
+// Takes keys, one after another.
+fn take_keys(list: &mut ListCone, keys: &[u64]) -> Result<(), OutOfMemory>
+    requires running { list.old.closed ≡ false }
+    requires own { All (λ key. cone_of list.old.settings key ≡ list.old.cone) keys.now }
+    requires fits { length list.old.events + length keys.now ≤ capacity list.old.settings }
+    ensures ok { OnOk result (list.new ≡ record list.old { events = list.old.events ++ keys.now }) }
+    ensures rest { list.new ≡ record list.old { events = list.new.events } }
+{
+    for key in keys {
+        match list.take(*key) {
+            Ok(()) => {}
+            Err(ListFault::OutOfMemory) => return Err(OutOfMemory),
+            Err(ListFault::Closed) => unreachable!(),
+            Err(ListFault::CapacityFull { .. }) => unreachable!(),
         }
-        let key = key_of(settings, self.cone, piece.tail);
-        let reported = self.listed.contains(key);
-        if reported {
-            return None;
-        }
-        Some(key)
     }
+    Ok(())
 }

@@ -7,14 +7,26 @@
 //! command that runs a trace through all cones stands on this crate.
 #![tactic(auto)]
 
+mod acked;
 mod bin;
 mod cone;
 mod fault;
+mod headers;
 mod levels;
+mod list_cone;
 mod listed;
 mod merge;
+mod refusal;
+mod room;
+mod state;
 #[cfg(test)]
 mod tests;
 
-pub use cone::ListCone;
+pub use acked::Acked;
+pub use cone::Cone;
 pub use fault::ListFault;
+pub use headers::is_fresh;
+pub use list_cone::ListCone;
+pub use refusal::{ConeFault, CreateFault, CreateRefused};
+pub use room::ConeRoom;
+pub use state::ConeState;

@@ -2,6 +2,7 @@
 use Rattle.std.proofs.Common.{◌≡◌, ◌≢◌, ℕ, ◌+◌, ◌<◌, ◌≤◌, List, [], ◌∷◌, ◌++◌, length, sym, ap, ◌∙◌, ◌⊎◌, subst, inl, inr, arith}
 use Rattle.lert_bay.specs.Files.{Files, Changes, Holds, Torn}
 use Rattle.lert_bay.specs.Settled.{part, Keeps}
+use Rattle.lert_bay.proofs.Settling.{part_torn}
 use Rattle.lert_bay.proofs.Tearing.{torn_held}
 use Rattle.lert_gatelog.specs.Gated.{IsGated, IsClosed, appendix, next_gate}
 use Rattle.lert_gatelog.specs.Kept.{ComesByWrite, IsWithOrWithout, IsWhollySettled, InEach}
@@ -14,6 +15,12 @@ pub keeps_one : (leaves since : Files → Type 0) (file at count : ℕ) (seen : 
 keeps_one leaves since file at count seen other from to moments apart keeps image now =
     let came = moments image now in
     ap (λ bytes. part bytes from to) (came.2.others other apart) ∙ keeps came.0 came.1
+
+-- so does the file itself before what is written
+pub before_one : (leaves since : Files → Type 0) (file at count : ℕ) (seen : Files) (from to : ℕ) → ((image : Files) → since image → ComesByWrite leaves file at count image) → to ≤ at → to ≤ length (seen file) → Keeps leaves seen file from to → Keeps since seen file from to
+before_one leaves since file at count seen from to moments early within keeps image now =
+    let came = moments image now in
+    part_torn at count (came.0 file) (image file) (seen file) from to came.2.here (keeps came.0 came.1) within (inl early)
 
 -- a file that each image has as a read gives it is settled
 pub wholly_settled : (leaves : Files → Type 0) (seen : Files) (file : ℕ) → ((image : Files) → leaves image → image file ≡ seen file) → IsWhollySettled leaves seen file
@@ -81,4 +88,13 @@ module _ (most file gate : ℕ) (payload : List ℕ) (leaves_first leaves_second
       elim (behind.all image now) [
         | inl past ↦ early image past
         | inr later ↦ keeps_one leaves_second since_second file gate 1 seen_first other from to behind.second apart (λ earlier at_second. early earlier (behind.counts earlier at_second)) image later
+      ]
+
+  -- and so does the file itself before its gate
+  pub before_both : IsBehind file gate (appendix payload) leaves_first leaves_second since_first since_second since seen_first seen_second → (from to : ℕ) → to ≤ gate → to ≤ length (seen_first file) → Keeps leaves_first seen_first file from to → Keeps since seen_first file from to
+  before_both behind from to early within keeps image now =
+      let first = before_one leaves_first since_first file (gate + 1) (length (appendix payload)) seen_first from to behind.first (omega (arith, early)) within keeps in
+      elim (behind.all image now) [
+        | inl past ↦ first image past
+        | inr later ↦ before_one leaves_second since_second file gate 1 seen_first from to behind.second early within (λ earlier at_second. first earlier (behind.counts earlier at_second)) image later
       ]

@@ -1,5 +1,5 @@
 -- What the calls of a log keep of a bay.
-use Rattle.std.specs.Prelude.{◌≡◌, ◌≢◌, ℕ, List, [], ◌∷◌, ◌++◌, length}
+use Rattle.std.specs.Prelude.{◌≡◌, ◌≢◌, ℕ, ◌≤◌, List, [], ◌∷◌, ◌++◌, length}
 use Rattle.std.proofs.Common.{◌⊎◌}
 use Rattle.lert_bay.specs.Files.{Files, Changes, Torn}
 use Rattle.lert_bay.specs.Settled.{Keeps, IsSettled}
@@ -12,6 +12,10 @@ InEach images file P = (image : Files) → images image → P (image file)
 -- what is settled in the other files before stays settled in these images
 abbrev pub KeepsOthers : (Files → Type 0) → (Files → Type 0) → Files → ℕ → Type 0
 KeepsOthers leaves since seen file = (other from to : ℕ) → other ≢ file → IsSettled leaves seen other from to → Keeps since seen other from to
+
+-- what is settled of a file before its gate stays settled in these images
+abbrev pub KeepsBefore : (Files → Type 0) → (Files → Type 0) → Files → ℕ → ℕ → Type 0
+KeepsBefore leaves since seen file gate = (from to : ℕ) → to ≤ gate → IsSettled leaves seen file from to → Keeps since seen file from to
 
 -- a file is settled from its first byte to its length
 abbrev pub IsWhollySettled : (Files → Type 0) → Files → ℕ → Type 0

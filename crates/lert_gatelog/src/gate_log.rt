@@ -5,7 +5,7 @@ ghost use Rattle.lert_io.specs.Fault.{HasCause, HasRisen};
 ghost use Rattle.lert_bay.specs.Files.{Files, IfTold, Turns};
 ghost use Rattle.lert_bay.specs.Images.{KeepsImages, Lasts};
 ghost use Rattle.lert_gatelog.specs.Gated.{body, appendix, next_gate, IsOpen, IsClosed, BreaksAt, IsGated, IsAppendix, IsAnnounced};
-ghost use Rattle.lert_gatelog.specs.Kept.{InEach, KeepsOthers, IsWhollySettled, IsWithOrWithout, OthersStay};
+ghost use Rattle.lert_gatelog.specs.Kept.{InEach, KeepsOthers, KeepsBefore, IsWhollySettled, IsWithOrWithout, OthersStay};
 
 use crate::durable::write_durably;
 use crate::fault::LogFault;
@@ -109,6 +109,7 @@ impl GateLog {
             OnOk result (InEach (B.leaves bay.new) self.old.file (λ bytes. IsGated self.old.most bytes first (payloads ++ payload ∷ []) self.new.gate))) }
         ensures closed { IfTold (B.files bay.old) (λ _. OnOk result (InEach (B.leaves bay.new) self.old.file (λ bytes. IsClosed bytes self.new.gate))) }
         ensures settled { OnOk result (IfTold (B.files bay.new) (λ seen. IsWhollySettled (B.leaves bay.new) seen self.old.file)) }
+        ensures before { IfTold (B.files bay.old) (λ seen. KeepsBefore (B.leaves bay.old) (B.left_since bay.new (B.moment bay.old)) seen self.old.file self.old.gate) }
         ensures others { IfTold (B.files bay.old) (λ seen. KeepsOthers (B.leaves bay.old) (B.left_since bay.new (B.moment bay.old)) seen self.old.file) }
         ensures seen { Turns (OthersStay self.old.file) (B.files bay.old) (B.files bay.new) }
         ensures time { Lasts (B.moment bay.old) (B.moment bay.new) (B.left_since bay.old) (B.left_since bay.new) }

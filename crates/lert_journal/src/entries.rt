@@ -7,7 +7,7 @@ ghost use Rattle.lert_base.specs.Packet.{Packet};
 ghost use Rattle.lert_bay.specs.Files.{Files, IfTold, Turns};
 ghost use Rattle.lert_bay.specs.Images.{KeepsImages, Lasts};
 ghost use Rattle.lert_gatelog.specs.Gated.{appendix, next_gate, IsOpen, IsClosed};
-ghost use Rattle.lert_gatelog.specs.Kept.{InEach, KeepsOthers, IsWhollySettled, OthersStay};
+ghost use Rattle.lert_gatelog.specs.Kept.{InEach, KeepsOthers, KeepsBefore, IsWhollySettled, OthersStay};
 ghost use Rattle.lert_io.specs.Fault.{HasCause, HasRisen};
 ghost use Rattle.lert_journal.specs.Payload.{payload_of, IsJournaled};
 ghost use Rattle.lert_journal.specs.Journal.{HasPackets, HasPacketsOrOneMore, HoldsPacket, LeavesAt};
@@ -50,6 +50,7 @@ pub fn append_entry<B: Bay>(
         OnOk result (InEach (B.leaves bay.new) log.old.file (λ bytes. HasPackets log.old.most bytes first (packets ++ packet_of entry.now ∷ []) log.new.gate))) }
     ensures closed { IfTold (B.files bay.old) (λ _. OnOk result (InEach (B.leaves bay.new) log.old.file (λ bytes. IsClosed bytes log.new.gate))) }
     ensures settled { OnOk result (IfTold (B.files bay.new) (λ seen. IsWhollySettled (B.leaves bay.new) seen log.old.file)) }
+    ensures before { IfTold (B.files bay.old) (λ seen. KeepsBefore (B.leaves bay.old) (B.left_since bay.new (B.moment bay.old)) seen log.old.file log.old.gate) }
     ensures others { IfTold (B.files bay.old) (λ seen. KeepsOthers (B.leaves bay.old) (B.left_since bay.new (B.moment bay.old)) seen log.old.file) }
     ensures seen { Turns (OthersStay log.old.file) (B.files bay.old) (B.files bay.new) }
     ensures time { Lasts (B.moment bay.old) (B.moment bay.new) (B.left_since bay.old) (B.left_since bay.new) }

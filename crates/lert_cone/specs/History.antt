@@ -1,0 +1,16 @@
+-- What a cone took: packets in their order.
+use Rattle.std.specs.Prelude.{ℕ, ◌+◌, ◌*◌, List, length, flat_map}
+use Rattle.lert_base.specs.Packet.{Packet}
+use Rattle.lert_spec.specs.declared.numbers.Numbers.{Numbers}
+
+-- the keys of all packets, one behind the other
+abbrev pub events_of : List Packet → List ℕ
+events_of history = flat_map (λ packet. packet.keys) history
+
+-- the greatest payload of a journal: four times as many keys as a packet of the settings has
+abbrev pub most_payload : Numbers → ℕ
+most_payload s = 8 + 32 * s.packet
+
+-- where the closed gate behind these packets stands: a packet takes 13 bytes, and each of its keys eight
+abbrev pub end_of : List Packet → ℕ
+end_of history = 32 + 13 * length history + 8 * length (events_of history)
