@@ -3,7 +3,7 @@
 //! The one contract is that of `append_entry`: in every image of each of its moments the journal has
 //! the packets from before, or those and the new one, and after Ok it has the new one. `read_entry` gives
 //! them back in their order, and names the exact place where a record leaves the format. A header reads
-//! back as the cone and the eight numbers that it was written from. No crate stands on it so far.
+//! back as the cone and the eight numbers that it was written from. `lert_cone` stands on it.
 #![tactic(auto)]
 
 mod entries;
