@@ -1,3 +1,5 @@
 pub mod Examples
 pub mod PlaceLaws
 pub mod BinLaws
+pub mod WriteLaws
+pub mod StoreLaws

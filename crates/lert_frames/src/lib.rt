@@ -6,8 +6,11 @@
 
 mod bin;
 mod fault;
+mod lay;
 mod place;
+mod storing;
 
 pub use bin::LoadedBin;
 pub use fault::LoadFault;
 pub use place::frame_place;
+pub use storing::store;
