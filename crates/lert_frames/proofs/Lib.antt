@@ -3,3 +3,5 @@ pub mod PlaceLaws
 pub mod BinLaws
 pub mod WriteLaws
 pub mod StoreLaws
+pub mod ReadLaws
+pub mod FrameLaws

@@ -1,6 +1,6 @@
 -- Several writes one behind the other are one write of all their bytes.
 use Rattle.std.proofs.Common.{◌≡◌, ◌≢◌, ℕ, ◌+◌, ◌-◌, ◌*◌, ◌<◌, ◌≤◌, List, [], ◌∷◌, ◌++◌, length, take, drop, get_or, max, Option, Some, None, Result, replicate, refl, sym, ap, ◌∙◌, ◌⊎◌, subst, inl, inr, arith, length-append, length-take, length-drop}
-use Rattle.std.specs.Prelude.{OnOk, OnErr, Ok, Err}
+use Rattle.std.specs.Prelude.{OnOk, OnErr, Ok, Err, IsErrOf}
 use Rattle.std.proofs.lemmas.Option.{none-some}
 use Rattle.std.proofs.lemmas.Bool.{cases_lt, cases_eq}
 use Rattle.std.proofs.lemmas.List.{get_or_append_left, get_or-append_right, get_or_past, ext_get_or, length-take-le}
@@ -233,3 +233,7 @@ either_way P A B (Err _) ok err from_ok from_err = from_err err
 pub on_ok : {T E : Type 0} (P Q : Type 0) (result : Result T E) → OnOk result P → (P → Q) → OnOk result Q
 on_ok P Q (Ok _) held follows = follows held
 on_ok P Q (Err _) held follows = tt
+
+-- an error is the same in any result
+pub same_err : {T U E : Type 0} (x y : E) → IsErrOf {T = T} {E = E} (Err x) y → IsErrOf {T = U} {E = E} (Err x) y
+same_err x y is = let same : x ≡ y = cc in ap (λ e. Err e) same

@@ -1,6 +1,5 @@
 -- Pieces of a bin in memory, of which the first were given.
 use Rattle.std.proofs.Common.{ℕ, zero, suc, ◌≡◌, ◌^◌, ◌+◌, ◌≤◌, ◌++◌, [], ◌∷◌, List, take, drop, Some, arith, sym, ap, ◌∙◌, subst}
-use Rattle.std.proofs.Props.{props}
 use Rattle.std.proofs.lemmas.List.{take-append-drop}
 use Rattle.lert_spec.specs.declared.piece.Piece.{Piece}
 use Rattle.lert_spec.specs.Table.{AreGiven, AscendsFrom}
@@ -13,14 +12,6 @@ bound_from least (p ∷ pieces) = bound_from (p.tail + 1) pieces
 -- one above the last tail, or 0 where there is none
 abbrev pub bound_of : List Piece → ℕ
 bound_of pieces = bound_from 0 pieces
-
--- that pieces ascend is a fact
-ascends_prop : (least limit : ℕ) (pieces : List Piece) → IsProp (AscendsFrom least limit pieces)
-ascends_prop least limit [] = hlevel props
-ascends_prop least limit (p ∷ pieces) = hlevel (props, ascends_prop (p.tail + 1) limit pieces)
-
-pub given_prop : (limit : ℕ) (pieces : List Piece) → IsProp (AreGiven limit pieces)
-given_prop limit pieces = hlevel (props, ascends_prop 0 limit pieces)
 
 -- tails that ascend are below the bound
 ascends_bound : (least limit : ℕ) (pieces : List Piece) → AscendsFrom least limit pieces → AscendsFrom least (bound_from least pieces) pieces
