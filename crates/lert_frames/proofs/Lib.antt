@@ -5,3 +5,4 @@ pub mod WriteLaws
 pub mod StoreLaws
 pub mod ReadLaws
 pub mod FrameLaws
+pub mod BackLaws

@@ -24,7 +24,7 @@ part_join file from middle to low high within =
     let front = take middle file in
     let all : take to file ≡ front ++ take (to - middle) (drop middle file) = ap (λ n. take n file) (let sum : to ≡ middle + (to - middle) = omega (arith, high) in sum) ∙ take-add middle (to - middle) file in
     let behind : part file middle to ≡ take (to - middle) (drop middle file) =
-        ap (λ n. drop middle (take n file)) (let sum : to ≡ middle + (to - middle) = omega (arith, high) in sum) ∙ drop-take middle (to - middle) file in
+    ap (λ n. drop middle (take n file)) (let sum : to ≡ middle + (to - middle) = omega (arith, high) in sum) ∙ drop-take middle (to - middle) file in
     sym (ap (drop from) all ∙ (drop-append-le from front (take (to - middle) (drop middle file)) (omega (arith, low, within, length-take middle file)) ∙ ap (λ xs. drop from front ++ xs) (sym behind)))
 
 -- a part by its length
@@ -58,7 +58,7 @@ pub text_back : (bytes : List ℕ) → length bytes ≡ 16 → ((k : ℕ) → ge
 text_back bytes long small =
     let tail : little_bytes 8 (little_number 8 bytes) ≡ take 8 bytes = bytes_back 0 8 bytes small (omega (arith, long)) in
     let count : little_bytes 8 (little_number 8 (drop 8 bytes)) ≡ take 8 (drop 8 bytes) =
-        bytes_back 0 8 (drop 8 bytes) (λ k. subst (λ (b : ℕ). b < 256) (sym (get_or-drop 8 bytes k 0)) (small (8 + k))) (omega (arith, long, length-drop 8 bytes)) in
+    bytes_back 0 8 (drop 8 bytes) (λ k. subst (λ (b : ℕ). b < 256) (sym (get_or-drop 8 bytes k 0)) (small (8 + k))) (omega (arith, long, length-drop 8 bytes)) in
     ap₂ (λ xs ys. xs ++ ys) tail count ∙ (sym (take-add 8 8 bytes) ∙ take_all 16 bytes (omega (arith, long)))
 
 -- the least tail of the next piece
@@ -99,8 +99,8 @@ module _ (limit place at end : ℕ) (file bytes : List ℕ) (pieces : List Piece
             ap (λ n. part file (place + 4) (piece_place place n)) count
             ∙ (sym (part_join file (place + 4) at (piece_place place (length pieces + 1)) (omega (arith, at_is)) (omega (arith, at_is)) (omega (arith, reaches)))
             ∙ (ap₂ (λ xs ys. xs ++ ys)
-              (ap (part file (place + 4)) at_is ∙ read.text)
-              (part_is file at 16 (piece_place place (length pieces + 1)) (omega (arith, at_is)) ∙ (sym bytes_are ∙ sym (ap piece_text is.is ∙ text_back bytes sixteen small)))
+            (ap (part file (place + 4)) at_is ∙ read.text)
+            (part_is file at 16 (piece_place place (length pieces + 1)) (omega (arith, at_is)) ∙ (sym bytes_are ∙ sym (ap piece_text is.is ∙ text_back bytes sixteen small)))
             ∙ (ap (λ xs. flat_map piece_text pieces ++ xs) (sym (append-nil (piece_text piece))) ∙ sym (flat_map-append piece_text pieces (piece ∷ [])))));
       }
 

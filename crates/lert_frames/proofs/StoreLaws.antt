@@ -26,7 +26,7 @@ pub texts_on : (head : List ℕ) (pieces block : List Piece) (written upto : ℕ
     (head ++ flat_map piece_text (take written pieces)) ++ flat_map piece_text block ≡ head ++ flat_map piece_text (take upto pieces)
 texts_on head pieces block written upto order block_is =
     let both : take written pieces ++ block ≡ take upto pieces =
-        ap (λ xs. take written pieces ++ xs) block_is ∙ (sym (take-add written (upto - written) pieces) ∙ ap (λ n. take n pieces) (omega (arith, order))) in
+    ap (λ xs. take written pieces ++ xs) block_is ∙ (sym (take-add written (upto - written) pieces) ∙ ap (λ n. take n pieces) (omega (arith, order))) in
     append_assoc head (flat_map piece_text (take written pieces)) (flat_map piece_text block)
     ∙ ap (λ text. head ++ text) (sym (flat_map-append piece_text (take written pieces) block) ∙ ap (flat_map piece_text) both)
 
@@ -36,8 +36,8 @@ length_so_far head pieces written four within =
     omega (arith, length-append head (flat_map piece_text (take written pieces)), length_texts (take written pieces), length-take written pieces, four, within)
 
 module _ (head : List ℕ) (pieces block : List Piece) (place at written upto : ℕ) (files_first files_middle files_last : Option Files) (leaves_first leaves_middle leaves_last : Files → Type 0) (first middle last : ℕ) (since_first since_middle since_last : ℕ → Files → Type 0)
-  (earlier : (t u : ℕ) (image : Files) → t ≤ u → since_last u image → since_last t image) (four : length head ≡ 4) (order : written ≤ upto) (within : upto ≤ length pieces) (block_is : block ≡ take (upto - written) (drop written pieces)) (at_is : at ≡ place + 4 + 16 * written)
-  (before : Wrote (Holds place (head ++ flat_map piece_text (take written pieces))) 2 place (4 + 16 * written) files_first files_middle leaves_first leaves_middle first middle since_first since_middle) where
+    (earlier : (t u : ℕ) (image : Files) → t ≤ u → since_last u image → since_last t image) (four : length head ≡ 4) (order : written ≤ upto) (within : upto ≤ length pieces) (block_is : block ≡ take (upto - written) (drop written pieces)) (at_is : at ≡ place + 4 + 16 * written)
+    (before : Wrote (Holds place (head ++ flat_map piece_text (take written pieces))) 2 place (4 + 16 * written) files_first files_middle leaves_first leaves_middle first middle since_first since_middle) where
   so_far : length (head ++ flat_map piece_text (take written pieces)) ≡ 4 + 16 * written
   so_far = length_so_far head pieces written four (omega (arith, order, within))
 

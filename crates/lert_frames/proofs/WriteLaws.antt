@@ -35,7 +35,7 @@ held_on at first second old middle new one two =
     let whole = take at (padded old at) ++ (first ++ second) ++ drop (at + length (first ++ second)) old in
     let both : length (first ++ second) ≡ length first + length second = length-append first second in
     let long : length new ≡ length whole =
-        omega (arith, length_held at first old middle one, length_held (at + length first) second middle new two, length_held at (first ++ second) old whole refl, both) in
+    omega (arith, length_held at first old middle one, length_held (at + length first) second middle new two, length_held at (first ++ second) old whole refl, both) in
     ext_get_or 0 new whole long (λ place below. elim (cases_lt place at) [
       | inl before ↦
           elsewhere_held (at + length first) second middle new two place (inl (omega (arith, before)))

@@ -12,6 +12,8 @@ mod loading;
 mod place;
 mod read;
 mod storing;
+#[cfg(test)]
+mod tests;
 
 pub use bin::LoadedBin;
 pub use fault::LoadFault;

@@ -6,6 +6,7 @@ ghost use Rattle.lert_bay.specs.Files.{Files, IfTold};
 ghost use Rattle.lert_bay.specs.Images.{KeepsImages, Lasts};
 ghost use Rattle.lert_bay.specs.Settled.{part};
 ghost use Rattle.lert_io.specs.Fault.{HasRisen};
+ghost use Rattle.lert_spec.specs.declared.piece.Piece.{Piece};
 ghost use Rattle.lert_spec.specs.Edges.{span};
 ghost use Rattle.lert_spec.specs.Table.{AreGiven};
 ghost use Rattle.lert_frames.specs.Frame.{HoldsFrame, IsBin, count_at, head_left, frame_left, piece_place};
@@ -51,6 +52,14 @@ pub fn load<B: Bay>(
         (frame_left (tail_limit settings.now) width (frame_place settings.now level frame) (seen 2) ≡ None)) }
     ensures malformed { IfTold (B.files bay.old) (λ seen. (at : ℕ) → IsErrOf result (LoadFault.Malformed at) →
         frame_left (tail_limit settings.now) width (frame_place settings.now level frame) (seen 2) ≡ Some at) }
+
+    // What stands there is the answer, but where a call of the bay fails or there is no memory.
+    ensures reads_back { IfTold (B.files bay.old) (λ seen. (pieces : List Piece) →
+        IsBin (tail_limit settings.now) width pieces → HoldsFrame (frame_place settings.now level frame) (seen 2) pieces →
+        MatchResult result (λ bin. bin.pieces.items ≡ pieces) (λ fault. (fault ≡ LoadFault.Failed) ⊎ (fault ≡ LoadFault.OutOfMemory))) }
+    ensures refuses { IfTold (B.files bay.old) (λ seen. (at : ℕ) →
+        frame_left (tail_limit settings.now) width (frame_place settings.now level frame) (seen 2) ≡ Some at →
+        IsErrAnd result (λ fault. (fault ≡ LoadFault.Malformed at) ⊎ ((fault ≡ LoadFault.Failed) ⊎ (fault ≡ LoadFault.OutOfMemory)))) }
     ensures seen { B.files bay.new ≡ B.files bay.old }
     ensures images { KeepsImages (B.leaves bay.old) (B.leaves bay.new) }
     ensures moments { (image : Files) → B.left_since bay.new (B.moment bay.old) image → B.leaves bay.old image }
@@ -59,8 +68,33 @@ pub fn load<B: Bay>(
     ensures failed { IsErrOf result LoadFault.Failed → HasRisen (B.faults bay.old) (B.faults bay.new) }
     ensures mark { B.mark bay.new ≡ B.mark bay.old }
 {
+    let _valid = settings.numbers();
     let place = frame_place(settings, level, frame);
     let most = greatest_tail(settings);
+    read_frame(alloc, bay, place, width, most)
+}
+
+// The frame at a place, that of a bin of this width.
+fn read_frame<B: Bay>(
+    alloc: Global,
+    bay: &mut B,
+    place: u64,
+    width: u64,
+    most: u64,
+) -> Result<LoadedBin, LoadFault>
+    requires place { place < 2 ^ 42 }
+    requires width { width < 2 ^ 42 }
+    ensures bin { IfOk result (λ bin. IsBin (most + 1) width bin.pieces.items) }
+    ensures none_given { IfOk result (λ bin. bin.given ≡ 0) }
+    ensures found { IfTold (B.files bay.old) (λ seen. IfOk result (λ bin. HoldsFrame place (seen 2) bin.pieces.items)) }
+    ensures whole { IfTold (B.files bay.old) (λ seen. OnOk result (frame_left (most + 1) width place (seen 2) ≡ None)) }
+    ensures malformed { IfTold (B.files bay.old) (λ seen. (at : ℕ) → IsErrOf result (LoadFault.Malformed at) →
+        frame_left (most + 1) width place (seen 2) ≡ Some at) }
+    ensures only_read { OnlyRead (B.files bay.old) (B.files bay.new) (B.leaves bay.old) (B.leaves bay.new) (B.moment bay.old) (B.moment bay.new) (B.left_since bay.old) (B.left_since bay.new) }
+    ensures never_falls { B.faults bay.old ≤ B.faults bay.new }
+    ensures failed { IsErrOf result LoadFault.Failed → HasRisen (B.faults bay.old) (B.faults bay.new) }
+    ensures mark { B.mark bay.new ≡ B.mark bay.old }
+{
     let end = bay.len(FRAMES)?;
     let count = read_count(bay, place, width, end)?;
     let pieces = read_pieces(alloc, bay, place, count, most, end)?;

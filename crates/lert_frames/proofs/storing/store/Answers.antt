@@ -34,9 +34,9 @@ returns-clause-outside g c seen told =
     let at = c.frame_place.result in
     let pieces = c.args.pieces.now in
     let within : at + text_len pieces ≤ place + frame_len s c.args.level =
-        omega (arith, length_le-total 0 (tail_limit s) pieces c.requires.pieces.table, c.requires.fits, c.frame_place.ensures.value) in
+    omega (arith, length_le-total 0 (tail_limit s) pieces c.requires.pieces.table, c.requires.fits, c.frame_place.ensures.value) in
     let kept : KeepsOutside (g.B.Bay.leaves c.args.bay.now) (g.B.Bay.left_since c.write_frame.new.bay (g.B.Bay.moment c.args.bay.now)) seen 2 at (place + frame_len s c.args.level) =
-        either_way _ _ _ c.write_frame.result c.write_frame.ensures.ok c.write_frame.ensures.err
-        (kept_outside (Holds at (frame_text pieces)) 2 at (text_len pieces) (place + frame_len s c.args.level) (g.B.Bay.files c.args.bay.now) (g.B.Bay.files c.write_frame.new.bay) (g.B.Bay.leaves c.args.bay.now) (g.B.Bay.leaves c.write_frame.new.bay) (g.B.Bay.moment c.args.bay.now) (g.B.Bay.moment c.write_frame.new.bay) (g.B.Bay.left_since c.args.bay.now) (g.B.Bay.left_since c.write_frame.new.bay) seen within)
-        (kept_outside (LeftByFailure at (text_len pieces)) 2 at (text_len pieces) (place + frame_len s c.args.level) (g.B.Bay.files c.args.bay.now) (g.B.Bay.files c.write_frame.new.bay) (g.B.Bay.leaves c.args.bay.now) (g.B.Bay.leaves c.write_frame.new.bay) (g.B.Bay.moment c.args.bay.now) (g.B.Bay.moment c.write_frame.new.bay) (g.B.Bay.left_since c.args.bay.now) (g.B.Bay.left_since c.write_frame.new.bay) seen within) in
+    either_way _ _ _ c.write_frame.result c.write_frame.ensures.ok c.write_frame.ensures.err
+    (kept_outside (Holds at (frame_text pieces)) 2 at (text_len pieces) (place + frame_len s c.args.level) (g.B.Bay.files c.args.bay.now) (g.B.Bay.files c.write_frame.new.bay) (g.B.Bay.leaves c.args.bay.now) (g.B.Bay.leaves c.write_frame.new.bay) (g.B.Bay.moment c.args.bay.now) (g.B.Bay.moment c.write_frame.new.bay) (g.B.Bay.left_since c.args.bay.now) (g.B.Bay.left_since c.write_frame.new.bay) seen within)
+    (kept_outside (LeftByFailure at (text_len pieces)) 2 at (text_len pieces) (place + frame_len s c.args.level) (g.B.Bay.files c.args.bay.now) (g.B.Bay.files c.write_frame.new.bay) (g.B.Bay.leaves c.args.bay.now) (g.B.Bay.leaves c.write_frame.new.bay) (g.B.Bay.moment c.args.bay.now) (g.B.Bay.moment c.write_frame.new.bay) (g.B.Bay.left_since c.args.bay.now) (g.B.Bay.left_since c.write_frame.new.bay) seen within) in
     subst (λ (n : ℕ). KeepsOutside (g.B.Bay.leaves c.args.bay.now) (g.B.Bay.left_since c.write_frame.new.bay (g.B.Bay.moment c.args.bay.now)) seen 2 n (place + frame_len s c.args.level)) c.frame_place.ensures.value kept
