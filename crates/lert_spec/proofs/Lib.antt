@@ -18,3 +18,5 @@ pub mod TimeBound
 pub mod TimelyTests
 pub mod TraceLaws
 pub mod WindowLaws
+pub mod ByteLaws
+pub mod GivenLaws

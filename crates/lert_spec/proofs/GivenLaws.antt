@@ -1,7 +1,8 @@
--- A list of pieces that grows by one of a greater tail.
+-- Pieces that a stream gave: one more, a wider limit, the first ones; and that this is a fact.
 use Rattle.std.proofs.Common.{ℕ, zero, suc, ◌≡◌, ◌+◌, ◌^◌, ◌≤◌, ◌++◌, [], ◌∷◌, List, length, take, get_or, arith, sym, ap, ◌∙◌, subst, inl, inr, length-append}
 use Rattle.std.proofs.Math.ListN.{get_or-append}
 use Rattle.std.proofs.Math.Seq.{get_or-append_seam}
+use Rattle.std.proofs.Props.{props}
 use Rattle.std.proofs.lemmas.Bool.{cases_lt}
 use Rattle.std.proofs.lemmas.List.Elements.{All-take}
 use Rattle.lert_spec.specs.declared.piece.Piece.{Piece}
@@ -41,3 +42,11 @@ given_take limit n pieces are = record {
   table = ascends_take 0 limit n pieces are.table;
   counts = All-take (λ piece. piece.count ≤ 2 ^ 47) n pieces are.counts;
 }
+
+-- that pieces ascend is a fact
+ascends_prop : (least limit : ℕ) (pieces : List Piece) → IsProp (AscendsFrom least limit pieces)
+ascends_prop least limit [] = hlevel props
+ascends_prop least limit (p ∷ pieces) = hlevel (props, ascends_prop (p.tail + 1) limit pieces)
+
+pub given_prop : (limit : ℕ) (pieces : List Piece) → IsProp (AreGiven limit pieces)
+given_prop limit pieces = hlevel (props, ascends_prop 0 limit pieces)

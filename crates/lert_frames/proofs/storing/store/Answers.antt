@@ -1,0 +1,42 @@
+use Rattle.std.proofs.Common.{◌≡◌, ℕ, ◌+◌, ◌*◌, ◌<◌, ◌≤◌, ◌^◌, length, List, ap, sym, ◌∙◌, subst, arith}
+use Rattle.lert_bay.specs.Files.{Files, Changes, Holds, LeftByFailure}
+use Rattle.lert_bay.specs.Settled.{part}
+use Rattle.lert_spec.specs.Limits.{IsValid}
+use Rattle.lert_spec.proofs.Tables.{length_le-total}
+use Rattle.lert_frames.specs.Frame.{frame_text, text_len}
+use Rattle.lert_frames.specs.Kept.{Wrote, KeepsOutside}
+use Rattle.lert_frames.specs.Place.{frame_len, frame_place, tail_limit}
+use Rattle.lert_frames.proofs.PlaceLaws.{span_fits}
+use Rattle.lert_frames.proofs.StoreLaws.{frame_stands}
+use Rattle.lert_frames.proofs.WriteLaws.{either_way, on_ok, kept_outside}
+use Rattle.lert_frames.proofs.storing.store.Goals as goal
+
+pub write_frame-requires-clause-few : goal.write_frame-requires-clause-few
+write_frame-requires-clause-few g c =
+    let s = c.args.settings.now in
+    let valid : IsValid s = subst IsValid c.numbers-valid.ensures.value c.numbers-valid.ensures.valid in
+    omega (arith, length_le-total 0 (tail_limit s) c.args.pieces.now c.requires.pieces.table, c.requires.fits, span_fits s valid c.args.level c.requires.last)
+
+pub write_frame-requires-clause-reach : goal.write_frame-requires-clause-reach
+write_frame-requires-clause-reach g c =
+    let s = c.args.settings.now in
+    omega (arith, length_le-total 0 (tail_limit s) c.args.pieces.now c.requires.pieces.table, c.requires.fits, c.frame_place.ensures.end)
+
+pub returns-clause-stands : goal.returns-clause-stands
+returns-clause-stands g c =
+    on_ok _ _ c.write_frame.result c.write_frame.ensures.ok
+    (λ wrote. frame_stands c.args.pieces.now c.frame_place.result (frame_place c.args.settings.now c.args.level c.args.frame) (g.B.Bay.files c.args.bay.now) (g.B.Bay.files c.write_frame.new.bay) c.frame_place.ensures.value wrote.seen)
+
+pub returns-clause-outside : goal.returns-clause-outside
+returns-clause-outside g c seen told =
+    let s = c.args.settings.now in
+    let place = frame_place s c.args.level c.args.frame in
+    let at = c.frame_place.result in
+    let pieces = c.args.pieces.now in
+    let within : at + text_len pieces ≤ place + frame_len s c.args.level =
+    omega (arith, length_le-total 0 (tail_limit s) pieces c.requires.pieces.table, c.requires.fits, c.frame_place.ensures.value) in
+    let kept : KeepsOutside (g.B.Bay.leaves c.args.bay.now) (g.B.Bay.left_since c.write_frame.new.bay (g.B.Bay.moment c.args.bay.now)) seen 2 at (place + frame_len s c.args.level) =
+    either_way _ _ _ c.write_frame.result c.write_frame.ensures.ok c.write_frame.ensures.err
+    (kept_outside (Holds at (frame_text pieces)) 2 at (text_len pieces) (place + frame_len s c.args.level) (g.B.Bay.files c.args.bay.now) (g.B.Bay.files c.write_frame.new.bay) (g.B.Bay.leaves c.args.bay.now) (g.B.Bay.leaves c.write_frame.new.bay) (g.B.Bay.moment c.args.bay.now) (g.B.Bay.moment c.write_frame.new.bay) (g.B.Bay.left_since c.args.bay.now) (g.B.Bay.left_since c.write_frame.new.bay) seen within)
+    (kept_outside (LeftByFailure at (text_len pieces)) 2 at (text_len pieces) (place + frame_len s c.args.level) (g.B.Bay.files c.args.bay.now) (g.B.Bay.files c.write_frame.new.bay) (g.B.Bay.leaves c.args.bay.now) (g.B.Bay.leaves c.write_frame.new.bay) (g.B.Bay.moment c.args.bay.now) (g.B.Bay.moment c.write_frame.new.bay) (g.B.Bay.left_since c.args.bay.now) (g.B.Bay.left_since c.write_frame.new.bay) seen within) in
+    subst (λ (n : ℕ). KeepsOutside (g.B.Bay.leaves c.args.bay.now) (g.B.Bay.left_since c.write_frame.new.bay (g.B.Bay.moment c.args.bay.now)) seen 2 n (place + frame_len s c.args.level)) c.frame_place.ensures.value kept

@@ -1,0 +1,30 @@
+-- What several calls make of a bay, seen as one.
+use Rattle.std.specs.Prelude.{◌≡◌, ◌≢◌, ℕ, ◌+◌, ◌≤◌, List, Option}
+use Rattle.std.proofs.Common.{◌⊎◌}
+use Rattle.lert_bay.specs.Files.{Files, Turns, Changes, Torn}
+use Rattle.lert_bay.specs.Images.{KeepsImages, Lasts}
+use Rattle.lert_bay.specs.Settled.{Keeps, IsSettled}
+
+-- an image that comes by one write into a range of a file, torn or whole, from one of these
+abbrev pub ComesByWrite : (Files → Type 0) → ℕ → ℕ → ℕ → Files → Type 0
+ComesByWrite leaves file at count image = (earlier : Files) × leaves earlier × Changes (Torn at count) file earlier image
+
+-- the calls wrote into this range of a file and nowhere else: the files made this step, and each image of each moment
+-- since comes by one write into the range from an image of before
+pub record Wrote (step : List ℕ → List ℕ → Type 0) (file at count : ℕ) (files_before files_after : Option Files) (leaves_before leaves_after : Files → Type 0) (first last : ℕ) (since_before since_after : ℕ → Files → Type 0) : Type 0 where
+  pub seen : Turns (Changes step file) files_before files_after
+  pub images : (image : Files) → leaves_after image → ComesByWrite leaves_before file at count image
+  pub moments : (image : Files) → since_after first image → ComesByWrite leaves_before file at count image
+  pub time : Lasts first last since_before since_after
+
+-- the calls read alone: no file and no image changed, also at no moment between
+pub record OnlyRead (files_before files_after : Option Files) (leaves_before leaves_after : Files → Type 0) (first last : ℕ) (since_before since_after : ℕ → Files → Type 0) : Type 0 where
+  pub seen : files_after ≡ files_before
+  pub images : KeepsImages leaves_before leaves_after
+  pub moments : (image : Files) → since_after first image → leaves_before image
+  pub time : Lasts first last since_before since_after
+
+-- what is settled outside of a range of a file, or in another file, stays settled in these images
+abbrev pub KeepsOutside : (Files → Type 0) → (Files → Type 0) → Files → ℕ → ℕ → ℕ → Type 0
+KeepsOutside leaves since seen file begin end =
+    (number from to : ℕ) → (number ≢ file) ⊎ ((to ≤ begin) ⊎ (end ≤ from)) → IsSettled leaves seen number from to → Keeps since seen number from to
