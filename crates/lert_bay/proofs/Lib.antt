@@ -6,3 +6,4 @@ pub mod Steps
 pub mod Crashing
 pub mod Settling
 pub mod Lasting
+pub mod Copying

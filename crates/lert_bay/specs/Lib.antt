@@ -4,3 +4,5 @@ pub mod Settled
 pub mod Since
 pub mod Memory
 pub mod Pending
+pub mod Chain
+pub mod Links

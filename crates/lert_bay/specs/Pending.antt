@@ -1,9 +1,19 @@
 -- What a file in memory keeps so that a crash can undo it.
 use Rattle.std.specs.Prelude.{◌≡◌, ℕ, ◌+◌, ◌-◌, ◌<◌, List, [], ◌∷◌, length, slice_index, nat_le, nat_lt, ◌&&◌, if◌then◌else◌, Bool, All}
+use Rattle.std.specs.declared.vec.Vec.{Vec}
 use Rattle.lert_bay.specs.Files.{IsOutside}
 use Rattle.lert_bay.specs.Since.{IsTornSince, IsUnwritten}
 use Rattle.lert_bay.specs.declared.extent.Extent.{Extent}
 use Rattle.lert_bay.specs.declared.overwrite.Overwrite.{Overwrite}
+
+-- the bytes at the last sync, by the list of these bytes alone
+abbrev pub bytes_of : {A : Type 0} → List (Vec ℕ A) → List ℕ
+bytes_of [] = []
+bytes_of (bytes ∷ others) = bytes.items
+
+-- what a write keeps so that it can be taken back
+abbrev pub kept_by : Overwrite → ℕ × List ℕ
+kept_by write = (write.at, write.old.items)
 
 -- whether a write covers a place
 abbrev pub covers : Overwrite → ℕ → Bool

@@ -12,6 +12,7 @@ mod laws;
 mod mem_bay;
 mod mem_file;
 mod overwrite;
+mod past;
 mod plan;
 mod writes;
 

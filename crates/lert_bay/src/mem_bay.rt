@@ -6,8 +6,9 @@ ghost use Rattle.lert_bay.specs.Files.{Files, Holds};
 
 use crate::bay::Bay;
 use crate::mem_file::MemFile;
+use crate::past::Past;
 use crate::plan::Plan;
-use lert_io::{Failed, Faulty, OutOfMemory, Seen};
+use lert_io::{Failed, Faulty, OutOfMemory};
 use std::alloc::Global;
 use std::marker::Model;
 
@@ -20,7 +21,7 @@ mod tests;
 pub struct MemBay {
     alloc: Global,
     files: [MemFile; 3],
-    past: Seen<[MemFile; 3]>,
+    past: Past<[MemFile; 3]>,
     plan: Plan,
     faults: u64,
     mark: u64,
@@ -57,7 +58,7 @@ impl MemBay {
                 MemFile::new(alloc),
                 MemFile::new(alloc),
             ],
-            past: Seen::new(),
+            past: Past::new(),
             plan: Plan::calm(),
             faults: 0,
             mark: 0,
@@ -70,6 +71,25 @@ impl MemBay {
     {
         self.mark = mark;
         self
+    }
+
+    /// The same bay in memory of its own.
+    pub fn copied(&self, alloc: Global) -> Result<MemBay, OutOfMemory>
+        ensures { IfOk result (λ bay. bay ≡ self.now) }
+    {
+        let [journal, log, frames] = &self.files;
+        Ok(MemBay {
+            alloc,
+            files: [
+                journal.copied(alloc)?,
+                log.copied(alloc)?,
+                frames.copied(alloc)?,
+            ],
+            past: self.past.copied(),
+            plan: self.plan,
+            faults: self.faults,
+            mark: self.mark,
+        })
     }
 
     /// Makes the call with this number fail, counted from now on, beginning with 1. It takes the place of
@@ -131,7 +151,7 @@ impl MemBay {
         for file in &mut self.files {
             file.crash(pick);
         }
-        self.past = Seen::new();
+        self.past = Past::new();
         self.plan = Plan::calm();
         Ok(self)
     }

@@ -7,11 +7,11 @@ ghost use Rattle.lert_bay.specs.Memory.{untouched, durable};
 
 use crate::extent::Extent;
 use crate::overwrite::Overwrite;
-use crate::writes::{covered, length_left, put, take_back};
-use lert_io::{OutOfMemory, Seen};
+use crate::past::Past;
+use crate::writes::{copies, covered, length_left, put, take_back};
+use lert_io::OutOfMemory;
 use std::alloc::Global;
 use std::marker::Model;
-use std::snapshot::Snapshot;
 
 /// The bytes of a file as a read gives them. Contracts see beside them the bytes at the last sync and
 /// the ranges written since, which take no memory.
@@ -20,19 +20,19 @@ pub struct MemFile {
     bytes: Vec<u8>,
     least: usize,
     unsynced: Vec<Overwrite>,
-    synced: Snapshot<Vec<u8>>,
-    written: Seen<Extent>,
+    synced: Past<Vec<u8>>,
+    written: Past<Extent>,
 }
 
 impl Model for MemFile {
     ghost use Rattle.lert_bay.specs.Memory.{FileState};
-    ghost use Rattle.lert_bay.specs.Pending.{IsPending};
+    ghost use Rattle.lert_bay.specs.Pending.{IsPending, bytes_of};
 
     ghost Value = { FileState };
 
-    ghost view = { λ f. record { now = f.bytes.items; synced = f.synced.value.items; written = f.written } };
+    ghost view = { λ f. record { now = f.bytes.items; synced = bytes_of f.synced; written = f.written } };
 
-    ghost invariant = { λ f. IsPending f.bytes.items f.synced.value.items f.written f.least f.unsynced.items };
+    ghost invariant = { λ f. IsPending f.bytes.items (bytes_of f.synced) f.written f.least f.unsynced.items };
 }
 
 impl MemFile {
@@ -50,16 +50,29 @@ impl MemFile {
         Ok(MemFile::made_of(alloc, Vec::from_slice(alloc, bytes)?))
     }
 
-    // The same of a vector.
+    /// The same file in memory of its own.
+    pub fn copied(&self, alloc: Global) -> Result<MemFile, OutOfMemory>
+        ensures { IfOk result (λ file. file ≡ self.now) }
+    {
+        Ok(MemFile {
+            bytes: Vec::from_slice(alloc, &self.bytes)?,
+            least: self.least,
+            unsynced: copies(alloc, &self.unsynced)?,
+            synced: self.synced.copied(),
+            written: self.written.copied(),
+        })
+    }
+
+    // A file of this vector with nothing pending.
     fn made_of(alloc: Global, bytes: Vec<u8>) -> MemFile
         ensures { result ≡ durable bytes.items }
     {
         MemFile {
-            synced: Snapshot::of(&bytes),
+            synced: Past::of(&bytes),
             least: bytes.len(),
             bytes,
             unsynced: Vec::new(alloc),
-            written: Seen::new(),
+            written: Past::new(),
         }
     }
 
@@ -111,8 +124,8 @@ impl MemFile {
     pub fn sync(&mut self)
         ensures { self.new ≡ durable self.old.now }
     {
-        self.synced = Snapshot::of(&self.bytes);
-        self.written = Seen::new();
+        self.synced = Past::of(&self.bytes);
+        self.written = Past::new();
         self.least = self.bytes.len();
         self.unsynced.clear();
     }

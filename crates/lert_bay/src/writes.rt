@@ -1,8 +1,8 @@
 //! Writes into bytes in memory, and how they are taken back.
 
-ghost use Rattle.std.specs.Prelude.{◌≡◌, ℕ, ◌+◌, ◌-◌, ◌<◌, ◌≤◌, ◌^◌, ◌++◌, [], ◌∷◌, length, take, drop, replicate, slice_index, All, IfOk, OnOk, OnErr};
+ghost use Rattle.std.specs.Prelude.{◌≡◌, ℕ, ◌+◌, ◌-◌, ◌<◌, ◌≤◌, ◌^◌, ◌++◌, [], ◌∷◌, length, take, drop, replicate, slice_index, All, map, IfOk, OnOk, OnErr};
 ghost use Rattle.lert_bay.specs.Files.{Holds, IsOutside};
-ghost use Rattle.lert_bay.specs.Pending.{before_all};
+ghost use Rattle.lert_bay.specs.Pending.{before_all, kept_by};
 
 use crate::overwrite::Overwrite;
 use lert_io::OutOfMemory;
@@ -48,6 +48,18 @@ pub fn covered(alloc: Global, bytes: &[u8], at: usize, count: usize) -> Result<V
     let mut old = Vec::from_slice(alloc, &bytes[from..from + front])?;
     old.resize(count, 0)?;
     Ok(old)
+}
+
+/// The same writes in memory of their own.
+pub fn copies(alloc: Global, writes: &[Overwrite]) -> Result<Vec<Overwrite>, OutOfMemory>
+    ensures { IfOk result (λ copies. map kept_by copies.items ≡ map kept_by writes.now) }
+{
+    let mut copies = Vec::with_capacity(alloc, writes.len())?;
+    for write in writes {
+        let old = Vec::from_slice(alloc, &write.old)?;
+        copies.push(Overwrite { at: write.at, old })?;
+    }
+    Ok(copies)
 }
 
 /// Takes the writes back, the last one first, each by its fate. It changes no byte outside of them.

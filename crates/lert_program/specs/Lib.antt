@@ -1,1 +1,2 @@
 pub mod PutBack
+pub mod Name

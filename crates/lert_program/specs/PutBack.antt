@@ -1,11 +1,11 @@
--- The trace that was last put back under a number.
+-- The object that was last put back under a number.
 use Rattle.std.specs.Prelude.{ℕ, ◌==◌, List, [], ◌∷◌, reverse, Option, Some, None, if◌then◌else◌}
-use Rattle.lert_program.specs.declared.file_place.PutBack.{PutBack}
+use Rattle.lert_program.specs.declared.handed.PutBack.{PutBack}
 
 -- the first with a number, where the newest stands first
 abbrev pub first_with : {T : Type 0} → List (PutBack T) → ℕ → Option T
 first_with [] number = None
-first_with (back ∷ older) number = if back.number == number then Some back.trace else first_with older number
+first_with (back ∷ older) number = if back.number == number then Some back.object else first_with older number
 
 -- the last with a number, where the oldest stands first
 abbrev pub last_returned : {T : Type 0} → List (PutBack T) → ℕ → Option T

@@ -1,100 +1,170 @@
-//! The files of the machine as a place of traces.
+//! The files of the machine as a place of traces and bays.
 
-ghost use Rattle.std.specs.Prelude.{◌≡◌, ◌<◌, [], length, IfSome, IsSome};
+ghost use Rattle.std.specs.Prelude.{◌≡◌, ◌<◌, ◌≤◌, ◌++◌, ◌∷◌, [], length, string_bytes, IfSome, IfOk};
+ghost use Rattle.std.specs.Path.{path_buf_bytes, path_join};
+ghost use Rattle.lert_io.specs.Fault.{HasRisen};
+ghost use Rattle.lert_program.specs.Name.{cone_file};
 
+use crate::file_bay::FileBay;
 use crate::file_source::FileSource;
+use crate::handed::Handed;
 use lert_io::{Failed, Faulty, Seen};
 use lert_top::{Opening, Place};
-use std::fs::File;
+use std::alloc::{AllocError, Global};
+use std::fs::{File, OpenOptions};
 use std::io::BufReader;
+use std::path::{Path, PathBuf};
 use std::rt::Files;
+use std::{fs, io};
+
+#[cfg(test)]
+mod tests;
 
 // How many bytes of a trace one call of the system asks for.
 const BLOCK: usize = 65_536;
 
-// A trace that was put back under a number, as contracts see it.
+/// The files of the machine. It opens traces by their paths, and of a cone the three files in a directory,
+/// which it makes, with its missing parents, where they aren't there. It keeps nothing of what is put back.
 #[derive(Drop)]
-struct PutBack<T> {
-    number: u32,
-    trace: T,
-}
-
-/// The files of the machine. It opens traces by their paths, and keeps nothing of what is put back.
-#[derive(Drop)]
-pub struct FilePlace<'a, R: Files + AllocGlobal> {
+pub struct FilePlace<'a, R: Files<File = File> + AllocGlobal> {
     rt: &'a R,
     faults: u64,
-    opened: u32,
     asked: Seen<Opening>,
-    handed: Seen<FileSource<R::File>>,
-    returned: Seen<PutBack<FileSource<R::File>>>,
-    ghost counted: { opened ≡ length handed },
+    traces: Handed<FileSource<File>>,
+    bays: Handed<FileBay>,
 }
 
-impl<'a, R: Files + AllocGlobal> FilePlace<'a, R> {
+impl<'a, R: Files<File = File> + AllocGlobal> FilePlace<'a, R> {
     /// A place that nothing was asked of.
     pub fn new(rt: &'a R) -> FilePlace<'a, R>
         ensures asked { result.asked ≡ [] }
-        ensures handed { result.handed ≡ [] }
+        ensures traces { result.traces.objects ≡ [] }
+        ensures bays { result.bays.objects ≡ [] }
     {
         FilePlace {
             rt,
             faults: 0,
-            opened: 0,
             asked: Seen::new(),
-            handed: Seen::new(),
-            returned: Seen::new(),
+            traces: Handed::new(),
+            bays: Handed::new(),
         }
     }
 
-    // The file of this path, with a buffer of its own, unless there are 2^32 already.
-    fn open(&self, path: &str) -> Option<FileSource<R::File>>
-        ensures mark { IfSome result (λ source. source.mark ≡ self.now.opened) }
-        ensures room { IsSome result → self.now.opened < 4294967295 }
+    // The file of this path, with a buffer of its own.
+    fn trace(&self, path: &str) -> Option<FileSource<File>>
+        ensures mark { IfSome result (λ source. source.mark ≡ length self.now.traces.objects) }
+        ensures room { IfSome result (λ source. self.now.traces.count < 4294967295) }
     {
-        if self.opened == u32::MAX {
-            return None;
-        }
+        let number = self.traces.next()?;
         let file = File::open(self.rt, path).ok()?;
         let reader = BufReader::with_capacity(self.rt.alloc(), BLOCK, file).ok()?;
-        Some(FileSource::new(reader, self.opened))
+        Some(FileSource::new(reader, number))
+    }
+
+    // The three files of a cone in a directory.
+    fn bay(&self, dir: &str, cone: u32) -> Option<FileBay>
+        ensures mark { IfSome result (λ bay. bay.mark ≡ length self.now.bays.objects) }
+        ensures room { IfSome result (λ bay. self.now.bays.count < 4294967295) }
+    {
+        let number = self.bays.next()?;
+        fs::create_dir_all(self.rt, dir).ok()?;
+        let journal = open_file(self.rt, dir, cone, ".journal").ok()?;
+        let log = open_file(self.rt, dir, cone, ".log").ok()?;
+        let frames = open_file(self.rt, dir, cone, ".frames").ok()?;
+        Some(FileBay::new([journal, log, frames], number))
+    }
+
+    // Notes an opening that failed, and counts it.
+    fn refuse(&mut self, opening: &Opening) -> Failed
+        ensures asked { self.new.asked ≡ self.old.asked ++ opening.now ∷ [] }
+        ensures traces { self.new.traces ≡ self.old.traces }
+        ensures bays { self.new.bays ≡ self.old.bays }
+        ensures never_falls { self.old.faults ≤ self.new.faults }
+        ensures counted { HasRisen self.old.faults self.new.faults }
+    {
+        self.asked.push(opening);
+        self.faults = self.faults.saturating_add(1);
+        Failed
     }
 }
 
-impl<'a, R: Files + AllocGlobal> Faulty for FilePlace<'a, R> {
+// Opens a file of a cone for reading and writing, and makes it where it isn't there.
+fn open_file<R: Files<File = File> + AllocGlobal>(
+    rt: &R,
+    dir: &str,
+    cone: u32,
+    ending: &str,
+) -> io::Result<File> {
+    let path = path_of(rt.alloc(), dir, cone, ending)?;
+    OpenOptions::new()
+        .read(true)
+        .write(true)
+        .create(true)
+        .open(rt, path)
+}
+
+// The path of a file of a cone in a directory, by the file's ending.
+fn path_of(alloc: Global, dir: &str, cone: u32, ending: &str) -> Result<PathBuf, AllocError>
+    ensures { IfOk result (λ path. path_buf_bytes path ≡ path_join dir.now (cone_file cone ending.now)) }
+{
+    let name = name_of(alloc, cone, ending)?;
+    Path::new(dir).join(alloc, name.as_str())
+}
+
+// The name of a file of a cone.
+fn name_of(alloc: Global, cone: u32, ending: &str) -> Result<String, AllocError>
+    ensures { IfOk result (λ name. string_bytes name ≡ cone_file cone ending.now) }
+{
+    let (hundreds, tens, ones) = (cone / 100, cone / 10 % 10, cone % 10);
+    format!(in alloc; "cone-{hundreds}{tens}{ones}{ending}")
+}
+
+impl<'a, R: Files<File = File> + AllocGlobal> Faulty for FilePlace<'a, R> {
     ghost faults = { λ p. p.faults };
 
     ghost mark = { λ _. 0 };
 }
 
-impl<'a, R: Files + AllocGlobal> Place for FilePlace<'a, R> {
-    type Trace = FileSource<R::File>;
+impl<'a, R: Files<File = File> + AllocGlobal> Place for FilePlace<'a, R> {
+    type Trace = FileSource<File>;
+
+    type Bay = FileBay;
 
     ghost use Rattle.lert_program.specs.PutBack.{last_returned};
 
     ghost asked = { λ p. p.asked };
 
-    ghost handed = { λ p. p.handed };
+    ghost handed_traces = { λ p. p.traces.objects };
 
-    ghost returned = { λ p. last_returned p.returned };
+    ghost handed_bays = { λ p. p.bays.objects };
 
-    fn open_trace(&mut self, name: &str) -> Result<FileSource<R::File>, Failed> {
-        let found = self.open(name);
-        self.asked.push(&Opening::new(name, found.is_some()));
-        match found {
-            Some(source) => {
-                self.handed.push(&source);
-                self.opened += 1;
-                Ok(source)
-            }
-            None => {
-                self.faults = self.faults.saturating_add(1);
-                Err(Failed)
-            }
-        }
+    ghost returned_trace = { λ p. last_returned p.traces.returned };
+
+    ghost returned_bay = { λ p. last_returned p.bays.returned };
+
+    fn open_trace(&mut self, name: &str) -> Result<FileSource<File>, Failed> {
+        let Some(trace) = self.trace(name) else {
+            return Err(self.refuse(&Opening::of_trace(name, false)));
+        };
+        self.asked.push(&Opening::of_trace(name, true));
+        self.traces.hand_out(&trace);
+        Ok(trace)
     }
 
-    fn put_back_trace(&mut self, number: u32, trace: FileSource<R::File>) {
-        self.returned.push(&PutBack { number, trace });
+    fn open_bay(&mut self, dir: &str, cone: u32) -> Result<FileBay, Failed> {
+        let Some(bay) = self.bay(dir, cone) else {
+            return Err(self.refuse(&Opening::of_bay(dir, cone, false)));
+        };
+        self.asked.push(&Opening::of_bay(dir, cone, true));
+        self.bays.hand_out(&bay);
+        Ok(bay)
+    }
+
+    fn put_back_trace(&mut self, number: u32, trace: FileSource<File>) {
+        self.traces.take_back(number, trace);
+    }
+
+    fn put_back_bay(&mut self, cone: u32, bay: FileBay) {
+        self.bays.take_back(cone, bay);
     }
 }

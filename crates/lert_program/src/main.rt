@@ -6,8 +6,10 @@
 //! number. What a real file gives or takes is told by no contract.
 #![tactic(auto)]
 
+mod file_bay;
 mod file_place;
 mod file_source;
+mod handed;
 mod text_sink;
 
 use crate::file_place::FilePlace;

@@ -1,8 +1,10 @@
-//! Tests that cross crates: the top call over places in memory, on worked examples and on faults.
+//! Tests that cross crates: places in memory, and the top call over them, on worked examples and on faults.
 //!
 //! Their expected values come from worked examples, and not from a clause. No crate stands on this
 //! one.
 #![tactic(auto)]
 
+#[cfg(test)]
+mod places;
 #[cfg(test)]
 mod runs;

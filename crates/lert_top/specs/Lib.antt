@@ -1,6 +1,5 @@
 pub mod Command
 pub mod Lanes
-pub mod Opening
 pub mod Page
 pub mod Router
 pub mod Run

@@ -1,4 +1,4 @@
-//! The top call of LERT, `run`, with the places that it asks for traces, its words and its statuses.
+//! The top call of LERT, `run`, with the places that it asks for traces and bays, its words and its statuses.
 //!
 //! The one contract is that of `run`: it is decided by the words, the trace and the sink alone. With
 //! `Done` the text that was written is that of each cone's part of the trace and of the reports that
@@ -7,8 +7,10 @@
 //! The program stands on it.
 #![tactic(auto)]
 
+mod lent;
 mod line;
 mod mem_place;
+mod opening;
 mod page;
 mod place;
 mod print;
@@ -20,8 +22,9 @@ mod word;
 
 pub use line::{Line, Usage};
 pub use mem_place::MemPlace;
+pub use opening::{Opening, Wanted};
 pub use page::Page;
-pub use place::{Opening, Place};
+pub use place::Place;
 pub use print::{print_cone, print_total};
 pub use reading::detect;
 pub use router::Router;

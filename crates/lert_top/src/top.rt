@@ -11,6 +11,7 @@ ghost use Rattle.lert_top.specs.Run.{AreInTime, HasRun, StatusShows, most_keys, 
 ghost use Rattle.lert_top.specs.Word.{word_at};
 
 use crate::line::Line;
+use crate::opening::Wanted;
 use crate::page::Page;
 use crate::place::Place;
 use crate::print::{print_cone, print_total};
@@ -30,18 +31,18 @@ use std::alloc::Global;
 /// for each of them, and a page of text.
 pub fn run<P: Place, K: Sink>(alloc: Global, words: &Words, place: &mut P, out: &mut K) -> Status
     requires asked { P.asked place.old ≡ [] }
-    requires handed { P.handed place.old ≡ [] }
+    requires handed { P.handed_traces place.old ≡ [] }
     // The words alone decide a usage fault. Nothing is asked or written then.
     ensures usage { (rule : ℕ) → (result ≡ Status.Usage rule) ↔ (usage words.now ≡ Some rule) }
     ensures at_usage { (rule : ℕ) → usage words.now ≡ Some rule → (place.new ≡ place.old) × (out.new ≡ out.old) }
-    // Otherwise the place is asked for the line's trace, and for nothing else.
+    // Otherwise the place is asked for the line's trace, and for nothing else, so for no bay.
     ensures asked { (line : Line) → command words.now ≡ Some line → usage words.now ≡ None →
-        (opened : Bool) × (P.asked place.new ≡ record { name = word_at words.now line.trace; opened = opened } ∷ [])
+        (opened : Bool) × (P.asked place.new ≡ record { wanted = Wanted.Trace (word_at words.now line.trace); opened = opened } ∷ [])
         × ((result ≡ Status.PlaceFault) ↔ (opened ≡ false)) }
     ensures place_fault { result ≡ Status.PlaceFault → HasRisen (P.faults place.old) (P.faults place.new) × (out.new ≡ out.old) }
     // A trace that was opened is put back, and the status says what came of it.
     ensures ran { (line : Line) → command words.now ≡ Some line → usage words.now ≡ None → (result ≡ Status.PlaceFault → ⊥) →
-        (opened : P.Trace) × (back : P.Trace) × (P.handed place.new ≡ opened ∷ []) × (P.returned place.new 0 ≡ Some back)
+        (opened : P.Trace) × (back : P.Trace) × (P.handed_traces place.new ≡ opened ∷ []) × (P.returned_trace place.new 0 ≡ Some back)
         × (P.Trace.mark back ≡ 0) × HasRun P.Trace.remaining P.Trace.faults K.taken K.faults line.settings opened back out.old out.new result }
 {
     let line = match Line::read(words) {

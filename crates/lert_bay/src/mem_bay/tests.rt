@@ -22,7 +22,7 @@ fn written(alloc: Global, synced: &[u8], at: u64, bytes: &[u8]) -> Result<MemBay
 }
 
 #[test]
-fn a_crash_leaves_old_bytes_new_bytes_or_a_mix(rt: HostRuntime) -> Result<(), Fail> {
+fn a_crash_leaves_old_bytes_new_bytes_or_a_mix_of_a_copy_too(rt: HostRuntime) -> Result<(), Fail> {
     let left: Left = [
         (0, b"aaaa"),
         (1, b"aabbbbbb"),
@@ -30,8 +30,10 @@ fn a_crash_leaves_old_bytes_new_bytes_or_a_mix(rt: HostRuntime) -> Result<(), Fa
         (3, b"aaaa\0b"),
     ];
     for (pick, want) in left {
-        let bay = written(rt.alloc(), b"aaaa", 2, b"bbbbbb")?.crashed(pick)?;
-        assert_eq!(rt; bay.bytes(JOURNAL), want, "by pick {pick}");
+        let bay = written(rt.alloc(), b"aaaa", 2, b"bbbbbb")?;
+        let copy = bay.copied(rt.alloc())?.crashed(pick)?;
+        assert_eq!(rt; bay.crashed(pick)?.bytes(JOURNAL), want, "by pick {pick}");
+        assert_eq!(rt; copy.bytes(JOURNAL), want, "a copy by pick {pick}");
     }
     Ok(())
 }

@@ -1,4 +1,5 @@
 use Rattle.std.proofs.Common.{◌++◌, ◌∷◌, [], true, length, ap, sym, ◌∙◌, subst}
+use Rattle.lert_top.specs.declared.opening.Wanted.TheVariants.{Trace}
 use Rattle.lert_top.specs.Run.{StatusShows}
 use Rattle.lert_top.specs.Word.{word_at}
 use Rattle.lert_top.proofs.Ending.{HasRun-shows, not_place_fault, some_is, true_is_false, word_at-slice_get}
@@ -10,8 +11,8 @@ returns-clause-asked g c = λ line spelled sound.
       true,
       c.put_back_trace.ensures.asked
           ∙ c.in-Ok-open_trace.ensures.asked
-          ∙ ap (λ xs. xs ++ record { name = c.word.result.now; opened = true } ∷ []) c.requires.asked
-          ∙ ap (λ name. record { name = name; opened = true } ∷ [])
+          ∙ ap (λ xs. xs ++ record { wanted = Trace c.word.result.now; opened = true } ∷ []) c.requires.asked
+          ∙ ap (λ name. record { wanted = Trace name; opened = true } ∷ [])
           (word_at-slice_get c.args.words.now c.in-Ok.line.trace c.word.result.now c.word.ensures
           ∙ ap (λ l. word_at c.args.words.now l.trace) same),
       (
@@ -27,7 +28,7 @@ returns-clause-ran g c = λ line spelled sound opened.
     let same = some_is (sym c.in-Ok.ensures.line ∙ spelled) in (
       c.in-Ok-open_trace.trace,
       c.run_trace-trace.result.0,
-      c.put_back_trace.ensures.handed ∙ c.in-Ok-open_trace.ensures.handed ∙ ap (λ xs. xs ++ c.in-Ok-open_trace.trace ∷ []) c.requires.handed,
+      c.put_back_trace.ensures.traces ∙ c.in-Ok-open_trace.ensures.handed ∙ ap (λ xs. xs ++ c.in-Ok-open_trace.trace ∷ []) c.requires.handed,
       c.put_back_trace.ensures.returned,
       c.run_trace-trace.ensures.mark ∙ c.in-Ok-open_trace.ensures.number ∙ ap length c.requires.handed,
       HasRun-shows {S = g.row.P-Trace.Denot} {K = g.row.K.Denot} g.P.Trace.Source.remaining g.P.Trace.Faulty.faults g.K.Sink.taken g.K.Faulty.faults

@@ -1,7 +1,7 @@
 use Rattle.std.proofs.Common.{◌≡◌, ◌<◌, ◌≤◌, List, ℕ, length, get_or, All, ap, sym, ◌∙◌, subst, rules}
 use Rattle.lert_bay.specs.Files.{IsOutside}
 use Rattle.lert_bay.specs.Since.{IsTornSince}
-use Rattle.lert_bay.specs.Pending.{before_all}
+use Rattle.lert_bay.specs.Pending.{before_all, bytes_of}
 use Rattle.lert_bay.specs.declared.overwrite.Overwrite.{Overwrite}
 use Rattle.lert_bay.proofs.Undone.{pending_crashed, lost_by_crash, take_back_is}
 use Rattle.lert_bay.proofs.mem_file.MemFile.crash.Goals as goal
@@ -10,7 +10,7 @@ pub invariant_of-self : goal.invariant_of-self
 invariant_of-self c =
     let long : length c.take_back.new.bytes ≡ length c.self.inside.bytes.items = c.take_back.ensures.length ∙ ap length c.deref_mut.ensures.value in
     let short : c.length_left-length.result ≤ length c.take_back.new.bytes = search rules in
-    pending_crashed c.self.inside.bytes.items c.self.inside.synced.value.items c.self.inside.written c.self.inside.least c.self.inside.unsynced.items
+    pending_crashed c.self.inside.bytes.items (bytes_of c.self.inside.synced) c.self.inside.written c.self.inside.least c.self.inside.unsynced.items
     c.take_back.new.bytes c.truncate.new.self.items c.length_left-length.result c.self.invariant long
     (λ place outside. c.take_back.ensures.elsewhere place (subst (λ (ws : List Overwrite). All (λ w. IsOutside w.at (length w.old.items) place) ws) (sym c.deref.ensures.value) outside) ∙ ap (λ bytes. get_or bytes place 0) c.deref_mut.ensures.value)
     c.length_left-length.ensures.least short
@@ -22,8 +22,8 @@ returns-clause-image c =
     let short : c.length_left-length.result ≤ length c.take_back.new.bytes = search rules in
     let now_is : c.sync.new.self.now ≡ c.truncate.new.self.items = ap (λ f. f.now) c.sync.ensures in
     rw (← c.self.view_is)
-    (subst (λ (bytes : List ℕ). IsTornSince c.self.inside.synced.value.items c.self.inside.written bytes) (sym now_is)
-    (pending_crashed c.self.inside.bytes.items c.self.inside.synced.value.items c.self.inside.written c.self.inside.least c.self.inside.unsynced.items
+    (subst (λ (bytes : List ℕ). IsTornSince (bytes_of c.self.inside.synced) c.self.inside.written bytes) (sym now_is)
+    (pending_crashed c.self.inside.bytes.items (bytes_of c.self.inside.synced) c.self.inside.written c.self.inside.least c.self.inside.unsynced.items
     c.take_back.new.bytes c.truncate.new.self.items c.length_left-length.result c.self.invariant long
     (λ place outside. c.take_back.ensures.elsewhere place (subst (λ (ws : List Overwrite). All (λ w. IsOutside w.at (length w.old.items) place) ws) (sym c.deref.ensures.value) outside) ∙ ap (λ bytes. get_or bytes place 0) c.deref_mut.ensures.value)
     c.length_left-length.ensures.least short
@@ -35,7 +35,7 @@ returns-clause-lost c =
     let short : c.length_left-length.result ≤ length c.take_back.new.bytes = search rules in
     rw (← c.self.view_is) (λ picked.
     ap (λ f. f.now) c.sync.ensures
-    ∙ lost_by_crash c.self.inside.bytes.items c.self.inside.synced.value.items c.self.inside.written c.self.inside.least c.self.inside.unsynced.items
+    ∙ lost_by_crash c.self.inside.bytes.items (bytes_of c.self.inside.synced) c.self.inside.written c.self.inside.least c.self.inside.unsynced.items
     c.take_back.new.bytes c.truncate.new.self.items c.length_left-length.result c.self.invariant long
     (λ place within.
     c.take_back.ensures.lost picked place (subst (λ (bytes : List ℕ). place < length bytes) (sym c.deref_mut.ensures.value) within)

@@ -1,5 +1,5 @@
 use Rattle.std.proofs.Common.{◌≡◌, take}
-use Rattle.lert_top.proofs.place.Opening.new.Given as goal
+use Rattle.lert_top.proofs.opening.seen.Given as goal
 
 -- the bytes so far were seen
 abbrev pub invariant-loop-byte : goal.invariant-loop-byte

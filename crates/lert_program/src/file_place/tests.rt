@@ -1,0 +1,96 @@
+//! Bays over real files, in a folder of the test's own where it runs.
+
+use super::*;
+use lert_bay::{Bay, FRAMES, JOURNAL, LOG};
+use std::os::unix::fs::symlink;
+use std::process::Abort;
+use std::test::Fail;
+
+#[test]
+fn a_bay_is_three_files_of_its_cone(rt: HostRuntime) -> Result<(), Fail> {
+    let _ = fs::remove_dir_all(&rt, "bay_made");
+    let mut place = FilePlace::new(&rt);
+    let mut bay = place.open_bay("bay_made/with/parents", 7)?;
+    bay.write_at(JOURNAL, 3, b"abc")?;
+    bay.write_at(LOG, 0, b"l")?;
+    bay.sync(JOURNAL)?;
+    assert_eq!(rt;
+        (bay.len(JOURNAL)?, bay.len(LOG)?, bay.len(FRAMES)?),
+        (6, 1, 0)
+    );
+    for (at, count, want) in [
+        (0, 6, b"\0\0\0abc".as_slice()),
+        (1, 5, b"\0\0abc"),
+        (6, 0, b""),
+    ] {
+        let mut into = [9; 8];
+        assert_eq!(rt; bay.read_at(JOURNAL, at, &mut into)?, count);
+        assert_eq!(rt; &into[..count], want, "from {at}");
+    }
+    for (ending, want) in [
+        ("journal", b"\0\0\0abc".as_slice()),
+        ("log", b"l"),
+        ("frames", b""),
+    ] {
+        let path = format!(in rt.alloc(); "bay_made/with/parents/cone-007.{ending}")?;
+        assert_eq!(rt; fs::read(&rt, path.as_str())?.as_slice(), want, "{ending}");
+    }
+    let mut again = place.open_bay("bay_made/with/parents", 7)?;
+    assert_eq!(rt; again.len(JOURNAL)?, 6, "opened again");
+    assert_eq!(rt; place.faults, 0);
+    fs::remove_dir_all(&rt, "bay_made")?;
+    Ok(())
+}
+
+#[test]
+fn what_was_opened_is_put_back(rt: HostRuntime) -> Result<(), Fail> {
+    let _ = fs::remove_dir_all(&rt, "bay_back");
+    let mut place = FilePlace::new(&rt);
+    let first = place.open_bay("bay_back", 0)?;
+    let second = place.open_bay("bay_back", 1)?;
+    let trace = place.open_trace("bay_back/cone-001.journal")?;
+    place.put_back_bay(1, second);
+    place.put_back_trace(0, trace);
+    place.put_back_bay(0, first);
+    assert_eq!(rt; (place.traces.count, place.bays.count), (1, 2));
+    fs::remove_dir_all(&rt, "bay_back")?;
+    Ok(())
+}
+
+#[test]
+fn a_bay_that_cannot_be_opened_is_a_counted_fault(rt: HostRuntime) -> Result<(), Fail> {
+    let _ = fs::remove_dir_all(&rt, "bay_refused");
+    fs::create_dir_all(&rt, "bay_refused/folder/cone-000.log")?;
+    fs::write(&rt, "bay_refused/file", b"kept".as_slice())?;
+    let mut place = FilePlace::new(&rt);
+    let refused = [
+        "bay_refused/file",
+        "bay_refused/file/below",
+        "bay_refused/folder",
+        "/proc",
+    ];
+    for (dir, faults) in refused.into_iter().zip(1..) {
+        assert!(rt; place.open_bay(dir, 0).is_err(), "in {dir}");
+        assert_eq!(rt; place.faults, faults, "in {dir}");
+    }
+    assert!(rt; place.open_bay("bay_refused/folder", 1).is_ok());
+    assert_eq!(rt;
+        fs::read(&rt, "bay_refused/file")?.as_slice(),
+        b"kept".as_slice()
+    );
+    fs::remove_dir_all(&rt, "bay_refused")?;
+    Ok(())
+}
+
+#[test]
+fn a_full_disk_fails_the_write(rt: HostRuntime) -> Result<(), Fail> {
+    let _ = fs::remove_dir_all(&rt, "bay_full");
+    fs::create_dir(&rt, "bay_full")?;
+    symlink(&rt, "/dev/full", "bay_full/cone-000.journal")?;
+    let mut bay = FilePlace::new(&rt).open_bay("bay_full", 0)?;
+    assert!(rt; bay.write_at(JOURNAL, 0, b"abc").is_err());
+    assert!(rt; bay.sync(JOURNAL).is_err());
+    assert!(rt; bay.write_at(LOG, 0, b"abc").is_ok());
+    fs::remove_dir_all(&rt, "bay_full")?;
+    Ok(())
+}
