@@ -1,21 +1,19 @@
 -- Which status a run ends with.
-use Rattle.std.proofs.Common.{◌≡◌, ◌⊎◌, ℕ, ◌^◌, ◌<◌, ◌≤◌, true, false, List, [], length, Option, Some, None, slice_get, refl, ap, sym, ◌∙◌, subst, inl, inr, arith}
+use Rattle.std.proofs.Common.{◌≡◌, ◌≢◌, ◌⊎◌, ℕ, ◌+◌, ◌^◌, ◌<◌, ◌≤◌, Bool, true, false, List, [], length, Option, Some, None, slice_get, refl, ap, sym, ◌∙◌, subst, inl, inr, arith}
+use Rattle.std.proofs.lemmas.Bool.{cases_lt}
 use Rattle.std.proofs.lemmas.Option.{get_or_from_slice_get}
+use Rattle.lert_bay.specs.Files.{Files}
+use Rattle.lert_cone.specs.Sound.{AreEmpty}
 use Rattle.lert_io.specs.Fault.{HasRisen, IsFaultless}
 use Rattle.lert_spec.specs.Trace.{left, whole}
 use Rattle.lert_spec.specs.declared.numbers.Numbers.{Numbers}
 use Rattle.lert_spec.specs.Edges.{capacity}
 use Rattle.lert_top.specs.declared.status.Status.{Status}
-use Rattle.lert_top.specs.declared.status.Status.TheVariants.{Done, Usage, PlaceFault, TraceFault, BadTrace, TooLong, CapacityFull, OutFault, OutOfMemory}
-use Rattle.lert_top.specs.Run.{AllFit, HasRun, IsFull, IsOver, StatusShows, most_keys}
+use Rattle.lert_top.specs.declared.status.Status.TheVariants.{Done, Usage, PlaceFault, TraceFault, BadTrace, TooLong, NotFresh, BayFault, CapacityFull, OutFault, OutOfMemory}
+use Rattle.lert_top.specs.Bays.{AreFaultless, AreFresh, AreLater, AreToldFresh, HasFailed, IsStale}
+use Rattle.lert_top.specs.Run.{AllFit, HasRun, HasThem, IsFull, IsOver, IsUnmade, StatusShows, StopShows, ArePartly, is_past_freshness, most_keys}
 use Rattle.lert_top.specs.Word.{word_at}
-
--- a trace that was opened doesn't end in a fault of the place
-pub not_place_fault : {S K : Type 0} (remaining : S → Option (List ℕ)) (faults : S → ℕ) (taken : K → Option (List ℕ)) (sink_faults : K → ℕ)
-    (settings : Numbers) (opened back : S) (before after : K) (status : Status) →
-    StatusShows remaining faults taken sink_faults settings opened back before after status → status ≡ PlaceFault → ⊥
-not_place_fault remaining faults taken sink_faults settings opened back before after status shows is =
-    subst (λ s. StatusShows remaining faults taken sink_faults settings opened back before after s) is shows
+use Rattle.lert_top.proofs.BayLaws.{failed_since, failed_still, slice_get-some}
 
 pub some_is : {X : Type 0} {x y : X} → Some x ≡ Some y → x ≡ y
 some_is same = cc
@@ -27,81 +25,180 @@ true_is_false same = cc
 pub word_at-slice_get : (words : List (List ℕ)) (number : ℕ) (word : List ℕ) → slice_get words number ≡ Some word → word ≡ word_at words number
 word_at-slice_get words number word at = sym (get_or_from_slice_get words number word [] at)
 
--- the same trace, the same source behind it and the same status
-pub StatusShows-along : {S K : Type 0} (remaining : S → Option (List ℕ)) (faults : S → ℕ) (taken : K → Option (List ℕ)) (sink_faults : K → ℕ)
-    (settings : Numbers) (made opened source back : S) (before after : K) (here status : Status) → made ≡ opened → source ≡ back → here ≡ status →
-    StatusShows remaining faults taken sink_faults settings made source before after here →
-    StatusShows remaining faults taken sink_faults settings opened back before after status
-StatusShows-along remaining faults taken sink_faults settings made opened source back before after here status is_opened is_back is_status shows =
-    subst (λ s. StatusShows remaining faults taken sink_faults settings opened back before after s) is_status
-    (subst (λ s. StatusShows remaining faults taken sink_faults settings opened s before after here) is_back
-    (subst (λ s. StatusShows remaining faults taken sink_faults settings s source before after here) is_opened shows))
+-- what rose had no room for a count without a fault
+no_rise : (a b : ℕ) → IsFaultless a b → HasRisen a b → ⊥
+no_rise a b none rose = absurd (omega (arith, none.same, rose none.below_last))
 
-module _ {S K : Type 0} (remaining : S → Option (List ℕ)) (faults : S → ℕ) (taken : K → Option (List ℕ)) (sink_faults : K → ℕ)
-    (settings : Numbers) (opened back : S) (before after : K) where
-  abbrev Shows : Status → Type 0
-  Shows = StatusShows remaining faults taken sink_faults settings opened back before after
+-- bytes that leave their format aren't well formed
+leaves_or_not : (bytes : List ℕ) (at : ℕ) → left bytes ≡ None → left bytes ≡ Some at → ⊥
+leaves_or_not bytes at formed leaves = cc
 
-  -- what rose had no room for a count without a fault
-  no_rise : (a b : ℕ) → IsFaultless a b → HasRisen a b → ⊥
-  no_rise a b none rose = absurd (omega (arith, none.same, rose none.below_last))
+-- no fault of a bay was counted, or one was
+failed_or_not : {B : Type 0} (faults : B → ℕ) (bays later : List B) (cone : ℕ) → AreFaultless faults bays later → HasFailed faults bays later cone → ⊥
+failed_or_not faults bays later cone none failed =
+    no_rise (faults failed.before) (faults failed.now) (none cone failed.before failed.now failed.was failed.is) failed.rose
 
-  -- bytes that leave their format aren't well formed
-  leaves_or_not : (bytes : List ℕ) (at : ℕ) → left bytes ≡ None → left bytes ≡ Some at → ⊥
-  leaves_or_not bytes at formed leaves = cc
+-- a bay isn't stale where all are fresh
+stale_or_not : {B : Type 0} (files : B → Option Files) (bays : List B) (cone : ℕ) → AreToldFresh files bays → IsStale files bays cone → ⊥
+stale_or_not files bays cone fresh stale =
+    let there = slice_get-some bays cone stale.named in
+    let held = fresh cone there.0 there.1 in
+    stale.not_empty there.0 there.1 held.0 held.1 held.2
 
-  -- the numbers of a full cone are its capacity and one key more
-  full_is : (cone n len : ℕ) → IsFull settings cone n len → CapacityFull cone n len ≡ CapacityFull cone (capacity settings) 1
-  full_is cone n len full = ap (λ k. CapacityFull cone k len) full.all ∙ ap (CapacityFull cone (capacity settings)) full.one
+module _ {S K B : Type 0} (remaining : S → Option (List ℕ)) (faults : S → ℕ) (taken : K → Option (List ℕ)) (sink_faults : K → ℕ) (files : B → Option Files) (bay_faults : B → ℕ)
+    (settings : Numbers) where
+  -- the same trace and the same source behind it
+  pub shows_along : (made opened source back : S) (before after : K) (bays later : List B) (stale : ℕ → Type 0) (status : Status) → made ≡ opened → source ≡ back →
+      StatusShows remaining faults taken sink_faults files bay_faults settings made source before after bays later stale status →
+      StatusShows remaining faults taken sink_faults files bay_faults settings opened back before after bays later stale status
+  shows_along made opened source back before after bays later stale status is_opened is_back shows =
+      subst (λ s. StatusShows remaining faults taken sink_faults files bay_faults settings opened s before after bays later stale status) is_back
+      (subst (λ s. StatusShows remaining faults taken sink_faults files bay_faults settings s source before after bays later stale status) is_opened shows)
 
-  -- a cone can't have more keys than it takes where each takes all of its keys
-  over_or_not : (keys : List ℕ) (cone : ℕ) → cone < 2 ^ settings.cone_bits → AllFit settings keys → IsOver settings keys cone → ⊥
-  over_or_not keys cone named fits over = absurd (omega (arith, fits cone named, over))
+  -- what a status says of bays it says of the same bays earlier
+  pub shows_since : (mark : B → ℕ) (opened back : S) (before after : K) (first then now : List B) (stale : ℕ → Type 0) → AreLater files bay_faults mark first then → AreLater files bay_faults mark then now → (status : Status) →
+      StatusShows remaining faults taken sink_faults files bay_faults settings opened back before after then now (λ _. ⊥) status →
+      StatusShows remaining faults taken sink_faults files bay_faults settings opened back before after first now stale status
+  shows_since mark opened back before after first then now stale one two Done shows = shows
+  shows_since mark opened back before after first then now stale one two (Usage rule) shows = absurd shows
+  shows_since mark opened back before after first then now stale one two PlaceFault shows = absurd shows
+  shows_since mark opened back before after first then now stale one two (TraceFault trace) shows = shows
+  shows_since mark opened back before after first then now stale one two (BadTrace trace at) shows = shows
+  shows_since mark opened back before after first then now stale one two (TooLong trace) shows = shows
+  shows_since mark opened back before after first then now stale one two (NotFresh cone) shows = absurd shows.0
+  shows_since mark opened back before after first then now stale one two (BayFault cone) shows =
+      (failed_since files bay_faults mark first then now cone one two shows.0, shows.1, shows.2)
+  shows_since mark opened back before after first then now stale one two (CapacityFull cone n len) shows = shows
+  shows_since mark opened back before after first then now stale one two OutFault shows = shows
+  shows_since mark opened back before after first then now stale one two OutOfMemory shows = shows
 
-  module _ (none : IsFaultless (faults opened) (faults back)) (bytes : List ℕ) (was : remaining opened ≡ Some bytes)
-      (few : length (whole bytes) ≤ most_keys) where
-    bad_exactly : (status : Status) → Shows status → (at : ℕ) → left bytes ≡ Some at → AllFit settings (whole bytes) →
-        (status ≡ BadTrace 0 at) ⊎ (status ≡ OutOfMemory)
-    bad_exactly Done shows at leaves fits = absurd (leaves_or_not bytes at (shows bytes was).0.to_end.well_formed leaves)
-    bad_exactly (Usage rule) shows at leaves fits = absurd shows
-    bad_exactly PlaceFault shows at leaves fits = absurd shows
-    bad_exactly (TraceFault trace) shows at leaves fits = absurd (no_rise (faults opened) (faults back) none shows.1)
-    bad_exactly (BadTrace trace place) shows at leaves fits =
-        let same : place ≡ at = some_is (sym (shows.1 bytes was) ∙ leaves) in
-        inl (ap (λ t. BadTrace t place) shows.0 ∙ ap (BadTrace 0) same)
-    bad_exactly (TooLong trace) shows at leaves fits = absurd (omega (arith, shows.1 bytes was, few))
-    bad_exactly (CapacityFull cone n len) shows at leaves fits = absurd (over_or_not (whole bytes) cone shows.0.named fits (shows.1 bytes was))
-    bad_exactly OutFault shows at leaves fits = absurd (leaves_or_not bytes at (shows.1 bytes was).0.to_end.well_formed leaves)
-    bad_exactly OutOfMemory shows at leaves fits = inr refl
+  -- why no cones were made, before a byte of the trace was read
+  pub shows_unmade : (opened : S) (back : S) (before : K) (bays later : List B) → back ≡ opened → (status : Status) → IsUnmade files bay_faults bays later status →
+      StatusShows remaining faults taken sink_faults files bay_faults settings opened back before before bays later (IsStale files bays) status
+  shows_unmade opened back before bays later same Done unmade = absurd unmade
+  shows_unmade opened back before bays later same (Usage rule) unmade = absurd unmade
+  shows_unmade opened back before bays later same PlaceFault unmade = absurd unmade
+  shows_unmade opened back before bays later same (TraceFault trace) unmade = absurd unmade
+  shows_unmade opened back before bays later same (BadTrace trace at) unmade = absurd unmade
+  shows_unmade opened back before bays later same (TooLong trace) unmade = absurd unmade
+  shows_unmade opened back before bays later same (NotFresh cone) unmade = (unmade, refl)
+  shows_unmade opened back before bays later same (BayFault cone) unmade = (unmade, refl, inl same)
+  shows_unmade opened back before bays later same (CapacityFull cone n len) unmade = absurd unmade
+  shows_unmade opened back before bays later same OutFault unmade = absurd unmade
+  shows_unmade opened back before bays later same OutOfMemory unmade = (refl, inl same)
 
-    full_exactly : (status : Status) → Shows status → left bytes ≡ None → (over : ℕ) → over < 2 ^ settings.cone_bits → IsOver settings (whole bytes) over →
-        ((cone : ℕ) × (status ≡ CapacityFull cone (capacity settings) 1)) ⊎ (status ≡ OutOfMemory)
-    full_exactly Done shows formed over named many = absurd (over_or_not (whole bytes) over named (shows bytes was).0.fits many)
-    full_exactly (Usage rule) shows formed over named many = absurd shows
-    full_exactly PlaceFault shows formed over named many = absurd shows
-    full_exactly (TraceFault trace) shows formed over named many = absurd (no_rise (faults opened) (faults back) none shows.1)
-    full_exactly (BadTrace trace place) shows formed over named many = absurd (leaves_or_not bytes place formed (shows.1 bytes was))
-    full_exactly (TooLong trace) shows formed over named many = absurd (omega (arith, shows.1 bytes was, few))
-    full_exactly (CapacityFull cone n len) shows formed over named many = inl (cone, full_is cone n len shows.0)
-    full_exactly OutFault shows formed over named many = absurd (over_or_not (whole bytes) over named (shows.1 bytes was).0.fits many)
-    full_exactly OutOfMemory shows formed over named many = inr refl
+  -- why reading stopped
+  pub shows_stopped : (opened back : S) (before : K) (bays later : List B) (stale : ℕ → Type 0) → ArePartly remaining faults files bay_faults settings opened later → (status : Status) →
+      StopShows remaining faults files bay_faults settings opened back bays later status →
+      StatusShows remaining faults taken sink_faults files bay_faults settings opened back before before bays later stale status
+  shows_stopped opened back before bays later stale parts Done stopped = absurd stopped
+  shows_stopped opened back before bays later stale parts (Usage rule) stopped = absurd stopped
+  shows_stopped opened back before bays later stale parts PlaceFault stopped = absurd stopped
+  shows_stopped opened back before bays later stale parts (TraceFault trace) stopped = (stopped.0, stopped.1, refl, parts)
+  shows_stopped opened back before bays later stale parts (BadTrace trace at) stopped = (stopped.0, stopped.1, refl, parts)
+  shows_stopped opened back before bays later stale parts (TooLong trace) stopped = (stopped.0, stopped.1, refl, parts)
+  shows_stopped opened back before bays later stale parts (NotFresh cone) stopped = absurd stopped
+  shows_stopped opened back before bays later stale parts (BayFault cone) stopped = (stopped, refl, inr parts)
+  shows_stopped opened back before bays later stale parts (CapacityFull cone n len) stopped = (stopped.0, stopped.1, refl, parts)
+  shows_stopped opened back before bays later stale parts OutFault stopped = absurd stopped
+  shows_stopped opened back before bays later stale parts OutOfMemory stopped = (refl, inr parts)
 
-    complete : (status : Status) → Shows status → IsFaultless (sink_faults before) (sink_faults after) → left bytes ≡ None →
-        AllFit settings (whole bytes) → (status ≡ Done) ⊎ (status ≡ OutOfMemory)
-    complete Done shows kept formed fits = inl refl
-    complete (Usage rule) shows kept formed fits = absurd shows
-    complete PlaceFault shows kept formed fits = absurd shows
-    complete (TraceFault trace) shows kept formed fits = absurd (no_rise (faults opened) (faults back) none shows.1)
-    complete (BadTrace trace place) shows kept formed fits = absurd (leaves_or_not bytes place formed (shows.1 bytes was))
-    complete (TooLong trace) shows kept formed fits = absurd (omega (arith, shows.1 bytes was, few))
-    complete (CapacityFull cone n len) shows kept formed fits = absurd (over_or_not (whole bytes) cone shows.0.named fits (shows.1 bytes was))
-    complete OutFault shows kept formed fits = absurd (no_rise (sink_faults before) (sink_faults after) kept shows.0)
-    complete OutOfMemory shows kept formed fits = inr refl
+  module _ (opened back : S) (before after : K) (bays later : List B) where
+    abbrev Shows : Status → Type 0
+    Shows = StatusShows remaining faults taken sink_faults files bay_faults settings opened back before after bays later (IsStale files bays)
 
-  pub HasRun-shows : (status : Status) → Shows status → HasRun remaining faults taken sink_faults settings opened back before after status
-  HasRun-shows status shows = record {
-    shows = shows;
-    bad_exactly = λ none bytes was at leaves few fits. bad_exactly none bytes was few status shows at leaves fits;
-    full_exactly = λ none bytes was formed few over named many. full_exactly none bytes was few status shows formed over named many;
-    complete = λ none kept bytes was formed few fits. complete none bytes was few status shows kept formed fits;
-  }
+    -- a trace and bays that were opened end neither in a fault of the place nor in one of the words
+    pub not_place_fault : (status : Status) → Shows status → status ≡ PlaceFault → ⊥
+    not_place_fault status shows is = subst Shows is shows
+
+    pub not_usage : (rule : ℕ) (status : Status) → Shows status → status ≡ Usage rule → ⊥
+    not_usage rule status shows is = subst Shows is shows
+
+    -- a cone can't have more keys than it takes where each takes all of its keys
+    over_or_not : (keys : List ℕ) (cone : ℕ) → cone < 2 ^ settings.cone_bits → AllFit settings keys → IsOver settings keys cone → ⊥
+    over_or_not keys cone named fits over = absurd (omega (arith, fits cone named, over))
+
+    full_or_not : (keys : List ℕ) (cone n len : ℕ) → IsFull files settings later cone n len → HasThem settings keys cone n len → AllFit settings keys → ⊥
+    full_or_not keys cone n len full has fits = absurd (omega (arith, full.over, has, fits cone full.named))
+
+    stale_exactly : (cone : ℕ) (bay : B) (seen : Files) → AreFaultless bay_faults bays later → slice_get bays cone ≡ Some bay → files bay ≡ Some seen → (AreEmpty seen → ⊥) →
+        ((other : ℕ) (lower : B) → other < cone → slice_get bays other ≡ Some lower → (held : Files) × (files lower ≡ Some held) × AreEmpty held) →
+        (status : Status) → Shows status → (is_past_freshness status ≡ true → AreFresh files bays) → (status ≡ NotFresh cone) ⊎ (status ≡ OutOfMemory)
+    stale_exactly cone bay seen none there told not_empty lower Done shows fresh = absurd (not_empty (fresh refl cone bay there seen told))
+    stale_exactly cone bay seen none there told not_empty lower (Usage rule) shows fresh = absurd shows
+    stale_exactly cone bay seen none there told not_empty lower PlaceFault shows fresh = absurd shows
+    stale_exactly cone bay seen none there told not_empty lower (TraceFault trace) shows fresh = absurd (not_empty (fresh refl cone bay there seen told))
+    stale_exactly cone bay seen none there told not_empty lower (BadTrace trace at) shows fresh = absurd (not_empty (fresh refl cone bay there seen told))
+    stale_exactly cone bay seen none there told not_empty lower (TooLong trace) shows fresh = absurd (not_empty (fresh refl cone bay there seen told))
+    stale_exactly cone bay seen none there told not_empty lower (NotFresh other) shows fresh =
+        let found = slice_get-some bays other shows.0.named in
+        elim (cases_lt other cone) [
+          | inl below ↦
+              let held = lower other found.0 below found.1 in
+              absurd (shows.0.not_empty found.0 found.1 held.0 held.1 held.2)
+          | inr above ↦
+              elim (cases_lt cone other) [
+                | inl under ↦ absurd (not_empty (shows.0.lower cone under bay there seen told))
+                | inr reached ↦ let same : other ≡ cone = omega (arith, above, reached) in inl (ap NotFresh same)
+              ]
+        ]
+    stale_exactly cone bay seen none there told not_empty lower (BayFault other) shows fresh = absurd (failed_or_not bay_faults bays later other none shows.0)
+    stale_exactly cone bay seen none there told not_empty lower (CapacityFull other n len) shows fresh = absurd (not_empty (fresh refl cone bay there seen told))
+    stale_exactly cone bay seen none there told not_empty lower OutFault shows fresh = absurd (not_empty (fresh refl cone bay there seen told))
+    stale_exactly cone bay seen none there told not_empty lower OutOfMemory shows fresh = inr refl
+
+    module _ (fresh : AreToldFresh files bays) (bays_none : AreFaultless bay_faults bays later) (none : IsFaultless (faults opened) (faults back)) (bytes : List ℕ)
+        (was : remaining opened ≡ Some bytes) (few : length (whole bytes) ≤ most_keys) where
+      bad_exactly : (status : Status) → Shows status → (at : ℕ) → left bytes ≡ Some at → AllFit settings (whole bytes) → (status ≡ BadTrace 0 at) ⊎ (status ≡ OutOfMemory)
+      bad_exactly Done shows at leaves fits = absurd (leaves_or_not bytes at (shows bytes was).0.to_end.well_formed leaves)
+      bad_exactly (Usage rule) shows at leaves fits = absurd shows
+      bad_exactly PlaceFault shows at leaves fits = absurd shows
+      bad_exactly (TraceFault trace) shows at leaves fits = absurd (no_rise (faults opened) (faults back) none shows.1)
+      bad_exactly (BadTrace trace place) shows at leaves fits =
+          let same : place ≡ at = some_is (sym (shows.1 bytes was) ∙ leaves) in
+          inl (ap (λ t. BadTrace t place) shows.0 ∙ ap (BadTrace 0) same)
+      bad_exactly (TooLong trace) shows at leaves fits = absurd (omega (arith, shows.1 bytes was, few))
+      bad_exactly (NotFresh cone) shows at leaves fits = absurd (stale_or_not files bays cone fresh shows.0)
+      bad_exactly (BayFault cone) shows at leaves fits = absurd (failed_or_not bay_faults bays later cone bays_none shows.0)
+      bad_exactly (CapacityFull cone n len) shows at leaves fits = absurd (full_or_not (whole bytes) cone n len shows.0 (shows.1 bytes was) fits)
+      bad_exactly OutFault shows at leaves fits = absurd (leaves_or_not bytes at (shows.1 bytes was).0.to_end.well_formed leaves)
+      bad_exactly OutOfMemory shows at leaves fits = inr refl
+
+      full_exactly : (status : Status) → Shows status → left bytes ≡ None → (over : ℕ) → over < 2 ^ settings.cone_bits → IsOver settings (whole bytes) over →
+          ((cone n len : ℕ) × (status ≡ CapacityFull cone n len)) ⊎ (status ≡ OutOfMemory)
+      full_exactly Done shows formed over named many = absurd (over_or_not (whole bytes) over named (shows bytes was).0.fits many)
+      full_exactly (Usage rule) shows formed over named many = absurd shows
+      full_exactly PlaceFault shows formed over named many = absurd shows
+      full_exactly (TraceFault trace) shows formed over named many = absurd (no_rise (faults opened) (faults back) none shows.1)
+      full_exactly (BadTrace trace place) shows formed over named many = absurd (leaves_or_not bytes place formed (shows.1 bytes was))
+      full_exactly (TooLong trace) shows formed over named many = absurd (omega (arith, shows.1 bytes was, few))
+      full_exactly (NotFresh cone) shows formed over named many = absurd (stale_or_not files bays cone fresh shows.0)
+      full_exactly (BayFault cone) shows formed over named many = absurd (failed_or_not bay_faults bays later cone bays_none shows.0)
+      full_exactly (CapacityFull cone n len) shows formed over named many = inl (cone, n, len, refl)
+      full_exactly OutFault shows formed over named many = absurd (over_or_not (whole bytes) over named (shows.1 bytes was).0.fits many)
+      full_exactly OutOfMemory shows formed over named many = inr refl
+
+      complete : (status : Status) → Shows status → IsFaultless (sink_faults before) (sink_faults after) → left bytes ≡ None → AllFit settings (whole bytes) → (status ≡ Done) ⊎ (status ≡ OutOfMemory)
+      complete Done shows kept formed fits = inl refl
+      complete (Usage rule) shows kept formed fits = absurd shows
+      complete PlaceFault shows kept formed fits = absurd shows
+      complete (TraceFault trace) shows kept formed fits = absurd (no_rise (faults opened) (faults back) none shows.1)
+      complete (BadTrace trace place) shows kept formed fits = absurd (leaves_or_not bytes place formed (shows.1 bytes was))
+      complete (TooLong trace) shows kept formed fits = absurd (omega (arith, shows.1 bytes was, few))
+      complete (NotFresh cone) shows kept formed fits = absurd (stale_or_not files bays cone fresh shows.0)
+      complete (BayFault cone) shows kept formed fits = absurd (failed_or_not bay_faults bays later cone bays_none shows.0)
+      complete (CapacityFull cone n len) shows kept formed fits = absurd (full_or_not (whole bytes) cone n len shows.0 (shows.1 bytes was) fits)
+      complete OutFault shows kept formed fits = absurd (no_rise (sink_faults before) (sink_faults after) kept shows.0)
+      complete OutOfMemory shows kept formed fits = inr refl
+
+    pub HasRun-shows : (status : Status) → Shows status → (status ≢ OutOfMemory → length bays ≡ 2 ^ settings.cone_bits) → (is_past_freshness status ≡ true → AreFresh files bays) →
+        HasRun remaining faults taken sink_faults files bay_faults settings opened back before after bays later status
+    HasRun-shows status shows number fresh = record {
+      shows = shows;
+      number = number;
+      fresh = fresh;
+      stale_exactly = λ none cone bay there seen told not_empty lower. stale_exactly cone bay seen none there told not_empty lower status shows fresh;
+      bad_exactly = λ told bays_none none bytes was at leaves few fits. bad_exactly told bays_none none bytes was few status shows at leaves fits;
+      full_exactly = λ told bays_none none bytes was formed few over named many. full_exactly told bays_none none bytes was few status shows formed over named many;
+      complete = λ told bays_none none kept bytes was formed few fits. complete told bays_none none bytes was few status shows kept formed fits;
+    }

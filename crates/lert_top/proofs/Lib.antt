@@ -1,9 +1,14 @@
+pub mod AskedLaws
+pub mod BayLaws
+pub mod ConeLaws
 pub mod ConeTexts
 pub mod Ending
 pub mod FewReports
+pub mod FreshLaws
 pub mod KeysRead
 pub mod LaneLaws
 pub mod Parsing
 pub mod Printing
 pub mod Spelling
-pub mod Taking
+pub mod Stopping
+pub mod WeaveLaws

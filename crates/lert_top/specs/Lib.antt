@@ -1,8 +1,12 @@
+pub mod Asked
+pub mod Bays
 pub mod Command
+pub mod Cones
 pub mod Lanes
 pub mod Page
 pub mod Router
 pub mod Run
 pub mod Shelf
 pub mod Status
+pub mod Weave
 pub mod Word

@@ -1,12 +1,14 @@
 //! The top call of LERT, `run`, with the places that it asks for traces and bays, its words and its statuses.
 //!
-//! The one contract is that of `run`: it is decided by the words, the trace and the sink alone. With
-//! `Done` the text that was written is that of each cone's part of the trace and of the reports that
-//! the closed cone makes of it, and these reports are in time; each other status says why there is no
-//! such text.
+//! The one contract is that of `run`: it is decided by the words, the trace, the bays and the sink alone.
+//! With `Done` the journal of each cone is a weave of its part of the trace, and the text that was written
+//! is that of these parts and of the reports that the closed cones make of them, which are in time; each
+//! other status says why there is no such text.
 //! The program stands on it.
 #![tactic(auto)]
 
+mod bays;
+mod cones;
 mod lent;
 mod line;
 mod mem_place;
@@ -26,7 +28,7 @@ pub use opening::{Opening, Wanted};
 pub use page::Page;
 pub use place::Place;
 pub use print::{print_cone, print_total};
-pub use reading::detect;
+pub use reading::read_all;
 pub use router::Router;
 pub use status::Status;
 pub use top::run;

@@ -1,57 +1,72 @@
 //! A trace, read to its end into all cones.
 
-ghost use Rattle.std.specs.Prelude.{◌≡◌, [], None, IfOk, IfErr, OnOk};
+ghost use Rattle.std.specs.Prelude.{◌≡◌, [], None, IfErr, OnOk};
 ghost use Rattle.lert_io.specs.Reading.{IfTold};
 ghost use Rattle.lert_spec.specs.Trace.{whole};
+ghost use Rattle.lert_top.specs.Bays.{AreLater, AreWoven, bays_of};
 ghost use Rattle.lert_top.specs.Router.{IsFinished, IsTaking};
-ghost use Rattle.lert_top.specs.Run.{IsReadToEnd, IsReadWhole, StopShows, most_keys};
+ghost use Rattle.lert_top.specs.Run.{ArePartly, IsReadToEnd, IsReadWhole, StopShows, most_keys};
 
 use crate::router::Router;
 use crate::status::Status;
-use lert_base::Settings;
+use lert_bay::Bay;
 use lert_io::Source;
 use lert_trace::TraceReader;
-use std::alloc::Global;
 
 /// Reads a fresh reader to its end into cones, and finishes them. A status other than want of memory
 /// says why the trace couldn't be read on.
-pub fn detect<S: Source>(
-    alloc: Global,
-    settings: &Settings,
+pub fn read_all<S: Source, B: Bay>(
+    router: &mut Router<B>,
     reader: &mut TraceReader<S>,
-) -> Result<Router, Status>
-    requires fresh { reader.old.given ≡ 0 }
+) -> Result<(), Status>
+    requires empty { router.old.keys ≡ [] }
+    requires taking { IsTaking B.files B.leaves B.faults router.old }
+    requires unread { reader.old.given ≡ 0 }
     requires sound { reader.old.fault ≡ None }
     requires limit { reader.old.limit ≡ most_keys }
-    ensures settings { IfOk result (λ router. router.settings ≡ settings.now) }
-    ensures finished { IfOk result IsFinished }
-    ensures keys { IfTold (S.remaining reader.old.made) (λ bytes. IfOk result (λ router. router.keys ≡ whole bytes)) }
+    ensures settings { router.new.settings ≡ router.old.settings }
+    ensures finished { OnOk result (IsFinished B.files B.leaves B.faults router.new) }
+    ensures keys { IfTold (S.remaining reader.old.made) (λ bytes. OnOk result (router.new.keys ≡ whole bytes)) }
     ensures read { IfTold (S.remaining reader.old.made) (λ bytes.
-        IfOk result (λ _. IsReadWhole settings.now bytes (S.remaining reader.new.source))) }
-    ensures stopped { IfErr result (StopShows S.remaining S.faults settings.now reader.old.made reader.new.source) }
+        OnOk result (IsReadWhole router.old.settings bytes (S.remaining reader.new.source))) }
+    ensures woven { IfTold (S.remaining reader.old.made) (λ bytes.
+        OnOk result (AreWoven B.files router.old.settings (bays_of router.new.cones.items) (whole bytes))) }
+    ensures later { AreLater B.files B.faults B.mark (bays_of router.old.cones.items) (bays_of router.new.cones.items) }
+    ensures partly { IfErr result (λ _. ArePartly S.remaining S.faults B.files B.faults router.old.settings
+        reader.old.made (bays_of router.new.cones.items)) }
+    ensures stopped { IfErr result (StopShows S.remaining S.faults B.files B.faults router.old.settings
+        reader.old.made reader.new.source (bays_of router.old.cones.items) (bays_of router.new.cones.items)) }
     ensures mark { S.mark reader.new.source ≡ S.mark reader.old.source }
 {
-    let mut router = Router::new(alloc, settings)?;
-    take_keys(&mut router, reader)?;
+    if let Err(status) = take_keys(router, reader) {
+        return Err(status);
+    }
     match router.finish() {
-        Ok(()) => Ok(router),
+        Ok(()) => Ok(()),
         Err(status) => Err(status),
     }
 }
 
 // Reads a fresh reader to its end, and routes each key.
-fn take_keys<S: Source>(router: &mut Router, reader: &mut TraceReader<S>) -> Result<(), Status>
+fn take_keys<S: Source, B: Bay>(
+    router: &mut Router<B>,
+    reader: &mut TraceReader<S>,
+) -> Result<(), Status>
     requires empty { router.old.keys ≡ [] }
-    requires taking { IsTaking router.old }
-    requires fresh { reader.old.given ≡ 0 }
+    requires taking { IsTaking B.files B.leaves B.faults router.old }
+    requires unread { reader.old.given ≡ 0 }
     requires sound { reader.old.fault ≡ None }
     requires limit { reader.old.limit ≡ most_keys }
     ensures settings { router.new.settings ≡ router.old.settings }
-    ensures taking { OnOk result (IsTaking router.new) }
+    ensures taking { OnOk result (IsTaking B.files B.leaves B.faults router.new) }
     ensures keys { IfTold (S.remaining reader.old.made) (λ bytes. OnOk result (router.new.keys ≡ whole bytes)) }
     ensures read { IfTold (S.remaining reader.old.made) (λ bytes.
         OnOk result (IsReadToEnd bytes (S.remaining reader.new.source))) }
-    ensures stopped { IfErr result (StopShows S.remaining S.faults router.old.settings reader.old.made reader.new.source) }
+    ensures later { AreLater B.files B.faults B.mark (bays_of router.old.cones.items) (bays_of router.new.cones.items) }
+    ensures partly { IfErr result (λ _. ArePartly S.remaining S.faults B.files B.faults router.old.settings
+        reader.old.made (bays_of router.new.cones.items)) }
+    ensures stopped { IfErr result (StopShows S.remaining S.faults B.files B.faults router.old.settings
+        reader.old.made reader.new.source (bays_of router.old.cones.items) (bays_of router.new.cones.items)) }
     ensures mark { S.mark reader.new.source ≡ S.mark reader.old.source }
 {
     loop {

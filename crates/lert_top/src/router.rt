@@ -1,16 +1,22 @@
 //! Keys on their way to the cones, each by the ring of its cone.
 
-ghost use Rattle.std.specs.Prelude.{◌≡◌, ℕ, ◌+◌, ◌^◌, ◌<◌, ◌≤◌, true, false, [], ◌∷◌, ◌++◌, length, All, Err, IfOk, IfErr, OnOk, slice_get, Some};
+ghost use Rattle.std.specs.Prelude.{◌≡◌, ℕ, ◌+◌, ◌*◌, ◌^◌, ◌<◌, ◌≤◌, true, false, [], ◌∷◌, ◌++◌, length, IfOk, IfErr, OnOk, List, replicate};
 ghost use Rattle.lert_buffers.specs.Rings.{ring_of, with_ring};
-ghost use Rattle.lert_spec.specs.Edges.{capacity};
-ghost use Rattle.lert_spec.specs.Mix.{cone_of, part_of};
-ghost use Rattle.lert_top.specs.Lanes.{AreLanes, AreShort, AreDrained, IsIdle, closed_cones, open_cones};
+ghost use Rattle.lert_base.specs.Packet.{Packet};
+ghost use Rattle.lert_cone.specs.Stands.{StandsFor};
+ghost use Rattle.lert_cone.specs.declared.state.ConeState.TheVariants.{BrokenByMemory, Finished, Running};
+ghost use Rattle.lert_spec.specs.Limits.{IsValid};
+ghost use Rattle.lert_spec.specs.Mix.{part_of};
+ghost use Rattle.lert_top.specs.Bays.{AreLater, ArePartWoven, bays_of};
+ghost use Rattle.lert_top.specs.Cones.{AreNew};
+ghost use Rattle.lert_top.specs.Lanes.{AreDrained, AreShort, IsIdle};
 ghost use Rattle.lert_top.specs.Run.{IsRefused};
 
 use crate::status::Status;
 use lert_base::{Entry, KeyList, Settings};
+use lert_bay::Bay;
 use lert_buffers::{Buffers, Fill};
-use lert_cone::{ListCone, ListFault};
+use lert_cone::Cone;
 use lert_io::{OutOfMemory, Seen};
 use lert_mixer::cone_of;
 use std::alloc::Global;
@@ -19,53 +25,55 @@ use std::alloc::Global;
 ///
 /// A key costs a place in the ring of its cone; a ring that holds a packet goes to the cone at once.
 #[derive(Drop)]
-pub struct Router {
+pub struct Router<B: Bay> {
     settings: Settings,
-    cones: Vec<ListCone>,
+    cones: Vec<Cone<B>>,
     rings: Buffers,
     entry: Entry,
     keys: Seen<u64>,
 }
 
-impl Router {
+impl<B: Bay> Router<B> {
     ghost use Rattle.lert_top.specs.Router.{IsOpen, IsTaking, IsFinished};
 
-    /// A router that took no key. All memory of the rings is taken here, and no other for them later.
-    pub fn new(alloc: Global, settings: &Settings) -> Result<Router, OutOfMemory>
+    /// A router that took no key. All memory of the rings is taken here, and no other for them later. A
+    /// refusal is want of memory, and hands the cones back.
+    pub fn new(
+        alloc: Global,
+        settings: &Settings,
+        cones: Vec<Cone<B>>,
+    ) -> Result<Router<B>, Vec<Cone<B>>>
+        requires number { length cones.items ≡ 2 ^ settings.now.cone_bits }
+        requires new_cones { AreNew B.files B.leaves B.faults settings.now cones.items }
         ensures settings { IfOk result (λ router. router.settings ≡ settings.now) }
+        ensures cones { IfOk result (λ router. router.cones.items ≡ cones.items) }
         ensures keys { IfOk result (λ router. router.keys ≡ []) }
-        ensures taking { IfOk result IsTaking }
+        ensures taking { IfOk result (IsTaking B.files B.leaves B.faults) }
+        ensures back { IfErr result (λ back. back ≡ cones) }
     {
-        let packet = settings.numbers().packet as usize;
-        Ok(Router {
-            settings: *settings,
-            cones: Router::open_cones(alloc, settings)?,
-            rings: Buffers::new(alloc, settings.cones(), packet)?,
-            entry: Entry::new(0, 0, KeyList::with_room(alloc, 4 * packet)?),
-            keys: Seen::new(),
-        })
-    }
-
-    // A cone with no key for each number.
-    fn open_cones(alloc: Global, settings: &Settings) -> Result<Vec<ListCone>, OutOfMemory>
-        ensures number { IfOk result (λ cones. length cones.items ≡ 2 ^ settings.now.cone_bits) }
-        ensures each { IfOk result (λ cones. (cone : ℕ) → cone < 2 ^ settings.now.cone_bits →
-            slice_get cones.items cone ≡ Some (record { settings = settings.now; cone = cone; events = []; closed = false })) }
-    {
-        let mut cones = Vec::with_capacity(alloc, settings.cones() as usize)?;
-        for cone in 0..settings.cones() {
-            cones.push(ListCone::new(alloc, settings, cone)?)?;
+        match make_rings(alloc, settings) {
+            Ok((rings, entry)) => Ok(Router {
+                settings: *settings,
+                cones,
+                rings,
+                entry,
+                keys: Seen::new(),
+            }),
+            Err(OutOfMemory) => Err(cones),
         }
-        Ok(cones)
     }
 
-    /// Takes the next key. After a refusal, a full cone's or for want of memory, no call is to be made.
+    /// Takes the next key. After a refusal, of a full cone, of a bay or for want of memory, no call is to
+    /// be made.
     pub fn take(&mut self, key: u64) -> Result<(), Status>
-        requires taking { IsTaking self.old }
+        requires taking { IsTaking B.files B.leaves B.faults self.old }
         ensures settings { self.new.settings ≡ self.old.settings }
         ensures keys { self.new.keys ≡ self.old.keys ++ key ∷ [] }
-        ensures taking { OnOk result (IsTaking self.new) }
-        ensures refused { IfErr result (IsRefused self.old.settings (self.old.keys ++ key ∷ [])) }
+        ensures taking { OnOk result (IsTaking B.files B.leaves B.faults self.new) }
+        ensures later { AreLater B.files B.faults B.mark (bays_of self.old.cones.items) (bays_of self.new.cones.items) }
+        ensures partly { ArePartWoven B.files self.old.settings (bays_of self.new.cones.items) self.new.keys }
+        ensures refused { IfErr result (IsRefused B.files B.faults self.old.settings
+            (bays_of self.old.cones.items) (bays_of self.new.cones.items) self.new.keys) }
     {
         let cone = cone_of(&self.settings, key);
         self.keys.push(&key);
@@ -76,13 +84,16 @@ impl Router {
     }
 
     /// Hands out what the rings hold, in ascending cones, and then finishes the cones, in ascending
-    /// order. After a refusal, a full cone's or for want of memory, no call is to be made.
+    /// order. After a refusal, of a full cone, of a bay or for want of memory, no call is to be made.
     pub fn finish(&mut self) -> Result<(), Status>
-        requires taking { IsTaking self.old }
+        requires taking { IsTaking B.files B.leaves B.faults self.old }
         ensures settings { self.new.settings ≡ self.old.settings }
         ensures keys { self.new.keys ≡ self.old.keys }
-        ensures finished { OnOk result (IsFinished self.new) }
-        ensures refused { IfErr result (IsRefused self.old.settings self.old.keys) }
+        ensures finished { OnOk result (IsFinished B.files B.leaves B.faults self.new) }
+        ensures later { AreLater B.files B.faults B.mark (bays_of self.old.cones.items) (bays_of self.new.cones.items) }
+        ensures partly { ArePartWoven B.files self.old.settings (bays_of self.new.cones.items) self.new.keys }
+        ensures refused { IfErr result (IsRefused B.files B.faults self.old.settings
+            (bays_of self.old.cones.items) (bays_of self.new.cones.items) self.new.keys) }
     {
         self.hand_out_all()?;
         self.close_all()
@@ -103,60 +114,103 @@ impl Router {
     }
 
     /// A finished cone: it took its part of the keys.
-    pub fn cone(&self, number: u32) -> &ListCone
-        requires finished { IsFinished self.now }
+    pub fn cone(&self, number: u32) -> &Cone<B>
+        requires finished { IsFinished B.files B.leaves B.faults self.now }
         requires named { number < 2 ^ self.now.settings.cone_bits }
-        ensures { result.now ≡ record {
+        ensures listing { result.now.listing ≡ record {
           settings = self.now.settings;
           cone = number;
           events = part_of self.now.settings number self.now.keys;
           closed = true;
         } }
+        ensures state { result.now.state ≡ Finished }
     {
         &self.cones[number as usize]
     }
 
-    // Moves the keys of a cone's ring into the cone.
+    /// The cones.
+    pub fn into_cones(self) -> Vec<Cone<B>>
+        ensures { result.items ≡ self.cones.items }
+    {
+        let Router { cones, .. } = self;
+        cones
+    }
+
+    // Moves the keys of a cone's ring, of which there are some, into the cone as a packet.
     fn hand_out(&mut self, cone: u32) -> Result<(), Status>
         requires named { cone < 2 ^ self.old.settings.cone_bits }
-        requires open { IsOpen self.old }
+        requires taking { (from : ℕ) × (from ≤ cone) × IsOpen B.files B.leaves B.faults from self.old }
+        requires some { 1 ≤ length (ring_of self.old.rings cone) }
+        requires few { length (ring_of self.old.rings cone) ≤ 4 * self.old.settings.packet }
         ensures settings { self.new.settings ≡ self.old.settings }
         ensures keys { self.new.keys ≡ self.old.keys }
-        ensures open { OnOk result (IsOpen self.new) }
+        ensures taking { (from to : ℕ) → IsOpen B.files B.leaves B.faults from self.old → from ≤ cone → from ≤ to →
+            (to ≤ cone → length (ring_of self.old.rings cone) ≡ self.old.settings.packet) →
+            OnOk result (IsOpen B.files B.leaves B.faults to self.new) }
         ensures rings { self.new.rings ≡ with_ring self.old.rings cone [] }
-        ensures refused { IfErr result (IsRefused self.old.settings self.old.keys) }
+        ensures later { AreLater B.files B.faults B.mark (bays_of self.old.cones.items) (bays_of self.new.cones.items) }
+        ensures partly { ArePartWoven B.files self.old.settings (bays_of self.new.cones.items) self.new.keys }
+        ensures refused { IfErr result (IsRefused B.files B.faults self.old.settings
+            (bays_of self.old.cones.items) (bays_of self.new.cones.items) self.new.keys) }
     {
         self.rings.take(cone, &mut self.entry);
-        let handed = hand(&mut self.cones[cone as usize], self.entry.keys.as_slice());
+        let admitted = self.cones[cone as usize].admit(&self.entry);
         self.entry.keys.clear();
-        match handed {
-            Ok(()) => Ok(()),
+        match admitted {
+            Ok(_) => Ok(()),
             Err(fault) => Err(Status::of_cone(cone, fault)),
         }
     }
 
-    // Moves the keys of all rings into their cones.
-    fn hand_out_all(&mut self) -> Result<(), Status>
-        requires open { IsOpen self.old }
+    // Moves what a cone's ring still holds into the cone.
+    fn hand_out_rest(&mut self, cone: u32) -> Result<(), Status>
+        requires named { cone < 2 ^ self.old.settings.cone_bits }
+        requires taking { IsOpen B.files B.leaves B.faults cone self.old }
+        requires short { AreShort self.old.settings self.old.rings }
         ensures settings { self.new.settings ≡ self.old.settings }
         ensures keys { self.new.keys ≡ self.old.keys }
-        ensures open { OnOk result (IsOpen self.new) }
+        ensures taking { OnOk result (IsOpen B.files B.leaves B.faults (cone + 1) self.new) }
+        ensures rings { self.new.rings ≡ with_ring self.old.rings cone [] }
+        ensures later { AreLater B.files B.faults B.mark (bays_of self.old.cones.items) (bays_of self.new.cones.items) }
+        ensures partly { ArePartWoven B.files self.old.settings (bays_of self.new.cones.items) self.new.keys }
+        ensures refused { IfErr result (IsRefused B.files B.faults self.old.settings
+            (bays_of self.old.cones.items) (bays_of self.new.cones.items) self.new.keys) }
+    {
+        if self.rings.len(cone) == 0 {
+            return Ok(());
+        }
+        self.hand_out(cone)
+    }
+
+    // Moves what all rings still hold into their cones, in ascending order.
+    fn hand_out_all(&mut self) -> Result<(), Status>
+        requires taking { IsTaking B.files B.leaves B.faults self.old }
+        ensures settings { self.new.settings ≡ self.old.settings }
+        ensures keys { self.new.keys ≡ self.old.keys }
+        ensures taking { OnOk result (IsOpen B.files B.leaves B.faults (2 ^ self.new.settings.cone_bits) self.new) }
         ensures drained { OnOk result (AreDrained (2 ^ self.new.settings.cone_bits) self.new.rings) }
-        ensures refused { IfErr result (IsRefused self.old.settings self.old.keys) }
+        ensures later { AreLater B.files B.faults B.mark (bays_of self.old.cones.items) (bays_of self.new.cones.items) }
+        ensures partly { ArePartWoven B.files self.old.settings (bays_of self.new.cones.items) self.new.keys }
+        ensures refused { IfErr result (IsRefused B.files B.faults self.old.settings
+            (bays_of self.old.cones.items) (bays_of self.new.cones.items) self.new.keys) }
     {
         for cone in 0..self.settings.cones() {
-            self.hand_out(cone)?;
+            if let Err(status) = self.hand_out_rest(cone) {
+                return Err(status);
+            }
         }
         Ok(())
     }
 
-    // Finishes all cones. Only want of memory refuses it.
+    // Finishes all cones, in ascending order. Only want of memory refuses it.
     fn close_all(&mut self) -> Result<(), Status>
-        requires open { IsOpen self.old }
+        requires taking { IsOpen B.files B.leaves B.faults (2 ^ self.old.settings.cone_bits) self.old }
         requires drained { AreDrained (2 ^ self.old.settings.cone_bits) self.old.rings }
         ensures settings { self.new.settings ≡ self.old.settings }
         ensures keys { self.new.keys ≡ self.old.keys }
-        ensures finished { OnOk result (IsFinished self.new) }
+        ensures finished { OnOk result (IsFinished B.files B.leaves B.faults self.new) }
+        ensures later { AreLater B.files B.faults B.mark (bays_of self.old.cones.items) (bays_of self.new.cones.items) }
+        ensures partly { ArePartWoven B.files self.old.settings (bays_of self.new.cones.items) self.new.keys }
         ensures refused { IfErr result (λ status. status ≡ Status.OutOfMemory) }
     {
         for cone in 0..self.settings.cones() {
@@ -166,33 +220,28 @@ impl Router {
     }
 }
 
-// Gives keys to an open cone, in their order.
-fn hand(cone: &mut ListCone, keys: &[u64]) -> Result<(), ListFault>
-    requires open { cone.old.closed ≡ false }
-    requires own { All (λ key. cone_of cone.old.settings key ≡ cone.old.cone) keys.now }
-    requires fits { length cone.old.events ≤ capacity cone.old.settings }
-    ensures ok { OnOk result (cone.new ≡ record cone.old { events = cone.old.events ++ keys.now }) }
-    ensures fits { OnOk result (length (cone.old.events ++ keys.now) ≤ capacity cone.old.settings) }
-    ensures open { result ≡ Err ListFault.Closed → ⊥ }
-    ensures full { (n len : ℕ) → result ≡ Err (ListFault.CapacityFull n len) →
-        (n ≡ capacity cone.old.settings) × (len ≡ 1) × (capacity cone.old.settings < length (cone.old.events ++ keys.now)) }
+// The rings of all cones, and an entry for what they hold.
+fn make_rings(alloc: Global, settings: &Settings) -> Result<(Buffers, Entry), OutOfMemory>
+    ensures rings { IfOk result (λ made. made.0 ≡ record { packet = settings.now.packet; rings = replicate (2 ^ settings.now.cone_bits) [] }) }
+    ensures entry { IfOk result (λ made. IsIdle settings.now made.1) }
+    ensures valid { OnOk result (IsValid settings.now) }
 {
-    for key in keys {
-        if let Err(fault) = cone.take(*key) {
-            return Err(fault);
-        }
-    }
-    Ok(())
+    let packet = settings.numbers().packet as usize;
+    let rings = Buffers::new(alloc, settings.cones(), packet)?;
+    let entry = Entry::new(0, 0, KeyList::with_room(alloc, 4 * packet)?);
+    Ok((rings, entry))
 }
 
-// Closes a cone that is open. Only want of memory refuses it.
-fn close(cone: &mut ListCone) -> Result<(), Status>
-    requires { cone.old.closed ≡ false }
-    ensures ok { OnOk result (cone.new ≡ record cone.old { closed = true }) }
+// Finishes a running cone. Only want of memory refuses it.
+fn close<B: Bay>(cone: &mut Cone<B>) -> Result<(), Status>
+    requires { cone.old.state ≡ Running }
+    ensures finished { OnOk result (cone.new ≡ record cone.old { listing = record cone.old.listing { closed = true }; state = Finished }) }
     ensures refused { IfErr result (λ status. status ≡ Status.OutOfMemory) }
+    ensures broke { IfErr result (λ _. cone.new ≡ record cone.old { state = BrokenByMemory }) }
+    ensures stands { (h : List Packet) → StandsFor B.files B.leaves B.faults cone.old h → StandsFor B.files B.leaves B.faults cone.new h }
 {
     match cone.finish() {
-        Ok(()) => Ok(()),
+        Ok(_) => Ok(()),
         Err(fault) => Err(Status::of_cone(0, fault)),
     }
 }

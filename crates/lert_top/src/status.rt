@@ -1,9 +1,9 @@
 //! How a run ends.
 
-ghost use Rattle.std.specs.Prelude.{◌≡◌, ◌≢◌, ◌≤◌, ℕ};
-ghost use Rattle.lert_top.specs.Status.{status_fields, status_number, stop_status};
+ghost use Rattle.std.specs.Prelude.{◌≡◌, ◌≢◌, ◌≤◌};
+ghost use Rattle.lert_top.specs.Status.{cone_status, status_fields, status_number, stop_status};
 
-use lert_cone::ListFault;
+use lert_cone::ConeFault;
 use lert_io::OutOfMemory;
 use lert_trace::TraceFault;
 
@@ -15,7 +15,7 @@ pub enum Status {
     Done,
     /// The words aren't a line of a known form (rule 0), or its numbers break a rule.
     Usage { rule: u8 },
-    /// A trace can't be opened.
+    /// A trace or a bay can't be opened.
     PlaceFault,
     /// A read of a trace failed.
     TraceFault { trace: u32 },
@@ -23,7 +23,11 @@ pub enum Status {
     BadTrace { trace: u32, at: u64 },
     /// A trace has more than 2^36 keys.
     TooLong { trace: u32 },
-    /// A cone has as many keys as it takes: `n`, and `len` more were brought.
+    /// A file of this cone has some bytes, and those of the cones below it have none.
+    NotFresh { cone: u32 },
+    /// A call of this cone's bay failed.
+    BayFault { cone: u32 },
+    /// A cone has `n` keys, and the `len` of the next packet are more than it takes besides.
     CapacityFull { cone: u32, n: u64, len: u64 },
     /// A write of the text failed. A part of it may have been written.
     OutFault,
@@ -44,6 +48,8 @@ impl Status {
             Status::TraceFault { trace: _ } => 3,
             Status::BadTrace { trace: _, at: _ } => 4,
             Status::TooLong { trace: _ } => 5,
+            Status::NotFresh { cone: _ } => 6,
+            Status::BayFault { cone: _ } => 7,
             Status::CapacityFull {
                 cone: _,
                 n: _,
@@ -63,6 +69,7 @@ impl Status {
             Status::TraceFault { trace } => (u64::from(trace), 0, 0),
             Status::BadTrace { trace, at } => (u64::from(trace), at, 0),
             Status::TooLong { trace } => (u64::from(trace), 0, 0),
+            Status::NotFresh { cone } | Status::BayFault { cone } => (u64::from(cone), 0, 0),
             Status::CapacityFull { cone, n, len } => (u64::from(cone), n, len),
             Status::Done | Status::PlaceFault | Status::OutFault | Status::OutOfMemory => (0, 0, 0),
         }
@@ -82,16 +89,18 @@ impl Status {
         }
     }
 
-    /// The status of a run that a refusal of an open cone stops.
-    pub fn of_cone(cone: u32, fault: ListFault) -> Status
-        requires { fault ≢ ListFault.Closed }
-        ensures full { (n len : ℕ) → fault ≡ ListFault.CapacityFull n len → result ≡ Status.CapacityFull cone n len }
-        ensures memory { fault ≡ ListFault.OutOfMemory → result ≡ Status.OutOfMemory }
+    /// The status of a run that a refusal of a running cone stops.
+    pub fn of_cone(cone: u32, fault: ConeFault) -> Status
+        requires running { fault ≢ ConeFault.Closed }
+        requires whole { fault ≢ ConeFault.Broken }
+        ensures { result ≡ cone_status cone fault }
     {
         match fault {
-            ListFault::Closed => unreachable!(),
-            ListFault::CapacityFull { n, len } => Status::CapacityFull { cone, n, len },
-            ListFault::OutOfMemory => Status::OutOfMemory,
+            ConeFault::Closed => unreachable!(),
+            ConeFault::Broken => unreachable!(),
+            ConeFault::CapacityFull { n, len } => Status::CapacityFull { cone, n, len },
+            ConeFault::BayFailed => Status::BayFault { cone },
+            ConeFault::OutOfMemory => Status::OutOfMemory,
         }
     }
 }

@@ -1,6 +1,7 @@
 use Rattle.std.proofs.Common.{◌≡◌, ◌≤◌, ◌-◌, None, take}
 use Rattle.lert_io.specs.Reading.{IfTold}
 use Rattle.lert_spec.specs.Trace.{whole}
+use Rattle.lert_top.specs.Bays.{AreLater, bays_of}
 use Rattle.lert_top.specs.Router.{IsTaking}
 use Rattle.lert_top.specs.Run.{most_keys}
 use Rattle.lert_top.proofs.reading.take_keys.Given as goal
@@ -9,12 +10,13 @@ use Rattle.lert_top.proofs.reading.take_keys.Given as goal
 abbrev pub invariant-loop-key : goal.invariant-loop-key
 invariant-loop-key g l = record {
   settings : l.router.settings ≡ l.fn.router.settings;
-  taking : IsTaking l.router;
+  taking : IsTaking g.B.Bay.files g.B.Bay.leaves g.B.Faulty.faults l.router;
   made : l.reader.made ≡ l.fn.reader.made;
   limit : l.reader.limit ≡ most_keys;
   sound : l.reader.fault ≡ None;
   within : l.reader.given ≤ most_keys;
   keys : IfTold (g.S.Source.remaining l.fn.reader.made) (λ bytes. l.router.keys ≡ take l.reader.given (whole bytes));
+  later : AreLater g.B.Bay.files g.B.Faulty.faults g.B.Faulty.mark (bays_of l.fn.router.cones.items) (bays_of l.router.cones.items);
   falls : g.S.Faulty.faults l.fn.reader.source ≤ g.S.Faulty.faults l.reader.source;
   marked : g.S.Faulty.mark l.reader.source ≡ g.S.Faulty.mark l.fn.reader.source;
 }

@@ -1,6 +1,7 @@
 use Rattle.std.proofs.Common.{◌≡◌, ◌+◌, ◌^◌, ◌++◌, length, ap, ◌∙◌, subst, arith}
 use Rattle.std.proofs.lemmas.Result.{err_from_is_err_and, on_ok_weaker, on_err_weaker}
 use Rattle.lert_cone.specs.Listing.{Listing, reports_of}
+use Rattle.lert_cone.specs.Stands.{is_broken}
 use Rattle.lert_spec.specs.Lines.{Printed, cone_text, cone_texts}
 use Rattle.lert_top.specs.Page.{IsCut, IsPrinting}
 use Rattle.lert_top.specs.Run.{AreInTime, printed, text_of}
@@ -17,7 +18,8 @@ returns-in_err-print_cone-clause-cut g c =
     let start = g.K.Sink.taken c.args.out.now in
     let now = g.K.Sink.taken c.print_cone.new.out in
     let so_far = cone_texts 0 (printed s keys number) in
-    let one = printed_is s keys number c.cone-cone.result.now c.events.result c.reports.result.now c.cone-cone.ensures c.events.ensures.count c.reports.ensures.value in
+    let counted = c.events.ensures.memory (ap is_broken c.cone-cone.ensures.state) in
+    let one = printed_is s keys number c.cone-cone.result.now.listing c.events.result c.reports.result.now c.cone-cone.ensures.listing counted c.reports.ensures.value in
     rw p.1
     (IsCut-begins start now (text_of s keys) (cone_texts 0 (printed s keys (number + 1)))
     (text_rest s keys (number + 1) (omega (arith, c.loop-number-test.true, c.cones-number-end.ensures)))
@@ -33,10 +35,11 @@ loop-number-preserved g c =
     let start = g.K.Sink.taken c.args.out.now in
     let now = g.K.Sink.taken c.print_cone.new.out in
     let so_far = cone_texts 0 (printed s keys number) in
-    let one = printed_is s keys number c.cone-cone.result.now c.events.result c.reports.result.now c.cone-cone.ensures c.events.ensures.count c.reports.ensures.value in
+    let counted = c.events.ensures.memory (ap is_broken c.cone-cone.ensures.state) in
+    let one = printed_is s keys number c.cone-cone.result.now.listing c.events.result c.reports.result.now c.cone-cone.ensures.listing counted c.reports.ensures.value in
     let counts = c.numbers_of-events_here.ensures in
-    let events = ap (λ (cone : Listing). length cone.events) c.cone-cone.ensures in
-    let reports = ap (λ (cone : Listing). length (reports_of cone)) c.cone-cone.ensures in
+    let events = ap (λ (cone : Listing). length cone.events) c.cone-cone.ensures.listing in
+    let reports = ap (λ (cone : Listing). length (reports_of cone)) c.cone-cone.ensures.listing in
     record {
       printing = subst (IsPrinting start now c.print_cone.new.page) (ap (λ (x : Printed). so_far ++ cone_text number x) one ∙ texts-more s keys number)
           (c.in_ok-print_cone.ensures.ok start so_far here.printing);
@@ -44,7 +47,8 @@ loop-number-preserved g c =
       reports = omega (arith, here.reports, counts.reports, reports, reports-more s keys number);
       few_events = omega (arith, here.few_events, counts.few_events);
       few_reports = omega (arith, here.few_reports, counts.few_reports);
-      in_time = AreInTime-more s keys number c.cone-cone.result.now c.reports.result.now here.in_time c.cone-cone.ensures c.reports.ensures.value c.reports.ensures.in_time;
+      in_time = AreInTime-more s keys number c.cone-cone.result.now.listing c.reports.result.now here.in_time c.cone-cone.ensures.listing c.reports.ensures.value
+          (λ _. c.reports.ensures.in_time c.cone-cone.ensures.state);
       falls = omega (arith, here.falls, c.print_cone.ensures.cause.never_falls);
       marked = c.print_cone.ensures.mark ∙ here.marked;
     }

@@ -1,15 +1,29 @@
-use Rattle.std.proofs.Common.{◌++◌, true, ap, sym, ◌∙◌, append-nil}
+use Rattle.std.proofs.Common.{◌≡◌, ◌++◌, List, ℕ, [], true, length, refl, ap, sym, ◌∙◌, append-nil, arith, ◌<◌}
+use Rattle.std.proofs.lemmas.Option.{slice_get_read}
+use Rattle.lert_cone.specs.History.{events_of}
 use Rattle.lert_top.specs.Lanes.{closed_cones}
-use Rattle.lert_top.proofs.LaneLaws.{lane_cone}
+use Rattle.lert_top.proofs.LaneLaws.{lane_listing, lane_state}
 use Rattle.lert_top.proofs.router.Router.cone.Goals as goal
 
-pub returns : goal.returns
-returns c =
+pub returns-clause-listing : goal.returns-clause-listing
+returns-clause-listing g c =
     let router = c.args.self.now in
     let lanes = c.requires.finished.lanes in
-    let lane = lanes.each c.args.number c.requires.named in
-    lane_cone router.settings closed_cones router.cones.items router.rings router.keys lanes c.args.number c.requires.named c.index.result.now c.index.ensures
-    ∙ ap (λ events. record { settings = router.settings; cone = c.args.number; events = events; closed = true })
-    (sym (append-nil lane.taken)
-    ∙ ap (λ ring. lane.taken ++ ring) (sym (c.requires.finished.drained c.args.number c.requires.named))
-    ∙ lane.joined)
+    let at = c.args.number in
+    let lane = lanes.each at c.requires.named in
+    let inside : at < length router.cones.items = omega (arith, c.requires.named, lanes.cones_number) in
+    let found = slice_get_read router.cones.items (length router.cones.items) at c.index.result.now refl inside c.index.ensures in
+    lane_listing g.B.Bay.files g.B.Bay.leaves g.B.Faulty.faults router.settings _ closed_cones router.cones.items router.rings router.keys lanes at c.requires.named c.index.result.now found
+    ∙ ap (λ (events : List ℕ). record { settings = router.settings; cone = at; events = events; closed = true })
+    (sym (append-nil (events_of lane.history))
+    ∙ (ap (λ ring. events_of lane.history ++ ring) (sym (c.requires.finished.drained at c.requires.named))
+    ∙ lane.joined))
+
+pub returns-clause-state : goal.returns-clause-state
+returns-clause-state g c =
+    let router = c.args.self.now in
+    let lanes = c.requires.finished.lanes in
+    let at = c.args.number in
+    let inside : at < length router.cones.items = omega (arith, c.requires.named, lanes.cones_number) in
+    let found = slice_get_read router.cones.items (length router.cones.items) at c.index.result.now refl inside c.index.ensures in
+    lane_state g.B.Bay.files g.B.Bay.leaves g.B.Faulty.faults router.settings _ closed_cones router.cones.items router.rings router.keys lanes at c.requires.named c.index.result.now found

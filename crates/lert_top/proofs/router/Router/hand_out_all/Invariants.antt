@@ -1,13 +1,16 @@
 use Rattle.std.proofs.Common.{◌≡◌}
-use Rattle.lert_top.specs.Lanes.{AreDrained}
+use Rattle.lert_top.specs.Bays.{AreLater, ArePartWoven, bays_of}
+use Rattle.lert_top.specs.Lanes.{AreDrained, AreShort}
 use Rattle.lert_top.specs.Router.{IsOpen}
 use Rattle.lert_top.proofs.router.Router.hand_out_all.Given as goal
 
--- the rings so far have no key
+-- the cones so far have the rest of their rings
 abbrev pub invariant-loop-cone : goal.invariant-loop-cone
-invariant-loop-cone l = record {
+invariant-loop-cone g l = record {
   settings : l.self.settings ≡ l.fn.self.settings;
   keys : l.self.keys ≡ l.fn.self.keys;
-  open_is : IsOpen l.self;
+  taking : IsOpen g.B.Bay.files g.B.Bay.leaves g.B.Faulty.faults l.cone l.self;
+  short : AreShort l.self.settings l.self.rings;
   drained : AreDrained l.cone l.self.rings;
+  later : AreLater g.B.Bay.files g.B.Faulty.faults g.B.Faulty.mark (bays_of l.fn.self.cones.items) (bays_of l.self.cones.items);
 }

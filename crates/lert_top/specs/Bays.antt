@@ -1,0 +1,85 @@
+-- What is known of the bays of a run: those that were opened, and the same ones later, both in ascending cones.
+use Rattle.std.specs.Prelude.{◌≡◌, ℕ, ◌<◌, ◌≤◌, List, [], ◌∷◌, length, map, Option, Some, slice_get, ⊤}
+use Rattle.lert_base.specs.Packet.{Packet}
+use Rattle.lert_bay.specs.Files.{Files, IfTold, Turns}
+use Rattle.lert_cone.specs.History.{events_of}
+use Rattle.lert_cone.specs.Sound.{AreEmpty, IsSound}
+use Rattle.lert_cone.specs.Stands.{Standing}
+use Rattle.lert_io.specs.Fault.{HasRisen, IsFaultless}
+use Rattle.lert_spec.specs.declared.numbers.Numbers.{Numbers}
+use Rattle.lert_top.specs.Weave.{IsWoven, IsPartWoven}
+
+-- the bays of cones
+abbrev pub bays_of : {B : Type 0} → List (Standing B) → List B
+bays_of cones = map (λ cone. cone.bay) cones
+
+-- the same bay later: its mark is the same, its count of faults never falls, and it tells its files where it did before
+pub record IsLater {B : Type 0} (files : B → Option Files) (faults mark : B → ℕ) (before now : B) : Type 0 where
+  pub marked : mark now ≡ mark before
+  pub never_falls : faults before ≤ faults now
+  pub tells : Turns (λ old new. ⊤) (files before) (files now)
+
+-- the same bays later
+pub record AreLater {B : Type 0} (files : B → Option Files) (faults mark : B → ℕ) (bays later : List B) : Type 0 where
+  pub number : length later ≡ length bays
+  pub each : (cone : ℕ) (before now : B) → slice_get bays cone ≡ Some before → slice_get later cone ≡ Some now → IsLater files faults mark before now
+
+-- each bay has its place as its mark
+abbrev pub AreMarked : {B : Type 0} → (B → ℕ) → List B → Type 0
+AreMarked {B = B} mark bays = (cone : ℕ) (bay : B) → slice_get bays cone ≡ Some bay → mark bay ≡ cone
+
+-- what is so of the bay of a cone, where it is there and tells its files
+abbrev pub IfHeld : {B : Type 0} → (B → Option Files) → List B → ℕ → (Files → Type 0) → Type 0
+IfHeld {B = B} files bays cone P = (bay : B) → slice_get bays cone ≡ Some bay → IfTold (files bay) P
+
+-- no bay that tells its files has a byte in them
+abbrev pub AreFresh : {B : Type 0} → (B → Option Files) → List B → Type 0
+AreFresh {B = B} files bays = (cone : ℕ) → IfHeld files bays cone AreEmpty
+
+-- a cone is the first of which a file has a byte, as far as the bays tell
+pub record IsStale {B : Type 0} (files : B → Option Files) (bays : List B) (cone : ℕ) : Type 0 where
+  pub named : cone < length bays
+  pub not_empty : IfHeld files bays cone (λ seen. AreEmpty seen → ⊥)
+  pub lower : (other : ℕ) → other < cone → IfHeld files bays other AreEmpty
+
+-- the count of faults of a cone's bay rose
+pub record HasFailed {B : Type 0} (faults : B → ℕ) (bays later : List B) (cone : ℕ) : Type 0 where
+  pub before : B
+  pub now : B
+  pub was : slice_get bays cone ≡ Some before
+  pub is : slice_get later cone ≡ Some now
+  pub rose : HasRisen (faults before) (faults now)
+
+-- no fault of a bay was counted
+abbrev pub AreFaultless : {B : Type 0} → (B → ℕ) → List B → List B → Type 0
+AreFaultless {B = B} faults bays later = (cone : ℕ) (before now : B) → slice_get bays cone ≡ Some before → slice_get later cone ≡ Some now → IsFaultless (faults before) (faults now)
+
+-- all bays tell their files, which are empty
+abbrev pub AreToldFresh : {B : Type 0} → (B → Option Files) → List B → Type 0
+AreToldFresh {B = B} files bays = (cone : ℕ) (bay : B) → slice_get bays cone ≡ Some bay → (seen : Files) × (files bay ≡ Some seen) × AreEmpty seen
+
+-- the files of a cone are sound for a weave of its part of a trace's keys
+pub record HoldsWeave (s : Numbers) (keys : List ℕ) (cone : ℕ) (seen : Files) : Type 0 where
+  pub history : List Packet
+  pub woven : IsWoven s cone 1 (keys ∷ []) history
+  pub sound : IsSound s cone history seen
+
+-- the files of a cone are sound for a weave of a beginning of its part of a trace's keys
+pub record HoldsPart (s : Numbers) (keys : List ℕ) (cone : ℕ) (seen : Files) : Type 0 where
+  pub history : List Packet
+  pub woven : IsPartWoven s cone 1 (keys ∷ []) history
+  pub sound : IsSound s cone history seen
+
+-- the files of a cone are sound for packets that have so many keys together
+pub record HoldsKeys (s : Numbers) (number cone : ℕ) (seen : Files) : Type 0 where
+  pub history : List Packet
+  pub counted : length (events_of history) ≡ number
+  pub sound : IsSound s cone history seen
+
+-- each bay that tells its files holds a weave
+abbrev pub AreWoven : {B : Type 0} → (B → Option Files) → Numbers → List B → List ℕ → Type 0
+AreWoven {B = B} files s bays keys = (cone : ℕ) → IfHeld files bays cone (HoldsWeave s keys cone)
+
+-- each bay that tells its files holds a weave of a beginning
+abbrev pub ArePartWoven : {B : Type 0} → (B → Option Files) → Numbers → List B → List ℕ → Type 0
+ArePartWoven {B = B} files s bays keys = (cone : ℕ) → IfHeld files bays cone (HoldsPart s keys cone)

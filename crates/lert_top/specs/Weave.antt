@@ -1,0 +1,43 @@
+-- How the keys of traces stand in the journal of a cone.
+use Rattle.std.specs.Prelude.{◌≡◌, ℕ, ◌+◌, ◌*◌, ◌%◌, ◌<◌, ◌≤◌, ◌==◌, List, length, filter, All, Some, slice_get}
+use Rattle.lert_base.specs.Packet.{Packet}
+use Rattle.lert_cone.specs.History.{events_of}
+use Rattle.lert_spec.specs.declared.numbers.Numbers.{Numbers}
+use Rattle.lert_spec.specs.Mix.{part_of}
+use Rattle.lert_top.specs.Page.{BeginsWith}
+
+-- the packets of a history whose keys are of a trace, in their order
+abbrev pub of_trace : List Packet → ℕ → List Packet
+of_trace history trace = filter (λ packet. packet.trace == trace) history
+
+-- a packet has as many keys as the settings name, or two, three or four times as many
+pub record IsWhole (size : ℕ) (packet : Packet) : Type 0 where
+  pub times : ℕ
+  pub least : 1 ≤ times
+  pub most : times ≤ 4
+  pub keys_are : length packet.keys ≡ times * size
+
+-- each packet but the last is whole
+abbrev pub AreCut : ℕ → List Packet → Type 0
+AreCut size packets = (place : ℕ) (packet : Packet) → place + 1 < length packets → slice_get packets place ≡ Some packet → IsWhole size packet
+
+-- a packet has some keys, and at most four times as many as the settings name, of one of so many traces, and the worker
+-- brings it that reads this trace
+pub record IsBrought (s : Numbers) (workers traces : ℕ) (packet : Packet) : Type 0 where
+  pub some : 1 ≤ length packet.keys
+  pub few : length packet.keys ≤ 4 * s.packet
+  pub of_them : packet.trace < traces
+  pub by_is : packet.by ≡ packet.trace % workers
+
+-- A history is a weave of a cone's keys of all traces, each given by its keys: the packets of a trace join to that
+-- trace's keys of the cone, and each of them but the last is whole.
+pub record IsWoven (s : Numbers) (cone workers : ℕ) (traces : List (List ℕ)) (history : List Packet) : Type 0 where
+  pub each : All (IsBrought s workers (length traces)) history
+  pub joined : (trace : ℕ) (keys : List ℕ) → slice_get traces trace ≡ Some keys → events_of (of_trace history trace) ≡ part_of s cone keys
+  pub cut : (trace : ℕ) → trace < length traces → AreCut s.packet (of_trace history trace)
+
+-- the same with the packets of a trace joining to a beginning of its keys of the cone
+pub record IsPartWoven (s : Numbers) (cone workers : ℕ) (traces : List (List ℕ)) (history : List Packet) : Type 0 where
+  pub each : All (IsBrought s workers (length traces)) history
+  pub joined : (trace : ℕ) (keys : List ℕ) → slice_get traces trace ≡ Some keys → BeginsWith (part_of s cone keys) (events_of (of_trace history trace))
+  pub cut : (trace : ℕ) → trace < length traces → AreCut s.packet (of_trace history trace)
