@@ -1,4 +1,5 @@
 pub mod Examples
+pub mod ByteLaws
 pub mod PlaceLaws
 pub mod BinLaws
 pub mod WriteLaws

@@ -3,3 +3,4 @@ pub mod Place
 pub mod Bin
 pub mod Reading
 pub mod Kept
+pub mod GivenLaws

@@ -2,7 +2,7 @@
 
 ghost use Rattle.std.specs.Prelude.{◌^◌, ◌≤◌, vec_len};
 ghost use Rattle.lert_spec.specs.Table.{AreGiven};
-ghost use Rattle.lert_spec.proofs.GivenLaws.{given_prop};
+ghost use Rattle.lert_merging.specs.Streams.{given_prop};
 
 use lert_base::{Piece, PieceFault, Pieces};
 use lert_io::Faulty;

@@ -18,5 +18,3 @@ pub mod TimeBound
 pub mod TimelyTests
 pub mod TraceLaws
 pub mod WindowLaws
-pub mod ByteLaws
-pub mod GivenLaws

@@ -1,6 +1,6 @@
 use Rattle.std.proofs.Common.{ap, ◌∙◌}
 use Rattle.byteorder.specs.Endian.{little_bytes}
-use Rattle.lert_spec.proofs.ByteLaws.{bytes_back}
+use Rattle.lert_frames.proofs.ByteLaws.{bytes_back}
 use Rattle.lert_frames.proofs.loading.number_in.Goals as goal
 
 pub returns-clause-text : goal.returns-clause-text

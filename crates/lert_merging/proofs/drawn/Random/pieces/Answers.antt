@@ -1,5 +1,5 @@
 use Rattle.std.proofs.Common.{rules, arith, ◌≡◌, ◌+◌, ◌^◌}
-use Rattle.lert_spec.proofs.GivenLaws.{given_more, given_wide}
+use Rattle.lert_merging.proofs.Rising.{given_more, given_wide}
 use Rattle.lert_merging.proofs.drawn.Random.pieces.Goals as goal
 
 pub loop-preserved : goal.loop-preserved

@@ -1,4 +1,4 @@
-use Rattle.lert_spec.proofs.GivenLaws.{given_take}
+use Rattle.lert_merging.proofs.Rising.{given_take}
 use Rattle.lert_merging.proofs.sorted.SortedPiecesQuiet.next.Goals as goal
 
 pub returns-clause-ascending : goal.returns-clause-ascending
