@@ -94,7 +94,7 @@ returns-clause-ran g c = λ differs.
     let s = c.args.settings.now in
     let status = c.run_bays-status.result in
     let shows = shows_along {S = g.row.P-Trace.Denot} {K = g.row.K.Denot} {B = g.row.P-Bay.Denot} g.P.Trace.Source.remaining g.P.Trace.Faulty.faults g.K.Sink.taken g.K.Faulty.faults g.P.Bay.Bay.files g.P.Bay.Faulty.faults s _ c.args.trace _ c.into_source.result c.args.out.now c.run_bays-status.new.out first now (IsStale g.P.Bay.Bay.files first) status
-        (ap (λ r. r.made) c.new-reader.ensures) (sym c.into_source.ensures) c.run_bays-status.ensures.shows in (
+    (ap (λ r. r.made) c.new-reader.ensures) (sym c.into_source.ensures) c.run_bays-status.ensures.shows in (
       now,
       c.put_back_bays.ensures.returned,
       subst (λ (xs : List g.row.P-Bay.Denot). AreLater g.P.Bay.Bay.files g.P.Bay.Faulty.faults g.P.Bay.Faulty.mark xs now) (sym same) c.run_bays-status.ensures.later,
