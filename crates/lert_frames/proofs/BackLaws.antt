@@ -1,5 +1,5 @@
 -- The text of a bin's pieces reads back as these pieces.
-use Rattle.std.proofs.Common.{◌≡◌, ℕ, zero, suc, ◌+◌, ◌-◌, ◌*◌, ◌%◌, ◌/◌, ◌<◌, ◌≤◌, ◌^◌, ◌⊎◌, List, [], ◌∷◌, ◌++◌, length, take, drop, get_or, map, Result, Option, Some, None, refl, sym, ap, ap₂, ◌∙◌, subst, inl, inr, arith, append-nil, append_assoc, length-append, length-take, length-drop, nat_lt, false}
+use Rattle.std.proofs.Common.{◌≡◌, ℕ, zero, suc, ◌+◌, ◌-◌, ◌*◌, ◌<◌, ◌≤◌, ◌^◌, ◌⊎◌, List, [], ◌∷◌, ◌++◌, length, take, drop, get_or, map, Result, Option, Some, None, refl, sym, ap, ◌∙◌, subst, inl, inr, arith, append-nil, length-take, length-drop, nat_lt, false}
 use Rattle.std.specs.Prelude.{flat_map, if◌then◌else◌, Ok, Err, MatchResult, IsErrAnd, IfOk, OnOk, IsErrOf}
 use Rattle.std.specs.Int.{bytes_low_first, byte_at}
 use Rattle.std.specs.List.{range_with_len}
@@ -8,11 +8,10 @@ use Rattle.std.proofs.lemmas.List.{get_or_append_left, get_or-append_right, get_
 use Rattle.std.proofs.Math.Seq.{take-add, take-suc, drop-append-add}
 use Rattle.std.proofs.lemmas.Option.{none-some}
 use Rattle.byteorder.specs.Endian.{little_bytes, little_number}
-use Rattle.byteorder.specs.Numbers.{little_number-reads_back, length-bytes_low_first}
-use Rattle.lert_bay.specs.Settled.{part}
+use Rattle.byteorder.specs.Numbers.{little_number-reads_back}
 use Rattle.lert_bay.proofs.Settling.{part_none}
 use Rattle.lert_spec.specs.declared.piece.Piece.{Piece}
-use Rattle.lert_spec.specs.Table.{total, AscendsFrom, AreGiven}
+use Rattle.lert_spec.specs.Table.{AscendsFrom}
 use Rattle.lert_spec.proofs.Tables.{length_le-total}
 use Rattle.lert_frames.specs.declared.bin.LoadedBin.{LoadedBin}
 use Rattle.lert_frames.specs.declared.fault.LoadFault.{LoadFault}

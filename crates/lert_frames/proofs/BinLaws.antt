@@ -48,6 +48,10 @@ total-take_suc (p ∷ pieces) (suc i) d within = let h = total-take_suc pieces i
 pub total-take_more : (pieces : List Piece) (i : ℕ) (d : Piece) → i < length pieces → total (take (i + 1) pieces) ≡ total (take i pieces) + (get_or pieces i d).count
 total-take_more pieces i d within = let more : i + 1 ≡ suc i = omega arith in ap (λ n. total (take n pieces)) more ∙ total-take_suc pieces i d within
 
+pub total-push : (pieces : List Piece) (p : Piece) → total (pieces ++ p ∷ []) ≡ total pieces + p.count
+total-push [] p = omega arith
+total-push (first ∷ pieces) p = let h = total-push pieces p in omega (arith, h)
+
 -- a tail above the last one
 pub above_last : (pieces : List Piece) (last : Piece) (tail : ℕ) → Some last ≡ slice_get pieces (length pieces - 1) → nat_lt last.tail tail ≡ nat_le (bound_of pieces) tail
 above_last pieces last tail there =

@@ -2,7 +2,7 @@
 use Rattle.std.proofs.Common.{◌≡◌, ℕ, List, [], ◌∷◌, ◌++◌, take, Some, None, refl}
 use Rattle.lert_spec.specs.declared.numbers.Numbers.{Numbers}
 use Rattle.lert_spec.specs.declared.piece.Piece.{Piece}
-use Rattle.lert_frames.specs.Frame.{frame_text, frame_left, piece_text}
+use Rattle.lert_frames.specs.Frame.{frame_text, frame_left}
 use Rattle.lert_frames.specs.Place.{frame_len, frame_place}
 
 -- bins of 4, 8 and 16 events

@@ -1,15 +1,15 @@
 -- The first place at which a file leaves a frame.
-use Rattle.std.proofs.Common.{◌≡◌, ◌≢◌, ℕ, zero, suc, ◌+◌, ◌-◌, ◌*◌, ◌<◌, ◌≤◌, ◌==◌, List, [], ◌∷◌, ◌++◌, length, take, drop, map, min, Result, Option, Some, None, refl, sym, ap, ap₂, ◌∙◌, ◌^◌, subst, inl, inr, arith, length-take, length-drop, zero-add}
-use Rattle.std.specs.Prelude.{flat_map, if◌then◌else◌}
+use Rattle.std.proofs.Common.{◌≡◌, ◌≢◌, ℕ, zero, suc, ◌+◌, ◌<◌, ◌≤◌, ◌==◌, List, [], ◌∷◌, ◌++◌, length, take, drop, map, min, Option, Some, None, refl, sym, ap, ap₂, ◌∙◌, ◌^◌, arith, length-take, length-drop, zero-add}
+use Rattle.std.specs.Prelude.{if◌then◌else◌}
 use Rattle.std.specs.List.{range_with_len}
-use Rattle.std.proofs.lemmas.Bool.{cases_eq, eq-eqb, ne_eqb}
+use Rattle.std.proofs.lemmas.Bool.{eq-eqb, ne_eqb}
 use Rattle.byteorder.specs.Endian.{little_bytes}
 use Rattle.byteorder.specs.Numbers.{length-bytes_low_first}
 use Rattle.lert_bay.specs.Files.{CopiesFrom}
 use Rattle.lert_bay.specs.Settled.{part}
 use Rattle.lert_spec.specs.declared.piece.Piece.{Piece}
 use Rattle.lert_spec.specs.Table.{total}
-use Rattle.lert_frames.specs.Frame.{piece_text, frame_text, text_len, HoldsFrame, count_at, piece_place, piece_at, piece_left, head_left, pieces_left, sum_left, first_of, frame_left}
+use Rattle.lert_frames.specs.Frame.{text_len, HoldsFrame, count_at, piece_place, piece_at, piece_left, head_left, pieces_left, sum_left, first_of, frame_left}
 use Rattle.lert_frames.specs.Reading.{AreRead, BreaksFirst}
 use Rattle.lert_frames.proofs.ReadLaws.{part_join, part_is}
 

@@ -1,15 +1,15 @@
 -- Places of frames don't overlap, and end early.
-use Rattle.std.proofs.Common.{◌≡◌, ◌≢◌, ℕ, zero, suc, ◌+◌, ◌-◌, ◌*◌, ◌/◌, ◌^◌, ◌<◌, ◌≤◌, ◌⊎◌, inl, inr, ap, sym, ◌∙◌, subst, arith}
+use Rattle.std.proofs.Common.{◌≡◌, ◌≢◌, ℕ, zero, suc, ◌+◌, ◌-◌, ◌*◌, ◌/◌, ◌^◌, ◌<◌, ◌≤◌, ◌⊎◌, inl, inr, ap, sym, subst, arith}
 use Rattle.std.proofs.Math.Nat.{mul-le-mul_left, mul-le-mul_right}
 use Rattle.std.proofs.lemmas.Bool.{cases_order}
 use Rattle.std.proofs.lemmas.Nat.Bits.{ones_shr}
 use Rattle.std.proofs.lemmas.Nat.{pow_pos}
 use Rattle.lert_spec.specs.declared.numbers.Numbers.{Numbers}
-use Rattle.lert_spec.specs.Edges.{span, spans, offset}
+use Rattle.lert_spec.specs.Edges.{span, spans}
 use Rattle.lert_spec.specs.Limits.{IsValid}
 use Rattle.lert_spec.proofs.EdgeLaws.{span_pos}
 use Rattle.lert_spec.proofs.LimitLaws.{span_grows}
-use Rattle.lert_frames.specs.Place.{frame_len, frame_lens, frame_place, tail_limit}
+use Rattle.lert_frames.specs.Place.{frame_len, frame_lens, frame_place}
 
 -- one level more
 pub frame_lens-more : (s : Numbers) (level : ℕ) → 1 ≤ level → frame_lens s (level - 1) + frame_len s level ≡ frame_lens s level

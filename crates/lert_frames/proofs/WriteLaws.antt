@@ -1,13 +1,13 @@
 -- Several writes one behind the other are one write of all their bytes.
-use Rattle.std.proofs.Common.{◌≡◌, ◌≢◌, ℕ, ◌+◌, ◌-◌, ◌*◌, ◌<◌, ◌≤◌, List, [], ◌∷◌, ◌++◌, length, take, drop, get_or, max, Option, Some, None, Result, replicate, refl, sym, ap, ◌∙◌, ◌⊎◌, subst, inl, inr, arith, length-append, length-take, length-drop}
+use Rattle.std.proofs.Common.{◌≡◌, ◌≢◌, ℕ, ◌+◌, ◌-◌, ◌<◌, ◌≤◌, List, ◌++◌, length, take, drop, get_or, Option, Some, None, Result, replicate, refl, sym, ap, ◌∙◌, ◌⊎◌, subst, inl, inr, arith, length-append}
 use Rattle.std.specs.Prelude.{OnOk, OnErr, Ok, Err, IsErrOf}
 use Rattle.std.proofs.lemmas.Option.{none-some}
 use Rattle.std.proofs.lemmas.Bool.{cases_lt, cases_eq}
 use Rattle.std.proofs.lemmas.List.{get_or_append_left, get_or-append_right, get_or_past, ext_get_or, length-take-le}
 use lib.ListN.{length-replicate}
 use Rattle.lert_bay.specs.Files.{Files, Turns, Changes, Holds, padded, IsOutside, Torn, LeftByFailure}
-use Rattle.lert_bay.specs.Images.{Follow, Elapses, Lasts}
-use Rattle.lert_bay.specs.Settled.{part, Keeps, IsSettled}
+use Rattle.lert_bay.specs.Images.{Follow, Elapses}
+use Rattle.lert_bay.specs.Settled.{part}
 use Rattle.lert_bay.proofs.Laid.{length_held, elsewhere_held}
 use Rattle.lert_bay.proofs.Lasting.{lasts_none, lasts_more, lasts_on}
 use Rattle.lert_bay.proofs.Settling.{part_torn, part_at, length_part}

@@ -1,5 +1,5 @@
 -- What several calls make of a bay, seen as one.
-use Rattle.std.specs.Prelude.{◌≡◌, ◌≢◌, ℕ, ◌+◌, ◌≤◌, List, Option}
+use Rattle.std.specs.Prelude.{◌≡◌, ◌≢◌, ℕ, ◌≤◌, List, Option}
 use Rattle.std.proofs.Common.{◌⊎◌}
 use Rattle.lert_bay.specs.Files.{Files, Turns, Changes, Torn}
 use Rattle.lert_bay.specs.Images.{KeepsImages, Lasts}

@@ -1,5 +1,5 @@
 -- The pieces of a frame that were read so far.
-use Rattle.std.specs.Prelude.{◌≡◌, ℕ, ◌+◌, ◌*◌, ◌<◌, ◌≤◌, ◌^◌, List, length, map, flat_map, Option, Some, None}
+use Rattle.std.specs.Prelude.{◌≡◌, ℕ, ◌+◌, ◌<◌, ◌≤◌, ◌^◌, List, length, map, flat_map, Some, None}
 use Rattle.std.specs.List.{range_with_len}
 use Rattle.lert_bay.specs.Settled.{part}
 use Rattle.lert_frames.specs.Frame.{piece_text, piece_of, piece_place, piece_at, piece_left, fields_left}

@@ -1,6 +1,5 @@
-use Rattle.std.proofs.Common.{◌≡◌, ℕ, ◌+◌, ◌∙◌, ◌<◌, ◌≤◌, ◌^◌, List, Some, None, sym, ap, ap₂, subst, arith}
+use Rattle.std.proofs.Common.{ℕ, ◌+◌, ◌∙◌, Some, sym, ap₂, subst, arith}
 use Rattle.lert_spec.specs.Limits.{IsValid}
-use Rattle.lert_spec.specs.declared.piece.Piece.{Piece}
 use Rattle.lert_frames.specs.Frame.{HoldsFrame, IsBin, frame_left}
 use Rattle.lert_frames.specs.Place.{frame_place, tail_limit}
 use Rattle.lert_frames.proofs.BackLaws.{reads_back, refuses}

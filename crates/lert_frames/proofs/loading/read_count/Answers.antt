@@ -1,4 +1,3 @@
-use Rattle.std.proofs.Common.{◌≡◌, length}
 use Rattle.lert_frames.proofs.FrameLaws.{head_text}
 use Rattle.lert_frames.proofs.loading.read_count.Goals as goal
 

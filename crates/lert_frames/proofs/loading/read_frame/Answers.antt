@@ -1,14 +1,12 @@
-use Rattle.std.proofs.Common.{◌≡◌, ◌≢◌, ℕ, ◌+◌, ◌*◌, ◌∙◌, ◌<◌, ◌≤◌, ◌^◌, List, Some, None, length, min, sym, ap, subst, arith}
+use Rattle.std.proofs.Common.{◌≡◌, ◌+◌, ◌∙◌, ◌^◌, List, Some, length, min, sym, ap, subst, arith}
 use Rattle.std.proofs.lemmas.Result.{err_from_is_err_and}
 use Rattle.byteorder.specs.Endian.{little_bytes}
 use Rattle.lert_bay.specs.Settled.{part}
 use Rattle.lert_frames.specs.GivenLaws.{given_wide}
 use Rattle.lert_spec.specs.declared.piece.Piece.{Piece}
-use Rattle.lert_spec.specs.Table.{total, AreGiven}
-use Rattle.lert_frames.specs.Frame.{HoldsFrame, IsBin, count_at, frame_left}
-use Rattle.lert_frames.specs.Place.{frame_place, tail_limit}
-use Rattle.lert_frames.specs.Reading.{AreRead}
-use Rattle.lert_frames.proofs.FrameLaws.{head_breaks, piece_breaks, sum_breaks, none_breaks, left_turned, sum_reached, sum_other, holds_frame}
+use Rattle.lert_spec.specs.Table.{total}
+use Rattle.lert_frames.specs.Frame.{HoldsFrame, IsBin}
+use Rattle.lert_frames.proofs.FrameLaws.{head_breaks, piece_breaks, sum_breaks, none_breaks, sum_reached, sum_other, holds_frame}
 use Rattle.lert_frames.proofs.WriteLaws.{same_err}
 use Rattle.lert_frames.proofs.loading.read_frame.Goals as goal
 

@@ -1,4 +1,4 @@
-use Rattle.std.proofs.Common.{◌≡◌, ◌+◌, ◌∙◌, length, arith}
+use Rattle.std.proofs.Common.{◌+◌, ◌∙◌, length, arith}
 use Rattle.std.proofs.lemmas.Result.{err_from_is_err_and}
 use Rattle.lert_frames.proofs.WriteLaws.{same_err}
 use Rattle.lert_frames.proofs.ReadLaws.{breaks_later}

@@ -1,4 +1,4 @@
-use Rattle.std.proofs.Common.{◌≡◌, ℕ, ◌+◌, ◌-◌, ◌≤◌, Some, length}
+use Rattle.std.proofs.Common.{◌≡◌, ◌+◌, ◌-◌, ◌≤◌, Some, length}
 use Rattle.lert_bay.specs.Files.{Files}
 use Rattle.lert_spec.specs.Table.{AreGiven}
 use Rattle.lert_frames.specs.Kept.{OnlyRead}

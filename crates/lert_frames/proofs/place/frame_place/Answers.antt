@@ -1,5 +1,4 @@
 use Rattle.std.proofs.Common.{◌≡◌, ◌+◌, ◌*◌, ◌-◌, ◌≤◌, ◌<◌, ◌^◌, ℕ, arith, subst, ap, ap₂, sym, ◌∙◌, ◌⊎◌}
-use Rattle.std.proofs.Math.Nat.{mul-le-mul_left}
 use Rattle.lert_spec.specs.Limits.{IsValid}
 use Rattle.lert_frames.specs.Place.{frame_len, frame_lens, frame_place}
 use Rattle.lert_frames.proofs.PlaceLaws.{lens_within, place_ends, places_within, places_apart, frame_lens-more}

@@ -1,4 +1,4 @@
-use Rattle.std.proofs.Common.{◌≡◌, ◌+◌, ◌-◌, ◌/◌, ◌^◌, ap, ◌∙◌, arith}
+use Rattle.std.proofs.Common.{◌-◌, ◌^◌, ap, ◌∙◌}
 use Rattle.lert_frames.proofs.PlaceLaws.{limit_is}
 use Rattle.lert_frames.proofs.place.greatest_tail.Goals as goal
 

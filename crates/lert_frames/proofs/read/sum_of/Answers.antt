@@ -1,4 +1,4 @@
-use Rattle.std.proofs.Common.{◌≡◌, ◌+◌, min, take, get_or, arith}
+use Rattle.std.proofs.Common.{◌≡◌, ◌+◌, min, take, arith}
 use Rattle.lert_spec.specs.Table.{total}
 use Rattle.lert_frames.proofs.BinLaws.{total-take_more}
 use Rattle.lert_frames.proofs.read.sum_of.Goals as goal

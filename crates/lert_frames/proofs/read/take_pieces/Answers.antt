@@ -1,7 +1,6 @@
-use Rattle.std.proofs.Common.{◌≡◌, ◌+◌, ◌-◌, ◌*◌, List, ℕ, length, take, drop, arith, rules}
+use Rattle.std.proofs.Common.{◌+◌, length, arith}
 use Rattle.std.proofs.lemmas.Result.{err_from_is_err_and}
-use Rattle.lert_frames.specs.Frame.{piece_place}
-use Rattle.lert_frames.proofs.ReadLaws.{block_piece, breaks_later, breaks_next}
+use Rattle.lert_frames.proofs.ReadLaws.{block_piece, breaks_next}
 use Rattle.lert_frames.proofs.read.take_pieces.Goals as goal
 
 pub loop-n-preserved : goal.loop-n-preserved

@@ -1,10 +1,9 @@
-use Rattle.std.proofs.Common.{◌≡◌, ℕ, ◌+◌, ◌*◌, ◌<◌, ◌≤◌, ◌^◌, length, List, ap, sym, ◌∙◌, subst, arith}
-use Rattle.lert_bay.specs.Files.{Files, Changes, Holds, LeftByFailure}
-use Rattle.lert_bay.specs.Settled.{part}
+use Rattle.std.proofs.Common.{ℕ, ◌+◌, ◌≤◌, subst, arith}
+use Rattle.lert_bay.specs.Files.{Holds, LeftByFailure}
 use Rattle.lert_spec.specs.Limits.{IsValid}
 use Rattle.lert_spec.proofs.Tables.{length_le-total}
 use Rattle.lert_frames.specs.Frame.{frame_text, text_len}
-use Rattle.lert_frames.specs.Kept.{Wrote, KeepsOutside}
+use Rattle.lert_frames.specs.Kept.{KeepsOutside}
 use Rattle.lert_frames.specs.Place.{frame_len, frame_place, tail_limit}
 use Rattle.lert_frames.proofs.PlaceLaws.{span_fits}
 use Rattle.lert_frames.proofs.StoreLaws.{frame_stands}

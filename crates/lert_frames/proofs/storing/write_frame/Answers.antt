@@ -1,9 +1,5 @@
-use Rattle.std.proofs.Common.{◌≡◌, ◌+◌, ◌*◌, ◌-◌, ◌++◌, length, take, drop, refl, arith, rules}
-use Rattle.std.specs.Prelude.{flat_map}
+use Rattle.std.proofs.Common.{◌+◌, ◌*◌, ◌-◌, length, take, drop, refl, arith, rules}
 use Rattle.byteorder.specs.Endian.{little_bytes}
-use Rattle.lert_bay.specs.Files.{Holds, LeftByFailure}
-use Rattle.lert_frames.specs.Frame.{piece_text, text_len}
-use Rattle.lert_frames.specs.Kept.{Wrote}
 use Rattle.lert_frames.proofs.WriteLaws.{on_err}
 use Rattle.lert_frames.proofs.StoreLaws.{block_more, block_fails, frame_done}
 use Rattle.lert_frames.proofs.storing.write_frame.Goals as goal
