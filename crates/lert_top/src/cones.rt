@@ -85,7 +85,11 @@ fn fill_rooms<B: Bay>(
         match Cone::create(room, number, bay) {
             Ok(cone) => cones.push_reserved(cone),
             Err(refused) => {
-                let CreateRefused { fault, bay, room: _ } = refused;
+                let CreateRefused {
+                    fault,
+                    bay,
+                    room: _,
+                } = refused;
                 bays.push_front_reserved(bay);
                 bring_back(cones, bays);
                 return Err(status_of(number, fault));

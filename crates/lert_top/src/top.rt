@@ -56,7 +56,7 @@ pub fn run<P: Place, K: Sink>(alloc: Global, words: &Words, place: &mut P, out: 
         × ((cone : ℕ) → cone < length backs → P.returned_bay place.new cone ≡ slice_get backs cone)
         × AreLater P.Bay.files P.Bay.faults P.Bay.mark (P.handed_bays place.new) backs
         × HasRun P.Trace.remaining P.Trace.faults K.taken K.faults P.Bay.files P.Bay.faults line.settings
-            opened back out.old out.new (P.handed_bays place.new) backs result }
+        opened back out.old out.new (P.handed_bays place.new) backs result }
 {
     let line = match Line::read(words) {
         Ok(line) => line,
@@ -95,7 +95,7 @@ fn run_trace<P: Place, K: Sink>(
         ((cone : ℕ) → cone < length backs → P.returned_bay place.new cone ≡ slice_get backs cone)
         × AreLater P.Bay.files P.Bay.faults P.Bay.mark (P.handed_bays place.new) backs
         × HasRun P.Trace.remaining P.Trace.faults K.taken K.faults P.Bay.files P.Bay.faults settings.now
-            trace result.0 out.old out.new (P.handed_bays place.new) backs result.1 }
+        trace result.0 out.old out.new (P.handed_bays place.new) backs result.1 }
     ensures never_falls { P.faults place.old ≤ P.faults place.new }
     ensures no_usage { (rule : ℕ) → result.1 ≡ Status.Usage rule → ⊥ }
     ensures mark { P.Trace.mark result.0 ≡ P.Trace.mark trace }

@@ -13,7 +13,7 @@ pub returns-in-Err-clause-refused : goal.returns-in-Err-clause-refused
 returns-in-Err-clause-refused g c =
     let here = c.loop-cone.invariant in
     let rose = risen_since (g.P.Faulty.faults c.args.place.now) (g.P.Faulty.faults c.loop-cone.place) (g.P.Faulty.faults c.open_bay.new.self) here.falls
-        c.open_bay.ensures.cause.never_falls (c.open_bay.ensures.cause.failed (search rules)) in
+    c.open_bay.ensures.cause.never_falls (c.open_bay.ensures.cause.failed (search rules)) in
     let cone = c.loop-cone.cone in
     let dir = c.args.dir.now in
     inr (

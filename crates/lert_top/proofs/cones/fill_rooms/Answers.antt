@@ -1,6 +1,5 @@
-use Rattle.std.proofs.Common.{◌≡◌, ℕ, ◌+◌, ◌≤◌, ◌++◌, ◌∷◌, [], false, List, length, slice_get, Some, ap, sym, ◌∙◌, subst, arith, append_assoc, length-append}
+use Rattle.std.proofs.Common.{◌≡◌, ℕ, ◌++◌, ◌∷◌, [], false, length, slice_get, Some, ap, sym, ◌∙◌, subst, arith, append_assoc, length-append}
 use Rattle.std.proofs.lemmas.List.Elements.{All-pop}
-use Rattle.lert_cone.specs.Listing.{Listing}
 use Rattle.lert_cone.specs.Stands.{Standing}
 use Rattle.lert_spec.specs.declared.numbers.Numbers.{Numbers}
 use Rattle.lert_top.specs.Bays.{AreLater, bays_of}
@@ -38,7 +37,7 @@ returns-in-Err-clause-unmade g c =
     let later = subst (λ xs. AreLater g.B.Bay.files g.B.Faulty.faults g.B.Faulty.mark bays (bays_of c.loop-number.cones.items ++ xs)) items here.later in
     let is = c.bring_back.ensures.bays ∙ ap (λ xs. bays_of c.loop-number.cones.items ++ xs) c.push_front_reserved.ensures.items in
     let unmade = unmade_by g.B.Bay.files g.B.Faulty.faults g.B.Faulty.mark bays front bay rest c.loop-number.cones.items split here.split.1 later c.in-Err.refused.bay fault
-        c.requires.fresh c.in-Err.ensures.not_fresh c.in-Err.ensures.failed in
+    c.requires.fresh c.in-Err.ensures.not_fresh c.in-Err.ensures.failed in
     subst (IsUnmade g.B.Bay.files g.B.Faulty.faults bays c.bring_back.new.bays.items) (sym c.status_of.ensures)
     (subst (λ xs. IsUnmade g.B.Bay.files g.B.Faulty.faults bays xs (create_status c.loop-number.number fault)) (sym is)
     (subst (λ n. IsUnmade g.B.Bay.files g.B.Faulty.faults bays (bays_of c.loop-number.cones.items ++ c.in-Err.refused.bay ∷ rest) (create_status n fault)) here.number unmade))

@@ -1,7 +1,6 @@
-use Rattle.std.proofs.Common.{◌≡◌, ◌≢◌, ℕ, ◌++◌, ◌∷◌, ◌^◌, ◌<◌, ◌≤◌, true, false, [], List, length, slice_get, refl, ap, sym, ◌∙◌, subst, arith, inl, inr}
+use Rattle.std.proofs.Common.{◌++◌, ◌∷◌, ◌^◌, true, false, [], List, length, refl, ap, sym, ◌∙◌, subst, inl, inr}
 use Rattle.lert_cone.proofs.StandLaws.{risen_since}
 use Rattle.lert_io.specs.Fault.{HasRisen}
-use Rattle.lert_top.specs.declared.opening.Opening.{Opening}
 use Rattle.lert_top.specs.declared.opening.Wanted.TheVariants.{Trace}
 use Rattle.lert_top.specs.Asked.{trace_asked}
 use Rattle.lert_top.specs.Bays.{AreLater}
@@ -32,7 +31,7 @@ returns-clause-asked g c = λ line spelled sound.
     let name = word_at-slice_get c.args.words.now c.in-Ok.line.trace c.word.result.now c.word.ensures ∙ ap (λ l. word_at c.args.words.now l.trace) same in
     let dir = word_at-slice_get c.args.words.now c.in-Ok.line.dir c.word-2.result.now c.word-2.ensures ∙ ap (λ l. word_at c.args.words.now l.dir) same in
     let before = c.in-Ok-open_trace.ensures.asked
-        ∙ (ap (λ xs. xs ++ record { wanted = Trace c.word.result.now; opened = true } ∷ []) c.requires.asked ∙ ap (λ n. trace_asked n true ∷ []) name) in
+    ∙ (ap (λ xs. xs ++ record { wanted = Trace c.word.result.now; opened = true } ∷ []) c.requires.asked ∙ ap (λ n. trace_asked n true ∷ []) name) in
     inr (asked_along c.word-2.result.now (word_at c.args.words.now line.dir) (2 ^ c.in-Ok.line.settings.cone_bits) (2 ^ line.settings.cone_bits) _ (trace_asked (word_at c.args.words.now line.trace) true ∷ [])
     _ _ c.run_trace-trace.result.1 dir (ap (λ l. 2 ^ l.settings.cone_bits) same) before (sym c.put_back_trace.ensures.asked) c.run_trace-trace.ensures.asked)
 
@@ -40,7 +39,7 @@ pub returns-clause-place_fault : goal.returns-clause-place_fault
 returns-clause-place_fault g c = λ is.
     let failed = c.run_trace-trace.ensures.place_fault is in
     let rose = risen_since (g.P.Faulty.faults c.args.place.now) (g.P.Faulty.faults c.open_trace.new.self) (g.P.Faulty.faults c.run_trace-trace.new.place) c.open_trace.ensures.cause.never_falls
-        c.run_trace-trace.ensures.never_falls failed.0 in
+    c.run_trace-trace.ensures.never_falls failed.0 in
     (subst (HasRisen (g.P.Faulty.faults c.args.place.now)) (sym c.put_back_trace.ensures.faults) rose, failed.1)
 
 pub returns-clause-returned : goal.returns-clause-returned

@@ -1,8 +1,8 @@
-use Rattle.std.proofs.Common.{◌≡◌, ◌≢◌, ℕ, ◌++◌, ◌^◌, ◌<◌, ◌≤◌, true, false, [], List, length, slice_get, refl, ap, sym, ◌∙◌, subst, arith, inl, inr, append-nil}
+use Rattle.std.proofs.Common.{[], List, refl, ap, sym, ◌∙◌, subst, arith, inl, inr, append-nil}
 use Rattle.lert_top.specs.declared.status.Status.{Status}
-use Rattle.lert_top.specs.declared.status.Status.TheVariants.{Done, OutOfMemory, PlaceFault, Usage}
+use Rattle.lert_top.specs.declared.status.Status.TheVariants.{OutOfMemory}
 use Rattle.lert_top.specs.Bays.{AreLater, IsStale}
-use Rattle.lert_top.specs.Run.{HasRun, StatusShows}
+use Rattle.lert_top.specs.Run.{HasRun}
 use Rattle.lert_top.proofs.AskedLaws.{all_back, none_returned}
 use Rattle.lert_top.proofs.BayLaws.{are_same, still_marked}
 use Rattle.lert_top.proofs.Ending.{HasRun-shows, not_place_fault, not_usage, shows_along, true_is_false}
@@ -94,7 +94,7 @@ returns-clause-ran g c = λ differs.
     let s = c.args.settings.now in
     let status = c.run_bays-status.result in
     let shows = shows_along {S = g.row.P-Trace.Denot} {K = g.row.K.Denot} {B = g.row.P-Bay.Denot} g.P.Trace.Source.remaining g.P.Trace.Faulty.faults g.K.Sink.taken g.K.Faulty.faults g.P.Bay.Bay.files g.P.Bay.Faulty.faults s _ c.args.trace _ c.into_source.result c.args.out.now c.run_bays-status.new.out first now (IsStale g.P.Bay.Bay.files first) status
-        (ap (λ r. r.made) c.new-reader.ensures) (sym c.into_source.ensures) c.run_bays-status.ensures.shows in (
+    (ap (λ r. r.made) c.new-reader.ensures) (sym c.into_source.ensures) c.run_bays-status.ensures.shows in (
       now,
       c.put_back_bays.ensures.returned,
       subst (λ (xs : List g.row.P-Bay.Denot). AreLater g.P.Bay.Bay.files g.P.Bay.Faulty.faults g.P.Bay.Faulty.mark xs now) (sym same) c.run_bays-status.ensures.later,

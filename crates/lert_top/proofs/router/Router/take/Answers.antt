@@ -1,7 +1,7 @@
-use Rattle.std.proofs.Common.{◌≡◌, ◌≢◌, ◌⊎◌, ℕ, ◌+◌, ◌*◌, ◌^◌, ◌<◌, ◌≤◌, ◌++◌, ◌∷◌, [], List, length, ap, sym, ◌∙◌, subst, arith, inl, inr, length-append}
+use Rattle.std.proofs.Common.{◌≡◌, ◌⊎◌, ◌+◌, ◌<◌, ◌++◌, ◌∷◌, [], length, ap, sym, ◌∙◌, subst, arith, inl, inr, length-append}
 use Rattle.std.proofs.lemmas.List.{get_or-set_other, length-set}
 use Rattle.std.proofs.lemmas.Result.{on_ok_weaker}
-use Rattle.lert_buffers.specs.Rings.{Rings, ring_of, fill_of, with_ring}
+use Rattle.lert_buffers.specs.Rings.{Rings, ring_of, fill_of}
 use Rattle.lert_buffers.specs.declared.buffers.Fill.{Fill}
 use Rattle.lert_buffers.specs.declared.buffers.Fill.TheVariants.{Low, Ready, MustGo}
 use Rattle.lert_spec.specs.declared.numbers.Numbers.{Numbers}
@@ -78,7 +78,7 @@ returns-in-Ready g c =
     let less = c.requires.taking.short at named in
     let length_is = ap length (ring_pushed router.settings router.rings after at (ring ++ c.args.key ∷ []) open_is.lanes.rings_number named c.push-2.ensures.rings) ∙ length-append ring (c.args.key ∷ []) in
     let whole : length ring + 1 ≡ router.settings.packet = fill_ready router.settings.packet (length ring) less
-        (λ low. not_low c.push-2.result (c.push-2.ensures.fill ∙ (ap (λ p. fill_of p (length ring + 1)) open_is.lanes.packet ∙ low)) c.in-Ready.is) in
+    (λ low. not_low c.push-2.result (c.push-2.ensures.fill ∙ (ap (λ p. fill_of p (length ring + 1)) open_is.lanes.packet ∙ low)) c.in-Ready.is) in
     let opened = c.hand_out.ensures.taking 0 0 (record {
       lanes = lanes_pushed g.B.Bay.files g.B.Bay.leaves g.B.Faulty.faults router.settings 0 open_cones router.cones.items router.rings router.keys open_is.lanes at c.args.key after c.push.new.self
           c.cone_of-cone.ensures.value named c.push-2.ensures.rings c.push.ensures;
