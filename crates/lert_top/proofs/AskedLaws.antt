@@ -1,5 +1,5 @@
 -- What was asked, handed out and put back.
-use Rattle.std.proofs.Common.{◌≡◌, ◌⊎◌, ℕ, ◌+◌, ◌<◌, ◌≤◌, List, [], ◌∷◌, ◌++◌, length, Option, Some, slice_get, ap, sym, ◌∙◌, subst, arith}
+use Rattle.std.proofs.Common.{◌≡◌, ℕ, ◌<◌, List, [], ◌∷◌, length, Option, Some, slice_get, ap, sym, ◌∙◌, subst, arith}
 use Rattle.lert_bay.specs.Files.{Files}
 use Rattle.lert_top.specs.declared.opening.Opening.{Opening}
 use Rattle.lert_top.specs.declared.status.Status.{Status}

@@ -1,13 +1,11 @@
 -- Bays later, in lists, and in cones.
-use Rattle.std.proofs.Common.{◌≡◌, ◌≢◌, ◌⊎◌, ℕ, ◌+◌, ◌<◌, ◌≤◌, zero, suc, List, [], ◌∷◌, ◌++◌, length, map, set, get_or, Option, Some, None, slice_get, refl, ap, sym, ◌∙◌, subst, inl, inr, arith, append_assoc}
-use Rattle.std.specs.Prelude.{⊤}
+use Rattle.std.proofs.Common.{◌≡◌, ◌≢◌, ℕ, ◌+◌, ◌<◌, ◌≤◌, zero, suc, List, [], ◌∷◌, ◌++◌, length, set, get_or, Option, Some, slice_get, refl, ap, sym, ◌∙◌, subst, inl, inr, arith}
 use Rattle.std.proofs.lemmas.Bool.{cases_eq}
-use Rattle.std.proofs.lemmas.List.{get_or-set_same, get_or-set_other, length-set, length-map, length-append}
-use Rattle.std.proofs.lemmas.Option.{get_or_from_slice_get, slice_get-get_or, slice_get_within, slice_get-map, same_Some}
-use Rattle.lert_bay.specs.Files.{Files, IfTold, Turns}
+use Rattle.std.proofs.lemmas.List.{get_or-set_same, length-set}
+use Rattle.std.proofs.lemmas.Option.{slice_get-get_or, slice_get_within, same_Some}
+use Rattle.lert_bay.specs.Files.{Files}
 use Rattle.lert_cone.proofs.StandLaws.{risen_since}
 use Rattle.lert_cone.specs.Stands.{Standing}
-use Rattle.lert_io.specs.Fault.{HasRisen}
 use Rattle.lert_top.specs.Asked.{AreReturned}
 use Rattle.lert_top.specs.Bays.{AreLater, AreMarked, HasFailed, IsLater, bays_of}
 

@@ -1,17 +1,15 @@
 -- Cones that are made over bays one by one.
-use Rattle.std.proofs.Common.{◌≡◌, ◌≢◌, ℕ, ◌+◌, ◌<◌, ◌≤◌, Bool, List, [], ◌∷◌, ◌++◌, length, map, set, get_or, Option, Some, None, slice_get, refl, ap, sym, ◌∙◌, subst, inl, inr, arith, append_assoc, length-append}
+use Rattle.std.proofs.Common.{◌≡◌, ℕ, ◌<◌, ◌≤◌, List, [], ◌∷◌, ◌++◌, length, get_or, Option, Some, slice_get, refl, ap, sym, ◌∙◌, subst, inl, inr, arith, length-append}
 use Rattle.std.proofs.lemmas.Bool.{cases_eq}
 use Rattle.std.proofs.lemmas.List.{length-map}
 use Rattle.std.proofs.lemmas.Option.{slice_get-get_or, slice_get_within, same_Some}
 use Rattle.lert_bay.specs.Files.{Files, IfTold, Turns}
-use Rattle.lert_cone.specs.Sound.{AreEmpty, FramesStay}
-use Rattle.lert_cone.specs.Stands.{Standing, StandsFor}
+use Rattle.lert_cone.specs.Sound.{AreEmpty}
+use Rattle.lert_cone.specs.Stands.{Standing}
 use Rattle.lert_cone.specs.declared.refusal.CreateFault.{CreateFault}
 use Rattle.lert_cone.specs.declared.refusal.CreateFault.TheVariants as create_fault
 use Rattle.lert_io.specs.Fault.{HasRisen}
-use Rattle.lert_spec.specs.declared.numbers.Numbers.{Numbers}
-use Rattle.lert_top.specs.Bays.{AreFresh, AreLater, HasFailed, IfHeld, IsLater, IsStale, bays_of}
-use Rattle.lert_top.specs.Cones.{AreNew, IsNew}
+use Rattle.lert_top.specs.Bays.{AreFresh, AreLater, IsLater, bays_of}
 use Rattle.lert_top.specs.Run.{IsUnmade}
 use Rattle.lert_top.specs.Status.{create_status}
 use Rattle.lert_top.specs.declared.status.Status.{Status}

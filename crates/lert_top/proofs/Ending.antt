@@ -1,5 +1,5 @@
 -- Which status a run ends with.
-use Rattle.std.proofs.Common.{◌≡◌, ◌≢◌, ◌⊎◌, ℕ, ◌+◌, ◌^◌, ◌<◌, ◌≤◌, Bool, true, false, List, [], length, Option, Some, None, slice_get, refl, ap, sym, ◌∙◌, subst, inl, inr, arith}
+use Rattle.std.proofs.Common.{◌≡◌, ◌≢◌, ◌⊎◌, ℕ, ◌^◌, ◌<◌, ◌≤◌, true, false, List, [], length, Option, Some, None, slice_get, refl, ap, sym, ◌∙◌, subst, inl, inr, arith}
 use Rattle.std.proofs.lemmas.Bool.{cases_lt}
 use Rattle.std.proofs.lemmas.Option.{get_or_from_slice_get}
 use Rattle.lert_bay.specs.Files.{Files}
@@ -7,13 +7,12 @@ use Rattle.lert_cone.specs.Sound.{AreEmpty}
 use Rattle.lert_io.specs.Fault.{HasRisen, IsFaultless}
 use Rattle.lert_spec.specs.Trace.{left, whole}
 use Rattle.lert_spec.specs.declared.numbers.Numbers.{Numbers}
-use Rattle.lert_spec.specs.Edges.{capacity}
 use Rattle.lert_top.specs.declared.status.Status.{Status}
 use Rattle.lert_top.specs.declared.status.Status.TheVariants.{Done, Usage, PlaceFault, TraceFault, BadTrace, TooLong, NotFresh, BayFault, CapacityFull, OutFault, OutOfMemory}
 use Rattle.lert_top.specs.Bays.{AreFaultless, AreFresh, AreLater, AreToldFresh, HasFailed, IsStale}
 use Rattle.lert_top.specs.Run.{AllFit, HasRun, HasThem, IsFull, IsOver, IsUnmade, StatusShows, StopShows, ArePartly, is_past_freshness, most_keys}
 use Rattle.lert_top.specs.Word.{word_at}
-use Rattle.lert_top.proofs.BayLaws.{failed_since, failed_still, slice_get-some}
+use Rattle.lert_top.proofs.BayLaws.{failed_since, slice_get-some}
 
 pub some_is : {X : Type 0} {x y : X} → Some x ≡ Some y → x ≡ y
 some_is same = cc

@@ -1,24 +1,22 @@
 -- Keys move out of rings into their cones, and each cone with its ring keeps its part.
-use Rattle.std.proofs.Common.{◌≡◌, ◌≢◌, ◌⊎◌, ℕ, ◌+◌, ◌*◌, ◌^◌, ◌<◌, ◌≤◌, zero, suc, Bool, true, false, cond, eqb, ltb, ◌||◌, List, [], ◌∷◌, ◌++◌, length, set, get_or, replicate, Option, Some, None, slice_get, refl, ap, sym, ◌∙◌, subst, inl, inr, arith, append-nil, append_assoc, length-append, lt-ltb, le-ltb}
+use Rattle.std.proofs.Common.{◌≡◌, ◌≢◌, ℕ, ◌+◌, ◌*◌, ◌^◌, ◌<◌, ◌≤◌, Bool, true, false, cond, eqb, ◌||◌, List, [], ◌∷◌, ◌++◌, length, set, get_or, replicate, Option, Some, slice_get, refl, ap, sym, ◌∙◌, subst, inl, inr, arith, append-nil, append_assoc, length-append}
 use Rattle.std.specs.Prelude.{All}
-use Rattle.std.proofs.lemmas.Bool.{cases_eq, cases_lt, eq-eqb, ne_eqb}
+use Rattle.std.proofs.lemmas.Bool.{cases_eq, eq-eqb, ne_eqb}
 use Rattle.std.proofs.lemmas.List.{get_or-append-add, get_or-set_same, get_or-set_other, length-set, length-map, length-replicate, get_or-replicate, set-get_or}
 use Rattle.std.proofs.lemmas.List.Elements.{All-push, All-nil, filter-append, filter_passes}
 use Rattle.std.proofs.lemmas.Option.{slice_get_within, same_Some}
 use Rattle.lert_base.specs.Packet.{Packet}
 use Rattle.lert_bay.specs.Files.{Files, IfTold}
 use Rattle.lert_buffers.specs.Rings.{Rings, fill_of, ring_of, with_ring}
-use Rattle.lert_buffers.specs.declared.buffers.Fill.{Fill}
 use Rattle.lert_buffers.specs.declared.buffers.Fill.TheVariants.{Low, MustGo, Ready}
-use Rattle.lert_cone.proofs.SoundLaws.{counted_more, events_more}
+use Rattle.lert_cone.proofs.SoundLaws.{events_more}
 use Rattle.lert_cone.specs.History.{events_of}
 use Rattle.lert_cone.specs.Listing.{Listing}
 use Rattle.lert_cone.specs.Sound.{IsSound, IsSoundOver}
 use Rattle.lert_cone.specs.Stands.{Standing, StandsFor, is_broken, is_refusal}
 use Rattle.lert_cone.specs.declared.refusal.ConeFault.{ConeFault}
 use Rattle.lert_cone.specs.declared.refusal.ConeFault.TheVariants as fault
-use Rattle.lert_cone.specs.declared.state.ConeState.{ConeState}
-use Rattle.lert_cone.specs.declared.state.ConeState.TheVariants.{BrokenByMemory, Finished, Running}
+use Rattle.lert_cone.specs.declared.state.ConeState.TheVariants.{BrokenByMemory, Finished}
 use Rattle.lert_journal.specs.Payload.{IsJournaled}
 use Rattle.lert_spec.specs.declared.numbers.Numbers.{Numbers}
 use Rattle.lert_spec.specs.Edges.{capacity}
@@ -28,10 +26,10 @@ use Rattle.lert_top.specs.declared.status.Status.{Status}
 use Rattle.lert_top.specs.declared.status.Status.TheVariants as status
 use Rattle.lert_top.specs.Bays.{AreLater, ArePartWoven, AreWoven, HasFailed, HoldsKeys, HoldsPart, HoldsWeave, IfHeld, bays_of}
 use Rattle.lert_top.specs.Cones.{AreNew}
-use Rattle.lert_top.specs.Lanes.{AreDrained, AreFull, AreLanes, AreShort, IsLane, open_cones, state_of}
-use Rattle.lert_top.specs.Run.{AllFit, HasThem, IsFull, IsRefused}
+use Rattle.lert_top.specs.Lanes.{AreDrained, AreLanes, AreShort, IsLane, open_cones, state_of}
+use Rattle.lert_top.specs.Run.{AllFit, IsRefused}
 use Rattle.lert_top.specs.Status.{cone_status}
-use Rattle.lert_top.specs.Weave.{AreCut, IsBrought, IsPartWoven, IsWoven}
+use Rattle.lert_top.specs.Weave.{AreCut, IsBrought, IsPartWoven}
 use Rattle.lert_top.proofs.BayLaws.{bay_at, bay_is, bays_of-set, failed_since, slice_get-some, slice_get-set_other, slice_get-set_same}
 use Rattle.lert_top.proofs.WeaveLaws.{cut_more, part_woven, woven}
 

@@ -5,7 +5,6 @@ use Rattle.lert_base.specs.Packet.{Packet}
 use Rattle.lert_bay.specs.Files.{Files}
 use Rattle.lert_buffers.specs.Rings.{Rings, ring_of}
 use Rattle.lert_cone.specs.History.{events_of}
-use Rattle.lert_cone.specs.Listing.{Listing}
 use Rattle.lert_cone.specs.Stands.{Standing, StandsFor}
 use Rattle.lert_cone.specs.declared.state.ConeState.{ConeState}
 use Rattle.lert_cone.specs.declared.state.ConeState.TheVariants.{Running, Finished}

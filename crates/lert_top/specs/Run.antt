@@ -1,7 +1,7 @@
 -- What a run says of the trace that it read, of the bays of its cones, and of the text that it wrote.
 use Rattle.std.specs.Prelude.{◌≡◌, ◌≢◌, ◌⊎◌, ℕ, ◌+◌, ◌*◌, ◌^◌, ◌<◌, ◌≤◌, Bool, true, false, List, [], ◌++◌, length, map, Option, Some, None, slice_get, ⊤}
 use Rattle.std.specs.List.{range_with_len}
-use Rattle.lert_bay.specs.Files.{Files, IfTold as IfFilesTold}
+use Rattle.lert_bay.specs.Files.{Files}
 use Rattle.lert_cone.specs.Sound.{AreEmpty}
 use Rattle.lert_io.specs.Fault.{HasRisen, IsFaultless}
 use Rattle.lert_io.specs.Reading.{IfTold}
@@ -12,7 +12,7 @@ use Rattle.lert_spec.specs.Look.{closing}
 use Rattle.lert_spec.specs.Mix.{part_of}
 use Rattle.lert_spec.specs.Timely.{IsTimely}
 use Rattle.lert_spec.specs.Trace.{left, whole}
-use Rattle.lert_top.specs.Bays.{AreFaultless, AreFresh, AreLater, AreMarked, ArePartWoven, AreToldFresh, AreWoven, HasFailed, HoldsKeys, IfHeld, IsStale}
+use Rattle.lert_top.specs.Bays.{AreFaultless, AreFresh, ArePartWoven, AreToldFresh, AreWoven, HasFailed, HoldsKeys, IfHeld, IsStale}
 use Rattle.lert_top.specs.Page.{IsCut}
 use Rattle.lert_top.specs.declared.status.Status.{Status}
 use Rattle.lert_top.specs.declared.status.Status.TheVariants.{Done, Usage, PlaceFault, TraceFault, BadTrace, TooLong, NotFresh, BayFault, CapacityFull, OutFault, OutOfMemory}

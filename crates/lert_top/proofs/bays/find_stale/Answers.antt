@@ -1,4 +1,4 @@
-use Rattle.std.proofs.Common.{◌≡◌, ◌<◌, length, slice_get, Some, refl, ap, sym, ◌∙◌, arith, rules}
+use Rattle.std.proofs.Common.{◌≡◌, ◌<◌, length, Some, refl, arith, rules}
 use Rattle.std.proofs.lemmas.Option.{slice_get_read}
 use Rattle.lert_bay.specs.Files.{Files}
 use Rattle.lert_top.proofs.FreshLaws.{looked_all, looked_failed, looked_fresh, looked_fresh_now, looked_later, looked_rest, looked_stale}

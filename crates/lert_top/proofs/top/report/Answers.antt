@@ -1,4 +1,4 @@
-use Rattle.std.proofs.Common.{◌≡◌, ℕ, ◌++◌, ◌^◌, List, Some, refl, ap, sym, ◌∙◌, subst}
+use Rattle.std.proofs.Common.{ℕ, ◌++◌, ◌^◌, List, Some, refl, ap, ◌∙◌, subst}
 use Rattle.lert_spec.specs.declared.numbers.Numbers.{Numbers}
 use Rattle.lert_spec.specs.Trace.{whole}
 use Rattle.lert_top.specs.Bays.{bays_of}

@@ -1,7 +1,6 @@
-use Rattle.std.proofs.Common.{◌≡◌, ◌≢◌, ℕ, ◌++◌, ◌∷◌, ◌^◌, ◌<◌, ◌≤◌, true, false, [], List, length, slice_get, refl, ap, sym, ◌∙◌, subst, arith, inl, inr}
+use Rattle.std.proofs.Common.{◌++◌, ◌∷◌, ◌^◌, true, false, [], List, length, refl, ap, sym, ◌∙◌, subst, inl, inr}
 use Rattle.lert_cone.proofs.StandLaws.{risen_since}
 use Rattle.lert_io.specs.Fault.{HasRisen}
-use Rattle.lert_top.specs.declared.opening.Opening.{Opening}
 use Rattle.lert_top.specs.declared.opening.Wanted.TheVariants.{Trace}
 use Rattle.lert_top.specs.Asked.{trace_asked}
 use Rattle.lert_top.specs.Bays.{AreLater}

@@ -1,4 +1,4 @@
-use Rattle.std.proofs.Common.{◌≡◌, ◌++◌, [], List, ap, sym, ◌∙◌, subst, append-nil}
+use Rattle.std.proofs.Common.{◌++◌, List, ap, sym, ◌∙◌, subst, append-nil}
 use Rattle.lert_top.specs.Bays.{AreLater, IsStale, bays_of}
 use Rattle.lert_top.specs.Run.{StatusShows}
 use Rattle.lert_top.proofs.BayLaws.{are_more}

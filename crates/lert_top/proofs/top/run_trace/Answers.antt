@@ -1,8 +1,8 @@
-use Rattle.std.proofs.Common.{◌≡◌, ◌≢◌, ℕ, ◌++◌, ◌^◌, ◌<◌, ◌≤◌, true, false, [], List, length, slice_get, refl, ap, sym, ◌∙◌, subst, arith, inl, inr, append-nil}
+use Rattle.std.proofs.Common.{[], List, refl, ap, sym, ◌∙◌, subst, arith, inl, inr, append-nil}
 use Rattle.lert_top.specs.declared.status.Status.{Status}
-use Rattle.lert_top.specs.declared.status.Status.TheVariants.{Done, OutOfMemory, PlaceFault, Usage}
+use Rattle.lert_top.specs.declared.status.Status.TheVariants.{OutOfMemory}
 use Rattle.lert_top.specs.Bays.{AreLater, IsStale}
-use Rattle.lert_top.specs.Run.{HasRun, StatusShows}
+use Rattle.lert_top.specs.Run.{HasRun}
 use Rattle.lert_top.proofs.AskedLaws.{all_back, none_returned}
 use Rattle.lert_top.proofs.BayLaws.{are_same, still_marked}
 use Rattle.lert_top.proofs.Ending.{HasRun-shows, not_place_fault, not_usage, shows_along, true_is_false}

@@ -1,4 +1,4 @@
-use Rattle.std.proofs.Common.{◌≡◌, ◌++◌, List, ℕ, [], true, length, refl, ap, sym, ◌∙◌, append-nil, arith, ◌<◌}
+use Rattle.std.proofs.Common.{◌++◌, List, ℕ, true, length, refl, ap, sym, ◌∙◌, append-nil, arith, ◌<◌}
 use Rattle.std.proofs.lemmas.Option.{slice_get_read}
 use Rattle.lert_cone.specs.History.{events_of}
 use Rattle.lert_top.specs.Lanes.{closed_cones}

@@ -1,5 +1,4 @@
-use Rattle.std.proofs.Common.{◌≡◌, ℕ, ◌+◌, ◌^◌, ◌<◌, ◌≤◌, length, ap, sym, ◌∙◌, subst, arith}
-use Rattle.lert_buffers.specs.Rings.{Rings, ring_of}
+use Rattle.std.proofs.Common.{◌^◌, ◌<◌, ap, sym, ◌∙◌, subst, arith}
 use Rattle.lert_spec.specs.declared.numbers.Numbers.{Numbers}
 use Rattle.lert_top.specs.Bays.{ArePartWoven, bays_of}
 use Rattle.lert_top.specs.Lanes.{AreShort, open_cones}

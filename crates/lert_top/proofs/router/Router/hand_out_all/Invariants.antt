@@ -1,5 +1,5 @@
 use Rattle.std.proofs.Common.{◌≡◌}
-use Rattle.lert_top.specs.Bays.{AreLater, ArePartWoven, bays_of}
+use Rattle.lert_top.specs.Bays.{AreLater, bays_of}
 use Rattle.lert_top.specs.Lanes.{AreDrained, AreShort}
 use Rattle.lert_top.specs.Router.{IsOpen}
 use Rattle.lert_top.proofs.router.Router.hand_out_all.Given as goal

@@ -1,8 +1,8 @@
-use Rattle.std.proofs.Common.{◌≡◌, ◌+◌, ◌<◌, ◌≤◌, [], length, ap, sym, ◌∙◌, subst, arith}
+use Rattle.std.proofs.Common.{◌+◌, arith}
 use Rattle.lert_top.specs.Bays.{bays_of}
 use Rattle.lert_top.specs.Lanes.{open_cones}
 use Rattle.lert_top.proofs.BayLaws.{are_same}
-use Rattle.lert_top.proofs.LaneLaws.{lanes_from, lanes_partly, ring_stays}
+use Rattle.lert_top.proofs.LaneLaws.{lanes_from, lanes_partly}
 use Rattle.lert_top.proofs.router.Router.hand_out_rest.Goals as goal
 
 pub returns-then-len-eq0-clause-taking : goal.returns-then-len-eq0-clause-taking

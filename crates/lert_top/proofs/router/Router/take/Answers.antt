@@ -1,7 +1,7 @@
-use Rattle.std.proofs.Common.{◌≡◌, ◌≢◌, ◌⊎◌, ℕ, ◌+◌, ◌*◌, ◌^◌, ◌<◌, ◌≤◌, ◌++◌, ◌∷◌, [], List, length, ap, sym, ◌∙◌, subst, arith, inl, inr, length-append}
+use Rattle.std.proofs.Common.{◌≡◌, ◌⊎◌, ◌+◌, ◌<◌, ◌++◌, ◌∷◌, [], length, ap, sym, ◌∙◌, subst, arith, inl, inr, length-append}
 use Rattle.std.proofs.lemmas.List.{get_or-set_other, length-set}
 use Rattle.std.proofs.lemmas.Result.{on_ok_weaker}
-use Rattle.lert_buffers.specs.Rings.{Rings, ring_of, fill_of, with_ring}
+use Rattle.lert_buffers.specs.Rings.{Rings, ring_of, fill_of}
 use Rattle.lert_buffers.specs.declared.buffers.Fill.{Fill}
 use Rattle.lert_buffers.specs.declared.buffers.Fill.TheVariants.{Low, Ready, MustGo}
 use Rattle.lert_spec.specs.declared.numbers.Numbers.{Numbers}
