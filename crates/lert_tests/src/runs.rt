@@ -1,6 +1,9 @@
-//! Runs over one trace in memory.
+//! Runs over one trace and bays in memory.
+
+ghost use Rattle.std.specs.Prelude.{◌≡◌, [], IfOk};
 
 use lert_base::Words;
+use lert_bay::MemBay;
 use lert_io::{CallList, MemSink, MemSource, OutOfMemory};
 use lert_top::{MemPlace, Status, run};
 use std::alloc::{AllocError, Global};
@@ -18,11 +21,12 @@ const HEADER: [u8; 8] = [0x4c, 0x45, 0x52, 0x54, 1, 0, 0, 0];
 // 8 and 16, the offsets 8, 24 and 56, and the capacity is 71.
 const SMALL: [&str; 8] = ["3", "3", "2", "4", "2", "0", "32", "8"];
 
-// A run over one trace in memory: the calls of the trace and of the sink that fail, with 0 for none,
-// and what comes of it.
+// A run over one trace and empty bays in memory: the calls of the trace and of the sink that fail, with 0
+// for none, and what comes of it.
 #[derive(Drop)]
 struct Row<'a> {
     words: &'a [&'a str],
+    cones: u32,
     trace: &'a [u8],
     failing_read: u64,
     failing_write: u64,
@@ -119,18 +123,42 @@ fn trace_with(alloc: Global, len: u8, placed: &[(u8, u64)]) -> Result<Vec<u8>, A
     trace(alloc, keys.as_slice())
 }
 
-// Runs a row over a place that has its trace under the name `a`.
-fn check(rt: &(impl Abort + AllocGlobal), row: &Row) -> Result<(), Fail> {
-    let alloc = rt.alloc();
-    let source = MemSource::new(alloc, row.trace, &calls(alloc, row.failing_read)?)?;
+// A place that has a trace under the name `a`, of which this read fails, and the empty bays of so many
+// cones in the directory `d`.
+fn place_with(
+    alloc: Global,
+    trace: &[u8],
+    failing_read: u64,
+    cones: u32,
+) -> Result<MemPlace, OutOfMemory>
+    ensures asked { IfOk result (λ place. place.asked ≡ []) }
+    ensures traces { IfOk result (λ place. place.lent_traces.handed ≡ []) }
+    ensures bays { IfOk result (λ place. place.lent_bays.handed ≡ []) }
+{
+    let source = MemSource::new(alloc, trace, &calls(alloc, failing_read)?)?;
     let mut place = MemPlace::new(alloc)?;
     place.add_trace("a", source)?;
+    for cone in 0..cones {
+        place.add_bay("d", cone, MemBay::new(alloc)?)?;
+    }
+    Ok(place)
+}
+
+// Runs a row over a place that has its trace and its bays.
+fn check(rt: &(impl Abort + AllocGlobal), row: &Row) -> Result<(), Fail> {
+    let alloc = rt.alloc();
+    let mut place = place_with(alloc, row.trace, row.failing_read, row.cones)?;
     let mut out = MemSink::new(alloc, 16_384, &calls(alloc, row.failing_write)?)?;
     let status = run(alloc, &words(alloc, row.words)?, &mut place, &mut out);
     assert_eq!(rt; status, row.status);
     assert_eq!(rt; out.bytes(), row.text.as_bytes());
     let opened = !matches!(row.status, Status::Usage { rule: _ } | Status::PlaceFault);
     assert_eq!(rt; place.trace(0).is_some(), opened);
+    if opened {
+        for cone in 0..row.cones {
+            assert!(rt; place.bay(cone).is_some(), "bay {cone} is back");
+        }
+    }
     Ok(())
 }
 
@@ -142,8 +170,10 @@ fn check_long(
     status: Status,
     text: &str,
 ) -> Result<(), Fail> {
+    let cone_bits = numbers[5].parse::<u32>().unwrap_or(0).min(8);
     let row = Row {
         words: &long_form(numbers),
+        cones: 1 << cone_bits,
         trace,
         failing_read: 0,
         failing_write: 0,

@@ -59,8 +59,8 @@ fn a_full_cone_is_named(rt: HostRuntime) -> Result<(), Fail> {
             72,
             Status::CapacityFull {
                 cone: 1,
-                n: 71,
-                len: 1,
+                n: 64,
+                len: 8,
             },
             "",
         ),

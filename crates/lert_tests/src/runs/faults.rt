@@ -18,6 +18,7 @@ fn a_fault_of_the_outside_is_answered_by_its_status(rt: HostRuntime) -> Result<(
     for (words, failing_read, failing_write, status) in rows {
         let row = Row {
             words,
+            cones: 1,
             trace: whole.as_slice(),
             failing_read,
             failing_write,
@@ -45,6 +46,7 @@ fn a_bad_trace_is_answered_with_its_place_and_leaves_nothing_written(
     for (trace, at) in rows {
         let row = Row {
             words: &short,
+            cones: 1,
             trace,
             failing_read: 0,
             failing_write: 0,

@@ -35,6 +35,7 @@ fn the_short_form_runs_with_the_defaults(rt: HostRuntime) -> Result<(), Fail> {
         let trace = trace(rt.alloc(), keys)?;
         let row = Row {
             words: &short_form(threshold),
+            cones: 1,
             trace: trace.as_slice(),
             failing_read: 0,
             failing_write: 0,
@@ -159,8 +160,8 @@ fn a_cone_takes_as_many_keys_as_its_capacity(rt: HostRuntime) -> Result<(), Fail
             72,
             Status::CapacityFull {
                 cone: 0,
-                n: 71,
-                len: 1,
+                n: 64,
+                len: 8,
             },
             "",
         ),

@@ -9,6 +9,7 @@ use std::test::Fail;
 fn check_usage(rt: &(impl Abort + AllocGlobal), words: &[&str], rule: u8) -> Result<(), Fail> {
     let row = Row {
         words,
+        cones: 1,
         trace: &HEADER,
         failing_read: 0,
         failing_write: 0,
