@@ -9,6 +9,7 @@
 mod durable;
 mod fault;
 mod gate_log;
+pub mod lay;
 
 pub use fault::LogFault;
 pub use gate_log::GateLog;

@@ -1,4 +1,4 @@
-//! Bytes that are laid into a buffer, one field behind the other.
+//! Bytes that are laid into a buffer, one field behind the other: so a text for `append` is made.
 
 ghost use Rattle.std.specs.Prelude.{◌≡◌, ◌+◌, ◌≤◌, ◌++◌, length, take};
 ghost use Rattle.byteorder.specs.Endian.{little_bytes};
