@@ -1,1 +1,2 @@
+pub mod LogText
 pub mod Stored

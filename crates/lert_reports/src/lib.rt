@@ -1,9 +1,12 @@
 //! The reports of a cone: the list in memory, and the text of its log.
 //!
 //! The one contract is that a `ReportStore` is its list of reports, and that `has` answers whether a key is in it without
-//! a search of the list. Any `CountTable` serves it for the tails of the listed keys.
+//! a search of the list. Any `CountTable` serves it for the tails of the listed keys. `write_log` writes the text of a
+//! record of the log.
 #![tactic(auto)]
 
+mod log;
 mod store;
 
+pub use log::{LogBefore, LogKind, write_log};
 pub use store::ReportStore;
