@@ -1,2 +1,3 @@
+pub mod BinCount
 mod Examples
 pub mod StoreLaws

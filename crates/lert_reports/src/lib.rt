@@ -5,8 +5,10 @@
 //! record of the log.
 #![tactic(auto)]
 
+mod directory;
 mod log;
 mod store;
 
+pub use directory::bins;
 pub use log::{LogBefore, LogKind, write_log};
 pub use store::ReportStore;
