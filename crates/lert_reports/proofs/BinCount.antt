@@ -1,5 +1,5 @@
 -- How many bins a level has: as many as there are whole spans from its edge up to that of the next younger level.
-use Rattle.std.proofs.Common.{◌≡◌, ℕ, zero, suc, ◌+◌, ◌-◌, ◌*◌, ◌/◌, ◌<◌, ◌≤◌, ◌^◌, Bool, true, false, cond, min, max, List, [], ◌∷◌, refl, ap, sym, subst, ◌∙◌, arith, inl, inr}
+use Rattle.std.proofs.Common.{◌≡◌, ℕ, zero, suc, ◌+◌, ◌-◌, ◌*◌, ◌/◌, ◌<◌, ◌≤◌, ◌^◌, Bool, true, false, cond, min, max, refl, ap, sym, subst, ◌∙◌, arith, inl, inr}
 use Rattle.std.specs.Prelude.{nat_lt, count_by}
 use Rattle.std.specs.List.{range_with_len}
 use Rattle.std.proofs.Math.Nat.{mul-le-mul_right, div-mul-le_self, mul-div-le, lt-div-mul-add, mul-div_cancel_left, mul_comm}
@@ -78,12 +78,12 @@ module _ (w a high : ℕ) (wide : 1 ≤ w) (ordered : w * a ≤ high) where
       counted (λ k. nat_lt (max (w * a) (k * w)) (min high ((k + 1) * w))) a end ordered_end
       (λ k less. (let steps = mul-le-mul_right {m = k + 1} {n = a} w (omega arith) in le-ltb (max (w * a) (k * w)) (min high ((k + 1) * w)) (omega (arith, steps, spread k, edge_is))))
       (λ k low less. (
-        let steps = mul-le-mul_right {m = k + 1} {n = end} w (omega arith) in
-        let more = mul-le-mul_right {m = a} {n = k} w low in
-        lt-ltb (max (w * a) (k * w)) (min high ((k + 1) * w)) (omega (arith, steps, more, spread k, edge_is, end_below, wide))))
+      let steps = mul-le-mul_right {m = k + 1} {n = end} w (omega arith) in
+      let more = mul-le-mul_right {m = a} {n = k} w low in
+      lt-ltb (max (w * a) (k * w)) (min high ((k + 1) * w)) (omega (arith, steps, more, spread k, edge_is, end_below, wide))))
       (λ k late. (
-        let steps = mul-le-mul_right {m = end + 1} {n = k + 1} w (omega arith) in
-        le-ltb (max (w * a) (k * w)) (min high ((k + 1) * w)) (omega (arith, steps, spread k, spread end, end_above, wide))))
+      let steps = mul-le-mul_right {m = end + 1} {n = k + 1} w (omega arith) in
+      le-ltb (max (w * a) (k * w)) (min high ((k + 1) * w)) (omega (arith, steps, spread k, spread end, end_above, wide))))
       n 0 (omega arith) (omega (arith, long))
 
 -- the bins of a level, counted by its edge and that of the next younger level

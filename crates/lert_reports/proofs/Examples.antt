@@ -1,5 +1,5 @@
 -- The log text, computed on the closing record of three keys 7, on a flush, and on payloads that break each rule.
-use Rattle.std.proofs.Common.{◌≡◌, ℕ, ◌+◌, List, [], ◌∷◌, ◌++◌, take, drop, Some, None, refl}
+use Rattle.std.proofs.Common.{◌≡◌, ℕ, List, [], ◌∷◌, ◌++◌, take, drop, Some, None, refl}
 use Rattle.lert_spec.specs.declared.numbers.Numbers.{Numbers}
 use Rattle.lert_spec.specs.Mix.{mix}
 use Rattle.lert_reports.specs.declared.log.LogBefore.{LogBefore}

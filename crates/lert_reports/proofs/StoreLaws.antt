@@ -1,10 +1,9 @@
 -- The table of tails as reports are put, and what it tells of a key.
-use Rattle.std.proofs.Common.{◌≡◌, ℕ, ◌+◌, ◌-◌, ◌<◌, ◌≤◌, ◌^◌, suc, zero, true, false, cond, eqb, ltb, ◌||◌, List, [], ◌∷◌, ◌++◌, length, map, refl, ap, sym, ◌∙◌, subst, arith, inl, inr, length-append}
+use Rattle.std.proofs.Common.{◌≡◌, ℕ, ◌+◌, ◌<◌, ◌≤◌, ◌^◌, suc, zero, cond, eqb, ltb, ◌||◌, List, [], ◌∷◌, ◌++◌, length, map, refl, ap, sym, ◌∙◌, subst, arith, inl, inr, length-append}
 use Rattle.std.specs.Prelude.{All}
 use Rattle.std.proofs.lemmas.Bool.{cases_eq, eq-eqb, ne_eqb, lt-ltb}
-use Rattle.std.proofs.lemmas.Bool.Decides.{nat_tests}
 use Rattle.std.proofs.lemmas.List.{map-append}
-use Rattle.std.proofs.lemmas.List.Elements.{All-append, All-nil}
+use Rattle.std.proofs.lemmas.List.Elements.{All-append}
 use Rattle.std.proofs.lemmas.List.Sums.{sum_by-cons}
 use Rattle.lert_spec.specs.declared.numbers.Numbers.{Numbers}
 use Rattle.lert_spec.specs.declared.piece.Piece.{Piece}
@@ -58,8 +57,8 @@ module _ (s : Numbers) (reports : List Report) (capacity : ℕ) (pieces : List P
   counted_if_listed seen key count is below of count_is =
       subst (λ (v : Stored). All (λ report. cone_of v.settings report.key ≡ cone_of v.settings key) v.reports → ltb 0 count ≡ is_listed key v.reports) is
       (λ mine.
-          ap (ltb 0) (count_is ∙ ap (λ ps. count_of ps (tail_of s key)) kept.counted ∙ count_of-tallied s (keys_in reports) (tail_of s key))
-          ∙ listed_by_tail s key reports below kept.keys mine)
+      ap (ltb 0) (count_is ∙ ap (λ ps. count_of ps (tail_of s key)) kept.counted ∙ count_of-tallied s (keys_in reports) (tail_of s key))
+      ∙ listed_by_tail s key reports below kept.keys mine)
       of
 
   -- the table has as many events as there are reports

@@ -48,7 +48,10 @@ fn fill_and_clear<T: CountTable>(rt: &impl Abort, alloc: Global) -> Result<(), F
     store.put(seven);
     store.put(thirteen);
     assert_eq!(rt; store.list(), [seven, thirteen].as_slice());
-    assert_eq!(rt; (has(&store, 7), has(&store, 13), has(&store, 8)), (true, true, false));
+    assert_eq!(rt;
+        (has(&store, 7), has(&store, 13), has(&store, 8)),
+        (true, true, false)
+    );
     store.clear();
     assert_eq!(rt; (store.len(), has(&store, 7)), (0, false));
     store.put(thirteen);

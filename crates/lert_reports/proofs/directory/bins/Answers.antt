@@ -1,5 +1,4 @@
-use Rattle.std.proofs.Common.{◌≡◌, ◌+◌, ◌<◌, ◌^◌, subst, arith}
-use Rattle.lert_spec.specs.Edges.{span, edge}
+use Rattle.std.proofs.Common.{subst, arith}
 use Rattle.lert_spec.specs.Limits.{IsValid}
 use Rattle.lert_reports.proofs.BinCount.{bin_count_is, edge_fits}
 use Rattle.lert_reports.proofs.directory.bins.Goals as goal
