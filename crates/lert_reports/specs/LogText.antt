@@ -1,5 +1,5 @@
 -- The payload of a record in a log, and the first place at which a payload leaves the format.
-use Rattle.std.specs.Prelude.{ℕ, ◌+◌, ◌-◌, ◌*◌, ◌/◌, ◌^◌, ◌==◌, ◌&&◌, ◌||◌, nat_lt, nat_le, not, min, max, Bool, List, [], ◌∷◌, ◌++◌, length, take, drop, map, flat_map, find, count_by, sum_by, slice_index, Option, option_map, if◌then◌else◌}
+use Rattle.std.specs.Prelude.{◌≡◌, ℕ, ◌+◌, ◌-◌, ◌*◌, ◌/◌, ◌^◌, ◌==◌, ◌&&◌, ◌||◌, nat_lt, nat_le, not, min, max, Bool, List, [], ◌∷◌, ◌++◌, length, take, drop, flat_map, find, count_by, sum_by, slice_index, Option, option_map, if◌then◌else◌}
 use Rattle.std.specs.List.{range_with_len, list_any}
 use Rattle.byteorder.specs.Endian.{little_number, little_bytes}
 use Rattle.lert_spec.specs.declared.numbers.Numbers.{Numbers}
@@ -9,6 +9,7 @@ use Rattle.lert_spec.specs.Limits.{lies}
 use Rattle.lert_spec.specs.Mix.{cone_of}
 use Rattle.lert_reports.specs.declared.log.LogBefore.{LogBefore}
 use Rattle.lert_reports.specs.declared.log.LogKind.{LogKind}
+use Rattle.lert_reports.specs.declared.log.LogParts.{LogParts}
 
 -- one record: what it is, after how many events, where the journal is to be read from and from which position on, for
 -- each level the numbers of its frames, and the reports that are new
@@ -78,13 +79,22 @@ keeps_n0 s before kind n0 =
     nat_le n0 (capacity s)
     && (if kind == 1 then n0 == next_flush s before.flushes else nat_le before.n0 n0 && nat_lt n0 (next_flush s before.flushes))
 
+-- the four fields that begin a payload
+abbrev pub kind_field : List ℕ → Field
+kind_field payload = record { place = 0; size = 1; keeps = lies 1 2 (slice_index payload 0) }
+
+abbrev pub n0_field : Numbers → LogBefore → List ℕ → Field
+n0_field s before payload = record { place = 1; size = 8; keeps = keeps_n0 s before (slice_index payload 0) (n0_in payload) }
+
+abbrev pub offset_field : List ℕ → Field
+offset_field payload = record { place = 9; size = 8; keeps = lies 32 (2 ^ 46) (number_in 8 payload 9) }
+
+abbrev pub first_field : Numbers → List ℕ → Field
+first_field s payload = record { place = 17; size = 8; keeps = lies 1 (edge s 0 (n0_in payload) + 1) (number_in 8 payload 17) }
+
 abbrev pub head_fields : Numbers → LogBefore → List ℕ → List Field
 head_fields s before payload =
-    record { place = 0; size = 1; keeps = lies 1 2 (slice_index payload 0) }
-    ∷ record { place = 1; size = 8; keeps = keeps_n0 s before (slice_index payload 0) (n0_in payload) }
-    ∷ record { place = 9; size = 8; keeps = lies 32 (2 ^ 46) (number_in 8 payload 9) }
-    ∷ record { place = 17; size = 8; keeps = lies 1 (edge s 0 (n0_in payload) + 1) (number_in 8 payload 17) }
-    ∷ []
+    kind_field payload ∷ n0_field s before payload ∷ offset_field payload ∷ first_field s payload ∷ []
 
 -- where a level stands in a directory: behind one byte for each younger level and for each of its bins
 abbrev pub level_place : Numbers → ℕ → ℕ → ℕ
@@ -104,13 +114,20 @@ frame_field s payload place k =
       keeps = nat_le frame s.bins && not (list_any (λ other. other == frame) (take k (drop place payload)));
     }
 
+-- the first so many frames behind a place
+abbrev pub frame_fields : Numbers → List ℕ → ℕ → ℕ → List Field
+frame_fields s payload place n = flat_map (λ k. frame_field s payload place k ∷ []) (range_with_len 0 n)
+
+-- the number of frames at a place
+abbrev pub bins_field : List ℕ → ℕ → ℕ → Field
+bins_field payload place bins = record { place = place; size = 1; keeps = slice_index payload place == bins }
+
 -- a level's number of frames, and its frames
 abbrev pub level_fields : Numbers → List ℕ → ℕ → List Field
 level_fields s payload level =
     let place = level_place s (n0_in payload) level in
     let frames = bin_count s level (n0_in payload) in
-    record { place = place; size = 1; keeps = slice_index payload place == frames }
-    ∷ map (frame_field s payload (place + 1)) (range_with_len 0 frames)
+    bins_field payload place frames ∷ frame_fields s payload (place + 1) frames
 
 -- how many reports a record has
 abbrev pub reports_in : Numbers → List ℕ → ℕ
@@ -124,41 +141,70 @@ report_place s payload k = reports_place s (n0_in payload) + 4 + 16 * k
 abbrev pub at_before : Numbers → LogBefore → List ℕ → ℕ → ℕ
 at_before s before payload k = if k == 0 then before.at else number_in 8 payload (report_place s payload (k - 1) + 8)
 
--- the k-th report: its key is of the cone, and its position isn't before that of an earlier one, nor behind the events
+-- a report's key is of the cone, and its position isn't before that of an earlier one, nor behind the events
+abbrev pub key_field : Numbers → ℕ → List ℕ → ℕ → Field
+key_field s cone payload place = record { place = place; size = 8; keeps = cone_of s (number_in 8 payload place) == cone }
+
+abbrev pub at_field : List ℕ → ℕ → ℕ → Field
+at_field payload place earlier = record {
+  place = place + 8;
+  size = 8;
+  keeps = lies (max 1 earlier) (n0_in payload) (number_in 8 payload (place + 8));
+}
+
+-- the k-th report
 abbrev pub report_fields : Numbers → ℕ → LogBefore → List ℕ → ℕ → List Field
 report_fields s cone before payload k =
     let place = report_place s payload k in
-    record { place = place; size = 8; keeps = cone_of s (number_in 8 payload place) == cone }
-    ∷ record {
-      place = place + 8;
-      size = 8;
-      keeps = lies (max 1 (at_before s before payload k)) (n0_in payload) (number_in 8 payload (place + 8));
-    }
-    ∷ []
+    key_field s cone payload place ∷ at_field payload place (at_before s before payload k) ∷ []
 
 -- where a payload is to end
 abbrev pub log_end : Numbers → List ℕ → ℕ
 log_end s payload = report_place s payload (reports_in s payload)
 
+-- the fields of all levels, and of all reports
+abbrev pub directory_fields : Numbers → List ℕ → List Field
+directory_fields s payload = flat_map (level_fields s payload) (range_with_len 1 s.levels)
+
+abbrev pub count_field : Numbers → LogBefore → List ℕ → Field
+count_field s before payload =
+    record { place = reports_place s (n0_in payload); size = 4; keeps = nat_le (before.reports + reports_in s payload) s.room }
+
+abbrev pub all_report_fields : Numbers → ℕ → LogBefore → List ℕ → List Field
+all_report_fields s cone before payload = flat_map (report_fields s cone before payload) (range_with_len 0 (reports_in s payload))
+
+-- the end, where no byte is to be left over
+abbrev pub end_field : Numbers → List ℕ → Field
+end_field s payload = record { place = log_end s payload; size = 0; keeps = nat_le (length payload) (log_end s payload) }
+
 -- all fields of a payload in their order, and the end, where no byte is to be left over
 abbrev pub log_fields : Numbers → ℕ → LogBefore → List ℕ → List Field
 log_fields s cone before payload =
     head_fields s before payload
-    ++ flat_map (level_fields s payload) (range_with_len 1 s.levels)
-    ++ (record {
-      place = reports_place s (n0_in payload);
-      size = 4;
-      keeps = nat_le (before.reports + reports_in s payload) s.room;
-    } ∷ [])
-    ++ flat_map (report_fields s cone before payload) (range_with_len 0 (reports_in s payload))
-    ++ (record { place = log_end s payload; size = 0; keeps = nat_le (length payload) (log_end s payload) } ∷ [])
+    ++ directory_fields s payload
+    ++ (count_field s before payload ∷ [])
+    ++ all_report_fields s cone before payload
+    ++ (end_field s payload ∷ [])
 
 -- a field isn't wholly in a payload, or breaks its rule
 abbrev pub is_broken : List ℕ → Field → Bool
 is_broken payload field = nat_lt (length payload) (field.place + field.size) || not field.keeps
 
+-- the place of the first of some fields that is broken
+unfoldable pub left_at : List ℕ → List Field → Option ℕ
+left_at payload fields = option_map (λ field. field.place) (find (is_broken payload) fields)
+
 -- the place at which a payload first leaves the format, in a log with these records before it; none where it holds a
 -- record. The rule on keys that were listed before is none of these
 abbrev pub log_left : Numbers → ℕ → LogBefore → List ℕ → Option ℕ
-log_left s cone before payload =
-    option_map (λ field. field.place) (find (is_broken payload) (log_fields s cone before payload))
+log_left s cone before payload = left_at payload (log_fields s cone before payload)
+
+-- what stands where in a payload
+pub record ArePartsOf (s : Numbers) (payload : List ℕ) (parts : LogParts) : Type 0 where
+  pub kind_is : kind_number parts.kind ≡ slice_index payload 0
+  pub n0_is : parts.n0 ≡ n0_in payload
+  pub offset_is : parts.offset ≡ number_in 8 payload 9
+  pub first_is : parts.first ≡ number_in 8 payload 17
+  pub directory_is : parts.directory_at ≡ 25
+  pub place_is : parts.reports_at ≡ reports_place s (n0_in payload) + 4
+  pub reports_are : parts.reports ≡ reports_in s payload

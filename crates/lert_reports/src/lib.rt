@@ -10,5 +10,5 @@ mod log;
 mod store;
 
 pub use directory::bins;
-pub use log::{LogBefore, LogKind, write_log};
+pub use log::{LogBefore, LogKind, LogParts, read_log, write_log};
 pub use store::ReportStore;

@@ -6,7 +6,9 @@ ghost use Rattle.lert_reports.specs.LogText.{kind_number, log_payload, report_by
 
 use lert_base::Report;
 use lert_gatelog::lay::{put, put_key, put_number};
+pub use read::read_log;
 
+mod read;
 #[cfg(test)]
 mod tests;
 
@@ -27,6 +29,19 @@ pub struct LogBefore {
     pub n0: u64,
     pub reports: u64,
     pub at: u64,
+}
+
+/// What stands where in the payload of a record: the directory and the first report by the places of their first bytes,
+/// counted from the payload's own first byte.
+#[derive(Clone, Copy, Debug, PartialEq, Eq)]
+pub struct LogParts {
+    pub kind: LogKind,
+    pub n0: u64,
+    pub offset: u64,
+    pub first: u64,
+    pub directory_at: usize,
+    pub reports_at: usize,
+    pub reports: u32,
 }
 
 /// Writes to the front what a log appends for a record: the payload behind its length, and one byte 0. Answers how many
