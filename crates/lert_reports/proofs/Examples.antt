@@ -1,0 +1,135 @@
+-- The log text, computed on the closing record of three keys 7, on a flush, and on payloads that break each rule.
+use Rattle.std.proofs.Common.{◌≡◌, ℕ, List, [], ◌∷◌, ◌++◌, take, drop, Some, None, refl}
+use Rattle.lert_spec.specs.declared.numbers.Numbers.{Numbers}
+use Rattle.lert_spec.specs.Mix.{mix}
+use Rattle.lert_reports.specs.declared.log.LogBefore.{LogBefore}
+use Rattle.lert_reports.specs.declared.log.LogKind.{LogKind}
+use Rattle.lert_reports.specs.LogText.{LogRecord, log_payload_of, left_at, log_left, bin_count}
+
+abbrev alone : Numbers
+alone = record { threshold = 3; bins = 3; ratio = 2; base = 4; levels = 2; cone_bits = 0; room = 32; packet = 8 }
+
+abbrev nothing_before : LogBefore
+nothing_before = record { flushes = 0; n0 = 0; reports = 0; at = 0 }
+
+abbrev closed : LogRecord
+closed = record {
+  kind = LogKind.Closing;
+  n0 = 3;
+  offset = 32;
+  first = 1;
+  directory = [] ∷ [] ∷ [];
+  reports = record { key = 7; at = 3 } ∷ [];
+}
+
+abbrev closed_head : List ℕ
+closed_head =
+    2 ∷ 3 ∷ 0 ∷ 0 ∷ 0 ∷ 0 ∷ 0 ∷ 0 ∷ 0
+    ∷ 32 ∷ 0 ∷ 0 ∷ 0 ∷ 0 ∷ 0 ∷ 0 ∷ 0
+    ∷ 1 ∷ 0 ∷ 0 ∷ 0 ∷ 0 ∷ 0 ∷ 0 ∷ 0
+    ∷ 0 ∷ 0 ∷ 1 ∷ 0 ∷ 0 ∷ 0
+    ∷ 7 ∷ 0 ∷ 0 ∷ 0 ∷ 0 ∷ 0 ∷ 0 ∷ 0 ∷ []
+
+abbrev closed_bytes : List ℕ
+closed_bytes = closed_head ++ (3 ∷ 0 ∷ 0 ∷ 0 ∷ 0 ∷ 0 ∷ 0 ∷ 0 ∷ [])
+
+-- the first flush, with frame 2 for the one bin of level 1, and no bin in level 2
+abbrev flushed : LogRecord
+flushed = record { kind = LogKind.Flush; n0 = 12; offset = 32; first = 5; directory = (2 ∷ []) ∷ [] ∷ []; reports = [] }
+
+payload_of_closed : log_payload_of closed ≡ closed_bytes
+payload_of_closed = refl
+
+closed_is_whole : log_left alone 0 nothing_before closed_bytes ≡ None
+unfolding left_at mix
+closed_is_whole = refl
+
+flushed_is_whole : log_left alone 0 nothing_before (log_payload_of flushed) ≡ None
+unfolding left_at mix
+flushed_is_whole = refl
+
+-- after 32 events level 1 has the bins up to 8, 16 and 24, of which the first begins at its edge, and level 2 has the one up to 8
+bins_after_32 : bin_count alone 1 32 ≡ 2
+bins_after_32 = refl
+
+older_bins_after_32 : bin_count alone 2 32 ≡ 1
+older_bins_after_32 = refl
+
+-- no byte, and a third kind
+no_byte : log_left alone 0 nothing_before [] ≡ Some 0
+unfolding left_at
+no_byte = refl
+
+third_kind : log_left alone 0 nothing_before (3 ∷ drop 1 closed_bytes) ≡ Some 0
+unfolding left_at
+third_kind = refl
+
+-- a cut number of events, a flush at another position, and a closing one at the next flush
+cut_n0 : log_left alone 0 nothing_before (take 8 closed_bytes) ≡ Some 1
+unfolding left_at
+cut_n0 = refl
+
+flush_too_early : log_left alone 0 nothing_before (1 ∷ drop 1 closed_bytes) ≡ Some 1
+unfolding left_at
+flush_too_early = refl
+
+closed_too_late : log_left alone 0 nothing_before (2 ∷ 12 ∷ drop 2 closed_bytes) ≡ Some 1
+unfolding left_at
+closed_too_late = refl
+
+closed_before_the_last : log_left alone 0 (record nothing_before { n0 = 4 }) closed_bytes ≡ Some 1
+unfolding left_at
+closed_before_the_last = refl
+
+-- a gate in the journal's header, and the position behind the first one that the levels don't hold
+offset_in_header : log_left alone 0 nothing_before (take 9 closed_bytes ++ 31 ∷ drop 10 closed_bytes) ≡ Some 9
+unfolding left_at
+offset_in_header = refl
+
+first_too_late : log_left alone 0 nothing_before (take 17 closed_bytes ++ 2 ∷ drop 18 closed_bytes) ≡ Some 17
+unfolding left_at
+first_too_late = refl
+
+-- a frame too many, one that a level hasn't, and one twice
+frame_too_many : log_left alone 0 nothing_before (take 25 closed_bytes ++ 1 ∷ drop 26 closed_bytes) ≡ Some 25
+unfolding left_at
+frame_too_many = refl
+
+no_such_frame : log_left alone 0 nothing_before (log_payload_of (record flushed { directory = (4 ∷ []) ∷ [] ∷ [] })) ≡ Some 26
+unfolding left_at
+no_such_frame = refl
+
+frame_twice : log_left alone 0 (record nothing_before { flushes = 5 }) (log_payload_of (record flushed { n0 = 32; first = 25; directory = (1 ∷ 1 ∷ []) ∷ (0 ∷ []) ∷ [] })) ≡ Some 27
+unfolding left_at
+frame_twice = refl
+
+-- more reports than there is room for, and a report that isn't whole
+no_room : log_left alone 0 (record nothing_before { reports = 32 }) closed_bytes ≡ Some 27
+unfolding left_at
+no_room = refl
+
+cut_key : log_left alone 0 nothing_before (take 38 closed_bytes) ≡ Some 31
+unfolding left_at
+cut_key = refl
+
+-- a key of another cone, no position, one before the last report's, and one behind all events
+other_cone : log_left alone 1 nothing_before closed_bytes ≡ Some 31
+unfolding left_at mix
+other_cone = refl
+
+no_position : log_left alone 0 nothing_before (closed_head ++ 0 ∷ drop 40 closed_bytes) ≡ Some 39
+unfolding left_at mix
+no_position = refl
+
+position_falls : log_left alone 0 (record nothing_before { at = 4 }) closed_bytes ≡ Some 39
+unfolding left_at mix
+position_falls = refl
+
+position_to_come : log_left alone 0 nothing_before (closed_head ++ 4 ∷ drop 40 closed_bytes) ≡ Some 39
+unfolding left_at mix
+position_to_come = refl
+
+-- a byte left over
+left_over : log_left alone 0 nothing_before (closed_bytes ++ 0 ∷ []) ≡ Some 47
+unfolding left_at mix
+left_over = refl

@@ -1,0 +1,34 @@
+//! Bytes that are laid into a buffer, one field behind the other.
+
+ghost use Rattle.std.specs.Prelude.{◌≡◌, ◌+◌, ◌≤◌, ◌++◌, length, take};
+ghost use Rattle.byteorder.specs.Endian.{little_bytes};
+
+use byteorder::{ByteOrder, LittleEndian};
+
+/// Lays bytes over those from a place on; those before it stay.
+pub fn put(into: &mut [u8], place: usize, bytes: &[u8])
+    requires { place + length bytes.now ≤ length into.old }
+    ensures { take (place + length bytes.now) into.new ≡ take place into.old ++ bytes.now }
+{
+    into[place..place + bytes.len()].copy_from_slice(bytes);
+}
+
+/// Lays a number's four bytes over those from a place on; those before it stay.
+pub fn put_number(into: &mut [u8], place: usize, number: u32)
+    requires { place + 4 ≤ length into.old }
+    ensures { take (place + 4) into.new ≡ take place into.old ++ little_bytes 4 number }
+{
+    let mut bytes = [0; 4];
+    LittleEndian::write_u32(&mut bytes, number);
+    put(into, place, &bytes);
+}
+
+/// Lays a key's eight bytes over those from a place on; those before it stay.
+pub fn put_key(into: &mut [u8], place: usize, key: u64)
+    requires { place + 8 ≤ length into.old }
+    ensures { take (place + 8) into.new ≡ take place into.old ++ little_bytes 8 key }
+{
+    let mut bytes = [0; 8];
+    LittleEndian::write_u64(&mut bytes, key);
+    put(into, place, &bytes);
+}

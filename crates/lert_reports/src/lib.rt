@@ -1,0 +1,16 @@
+//! The reports of a cone: the list in memory, and the text of its log.
+//!
+//! The one contract is that a `ReportStore` is its list of reports, and that `has` answers whether a key is in it without
+//! a search of the list. Any `CountTable` serves it for the tails of the listed keys. `write_log` writes the text of a
+//! record of the log, `read_log` reads a payload or names the first place at which it leaves the format, and `bins`
+//! answers how many frames a record names for a level.
+#![tactic(auto)]
+
+mod directory;
+mod lay;
+mod log;
+mod store;
+
+pub use directory::bins;
+pub use log::{LogBefore, LogKind, LogParts, read_log, write_log};
+pub use store::ReportStore;
