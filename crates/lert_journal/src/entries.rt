@@ -12,10 +12,10 @@ ghost use Rattle.lert_io.specs.Fault.{HasCause, HasRisen};
 ghost use Rattle.lert_journal.specs.Payload.{payload_of, IsJournaled};
 ghost use Rattle.lert_journal.specs.Journal.{HasPackets, HasPacketsOrOneMore, HoldsPacket, LeavesAt};
 
-use crate::lay::{put, put_key, put_number};
 use crate::payload::{fill, place_left};
 use lert_base::{Entry, Settings};
 use lert_bay::Bay;
+use lert_gatelog::lay::{put, put_key, put_number};
 use lert_gatelog::{GateLog, LogFault};
 use lert_io::Failed;
 

@@ -4,9 +4,9 @@ ghost use Rattle.std.specs.Prelude.{◌≡◌, ◌≢◌, ℕ, ◌+◌, ◌≤�
 ghost use Rattle.lert_journal.specs.Header.{magic, header, header_left, number_at, kept_in};
 ghost use Rattle.lert_spec.specs.Trace.{agreed};
 
-use crate::lay::{put, put_number};
 use byteorder::{ByteOrder, LittleEndian};
 use lert_base::{Kept, Numbers, Settings};
+use lert_gatelog::lay::{put, put_number};
 
 #[cfg(test)]
 mod tests;

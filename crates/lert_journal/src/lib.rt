@@ -8,7 +8,6 @@
 
 mod entries;
 mod header;
-mod lay;
 mod payload;
 
 pub use entries::{append_entry, read_entry};

@@ -7,7 +7,6 @@
 #![tactic(auto)]
 
 mod directory;
-mod lay;
 mod log;
 mod store;
 

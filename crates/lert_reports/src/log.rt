@@ -4,8 +4,8 @@ ghost use Rattle.std.specs.Prelude.{◌≡◌, ℕ, ◌+◌, ◌*◌, ◌<◌, �
 ghost use Rattle.lert_gatelog.specs.Gated.{appendix};
 ghost use Rattle.lert_reports.specs.LogText.{kind_number, log_payload, report_bytes};
 
-use crate::lay::{put, put_key, put_number};
 use lert_base::Report;
+use lert_gatelog::lay::{put, put_key, put_number};
 pub use read::read_log;
 
 mod read;

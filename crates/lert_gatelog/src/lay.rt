@@ -1,4 +1,7 @@
-//! Bytes that are laid into a buffer, one field behind the other.
+//! Lays the fields of a header or of a record's body into a buffer, one behind the other.
+//!
+//! A text grows from the front: each call lays a field behind those that stand, so its clause is on all bytes up to its end.
+//! Numbers stand with their lowest byte first. No call fails or takes memory; each costs the bytes that it lays.
 
 ghost use Rattle.std.specs.Prelude.{◌≡◌, ◌+◌, ◌≤◌, ◌++◌, length, take};
 ghost use Rattle.byteorder.specs.Endian.{little_bytes};
