@@ -5,7 +5,8 @@ use Rattle.std.proofs.lemmas.Bool.{cases_lt, and_from, and_left, and_right, le-l
 use Rattle.std.proofs.lemmas.List.{get_or-take, get_or_past, take_all, ext_get_or, length-take-le}
 use Rattle.std.proofs.lemmas.List.FromFn.{length-map-range_with_len, get_or-map-range_with_len}
 use Rattle.std.proofs.lemmas.List.Elements.{All-push, All-pop}
-use Rattle.lert_bay.specs.Files.{Holds, IsOutside, Torn, LeftByFailure}
+use Rattle.lert_bay.specs.Files.{Files, Holds, IsOutside, Torn, LeftByFailure}
+use Rattle.lert_bay.specs.Images.{ComesByWrite}
 use Rattle.lert_bay.specs.Since.{longest, IsUnwritten, IsTornSince, TornInTurn}
 use Rattle.lert_bay.specs.declared.extent.Extent.{Extent}
 use Rattle.lert_bay.proofs.Laid.{length_held, elsewhere_held}
@@ -19,6 +20,10 @@ torn_same at count old = record {
   no_longer = omega arith;
   elsewhere = λ place within outside. refl;
 }
+
+-- an image comes by a write from itself
+pub comes_same : (leaves : Files → Type 0) (file at count : ℕ) (image : Files) → leaves image → ComesByWrite leaves file at count image
+comes_same leaves file at count image now = (image, now, record { here = torn_same at count (image file); others = λ other apart. refl })
 
 pub left_same : (at count : ℕ) (old : List ℕ) → LeftByFailure at count old old
 left_same at count old = record {

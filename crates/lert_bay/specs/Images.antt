@@ -1,7 +1,7 @@
 -- The images of a bay: what a crash may leave of its three files, and how calls and time change that.
 use Rattle.std.specs.Prelude.{◌≡◌, ◌↔◌, ℕ, ◌≤◌, List}
 use Rattle.std.proofs.Common.{◌⊎◌}
-use Rattle.lert_bay.specs.Files.{Files}
+use Rattle.lert_bay.specs.Files.{Files, Changes, Torn}
 
 -- the images after a call are those from before it
 abbrev pub KeepsImages : (Files → Type 0) → (Files → Type 0) → Type 0
@@ -12,6 +12,10 @@ KeepsImages before after = (image : Files) → after image ↔ before image
 pub record Follow (step : Files → Files → Type 0) (before after : Files → Type 0) : Type 0 where
   pub comes : (image : Files) → after image → (earlier : Files) × before earlier × step earlier image
   pub goes : (earlier image : Files) → before earlier → step earlier image → after image
+
+-- an image that comes by one write into a range of a file, torn or whole, from one of these
+abbrev pub ComesByWrite : (Files → Type 0) → ℕ → ℕ → ℕ → Files → Type 0
+ComesByWrite leaves file at count image = (earlier : Files) × leaves earlier × Changes (Torn at count) file earlier image
 
 -- the images after the sync of a file are those from before it that have there what a read gives
 pub record Settles (file : ℕ) (seen : List ℕ) (before after : Files → Type 0) : Type 0 where

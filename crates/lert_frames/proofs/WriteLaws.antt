@@ -6,13 +6,13 @@ use Rattle.std.proofs.lemmas.Bool.{cases_lt, cases_eq}
 use Rattle.std.proofs.lemmas.List.{get_or_append_left, get_or-append_right, get_or_past, ext_get_or, length-take-le}
 use lib.ListN.{length-replicate}
 use Rattle.lert_bay.specs.Files.{Files, Turns, Changes, Holds, padded, IsOutside, Torn, LeftByFailure}
-use Rattle.lert_bay.specs.Images.{Follow, Elapses}
+use Rattle.lert_bay.specs.Images.{ComesByWrite, Follow, Elapses}
 use Rattle.lert_bay.specs.Settled.{part}
 use Rattle.lert_bay.proofs.Laid.{length_held, elsewhere_held}
 use Rattle.lert_bay.proofs.Lasting.{lasts_none, lasts_more, lasts_on}
 use Rattle.lert_bay.proofs.Settling.{part_torn, part_at, length_part}
-use Rattle.lert_bay.proofs.Tearing.{torn_same, torn_held}
-use Rattle.lert_frames.specs.Kept.{ComesByWrite, Wrote, KeepsOutside}
+use Rattle.lert_bay.proofs.Tearing.{comes_same, torn_held}
+use Rattle.lert_frames.specs.Kept.{Wrote, KeepsOutside}
 
 -- ---- one file
 
@@ -143,9 +143,6 @@ comes_on : (first middle : Files → Type 0) (file at count next more : ℕ) (im
 comes_on first middle file at count next more image next_is before came =
     let earlier = before came.0 came.1 in
     (earlier.0, earlier.1, changes_on file (Torn at count) (Torn next more) (Torn at (count + more)) earlier.0 came.0 image (λ a b c one two. torn_on at count more a b c one (subst (λ (n : ℕ). Torn n more b c) next_is two)) earlier.2 came.2)
-
-comes_same : (leaves : Files → Type 0) (file at count : ℕ) (image : Files) → leaves image → ComesByWrite leaves file at count image
-comes_same leaves file at count image now = (image, now, record { here = torn_same at count (image file); others = λ other apart. refl })
 
 -- one write
 pub wrote_once : (step : List ℕ → List ℕ → Type 0) (file at count : ℕ) (files_before files_after : Option Files) (leaves_before leaves_after : Files → Type 0) (first last : ℕ) (since_before since_after : ℕ → Files → Type 0) →

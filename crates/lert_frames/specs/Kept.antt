@@ -1,13 +1,9 @@
 -- What several calls make of a bay, seen as one.
 use Rattle.std.specs.Prelude.{◌≡◌, ◌≢◌, ℕ, ◌≤◌, List, Option}
 use Rattle.std.proofs.Common.{◌⊎◌}
-use Rattle.lert_bay.specs.Files.{Files, Turns, Changes, Torn}
-use Rattle.lert_bay.specs.Images.{KeepsImages, Lasts}
+use Rattle.lert_bay.specs.Files.{Files, Turns, Changes}
+use Rattle.lert_bay.specs.Images.{ComesByWrite, KeepsImages, Lasts}
 use Rattle.lert_bay.specs.Settled.{Keeps, IsSettled}
-
--- an image that comes by one write into a range of a file, torn or whole, from one of these
-abbrev pub ComesByWrite : (Files → Type 0) → ℕ → ℕ → ℕ → Files → Type 0
-ComesByWrite leaves file at count image = (earlier : Files) × leaves earlier × Changes (Torn at count) file earlier image
 
 -- the calls wrote into this range of a file and nowhere else: the files made this step, and each image of each moment
 -- since comes by one write into the range from an image of before

@@ -2,12 +2,12 @@
 
 ghost use Rattle.std.specs.Prelude.{◌≡◌, ℕ, ◌+◌, ◌*◌, ◌<◌, ◌≤◌, ◌^◌, length, flat_map, OnOk, OnErr};
 ghost use Rattle.lert_bay.specs.Files.{Files, IfTold, Turns, Changes, Holds, LeftByFailure};
-ghost use Rattle.lert_bay.specs.Images.{Lasts};
+ghost use Rattle.lert_bay.specs.Images.{ComesByWrite, Lasts};
 ghost use Rattle.lert_io.specs.Fault.{HasCause};
 ghost use Rattle.lert_spec.specs.Edges.{span};
 ghost use Rattle.lert_spec.specs.Table.{total, AreGiven};
 ghost use Rattle.lert_frames.specs.Frame.{piece_text, frame_text, text_len, HoldsFrame};
-ghost use Rattle.lert_frames.specs.Kept.{ComesByWrite, KeepsOutside, Wrote};
+ghost use Rattle.lert_frames.specs.Kept.{KeepsOutside, Wrote};
 ghost use Rattle.lert_frames.specs.Place.{frame_len, frame_place, tail_limit};
 
 use crate::lay::lay_pieces;

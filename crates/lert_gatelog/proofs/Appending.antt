@@ -1,11 +1,12 @@
 -- The two writes of an append, each with its sync: the record behind the closed gate, then the gate.
 use Rattle.std.proofs.Common.{◌≡◌, ◌≢◌, ℕ, ◌+◌, ◌<◌, ◌≤◌, List, [], ◌∷◌, ◌++◌, length, sym, ap, ◌∙◌, ◌⊎◌, subst, inl, inr, arith}
 use Rattle.lert_bay.specs.Files.{Files, Changes, Holds, Torn}
+use Rattle.lert_bay.specs.Images.{ComesByWrite}
 use Rattle.lert_bay.specs.Settled.{part, Keeps}
 use Rattle.lert_bay.proofs.Settling.{part_torn}
 use Rattle.lert_bay.proofs.Tearing.{torn_held}
 use Rattle.lert_gatelog.specs.Gated.{IsGated, IsClosed, appendix, next_gate}
-use Rattle.lert_gatelog.specs.Kept.{ComesByWrite, IsWithOrWithout, IsWhollySettled, InEach}
+use Rattle.lert_gatelog.specs.Kept.{IsWithOrWithout, IsWhollySettled, InEach}
 use Rattle.lert_gatelog.proofs.GatedLaws.{held_part, gated_behind, gated_with, gated_either, gate_held, closed_after}
 
 -- ---- one write and its sync

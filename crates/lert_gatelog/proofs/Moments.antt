@@ -1,14 +1,9 @@
 -- What each image of each moment of a call comes from.
-use Rattle.std.proofs.Common.{◌≡◌, ℕ, ◌≤◌, List, Option, Some, Result, Ok, Err, OnOk, OnErr, length, refl, sym, ◌∙◌, subst, inl, inr, arith}
+use Rattle.std.proofs.Common.{◌≡◌, ℕ, ◌≤◌, List, Option, Some, Result, Ok, Err, OnOk, OnErr, length, sym, ◌∙◌, subst, inl, inr, arith}
 use Rattle.std.proofs.lemmas.List.{take_all}
 use Rattle.lert_bay.specs.Files.{Files, Changes, Turns, Torn, Holds, LeftByFailure}
-use Rattle.lert_bay.specs.Images.{Elapses, Follow, Settles, KeepsImages}
-use Rattle.lert_bay.proofs.Tearing.{torn_same, left_by_part}
-use Rattle.lert_gatelog.specs.Kept.{ComesByWrite}
-
--- an image comes from itself
-comes_same : (leaves : Files → Type 0) (file at count : ℕ) (image : Files) → leaves image → ComesByWrite leaves file at count image
-comes_same leaves file at count image now = (image, now, record { here = torn_same at count (image file); others = λ other apart. refl })
+use Rattle.lert_bay.specs.Images.{ComesByWrite, Elapses, Follow, Settles, KeepsImages}
+use Rattle.lert_bay.proofs.Tearing.{comes_same, left_by_part}
 
 -- through the write
 pub moments_write : (before after : ℕ) (since_before since_after : ℕ → Files → Type 0) (leaves_before leaves_after : Files → Type 0) (file at count : ℕ) → ((image : Files) → since_before before image → leaves_before image) → Follow (Changes (Torn at count) file) leaves_before leaves_after → Elapses before after since_before since_after leaves_after → (image : Files) → since_after before image → ComesByWrite leaves_before file at count image

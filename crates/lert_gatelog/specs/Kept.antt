@@ -1,7 +1,7 @@
 -- What the calls of a log keep of a bay.
 use Rattle.std.specs.Prelude.{◌≡◌, ◌≢◌, ℕ, ◌≤◌, List, [], ◌∷◌, ◌++◌, length}
 use Rattle.std.proofs.Common.{◌⊎◌}
-use Rattle.lert_bay.specs.Files.{Files, Changes, Torn}
+use Rattle.lert_bay.specs.Files.{Files}
 use Rattle.lert_bay.specs.Settled.{Keeps, IsSettled}
 use Rattle.lert_gatelog.specs.Gated.{IsGated, next_gate}
 
@@ -28,7 +28,3 @@ IsWithOrWithout most first payloads gate payload bytes = IsGated most bytes firs
 -- the other files stay as a read gives them
 abbrev pub OthersStay : ℕ → Files → Files → Type 0
 OthersStay file old new = (other : ℕ) → other ≢ file → new other ≡ old other
-
--- an image that comes by a write, torn or whole, from one of these
-abbrev pub ComesByWrite : (Files → Type 0) → ℕ → ℕ → ℕ → Files → Type 0
-ComesByWrite leaves file at count image = (earlier : Files) × leaves earlier × Changes (Torn at count) file earlier image

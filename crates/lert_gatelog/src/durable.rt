@@ -3,8 +3,7 @@
 ghost use Rattle.std.specs.Prelude.{◌≡◌, ◌+◌, ◌<◌, ◌^◌, length, OnOk};
 ghost use Rattle.lert_io.specs.Fault.{HasCause};
 ghost use Rattle.lert_bay.specs.Files.{Files, IfTold, Turns, Changes, Holds, LeftByFailure};
-ghost use Rattle.lert_bay.specs.Images.{Lasts};
-ghost use Rattle.lert_gatelog.specs.Kept.{ComesByWrite};
+ghost use Rattle.lert_bay.specs.Images.{ComesByWrite, Lasts};
 
 use lert_bay::Bay;
 use lert_io::Failed;
