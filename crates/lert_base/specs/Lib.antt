@@ -1,5 +1,7 @@
+pub mod Beginning
 pub mod Computed
 pub mod Keys
 pub mod Packet
 pub mod Entries
 pub mod TwoPieces
+pub mod Weave

@@ -6,7 +6,7 @@ use Rattle.std.proofs.lemmas.Grind.{flat_map-append}
 use Rattle.std.proofs.lemmas.List.{take-take, take_at, take_all}
 use Rattle.std.proofs.lemmas.List.Elements.{All-nil}
 use Rattle.std.proofs.lemmas.Option.{none-some, same_Some}
-use Rattle.lert_base.specs.Packet.{Packet}
+use Rattle.lert_base.specs.Packet.{Packet, events_of}
 use Rattle.lert_bay.specs.Files.{Files, Turns}
 use Rattle.lert_bay.specs.Settled.{part, Keeps}
 use Rattle.lert_gatelog.specs.Gated.{IsClosed, next_gate}
@@ -16,7 +16,7 @@ use Rattle.lert_journal.specs.Header.{header}
 use Rattle.lert_journal.specs.Payload.{payload_of, IsJournaled}
 use Rattle.lert_journal.proofs.PayloadLaws.{length_payload}
 use Rattle.lert_spec.specs.declared.numbers.Numbers.{Numbers}
-use Rattle.lert_cone.specs.History.{events_of, end_of}
+use Rattle.lert_cone.specs.History.{end_of}
 use Rattle.lert_cone.specs.Sound.{IsSound, IsKeptWhole, log_text}
 
 -- ---- told files

@@ -1,11 +1,7 @@
 -- What a cone took: packets in their order.
-use Rattle.std.specs.Prelude.{ℕ, ◌+◌, ◌*◌, List, length, flat_map}
-use Rattle.lert_base.specs.Packet.{Packet}
+use Rattle.std.specs.Prelude.{ℕ, ◌+◌, ◌*◌, List, length}
+use Rattle.lert_base.specs.Packet.{Packet, events_of}
 use Rattle.lert_spec.specs.declared.numbers.Numbers.{Numbers}
-
--- the keys of all packets, one behind the other
-abbrev pub events_of : List Packet → List ℕ
-events_of history = flat_map (λ packet. packet.keys) history
 
 -- the greatest payload of a journal: four times as many keys as a packet of the settings has
 abbrev pub most_payload : Numbers → ℕ

@@ -1,7 +1,7 @@
 -- What the files of a cone hold for a list of packets, and what a bay keeps of that.
 use Rattle.std.specs.Prelude.{◌≡◌, ℕ, ◌≤◌, List, [], ◌∷◌, ◌++◌, length, All, Option, Some}
 use Rattle.std.proofs.Common.{◌⊎◌}
-use Rattle.lert_base.specs.Packet.{Packet}
+use Rattle.lert_base.specs.Packet.{Packet, events_of}
 use Rattle.lert_bay.specs.Files.{Files}
 use Rattle.lert_bay.specs.Settled.{part}
 use Rattle.lert_gatelog.specs.Kept.{IsWhollySettled}
@@ -10,7 +10,7 @@ use Rattle.lert_journal.specs.Journal.{HasPackets}
 use Rattle.lert_journal.specs.Payload.{IsJournaled}
 use Rattle.lert_spec.specs.declared.numbers.Numbers.{Numbers}
 use Rattle.lert_spec.specs.Edges.{capacity}
-use Rattle.lert_cone.specs.History.{events_of, most_payload, end_of}
+use Rattle.lert_cone.specs.History.{most_payload, end_of}
 
 -- the bytes that begin a log: the letters LERTL, and version 1
 abbrev pub log_header : List ℕ

@@ -3,7 +3,7 @@ use Rattle.std.specs.Prelude.{◌≡◌, ℕ, ◌+◌, ◌*◌, ◌<◌, ◌≤�
 use Rattle.std.specs.declared.snapshot.Snapshot.{Snapshot}
 use Rattle.lert_base.specs.declared.entry.Entry.{Entry}
 use Rattle.lert_base.specs.Entries.{packet_of}
-use Rattle.lert_base.specs.Packet.{Packet}
+use Rattle.lert_base.specs.Packet.{Packet, events_of}
 use Rattle.lert_bay.specs.Files.{Files, IfTold}
 use Rattle.lert_gatelog.specs.Gated.{IsClosed, Log}
 use Rattle.lert_gatelog.specs.Kept.{InEach}
@@ -17,7 +17,7 @@ use Rattle.lert_cone.specs.declared.state.ConeState.TheVariants.{Running, Finish
 use Rattle.lert_cone.specs.declared.acked.Acked.{Acked}
 use Rattle.lert_cone.specs.declared.refusal.ConeFault.{ConeFault}
 use Rattle.lert_cone.specs.declared.refusal.ConeFault.TheVariants.{Closed, Broken, CapacityFull, BayFailed, OutOfMemory}
-use Rattle.lert_cone.specs.History.{events_of, most_payload, end_of}
+use Rattle.lert_cone.specs.History.{most_payload, end_of}
 use Rattle.lert_cone.specs.Listing.{Listing}
 use Rattle.lert_cone.specs.Sound.{IsSound, IsSoundOver, IsKept, IsKeptWhole}
 

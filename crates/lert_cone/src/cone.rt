@@ -2,7 +2,7 @@
 
 ghost use Rattle.std.specs.Prelude.{◌≡◌, ℕ, ◌+◌, ◌<◌, ◌≤◌, ◌^◌, ◌↔◌, ◌++◌, [], ◌∷◌, true, false, List, length, Some, None, Err, All, IfOk, IfErr, OnOk, OnErr, IsErrOf};
 ghost use Rattle.lert_base.specs.Entries.{packet_of};
-ghost use Rattle.lert_base.specs.Packet.{Packet};
+ghost use Rattle.lert_base.specs.Packet.{Packet, events_of};
 ghost use Rattle.lert_bay.specs.Files.{Files, IfTold, Turns};
 ghost use Rattle.lert_bay.specs.Images.{Lasts, KeepsImages};
 ghost use Rattle.lert_gatelog.specs.Gated.{IsClosed, next_gate};
@@ -13,7 +13,7 @@ ghost use Rattle.lert_spec.specs.Edges.{capacity};
 ghost use Rattle.lert_spec.specs.Look.{look, closing};
 ghost use Rattle.lert_spec.specs.Mix.{cone_of};
 ghost use Rattle.lert_spec.specs.Timely.{IsTimely, IsTimelySoFar};
-ghost use Rattle.lert_cone.specs.History.{events_of, most_payload};
+ghost use Rattle.lert_cone.specs.History.{most_payload};
 ghost use Rattle.lert_cone.specs.Listing.{reports_of};
 ghost use Rattle.lert_cone.specs.Sound.{AreEmpty, FramesStay, IsSound, IsSoundOver, IsKeptWhole};
 ghost use Rattle.lert_cone.specs.Stands.{StandsFor, Answers, IsSameCone, is_broken, is_refusal};

@@ -3,6 +3,7 @@ use Rattle.std.proofs.Common.{◌≡◌, ℕ, ◌+◌, ◌^◌, ◌≤◌, suc, 
 use Rattle.std.proofs.lemmas.Bool.{cases_eq}
 use Rattle.std.proofs.lemmas.List.{take-append-drop}
 use Rattle.std.proofs.lemmas.List.FromFn.{length-map-range_with_len, map-range_with_len_more, sum_by-map-range_with_len_more, take-map-range_with_len}
+use Rattle.lert_base.specs.Beginning.{BeginsWith}
 use Rattle.lert_cone.specs.Listing.{Listing, reports_of}
 use Rattle.lert_spec.specs.declared.numbers.Numbers.{Numbers}
 use Rattle.lert_spec.specs.declared.report.Report.{Report}
@@ -10,7 +11,7 @@ use Rattle.lert_spec.specs.Lines.{Printed, cone_text, cone_texts, total_line}
 use Rattle.lert_spec.specs.Look.{closing}
 use Rattle.lert_spec.specs.Mix.{part_of}
 use Rattle.lert_spec.specs.Timely.{IsTimely}
-use Rattle.lert_top.specs.Page.{BeginsWith, IsCut}
+use Rattle.lert_top.specs.Page.{IsCut}
 use Rattle.lert_top.specs.Run.{AreInTime, printed, printed_of, text_of}
 use Rattle.lert_top.proofs.Printing.{IsCut-more}
 

@@ -5,12 +5,12 @@ use Rattle.std.proofs.lemmas.Bool.{cases_eq, eq-eqb, ne_eqb}
 use Rattle.std.proofs.lemmas.List.{get_or-append-add, get_or-set_same, get_or-set_other, length-set, length-map, length-replicate, get_or-replicate, set-get_or}
 use Rattle.std.proofs.lemmas.List.Elements.{All-push, All-nil, filter-append, filter_passes}
 use Rattle.std.proofs.lemmas.Option.{slice_get_within, same_Some}
-use Rattle.lert_base.specs.Packet.{Packet}
+use Rattle.lert_base.specs.Packet.{Packet, events_of}
+use Rattle.lert_base.specs.Weave.{AreCut, IsBrought, IsPartWoven}
 use Rattle.lert_bay.specs.Files.{Files, IfTold}
 use Rattle.lert_buffers.specs.Rings.{Rings, fill_of, ring_of, with_ring}
 use Rattle.lert_buffers.specs.declared.buffers.Fill.TheVariants.{Low, MustGo, Ready}
 use Rattle.lert_cone.proofs.SoundLaws.{events_more}
-use Rattle.lert_cone.specs.History.{events_of}
 use Rattle.lert_cone.specs.Listing.{Listing}
 use Rattle.lert_cone.specs.Sound.{IsSound, IsSoundOver}
 use Rattle.lert_cone.specs.Stands.{Standing, StandsFor, is_broken, is_refusal}
@@ -29,7 +29,6 @@ use Rattle.lert_top.specs.Cones.{AreNew}
 use Rattle.lert_top.specs.Lanes.{AreDrained, AreLanes, AreShort, IsLane, open_cones, state_of}
 use Rattle.lert_top.specs.Run.{AllFit, IsRefused}
 use Rattle.lert_top.specs.Status.{cone_status}
-use Rattle.lert_top.specs.Weave.{AreCut, IsBrought, IsPartWoven}
 use Rattle.lert_top.proofs.BayLaws.{bay_at, bay_is, bays_of-set, failed_since, slice_get-some, slice_get-set_other, slice_get-set_same}
 use Rattle.lert_top.proofs.WeaveLaws.{cut_more, part_woven, woven}
 

@@ -2,6 +2,8 @@
 use Rattle.std.proofs.Common.{◌≡◌, ℕ, eqb, List, [], ◌∷◌, ◌++◌, length, take, drop, Option, ap, ◌∙◌, subst, arith, length-append}
 use Rattle.std.proofs.lemmas.List.{take-append-drop}
 use Rattle.std.proofs.lemmas.List.Elements.{filter-append}
+use Rattle.lert_base.specs.Beginning.{BeginsWith}
+use Rattle.lert_base.specs.Weave.{IsPartWoven}
 use Rattle.lert_bay.specs.Files.{Files}
 use Rattle.lert_io.specs.Reading.{IfTold}
 use Rattle.lert_spec.specs.declared.numbers.Numbers.{Numbers}
@@ -10,9 +12,7 @@ use Rattle.lert_spec.specs.Trace.{whole}
 use Rattle.lert_top.specs.Bays.{ArePartWoven}
 use Rattle.lert_top.specs.declared.status.Status.{Status}
 use Rattle.lert_top.specs.declared.status.Status.TheVariants as status
-use Rattle.lert_top.specs.Page.{BeginsWith}
 use Rattle.lert_top.specs.Run.{ArePartly, HasThem, IsRefused, StopShows}
-use Rattle.lert_top.specs.Weave.{IsPartWoven}
 use Rattle.lert_top.proofs.WeaveLaws.{part_woven-more}
 
 -- the first keys begin all of them

@@ -4,13 +4,12 @@ use Rattle.std.specs.Prelude.{All}
 use Rattle.std.proofs.lemmas.Bool.{eq-eqb}
 use Rattle.std.proofs.lemmas.List.Elements.{All-head, All-tail, filter-append}
 use Rattle.std.proofs.lemmas.Option.{get_or_from_slice_get, slice_get_within, same_Some}
-use Rattle.lert_base.specs.Packet.{Packet}
-use Rattle.lert_cone.specs.History.{events_of}
+use Rattle.lert_base.specs.Beginning.{BeginsWith}
+use Rattle.lert_base.specs.Packet.{Packet, events_of, of_trace}
+use Rattle.lert_base.specs.Weave.{AreCut, IsBrought, IsPartWoven, IsWhole, IsWoven}
 use Rattle.lert_spec.specs.declared.numbers.Numbers.{Numbers}
 use Rattle.lert_spec.specs.Mix.{cone_of, part_of}
 use Rattle.lert_top.specs.Lanes.{AreFull}
-use Rattle.lert_top.specs.Page.{BeginsWith}
-use Rattle.lert_top.specs.Weave.{AreCut, IsBrought, IsPartWoven, IsWhole, IsWoven, of_trace}
 use Rattle.lert_top.proofs.BayLaws.{slice_get-first}
 
 -- of the only trace are all packets

@@ -1,13 +1,12 @@
 -- What is known of the bays of a run: those that were opened, and the same ones later, both in ascending cones.
 use Rattle.std.specs.Prelude.{◌≡◌, ℕ, ◌<◌, ◌≤◌, List, [], ◌∷◌, length, map, Option, Some, slice_get, ⊤}
-use Rattle.lert_base.specs.Packet.{Packet}
+use Rattle.lert_base.specs.Packet.{Packet, events_of}
+use Rattle.lert_base.specs.Weave.{IsWoven, IsPartWoven}
 use Rattle.lert_bay.specs.Files.{Files, IfTold, Turns}
-use Rattle.lert_cone.specs.History.{events_of}
 use Rattle.lert_cone.specs.Sound.{AreEmpty, IsSound}
 use Rattle.lert_cone.specs.Stands.{Standing}
 use Rattle.lert_io.specs.Fault.{HasRisen, IsFaultless}
 use Rattle.lert_spec.specs.declared.numbers.Numbers.{Numbers}
-use Rattle.lert_top.specs.Weave.{IsWoven, IsPartWoven}
 
 -- the bays of cones
 abbrev pub bays_of : {B : Type 0} → List (Standing B) → List B

@@ -1,17 +1,16 @@
 -- How keys stand on their way to the cones: in order, in the journal of their cone or in its ring.
 use Rattle.std.specs.Prelude.{◌≡◌, ℕ, ◌*◌, ◌^◌, ◌<◌, ◌≤◌, Bool, false, true, All, List, [], ◌++◌, length, Option, Some, slice_get, if◌then◌else◌}
 use Rattle.lert_base.specs.declared.entry.Entry.{Entry}
-use Rattle.lert_base.specs.Packet.{Packet}
+use Rattle.lert_base.specs.Packet.{Packet, events_of}
+use Rattle.lert_base.specs.Weave.{AreCut, IsBrought}
 use Rattle.lert_bay.specs.Files.{Files}
 use Rattle.lert_buffers.specs.Rings.{Rings, ring_of}
-use Rattle.lert_cone.specs.History.{events_of}
 use Rattle.lert_cone.specs.Stands.{Standing, StandsFor}
 use Rattle.lert_cone.specs.declared.state.ConeState.{ConeState}
 use Rattle.lert_cone.specs.declared.state.ConeState.TheVariants.{Running, Finished}
 use Rattle.lert_spec.specs.declared.numbers.Numbers.{Numbers}
 use Rattle.lert_spec.specs.Limits.{IsValid}
 use Rattle.lert_spec.specs.Mix.{part_of}
-use Rattle.lert_top.specs.Weave.{AreCut, IsBrought}
 
 -- what a cone may still do that is finished or not
 abbrev pub state_of : Bool → ConeState

@@ -8,5 +8,4 @@ pub mod Router
 pub mod Run
 pub mod Shelf
 pub mod Status
-pub mod Weave
 pub mod Word

@@ -1,10 +1,7 @@
 -- How far a text has come to a sink that takes it page by page.
 use Rattle.std.specs.Prelude.{◌≡◌, List, ℕ, ◌++◌, Option, Some, None}
+use Rattle.lert_base.specs.Beginning.{BeginsWith}
 use Rattle.lert_io.specs.Reading.{IfTold}
-
--- a text begins with a part
-abbrev pub BeginsWith : List ℕ → List ℕ → Type 0
-BeginsWith text part = (rest : List ℕ) × (part ++ rest ≡ text)
 
 -- since a moment a sink took a part of a text, and the page holds the rest of it
 pub record IsPrinting (start now : Option (List ℕ)) (page text : List ℕ) : Type 0 where

@@ -1,6 +1,6 @@
 use Rattle.std.proofs.Common.{◌++◌, List, ℕ, true, length, refl, ap, sym, ◌∙◌, append-nil, arith, ◌<◌}
 use Rattle.std.proofs.lemmas.Option.{slice_get_read}
-use Rattle.lert_cone.specs.History.{events_of}
+use Rattle.lert_base.specs.Packet.{events_of}
 use Rattle.lert_top.specs.Lanes.{closed_cones}
 use Rattle.lert_top.proofs.LaneLaws.{lane_listing, lane_state}
 use Rattle.lert_top.proofs.router.Router.cone.Goals as goal

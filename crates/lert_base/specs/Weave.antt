@@ -1,14 +1,9 @@
 -- How the keys of traces stand in the journal of a cone.
-use Rattle.std.specs.Prelude.{◌≡◌, ℕ, ◌+◌, ◌*◌, ◌%◌, ◌<◌, ◌≤◌, ◌==◌, List, length, filter, All, Some, slice_get}
-use Rattle.lert_base.specs.Packet.{Packet}
-use Rattle.lert_cone.specs.History.{events_of}
+use Rattle.std.specs.Prelude.{◌≡◌, ℕ, ◌+◌, ◌*◌, ◌%◌, ◌<◌, ◌≤◌, List, length, All, Some, slice_get}
+use Rattle.lert_base.specs.Beginning.{BeginsWith}
+use Rattle.lert_base.specs.Packet.{Packet, of_trace, events_of}
 use Rattle.lert_spec.specs.declared.numbers.Numbers.{Numbers}
 use Rattle.lert_spec.specs.Mix.{part_of}
-use Rattle.lert_top.specs.Page.{BeginsWith}
-
--- the packets of a history whose keys are of a trace, in their order
-abbrev pub of_trace : List Packet → ℕ → List Packet
-of_trace history trace = filter (λ packet. packet.trace == trace) history
 
 -- a packet has as many keys as the settings name, or two, three or four times as many
 pub record IsWhole (size : ℕ) (packet : Packet) : Type 0 where
