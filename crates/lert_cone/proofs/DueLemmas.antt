@@ -1,6 +1,6 @@
 -- The reports that the next key brings, and those of the end.
 use Rattle.std.proofs.Common.{ℕ, ◌≡◌, ◌+◌, ◌-◌, ◌*◌, ◌^◌, ◌<◌, ◌≤◌, zero, suc, Bool, true, false, cond, leb, not, ◌&&◌, List, [], ◌∷◌, ◌++◌, length, take, get_or, map, filter, All, Some, None, ap, ap₂, sym, ◌∙◌, arith, inl, inr, subst, slice_range, length-append, append-nil}
-use Rattle.std.proofs.Math.Nat.{mul-div-le, div-eq_of_lt-le}
+use Rattle.std.proofs.Math.Nat.{div-eq_of_lt-le}
 use Rattle.std.proofs.Math.Seq.{take-suc}
 use Rattle.std.proofs.lemmas.Bool.{cases_eq, cases_Bool, and_parts, not-true, le-leb, lt-leb}
 use Rattle.std.proofs.lemmas.List.{map-append}
@@ -15,6 +15,7 @@ use Rattle.lert_spec.specs.Limits.{IsValid}
 use Rattle.lert_spec.specs.Look.{is_listed, look, closing}
 use Rattle.lert_spec.specs.Mix.{cone_of, tail_of}
 use Rattle.lert_spec.specs.Table.{count_of, AscendsFrom, IsTable}
+use Rattle.lert_spec.proofs.BinLaws.{edge_within}
 use Rattle.lert_spec.proofs.EdgeLaws.{span_pos, deepest_reaches}
 use Rattle.lert_spec.proofs.LookLaws.{look-push, look-push_between}
 use Rattle.lert_spec.proofs.TailLaws.{key_with, is_due_piece, due_by_tails}
@@ -24,9 +25,6 @@ use Rattle.lert_cone.specs.Listing.{Listing, reports_of, AreListed}
 use Rattle.lert_cone.proofs.CountedLemmas.{slice_range-push}
 use Rattle.lert_cone.proofs.KeyLemmas.{AreKeys-push, AreOfCone-push, count-push_key, key_with_is}
 use Rattle.lert_cone.proofs.Windows.{IsTable-keys}
-
-pub edge_within : (s : Numbers) (level n : ℕ) → edge s level n ≤ n
-edge_within s level n = omega (arith, mul-div-le (n - offset s level) (span s level))
 
 -- within the capacity the oldest level's edge doesn't move
 pub oldest_edge : (s : Numbers) (n : ℕ) → IsValid s → n ≤ capacity s → edge s s.levels n ≡ 0

@@ -1,5 +1,5 @@
 -- Keys of a cone: in windows, one by one, and by their tails.
-use Rattle.std.proofs.Common.{ℕ, ◌≡◌, ◌+◌, ◌-◌, ◌*◌, ◌/◌, ◌%◌, ◌^◌, ◌<◌, ◌≤◌, zero, suc, cond, eqb, List, [], ◌∷◌, ◌++◌, length, take, drop, refl, ap, sym, ◌∙◌, arith, inl, inr, slice_range}
+use Rattle.std.proofs.Common.{ℕ, ◌≡◌, ◌+◌, ◌-◌, ◌*◌, ◌/◌, ◌%◌, ◌^◌, ◌<◌, ◌≤◌, cond, eqb, List, [], ◌∷◌, ◌++◌, length, drop, refl, ap, sym, ◌∙◌, arith, inl, inr, slice_range}
 use Rattle.std.proofs.lemmas.Bool.{cases_eq, eq-eqb, ne_eqb}
 use Rattle.std.proofs.lemmas.List.Sums.{sum_by-cons, sum_by-append}
 use Rattle.std.proofs.lemmas.Nat.{mul-add-lt, shr_high, mod_low, pow-add}
@@ -11,7 +11,7 @@ use Rattle.lert_spec.specs.Table.{count_of}
 use Rattle.lert_spec.proofs.LookLaws.{AreKeys}
 use Rattle.lert_spec.proofs.MixLaws.{unmixed_below, mix-unmixed, one_key}
 use Rattle.lert_spec.proofs.ReportLaws.{times, times-cons_same, times-cons_other}
-use Rattle.lert_spec.proofs.TailLaws.{AreOfCone, key_with}
+use Rattle.lert_spec.proofs.TailLaws.{AreOfCone, AreKeys-take, AreKeys-drop, AreOfCone-take, AreOfCone-drop, key_with}
 use Rattle.lert_spec.proofs.TallyLaws.{tails, count_of-tallied}
 use Rattle.lert_cone.proofs.CountedLemmas.{slice_range-push}
 
@@ -22,26 +22,6 @@ AreKeys-push (event ∷ events) key fit below = (fit.0, AreKeys-push events key 
 pub AreOfCone-push : (s : Numbers) (cone : ℕ) (events : List ℕ) (key : ℕ) → AreOfCone s cone events → cone_of s key ≡ cone → AreOfCone s cone (events ++ key ∷ [])
 AreOfCone-push s cone [] key own is = (is, tt)
 AreOfCone-push s cone (event ∷ events) key own is = (own.0, AreOfCone-push s cone events key own.1 is)
-
-AreKeys-take : (n : ℕ) (keys : List ℕ) → AreKeys keys → AreKeys (take n keys)
-AreKeys-take zero keys fit = tt
-AreKeys-take (suc n) [] fit = tt
-AreKeys-take (suc n) (key ∷ keys) fit = (fit.0, AreKeys-take n keys fit.1)
-
-AreKeys-drop : (n : ℕ) (keys : List ℕ) → AreKeys keys → AreKeys (drop n keys)
-AreKeys-drop zero keys fit = fit
-AreKeys-drop (suc n) [] fit = tt
-AreKeys-drop (suc n) (key ∷ keys) fit = AreKeys-drop n keys fit.1
-
-AreOfCone-take : (s : Numbers) (cone n : ℕ) (keys : List ℕ) → AreOfCone s cone keys → AreOfCone s cone (take n keys)
-AreOfCone-take s cone zero keys own = tt
-AreOfCone-take s cone (suc n) [] own = tt
-AreOfCone-take s cone (suc n) (key ∷ keys) own = (own.0, AreOfCone-take s cone n keys own.1)
-
-AreOfCone-drop : (s : Numbers) (cone n : ℕ) (keys : List ℕ) → AreOfCone s cone keys → AreOfCone s cone (drop n keys)
-AreOfCone-drop s cone zero keys own = own
-AreOfCone-drop s cone (suc n) [] own = tt
-AreOfCone-drop s cone (suc n) (key ∷ keys) own = AreOfCone-drop s cone n keys own.1
 
 -- among keys of a cone a tail occurs as often as its key
 tails-times : (s : Numbers) (cone key : ℕ) (keys : List ℕ) → key < 2 ^ 64 → cone_of s key ≡ cone → AreKeys keys → AreOfCone s cone keys → tails s (tail_of s key) keys ≡ times key keys

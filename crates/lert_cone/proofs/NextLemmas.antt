@@ -1,5 +1,6 @@
 -- The reports that the next key brings to a cone, as they are seen.
 use Rattle.std.proofs.Common.{ℕ, ◌≡◌, ◌+◌, ◌-◌, ◌^◌, ◌<◌, ◌≤◌, suc, Bool, true, false, List, [], ◌∷◌, ◌++◌, length, ap, sym, ◌∙◌, arith, subst, slice_range, length-append}
+use Rattle.lert_spec.proofs.BinLaws.{edge_within}
 use Rattle.lert_spec.specs.declared.numbers.Numbers.{Numbers}
 use Rattle.lert_spec.specs.declared.piece.Piece.{Piece}
 use Rattle.lert_spec.specs.declared.report.Report.{Report}
@@ -12,7 +13,7 @@ use Rattle.lert_spec.proofs.LimitLaws.{capacity_to}
 use Rattle.lert_spec.proofs.TallyLaws.{IsTable-tallied}
 use Rattle.lert_cone.specs.Due.{due_reports}
 use Rattle.lert_cone.specs.Listing.{Listing, reports_of, AreListed}
-use Rattle.lert_cone.proofs.DueLemmas.{edge_within, closing_is, seen_due_reports, pushed_pieces, look-flush, look-few, look-listed, look-reached}
+use Rattle.lert_cone.proofs.DueLemmas.{closing_is, seen_due_reports, pushed_pieces, look-flush, look-few, look-listed, look-reached}
 use Rattle.lert_cone.proofs.KeyLemmas.{AreKeys-push, AreOfCone-push}
 use Rattle.lert_cone.proofs.Windows.{IsTable-keys, total-window}
 

@@ -4,7 +4,7 @@ use Rattle.std.proofs.lemmas.Option.{slice_get_within, get_or_from_slice_get}
 use Rattle.std.proofs.Common.{ℕ, zero, suc, ◌≡◌, ◌+◌, ◌-◌, nat_lt, nat_le, Some, ◌^◌, ◌≤◌, ◌<◌, ◌++◌, [], ◌∷◌, List, length, take, get_or, map, refl, arith, sym, ap, ◌∙◌}
 use Rattle.std.specs.List.{range_with_len}
 use Rattle.std.proofs.lemmas.List.FromFn.{map-range_with_len_more}
-use Rattle.lert_frames.specs.GivenLaws.{given_take, given_more, given_wide}
+use Rattle.lert_spec.proofs.GivenLaws.{given_take, given_more, given_wide}
 use Rattle.lert_spec.specs.declared.piece.Piece.{Piece}
 use Rattle.lert_spec.specs.Table.{total, AreGiven}
 use Rattle.lert_frames.specs.Bin.{bound_from, bound_of, given_bound}

@@ -1,5 +1,4 @@
 pub mod Examples
-pub mod ByteLaws
 pub mod PlaceLaws
 pub mod BinLaws
 pub mod WriteLaws

@@ -9,7 +9,7 @@ use Rattle.std.proofs.lemmas.List.FromFn.{map-range_with_len_more}
 use Rattle.std.proofs.Math.Seq.{take-add}
 use Rattle.byteorder.specs.Endian.{little_bytes, little_number}
 use Rattle.lert_bay.specs.Settled.{part}
-use Rattle.lert_frames.proofs.ByteLaws.{bytes_back}
+use Rattle.lert_spec.proofs.ByteLaws.{bytes_back}
 use Rattle.lert_spec.specs.declared.piece.Piece.{Piece}
 use Rattle.lert_frames.specs.Bin.{bound_of}
 use Rattle.lert_frames.specs.Frame.{piece_text, piece_of, piece_place, piece_bytes, piece_at, least_at, fields_left, piece_left}

@@ -3,4 +3,3 @@ pub mod Place
 pub mod Bin
 pub mod Reading
 pub mod Kept
-pub mod GivenLaws

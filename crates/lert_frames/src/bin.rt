@@ -1,8 +1,8 @@
 //! A bin in memory.
 
 ghost use Rattle.std.specs.Prelude.{◌≡◌, ◌^◌};
+ghost use Rattle.lert_spec.proofs.GivenLaws.{given_prop};
 ghost use Rattle.lert_spec.specs.Table.{AreGiven};
-ghost use Rattle.lert_frames.specs.GivenLaws.{given_prop};
 
 use lert_base::{Piece, PieceFault, Pieces};
 use lert_io::Faulty;

@@ -1,17 +1,8 @@
 -- Sorted pieces, of which the first were given.
-use Rattle.std.proofs.Common.{ℕ, ◌≡◌, ◌^◌, ◌++◌, [], ◌∷◌, ◌+◌, List, take, drop, Some, sym, ap, ◌∙◌, subst}
-use Rattle.std.proofs.Props.{props}
+use Rattle.std.proofs.Common.{ℕ, ◌≡◌, ◌^◌, ◌++◌, ◌+◌, List, take, drop, Some, sym, ap, ◌∙◌, subst}
 use Rattle.std.proofs.lemmas.List.{take-append-drop}
 use Rattle.lert_spec.specs.declared.piece.Piece.{Piece}
-use Rattle.lert_spec.specs.Table.{AreGiven, AscendsFrom}
-
--- that pieces ascend is a fact
-ascends_prop : (least limit : ℕ) (pieces : List Piece) → IsProp (AscendsFrom least limit pieces)
-ascends_prop least limit [] = hlevel props
-ascends_prop least limit (p ∷ pieces) = hlevel (props, ascends_prop (p.tail + 1) limit pieces)
-
-pub given_prop : (limit : ℕ) (pieces : List Piece) → IsProp (AreGiven limit pieces)
-given_prop limit pieces = hlevel (props, ascends_prop 0 limit pieces)
+use Rattle.lert_spec.specs.Table.{AreGiven}
 
 -- those given and those to come are all
 pub stays_given : (n : ℕ) (pieces rest : List Piece) → AreGiven (2 ^ 64) pieces → Some (drop n pieces) ≡ Some rest → AreGiven (2 ^ 64) (take n pieces ++ rest)

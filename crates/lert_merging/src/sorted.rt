@@ -1,8 +1,8 @@
 //! A stream of sorted pieces in memory.
 
 ghost use Rattle.std.specs.Prelude.{◌^◌, ◌≤◌, vec_len};
+ghost use Rattle.lert_spec.proofs.GivenLaws.{given_prop};
 ghost use Rattle.lert_spec.specs.Table.{AreGiven};
-ghost use Rattle.lert_merging.specs.Streams.{given_prop};
 
 use lert_base::{Piece, PieceFault, Pieces};
 use lert_io::Faulty;

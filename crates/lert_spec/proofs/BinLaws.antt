@@ -132,7 +132,7 @@ cuts-append s events others wide low high first (suc n) within =
     ap₂ (λ bin more. cond (holds_some bin) (bin ∷ more) more) here (cuts-append s events others wide low high (first + 1) n within)
 
 -- an edge is behind its events by the offset at least
-edge_within : (s : Numbers) (level n : ℕ) → edge s level n ≤ n
+pub edge_within : (s : Numbers) (level n : ℕ) → edge s level n ≤ n
 edge_within s level n = omega (arith, mul-div-le (n - offset s level) (span s level))
 
 -- while neither edge of a level moves, its bins stay

@@ -4,9 +4,11 @@ pub mod AtOnceLaws
 pub mod CountLaws
 pub mod LookLaws
 pub mod BinLaws
+pub mod ByteLaws
 pub mod Deciding
 pub mod EdgeLaws
 pub mod FirstPass
+pub mod GivenLaws
 pub mod InOrder
 pub mod LimitLaws
 pub mod MixLaws

@@ -166,22 +166,22 @@ module _ (s : Numbers) (cone : ℕ) (bits : s.cone_bits ≤ 64) (named : cone < 
         )
       ]
 
-AreKeys-take : (n : ℕ) (keys : List ℕ) → AreKeys keys → AreKeys (take n keys)
+pub AreKeys-take : (n : ℕ) (keys : List ℕ) → AreKeys keys → AreKeys (take n keys)
 AreKeys-take zero keys fit = tt
 AreKeys-take (suc n) [] fit = tt
 AreKeys-take (suc n) (key ∷ keys) fit = (fit.0, AreKeys-take n keys fit.1)
 
-AreKeys-drop : (n : ℕ) (keys : List ℕ) → AreKeys keys → AreKeys (drop n keys)
+pub AreKeys-drop : (n : ℕ) (keys : List ℕ) → AreKeys keys → AreKeys (drop n keys)
 AreKeys-drop zero keys fit = fit
 AreKeys-drop (suc n) [] fit = tt
 AreKeys-drop (suc n) (key ∷ keys) fit = AreKeys-drop n keys fit.1
 
-AreOfCone-take : (s : Numbers) (cone n : ℕ) (keys : List ℕ) → AreOfCone s cone keys → AreOfCone s cone (take n keys)
+pub AreOfCone-take : (s : Numbers) (cone n : ℕ) (keys : List ℕ) → AreOfCone s cone keys → AreOfCone s cone (take n keys)
 AreOfCone-take s cone zero keys of = tt
 AreOfCone-take s cone (suc n) [] of = tt
 AreOfCone-take s cone (suc n) (key ∷ keys) of = (of.0, AreOfCone-take s cone n keys of.1)
 
-AreOfCone-drop : (s : Numbers) (cone n : ℕ) (keys : List ℕ) → AreOfCone s cone keys → AreOfCone s cone (drop n keys)
+pub AreOfCone-drop : (s : Numbers) (cone n : ℕ) (keys : List ℕ) → AreOfCone s cone keys → AreOfCone s cone (drop n keys)
 AreOfCone-drop s cone zero keys of = of
 AreOfCone-drop s cone (suc n) [] of = tt
 AreOfCone-drop s cone (suc n) (key ∷ keys) of = AreOfCone-drop s cone n keys of.1

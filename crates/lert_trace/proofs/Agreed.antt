@@ -1,6 +1,5 @@
 -- How many bytes two texts have in common, from the front on.
-use Rattle.std.proofs.Common.{◌≡◌, ℕ, suc, ◌≤◌, true, false, eqb, cond, List, [], ◌∷◌, ◌++◌, length, drop, refl, ap, ◌∙◌, arith}
-use Rattle.std.proofs.Math.ListN.{drop_of_length-le}
+use Rattle.std.proofs.Common.{◌≡◌, ℕ, suc, ◌≤◌, true, false, eqb, cond, List, [], ◌∷◌, ◌++◌, length, refl, ap, arith}
 use Rattle.lert_spec.specs.Trace.{agreed}
 
 pub agreed-le_text : (xs ys : List ℕ) → agreed xs ys ≤ length xs
@@ -27,11 +26,3 @@ agreed-append [] ys zs h = refl
 agreed-append (x ∷ xs) [] zs h = absurd (omega (arith, h))
 agreed-append (x ∷ xs) (y ∷ ys) zs h =
     ap (λ n. cond (eqb x y) (suc n) 0) (agreed-append xs ys zs (omega (arith, h)))
-
-pub agreed-nil : (xs : List ℕ) → agreed xs [] ≡ 0
-agreed-nil [] = refl
-agreed-nil (x ∷ xs) = refl
-
--- behind the last byte nothing agrees
-pub agreed-past : (xs ys : List ℕ) (i : ℕ) → length ys ≤ i → agreed xs (drop i ys) ≡ 0
-agreed-past xs ys i past = ap (λ zs. agreed xs zs) (drop_of_length-le ys past) ∙ agreed-nil xs

@@ -1,24 +1,16 @@
 -- Where a reader stands in the bytes of its source, and what that says of the next key.
-use Rattle.std.proofs.Common.{◌≡◌, ℕ, zero, suc, ◌+◌, ◌-◌, ◌*◌, ◌/◌, ◌%◌, ◌<◌, ◌≤◌, Bool, true, false, eqb, ltb, cond, List, [], length, drop, slice_get, Option, Some, None, refl, ap, sym, ◌∙◌, subst, arith, add-suc, length-append, length-drop}
-use Rattle.std.proofs.lemmas.List.{drop-append-le, drop-drop, get_or-drop}
+use Rattle.std.proofs.Common.{◌≡◌, ℕ, suc, ◌+◌, ◌-◌, ◌*◌, ◌/◌, ◌%◌, ◌<◌, ◌≤◌, Bool, true, false, eqb, ltb, cond, List, [], length, drop, slice_get, Option, Some, None, refl, ap, sym, ◌∙◌, subst, arith, length-append, length-drop}
+use Rattle.std.proofs.lemmas.List.{drop-append-le, drop-drop}
 use Rattle.std.proofs.lemmas.List.FromFn.{length-map-range_with_len, get_or-map-range_with_len}
 use Rattle.std.proofs.lemmas.Bool.{ne_eqb}
 use Rattle.std.proofs.lemmas.Option.{slice_get-get_or}
 use Rattle.byteorder.specs.Endian.{little_from}
 use Rattle.byteorder.specs.Numbers.{little_from-append}
 use Rattle.lert_spec.specs.Trace.{agreed, key_at, left, trace_header, whole, whole_len}
+use Rattle.lert_spec.proofs.TraceLaws.{little_from-drop}
 use Rattle.lert_trace.specs.declared.fault.TraceFault.{TraceFault}
 use Rattle.lert_trace.specs.Reader.{IsReader, IsTraceOf, LeavesAt, Stands}
 use Rattle.lert_trace.specs.Window.{StillAhead, IsAtEnd}
-
--- a number read behind a part of a list is the number read from what is left of it
-little_from-drop : (k i n : ℕ) (xs : List ℕ) → little_from (k + i) n xs ≡ little_from i n (drop k xs)
-little_from-drop k i zero xs = refl
-little_from-drop k i (suc n) xs =
-    let byte = get_or-drop k xs i 0 in
-    let rest : little_from (suc (k + i)) n xs ≡ little_from (suc i) n (drop k xs) =
-    ap (λ m. little_from m n xs) (sym (add-suc k i)) ∙ little_from-drop k (suc i) n xs in
-    rw (byte, rest) refl
 
 pub whole_len-begun : (bytes : List ℕ) → agreed trace_header bytes ≡ 8 → whole_len bytes ≡ (length bytes - 8) / 8
 whole_len-begun bytes begins = ap (λ n. cond (ltb n 8) 0 ((length bytes - 8) / 8)) begins

@@ -2,7 +2,7 @@ use Rattle.std.proofs.Common.{◌≡◌, ◌+◌, ◌∙◌, ◌^◌, List, Some
 use Rattle.std.proofs.lemmas.Result.{err_from_is_err_and}
 use Rattle.byteorder.specs.Endian.{little_bytes}
 use Rattle.lert_bay.specs.Settled.{part}
-use Rattle.lert_frames.specs.GivenLaws.{given_wide}
+use Rattle.lert_spec.proofs.GivenLaws.{given_wide}
 use Rattle.lert_spec.specs.declared.piece.Piece.{Piece}
 use Rattle.lert_spec.specs.Table.{total}
 use Rattle.lert_frames.specs.Frame.{HoldsFrame, IsBin}

@@ -1,5 +1,5 @@
 use Rattle.std.proofs.Common.{◌+◌, ◌^◌, ap, subst, sym, ◌∙◌, arith}
-use Rattle.lert_frames.specs.GivenLaws.{given_more, given_wide}
+use Rattle.lert_spec.proofs.GivenLaws.{given_more, given_wide}
 use Rattle.lert_spec.specs.Table.{total, AreGiven}
 use Rattle.lert_frames.proofs.BinLaws.{total-push}
 use Rattle.lert_frames.proofs.tests.tails.Goals as goal

@@ -1,6 +1,6 @@
 use Rattle.std.proofs.Common.{arith, drop}
-use Rattle.lert_trace.proofs.Agreed.{agreed-past}
 use Rattle.lert_trace.proofs.header.agreed_len.Goals as goal
+use Rattle.lert_spec.proofs.TraceLaws.{agreed-past}
 
 pub returns-else-same-bytes : goal.returns-else-same-bytes
 returns-else-same-bytes c =

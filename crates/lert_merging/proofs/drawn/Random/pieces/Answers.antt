@@ -1,6 +1,6 @@
 use Rattle.std.proofs.Common.{rules, arith, ◌≡◌, ◌+◌, ◌^◌}
-use Rattle.lert_merging.proofs.Rising.{given_more, given_wide}
 use Rattle.lert_merging.proofs.drawn.Random.pieces.Goals as goal
+use Rattle.lert_spec.proofs.GivenLaws.{given_more, given_wide}
 
 pub loop-preserved : goal.loop-preserved
 loop-preserved c =
