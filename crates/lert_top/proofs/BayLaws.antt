@@ -4,8 +4,8 @@ use Rattle.std.proofs.lemmas.Bool.{cases_eq}
 use Rattle.std.proofs.lemmas.List.{get_or-set_same, length-set}
 use Rattle.std.proofs.lemmas.Option.{slice_get-get_or, slice_get_within, same_Some}
 use Rattle.lert_bay.specs.Files.{Files}
-use Rattle.lert_cone.proofs.StandLaws.{risen_since}
 use Rattle.lert_cone.specs.Stands.{Standing}
+use Rattle.lert_io.proofs.Rising.{risen_since}
 use Rattle.lert_top.specs.Asked.{AreReturned}
 use Rattle.lert_top.specs.Bays.{AreLater, AreMarked, HasFailed, IsLater, bays_of}
 

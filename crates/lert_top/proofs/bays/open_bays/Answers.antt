@@ -1,6 +1,6 @@
 use Rattle.std.proofs.Common.{◌≡◌, ◌+◌, ◌++◌, ◌∷◌, [], true, length, slice_get, refl, inr, ap, sym, ◌∙◌, subst, arith, rules, append_assoc, length-append}
 use Rattle.std.proofs.lemmas.List.FromFn.{map-range_with_len_more}
-use Rattle.lert_cone.proofs.StandLaws.{risen_since}
+use Rattle.lert_io.proofs.Rising.{risen_since}
 use Rattle.lert_io.specs.Fault.{HasRisen}
 use Rattle.lert_top.specs.Asked.{bay_refused, bays_opened}
 use Rattle.lert_top.specs.declared.opening.Opening.{Opening}

@@ -1,5 +1,5 @@
 use Rattle.std.proofs.Common.{◌++◌, ◌∷◌, ◌^◌, true, false, [], List, length, refl, ap, sym, ◌∙◌, subst, inl, inr}
-use Rattle.lert_cone.proofs.StandLaws.{risen_since}
+use Rattle.lert_io.proofs.Rising.{risen_since}
 use Rattle.lert_io.specs.Fault.{HasRisen}
 use Rattle.lert_top.specs.declared.opening.Wanted.TheVariants.{Trace}
 use Rattle.lert_top.specs.Asked.{trace_asked}

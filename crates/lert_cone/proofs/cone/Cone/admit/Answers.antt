@@ -5,11 +5,12 @@ use Rattle.std.specs.Prelude.{◌≤◌}
 use Rattle.std.specs.List.{length_refill}
 use Rattle.lert_gatelog.specs.Gated.{IsClosed, Log}
 use Rattle.lert_gatelog.specs.Kept.{InEach, IsWhollySettled, OthersStay}
+use Rattle.lert_io.proofs.Rising.{risen_since}
 use Rattle.lert_spec.specs.Edges.{capacity}
 use Rattle.lert_cone.specs.declared.state.ConeState.TheVariants.{Running, BrokenByBay, BrokenByMemory}
 use Rattle.lert_cone.specs.Listing.{Listing}
 use Rattle.lert_cone.specs.Stands.{Standing, over_of, is_broken, is_finished}
-use Rattle.lert_cone.proofs.StandLaws.{appends, stands_over, stands_more, sound_always, when_ok, risen_since, more_cone, more_reports, appended_there}
+use Rattle.lert_cone.proofs.StandLaws.{appends, stands_over, stands_more, sound_always, when_ok, more_cone, more_reports, appended_there}
 use Rattle.lert_cone.proofs.SoundLaws.{turns_back}
 use Rattle.lert_cone.proofs.cone.Cone.admit.Goals as goal
 

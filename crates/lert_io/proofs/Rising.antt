@@ -1,0 +1,11 @@
+-- Counts of faults over several calls.
+use Rattle.std.proofs.Common.{ℕ, ◌≤◌, arith, inl, inr}
+use Rattle.std.proofs.lemmas.Bool.{cases_lt}
+use Rattle.lert_io.specs.Fault.{HasRisen, last_count}
+
+-- a count that rose in a call rose since an earlier moment
+pub risen_since : (first before now : ℕ) → first ≤ before → before ≤ now → HasRisen before now → HasRisen first now
+risen_since first before now early later rose below = elim (cases_lt before last_count) [
+  | inl under ↦ omega (arith, early, rose under)
+  | inr over ↦ omega (arith, below, over, later)
+]
