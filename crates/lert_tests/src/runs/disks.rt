@@ -28,7 +28,20 @@ fn place_on(alloc: Global, trace: &[u8], bay: MemBay) -> Result<MemPlace, OutOfM
     Ok(place)
 }
 
-// Runs over the keys 7, 7, 7 and the bay of the one cone, and answers the place.
+// Runs the long form with these numbers over a trace and the bay of the one cone, and answers the place.
+fn run_on(
+    rt: &(impl Abort + AllocGlobal),
+    numbers: [&str; 8],
+    trace: &[u8],
+    bay: MemBay,
+    status: Status,
+    text: &str,
+) -> Result<MemPlace, Fail> {
+    let place = place_on(rt.alloc(), trace, bay)?;
+    run_over(rt, &long_form(numbers), place, 0, status, text)
+}
+
+// Runs over the keys 7, 7, 7.
 fn run_sevens(
     rt: &(impl Abort + AllocGlobal),
     bay: MemBay,
@@ -36,8 +49,7 @@ fn run_sevens(
     text: &str,
 ) -> Result<MemPlace, Fail> {
     let trace = trace(rt.alloc(), &[7, 7, 7])?;
-    let place = place_on(rt.alloc(), trace.as_slice(), bay)?;
-    run_over(rt, &long_form(SMALL), place, 0, status, text)
+    run_on(rt, SMALL, trace.as_slice(), bay, status, text)
 }
 
 // A file of the bay that came back under number 0.
@@ -63,6 +75,25 @@ fn packets(alloc: Global, journal: &[u8]) -> Result<Vec<usize>, Fail> {
         [0] => Ok(packets),
         _ => Err(Fail::new("the journal doesn't end with a closed gate")),
     }
+}
+
+// Runs the long form with these numbers over so many keys, each of its own, and wants packets of so many
+// keys in the journal.
+fn check_packets(
+    rt: &(impl Abort + AllocGlobal),
+    numbers: [&str; 8],
+    len: u8,
+    status: Status,
+    text: &str,
+    want: &[usize],
+) -> Result<(), Fail> {
+    let alloc = rt.alloc();
+    let trace = trace_with(alloc, len, &[])?;
+    let bay = MemBay::new(alloc)?;
+    let place = run_on(rt, numbers, trace.as_slice(), bay, status, text)?;
+    let packets = packets(alloc, left(&place, JOURNAL)?)?;
+    assert_eq!(rt; packets.as_slice(), want, "of {len} keys");
+    Ok(())
 }
 
 #[test]
@@ -171,12 +202,8 @@ fn a_cone_takes_as_many_keys_as_its_capacity(rt: HostRuntime) -> Result<(), Fail
             &[8; 6],
         ),
     ];
-    for (numbers, len, status, text, packets_left) in rows {
-        let trace = trace_with(rt.alloc(), len, &[])?;
-        let place = place_on(rt.alloc(), trace.as_slice(), MemBay::new(rt.alloc())?)?;
-        let place = run_over(&rt, &long_form(numbers), place, 0, status, text)?;
-        let packets = packets(rt.alloc(), left(&place, JOURNAL)?)?;
-        assert_eq!(rt; packets.as_slice(), packets_left, "of {len} keys");
+    for (numbers, len, status, text, want) in rows {
+        check_packets(&rt, numbers, len, status, text, want)?;
     }
     Ok(())
 }
