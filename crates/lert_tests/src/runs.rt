@@ -11,6 +11,7 @@ use std::process::Abort;
 use std::test::Fail;
 
 mod cones;
+mod disks;
 mod faults;
 mod reports;
 mod usage;
@@ -144,14 +145,39 @@ fn place_with(
     Ok(place)
 }
 
+// Runs these words over a place that was asked for nothing yet, with this write of the text failing, or none
+// where it is 0. Wants the status and the text, and answers the place.
+fn run_over(
+    rt: &(impl Abort + AllocGlobal),
+    texts: &[&str],
+    mut place: MemPlace,
+    failing_write: u64,
+    status: Status,
+    text: &str,
+) -> Result<MemPlace, Fail>
+    requires asked { place.asked ≡ [] }
+    requires traces { place.lent_traces.handed ≡ [] }
+    requires bays { place.lent_bays.handed ≡ [] }
+{
+    let alloc = rt.alloc();
+    let mut out = MemSink::new(alloc, 16_384, &calls(alloc, failing_write)?)?;
+    let answer = run(alloc, &words(alloc, texts)?, &mut place, &mut out);
+    assert_eq!(rt; answer, status);
+    assert_eq!(rt; out.bytes(), text.as_bytes());
+    Ok(place)
+}
+
 // Runs a row over a place that has its trace and its bays.
 fn check(rt: &(impl Abort + AllocGlobal), row: &Row) -> Result<(), Fail> {
-    let alloc = rt.alloc();
-    let mut place = place_with(alloc, row.trace, row.failing_read, row.cones)?;
-    let mut out = MemSink::new(alloc, 16_384, &calls(alloc, row.failing_write)?)?;
-    let status = run(alloc, &words(alloc, row.words)?, &mut place, &mut out);
-    assert_eq!(rt; status, row.status);
-    assert_eq!(rt; out.bytes(), row.text.as_bytes());
+    let place = place_with(rt.alloc(), row.trace, row.failing_read, row.cones)?;
+    let place = run_over(
+        rt,
+        row.words,
+        place,
+        row.failing_write,
+        row.status,
+        row.text,
+    )?;
     let opened = !matches!(row.status, Status::Usage { rule: _ } | Status::PlaceFault);
     assert_eq!(rt; place.trace(0).is_some(), opened);
     if opened {
