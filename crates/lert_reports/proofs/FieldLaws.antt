@@ -1,8 +1,8 @@
 -- The first broken one of several fields.
-use Rattle.std.proofs.Common.{◌≡◌, ℕ, zero, suc, ◌+◌, ◌<◌, ◌≤◌, ◌||◌, not, length, Bool, true, false, cond, Option, Some, None, List, [], ◌∷◌, ◌++◌, refl, ap, sym, ◌∙◌, subst, arith, inl, inr}
+use Rattle.std.proofs.Common.{◌≡◌, ℕ, zero, suc, ◌+◌, ◌<◌, ◌≤◌, ◌||◌, not, length, Bool, true, false, cond, Option, Some, None, List, [], ◌∷◌, ◌++◌, refl, ap, ap₂, sym, ◌∙◌, subst, arith, inl, inr}
 use Rattle.std.specs.Prelude.{flat_map, find, option_map, nat_lt}
 use Rattle.std.specs.List.{range_with_len}
-use Rattle.std.proofs.lemmas.Bool.{cases_Bool, true≢false, ltb-false}
+use Rattle.std.proofs.lemmas.Bool.{cases_Bool, true≢false, ltb-false, le-ltb}
 use Rattle.std.proofs.lemmas.Option.{none-some}
 use Rattle.lert_reports.specs.LogText.{Field, is_broken, left_at}
 
@@ -23,6 +23,10 @@ module _ (payload : List ℕ) where
         | inl short ↦ absurd (true≢false (sym (ap (λ b. b || not field.keeps) short) ∙ good))
         | inr long ↦ ltb-false (length payload) (field.place + field.size) long
       ]
+
+  -- and a field that is wholly there and keeps its rule isn't broken
+  pub good : (field : Field) → field.place + field.size ≤ length payload → field.keeps ≡ true → is_broken payload field ≡ false
+  good field there keeps = ap₂ (λ short kept. short || not kept) (le-ltb (length payload) (field.place + field.size) there) keeps
 
   pub none_left : left_at payload [] ≡ None
   unfolding left_at
@@ -73,6 +77,14 @@ module _ (payload : List ℕ) where
         let next : from + suc n ≡ from + 1 + n = omega arith in
         goes_on (fields_of from) (flat_map fields_of (range_with_len (from + 1) total)) (Some place) parts.0
         (first_of n total (from + 1) place (omega (arith, less)) parts.1 (subst (λ k. left_at payload (fields_of k) ≡ Some place) next here))
+
+    -- none of several lists decides, where none of each does
+    pub none_of : (n from : ℕ) → ((k : ℕ) → from ≤ k → k < from + n → left_at payload (fields_of k) ≡ None) → left_at payload (flat_map fields_of (range_with_len from n)) ≡ None
+    none_of zero from each = none_left
+    none_of (suc n) from each =
+        goes_on (fields_of from) (flat_map fields_of (range_with_len (from + 1) n)) None
+        (each from (omega arith) (omega arith))
+        (none_of n (from + 1) (λ k low high. each k (omega (arith, low)) (omega (arith, high))))
 
     -- the same, by numbers that are equal to these
     pub next_of : (n from at next : ℕ) → from + n ≡ at → suc n ≡ next → left_at payload (flat_map fields_of (range_with_len from n)) ≡ None → left_at payload (fields_of at) ≡ None → left_at payload (flat_map fields_of (range_with_len from next)) ≡ None

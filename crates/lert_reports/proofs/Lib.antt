@@ -2,4 +2,7 @@ pub mod BinCount
 pub mod DirectoryLaws
 mod Examples
 pub mod FieldLaws
+pub mod PlaceLaws
+pub mod RecordBack
+pub mod RecordLaws
 pub mod StoreLaws

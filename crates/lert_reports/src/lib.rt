@@ -11,5 +11,5 @@ mod log;
 mod store;
 
 pub use directory::bins;
-pub use log::{LogBefore, LogKind, LogParts, read_log, write_log};
+pub use log::{LogBefore, LogKind, LogParts, frames_of, read_log, report_at, write_log};
 pub use store::ReportStore;

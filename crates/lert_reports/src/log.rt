@@ -6,8 +6,10 @@ ghost use Rattle.lert_reports.specs.LogText.{kind_number, log_payload, report_by
 
 use lert_base::Report;
 use lert_gatelog::lay::{put, put_key, put_number};
+pub use contents::{frames_of, report_at};
 pub use read::read_log;
 
+mod contents;
 mod read;
 #[cfg(test)]
 mod tests;
