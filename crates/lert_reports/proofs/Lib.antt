@@ -4,5 +4,6 @@ mod Examples
 pub mod FieldLaws
 pub mod PlaceLaws
 pub mod RecordBack
+pub mod RecordFound
 pub mod RecordLaws
 pub mod StoreLaws

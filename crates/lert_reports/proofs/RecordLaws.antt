@@ -15,7 +15,7 @@ use Rattle.lert_reports.specs.declared.log.LogBefore.{LogBefore}
 use Rattle.lert_reports.specs.declared.log.LogKind.{LogKind}
 use Rattle.lert_reports.specs.declared.log.LogParts.{LogParts}
 use Rattle.lert_reports.specs.LogText.{LogRecord, kind_number, directory_bytes, report_bytes, log_payload_of, log_left, left_at, number_in, n0_in, next_flush, keeps_n0, kind_field, n0_field, offset_field, first_field, head_fields, directory_fields, count_field, all_report_fields, end_field, level_place, level_fields, reports_place, reports_in, report_place, report_fields, log_end, frames_in, report_in, ArePartsOf}
-use Rattle.lert_reports.specs.LogRules.{IsInTurn, KeepsRules, AreFit, TellOf}
+use Rattle.lert_reports.specs.LogRules.{IsInTurn, KeepsRules, TellOf}
 use Rattle.lert_reports.proofs.FieldLaws.{good, kept, none_left, in_last}
 use Rattle.lert_reports.proofs.PlaceLaws.{Stands, stands_behind, byte_there, number_there}
 use Rattle.lert_reports.proofs.RecordBack.{ends, levels_good, frames_back, report_back, report_stands, reports_good}
@@ -209,9 +209,9 @@ frames_read s cone before record_ payload level valid rules is first last =
     (λ k less. rules.frames k (omega (arith, less, rules.levels))) as_laid.head.behind (sym as_laid.head.n0_is) (level - 1) below
 
 -- and a report
-pub report_read : (record_ : LogRecord) (payload : List ℕ) (parts : LogParts) (k : ℕ) (other : Report) → AreFit record_.reports → payload ≡ log_payload_of record_ → TellOf record_ parts → k < parts.reports →
+pub report_read : (s : Numbers) (cone : ℕ) (before : LogBefore) (record_ : LogRecord) (payload : List ℕ) (parts : LogParts) (k : ℕ) (other : Report) → IsValid s → KeepsRules s cone before record_ → payload ≡ log_payload_of record_ → TellOf record_ parts → k < parts.reports →
     report_in payload (parts.reports_at + 16 * k) ≡ slice_index_or record_.reports k other
-report_read record_ payload parts k other fit is tell below =
+report_read s cone before record_ payload parts k other valid rules is tell below =
     let count = little_bytes 4 (length record_.reports) in
     let reports = flat_map report_bytes record_.reports in
     let directory = directory_bytes record_.directory in
@@ -219,5 +219,5 @@ report_read record_ payload parts k other fit is tell below =
     let from_reports : Stands payload parts.reports_at reports = stands_behind payload count reports (25 + length directory) parts.reports_at (omega (arith, tell.place_is)) from_count in
     let among : k < length record_.reports = omega (arith, below, tell.reports_are) in
     let found = report_stands payload record_.reports parts.reports_at k other from_reports among in
-    let fits = fit k other among in
-    report_back payload found.0 (parts.reports_at + 16 * k) (slice_index_or record_.reports k other) fits.0 fits.1 found.1
+    let at_fits : (slice_index_or record_.reports k other).at < 2 ^ 64 = omega (arith, (rules.reports.placed k other among).2, n0_small s record_.n0 valid rules.within) in
+    report_back payload found.0 (parts.reports_at + 16 * k) (slice_index_or record_.reports k other) (rules.reports.fit k other among) at_fits found.1

@@ -1,6 +1,6 @@
 -- The rules of a record of a log, in words of the record alone, and what the parts that are read of a payload say of it.
-use Rattle.std.specs.Prelude.{◌≡◌, ◌≢◌, ℕ, ◌+◌, ◌<◌, ◌≤◌, ◌^◌, List, [], All, length, slice_index_or}
-use Rattle.std.specs.List.{AllPairs}
+use Rattle.std.specs.Prelude.{◌≡◌, ◌≢◌, ℕ, ◌+◌, ◌*◌, ◌<◌, ◌≤◌, ◌^◌, List, [], All, length, map, slice_index_or}
+use Rattle.std.specs.List.{AllPairs, range_with_len}
 use Rattle.lert_spec.specs.declared.numbers.Numbers.{Numbers}
 use Rattle.lert_spec.specs.declared.report.Report.{Report}
 use Rattle.lert_spec.specs.Edges.{edge, capacity}
@@ -8,7 +8,7 @@ use Rattle.lert_spec.specs.Mix.{cone_of}
 use Rattle.lert_reports.specs.declared.log.LogBefore.{LogBefore}
 use Rattle.lert_reports.specs.declared.log.LogKind.{LogKind}
 use Rattle.lert_reports.specs.declared.log.LogParts.{LogParts}
-use Rattle.lert_reports.specs.LogText.{LogRecord, next_flush, bin_count, directory_bytes}
+use Rattle.lert_reports.specs.LogText.{LogRecord, next_flush, bin_count, directory_bytes, frames_in, report_in}
 
 -- after how many events a record is due: a flush at its own position, a closing one from the last record on, before the
 -- next flush
@@ -28,10 +28,6 @@ pub record AreNew (s : Numbers) (cone earlier n0 : ℕ) (reports : List Report) 
   pub of_cone : All (λ report. cone_of s report.key ≡ cone) reports
   pub placed : All (λ report. (1 ≤ report.at) × (earlier ≤ report.at) × (report.at ≤ n0)) reports
   pub ascending : AllPairs (λ one other. one.at ≤ other.at) reports
-
--- reports whose numbers fit into their bytes
-abbrev pub AreFit : List Report → Type 0
-AreFit reports = All (λ report. (report.key < 2 ^ 64) × (report.at < 2 ^ 64)) reports
 
 -- a record that may stand in a cone's log behind these records. The rule on keys that were listed before is none of these
 pub record KeepsRules (s : Numbers) (cone : ℕ) (before : LogBefore) (record_ : LogRecord) : Type 0 where
@@ -55,3 +51,14 @@ pub record TellOf (record_ : LogRecord) (parts : LogParts) : Type 0 where
   pub directory_is : parts.directory_at ≡ 25
   pub place_is : parts.reports_at ≡ 29 + length (directory_bytes record_.directory)
   pub reports_are : parts.reports ≡ length record_.reports
+
+-- the record in the payload that these parts were read of
+abbrev pub record_in : Numbers → List ℕ → LogParts → LogRecord
+record_in s payload parts = record {
+  kind = parts.kind;
+  n0 = parts.n0;
+  offset = parts.offset;
+  first = parts.first;
+  directory = map (frames_in s payload) (range_with_len 1 s.levels);
+  reports = map (λ k. report_in payload (parts.reports_at + 16 * k)) (range_with_len 0 parts.reports);
+}

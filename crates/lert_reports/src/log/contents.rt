@@ -1,9 +1,11 @@
 //! What stands in a payload that was read: the frames of a level, and the reports one by one.
 
 ghost use Rattle.std.specs.Prelude.{◌≡◌, ℕ, ◌+◌, ◌-◌, ◌*◌, ◌<◌, ◌≤◌, [], length, slice_index_or};
+ghost use Rattle.lert_spec.specs.Limits.{IsValid};
+ghost use Rattle.lert_spec.specs.declared.numbers.Numbers.{Numbers};
 ghost use Rattle.lert_spec.specs.declared.report.Report.{Report};
 ghost use Rattle.lert_reports.specs.declared.log.LogBefore.{LogBefore};
-ghost use Rattle.lert_reports.specs.LogRules.{KeepsRules, AreFit, TellOf};
+ghost use Rattle.lert_reports.specs.LogRules.{KeepsRules, TellOf};
 ghost use Rattle.lert_reports.specs.LogText.{LogRecord, log_payload_of, number_in, frames_in, report_in, level_place, ArePartsOf};
 
 use super::LogParts;
@@ -44,8 +46,8 @@ pub fn report_at(payload: &[u8], parts: &LogParts, number: u32) -> Report
     ensures value { result ≡ report_in payload.now (parts.now.reports_at + 16 * number) }
 
     // The one that `write_log` wrote.
-    ensures reads_back { (record_ : LogRecord) → AreFit record_.reports → payload.now ≡ log_payload_of record_ → TellOf record_ parts.now →
-        (other : Report) → result ≡ slice_index_or record_.reports number other }
+    ensures reads_back { (s : Numbers) (cone : ℕ) (before : LogBefore) (record_ : LogRecord) → IsValid s → KeepsRules s cone before record_ →
+        payload.now ≡ log_payload_of record_ → TellOf record_ parts.now → (other : Report) → result ≡ slice_index_or record_.reports number other }
 {
     let place = parts.reports_at + 16 * number as usize;
     Report {
