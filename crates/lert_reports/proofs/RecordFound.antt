@@ -1,8 +1,7 @@
 -- A payload that keeps the format is the payload of a record that keeps the rules.
-use Rattle.std.proofs.Common.{◌≡◌, ◌≢◌, ℕ, zero, suc, ◌+◌, ◌-◌, ◌*◌, ◌<◌, ◌≤◌, ◌^◌, ◌==◌, ◌&&◌, not, max, Bool, nat_lt, true, false, nat_le, None, Some, List, [], ◌∷◌, ◌++◌, length, map, take, drop, get_or, refl, sym, ap, ap₂, ◌∙◌, subst, arith, append_assoc, append-nil, zero-add}
-use Rattle.std.specs.Prelude.{flat_map, slice_index, slice_index_or, All, Result, Ok, Err, MatchResult, IfOk}
-use Rattle.std.specs.List.{range_with_len, list_any, AllPairs}
-use Rattle.std.proofs.Math.Nat.{mul-div-le}
+use Rattle.std.proofs.Common.{◌≡◌, ◌≢◌, ℕ, zero, suc, ◌+◌, ◌*◌, ◌<◌, ◌≤◌, ◌^◌, ◌==◌, ◌&&◌, not, max, Bool, nat_lt, true, nat_le, None, Some, List, [], ◌∷◌, ◌++◌, length, map, take, drop, get_or, refl, sym, ap, ap₂, ◌∙◌, subst, arith, append_assoc, append-nil}
+use Rattle.std.specs.Prelude.{flat_map, slice_index, slice_index_or, Result, Ok, Err, MatchResult, IfOk}
+use Rattle.std.specs.List.{range_with_len, list_any}
 use Rattle.std.proofs.lemmas.Bool.{and_parts, leb-true, ltb-true, eqb-true, eq-eqb, not-true, both_ways}
 use Rattle.std.proofs.lemmas.List.{take-append-drop, drop-drop, drop_more, drop_all, get_or-take, get_or-drop, get_or_default, get_or-map, length-take-le, length-drop}
 use Rattle.std.proofs.lemmas.List.Elements.{All-cons}
@@ -13,17 +12,17 @@ use Rattle.byteorder.specs.Endian.{little_bytes}
 use Rattle.byteorder.specs.Numbers.{little_from-lt}
 use Rattle.lert_spec.specs.declared.numbers.Numbers.{Numbers}
 use Rattle.lert_spec.specs.declared.report.Report.{Report}
-use Rattle.lert_spec.specs.Edges.{edge, capacity, offset, span}
-use Rattle.lert_spec.specs.Limits.{IsValid, lies}
+use Rattle.lert_spec.specs.Edges.{edge, capacity}
+use Rattle.lert_spec.specs.Limits.{lies}
 use Rattle.lert_spec.specs.Mix.{cone_of}
 use Rattle.lert_spec.proofs.ByteLaws.{bytes_back}
 use Rattle.lert_reports.specs.declared.log.LogBefore.{LogBefore}
 use Rattle.lert_reports.specs.declared.log.LogKind.{LogKind}
 use Rattle.lert_reports.specs.declared.log.LogParts.{LogParts}
-use Rattle.lert_reports.specs.LogText.{LogRecord, kind_number, directory_bytes, report_bytes, log_payload_of, log_left, left_at, is_broken, number_in, n0_in, next_flush, keeps_n0, bin_count, frames_in, report_in, level_place, reports_place, report_place, reports_in, at_before, kind_field, n0_field, offset_field, first_field, head_fields, bins_field, frame_field, frame_fields, level_fields, directory_fields, count_field, key_field, at_field, report_fields, all_report_fields, end_field, ArePartsOf}
+use Rattle.lert_reports.specs.LogText.{kind_number, directory_bytes, report_bytes, log_payload_of, log_left, left_at, number_in, n0_in, next_flush, keeps_n0, bin_count, frames_in, report_in, level_place, reports_place, report_place, reports_in, at_before, kind_field, n0_field, offset_field, first_field, head_fields, bins_field, frame_field, frame_fields, level_fields, directory_fields, count_field, key_field, at_field, report_fields, all_report_fields, end_field, ArePartsOf}
 use Rattle.lert_reports.specs.LogRules.{IsInTurn, AreFrames, AreNew, KeepsRules, record_in}
 use Rattle.lert_reports.proofs.DirectoryLaws.{level_place-next, frames_within, at_before-next}
-use Rattle.lert_reports.proofs.FieldLaws.{parted, first_kept, keeps_rule, whole, each_none}
+use Rattle.lert_reports.proofs.FieldLaws.{parted, first_kept, keeps_rule, each_none}
 
 -- ---- bytes that were read, laid again
 

@@ -6,7 +6,7 @@ ghost use Rattle.lert_spec.specs.declared.numbers.Numbers.{Numbers};
 ghost use Rattle.lert_spec.specs.declared.report.Report.{Report};
 ghost use Rattle.lert_reports.specs.declared.log.LogBefore.{LogBefore};
 ghost use Rattle.lert_reports.specs.LogRules.{KeepsRules, TellOf};
-ghost use Rattle.lert_reports.specs.LogText.{LogRecord, log_payload_of, number_in, frames_in, report_in, level_place, ArePartsOf};
+ghost use Rattle.lert_reports.specs.LogText.{LogRecord, log_payload_of, number_in, frames_in, report_in, ArePartsOf};
 
 use super::LogParts;
 use crate::directory::bins;

@@ -1,7 +1,7 @@
-use Rattle.std.proofs.Common.{◌≡◌, ℕ, ◌+◌, ◌-◌, ◌<◌, ◌≤◌, length, take, drop, subst, ap, ap₂, ◌∙◌, sym, arith, rules}
+use Rattle.std.proofs.Common.{◌≡◌, ℕ, ◌+◌, ◌-◌, ◌≤◌, length, take, drop, subst, ap, ap₂, ◌∙◌, arith, rules}
 use Rattle.lert_spec.specs.declared.numbers.Numbers.{Numbers}
 use Rattle.lert_spec.specs.Limits.{IsValid}
-use Rattle.lert_reports.specs.LogText.{bin_count, level_place, frames_in}
+use Rattle.lert_reports.specs.LogText.{bin_count, level_place}
 use Rattle.lert_reports.proofs.DirectoryLaws.{frames_within, level_place-next}
 use Rattle.lert_reports.proofs.RecordLaws.{frames_read}
 use Rattle.lert_reports.proofs.log.contents.frames_of.Goals as goal
