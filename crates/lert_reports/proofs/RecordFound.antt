@@ -3,11 +3,11 @@ use Rattle.std.proofs.Common.{◌≡◌, ◌≢◌, ℕ, zero, suc, ◌+◌, ◌
 use Rattle.std.specs.Prelude.{flat_map, slice_index, slice_index_or, Result, Ok, Err, MatchResult, IfOk}
 use Rattle.std.specs.List.{range_with_len, list_any}
 use Rattle.std.proofs.lemmas.Bool.{and_parts, leb-true, ltb-true, eqb-true, eq-eqb, not-true, both_ways}
-use Rattle.std.proofs.lemmas.List.{take-append-drop, drop-drop, drop_more, drop_all, get_or-take, get_or-drop, get_or_default, get_or-map, length-take-le, length-drop}
+use Rattle.std.proofs.lemmas.List.{take-append-drop, drop-drop, drop_more, drop_all, get_or-take, get_or-drop, get_or_default, length-take-le, length-drop}
 use Rattle.std.proofs.lemmas.List.Elements.{All-cons}
 use Rattle.std.proofs.lemmas.List.Kept.{AllPairs-cons}
 use Rattle.std.proofs.lemmas.List.Folds.{list_any_at}
-use Rattle.std.proofs.lemmas.List.FromFn.{get_or-range_with_len, length-map-range_with_len, length-range_with_len}
+use Rattle.std.proofs.lemmas.List.FromFn.{get_or-map-range_with_len, length-map-range_with_len}
 use Rattle.byteorder.specs.Endian.{little_bytes}
 use Rattle.byteorder.specs.Numbers.{little_from-lt}
 use Rattle.lert_spec.specs.declared.numbers.Numbers.{Numbers}
@@ -261,9 +261,8 @@ module _ (s : Numbers) (cone : ℕ) (before : LogBefore) (payload : List ℕ) (p
 
   level_frames : (k : ℕ) → k < s.levels → AreFrames s (k + 1) n0 (slice_index_or (map (frames_in s payload) (range_with_len 1 s.levels)) k [])
   level_frames k below =
-      let level_is : get_or (range_with_len 1 s.levels) k 0 ≡ k + 1 = get_or-range_with_len 1 s.levels k 0 below ∙ omega arith in
       let frames_is : slice_index_or (map (frames_in s payload) (range_with_len 1 s.levels)) k [] ≡ frames_in s payload (k + 1) =
-      get_or-map (frames_in s payload) (range_with_len 1 s.levels) k 0 [] (omega (arith, below, length-range_with_len 1 s.levels)) ∙ ap (frames_in s payload) level_is in
+      get_or-map-range_with_len (frames_in s payload) 1 s.levels k (k + 1) [] below (omega arith) in
       subst (λ frames. AreFrames s (k + 1) n0 frames) (sym frames_is)
       (frames_are s payload (k + 1) (level_none (k + 1) (omega arith) (omega (arith, below))) (level_long (k + 1) (omega arith) (omega (arith, below))))
 

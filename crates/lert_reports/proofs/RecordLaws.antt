@@ -1,10 +1,12 @@
 -- The law that joins writing and reading: the payload of a record that keeps the rules leaves the format nowhere, and the
 -- parts of a payload of a record say what the record says.
-use Rattle.std.proofs.Common.{◌≡◌, ℕ, ◌+◌, ◌-◌, ◌*◌, ◌<◌, ◌≤◌, ◌^◌, ◌&&◌, true, None, Some, List, [], ◌∷◌, ◌++◌, length, refl, sym, ap, ap₂, ◌∙◌, subst, arith, length-append, append_assoc, zero-add}
+use Rattle.std.proofs.Common.{◌≡◌, ℕ, ◌+◌, ◌-◌, ◌*◌, ◌<◌, ◌≤◌, ◌^◌, ◌&&◌, true, None, Some, List, [], ◌∷◌, ◌++◌, length, map, refl, sym, ap, ap₂, ◌∙◌, subst, arith, length-append, append_assoc, zero-add}
 use Rattle.std.specs.Prelude.{flat_map, slice_index, slice_index_or, Result, Ok, Err, MatchResult, IsOkAnd}
 use Rattle.std.specs.List.{range_with_len}
 use Rattle.std.proofs.Math.Nat.{mul-div-le}
 use Rattle.std.proofs.lemmas.Bool.{le-leb, lt-ltb, eq-eqb}
+use Rattle.std.proofs.lemmas.List.{ext_get_or, same_lists}
+use Rattle.std.proofs.lemmas.List.FromFn.{get_or-map-range_with_len, length-map-range_with_len}
 use Rattle.std.proofs.lemmas.Option.{none-some}
 use Rattle.byteorder.specs.Endian.{little_bytes}
 use Rattle.lert_spec.specs.declared.numbers.Numbers.{Numbers}
@@ -15,7 +17,7 @@ use Rattle.lert_reports.specs.declared.log.LogBefore.{LogBefore}
 use Rattle.lert_reports.specs.declared.log.LogKind.{LogKind}
 use Rattle.lert_reports.specs.declared.log.LogParts.{LogParts}
 use Rattle.lert_reports.specs.LogText.{LogRecord, kind_number, directory_bytes, report_bytes, log_payload_of, log_left, left_at, number_in, n0_in, next_flush, keeps_n0, kind_field, n0_field, offset_field, first_field, head_fields, directory_fields, count_field, all_report_fields, end_field, level_place, level_fields, reports_place, reports_in, report_place, report_fields, log_end, frames_in, report_in, ArePartsOf}
-use Rattle.lert_reports.specs.LogRules.{IsInTurn, KeepsRules, TellOf}
+use Rattle.lert_reports.specs.LogRules.{IsInTurn, KeepsRules, TellOf, record_in}
 use Rattle.lert_reports.proofs.FieldLaws.{good, kept, none_left, in_last}
 use Rattle.lert_reports.proofs.PlaceLaws.{Stands, stands_behind, byte_there, number_there}
 use Rattle.lert_reports.proofs.RecordBack.{ends, levels_good, frames_back, report_back, report_stands, reports_good}
@@ -189,13 +191,6 @@ parts_tell s cone before record_ payload parts valid rules is are =
       reports_are = are.reports_are ∙ as_laid.reports_are;
     }
 
--- so it is read, whatever tells where a payload leaves the format
-pub reads_back : (s : Numbers) (cone : ℕ) (before : LogBefore) (payload : List ℕ) (result : Result LogParts ℕ) → IsValid s →
-    MatchResult result (λ parts. (log_left s cone before payload ≡ None) × ArePartsOf s payload parts) (λ place. log_left s cone before payload ≡ Some place) →
-    (record_ : LogRecord) → KeepsRules s cone before record_ → payload ≡ log_payload_of record_ → IsOkAnd result (λ parts. TellOf record_ parts)
-reads_back s cone before payload (Ok parts) valid found record_ rules is = parts_tell s cone before record_ payload parts valid rules is found.1
-reads_back s cone before payload (Err place) valid left record_ rules is = none-some place (sym (never_left s cone before record_ payload valid rules is) ∙ left)
-
 -- ---- what is read of it by its parts
 
 -- the frames of a level
@@ -221,3 +216,34 @@ report_read s cone before record_ payload parts k other valid rules is tell belo
     let found = report_stands payload record_.reports parts.reports_at k other from_reports among in
     let at_fits : (slice_index_or record_.reports k other).at < 2 ^ 64 = omega (arith, (rules.reports.placed k other among).2, n0_small s record_.n0 valid rules.within) in
     report_back payload found.0 (parts.reports_at + 16 * k) (slice_index_or record_.reports k other) (rules.reports.fit k other among) at_fits found.1
+
+-- so the record that is read is the one that was written
+record_back : (s : Numbers) (cone : ℕ) (before : LogBefore) (record_ : LogRecord) (payload : List ℕ) (parts : LogParts) → IsValid s → KeepsRules s cone before record_ → payload ≡ log_payload_of record_ → ArePartsOf s payload parts →
+    record_in s payload parts ≡ record_
+record_back s cone before record_ payload parts valid rules is are =
+    let tell = parts_tell s cone before record_ payload parts valid rules is are in
+    let report_of : ℕ → Report = λ k. report_in payload (parts.reports_at + 16 * k) in
+    let levels = length-map-range_with_len (frames_in s payload) 1 s.levels in
+    let reports = length-map-range_with_len report_of 0 parts.reports in
+    let directory_is : map (frames_in s payload) (range_with_len 1 s.levels) ≡ record_.directory =
+    ext_get_or [] (map (frames_in s payload) (range_with_len 1 s.levels)) record_.directory (levels ∙ sym rules.levels)
+    (λ k below.
+    let among : k < s.levels = omega (arith, below, levels) in
+    get_or-map-range_with_len (frames_in s payload) 1 s.levels k (1 + k) [] among refl
+    ∙ (frames_read s cone before record_ payload (1 + k) valid rules is (omega arith) (omega (arith, among))
+    ∙ ap (λ j. slice_index_or record_.directory j []) (let same : 1 + k - 1 ≡ k = omega arith in same))) in
+    let reports_are : map report_of (range_with_len 0 parts.reports) ≡ record_.reports =
+    same_lists (map report_of (range_with_len 0 parts.reports)) record_.reports (reports ∙ tell.reports_are)
+    (λ k other below.
+    let among : k < parts.reports = omega (arith, below, reports) in
+    get_or-map-range_with_len report_of 0 parts.reports k k other among (zero-add k)
+    ∙ report_read s cone before record_ payload parts k other valid rules is tell among) in
+    λ i. record { kind = tell.kind_is i; n0 = tell.n0_is i; offset = tell.offset_is i; first = tell.first_is i; directory = directory_is i; reports = reports_are i }
+
+-- so it is read, whatever tells where a payload leaves the format
+pub reads_back : (s : Numbers) (cone : ℕ) (before : LogBefore) (payload : List ℕ) (result : Result LogParts ℕ) → IsValid s →
+    MatchResult result (λ parts. (log_left s cone before payload ≡ None) × ArePartsOf s payload parts) (λ place. log_left s cone before payload ≡ Some place) →
+    (record_ : LogRecord) → KeepsRules s cone before record_ → payload ≡ log_payload_of record_ → IsOkAnd result (λ parts. TellOf record_ parts × (record_in s payload parts ≡ record_))
+reads_back s cone before payload (Ok parts) valid found record_ rules is =
+    (parts_tell s cone before record_ payload parts valid rules is found.1, record_back s cone before record_ payload parts valid rules is found.1)
+reads_back s cone before payload (Err place) valid left record_ rules is = none-some place (sym (never_left s cone before record_ payload valid rules is) ∙ left)

@@ -31,7 +31,7 @@ pub fn read_log(
     ensures found { IfOk result (λ parts. KeepsRules settings.now cone before.now (record_in settings.now payload.now parts)
         × (payload.now ≡ log_payload_of (record_in settings.now payload.now parts))) }
     ensures reads_back { (record_ : LogRecord) → KeepsRules settings.now cone before.now record_ → payload.now ≡ log_payload_of record_ →
-        IsOkAnd result (λ parts. TellOf record_ parts) }
+        IsOkAnd result (λ parts. TellOf record_ parts × (record_in settings.now payload.now parts ≡ record_)) }
 {
     let _valid = settings.numbers();
     read_parts(settings, cone, before, payload)
