@@ -1,12 +1,13 @@
 -- The fields of a directory by the places at which a reader stands.
-use Rattle.std.proofs.Common.{◌≡◌, ℕ, zero, suc, cond, ◌+◌, ◌-◌, ◌≤◌, List, [], ◌∷◌, ap, ap₂, sym, ◌∙◌, arith}
+use Rattle.std.proofs.Common.{◌≡◌, ℕ, zero, suc, cond, ◌+◌, ◌-◌, ◌≤◌, List, [], ◌∷◌, length, ap, ap₂, sym, ◌∙◌, arith}
 use Rattle.std.specs.Prelude.{sum_by}
 use Rattle.std.specs.List.{range_with_len}
 use Rattle.std.proofs.lemmas.List.Sums.{sum_by-cons}
 use Rattle.std.proofs.lemmas.Bool.{ne_eqb}
 use Rattle.lert_spec.specs.declared.numbers.Numbers.{Numbers}
 use Rattle.lert_reports.specs.declared.log.LogBefore.{LogBefore}
-use Rattle.lert_reports.specs.LogText.{key_field, at_field, report_fields, report_place, at_before, number_in, bins_field, frame_fields, level_fields, level_place, bin_count, n0_in}
+use Rattle.lert_reports.specs.declared.log.LogParts.{LogParts}
+use Rattle.lert_reports.specs.LogText.{key_field, at_field, report_fields, report_place, at_before, number_in, bins_field, frame_fields, level_fields, level_place, reports_place, bin_count, n0_in, ArePartsOf}
 
 pub level_fields_are : (s : Numbers) (payload : List ℕ) (level n0 place bins : ℕ) → n0 ≡ n0_in payload → place ≡ level_place s n0 level → bins ≡ bin_count s level n0 →
     level_fields s payload level ≡ bins_field payload place bins ∷ frame_fields s payload (place + 1) bins
@@ -34,6 +35,23 @@ level_place-next s n0 level some =
     let here = ap f (let same : 1 + (level - 1) ≡ level = omega (arith, some) in same) in
     let length_is = ap (λ n. sum_by f (range_with_len 1 n)) (let same : level + 1 - 1 ≡ suc (level - 1) = omega (arith, some) in same) in
     omega (arith, more, here, length_is)
+
+-- an older level stands further behind
+later_place : (s : Numbers) (n0 level n : ℕ) → 1 ≤ level → level_place s n0 level ≤ level_place s n0 (level + n)
+later_place s n0 level zero some = omega (arith, ap (level_place s n0) (let same : level + 0 ≡ level = omega arith in same))
+later_place s n0 level (suc n) some =
+    let next = level_place-next s n0 (level + n) (omega (arith, some)) in
+    let last = ap (level_place s n0) (let same : level + n + 1 ≡ level + suc n = omega arith in same) in
+    omega (arith, later_place s n0 level n some, next, last)
+
+-- a level's frames stand before the end of a payload that ends behind its reports
+pub frames_within : (s : Numbers) (payload : List ℕ) (parts : LogParts) (level : ℕ) → ArePartsOf s payload parts → 1 ≤ level → level ≤ s.levels →
+    level_place s parts.n0 level + 1 + bin_count s level parts.n0 ≤ length payload
+frames_within s payload parts level are some last =
+    let end = later_place s parts.n0 (level + 1) (s.levels - level) (omega arith) in
+    let end_is = ap (level_place s parts.n0) (let same : level + 1 + (s.levels - level) ≡ s.levels + 1 = omega (arith, last) in same) in
+    let place_is = ap (reports_place s) are.n0_is in
+    omega (arith, level_place-next s parts.n0 level some, end, end_is, place_is, are.place_is, are.ends)
 
 pub report_fields_are : (s : Numbers) (cone : ℕ) (before : LogBefore) (payload : List ℕ) (k place earlier : ℕ) → place ≡ report_place s payload k → earlier ≡ at_before s before payload k →
     report_fields s cone before payload k ≡ key_field s cone payload place ∷ at_field payload place earlier ∷ []

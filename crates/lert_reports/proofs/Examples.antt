@@ -1,10 +1,14 @@
 -- The log text, computed on the closing record of three keys 7, on a flush, and on payloads that break each rule.
-use Rattle.std.proofs.Common.{◌≡◌, ℕ, List, [], ◌∷◌, ◌++◌, take, drop, Some, None, refl}
+use Rattle.std.proofs.Common.{◌≡◌, ℕ, zero, suc, ◌+◌, ◌<◌, ◌≤◌, ◌^◌, List, [], ◌∷◌, ◌++◌, take, drop, Some, None, refl, arith}
+use Rattle.std.specs.Prelude.{slice_index_or}
+use Rattle.std.proofs.lemmas.List.Elements.{All-cons}
 use Rattle.lert_spec.specs.declared.numbers.Numbers.{Numbers}
-use Rattle.lert_spec.specs.Mix.{mix}
+use Rattle.lert_spec.specs.Mix.{cone_of, mix}
 use Rattle.lert_reports.specs.declared.log.LogBefore.{LogBefore}
 use Rattle.lert_reports.specs.declared.log.LogKind.{LogKind}
+use Rattle.lert_reports.specs.declared.log.LogParts.{LogParts}
 use Rattle.lert_reports.specs.LogText.{LogRecord, log_payload_of, left_at, log_left, bin_count}
+use Rattle.lert_reports.specs.LogRules.{AreFrames, AreNew, KeepsRules, record_in}
 
 abbrev alone : Numbers
 alone = record { threshold = 3; bins = 3; ratio = 2; base = 4; levels = 2; cone_bits = 0; room = 32; packet = 8 }
@@ -133,3 +137,62 @@ position_to_come = refl
 left_over : log_left alone 0 nothing_before (closed_bytes ++ 0 ∷ []) ≡ Some 47
 unfolding left_at mix
 left_over = refl
+
+-- ---- the rules, in words of the record
+
+abbrev closed_parts : LogParts
+closed_parts = record { kind = LogKind.Closing; n0 = 3; offset = 32; first = 1; directory_at = 25; reports_at = 31; reports = 1 }
+
+abbrev flushed_parts : LogParts
+flushed_parts = record { kind = LogKind.Flush; n0 = 12; offset = 32; first = 5; directory_at = 25; reports_at = 32; reports = 0 }
+
+closed_is_found : record_in alone closed_bytes closed_parts ≡ closed
+closed_is_found = refl
+
+flushed_is_found : record_in alone (log_payload_of flushed) flushed_parts ≡ flushed
+flushed_is_found = refl
+
+no_frames : (level : ℕ) → 0 ≡ bin_count alone level 3 → AreFrames alone level 3 []
+no_frames level counted = record {
+  counted = counted;
+  known = λ k frame below. absurd (omega (arith, below));
+  distinct = λ j k frame less below. absurd (omega (arith, below));
+}
+
+closed_frames : (k : ℕ) → k < 2 → AreFrames alone (k + 1) 3 (slice_index_or closed.directory k [])
+closed_frames zero below = no_frames 1 refl
+closed_frames (suc zero) below = no_frames 2 refl
+closed_frames (suc (suc k)) below = absurd (omega (arith, below))
+
+of_cone_0 : cone_of alone 7 ≡ 0
+unfolding mix
+of_cone_0 = refl
+
+closed_is_new : AreNew alone 0 0 3 closed.reports
+closed_is_new = record {
+  fit = All-cons (λ report. report.key < 2 ^ 64) (record { key = 7; at = 3 }) [] (omega arith) (λ k other below. absurd (omega (arith, below)));
+  of_cone = All-cons (λ report. cone_of alone report.key ≡ 0) (record { key = 7; at = 3 }) [] of_cone_0 (λ k other below. absurd (omega (arith, below)));
+  placed = All-cons (λ report. (1 ≤ report.at) × (0 ≤ report.at) × (report.at ≤ 3)) (record { key = 7; at = 3 }) [] (omega arith, omega arith, omega arith) (λ k other below. absurd (omega (arith, below)));
+  ascending = λ j k other less below. absurd (omega (arith, less, below));
+}
+
+closed_keeps_rules : KeepsRules alone 0 nothing_before closed
+closed_keeps_rules = record {
+  within = omega arith;
+  in_turn = (omega arith, omega arith);
+  offset_from = omega arith;
+  offset_to = omega arith;
+  first_from = omega arith;
+  first_to = omega arith;
+  levels = refl;
+  frames = closed_frames;
+  room = omega arith;
+  reports = closed_is_new;
+}
+
+-- a report behind all events, and a flush at another position, break them
+report_to_come : KeepsRules alone 0 nothing_before (record closed { reports = record { key = 7; at = 4 } ∷ [] }) → ⊥
+report_to_come rules = omega (arith, (rules.reports.placed 0 (record { key = 7; at = 4 }) (omega arith)).2)
+
+flush_out_of_turn : KeepsRules alone 0 nothing_before (record flushed { n0 = 16 }) → ⊥
+flush_out_of_turn rules = omega (arith, rules.in_turn)

@@ -1,8 +1,8 @@
 -- The first broken one of several fields.
-use Rattle.std.proofs.Common.{◌≡◌, ℕ, zero, suc, ◌+◌, ◌<◌, ◌≤◌, ◌||◌, not, length, Bool, true, false, cond, Option, Some, None, List, [], ◌∷◌, ◌++◌, refl, ap, sym, ◌∙◌, subst, arith, inl, inr}
+use Rattle.std.proofs.Common.{◌≡◌, ℕ, zero, suc, ◌+◌, ◌<◌, ◌≤◌, ◌||◌, not, length, Bool, true, false, cond, Option, Some, None, List, [], ◌∷◌, ◌++◌, refl, ap, ap₂, sym, ◌∙◌, subst, arith, inl, inr}
 use Rattle.std.specs.Prelude.{flat_map, find, option_map, nat_lt}
 use Rattle.std.specs.List.{range_with_len}
-use Rattle.std.proofs.lemmas.Bool.{cases_Bool, true≢false, ltb-false}
+use Rattle.std.proofs.lemmas.Bool.{cases_Bool, cases_lt, true≢false, ltb-false, le-ltb, or_right, not_from_false}
 use Rattle.std.proofs.lemmas.Option.{none-some}
 use Rattle.lert_reports.specs.LogText.{Field, is_broken, left_at}
 
@@ -24,6 +24,10 @@ module _ (payload : List ℕ) where
         | inr long ↦ ltb-false (length payload) (field.place + field.size) long
       ]
 
+  -- and a field that is wholly there and keeps its rule isn't broken
+  pub good : (field : Field) → field.place + field.size ≤ length payload → field.keeps ≡ true → is_broken payload field ≡ false
+  good field there keeps = ap₂ (λ short kept. short || not kept) (le-ltb (length payload) (field.place + field.size) there) keeps
+
   pub none_left : left_at payload [] ≡ None
   unfolding left_at
   none_left = refl
@@ -44,18 +48,33 @@ module _ (payload : List ℕ) where
         | inr good ↦ kept field (fields ++ others) found good (goes_on fields others found (sym (kept field fields (left_at payload fields) good refl) ∙ none) is)
       ]
 
+  -- where none of some fields is broken, none of the first is and none of the others
+  pub parted : (fields others : List Field) → left_at payload (fields ++ others) ≡ None → left_at payload fields ≡ None × left_at payload others ≡ None
+  parted [] others none = (none_left, none)
+  parted (field ∷ fields) others none =
+      elim (cases_Bool (is_broken payload field)) [
+        | inl bad ↦ absurd (none-some field.place (sym none ∙ broken field (fields ++ others) bad))
+        | inr good ↦ (
+            let rest = parted fields others (sym (kept field (fields ++ others) (left_at payload (fields ++ others)) good refl) ∙ none) in
+            (kept field fields None good rest.0, rest.1))
+      ]
+
+  pub first_kept : (field : Field) (others : List Field) → left_at payload (field ∷ others) ≡ None → (is_broken payload field ≡ false) × (left_at payload others ≡ None)
+  first_kept field others none =
+      elim (cases_Bool (is_broken payload field)) [
+        | inl bad ↦ absurd (none-some field.place (sym none ∙ broken field others bad))
+        | inr good ↦ (good, sym (kept field others (left_at payload others) good refl) ∙ none)
+      ]
+
+  pub keeps_rule : (field : Field) → is_broken payload field ≡ false → field.keeps ≡ true
+  keeps_rule field good =
+      elim (cases_Bool field.keeps) [
+        | inl kept ↦ kept
+        | inr breaks ↦ absurd (true≢false (sym (or_right (nat_lt (length payload) (field.place + field.size)) (not field.keeps) (not_from_false field.keeps breaks)) ∙ good))
+      ]
+
   -- what decides among the first fields of several lists, one for each number, or else among the next
   module _ (fields_of : ℕ → List Field) where
-    parted : (fields others : List Field) → left_at payload (fields ++ others) ≡ None → left_at payload fields ≡ None × left_at payload others ≡ None
-    parted [] others none = (none_left, none)
-    parted (field ∷ fields) others none =
-        elim (cases_Bool (is_broken payload field)) [
-          | inl bad ↦ absurd (none-some field.place (sym none ∙ broken field (fields ++ others) bad))
-          | inr good ↦ (
-              let rest = parted fields others (sym (kept field (fields ++ others) (left_at payload (fields ++ others)) good refl) ∙ none) in
-              (kept field fields None good rest.0, rest.1))
-        ]
-
     pub one_more : (n from : ℕ) → left_at payload (flat_map fields_of (range_with_len from n)) ≡ None → left_at payload (fields_of (from + n)) ≡ None → left_at payload (flat_map fields_of (range_with_len from (suc n))) ≡ None
     one_more zero from none here = goes_on (fields_of from) [] None (subst (λ k. left_at payload (fields_of k) ≡ None) (let same : from + 0 ≡ from = omega arith in same) here) none_left
     one_more (suc n) from none here =
@@ -73,6 +92,24 @@ module _ (payload : List ℕ) where
         let next : from + suc n ≡ from + 1 + n = omega arith in
         goes_on (fields_of from) (flat_map fields_of (range_with_len (from + 1) total)) (Some place) parts.0
         (first_of n total (from + 1) place (omega (arith, less)) parts.1 (subst (λ k. left_at payload (fields_of k) ≡ Some place) next here))
+
+    -- none of several lists decides, where none of each does
+    pub none_of : (n from : ℕ) → ((k : ℕ) → from ≤ k → k < from + n → left_at payload (fields_of k) ≡ None) → left_at payload (flat_map fields_of (range_with_len from n)) ≡ None
+    none_of zero from each = none_left
+    none_of (suc n) from each =
+        goes_on (fields_of from) (flat_map fields_of (range_with_len (from + 1) n)) None
+        (each from (omega arith) (omega arith))
+        (none_of n (from + 1) (λ k low high. each k (omega (arith, low)) (omega (arith, high))))
+
+    -- and the other way round
+    pub each_none : (n from : ℕ) → left_at payload (flat_map fields_of (range_with_len from n)) ≡ None → (k : ℕ) → from ≤ k → k < from + n → left_at payload (fields_of k) ≡ None
+    each_none zero from none k low high = absurd (omega (arith, low, high))
+    each_none (suc n) from none k low high =
+        let parts = parted (fields_of from) (flat_map fields_of (range_with_len (from + 1) n)) none in
+        elim (cases_lt from k) [
+          | inl less ↦ each_none n (from + 1) parts.1 k (omega (arith, less)) (omega (arith, high))
+          | inr more ↦ subst (λ j. left_at payload (fields_of j) ≡ None) (let same : from ≡ k = omega (arith, low, more) in same) parts.0
+        ]
 
     -- the same, by numbers that are equal to these
     pub next_of : (n from at next : ℕ) → from + n ≡ at → suc n ≡ next → left_at payload (flat_map fields_of (range_with_len from n)) ≡ None → left_at payload (fields_of at) ≡ None → left_at payload (flat_map fields_of (range_with_len from next)) ≡ None

@@ -2,4 +2,8 @@ pub mod BinCount
 pub mod DirectoryLaws
 mod Examples
 pub mod FieldLaws
+pub mod PlaceLaws
+pub mod RecordBack
+pub mod RecordFound
+pub mod RecordLaws
 pub mod StoreLaws

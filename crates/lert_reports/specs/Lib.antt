@@ -1,2 +1,3 @@
+pub mod LogRules
 pub mod LogText
 pub mod Stored

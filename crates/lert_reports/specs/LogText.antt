@@ -1,5 +1,5 @@
 -- The payload of a record in a log, and the first place at which a payload leaves the format.
-use Rattle.std.specs.Prelude.{◌≡◌, ℕ, ◌+◌, ◌-◌, ◌*◌, ◌/◌, ◌^◌, ◌==◌, ◌&&◌, ◌||◌, nat_lt, nat_le, not, min, max, Bool, List, [], ◌∷◌, ◌++◌, length, take, drop, flat_map, find, count_by, sum_by, slice_index, Option, option_map, if◌then◌else◌}
+use Rattle.std.specs.Prelude.{◌≡◌, ◌≤◌, ℕ, ◌+◌, ◌-◌, ◌*◌, ◌/◌, ◌^◌, ◌==◌, ◌&&◌, ◌||◌, nat_lt, nat_le, not, min, max, Bool, List, [], ◌∷◌, ◌++◌, length, take, drop, flat_map, find, count_by, sum_by, slice_index, Option, option_map, if◌then◌else◌}
 use Rattle.std.specs.List.{range_with_len, list_any}
 use Rattle.byteorder.specs.Endian.{little_number, little_bytes}
 use Rattle.lert_spec.specs.declared.numbers.Numbers.{Numbers}
@@ -100,6 +100,10 @@ head_fields s before payload =
 abbrev pub level_place : Numbers → ℕ → ℕ → ℕ
 level_place s n0 level = 25 + sum_by (λ younger. 1 + bin_count s younger n0) (range_with_len 1 (level - 1))
 
+-- the frames of a level
+abbrev pub frames_in : Numbers → List ℕ → ℕ → List ℕ
+frames_in s payload level = take (bin_count s level (n0_in payload)) (drop (level_place s (n0_in payload) level + 1) payload)
+
 -- where the number of reports stands
 abbrev pub reports_place : Numbers → ℕ → ℕ
 reports_place s n0 = level_place s n0 (s.levels + 1)
@@ -136,6 +140,10 @@ reports_in s payload = number_in 4 payload (reports_place s (n0_in payload))
 -- the place and the number of the k-th report, from 0
 abbrev pub report_place : Numbers → List ℕ → ℕ → ℕ
 report_place s payload k = reports_place s (n0_in payload) + 4 + 16 * k
+
+-- the report whose bytes stand at a place
+abbrev pub report_in : List ℕ → ℕ → Report
+report_in payload place = record { key = number_in 8 payload place; at = number_in 8 payload (place + 8) }
 
 -- the position of the report before the k-th
 abbrev pub at_before : Numbers → LogBefore → List ℕ → ℕ → ℕ
@@ -199,7 +207,7 @@ left_at payload fields = option_map (λ field. field.place) (find (is_broken pay
 abbrev pub log_left : Numbers → ℕ → LogBefore → List ℕ → Option ℕ
 log_left s cone before payload = left_at payload (log_fields s cone before payload)
 
--- what stands where in a payload
+-- what stands where in a payload that ends behind its reports
 pub record ArePartsOf (s : Numbers) (payload : List ℕ) (parts : LogParts) : Type 0 where
   pub kind_is : kind_number parts.kind ≡ slice_index payload 0
   pub n0_is : parts.n0 ≡ n0_in payload
@@ -208,3 +216,5 @@ pub record ArePartsOf (s : Numbers) (payload : List ℕ) (parts : LogParts) : Ty
   pub directory_is : parts.directory_at ≡ 25
   pub place_is : parts.reports_at ≡ reports_place s (n0_in payload) + 4
   pub reports_are : parts.reports ≡ reports_in s payload
+  pub within : parts.n0 ≤ capacity s
+  pub ends : parts.reports_at + 16 * parts.reports ≡ length payload

@@ -4,10 +4,12 @@ ghost use Rattle.std.specs.Prelude.{◌≡◌, ℕ, ◌+◌, ◌*◌, ◌<◌, �
 ghost use Rattle.lert_gatelog.specs.Gated.{appendix};
 ghost use Rattle.lert_reports.specs.LogText.{kind_number, log_payload, report_bytes};
 
+pub use contents::{frames_of, report_at};
 use lert_base::Report;
 use lert_gatelog::lay::{put, put_key, put_number};
 pub use read::read_log;
 
+mod contents;
 mod read;
 #[cfg(test)]
 mod tests;

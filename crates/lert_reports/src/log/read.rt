@@ -1,7 +1,8 @@
 //! Records of a log as they are read: where one leaves the format, and what stands where in it.
 
-ghost use Rattle.std.specs.Prelude.{◌≡◌, ℕ, ◌+◌, ◌*◌, ◌<◌, ◌≤◌, ◌^◌, min, true, false, [], ◌∷◌, None, Some, nat_lt, length, slice_index, MatchResult};
-ghost use Rattle.lert_reports.specs.LogText.{kind_number, kind_field, n0_field, offset_field, first_field, head_fields, keeps_n0, next_flush, number_in, n0_in, is_broken, left_at, bin_count, level_place, reports_place, level_fields, directory_fields, bins_field, frame_field, frame_fields, count_field, reports_in, report_place, report_fields, all_report_fields, at_before, key_field, at_field, log_end, end_field, log_left, ArePartsOf};
+ghost use Rattle.std.specs.Prelude.{◌≡◌, ℕ, ◌+◌, ◌*◌, ◌<◌, ◌≤◌, ◌^◌, min, true, false, [], ◌∷◌, None, Some, nat_lt, length, slice_index, MatchResult, IfOk, IsOkAnd};
+ghost use Rattle.lert_reports.specs.LogText.{LogRecord, log_payload_of, kind_number, kind_field, n0_field, offset_field, first_field, head_fields, keeps_n0, next_flush, number_in, n0_in, is_broken, left_at, bin_count, level_place, reports_place, level_fields, directory_fields, bins_field, frame_field, frame_fields, count_field, reports_in, report_place, report_fields, all_report_fields, at_before, key_field, at_field, log_end, end_field, log_left, ArePartsOf};
+ghost use Rattle.lert_reports.specs.LogRules.{KeepsRules, TellOf, record_in};
 ghost use Rattle.lert_spec.specs.Edges.{capacity, edge};
 
 use super::{LogBefore, LogKind, LogParts};
@@ -17,6 +18,27 @@ const MOST_OFFSET: u64 = 1 << 46;
 /// which it first leaves the format, but for the rule that no key is listed twice, which is the caller's to test.
 /// Takes no memory.
 pub fn read_log(
+    settings: &Settings,
+    cone: u32,
+    before: &LogBefore,
+    payload: &[u8],
+) -> Result<LogParts, u64>
+    ensures exact { MatchResult result
+        (λ parts. (log_left settings.now cone before.now payload.now ≡ None) × ArePartsOf settings.now payload.now parts)
+        (λ place. log_left settings.now cone before.now payload.now ≡ Some place) }
+
+    // A payload that is read is that of a record that keeps the rules, and what `write_log` wrote by the rules reads back.
+    ensures found { IfOk result (λ parts. KeepsRules settings.now cone before.now (record_in settings.now payload.now parts)
+        × (payload.now ≡ log_payload_of (record_in settings.now payload.now parts))) }
+    ensures reads_back { (record_ : LogRecord) → KeepsRules settings.now cone before.now record_ → payload.now ≡ log_payload_of record_ →
+        IsOkAnd result (λ parts. TellOf record_ parts × (record_in settings.now payload.now parts ≡ record_)) }
+{
+    let _valid = settings.numbers();
+    read_parts(settings, cone, before, payload)
+}
+
+// The parts of a payload, or the place at which it first leaves the format.
+fn read_parts(
     settings: &Settings,
     cone: u32,
     before: &LogBefore,
@@ -356,7 +378,7 @@ fn read_end(settings: &Settings, end: usize, payload: &[u8]) -> Result<(), u64>
     requires end { end ≡ log_end settings.now payload.now }
     requires long { end ≤ length payload.now }
     ensures { MatchResult result
-        (λ _. is_broken payload.now (end_field settings.now payload.now) ≡ false)
+        (λ _. (is_broken payload.now (end_field settings.now payload.now) ≡ false) × (end ≡ length payload.now))
         (λ at. (is_broken payload.now (end_field settings.now payload.now) ≡ true) × (at ≡ log_end settings.now payload.now)) }
 {
     if payload.len() == end {
