@@ -1,0 +1,206 @@
+//! The job of `lert run` over a plain hash map: it writes the journals that the program writes, with the
+//! same data syncs, counts the keys of each packet behind them, and reports each key at the event that
+//! makes it reach the threshold. It prints the same lines.
+//!
+//! Words: THRESHOLD ROOM CONE_BITS DIR TRACE. The other settings are the program's defaults; the room is
+//! written into the journals and bounds nothing here, and a cone takes as many keys as there are. DIR is
+//! made, and has no journal yet. It keeps no log and no frames. It is the yardstick of `bench/run`, and
+//! ends at the first fault.
+
+use std::collections::HashMap;
+use std::env;
+use std::fs::{self, File};
+use std::io::{self, BufReader, BufWriter, ErrorKind, Read, Write};
+use std::os::unix::fs::FileExt;
+use std::path::Path;
+
+const TRACE_HEADER: [u8; 8] = *b"LERT\x01\0\0\0";
+const JOURNAL_MAGIC: [u8; 8] = *b"LERTJ\x01\0\0";
+const BUFFER_LEN: usize = 1 << 16;
+const MOST_CONE_BITS: u32 = 8;
+const BINS: u8 = 4;
+const RATIO: u8 = 4;
+const BASE: u32 = 4096;
+const LEVELS: u8 = 5;
+const PACKET: usize = 1024;
+/// The one worker and the one trace that a packet names.
+const BY: u32 = 0;
+const TRACE: u32 = 0;
+const CLOSED: u8 = 0;
+const OPEN: u8 = 1;
+
+struct Settings {
+    threshold: u32,
+    room: u32,
+    cone_bits: u32,
+}
+
+impl Settings {
+    /// The header of a cone's journal.
+    fn header(&self, cone: u32) -> Vec<u8> {
+        let mut header = JOURNAL_MAGIC.to_vec();
+        for number in [self.threshold, self.room, BASE, PACKET as u32] {
+            header.extend_from_slice(&number.to_le_bytes());
+        }
+        header.extend_from_slice(&[BINS, RATIO, LEVELS, self.cone_bits as u8]);
+        header.extend_from_slice(&cone.to_le_bytes());
+        header
+    }
+
+    /// The highest bits of the mixed value of a key.
+    fn cone_of(&self, key: u64) -> usize {
+        mix(key).checked_shr(64 - self.cone_bits).unwrap_or(0) as usize
+    }
+}
+
+fn mix(key: u64) -> u64 {
+    let key = (key ^ (key >> 33)).wrapping_mul(0xff51_afd7_ed55_8ccd);
+    let key = (key ^ (key >> 33)).wrapping_mul(0xc4ce_b9fe_1a85_ec53);
+    key ^ (key >> 33)
+}
+
+/// Packets on disk, as gated records. The present gate is closed, and stands behind the last packet.
+struct Journal {
+    file: File,
+    gate: u64,
+    text: Vec<u8>,
+}
+
+impl Journal {
+    fn create(path: &Path, mut header: Vec<u8>) -> io::Result<Journal> {
+        let file = File::options().write(true).create_new(true).open(path)?;
+        let journal = Journal { file, gate: header.len() as u64, text: Vec::new() };
+        header.push(CLOSED);
+        journal.write_durably(0, &header)?;
+        Ok(journal)
+    }
+
+    /// Four calls, two of them data syncs: the packet is on disk before the gate before it opens.
+    fn append(&mut self, keys: &[u64]) -> io::Result<()> {
+        self.text.clear();
+        let len = 8 + 8 * keys.len() as u32;
+        for number in [len, BY, TRACE] {
+            self.text.extend_from_slice(&number.to_le_bytes());
+        }
+        self.text.extend(keys.iter().flat_map(|key| key.to_le_bytes()));
+        self.text.push(CLOSED);
+        self.write_durably(self.gate + 1, &self.text)?;
+        self.write_durably(self.gate, &[OPEN])?;
+        self.gate += self.text.len() as u64;
+        Ok(())
+    }
+
+    fn write_durably(&self, at: u64, bytes: &[u8]) -> io::Result<()> {
+        self.file.write_all_at(bytes, at)?;
+        self.file.sync_data()
+    }
+}
+
+struct Cone {
+    journal: Journal,
+    ring: Vec<u64>,
+    counts: HashMap<u64, u64>,
+    events: u64,
+    reports: Vec<(u64, u64)>,
+}
+
+impl Cone {
+    fn create(dir: &Path, settings: &Settings, number: u32) -> io::Result<Cone> {
+        let path = dir.join(format!("cone-{number:03}.journal"));
+        Ok(Cone {
+            journal: Journal::create(&path, settings.header(number))?,
+            ring: Vec::with_capacity(PACKET),
+            counts: HashMap::new(),
+            events: 0,
+            reports: Vec::new(),
+        })
+    }
+
+    /// Writes what the ring holds as a packet, and then counts its keys.
+    fn admit(&mut self, threshold: u64) -> io::Result<()> {
+        self.journal.append(&self.ring)?;
+        for key in self.ring.drain(..) {
+            self.events += 1;
+            let count = self.counts.entry(key).or_insert(0);
+            *count += 1;
+            if *count == threshold {
+                self.reports.push((key, self.events));
+            }
+        }
+        Ok(())
+    }
+}
+
+/// The next key, or `None` at the end of the trace.
+fn next_key(trace: &mut impl Read) -> io::Result<Option<u64>> {
+    let mut bytes = [0; 8];
+    let len = trace.read(&mut bytes)?;
+    if len == 0 {
+        return Ok(None);
+    }
+    trace.read_exact(&mut bytes[len..])?;
+    Ok(Some(u64::from_le_bytes(bytes)))
+}
+
+/// Brings the keys of a trace to their cones, a packet at a time, and at its end what the rings hold.
+fn route(trace: &mut impl Read, settings: &Settings, cones: &mut [Cone]) -> io::Result<()> {
+    let threshold = u64::from(settings.threshold);
+    while let Some(key) = next_key(trace)? {
+        let cone = &mut cones[settings.cone_of(key)];
+        cone.ring.push(key);
+        if cone.ring.len() == PACKET {
+            cone.admit(threshold)?;
+        }
+    }
+    cones.iter_mut().filter(|cone| !cone.ring.is_empty()).try_for_each(|cone| cone.admit(threshold))
+}
+
+fn print(out: &mut impl Write, cones: &[Cone]) -> io::Result<()> {
+    for (number, cone) in cones.iter().enumerate() {
+        writeln!(
+            out,
+            "cone {number} events {} reports {} closed",
+            cone.events,
+            cone.reports.len()
+        )?;
+        for (key, at) in &cone.reports {
+            writeln!(out, "{key} {at}")?;
+        }
+    }
+    let events: u64 = cones.iter().map(|cone| cone.events).sum();
+    let reports: usize = cones.iter().map(|cone| cone.reports.len()).sum();
+    writeln!(out, "total events {events} reports {reports}")?;
+    out.flush()
+}
+
+fn main() -> io::Result<()> {
+    let wrong = || {
+        io::Error::new(ErrorKind::InvalidInput, "the words are THRESHOLD ROOM CONE_BITS DIR TRACE")
+    };
+    let words: Vec<String> = env::args().skip(1).collect();
+    let [threshold, room, cone_bits, dir, trace] = words.as_slice() else {
+        return Err(wrong());
+    };
+    let number = |word: &String| word.parse::<u32>().map_err(|_| wrong());
+    let settings = Settings {
+        threshold: number(threshold)?,
+        room: number(room)?,
+        cone_bits: number(cone_bits)?,
+    };
+    if settings.cone_bits > MOST_CONE_BITS {
+        return Err(wrong());
+    }
+    let mut trace = BufReader::with_capacity(BUFFER_LEN, File::open(trace)?);
+    let mut header = [0; 8];
+    trace.read_exact(&mut header)?;
+    if header != TRACE_HEADER {
+        return Err(io::Error::new(ErrorKind::InvalidData, "the trace has another header"));
+    }
+    fs::create_dir_all(dir)?;
+    let mut cones: Vec<Cone> = (0..1 << settings.cone_bits)
+        .map(|cone| Cone::create(Path::new(dir), &settings, cone))
+        .collect::<io::Result<_>>()?;
+    route(&mut trace, &settings, &mut cones)?;
+    let mut out = BufWriter::with_capacity(BUFFER_LEN, io::stdout().lock());
+    print(&mut out, &cones)
+}
