@@ -1,2 +1,3 @@
 mod Examples
 pub mod RangeLaws
+pub mod RowLaws

@@ -111,7 +111,7 @@ cuts_few wide low high a b first (suc n) within =
       | inr none ↦ (let same = ap (λ t. length (cond t (range ∷ rest) rest)) (le-ltb range.from range.to none) in omega arith)
     ]
 
-edge_within : (s : Numbers) (level n : ℕ) → edge s level n ≤ n
+pub edge_within : (s : Numbers) (level n : ℕ) → edge s level n ≤ n
 edge_within s level n = omega (arith, mul-div-le (n - offset s level) (span s level))
 
 -- the ranges between the edges of two levels
