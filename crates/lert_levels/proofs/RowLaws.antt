@@ -2,7 +2,7 @@
 use Rattle.std.proofs.Common.{ℕ, ◌≡◌, ◌≢◌, ◌+◌, ◌-◌, ◌*◌, ◌/◌, ◌%◌, ◌^◌, ◌<◌, ◌≤◌, zero, suc, Bool, true, false, cond, ltb, eqb, List, [], ◌∷◌, ◌++◌, length, map, get_or, take, drop, Some, None, refl, ap, ap₂, sym, ◌∙◌, arith, inl, inr, ◌⊎◌, subst, find, unwrap_or, count_by, append-nil, length-append, length-take, length-drop}
 use Rattle.std.specs.List.{All, range_with_len}
 use Rattle.std.proofs.lemmas.Bool.{cases_lt, cases_eq, cases_order, cases_Bool, lt-ltb, le-ltb, eq-eqb, ne_eqb, eqb-true, eqb-false}
-use Rattle.std.proofs.lemmas.List.{length-map, map_push, take-map, drop-map, get_or-map, get_or_at, take_at, get_or_default}
+use Rattle.std.proofs.lemmas.List.{length-map, map_push, take-map, drop-map, get_or-map, get_or_at, take_at, get_or_default, take-append-drop}
 use Rattle.std.proofs.lemmas.List.Elements.{All-append, All-take, All-drop, All-cons, All-nil}
 use Rattle.std.proofs.lemmas.List.FromFn.{get_or-map-range_with_len, length-map-range_with_len}
 use Rattle.std.proofs.lemmas.List.Sums.{sum_by-cons, sum_by-append, count_by-le-length}
@@ -152,6 +152,50 @@ split_row s m level row are e =
           })
     ]
 
+-- what holds of each positions of a row
+All-ranges : (P : Range → Type 0) (row : List BinAt) → All P (map range_of row) → All (λ bin. P (range_of bin)) row
+All-ranges P row all k d below = subst P (get_or-map range_of row k d (range_of d) below) (all k (range_of d) (omega (arith, length-map row range_of)))
+
+-- fewer bins name a frame no more often
+times_named-take : (n : ℕ) (row : List BinAt) (frame : ℕ) → times_named (take n row) frame ≤ times_named row frame
+times_named-take n row frame =
+    omega (arith, ap (λ (bins : List BinAt). times_named bins frame) (take-append-drop n row), sum_by-append (λ (bin : BinAt). cond {A = ℕ} (eqb bin.frame frame) 1 0) (take n row) (drop n row))
+
+times_named-drop : (n : ℕ) (row : List BinAt) (frame : ℕ) → times_named (drop n row) frame ≤ times_named row frame
+times_named-drop n row frame =
+    omega (arith, ap (λ (bins : List BinAt). times_named bins frame) (take-append-drop n row), sum_by-append (λ (bin : BinAt). cond {A = ℕ} (eqb bin.frame frame) 1 0) (take n row) (drop n row))
+
+-- a bin in a free frame
+distinct_push : (row front : List BinAt) (bin : BinAt) → ((frame : ℕ) → times_named front frame ≤ times_named row frame) → ((frame : ℕ) → times_named row frame ≤ 1) → times_named row bin.frame ≡ 0 →
+    (frame : ℕ) → times_named (front ++ bin ∷ []) frame ≤ 1
+distinct_push row front bin fewer distinct free frame =
+    let one = λ (b : BinAt). cond {A = ℕ} (eqb b.frame frame) 1 0 in
+    let parts = sum_by-append one front (bin ∷ []) in
+    let alone : times_named (bin ∷ []) frame ≡ one bin = omega (arith, sum_by-cons one bin []) in
+    let less = fewer frame in
+    elim (cases_eq bin.frame frame) [
+      | inl same ↦ (
+          let here = ap (λ t. cond {A = ℕ} t 1 0) (eq-eqb bin.frame frame same) in
+          let none = ap (times_named row) (sym same) ∙ free in omega arith)
+      | inr other ↦ (
+          let away = ap (λ t. cond {A = ℕ} t 1 0) (ne_eqb bin.frame frame other) in omega (arith, distinct frame))
+    ]
+
+-- a flush writes into no frame in which a bin stands
+pub kept-fewer : (s : Numbers) (m level : ℕ) (row : List BinAt) (frame : ℕ) → times_named (kept s m level row) frame ≤ times_named row frame
+kept-fewer s m level row frame =
+    elim (cases_Bool (begins s m level)) [
+      | inl whole ↦ omega (arith, ap (λ t. times_named (cond t row (take (length row - 1) row)) frame) whole)
+      | inr part ↦ omega (arith, ap (λ t. times_named (cond t row (take (length row - 1) row)) frame) part, times_named-take (length row - 1) row frame)
+    ]
+
+pub All-kept : (P : BinAt → Type 0) (s : Numbers) (m level : ℕ) (row : List BinAt) → All P row → All P (kept s m level row)
+All-kept P s m level row all =
+    elim (cases_Bool (begins s m level)) [
+      | inl whole ↦ subst (λ t. All P (cond t row (take (length row - 1) row))) (sym whole) all
+      | inr part ↦ subst (λ t. All P (cond t row (take (length row - 1) row))) (sym part) (All-take P (length row - 1) row all)
+    ]
+
 module _ (s : Numbers) (valid : IsValid s) (m : ℕ) (first : 1 ≤ m) (fits : m ≤ capacity s) where
   base : 1 ≤ s.base
   base = omega (arith, valid.limits.base_from)
@@ -188,4 +232,49 @@ module _ (s : Numbers) (valid : IsValid s) (m : ℕ) (first : 1 ≤ m) (fits : m
     levels = length-moved s m rows ∙ at.levels;
     each = λ level from within.
     ap (map range_of) (row_of-moved s m rows level from (omega (arith, at.levels))) ∙ row_moves level (row_of rows level) from within (at.each level from within);
+  }
+
+  -- a row that has the positions of a level after the flush, its bins in frames of their own
+  row_is : (level : ℕ) (row : List BinAt) → 1 ≤ level → map range_of row ≡ ranges s m level → ((frame : ℕ) → times_named row frame ≤ 1) → All (λ bin. bin.frame ≤ s.bins) row → IsRow s level row
+  row_is level row from are distinct frames =
+      let width = span s level in
+      let high = edge s (level - 1) m in
+      let cut = cuts_are width (edge s level m) high 0 (suc (m / width)) in
+      let each = All-ranges (IsCut width high) row (subst (All (IsCut width high)) (sym are) cut) in
+      let top = capacity_to s valid in
+      record {
+        few = omega (arith, length-map row range_of, ap (length {A = Range}) are, ranges_few s base ratio level m some from);
+        distinct = distinct;
+        frames = frames;
+        some = λ k d below. (each k d below).some;
+        widths = λ k d below. (each k d below).width;
+        ends = λ k d below. (let cut_here = each k d below in omega (arith, cut_here.end, edge_within s (level - 1) m));
+      }
+
+  IsRow-moved : (level : ℕ) (row : List BinAt) → 1 ≤ level → level ≤ s.levels → map range_of row ≡ ranges s (m - 1) level → IsRow s level row → IsRow s level (moved_row s m level row)
+  IsRow-moved level row from within are is =
+      let deep = depth s m in
+      let new = arrived s m level row in
+      let written = kept s m level row ++ new ∷ [] in
+      let d = cond {A = ℕ} (ltb level deep) 1 0 in
+      elim (cases_lt deep level) [
+        | inl less ↦ subst (λ t. IsRow s level (cond t row (drop d written))) (sym (lt-ltb deep level less)) is
+        | inr reached ↦ (
+            let free = lowest_is_free row in
+            let unmoved = le-ltb deep level reached in
+            let positions : map range_of (drop d written) ≡ ranges s m level =
+            ap (λ t. map range_of (cond t row (drop d written))) (sym unmoved) ∙ row_moves level row from within are in
+            let distinct = distinct_push row (kept s m level row) new (kept-fewer s m level row) is.distinct free.free in
+            let low : new.frame ≤ s.bins = omega (arith, free.within, is.few) in
+            let frames = All-append (λ (bin : BinAt). bin.frame ≤ s.bins) (kept s m level row) (new ∷ []) (All-kept (λ (bin : BinAt). bin.frame ≤ s.bins) s m level row is.frames)
+            (All-cons (λ (bin : BinAt). bin.frame ≤ s.bins) new [] low (All-nil (λ (bin : BinAt). bin.frame ≤ s.bins))) in
+            subst (λ t. IsRow s level (cond t row (drop d written))) (sym unmoved)
+            (row_is level (drop d written) from positions (λ frame. omega (arith, times_named-drop d written frame, distinct frame)) (All-drop (λ (bin : BinAt). bin.frame ≤ s.bins) d written frames)))
+      ]
+
+  pub AreRows-moved : (rows : List (List BinAt)) → IsAt s (m - 1) rows → AreRows s rows → AreRows s (moved s m rows)
+  AreRows-moved rows at are = record {
+    levels = length-moved s m rows ∙ at.levels;
+    each = λ level from within.
+    subst (IsRow s level) (sym (row_of-moved s m rows level from (omega (arith, at.levels)))) (IsRow-moved level (row_of rows level) from within (at.each level from within) (are.each level from within));
   }
