@@ -1,3 +1,4 @@
 mod Examples
 pub mod RangeLaws
 pub mod RowLaws
+pub mod Windows

@@ -23,7 +23,7 @@ map_cond_one f false x = refl
 
 -- ---- bins and their ranges
 
-filled_cuts : (s : Numbers) (events : List ℕ) (level low high : ℕ) (ks : List ℕ) →
+pub filled_cuts : (s : Numbers) (events : List ℕ) (level low high : ℕ) (ks : List ℕ) →
     filter (λ bin. ltb bin.from bin.to) (map (bin_at s events level low high) ks)
     ≡ map (filled s events) (filter (λ range. ltb range.from range.to) (map (range_at (span s level) low high) ks))
 filled_cuts s events level low high [] = refl
