@@ -2,3 +2,4 @@ mod Examples
 pub mod RangeLaws
 pub mod RowLaws
 pub mod Windows
+pub mod CoverLaws

@@ -118,7 +118,7 @@ ranges_cover s events tail n level base ratio from =
 pub young-ranges : (s : Numbers) (events : List ℕ) (from : ℕ) → young_bins s events from ≡ map (filled s events) (range_cuts (span s 0) from (length events) 0 (suc (length events / span s 0)))
 young-ranges s events from = filled_cuts s events 0 from (length events) (range_with_len 0 (suc (length events / span s 0)))
 
-sum_by-map : {A B : Type 0} (f : A → B) (count : B → ℕ) (xs : List A) → sum_by count (map f xs) ≡ sum_by (λ x. count (f x)) xs
+pub sum_by-map : {A B : Type 0} (f : A → B) (count : B → ℕ) (xs : List A) → sum_by count (map f xs) ≡ sum_by (λ x. count (f x)) xs
 sum_by-map f count [] = omega arith
 sum_by-map f count (x ∷ xs) = omega (arith, sum_by-cons count (f x) (map f xs), sum_by-cons (λ a. count (f a)) x xs, sum_by-map f count xs)
 
