@@ -3,6 +3,7 @@
 
 mod bin_at;
 mod fault;
+mod rows;
 
 pub use bin_at::BinAt;
 pub use fault::FlushFault;
