@@ -3,3 +3,4 @@ pub mod RangeLaws
 pub mod RowLaws
 pub mod Windows
 pub mod CoverLaws
+pub mod DirectoryLaws

@@ -2,6 +2,7 @@
 #![tactic(auto)]
 
 mod bin_at;
+mod directory;
 mod fault;
 mod rows;
 

@@ -1,11 +1,12 @@
 //! What a flush makes of a level's row.
 
-ghost use Rattle.std.specs.Prelude.{◌≡◌, ◌<◌, ◌≤◌, ◌^◌, ◌==◌, length, ◌++◌, ◌∷◌, [], find, vec_capacity};
+ghost use Rattle.std.specs.Prelude.{◌≡◌, ◌<◌, ◌≤◌, ◌^◌, ◌==◌, length, find, vec_capacity};
 ghost use Rattle.std.specs.List.{range_with_len};
 ghost use Rattle.lert_spec.specs.Edges.{capacity};
 ghost use Rattle.lert_levels.specs.Rows.{times_named, lowest_free, newest, begins, arrived, moved_row};
 
 use crate::bin_at::BinAt;
+use crate::directory::put;
 use lert_base::Settings;
 
 /// The bin that a flush at position `m` writes into a level: the one that comes in, by itself where it begins an aligned
@@ -96,14 +97,4 @@ pub fn move_row(settings: &Settings, m: u64, level: u32, row: &mut Vec<BinAt>)
     if level < depth {
         row.remove(0);
     }
-}
-
-// Puts a bin behind the others, where there is room.
-fn put(row: &mut Vec<BinAt>, bin: BinAt)
-    requires { length row.old.items < vec_capacity row.old }
-    ensures row { row.new.items ≡ row.old.items ++ bin ∷ [] }
-    ensures capacity { vec_capacity row.old ≤ vec_capacity row.new }
-{
-    let is_put = row.push(bin).is_ok();
-    prove!(is_put);
 }
