@@ -1,1 +1,3 @@
 mod Examples
+pub mod YoungBins
+mod YoungLaws
