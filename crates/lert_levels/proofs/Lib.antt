@@ -4,3 +4,5 @@ pub mod RowLaws
 pub mod Windows
 pub mod CoverLaws
 pub mod DirectoryLaws
+pub mod YoungBins
+mod YoungLaws

@@ -5,6 +5,8 @@ mod bin_at;
 mod directory;
 mod fault;
 mod rows;
+mod zero;
 
 pub use bin_at::BinAt;
 pub use fault::FlushFault;
+pub use zero::Zero;
