@@ -6,3 +6,4 @@ pub mod CoverLaws
 pub mod DirectoryLaws
 pub mod YoungBins
 mod YoungLaws
+pub mod LoadLaws
