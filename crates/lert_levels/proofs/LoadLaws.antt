@@ -1,8 +1,8 @@
 -- The bins of levels as they are read: one more, and a level more.
-use Rattle.std.proofs.Common.{ℕ, ◌≡◌, ◌+◌, ◌<◌, ◌≤◌, zero, suc, List, [], ◌∷◌, ◌++◌, length, map, take, get_or, refl, ap, ap₂, sym, ◌∙◌, arith, inl, inr, ◌⊎◌, ◌↔◌, subst, Option, Result}
+use Rattle.std.proofs.Common.{ℕ, ◌≡◌, ◌+◌, ◌<◌, ◌≤◌, zero, suc, List, [], ◌∷◌, ◌++◌, length, map, take, get_or, refl, ap, ap₂, flat_map, sym, ◌∙◌, arith, inl, inr, ◌⊎◌, ◌↔◌, subst, Option, Result}
 use Rattle.std.specs.Prelude.{Ok, Err, IsErrAnd, MatchResult}
 use Rattle.std.specs.List.{All, AllZip}
-use Rattle.std.proofs.lemmas.List.{append_assoc, map_push, map_more}
+use Rattle.std.proofs.lemmas.List.{append_assoc, map_push, map_more, get_or-map, flat_map_more, take_more}
 use Rattle.lert_bay.specs.Files.{Files}
 use Rattle.lert_bay.specs.Images.{Lasts}
 use Rattle.lert_bay.proofs.Lasting.{lasts_on}
@@ -64,3 +64,24 @@ bins_more limit widths streams after loaded row i d below pushed are is =
     append_assoc widths (map width_of (take i row)) (width_of (get_or row i d) ∷ []) ∙ ap (λ w. widths ++ w) (sym (map_more width_of row i d below)) in
     subst (λ (w : List ℕ). AreBins limit w (lists_of after)) wider
     (subst (AreBins limit ((widths ++ map width_of (take i row)) ++ width_of (get_or row i d) ∷ [])) (sym (ap lists_of pushed ∙ map_push (λ (bin : LoadedBin). bin.pieces.items) streams loaded)) more)
+
+-- ---- level by level
+
+-- a row behind its place in the list of rows
+pub row_here : {V : Type 0} (items : V → List BinAt) (rows : List V) (i : ℕ) (row : V) (now : List BinAt) → i < length rows → row ≡ get_or rows i row → now ≡ items row → get_or (map items rows) i [] ≡ now
+row_here items rows i row now below is now_is = get_or-map items rows i row [] below ∙ ap items (sym is) ∙ sym now_is
+
+-- what holds of the row at a place, and of its level
+pub row_to : (P : ℕ → List BinAt → Type 0) (rows : List (List BinAt)) (i level : ℕ) (now : List BinAt) → get_or rows i [] ≡ now → level ≡ i → P (i + 1) (get_or rows i []) → P (level + 1) now
+row_to P rows i level now is same holds = subst (λ (n : ℕ). P (n + 1) now) (sym same) (subst (P (i + 1)) is holds)
+
+pub row_from : (P : ℕ → List BinAt → Type 0) (rows : List (List BinAt)) (i level : ℕ) (now : List BinAt) → get_or rows i [] ≡ now → level ≡ i → P (level + 1) now → P (i + 1) (get_or rows i [])
+row_from P rows i level now is same holds = subst (P (i + 1)) (sym is) (subst (λ (n : ℕ). P (n + 1) now) same holds)
+
+-- what the rows give, one by one
+pub flat_more : {A : Type 0} (f : List BinAt → List A) (before : List A) (rows : List (List BinAt)) (i : ℕ) (now : List BinAt) → get_or rows i [] ≡ now → i < length rows →
+    (before ++ flat_map f (take i rows)) ++ f now ≡ before ++ flat_map f (take (i + 1) rows)
+flat_more f before rows i now is below =
+    ap (λ row. (before ++ flat_map f (take i rows)) ++ f row) (sym is)
+    ∙ flat_map_more f before (take i rows) (get_or rows i [])
+    ∙ ap (λ rs. before ++ flat_map f rs) (sym (take_more rows i [] below))
