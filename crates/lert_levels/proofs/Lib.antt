@@ -7,3 +7,4 @@ pub mod DirectoryLaws
 pub mod YoungBins
 mod YoungLaws
 pub mod LoadLaws
+pub mod LandLaws

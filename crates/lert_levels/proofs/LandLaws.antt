@@ -1,0 +1,151 @@
+-- Calls that write some frames and leave the rest, one after the other.
+use Rattle.std.proofs.Common.{ℕ, ◌≡◌, ◌≢◌, ◌+◌, ◌-◌, ◌*◌, ◌<◌, ◌≤◌, zero, suc, List, [], ◌∷◌, ◌++◌, length, take, drop, refl, ap, sym, ◌∙◌, arith, inl, inr, ◌⊎◌, subst, Option, Some, None, Result, length-take, length-drop}
+use Rattle.std.specs.Prelude.{OnOk, OnErr}
+use Rattle.std.proofs.lemmas.Bool.{cases_eq, cases_lt}
+use Rattle.std.proofs.lemmas.Option.{none-some}
+use Rattle.lert_bay.specs.Files.{Files, Turns, Changes, Holds, Torn, LeftByFailure}
+use Rattle.lert_bay.specs.Images.{Lasts, Elapses}
+use Rattle.lert_bay.specs.Settled.{part, Keeps, IsSettled}
+use Rattle.lert_bay.proofs.Lasting.{lasts_on, lasts_none, lasts_more}
+use Rattle.lert_bay.proofs.Settling.{part_torn, length_part, part_none}
+use Rattle.lert_bay.proofs.Tearing.{torn_held}
+use Rattle.lert_frames.proofs.StoreLaws.{length_frame}
+use Rattle.lert_frames.proofs.WriteLaws.{either_way}
+use Rattle.lert_frames.specs.Frame.{HoldsFrame, frame_text, text_len}
+use Rattle.lert_frames.specs.Kept.{KeepsOutside}
+use Rattle.lert_frames.specs.Place.{frame_place, frame_len}
+use Rattle.lert_spec.specs.declared.numbers.Numbers.{Numbers}
+use Rattle.lert_spec.specs.declared.piece.Piece.{Piece}
+use Rattle.lert_levels.specs.Landing.{IsApart, LeavesRest, KeepsRest}
+
+-- fewer ranges
+leaves_fewer : (kept fewer : ℕ → ℕ → Type 0) (old new : Files) → ((from to : ℕ) → fewer from to → kept from to) → LeavesRest kept old new → LeavesRest fewer old new
+leaves_fewer kept fewer old new weaker leaves = record { others = leaves.others; longer = leaves.longer; rest = λ from to kept_here within. leaves.rest from to (weaker from to kept_here) within }
+
+pub turns_fewer : (kept fewer : ℕ → ℕ → Type 0) (before after : Option Files) → ((from to : ℕ) → fewer from to → kept from to) → Turns (LeavesRest kept) before after → Turns (LeavesRest fewer) before after
+turns_fewer kept fewer before after weaker turned = record {
+  told = λ old told. let then = turned.told old told in (then.0, then.1, leaves_fewer kept fewer old then.0 weaker then.2);
+  untold = turned.untold;
+}
+
+leaves_same : (kept : ℕ → ℕ → Type 0) (files : Files) → LeavesRest kept files files
+leaves_same kept files = record { others = λ number other. refl; longer = omega arith; rest = λ from to kept_here within. refl }
+
+-- no call
+pub rest_none : (kept : ℕ → ℕ → Type 0) (files : Option Files) (leaves : Files → Type 0) (now : ℕ) (since : ℕ → Files → Type 0) → ((image : Files) → since now image → leaves image) → KeepsRest kept files files leaves now now since since
+rest_none kept files leaves now since only_now = record {
+  seen = record { told = λ old told. (old, told, leaves_same kept old); untold = λ untold. untold };
+  settled = λ seen told number from to may settled image since_now. settled.same image (only_now image since_now);
+  time = lasts_none now since;
+}
+
+-- a range that doesn't reach past the end of a file that got no shorter, and reads the same
+settled_middle : (kept : ℕ → ℕ → Type 0) (leaves_before leaves_middle : Files → Type 0) (since : ℕ → Files → Type 0) (first : ℕ) (old middle : Files) (number from to : ℕ) → (number ≢ 2) ⊎ kept from to → LeavesRest kept old middle →
+    ((image : Files) → leaves_middle image → since first image) → IsSettled leaves_before old number from to → Keeps (since first) old number from to →
+    IsSettled leaves_middle middle number from to × (part (middle number) from to ≡ part (old number) from to)
+settled_middle kept leaves_before leaves_middle since first old middle number from to may leaves now settled keeps =
+    elim (cases_eq number 2) [
+      | inr other ↦ (
+          let same = leaves.others number other in
+          let reads = ap (λ bytes. part bytes from to) same in
+          (record { within = omega (arith, ap length same, settled.within); same = λ image left. keeps image (now image left) ∙ sym reads }, reads))
+      | inl frames ↦ (
+          let kept_here : kept from to = elim may [ inl other ↦ absurd (other frames) | inr kept_range ↦ kept_range ] in
+          let within : to ≤ length (old 2) = subst (λ (n : ℕ). to ≤ length (old n)) frames settled.within in
+          let reads = subst (λ (n : ℕ). part (middle n) from to ≡ part (old n) from to) (sym frames) (leaves.rest from to kept_here within) in
+          let long = subst (λ (n : ℕ). to ≤ length (middle n)) (sym frames) (let longer : to ≤ length (middle 2) = omega (arith, within, leaves.longer) in longer) in
+          (record { within = long; same = λ image left. keeps image (now image left) ∙ sym reads }, reads))
+    ]
+
+leaves_on : (kept : ℕ → ℕ → Type 0) (old middle new : Files) → LeavesRest kept old middle → LeavesRest kept middle new → LeavesRest kept old new
+leaves_on kept old middle new one two = record {
+  others = λ number other. two.others number other ∙ one.others number other;
+  longer = omega (arith, one.longer, two.longer);
+  rest = λ from to kept_here within. two.rest from to kept_here (omega (arith, within, one.longer)) ∙ one.rest from to kept_here within;
+}
+
+-- calls after calls
+pub rest_on : (kept : ℕ → ℕ → Type 0) (files_first files_middle files_last : Option Files) (leaves_first leaves_middle : Files → Type 0) (first middle last : ℕ) (since_first since_middle since_last : ℕ → Files → Type 0) →
+    ((image : Files) → leaves_middle image → since_middle middle image) → ((t u : ℕ) (image : Files) → t ≤ u → since_middle u image → since_middle t image) → ((t u : ℕ) (image : Files) → t ≤ u → since_last u image → since_last t image) →
+    KeepsRest kept files_first files_middle leaves_first first middle since_first since_middle → KeepsRest kept files_middle files_last leaves_middle middle last since_middle since_last →
+    KeepsRest kept files_first files_last leaves_first first last since_first since_last
+rest_on kept files_first files_middle files_last leaves_first leaves_middle first middle last since_first since_middle since_last now earlier_middle earlier_last one two = record {
+  seen = record {
+    told = λ old told.
+        let then = one.seen.told old told in
+        let later = two.seen.told then.0 then.1 in
+        (later.0, later.1, leaves_on kept old then.0 later.0 then.2 later.2);
+    untold = λ untold. two.seen.untold (one.seen.untold untold);
+  };
+  settled = λ seen told number from to may settled image since. (
+    let then = one.seen.told seen told in
+    let keeps = one.settled seen told number from to may settled in
+    let there = settled_middle kept leaves_first leaves_middle since_middle first seen then.0 number from to may then.2
+    (λ other left. earlier_middle first middle other one.time.later (now other left)) settled keeps in
+    elim (two.time.known first image one.time.later since) [
+      | inl past ↦ keeps image past
+      | inr after ↦ two.settled then.0 then.1 number from to may there.0 image after ∙ there.1
+    ]);
+  time = lasts_on first middle last since_first since_middle since_last one.time two.time earlier_last;
+}
+
+pub rest_fewer : (kept fewer : ℕ → ℕ → Type 0) (files_before files_after : Option Files) (leaves : Files → Type 0) (first last : ℕ) (since_before since_after : ℕ → Files → Type 0) → ((from to : ℕ) → fewer from to → kept from to) →
+    KeepsRest kept files_before files_after leaves first last since_before since_after → KeepsRest fewer files_before files_after leaves first last since_before since_after
+rest_fewer kept fewer files_before files_after leaves first last since_before since_after weaker keeps = record {
+  seen = turns_fewer kept fewer files_before files_after weaker keeps.seen;
+  settled = λ seen told number from to may settled. keeps.settled seen told number from to (elim may [ inl other ↦ inl other | inr kept_here ↦ inr (weaker from to kept_here) ]) settled;
+  time = keeps.time;
+}
+
+-- ---- the write of one frame
+
+torn_rest : (s : Numbers) (level frame count : ℕ) (old new : Files) → count ≤ frame_len s level → ((number : ℕ) → number ≢ 2 → new number ≡ old number) → Torn (frame_place s level frame) count (old 2) (new 2) → LeavesRest (IsApart s level frame) old new
+torn_rest s level frame count old new fits others torn = record {
+  others = others;
+  longer = torn.no_shorter;
+  rest = λ from to apart within. part_torn (frame_place s level frame) count (old 2) (new 2) (old 2) from to torn refl within
+      (elim apart [ inl before ↦ inl before | inr behind ↦ inr (omega (arith, behind, fits)) ]);
+}
+
+pub stored_rest : {T E : Type 0} (s : Numbers) (level frame : ℕ) (pieces : List Piece) (result : Result T E) (before after : Option Files) → text_len pieces ≤ frame_len s level →
+    OnOk result (Turns (Changes (Holds (frame_place s level frame) (frame_text pieces)) 2) before after) → OnErr result (Turns (Changes (LeftByFailure (frame_place s level frame) (text_len pieces)) 2) before after) →
+    Turns (LeavesRest (IsApart s level frame)) before after
+stored_rest s level frame pieces result before after fits ok err =
+    let place = frame_place s level frame in
+    either_way (Turns (LeavesRest (IsApart s level frame)) before after) (Turns (Changes (Holds place (frame_text pieces)) 2) before after) (Turns (Changes (LeftByFailure place (text_len pieces)) 2) before after) result ok err
+    (λ wrote. record {
+      told = λ old told. (
+        let then = wrote.told old told in
+        let torn = torn_held place (frame_text pieces) (old 2) (then.0 2) then.2.here in
+        (then.0, then.1, torn_rest s level frame (text_len pieces) old then.0 fits then.2.others (subst (λ (n : ℕ). Torn place n (old 2) (then.0 2)) (length_frame pieces) torn)));
+      untold = wrote.untold;
+    })
+    (λ failed. record {
+      told = λ old told. (
+        let then = failed.told old told in
+        (then.0, then.1, torn_rest s level frame (text_len pieces) old then.0 fits then.2.others then.2.here.torn));
+      untold = failed.untold;
+    })
+
+-- a frame in a range that is kept still holds its pieces
+pub holds_stays : (kept : ℕ → ℕ → Type 0) (old new : Files) (place : ℕ) (pieces : List Piece) → LeavesRest kept old new → kept place (place + text_len pieces) → HoldsFrame place (old 2) pieces → HoldsFrame place (new 2) pieces
+holds_stays kept old new place pieces leaves kept_here holds =
+    let long : place + text_len pieces ≤ length (old 2) = reaches_end (old 2) place (text_len pieces) (omega arith) (ap length holds ∙ length_frame pieces) in
+    leaves.rest place (place + text_len pieces) kept_here long ∙ holds
+  where
+    reaches_end : (bytes : List ℕ) (from count : ℕ) → 1 ≤ count → length (part bytes from (from + count)) ≡ count → from + count ≤ length bytes
+    reaches_end bytes from count some long = omega (arith, long, length-drop from (take (from + count) bytes), length-take (from + count) bytes)
+
+-- ---- the sync
+
+pub sync_rest : (kept : ℕ → ℕ → Type 0) (files_before files_after : Option Files) (leaves_before leaves_after : Files → Type 0) (first last : ℕ) (since_before since_after : ℕ → Files → Type 0) → files_after ≡ files_before →
+    ((image : Files) → since_before first image → leaves_before image) → ((seen : Files) → files_before ≡ Some seen → (image : Files) → leaves_after image → leaves_before image) → ((t u : ℕ) (image : Files) → t ≤ u → since_before u image → since_before t image) →
+    Elapses first last since_before since_after leaves_after → KeepsRest kept files_before files_after leaves_before first last since_before since_after
+sync_rest kept files_before files_after leaves_before leaves_after first last since_before since_after same only_now was earlier elapsed = record {
+  seen = record { told = λ old told. (old, same ∙ told, leaves_same kept old); untold = λ untold. same ∙ untold };
+  settled = λ seen told number from to may settled image since. elim (elapsed.known first image (omega arith) since) [
+    | inl past ↦ settled.same image (only_now image past)
+    | inr now ↦ settled.same image (was seen told image now)
+  ];
+  time = lasts_more first first last since_before since_before since_after leaves_after (lasts_none first since_before) elapsed;
+}
