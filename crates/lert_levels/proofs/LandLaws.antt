@@ -1,5 +1,5 @@
 -- Calls that write some frames and leave the rest, one after the other.
-use Rattle.std.proofs.Common.{ℕ, ◌≡◌, ◌≢◌, ◌+◌, ◌-◌, ◌*◌, ◌<◌, ◌≤◌, zero, suc, List, [], ◌∷◌, ◌++◌, length, take, drop, refl, ap, sym, ◌∙◌, arith, inl, inr, ◌⊎◌, subst, Option, Some, None, Result, length-take, length-drop}
+use Rattle.std.proofs.Common.{ℕ, ◌≡◌, ◌≢◌, ◌+◌, ◌-◌, ◌*◌, ◌<◌, ◌≤◌, zero, suc, List, [], ◌∷◌, ◌++◌, length, take, drop, get_or, refl, ap, sym, ◌∙◌, arith, inl, inr, ◌⊎◌, subst, Option, Some, None, Result, length-take, length-drop}
 use Rattle.std.specs.Prelude.{OnOk, OnErr}
 use Rattle.std.proofs.lemmas.Bool.{cases_eq, cases_lt}
 use Rattle.std.proofs.lemmas.Option.{none-some}
@@ -13,10 +13,15 @@ use Rattle.lert_frames.proofs.StoreLaws.{length_frame}
 use Rattle.lert_frames.proofs.WriteLaws.{either_way}
 use Rattle.lert_frames.specs.Frame.{HoldsFrame, frame_text, text_len}
 use Rattle.lert_frames.specs.Kept.{KeepsOutside}
-use Rattle.lert_frames.specs.Place.{frame_place, frame_len}
+use Rattle.lert_frames.specs.Place.{frame_place, frame_len, tail_limit}
+use Rattle.lert_frames.proofs.PlaceLaws.{places_apart}
 use Rattle.lert_spec.specs.declared.numbers.Numbers.{Numbers}
 use Rattle.lert_spec.specs.declared.piece.Piece.{Piece}
-use Rattle.lert_levels.specs.Landing.{IsApart, LeavesRest, KeepsRest}
+use Rattle.lert_spec.proofs.Tables.{length_le-total}
+use Rattle.lert_levels.specs.declared.bin_at.BinAt.{BinAt}
+use Rattle.lert_levels.specs.Landing.{IsApart, LeavesRest, KeepsRest, landing_frame, AreApart, CanStand, AreLanded}
+use Rattle.lert_levels.specs.Rows.{IsRow, arrived}
+use Rattle.lert_levels.proofs.RowLaws.{lowest_is_free}
 
 -- fewer ranges
 leaves_fewer : (kept fewer : ℕ → ℕ → Type 0) (old new : Files) → ((from to : ℕ) → fewer from to → kept from to) → LeavesRest kept old new → LeavesRest fewer old new
@@ -149,3 +154,48 @@ sync_rest kept files_before files_after leaves_before leaves_after first last si
   ];
   time = lasts_more first first last since_before since_before since_after leaves_after (lasts_none first since_before) elapsed;
 }
+
+-- ---- bin after bin
+
+pub landing_within : (s : Numbers) (m level : ℕ) (row : List BinAt) → IsRow s level row → (arrived s m level row).frame ≤ s.bins
+landing_within s m level row is = omega (arith, (lowest_is_free row).within, is.few)
+
+room_for : (s : Numbers) (level : ℕ) (pieces : List Piece) → CanStand s level pieces → text_len pieces ≤ frame_len s level
+room_for s level pieces can = omega (arith, length_le-total 0 (tail_limit s) pieces can.given.table, can.fits)
+
+module _ (s : Numbers) (m : ℕ) (rows : List (List BinAt)) (bins : List (List Piece)) (rows_are : (k : ℕ) → k < length rows → IsRow s (k + 1) (get_or rows k [])) (len : length bins ≡ length rows) (bins_are : (k : ℕ) → k < length bins → CanStand s (k + 1) (get_or bins k [])) where
+  -- a bin more stands, and those before it still do
+  pub landed_more : (old new : Files) (i frame : ℕ) (pieces : List Piece) → i < length rows → landing_frame s m rows i ≡ frame → get_or bins i [] ≡ pieces → LeavesRest (IsApart s (i + 1) frame) old new →
+      HoldsFrame (frame_place s (i + 1) frame) (new 2) pieces → AreLanded s m rows (old 2) bins i → AreLanded s m rows (new 2) bins (i + 1)
+  landed_more old new i frame pieces below frame_is pieces_are leaves here before k within =
+      elim (cases_lt k i) [
+        | inl earlier ↦ (
+            let list = get_or bins k [] in
+            let own = landing_frame s m rows k in
+            let place = frame_place s (k + 1) own in
+            let fits = room_for s (k + 1) list (bins_are k (omega arith)) in
+            let own_within = landing_within s m (k + 1) (get_or rows k []) (rows_are k (omega arith)) in
+            let frame_within : frame ≤ s.bins = subst (λ (n : ℕ). n ≤ s.bins) frame_is (landing_within s m (i + 1) (get_or rows i []) (rows_are i below)) in
+            let levels_differ : k + 1 ≢ i + 1 = λ same. omega arith in
+            let apart : IsApart s (i + 1) frame place (place + text_len list) = elim (places_apart s (i + 1) frame (k + 1) own (omega arith) frame_within (omega arith) own_within (inl levels_differ)) [
+              | inl behind ↦ inl (omega (arith, behind, fits))
+              | inr ahead ↦ inr ahead
+            ] in
+            holds_stays (IsApart s (i + 1) frame) old new place list leaves apart (before k earlier))
+        | inr last ↦ (
+            let same : i ≡ k = omega arith in
+            subst (λ (n : ℕ). HoldsFrame (frame_place s (n + 1) (landing_frame s m rows n)) (new 2) (get_or bins n [])) same
+            (subst (λ (f : ℕ). HoldsFrame (frame_place s (i + 1) f) (new 2) (get_or bins i [])) (sym frame_is)
+            (subst (HoldsFrame (frame_place s (i + 1) frame) (new 2)) (sym pieces_are) here)))
+      ]
+
+  -- and the rest is as it was
+  pub rest_more : (i frame : ℕ) (files_first files_middle files_last : Option Files) (leaves_first leaves_middle : Files → Type 0) (first middle last : ℕ) (since_first since_middle since_last : ℕ → Files → Type 0) →
+      i < length rows → landing_frame s m rows i ≡ frame →
+      ((image : Files) → leaves_middle image → since_middle middle image) → ((t u : ℕ) (image : Files) → t ≤ u → since_middle u image → since_middle t image) → ((t u : ℕ) (image : Files) → t ≤ u → since_last u image → since_last t image) →
+      KeepsRest (AreApart s m rows) files_first files_middle leaves_first first middle since_first since_middle → KeepsRest (IsApart s (i + 1) frame) files_middle files_last leaves_middle middle last since_middle since_last →
+      KeepsRest (AreApart s m rows) files_first files_last leaves_first first last since_first since_last
+  rest_more i frame files_first files_middle files_last leaves_first leaves_middle first middle last since_first since_middle since_last below frame_is now earlier_middle earlier_last one two =
+      rest_on (AreApart s m rows) files_first files_middle files_last leaves_first leaves_middle first middle last since_first since_middle since_last now earlier_middle earlier_last one
+      (rest_fewer (IsApart s (i + 1) frame) (AreApart s m rows) files_middle files_last leaves_middle middle last since_middle since_last
+      (λ from to apart. subst (λ (f : ℕ). IsApart s (i + 1) f from to) frame_is (apart i below)) two)

@@ -4,6 +4,7 @@
 mod bin_at;
 mod directory;
 mod fault;
+mod landing;
 mod loading;
 mod rows;
 mod zero;
