@@ -1,10 +1,10 @@
 -- Calls that write some frames and leave the rest, one after the other.
 use Rattle.std.proofs.Common.{ℕ, ◌≡◌, ◌≢◌, ◌+◌, ◌-◌, ◌*◌, ◌<◌, ◌≤◌, zero, suc, List, [], ◌∷◌, ◌++◌, length, take, drop, get_or, refl, ap, sym, ◌∙◌, arith, inl, inr, ◌⊎◌, subst, Option, Some, None, Result, length-take, length-drop}
-use Rattle.std.specs.Prelude.{OnOk, OnErr}
+use Rattle.std.specs.Prelude.{Ok, Err, OnOk, OnErr}
 use Rattle.std.proofs.lemmas.Bool.{cases_eq, cases_lt}
 use Rattle.std.proofs.lemmas.Option.{none-some}
 use Rattle.lert_bay.specs.Files.{Files, Turns, Changes, Holds, Torn, LeftByFailure}
-use Rattle.lert_bay.specs.Images.{Lasts, Elapses}
+use Rattle.lert_bay.specs.Images.{Lasts, Elapses, Settles, KeepsImages}
 use Rattle.lert_bay.specs.Settled.{part, Keeps, IsSettled}
 use Rattle.lert_bay.proofs.Lasting.{lasts_on, lasts_none, lasts_more}
 use Rattle.lert_bay.proofs.Settling.{part_torn, length_part, part_none}
@@ -199,3 +199,15 @@ module _ (s : Numbers) (m : ℕ) (rows : List (List BinAt)) (bins : List (List P
       rest_on (AreApart s m rows) files_first files_middle files_last leaves_first leaves_middle first middle last since_first since_middle since_last now earlier_middle earlier_last one
       (rest_fewer (IsApart s (i + 1) frame) (AreApart s m rows) files_middle files_last leaves_middle middle last since_middle since_last
       (λ from to apart. subst (λ (f : ℕ). IsApart s (i + 1) f from to) frame_is (apart i below)) two)
+
+-- after a sync that may have failed each image is one of before
+pub synced_was : {T E : Type 0} (result : Result T E) (files : Option Files) (leaves_before leaves_after : Files → Type 0) → ((seen : Files) → files ≡ Some seen → OnOk result (Settles 2 (seen 2) leaves_before leaves_after)) → OnErr result (KeepsImages leaves_before leaves_after) →
+    (seen : Files) → files ≡ Some seen → (image : Files) → leaves_after image → leaves_before image
+synced_was result files leaves_before leaves_after durable failed seen told image left =
+    either_way (leaves_before image) (Settles 2 (seen 2) leaves_before leaves_after) (KeepsImages leaves_before leaves_after) result (durable seen told) failed (λ settles. settles.was image left) (λ keeps. (keeps image).0 left)
+
+-- and after one that succeeded it has the file as a read gives it
+pub synced_durable : {T E : Type 0} (result : Result T E) (files_before files_after : Option Files) (leaves_before leaves_after : Files → Type 0) → files_after ≡ files_before → ((seen : Files) → files_before ≡ Some seen → OnOk result (Settles 2 (seen 2) leaves_before leaves_after)) →
+    OnOk result ((seen : Files) → files_after ≡ Some seen → (image : Files) → leaves_after image → image 2 ≡ seen 2)
+synced_durable (Ok value) files_before files_after leaves_before leaves_after same durable = λ seen told image left. (durable seen (sym same ∙ told)).durable image left
+synced_durable (Err error) files_before files_after leaves_before leaves_after same durable = tt

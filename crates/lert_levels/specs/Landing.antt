@@ -28,6 +28,10 @@ pub record KeepsRest (kept : ℕ → ℕ → Type 0) (files_before files_after :
   pub settled : (seen : Files) → files_before ≡ Some seen → (number from to : ℕ) → (number ≢ 2) ⊎ kept from to → IsSettled leaves_before seen number from to → Keeps (since_after first) seen number from to
   pub time : Lasts first last since_before since_after
 
+-- every range
+abbrev pub Anywhere : ℕ → ℕ → Type 0
+Anywhere from to = Unit {0}
+
 -- ---- the new bins of a flush
 
 -- the frame in which the new bin of the k-th of some rows is to stand, the row of level 1 being the first
