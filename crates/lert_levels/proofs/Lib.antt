@@ -1,3 +1,4 @@
 mod Examples
 pub mod YoungBins
+mod LoadLaws
 mod YoungLaws

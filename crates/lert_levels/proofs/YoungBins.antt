@@ -56,9 +56,9 @@ young-added s events key from positive aligned within =
     let front = cuts s events wide from n 0 k in
     let start = max from (k * wide) in
     let begins : from ≤ k * wide = (
-      let whole = div-add-mod from wide in
-      let fewer = mul-le-mul_right wide (div_never_falls from n wide positive within) in
-      omega (arith, mul_comm wide (from / wide))
+    let whole = div-add-mod from wide in
+    let fewer = mul-le-mul_right wide (div_never_falls from n wide positive within) in
+    omega (arith, mul_comm wide (from / wide))
     ) in
     let start_is : start ≡ k * wide = omega arith in
     let later = div_never_falls n (suc n) wide positive (omega arith) in
