@@ -3,6 +3,7 @@
 
 mod bin_at;
 mod fault;
+mod gather;
 mod zero;
 
 pub use bin_at::BinAt;
