@@ -1,5 +1,5 @@
 -- The merge of bins in memory, piece by piece.
-use Rattle.std.proofs.Common.{ℕ, zero, Bool, true, false, append-nil, zero-add, add-zero, suc, ◌≡◌, ◌≢◌, ◌+◌, ◌^◌, ◌<◌, ◌≤◌, cond, eqb, Option, Some, None, MatchOption, List, [], ◌∷◌, ◌++◌, All, length, get_or, map, take, drop, refl, ap, ap₂, sym, ◌∙◌, subst, arith, inl, inr, sum_by}
+use Rattle.std.proofs.Common.{ℕ, zero, Bool, true, false, append-nil, zero-add, add-zero, suc, ◌≡◌, ◌≢◌, ◌+◌, ◌^◌, ◌<◌, ◌≤◌, cond, eqb, Option, Some, None, MatchOption, List, [], ◌∷◌, ◌++◌, All, length, get_or, map, take, drop, refl, ap, ap₂, sym, ◌∙◌, subst, arith, inl, inr}
 use Rattle.std.proofs.Math.Seq.{take-append_seam}
 use Rattle.std.proofs.lemmas.Bool.{cases_eq, cases_lt, cases_order, eq-eqb, ne_eqb}
 use Rattle.std.proofs.lemmas.List.{get_or-map, length-map}
@@ -9,7 +9,6 @@ use Rattle.lert_base.specs.declared.pieces.PieceFault.TheVariants.{Failed, Malfo
 use Rattle.lert_frames.specs.declared.bin.LoadedBin.{LoadedBin}
 use Rattle.lert_io.specs.Fault.{HasRisen}
 use Rattle.lert_merge.specs.declared.heads.Head.{Head}
-use Rattle.lert_merge.specs.declared.heads.Head.TheVariants.{Ended}
 use Rattle.lert_merge.specs.Merging.{Merging, count_in, part_of, behind, share_of, Tells, IsToCome, IsNext, IsAbove, AreShares, AreOver, Breaks}
 use Rattle.lert_merge.specs.Seats.{seat_at, ahead}
 use Rattle.lert_spec.specs.declared.piece.Piece.{Piece}
@@ -17,7 +16,7 @@ use Rattle.lert_spec.specs.Table.{count_of, AscendsFrom, IsTable}
 use Rattle.lert_spec.proofs.Tables.{count_of-below}
 use Rattle.lert_spec.proofs.TallyLaws.{count_of-cons_same, count_of-cons_other}
 use Rattle.lert_levels.specs.declared.gather.Part.{Part}
-use Rattle.lert_levels.specs.Gathered.{lists_of, list_at, newest_in, lists_in, newest_share, share_in, part_table, bound_after, merged, IsWithin, AreLeft, IsLeftOf}
+use Rattle.lert_levels.specs.Gathered.{lists_of, newest_in, lists_in, newest_share, share_in, part_table, bound_after, merged, IsWithin, AreLeft, IsLeftOf}
 use Rattle.lert_levels.proofs.MergedLaws.{AreTables, merged_is}
 
 -- what is to come of a bin in memory
@@ -174,13 +173,15 @@ with_part : (bound tail n : ℕ) (out : List Piece) → IsTable bound out → bo
 with_part bound tail n out table above = elim (cases_eq n 0) [
   | inl none ↦ (
       let empty : part_of tail n ≡ [] = ap (λ t. cond {A = List Piece} t [] (record { tail = tail; count = n } ∷ [])) (eq-eqb n 0 none) in
-      let same : out ++ part_of tail n ≡ out = ap (λ ps. out ++ ps) empty ∙ append-nil out in
-      (subst (IsTable (tail + 1)) (sym same) (table_wide 0 bound (tail + 1) out (omega arith) table),
-      λ other. ap (λ ps. count_of ps other) same ∙ sym (ap (λ m. count_of out other + m) (zero_either (eqb tail other) n none) ∙ add-zero (count_of out other))))
+      let same : out ++ part_of tail n ≡ out = ap (λ ps. out ++ ps) empty ∙ append-nil out in (
+        subst (IsTable (tail + 1)) (sym same) (table_wide 0 bound (tail + 1) out (omega arith) table),
+        λ other. ap (λ ps. count_of ps other) same ∙ sym (ap (λ m. count_of out other + m) (zero_either (eqb tail other) n none) ∙ add-zero (count_of out other)),
+      ))
   | inr some ↦ (
-      let piece : part_of tail n ≡ record { tail = tail; count = n } ∷ [] = ap (λ t. cond {A = List Piece} t [] (record { tail = tail; count = n } ∷ [])) (ne_eqb n 0 some) in
-      (subst (λ ps. IsTable (tail + 1) (out ++ ps)) (sym piece) (table_more 0 bound tail n out table (omega arith) above (omega arith)),
-      λ other. ap (λ ps. count_of (out ++ ps) other) piece ∙ count_of-push 0 bound out tail n other table above))
+      let piece : part_of tail n ≡ record { tail = tail; count = n } ∷ [] = ap (λ t. cond {A = List Piece} t [] (record { tail = tail; count = n } ∷ [])) (ne_eqb n 0 some) in (
+        subst (λ ps. IsTable (tail + 1) (out ++ ps)) (sym piece) (table_more 0 bound tail n out table (omega arith) above (omega arith)),
+        λ other. ap (λ ps. count_of (out ++ ps) other) piece ∙ count_of-push 0 bound out tail n other table above,
+      ))
 ]
   where
     zero_either : (b : Bool) (n : ℕ) → n ≡ 0 → cond b n 0 ≡ 0
@@ -401,6 +402,7 @@ share_is merge left tail part shares within =
   where
     none : count_in [] tail ≡ 0
     none = refl
+
     newest_is : (newest : Option ℕ) → ((stream : ℕ) → newest ≡ Some stream → stream < length left) →
         share_of merge part.oldest + newest_share merge newest ≡ count_of (get_or left part.oldest []) tail + count_in (newest_in left newest) tail
     newest_is None inside = omega (arith, shares part.oldest within.oldest)

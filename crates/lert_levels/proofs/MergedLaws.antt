@@ -1,5 +1,5 @@
 -- The table of all counts of some lists.
-use Rattle.std.proofs.Common.{ℕ, zero, suc, ◌≡◌, ◌≢◌, ◌+◌, ◌-◌, ◌*◌, ◌^◌, ◌<◌, ◌≤◌, cond, eqb, List, [], ◌∷◌, ◌++◌, All, length, get_or, fold, refl, ap, ap₂, sym, ◌∙◌, subst, arith, inl, inr, sum_by}
+use Rattle.std.proofs.Common.{ℕ, zero, suc, ◌≡◌, ◌+◌, ◌-◌, ◌^◌, ◌<◌, ◌≤◌, cond, eqb, List, [], ◌∷◌, ◌++◌, length, get_or, fold, refl, ap, sym, ◌∙◌, arith, inl, inr, sum_by}
 use Rattle.std.proofs.lemmas.Bool.{cases_eq, eq-eqb, ne_eqb}
 use Rattle.std.proofs.lemmas.List.Sums.{sum_by-cons}
 use Rattle.lert_merge.specs.Merging.{count_in}
@@ -112,6 +112,7 @@ merged-tallied s keys others =
   where
     none : (tail : ℕ) → count_in [] tail ≡ 0
     none tail = refl
+
     two_tables : (limit : ℕ) (first second : List Piece) → IsTable limit first → IsTable limit second → AreTables limit (first ∷ second ∷ [])
     two_tables limit first second one two zero below = one
     two_tables limit first second one two (suc zero) below = two

@@ -1,7 +1,7 @@
 -- How the tables of level 0 change, as its bins.
-use Rattle.std.proofs.Common.{ℕ, zero, suc, ◌≡◌, ◌≢◌, ◌+◌, ◌-◌, ◌*◌, ◌/◌, ◌%◌, ◌^◌, ◌<◌, ◌≤◌, cond, eqb, ltb, min, List, [], ◌∷◌, ◌++◌, length, get_or, set, map, drop, refl, ap, ap₂, sym, ◌∙◌, subst, arith, inl, inr, sum_by, length-set, length-append, get_or-set_same, get_or-set_other, take}
+use Rattle.std.proofs.Common.{ℕ, zero, suc, ◌≡◌, ◌+◌, ◌-◌, ◌*◌, ◌/◌, ◌%◌, ◌^◌, ◌<◌, ◌≤◌, cond, eqb, ltb, min, List, [], ◌∷◌, ◌++◌, length, get_or, set, map, drop, refl, ap, ap₂, sym, ◌∙◌, subst, arith, inl, inr, sum_by, length-set, length-append, get_or-set_same, get_or-set_other, take}
 use Rattle.std.proofs.Math.Nat.{div-add-mod, mod-lt, mul-le-mul_right, suc-mul, pow-zero}
-use Rattle.std.proofs.lemmas.Bool.{lt-ltb, le-ltb, eq-eqb, ne_eqb, cases_lt, cases_eq, cases_order}
+use Rattle.std.proofs.lemmas.Bool.{lt-ltb, le-ltb, eq-eqb, ne_eqb, cases_lt, cases_eq}
 use Rattle.std.proofs.Math.ListN.{get_or-append}
 use Rattle.std.proofs.Math.Seq.{get_or-append_seam}
 use Rattle.std.proofs.lemmas.List.{map-set, map-append, get_or-map, length-map, take_all}
