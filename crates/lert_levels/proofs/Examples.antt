@@ -1,9 +1,10 @@
 -- Worked examples of the definitions, computed: bins of 4 events at level 0, three bins a level, a ratio of 2, two levels on
 -- disk.
-use Rattle.std.proofs.Common.{◌≡◌, ℕ, List, [], ◌∷◌, refl, map}
+use Rattle.std.proofs.Common.{◌≡◌, ℕ, List, [], ◌∷◌, refl, length, map}
 use Rattle.std.specs.List.{range_with_len}
 use Rattle.lert_spec.specs.declared.numbers.Numbers.{Numbers}
-use Rattle.lert_levels.specs.Ranges.{ranges}
+use Rattle.lert_spec.specs.Bins.{bins}
+use Rattle.lert_levels.specs.Ranges.{ranges, filled, young_bins}
 
 abbrev small : Numbers
 small = record { threshold = 3; bins = 3; ratio = 2; base = 4; levels = 2; cone_bits = 8; room = 32; packet = 8 }
