@@ -5,6 +5,9 @@ pub mod Windows
 pub mod CoverLaws
 pub mod DirectoryLaws
 pub mod YoungBins
+mod LoadLaws
+mod GatherLaws
+pub mod MergedLaws
 mod YoungLaws
-pub mod LoadLaws
+pub mod ReadLaws
 pub mod LandLaws

@@ -4,6 +4,7 @@
 mod bin_at;
 mod directory;
 mod fault;
+mod gather;
 mod landing;
 mod loading;
 mod rows;

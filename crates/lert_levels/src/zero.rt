@@ -1,11 +1,14 @@
 //! Level 0 in memory.
 
-ghost use Rattle.std.specs.Prelude.{◌≡◌, ◌+◌, ◌-◌, ◌^◌, ◌<◌, ◌≤◌, ◌==◌, if◌then◌else◌, [], drop, IfOk, sum_by};
+ghost use Rattle.std.specs.Prelude.{◌≡◌, ◌+◌, ◌-◌, ◌^◌, ◌<◌, ◌≤◌, ◌==◌, if◌then◌else◌, ◌++◌, [], All, drop, length, map, IfOk, OnOk, sum_by};
 ghost use Rattle.lert_spec.specs.Edges.{span};
-ghost use Rattle.lert_spec.specs.Table.{count_of};
+ghost use Rattle.lert_frames.specs.Frame.{IsBin};
+ghost use Rattle.lert_spec.specs.Table.{count_of, total, AreGiven};
+ghost use Rattle.lert_levels.specs.Gathered.{lists_of};
 ghost use Rattle.lert_levels.specs.Young.{with_event, IsNextPosition};
 
 use lert_base::{CountTable, Settings};
+use lert_frames::LoadedBin;
 use lert_io::OutOfMemory;
 use std::alloc::Global;
 use std::marker::Model;
@@ -90,6 +93,38 @@ impl<T: CountTable> Zero<T> {
         count
     }
 
+    /// Puts the pieces of each bin behind these streams, the oldest bin's first. It takes the memory of the pieces: 16 bytes
+    /// for each. Its only error is want of memory.
+    pub(crate) fn load(
+        &self,
+        alloc: Global,
+        streams: &mut Vec<LoadedBin>,
+    ) -> Result<(), OutOfMemory>
+        ensures lists { OnOk result (lists_of streams.new.items ≡
+            lists_of streams.old.items ++ map (λ bin. bin.pieces) self.now.bins) }
+        ensures fresh { OnOk result (All (λ bin. bin.given ≡ 0) streams.old.items → All (λ bin. bin.given ≡ 0) streams.new.items) }
+        ensures bins { OnOk result (All (λ bin.
+            IsBin (2 ^ (64 - self.now.settings.cone_bits)) (bin.to - bin.from) bin.pieces) self.now.bins) }
+        ensures narrow { All (λ bin. bin.to - bin.from ≤ span self.now.settings 0) self.now.bins }
+        ensures some { self.now.from < self.now.to → 1 ≤ length self.now.bins }
+        ensures few { length self.now.bins ≤ self.now.settings.bins }
+    {
+        load_tables(alloc, self.used(), streams)
+    }
+
+    // The tables in use, the oldest bin's first.
+    fn used(&self) -> &[T]
+        ensures pieces { map T.pieces result.now ≡ map (λ bin. bin.pieces) self.now.bins }
+        ensures tables { All (λ table. (T.room table ≤ 2 ^ 47) × (T.tail_bits table ≡ 64 - self.now.settings.cone_bits)) result.now }
+        ensures widths { All (λ bin. total bin.pieces ≡ bin.to - bin.from) self.now.bins }
+        ensures narrow { All (λ bin. bin.to - bin.from ≤ span self.now.settings 0) self.now.bins }
+        ensures some { self.now.from < self.now.to → 1 ≤ length self.now.bins }
+        ensures few { length self.now.bins ≤ self.now.settings.bins }
+    {
+        let bins = (self.to - self.from).div_ceil(self.settings.span(0));
+        &self.tables[..bins as usize]
+    }
+
     /// Drops the oldest bin, which is whole. Its table is free then.
     pub fn drop_oldest(&mut self)
         requires { self.old.from + span self.old.settings 0 ≤ self.old.to }
@@ -102,6 +137,40 @@ impl<T: CountTable> Zero<T> {
         self.tables.rotate_left(1);
         self.from += self.settings.span(0);
     }
+}
+
+// Puts the pieces of each table behind these streams.
+fn load_tables<T: CountTable>(
+    alloc: Global,
+    tables: &[T],
+    streams: &mut Vec<LoadedBin>,
+) -> Result<(), OutOfMemory>
+    requires { All (λ table. (T.room table ≤ 2 ^ 47) × (T.tail_bits table ≤ 64)) tables.now }
+    ensures lists { OnOk result (lists_of streams.new.items ≡ lists_of streams.old.items ++ map T.pieces tables.now) }
+    ensures fresh { OnOk result (All (λ bin. bin.given ≡ 0) streams.old.items → All (λ bin. bin.given ≡ 0) streams.new.items) }
+    ensures given { OnOk result (All (λ table. AreGiven (2 ^ T.tail_bits table) (T.pieces table)) tables.now) }
+{
+    for table in tables {
+        streams.push(load_table(alloc, table)?)?;
+    }
+    Ok(())
+}
+
+// The pieces of a table, of which none was given.
+fn load_table<T: CountTable>(alloc: Global, table: &T) -> Result<LoadedBin, OutOfMemory>
+    requires room { T.room table.now ≤ 2 ^ 47 }
+    requires tail_bits { T.tail_bits table.now ≤ 64 }
+    ensures pieces { IfOk result (λ bin. bin.pieces.items ≡ T.pieces table.now) }
+    ensures fresh { IfOk result (λ bin. bin.given ≡ 0) }
+    ensures given { OnOk result (AreGiven (2 ^ T.tail_bits table.now) (T.pieces table.now)) }
+{
+    let _in_room = table.events();
+    let mut cursor = table.start();
+    let mut pieces = Vec::new(alloc);
+    while let Some(piece) = table.step(&mut cursor) {
+        pieces.push(piece)?;
+    }
+    Ok(LoadedBin::of(pieces))
 }
 
 // The last position before the oldest bin, once position `m` is added.

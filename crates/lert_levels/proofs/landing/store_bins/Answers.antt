@@ -7,7 +7,7 @@ use Rattle.lert_levels.specs.declared.bin_at.BinAt.{BinAt}
 use Rattle.lert_levels.specs.Landing.{IsApart, LeavesRest, landing_frame}
 use Rattle.lert_levels.specs.Rows.{IsRow, arrived}
 use Rattle.lert_levels.proofs.LandLaws.{landing_within, landed_more, rest_more}
-use Rattle.lert_levels.proofs.LoadLaws.{row_here}
+use Rattle.lert_levels.proofs.ReadLaws.{row_here}
 use Rattle.lert_levels.proofs.landing.store_bins.Goals as goal
 
 pub arrival-bin-requires-clause-few : goal.arrival-bin-requires-clause-few

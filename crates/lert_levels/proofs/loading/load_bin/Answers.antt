@@ -1,7 +1,7 @@
 use Rattle.std.proofs.Common.{ℕ, ◌≡◌, ap, subst}
 use Rattle.std.specs.Prelude.{Err}
 use Rattle.lert_levels.specs.Loading.{BinBreaks}
-use Rattle.lert_levels.proofs.LoadLaws.{malformed_there}
+use Rattle.lert_levels.proofs.ReadLaws.{malformed_there}
 use Rattle.lert_levels.proofs.loading.load_bin.Goals as goal
 
 pub returns-in_err-load-clause-malformed : goal.returns-in_err-load-clause-malformed

@@ -7,7 +7,7 @@ use Rattle.lert_frames.specs.Place.{tail_limit}
 use Rattle.lert_levels.specs.declared.bin_at.BinAt.{BinAt}
 use Rattle.lert_levels.specs.Gathered.{lists_of}
 use Rattle.lert_levels.specs.Loading.{width_of, AreBins}
-use Rattle.lert_levels.proofs.LoadLaws.{lists_more, bins_more}
+use Rattle.lert_levels.proofs.ReadLaws.{lists_more, bins_more}
 use Rattle.lert_levels.proofs.loading.load_row.Goals as goal
 
 abbrev nothing : BinAt

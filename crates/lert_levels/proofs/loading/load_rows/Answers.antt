@@ -8,7 +8,7 @@ use Rattle.lert_levels.specs.declared.bin_at.BinAt.{BinAt}
 use Rattle.lert_levels.specs.Gathered.{lists_of}
 use Rattle.lert_levels.specs.Loading.{width_of, AreBins, Stands, RowBreaks, held_in, widths_in}
 use Rattle.lert_levels.specs.Rows.{IsRow}
-use Rattle.lert_levels.proofs.LoadLaws.{only_read_on, row_here, row_to, row_from, flat_more}
+use Rattle.lert_levels.proofs.ReadLaws.{only_read_on, row_here, row_to, row_from, flat_more}
 use Rattle.lert_levels.proofs.loading.load_rows.Goals as goal
 
 pub overflow_add-level : goal.overflow_add-level
