@@ -11,3 +11,4 @@ pub mod MergedLaws
 mod YoungLaws
 pub mod ReadLaws
 pub mod LandLaws
+pub mod PartLaws
