@@ -93,6 +93,13 @@ impl<T: CountTable> Zero<T> {
         count
     }
 
+    /// How many bins there are.
+    pub(crate) fn len(&self) -> usize
+        ensures { result ≡ length self.now.bins }
+    {
+        self.used().len()
+    }
+
     /// Puts the pieces of each bin behind these streams, the oldest bin's first. It takes the memory of the pieces: 16 bytes
     /// for each. Its only error is want of memory.
     pub(crate) fn load(
