@@ -461,9 +461,9 @@ empty_bins pieces s tables = ap (λ (bins : List Bin). record { settings = s; fr
 
 -- ---- how often a tail stands in the tables
 
-pub count_le-total : (ps : List Piece) (tail : ℕ) → count_of ps tail ≤ total ps
-count_le-total [] tail = omega arith
-count_le-total (p ∷ ps) tail = let rest = count_le-total ps tail in elim (cases_eq p.tail tail) [
+pub count_of_le-total : (ps : List Piece) (tail : ℕ) → count_of ps tail ≤ total ps
+count_of_le-total [] tail = omega arith
+count_of_le-total (p ∷ ps) tail = let rest = count_of_le-total ps tail in elim (cases_eq p.tail tail) [
   | inl same ↦ omega (arith, count_of-cons_same p ps tail same)
   | inr differs ↦ omega (arith, count_of-cons_other p ps tail differs)
 ]
@@ -481,7 +481,7 @@ pub counted_more : {T : Type 0} (pieces : T → List Piece) (room tail_bits : T 
     IsCounted pieces tables tail (number + 1) (count + more)
 counted_more {T} pieces room tail_bits s all tables from to filled same_tables tail number count counted below table is more more_is =
     let here = (subst (λ (ts : List T). AreFilled pieces room tail_bits s ts from to) (sym same_tables) filled).each number table below in
-    let few = count_le-total (pieces table) tail in
+    let few = count_of_le-total (pieces table) tail in
     let same : total (pieces (get_or tables number table)) ≡ total (pieces table) = ap (λ (t : T). total (pieces t)) (sym is) in
     let narrow = width_within s filled.valid in
     record {

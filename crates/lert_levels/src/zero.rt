@@ -13,6 +13,9 @@ use lert_io::OutOfMemory;
 use std::alloc::Global;
 use std::marker::Model;
 
+#[cfg(test)]
+mod tests;
+
 /// The events of the newest positions of a cone, in bins of the base: seen as its settings, the last position before the
 /// oldest bin, the last position in the newest one, and the bins, oldest first.
 ///
@@ -91,6 +94,13 @@ impl<T: CountTable> Zero<T> {
             count += table.count(tail);
         }
         count
+    }
+
+    /// How many bins there are.
+    pub(crate) fn len(&self) -> usize
+        ensures { result ≡ length self.now.bins }
+    {
+        self.used().len()
     }
 
     /// Puts the pieces of each bin behind these streams, the oldest bin's first. It takes the memory of the pieces: 16 bytes
