@@ -12,3 +12,4 @@ mod YoungLaws
 pub mod ReadLaws
 pub mod LandLaws
 pub mod PartLaws
+pub mod MergeLaws

@@ -7,6 +7,7 @@ mod fault;
 mod gather;
 mod landing;
 mod loading;
+mod merging;
 mod parts;
 mod rows;
 mod zero;
