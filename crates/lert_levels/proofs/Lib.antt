@@ -13,3 +13,4 @@ pub mod ReadLaws
 pub mod LandLaws
 pub mod PartLaws
 pub mod MergeLaws
+pub mod ArrivalLaws

@@ -1,4 +1,4 @@
-//! The merge of level 0 with some of the levels on disk.
+//! Level 0 and some of the levels on disk, as the streams of a merge.
 
 ghost use Rattle.std.specs.Prelude.{◌≡◌, ◌⊎◌, ℕ, ◌+◌, ◌*◌, ◌-◌, ◌<◌, ◌≤◌, ◌++◌, List, [], length, map, All, IfOk, OnOk, MatchResult, IsErrOf, slice_index_or};
 ghost use Rattle.lert_bay.specs.Files.{IfTold};
@@ -12,20 +12,20 @@ ghost use Rattle.lert_levels.specs.declared.bin_at.BinAt.{BinAt};
 ghost use Rattle.lert_levels.specs.Gathered.{lists_of};
 ghost use Rattle.lert_levels.specs.Loading.{AreBins, AllStand, OneBreaks};
 ghost use Rattle.lert_levels.specs.Merged.{streams_of, widths_of};
+ghost use Rattle.lert_levels.specs.Parts.{streams_to};
 ghost use Rattle.lert_levels.specs.Rows.{IsRow};
 
 use crate::bin_at::BinAt;
 use crate::fault::FlushFault;
-use crate::gather::{Merger, Part};
 use crate::loading::load_rows;
 use crate::zero::Zero;
-use lert_base::{CountTable, Piece, Settings, Totals};
+use lert_base::{CountTable, Settings};
 use lert_bay::Bay;
 use lert_frames::LoadedBin;
 use std::alloc::Global;
 
-// The bins of level 0 and those of the rows, from level 1 on, each level's oldest first.
-fn load_levels<T: CountTable, B: Bay>(
+/// The bins of level 0 and those of the rows, from level 1 on, each level's oldest first. It takes the memory of their pieces.
+pub fn load_levels<T: CountTable, B: Bay>(
     alloc: Global,
     settings: &Settings,
     zero: &Zero<T>,
@@ -42,6 +42,8 @@ fn load_levels<T: CountTable, B: Bay>(
     ensures bins { IfOk result (λ streams. AreBins (tail_limit settings.now) (widths_of zero.now.bins (map (λ row. row.items) rows.now)) (lists_of streams.items)) }
     ensures young { OnOk result (All (λ bin. IsBin (tail_limit settings.now) (bin.to - bin.from) bin.pieces) zero.now.bins) }
     ensures narrow { OnOk result (All (λ bin. bin.to - bin.from ≤ span settings.now 0) zero.now.bins) }
+    ensures count { IfOk result (λ streams. length streams.items ≡ streams_to (length zero.now.bins) (map (λ row. row.items) rows.now) (length rows.now)) }
+    ensures few { OnOk result (length zero.now.bins ≤ settings.now.bins) }
     ensures fresh { IfOk result (λ streams. All (λ bin. bin.given ≡ 0) streams.items) }
     ensures malformed { IfTold (B.files bay.old) (λ seen. (at : ℕ) → IsErrOf result (FlushFault.Malformed at) →
         OneBreaks settings.now (map (λ row. row.items) rows.now) (seen 2) at) }

@@ -19,3 +19,8 @@ returns-clause-bins g c =
     let lists : lists_of c.load.new.streams.items ≡ map (λ bin. bin.pieces) young =
     c.in_ok-load.ensures.lists ∙ ap (λ items. lists_of items ++ map (λ (bin : Bin). bin.pieces) young) c.new-streams.ensures.items in
     c.in_ok-load_rows.ensures.bins (map (λ (bin : Bin). bin.to - bin.from) young) (subst (AreBins limit (map (λ (bin : Bin). bin.to - bin.from) young)) (sym lists) (young_are limit young are))
+
+pub returns-clause-count : goal.returns-clause-count
+returns-clause-count g c =
+    streams_count (tail_limit c.args.settings.now) c.args.zero.now.bins (map (λ row. row.items) c.args.rows.now) c.load_rows.new.streams.items (length c.args.rows.now)
+    (sym (length-map c.args.rows.now (λ row. row.items))) (returns-clause-bins g c)
