@@ -183,3 +183,112 @@ module _ (s : Numbers) (valid : IsValid s) (m : ℕ) (first : 1 ≤ m) (fits : m
               let ends = ap (counted s events tail new.from) end_is in
               omega arith)))
       ]
+
+  -- ---- whatever the frames hold
+
+  -- the edge of a level that the flush is deeper than moves by a span
+  moves_by_span : (k : ℕ) → k < depth s m → edge s k m ≡ edge s k (m - 1) + span s k
+  moves_by_span k less =
+      ap (λ c. span s k * c) (moves_by_one s base ratio k m (depth_moves s base ratio k m less)) ∙ mul-suc (span s k) (steps s k (m - 1)) ∙ refl
+
+  -- the oldest bin below a level is no wider than what comes to the level
+  oldest_width : (young : List Bin) → 1 ≤ length young → All (λ (bin : Bin). bin.to - bin.from ≤ span s 0) young → (k : ℕ) → k < depth s m →
+      get_or (widths_of young (take (depth s m) rows)) (oldest_stream (length young) (take (depth s m) rows) k) 0 ≤ edge s k m - edge s k (m - 1)
+  oldest_width young some narrow zero less =
+      let widths = map (λ (bin : Bin). bin.to - bin.from) young in
+      let d : Bin = record { from = 0; to = 0; pieces = [] } in
+      let behind = get_or_append_left widths (widths_in (take (depth s m) rows)) 0 0 (omega (arith, length-map young (λ (bin : Bin). bin.to - bin.from))) in
+      let is = get_or-map (λ (bin : Bin). bin.to - bin.from) young 0 d 0 some in
+      omega (arith, behind, is, narrow 0 d some, moves_by_span 0 less)
+  oldest_width young some narrow (suc k) less =
+      let oldest = goes k less in
+      let same : k + 1 ≡ suc k = omega arith in
+      let bin = get_or (get_or (take (depth s m) rows) k []) 0 nothing in
+      let is = oldest_at width_of (map (λ (b : Bin). b.to - b.from) young) (take (depth s m) rows) (length young) k 0 (length-map young (λ (b : Bin). b.to - b.from)) (omega (arith, enough)) oldest.some in
+      let from_is = ap (λ (r : Range). r.from) oldest.is ∙ ap (λ i. edge s i (m - 1)) same in
+      let to_is = ap (λ (r : Range). r.to) oldest.is ∙ ap (λ i. edge s i m) same in
+      omega arith
+
+  two_totals : (a b : List Piece) → sum_by total (a ∷ b ∷ []) ≡ total a + total b
+  two_totals a b = omega (arith, sum_by-cons total a (b ∷ []), sum_by-cons total b [])
+
+  one_total : (a : List Piece) → sum_by total (a ∷ []) ≡ total a
+  one_total a = omega (arith, sum_by-cons total a [])
+
+  stands_from : (level : ℕ) (lists : List (List Piece)) → AreTables (tail_limit s) lists → sum_by total lists ≤ span s level → span s level ≤ 2 ^ 47 → CanStand s level (merged lists)
+  stands_from level lists tables few narrow = record {
+    given = AreGiven-merged (tail_limit s) lists tables (omega arith);
+    fits = omega (arith, total-merged lists);
+  }
+
+  -- a part has room in the frame of its level
+  pub part_fits : (young : List Bin) (lists : List (List Piece)) → 1 ≤ length young → All (λ (bin : Bin). bin.to - bin.from ≤ span s 0) young → AreBins (tail_limit s) (widths_of young (take (depth s m) rows)) lists →
+      (k : ℕ) → k < depth s m → IsWithin (length lists) (part_at s m (length young) (take (depth s m) rows) k) → span s (k + 1) ≤ 2 ^ 47 → CanStand s (k + 1) (part_table lists (part_at s m (length young) (take (depth s m) rows) k))
+  part_fits young lists some narrow are k less within small =
+      let some_rows = take (depth s m) rows in
+      let row = get_or some_rows k [] in
+      let new = arrived s m (k + 1) row in
+      let widths = widths_of young some_rows in
+      let place = oldest_stream (length young) some_rows k in
+      let oldest = list_at lists place in
+      let oldest_bin = bins_at (tail_limit s) widths lists place are within.oldest in
+      let oldest_wide = oldest_width young some narrow k less in
+      let below : k + 1 - 1 ≡ k = omega arith in
+      let high_is : edge s (k + 1 - 1) (m - 1) ≡ edge s k (m - 1) = ap (λ i. edge s i (m - 1)) below in
+      let end_is : edge s (k + 1 - 1) m ≡ edge s k m = ap (λ i. edge s i m) below in
+      let arrival = comes k less in
+      let last_place = streams_to (length young) some_rows (k + 1) - 1 in
+      elim (cases_Bool (begins s m (k + 1))) [
+        | inl alone ↦ (
+            let from_is : new.from ≡ edge s k (m - 1) = ap (λ t. cond t (edge s (k + 1 - 1) (m - 1)) (newest row).from) alone ∙ high_is in
+            let few : sum_by total (oldest ∷ []) ≤ span s (k + 1) = omega (arith, one_total oldest, oldest_bin.summed, oldest_wide, arrival.fits) in
+            subst (λ t. CanStand s (k + 1) (merged (oldest ∷ newest_in lists (cond t None (Some last_place))))) (sym alone)
+            (stands_from (k + 1) (oldest ∷ []) (pair_tables (tail_limit s) oldest [] oldest_bin.given.table (no_tables (tail_limit s))) few small))
+        | inr joined ↦ (
+            let last = newest row in
+            let newer = list_at lists last_place in
+            let newest_within : last_place < length lists = within.newest last_place (ap (λ t. cond t None (Some last_place)) joined) in
+            let newest_bin = bins_at (tail_limit s) widths lists last_place are newest_within in
+            let newest_wide = newest_at width_of (map (λ (b : Bin). b.to - b.from) young) some_rows (length young) k 0 (length-map young (λ (b : Bin). b.to - b.from)) (omega (arith, enough)) (arrival.some joined) in
+            let from_is : new.from ≡ last.from = ap (λ t. cond t (edge s (k + 1 - 1) (m - 1)) last.from) joined in
+            let to_is : last.to ≡ edge s k (m - 1) = arrival.ends joined ∙ high_is in
+            let few : sum_by total (oldest ∷ newer ∷ []) ≤ span s (k + 1) =
+            omega (arith, two_totals oldest newer, oldest_bin.summed, newest_bin.summed, oldest_wide, newest_wide, arrival.fits, arrival.ordered, arrival.further) in
+            subst (λ t. CanStand s (k + 1) (merged (oldest ∷ newest_in lists (cond t None (Some last_place))))) (sym joined)
+            (stands_from (k + 1) (oldest ∷ newer ∷ []) (pair_tables (tail_limit s) oldest (newer ∷ []) oldest_bin.given.table (pair_tables (tail_limit s) newer [] newest_bin.given.table (no_tables (tail_limit s)))) few small))
+      ]
+
+  -- the streams of a part are among all
+  pub part_within : (young : ℕ) → 1 ≤ young → (k : ℕ) → k < depth s m → IsWithin (streams_to young (take (depth s m) rows) (depth s m)) (part_at s m young (take (depth s m) rows) k)
+  part_within young some k less =
+      let some_rows = take (depth s m) rows in
+      let len : List BinAt → ℕ = λ row. length row in
+      let all : (n : ℕ) → streams_to young some_rows n ≤ streams_to young some_rows (depth s m) =
+      λ n. omega (arith, sum_by-take-le len some_rows n, ap (sum_by len) (take_all (depth s m) some_rows (omega (arith, enough)))) in
+      record {
+        oldest = oldest_within young some k less all;
+        newest = λ stream is. newest_within young some k less stream all is;
+      }
+    where
+      oldest_within : (young : ℕ) → 1 ≤ young → (k : ℕ) → k < depth s m → ((n : ℕ) → streams_to young (take (depth s m) rows) n ≤ streams_to young (take (depth s m) rows) (depth s m)) →
+          oldest_stream young (take (depth s m) rows) k < streams_to young (take (depth s m) rows) (depth s m)
+      oldest_within young some zero less all = omega arith
+      oldest_within young some (suc k) less all =
+          omega (arith, all (k + 1), streams_more young (take (depth s m) rows) k (omega (arith, enough)), (goes k less).some)
+      newest_within : (young : ℕ) → 1 ≤ young → (k : ℕ) → k < depth s m → (stream : ℕ) → ((n : ℕ) → streams_to young (take (depth s m) rows) n ≤ streams_to young (take (depth s m) rows) (depth s m)) →
+          (part_at s m young (take (depth s m) rows) k).newest ≡ Some stream → stream < streams_to young (take (depth s m) rows) (depth s m)
+      newest_within young some k less stream all is =
+          let last_place = streams_to young (take (depth s m) rows) (k + 1) - 1 in
+          elim (cases_Bool (begins s m (k + 1))) [
+            | inl alone ↦ absurd (let none = sym (ap (λ t. cond t None (Some last_place)) alone) ∙ is in cc)
+            | inr joined ↦ (let same = sym (ap (λ t. cond t None (Some last_place)) joined) ∙ is in
+                let stream_is : last_place ≡ stream = cc in omega (arith, all (k + 1)))
+          ]
+
+  pub parts_within : (young n : ℕ) → 1 ≤ young → n ≡ streams_to young (take (depth s m) rows) (depth s m) → All (IsWithin n) (parts_at s m young (take (depth s m) rows))
+  parts_within young n some n_is i d below =
+      let some_rows = take (depth s m) rows in
+      let count = length-map-range_with_len (part_at s m young some_rows) 0 (length some_rows) in
+      subst (λ (streams : ℕ). IsWithin streams (get_or (parts_at s m young some_rows) i d)) (sym n_is)
+      (subst (IsWithin (streams_to young some_rows (depth s m))) (sym (get_or-map-range_with_len (part_at s m young some_rows) 0 (length some_rows) i i d (omega arith) (omega arith)))
+      (part_within young some i (omega (arith, enough))))
