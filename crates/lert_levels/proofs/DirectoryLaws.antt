@@ -6,7 +6,7 @@ use Rattle.std.proofs.lemmas.List.Sums.{sum_by_more_le}
 use Rattle.lert_levels.specs.declared.bin_at.BinAt.{BinAt}
 use Rattle.lert_levels.specs.Rows.{directory_text}
 
-abbrev row_text : List BinAt → List ℕ
+abbrev pub row_text : List BinAt → List ℕ
 row_text row = length row ∷ map (λ bin. bin.frame) row
 
 -- the part of the next row finds room

@@ -14,3 +14,5 @@ pub mod LandLaws
 pub mod PartLaws
 pub mod MergeLaws
 pub mod ArrivalLaws
+pub mod HoldLaws
+pub mod LevelLaws

@@ -105,7 +105,7 @@ lowest_is_free row =
 
 -- ---- the bins after a flush
 
-row_of-moved : (s : Numbers) (m : ℕ) (rows : List (List BinAt)) (level : ℕ) → 1 ≤ level → level ≤ length rows → row_of (moved s m rows) level ≡ moved_row s m level (row_of rows level)
+pub row_of-moved : (s : Numbers) (m : ℕ) (rows : List (List BinAt)) (level : ℕ) → 1 ≤ level → level ≤ length rows → row_of (moved s m rows) level ≡ moved_row s m level (row_of rows level)
 row_of-moved s m rows level from within =
     get_or-map-range_with_len (λ i. moved_row s m i (row_of rows i)) 1 (length rows) (level - 1) level [] (omega arith) (omega arith)
 
@@ -160,7 +160,7 @@ split_row s m level row are e =
     ]
 
 -- what holds of each positions of a row
-All-ranges : (P : Range → Type 0) (row : List BinAt) → All P (map range_of row) → All (λ bin. P (range_of bin)) row
+pub All-ranges : (P : Range → Type 0) (row : List BinAt) → All P (map range_of row) → All (λ bin. P (range_of bin)) row
 All-ranges P row all k d below = subst P (get_or-map range_of row k d (range_of d) below) (all k (range_of d) (omega (arith, length-map row range_of)))
 
 -- fewer bins name a frame no more often

@@ -6,6 +6,7 @@ mod directory;
 mod fault;
 mod gather;
 mod landing;
+mod levels;
 mod loading;
 mod merging;
 mod parts;
@@ -14,4 +15,5 @@ mod zero;
 
 pub use bin_at::BinAt;
 pub use fault::FlushFault;
+pub use levels::Levels;
 pub use zero::Zero;
