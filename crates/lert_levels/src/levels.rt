@@ -143,11 +143,28 @@ impl<T: CountTable> Levels<T> {
         ensures cause { HasCause (B.faults bay.old) (B.faults bay.new) result }
         ensures mark { B.mark bay.new ≡ B.mark bay.old }
     {
-        let depth = self.settings.depth(m) as usize;
-        let rows = self.reached(depth);
-        land(&self.settings, m, rows, made, bay)?;
+        self.write(m, made, bay)?;
         self.move_on(m);
         Ok(())
+    }
+
+    // Writes the new bins of the flush at position `m`.
+    fn write<B: Bay>(&self, m: u64, made: &[Vec<Piece>], bay: &mut B) -> Result<(), Failed>
+        requires first { 1 ≤ m }
+        requires last { m ≤ capacity self.now.settings }
+        requires at { IsAt self.now.settings (m - 1) self.now.rows }
+        requires count { length made.now ≡ depth self.now.settings m }
+        requires can { AllCanStand self.now.settings (map (λ pieces. pieces.items) made.now) }
+        ensures holds { IfTold (B.files bay.old) (λ seen. (events : List ℕ) → HoldsBins self.now.settings events self.now.rows (seen 2) →
+            AreNew self.now.settings m events (take (depth self.now.settings m) self.now.rows) (map (λ pieces. pieces.items) made.now) →
+            OnOk result (IfTold (B.files bay.new) (λ after. HoldsBins self.now.settings events (moved self.now.settings m self.now.rows) (after 2)))) }
+        ensures durable { OnOk result (IfTold (B.files bay.new) (λ seen. (image : Files) → B.leaves bay.new image → image 2 ≡ seen 2)) }
+        ensures rest { KeepsRest (InNamed self.now.settings self.now.rows) (B.files bay.old) (B.files bay.new) (B.leaves bay.old) (B.moment bay.old) (B.moment bay.new) (B.left_since bay.old) (B.left_since bay.new) }
+        ensures cause { HasCause (B.faults bay.old) (B.faults bay.new) result }
+        ensures mark { B.mark bay.new ≡ B.mark bay.old }
+    {
+        let depth = self.settings.depth(m) as usize;
+        land(&self.settings, m, self.reached(depth), made, bay)
     }
 
     // Moves the rows on through the flush at position `m`.
@@ -157,6 +174,7 @@ impl<T: CountTable> Levels<T> {
         requires at { IsAt self.old.settings (m - 1) self.old.rows }
         ensures { self.new ≡ record self.old { rows = moved self.old.settings m self.old.rows } }
     {
+        let _valid = self.settings.numbers();
         move_rows(&self.settings, m, &mut self.rows);
         lay_directory(&self.rows, &mut self.directory);
     }
