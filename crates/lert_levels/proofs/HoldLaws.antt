@@ -1,12 +1,13 @@
 -- What the frames hold before a flush and after it.
-use Rattle.std.proofs.Common.{ℕ, ◌≡◌, ◌≢◌, ◌+◌, ◌-◌, ◌*◌, ◌/◌, ◌^◌, ◌<◌, ◌≤◌, zero, suc, Bool, true, false, cond, ltb, eqb, List, [], ◌∷◌, ◌++◌, length, map, take, drop, get_or, Option, Some, None, refl, ap, ap₂, sym, ◌∙◌, arith, inl, inr, ◌⊎◌, subst, slice_range, length-take, length-drop}
+use Rattle.std.proofs.Common.{ℕ, ◌≡◌, ◌≢◌, ◌+◌, ◌-◌, ◌*◌, ◌/◌, ◌^◌, ◌<◌, ◌≤◌, zero, suc, Bool, true, false, cond, ltb, eqb, List, [], ◌∷◌, ◌++◌, length, map, take, drop, get_or, Option, Some, None, refl, ap, ap₂, sym, ◌∙◌, arith, inl, inr, ◌⊎◌, subst, slice_range, length-take, length-drop, Result}
+use Rattle.std.specs.Prelude.{Ok, Err, OnOk}
 use Rattle.std.specs.List.{All, Contains}
 use Rattle.std.proofs.Math.Nat.{pow-le-pow_right}
 use Rattle.std.proofs.lemmas.Bool.{cases_lt, cases_eq, lt-ltb, le-ltb, eq-eqb}
 use Rattle.std.proofs.lemmas.List.{get_or-take, length-map}
 use Rattle.std.proofs.lemmas.List.Elements.{All-append, All-drop, All-cons, All-nil, Contains-get_or}
 use Rattle.std.proofs.lemmas.List.Sums.{sum_by-cons}
-use Rattle.lert_bay.specs.Files.{Files}
+use Rattle.lert_bay.specs.Files.{Files, Turns}
 use Rattle.lert_frames.specs.Frame.{HoldsFrame, IsBin, text_len}
 use Rattle.lert_frames.specs.Place.{frame_place, frame_len, tail_limit}
 use Rattle.lert_frames.proofs.PlaceLaws.{places_apart}
@@ -142,3 +143,14 @@ holds_moved s m events rows made old new len are holds leaves count landed news 
           subst (λ t. All P (cond t row (drop dropped written))) (sym (le-ltb d level reached))
           (All-drop P dropped written (All-append P (kept s m level row) (arrived s m level row ∷ []) (All-kept P s m level row stay) (All-cons P (arrived s m level row) [] here (All-nil P)))))
     ])
+
+-- the frames after the new bins were written, as a bay tells them
+pub written_holds : {T E : Type 0} (result : Result T E) (s : Numbers) (m : ℕ) (rows : List (List BinAt)) (made : List (List Piece)) (before after : Option Files) → length rows ≡ s.levels → AreRows s rows → length made ≡ depth s m →
+    Turns (LeavesRest (InNamed s rows)) before after → OnOk result ((seen : Files) → after ≡ Some seen → AreLanded s m (take (depth s m) rows) (seen 2) made (depth s m)) →
+    (seen : Files) → before ≡ Some seen → (events : List ℕ) → HoldsBins s events rows (seen 2) → AreNew s m events (take (depth s m) rows) made →
+    OnOk result ((then : Files) → after ≡ Some then → HoldsBins s events (moved s m rows) (then 2))
+written_holds (Ok value) s m rows made before after len are count turned landed seen told events holds news = λ then then_told.
+    let step = turned.told seen told in
+    let same : step.0 ≡ then = cc in
+    holds_moved s m events rows made seen then len are holds (subst (λ (f : Files). LeavesRest (InNamed s rows) seen f) same step.2) count (landed then then_told) news
+written_holds (Err error) s m rows made before after len are count turned landed seen told events holds news = tt

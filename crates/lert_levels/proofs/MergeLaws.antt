@@ -1,7 +1,7 @@
 -- The bins of level 0 and of some levels on disk, as the streams of a merge.
-use Rattle.std.proofs.Common.{ℕ, ◌≡◌, ◌+◌, ◌-◌, ◌*◌, ◌<◌, ◌≤◌, zero, suc, List, [], ◌∷◌, ◌++◌, length, map, take, get_or, refl, ap, ap₂, sym, ◌∙◌, arith, inl, inr, subst, sum_by, flat_map, length-append}
+use Rattle.std.proofs.Common.{ℕ, ◌≡◌, ◌+◌, ◌-◌, ◌*◌, ◌<◌, ◌≤◌, zero, suc, List, [], ◌∷◌, ◌++◌, length, map, take, get_or, refl, ap, ap₂, sym, ◌∙◌, arith, inl, inr, subst, sum_by, flat_map, length-append, add-one}
 use Rattle.std.specs.List.{All}
-use Rattle.std.proofs.Math.Nat.{suc-mul}
+use Rattle.std.proofs.Math.Nat.{suc-mul, mul-le-mul_right}
 use Rattle.std.proofs.lemmas.List.{length-map, take_all}
 use Rattle.std.proofs.lemmas.List.Elements.{All-head, All-tail}
 use Rattle.std.proofs.lemmas.List.Sums.{sum_by-cons}
@@ -54,3 +54,12 @@ pub few_streams : (bins : ℕ) (rows : List (List BinAt)) → ((k : ℕ) → k <
 few_streams bins [] each = omega arith
 few_streams bins (row ∷ rows) each =
     omega (arith, sum_by-cons (λ (r : List BinAt). length r) row rows, each 0 (omega arith), few_streams bins rows (λ k below. each (suc k) (omega arith)), suc-mul (length rows) bins)
+
+-- at most one for each bin of each level
+pub streams_few : (levels bins young n : ℕ) (rows : List (List BinAt)) → n ≡ length rows → young ≤ bins → ((k : ℕ) → k < length rows → length (get_or rows k []) ≤ bins) → length rows ≤ levels → streams_to young rows n ≤ (levels + 1) * bins
+streams_few levels bins young n rows n_is few_young each few =
+    let whole = ap (λ rs. sum_by (λ (row : List BinAt). length row) rs) (take_all n rows (omega arith)) in
+    let sum = few_streams bins rows each in
+    let product = mul-le-mul_right bins few in
+    let next = ap (λ k. k * bins) (add-one levels) ∙ suc-mul levels bins in
+    omega arith

@@ -121,6 +121,7 @@ impl<T: CountTable> Levels<T> {
         ensures failed { IsErrOf result FlushFault.Failed → HasRisen (B.faults bay.old) (B.faults bay.new) }
         ensures mark { B.mark bay.new ≡ B.mark bay.old }
     {
+        let _valid = self.settings.numbers();
         let rows = self.reached(depth);
         let streams = load_levels(self.alloc, &self.settings, zero, rows, bay)?;
         Ok(self.merger.gather(self.alloc, streams, parts, totals)?)
