@@ -98,7 +98,9 @@ impl<T: CountTable> Zero<T> {
 
     /// How many bins there are.
     pub(crate) fn len(&self) -> usize
-        ensures { result ≡ length self.now.bins }
+        ensures count { result ≡ length self.now.bins }
+        ensures some { self.now.from < self.now.to → 1 ≤ result }
+        ensures few { result ≤ self.now.settings.bins }
     {
         self.used().len()
     }
