@@ -4,6 +4,8 @@
 mod bin_at;
 mod fault;
 mod gather;
+#[cfg(test)]
+mod samples;
 mod zero;
 
 pub use bin_at::BinAt;
