@@ -1,0 +1,26 @@
+-- The new bins of a flush, and the frames that it leaves alone.
+use Rattle.std.specs.Prelude.{◌≡◌, ℕ, ◌+◌, ◌<◌, ◌≤◌, List, [], length, Contains, slice_index_or}
+use Rattle.lert_frames.specs.Place.{frame_place, frame_len}
+use Rattle.lert_spec.specs.declared.numbers.Numbers.{Numbers}
+use Rattle.lert_spec.specs.declared.piece.Piece.{Piece}
+use Rattle.lert_levels.specs.declared.bin_at.BinAt.{BinAt}
+use Rattle.lert_levels.specs.Landing.{CanStand}
+use Rattle.lert_levels.specs.Rows.{row_of, arrived, tallied_in}
+
+-- the new bins, that of level 1 first, have room in their frames
+abbrev pub AllCanStand : Numbers → List (List Piece) → Type 0
+AllCanStand s made = (k : ℕ) → k < length made → CanStand s (k + 1) (slice_index_or made k [])
+
+-- they are the counts of their positions
+abbrev pub AreNew : Numbers → ℕ → List ℕ → List (List BinAt) → List (List Piece) → Type 0
+AreNew s m events rows made = (k : ℕ) → k < length made → slice_index_or made k [] ≡ tallied_in s events (arrived s m (k + 1) (slice_index_or rows k []))
+
+-- a range of the file of frames stands in the frame of a bin
+pub record InNamed (s : Numbers) (rows : List (List BinAt)) (from to : ℕ) : Type 0 where
+  pub level : ℕ
+  pub first : 1 ≤ level
+  pub last : level ≤ s.levels
+  pub bin : BinAt
+  pub named : Contains (row_of rows level) bin
+  pub above : frame_place s level bin.frame ≤ from
+  pub below : to ≤ frame_place s level bin.frame + frame_len s level
