@@ -6,6 +6,7 @@ pub mod CoverLaws
 pub mod DirectoryLaws
 pub mod YoungBins
 mod LoadLaws
+mod MergeExamples
 mod GatherLaws
 pub mod MergedLaws
 mod YoungLaws

@@ -131,11 +131,11 @@ pub record Adds {T : Type 0} (pieces : T → List Piece) (room tail_bits : T →
   pub positive : 1 ≤ wide
   pub at_is : at ≡ (m - 1 - begin) / wide
 
-pub adds : {T : Type 0} (pieces : T → List Piece) (room tail_bits : T → ℕ) {s : Numbers} {tables : List T} {from to : ℕ} {young : Young} {m begin wide : ℕ} →
+pub adds : {T : Type 0} (pieces : T → List Piece) (room tail_bits : T → ℕ) {s : Numbers} {tables : List T} {from to : ℕ} {young : Young} {m begin wide at : ℕ} →
     AreFilled pieces room tail_bits s tables from to → record { settings = s; from = from; to = to; bins = bins_of (span s 0) from to (map pieces tables) } ≡ young → IsNextPosition young m →
-    begin ≡ cond (eqb from to) (m - 1) from → wide ≡ span s 0 → 1 ≤ wide → Adds pieces room tail_bits s tables from to young m begin wide ((m - 1 - begin) / wide)
-adds pieces room tail_bits filled seen next begin_is wide_is positive =
-    record { filled = filled; seen = seen; next = next; begin_is = begin_is; wide_is = wide_is; positive = positive; at_is = refl }
+    begin ≡ cond (eqb from to) (m - 1) from → wide ≡ span s 0 → 1 ≤ wide → at ≡ (m - 1 - begin) / wide → Adds pieces room tail_bits s tables from to young m begin wide at
+adds pieces room tail_bits filled seen next begin_is wide_is positive at_is =
+    record { filled = filled; seen = seen; next = next; begin_is = begin_is; wide_is = wide_is; positive = positive; at_is = at_is }
 
 -- the same, from the oldest bin's beginning up to the position before the new one
 record Stands {T : Type 0} (pieces : T → List Piece) (room tail_bits : T → ℕ) (s : Numbers) (tables : List T) (from to begin m at : ℕ) : Type 0 where

@@ -11,6 +11,8 @@ mod loading;
 mod merging;
 mod parts;
 mod rows;
+#[cfg(test)]
+mod samples;
 mod zero;
 
 pub use bin_at::BinAt;

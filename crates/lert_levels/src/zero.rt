@@ -1,6 +1,6 @@
 //! Level 0 in memory.
 
-ghost use Rattle.std.specs.Prelude.{◌≡◌, ◌+◌, ◌-◌, ◌^◌, ◌<◌, ◌≤◌, ◌==◌, if◌then◌else◌, ◌++◌, [], All, drop, length, map, IfOk, OnOk, sum_by};
+ghost use Rattle.std.specs.Prelude.{◌≡◌, ◌+◌, ◌-◌, ◌/◌, ◌^◌, ◌<◌, ◌≤◌, ◌==◌, if◌then◌else◌, ◌++◌, [], All, drop, length, map, IfOk, OnOk, sum_by};
 ghost use Rattle.lert_spec.specs.Edges.{span};
 ghost use Rattle.lert_frames.specs.Frame.{IsBin};
 ghost use Rattle.lert_spec.specs.Table.{count_of, total, AreGiven};
@@ -79,7 +79,7 @@ impl<T: CountTable> Zero<T> {
         ensures { self.new ≡ with_event self.old tail m }
     {
         let from = beginning(self.from, self.to, m);
-        let bin = (m - 1 - from) / self.settings.span(0);
+        let bin = number_of(m, from, self.settings.span(0));
         self.tables[bin as usize].add(tail, 1);
         self.from = from;
         self.to = m;
@@ -98,7 +98,9 @@ impl<T: CountTable> Zero<T> {
 
     /// How many bins there are.
     pub(crate) fn len(&self) -> usize
-        ensures { result ≡ length self.now.bins }
+        ensures count { result ≡ length self.now.bins }
+        ensures some { self.now.from < self.now.to → 1 ≤ result }
+        ensures few { result ≤ self.now.settings.bins }
     {
         self.used().len()
     }
@@ -189,6 +191,15 @@ fn beginning(from: u64, to: u64, m: u64) -> u64
     ensures { result ≡ (if from == to then m - 1 else from) }
 {
     if from == to { m - 1 } else { from }
+}
+
+// The number of the bin of position `m`. The oldest one, above `from`, has number 0.
+fn number_of(m: u64, from: u64, span: u64) -> u64
+    requires span { 1 ≤ span }
+    requires above { from < m }
+    ensures { result ≡ (m - 1 - from) / span }
+{
+    (m - 1 - from) / span
 }
 
 // A table for the events of a bin of level 0.
