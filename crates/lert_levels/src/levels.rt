@@ -1,18 +1,21 @@
 //! The levels on disk.
 
-ghost use Rattle.std.specs.Prelude.{◌≡◌, ◌⊎◌, ℕ, ◌+◌, ◌-◌, ◌<◌, ◌≤◌, List, [], length, map, take, replicate, All, IfOk, IfErr, OnOk, OnErr, IsErrOf, slice_index_or, vec_capacity};
+ghost use Rattle.std.specs.Prelude.{◌≡◌, ◌⊎◌, ℕ, ◌+◌, ◌-◌, ◌<◌, ◌≤◌, List, [], length, map, take, replicate, All, IfOk, IfErr, OnOk, OnErr, MatchResult, IsErrOf, slice_index_or, slice_range, vec_capacity};
 ghost use Rattle.lert_bay.specs.Files.{Files, IfTold};
 ghost use Rattle.lert_frames.specs.Kept.{OnlyRead};
+ghost use Rattle.lert_frames.specs.Place.{tail_limit};
 ghost use Rattle.lert_io.specs.Fault.{HasRisen, HasCause};
 ghost use Rattle.lert_spec.specs.declared.piece.Piece.{Piece};
-ghost use Rattle.lert_spec.specs.Edges.{capacity, depth};
+ghost use Rattle.lert_spec.specs.Bins.{tallied};
+ghost use Rattle.lert_spec.specs.Edges.{edge, depth, lookback, capacity};
+ghost use Rattle.lert_spec.specs.Table.{IsTable};
 ghost use Rattle.lert_levels.specs.declared.bin_at.BinAt.{BinAt};
-ghost use Rattle.lert_levels.specs.Flushed.{AllCanStand, AreNew, InNamed};
+ghost use Rattle.lert_levels.specs.Flushed.{AllCanStand, AreNew, AreEvents, InNamed};
 ghost use Rattle.lert_levels.specs.Gathered.{IsWithin};
 ghost use Rattle.lert_levels.specs.Landing.{KeepsRest};
 ghost use Rattle.lert_levels.specs.Loading.{AllStand, OneBreaks};
 ghost use Rattle.lert_levels.specs.Merged.{IsMade, IsFrames};
-ghost use Rattle.lert_levels.specs.Parts.{streams_to};
+ghost use Rattle.lert_levels.specs.Parts.{streams_to, parts_at};
 ghost use Rattle.lert_levels.specs.Rows.{row_of, IsAt, IsRow, HoldsBins, moved, directory_text};
 
 use crate::bin_at::BinAt;
@@ -21,6 +24,7 @@ use crate::fault::FlushFault;
 use crate::gather::{Merger, Part};
 use crate::landing::land;
 use crate::merging::load_levels;
+use crate::parts::parts_of;
 use crate::rows::move_row;
 use crate::zero::Zero;
 use lert_base::{CountTable, Piece, Settings, Totals};
@@ -125,6 +129,54 @@ impl<T: CountTable> Levels<T> {
         let rows = self.reached(depth);
         let streams = load_levels(self.alloc, &self.settings, zero, rows, bay)?;
         Ok(self.merger.gather(self.alloc, streams, parts, totals)?)
+    }
+
+    // The streams of the new bins of the flush at position `m`.
+    fn parts(&self, zero: &Zero<T>, m: u64) -> Result<Vec<Part>, OutOfMemory>
+        requires same { zero.now.settings ≡ self.now.settings }
+        requires first { 1 ≤ m }
+        requires last { m ≤ capacity self.now.settings }
+        requires some { zero.now.from < zero.now.to }
+        ensures parts { IfOk result (λ parts. parts.items ≡ parts_at self.now.settings m (length zero.now.bins) (take (depth self.now.settings m) self.now.rows)) }
+        ensures young { 1 ≤ length zero.now.bins }
+    {
+        let depth = self.settings.depth(m) as usize;
+        parts_of(self.alloc, &self.settings, m, zero.len(), self.reached(depth))
+    }
+
+    // The new bins of the flush at position `m`. `totals` takes the totals.
+    fn new_bins<B: Bay, O: Totals>(
+        &mut self,
+        zero: &Zero<T>,
+        m: u64,
+        bay: &mut B,
+        totals: &mut O,
+    ) -> Result<Vec<Vec<Piece>>, FlushFault>
+        requires same { zero.now.settings ≡ self.old.settings }
+        requires first { 1 ≤ m }
+        requires last { m ≤ capacity self.old.settings }
+        requires from { zero.now.from ≡ edge self.old.settings 0 (m - 1) }
+        requires to { zero.now.to ≡ m }
+        requires at { IsAt self.old.settings (m - 1) self.old.rows }
+        requires none_taken { O.took totals.old [] }
+        ensures same { self.new ≡ self.old }
+        ensures count { IfOk result (λ made. length made.items ≡ depth self.old.settings m) }
+        ensures can { IfOk result (λ made. AllCanStand self.old.settings (map (λ pieces. pieces.items) made.items)) }
+        ensures told { IfTold (B.files bay.old) (λ seen. (events : List ℕ) → AreEvents self.old m zero.now.bins events (seen 2) → MatchResult result
+            (λ made. AreNew self.old.settings m events (take (depth self.old.settings m) self.old.rows) (map (λ pieces. pieces.items) made.items) ×
+            O.took totals.new (tallied self.old.settings (slice_range events (lookback self.old.settings m) m)))
+            (λ fault. (fault ≡ FlushFault.Failed) ⊎ (fault ≡ FlushFault.OutOfMemory))) }
+        ensures took { OnOk result ((list : List Piece) × O.took totals.new list × IsTable (tail_limit self.old.settings) list) }
+        ensures malformed { IfTold (B.files bay.old) (λ seen. (at : ℕ) → IsErrOf result (FlushFault.Malformed at) →
+            OneBreaks self.old.settings (take (depth self.old.settings m) self.old.rows) (seen 2) at) }
+        ensures only_read { OnlyRead (B.files bay.old) (B.files bay.new) (B.leaves bay.old) (B.leaves bay.new) (B.moment bay.old) (B.moment bay.new) (B.left_since bay.old) (B.left_since bay.new) }
+        ensures never_falls { B.faults bay.old ≤ B.faults bay.new }
+        ensures failed { IsErrOf result FlushFault.Failed → HasRisen (B.faults bay.old) (B.faults bay.new) }
+        ensures mark { B.mark bay.new ≡ B.mark bay.old }
+    {
+        let depth = self.settings.depth(m) as usize;
+        let parts = self.parts(zero, m)?;
+        self.merge(zero, depth, &parts, bay, totals)
     }
 
     // Writes the new bins of the flush at position `m` and moves the rows on. A refusal leaves them as they were.
