@@ -17,3 +17,4 @@ pub mod MergeLaws
 pub mod ArrivalLaws
 pub mod HoldLaws
 pub mod LevelLaws
+pub mod FlushLaws

@@ -63,3 +63,15 @@ streams_few levels bins young n rows n_is few_young each few =
     let product = mul-le-mul_right bins few in
     let next = ap (λ k. k * bins) (add-one levels) ∙ suc-mul levels bins in
     omega arith
+
+-- how many lists these are
+pub lists_count : (limit : ℕ) (young : List Bin) (rows : List (List BinAt)) (lists : List (List Piece)) (n : ℕ) → n ≡ length rows → AreBins limit (widths_of young rows) lists → length lists ≡ streams_to (length young) rows n
+lists_count limit young rows lists n n_is are =
+    let counts = bins_length limit (widths_of young rows) lists are in
+    let whole = ap (λ rs. sum_by (λ (row : List BinAt). length row) rs) (take_all n rows (omega arith)) in
+    omega (
+      arith,
+      length-append (map (λ (bin : Bin). bin.to - bin.from) young) (widths_in rows),
+      length-map young (λ (bin : Bin). bin.to - bin.from),
+      length_widths rows,
+    )

@@ -174,6 +174,7 @@ impl<T: CountTable> Levels<T> {
         ensures failed { IsErrOf result FlushFault.Failed → HasRisen (B.faults bay.old) (B.faults bay.new) }
         ensures mark { B.mark bay.new ≡ B.mark bay.old }
     {
+        let _valid = self.settings.numbers();
         let depth = self.settings.depth(m) as usize;
         let parts = self.parts(zero, m)?;
         self.merge(zero, depth, &parts, bay, totals)
