@@ -16,7 +16,7 @@ use Rattle.lert_spec.proofs.EdgeLaws.{deepest_within}
 use Rattle.lert_merge.specs.Merging.{count_in}
 use Rattle.lert_levels.specs.declared.bin_at.BinAt.{BinAt}
 use Rattle.lert_levels.specs.declared.gather.Part.{Part}
-use Rattle.lert_levels.specs.Flushed.{AllCanStand, AreNew, AreEvents}
+use Rattle.lert_levels.specs.Flushed.{AllCanStand, AreNew, AreEvents, AreAllEvents}
 use Rattle.lert_levels.specs.Gathered.{merged, part_table, IsWithin}
 use Rattle.lert_levels.specs.Landing.{CanStand}
 use Rattle.lert_levels.specs.Merged.{IsMade, streams_of, widths_of}
@@ -105,3 +105,18 @@ module _ (s : Numbers) (valid : IsValid s) (m : ℕ) (first : 1 ≤ m) (fits : m
 pub made_turned : (s : Numbers) (young : List Bin) (rows : List (List BinAt)) (low deep : ℕ) (parts others : List Part) (took : List Piece → Type 0) (frames : List ℕ → Type 0) (made : List (List Piece)) → low ≡ deep → parts ≡ others → IsMade s young (take low rows) parts took frames made → IsMade s young (take deep rows) others took frames made
 made_turned s young rows low deep parts others took frames made deep_is others_are is =
     subst (λ (ps : List Part). IsMade s young (take deep rows) ps took frames made) others_are (subst (λ (d : ℕ). IsMade s young (take d rows) parts took frames made) deep_is is)
+
+-- ---- a scan
+
+module _ (s : Numbers) (valid : IsValid s) (rows : List (List BinAt)) (young : List Bin) (parts : List Part) (took : List Piece → Type 0) (frames : List ℕ → Type 0) (made : List (List Piece)) (is : IsMade s young (take s.levels rows) parts took frames made) where
+  pub scan_took : (list : List Piece) × took list × IsTable (tail_limit s) list
+  scan_took = (merged is.lists, is.taken, IsTable-merged (tail_limit s) is.lists (tables_from_bins (tail_limit s) (widths_of young (take s.levels rows)) is.lists is.bins))
+
+  -- where the frames hold the bins, `totals` took the counts of all events
+  pub scan_taken : (file events : List ℕ) → frames file → AreRows s rows → AreAllEvents (record { settings = s; rows = rows }) young events file → took (tallied s events)
+  scan_taken file events here are of =
+      let tables = tables_from_bins (tail_limit s) (widths_of young (take s.levels rows)) is.lists is.bins in
+      let stand = rows_stand s events (length events) rows file of.at are (omega arith) of.held s.levels (omega arith) in
+      let lists = is.told file here (tallied_in s events) stand ∙ ap (λ bins. streams_of bins (tallied_in s events) (take s.levels rows)) of.young_are in
+      subst took (scan_totals s valid events rows (merged is.lists) of.at of.fits (IsTable-merged (tail_limit s) is.lists tables)
+      (λ tail. count_of-merged (tail_limit s) is.lists tail tables ∙ ap (λ ls. count_in ls tail) lists)) is.taken

@@ -12,7 +12,7 @@ use Rattle.lert_bay.proofs.Tearing.{torn_held}
 use Rattle.lert_frames.proofs.StoreLaws.{length_frame}
 use Rattle.lert_frames.proofs.WriteLaws.{either_way}
 use Rattle.lert_frames.specs.Frame.{HoldsFrame, frame_text, text_len}
-use Rattle.lert_frames.specs.Kept.{KeepsOutside}
+use Rattle.lert_frames.specs.Kept.{OnlyRead, KeepsOutside}
 use Rattle.lert_frames.specs.Place.{frame_place, frame_len, tail_limit}
 use Rattle.lert_frames.proofs.PlaceLaws.{places_apart}
 use Rattle.lert_spec.specs.declared.numbers.Numbers.{Numbers}
@@ -211,3 +211,12 @@ pub synced_durable : {T E : Type 0} (result : Result T E) (files_before files_af
     OnOk result ((seen : Files) → files_after ≡ Some seen → (image : Files) → leaves_after image → image 2 ≡ seen 2)
 synced_durable (Ok value) files_before files_after leaves_before leaves_after same durable = λ seen told image left. (durable seen (sym same ∙ told)).durable image left
 synced_durable (Err error) files_before files_after leaves_before leaves_after same durable = tt
+
+-- ---- calls that read alone leave all
+
+pub read_rest : (kept : ℕ → ℕ → Type 0) (files_before files_after : Option Files) (leaves_before leaves_after : Files → Type 0) (first last : ℕ) (since_before since_after : ℕ → Files → Type 0) → OnlyRead files_before files_after leaves_before leaves_after first last since_before since_after → KeepsRest kept files_before files_after leaves_before first last since_before since_after
+read_rest kept files_before files_after leaves_before leaves_after first last since_before since_after read = record {
+  seen = record { told = λ old told. (old, read.seen ∙ told, leaves_same kept old); untold = λ untold. read.seen ∙ untold };
+  settled = λ seen told number from to may settled image since. settled.same image (read.moments image since);
+  time = read.time;
+}

@@ -10,7 +10,7 @@ ghost use Rattle.lert_spec.specs.Bins.{tallied};
 ghost use Rattle.lert_spec.specs.Edges.{edge, depth, lookback, capacity};
 ghost use Rattle.lert_spec.specs.Table.{IsTable};
 ghost use Rattle.lert_levels.specs.declared.bin_at.BinAt.{BinAt};
-ghost use Rattle.lert_levels.specs.Flushed.{AllCanStand, AreNew, AreEvents, InNamed};
+ghost use Rattle.lert_levels.specs.Flushed.{AllCanStand, AreNew, AreEvents, AreAllEvents, InNamed};
 ghost use Rattle.lert_levels.specs.Gathered.{IsWithin};
 ghost use Rattle.lert_levels.specs.Landing.{KeepsRest};
 ghost use Rattle.lert_levels.specs.Loading.{AllStand, OneBreaks};
@@ -86,6 +86,84 @@ impl<T: CountTable> Levels<T> {
         ensures { result.now ≡ row_of self.now.rows level }
     {
         &self.rows[level as usize - 1]
+    }
+
+    /// Flushes at position `m`: merges level 0 and the levels on disk that the flush reaches, writes the new bin of each level
+    /// from 1 on that it reaches into the least frame in which no bin of that level stands, and makes the file of frames
+    /// durable. `zero` has the positions above the edge of level 0 before `m`, up to `m`; its oldest bin stays there.
+    ///
+    /// `totals` takes each tail with its sum, in ascending tails. A refusal leaves the bins and the directory as they were, and
+    /// no frame that the directory names is written, whatever it answers. After a refusal nothing is said of what `totals` took.
+    /// It takes the memory of the bins that it reads and makes.
+    pub fn flush<B: Bay, O: Totals>(
+        &mut self,
+        bay: &mut B,
+        zero: &Zero<T>,
+        m: u64,
+        totals: &mut O,
+    ) -> Result<(), FlushFault>
+        requires same { zero.now.settings ≡ self.old.settings }
+        requires first { 1 ≤ m }
+        requires last { m ≤ capacity self.old.settings }
+        requires from { zero.now.from ≡ edge self.old.settings 0 (m - 1) }
+        requires to { zero.now.to ≡ m }
+        requires at { IsAt self.old.settings (m - 1) self.old.rows }
+        requires none_taken { O.took totals.old [] }
+
+        // The rows become those of the levels after m events.
+        ensures ok { OnOk result (self.new ≡ record self.old { rows = moved self.old.settings m self.old.rows }) }
+        ensures at { OnOk result (IsAt self.new.settings m self.new.rows) }
+        ensures refused { OnErr result (self.new ≡ self.old) }
+
+        // Where the frames held the bins of the events before m, those of the rows then hold theirs, and the totals are the counts
+        // above the lookback. Only a call of the bay or memory may fail.
+        ensures told { IfTold (B.files bay.old) (λ seen. (events : List ℕ) → AreEvents self.old m zero.now.bins events (seen 2) → MatchResult result
+            (λ _. IfTold (B.files bay.new) (λ after. HoldsBins self.old.settings events (moved self.old.settings m self.old.rows) (after 2)) ×
+            O.took totals.new (tallied self.old.settings (slice_range events (lookback self.old.settings m) m)))
+            (λ fault. (fault ≡ FlushFault.Failed) ⊎ (fault ≡ FlushFault.OutOfMemory))) }
+        ensures took { OnOk result ((list : List Piece) × O.took totals.new list × IsTable (tail_limit self.old.settings) list) }
+
+        // After Ok a crash leaves the file of frames as a read gives it. In the other files, and in the frames that the directory
+        // named, all reads as before, and what was settled stays settled.
+        ensures durable { OnOk result (IfTold (B.files bay.new) (λ seen. (image : Files) → B.leaves bay.new image → image 2 ≡ seen 2)) }
+        ensures rest { KeepsRest (InNamed self.old.settings self.old.rows) (B.files bay.old) (B.files bay.new) (B.leaves bay.old) (B.moment bay.old) (B.moment bay.new) (B.left_since bay.old) (B.left_since bay.new) }
+        ensures malformed { IfTold (B.files bay.old) (λ seen. (at : ℕ) → IsErrOf result (FlushFault.Malformed at) →
+            OneBreaks self.old.settings (take (depth self.old.settings m) self.old.rows) (seen 2) at) }
+        ensures never_falls { B.faults bay.old ≤ B.faults bay.new }
+        ensures failed { IsErrOf result FlushFault.Failed → HasRisen (B.faults bay.old) (B.faults bay.new) }
+        ensures mark { B.mark bay.new ≡ B.mark bay.old }
+    {
+        let _valid = self.settings.numbers();
+        let made = self.new_bins(zero, m, bay, totals)?;
+        self.land(m, &made, bay)?;
+        Ok(())
+    }
+
+    /// Merges level 0 with all levels on disk, and writes nothing. `totals` takes each tail with its sum, in ascending tails.
+    /// After a refusal nothing is said of what it took. It takes the memory of the bins.
+    pub fn scan<B: Bay, O: Totals>(
+        &mut self,
+        bay: &mut B,
+        zero: &Zero<T>,
+        totals: &mut O,
+    ) -> Result<(), FlushFault>
+        requires same { zero.now.settings ≡ self.old.settings }
+        requires none_taken { O.took totals.old [] }
+        ensures same { self.new ≡ self.old }
+        ensures told { IfTold (B.files bay.old) (λ seen. (events : List ℕ) → AreAllEvents self.old zero.now.bins events (seen 2) → MatchResult result
+            (λ _. O.took totals.new (tallied self.old.settings events))
+            (λ fault. (fault ≡ FlushFault.Failed) ⊎ (fault ≡ FlushFault.OutOfMemory))) }
+        ensures took { OnOk result ((list : List Piece) × O.took totals.new list × IsTable (tail_limit self.old.settings) list) }
+        ensures malformed { IfTold (B.files bay.old) (λ seen. (at : ℕ) → IsErrOf result (FlushFault.Malformed at) →
+            OneBreaks self.old.settings self.old.rows (seen 2) at) }
+        ensures only_read { OnlyRead (B.files bay.old) (B.files bay.new) (B.leaves bay.old) (B.leaves bay.new) (B.moment bay.old) (B.moment bay.new) (B.left_since bay.old) (B.left_since bay.new) }
+        ensures never_falls { B.faults bay.old ≤ B.faults bay.new }
+        ensures failed { IsErrOf result FlushFault.Failed → HasRisen (B.faults bay.old) (B.faults bay.new) }
+        ensures mark { B.mark bay.new ≡ B.mark bay.old }
+    {
+        let levels = self.settings.numbers().levels as usize;
+        let _made = self.merge(zero, levels, &[], bay, totals)?;
+        Ok(())
     }
 
     // The rows of the levels from 1 up to `depth`.
