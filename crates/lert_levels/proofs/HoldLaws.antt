@@ -37,7 +37,7 @@ pub row_among : (rows : List (List BinAt)) (d k : ℕ) → k < d → row_of rows
 row_among rows d k less = ap (λ n. get_or rows n []) (let same : k + 1 - 1 ≡ k = omega arith in same) ∙ sym (get_or-take d rows k [] less)
 
 -- the bins of a level end within the events
-bins_end : (s : Numbers) (n : ℕ) (rows : List (List BinAt)) → IsAt s n rows → (level : ℕ) → 1 ≤ level → level ≤ s.levels → All (λ bin. bin.to ≤ n) (row_of rows level)
+pub bins_end : (s : Numbers) (n : ℕ) (rows : List (List BinAt)) → IsAt s n rows → (level : ℕ) → 1 ≤ level → level ≤ s.levels → All (λ bin. bin.to ≤ n) (row_of rows level)
 bins_end s n rows at level from within =
     let wide = span s level in
     let high = edge s (level - 1) n in

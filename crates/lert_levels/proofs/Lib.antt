@@ -18,3 +18,4 @@ pub mod ArrivalLaws
 pub mod HoldLaws
 pub mod LevelLaws
 pub mod FlushLaws
+pub mod LaterLaws

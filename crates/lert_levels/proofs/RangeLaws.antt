@@ -2,7 +2,7 @@
 use Rattle.std.proofs.Common.{ℕ, ◌≡◌, ◌≢◌, ◌+◌, ◌-◌, ◌*◌, ◌/◌, ◌%◌, ◌<◌, ◌≤◌, zero, suc, Bool, true, false, cond, ltb, List, [], ◌∷◌, ◌++◌, length, map, filter, min, max, drop, refl, ap, ap₂, sym, ◌∙◌, arith, inl, inr, subst}
 use Rattle.std.specs.List.{All, range_with_len}
 use Rattle.std.proofs.lemmas.Bool.{cases_lt, cases_eq, lt-ltb, le-ltb, eq-eqb, ne_eqb}
-use Rattle.std.proofs.lemmas.List.{map-append}
+use Rattle.std.proofs.lemmas.List.{map-append, nil_from_length}
 use Rattle.std.proofs.lemmas.List.Elements.{All-nil, All-cons}
 use Rattle.std.proofs.Math.Nat.{mul-div-le, div-add-mod, mod-lt, mul-suc, mul_comm, mul-le-mul_left, mul-le-mul_right, mul_assoc, suc-mul, le-div_iff_mul-le, div-eq_of_lt-le, add-zero, add-suc}
 use Rattle.lert_spec.specs.declared.numbers.Numbers.{Numbers}
@@ -113,6 +113,11 @@ cuts_few wide low high a b first (suc n) within =
 
 pub edge_within : (s : Numbers) (level n : ℕ) → edge s level n ≤ n
 edge_within s level n = omega (arith, mul-div-le (n - offset s level) (span s level))
+
+-- none between edges that lie no further apart
+pub cuts_none : (wide low high n : ℕ) → high ≤ low → range_cuts wide low high 0 n ≡ []
+cuts_none wide low high n empty =
+    nil_from_length (range_cuts wide low high 0 n) (omega (arith, cuts_few wide low high 0 0 0 n (λ k some. absurd (omega arith))))
 
 -- the ranges between the edges of two levels
 abbrev pub between : Numbers → ℕ → ℕ → ℕ → List Range
