@@ -1,5 +1,5 @@
 -- The bins of level 0 and of some levels on disk, as the streams of a merge.
-use Rattle.std.proofs.Common.{ℕ, ◌≡◌, ◌+◌, ◌-◌, ◌*◌, ◌<◌, ◌≤◌, zero, suc, List, [], ◌∷◌, ◌++◌, length, map, take, get_or, refl, ap, ap₂, sym, ◌∙◌, arith, inl, inr, subst, sum_by, flat_map, length-append, add-one}
+use Rattle.std.proofs.Common.{ℕ, ◌≡◌, ◌+◌, ◌-◌, ◌*◌, ◌<◌, ◌≤◌, suc, List, [], ◌∷◌, length, map, get_or, refl, ap, ◌∙◌, arith, sum_by, length-append, add-one}
 use Rattle.std.specs.List.{All}
 use Rattle.std.proofs.Math.Nat.{suc-mul, mul-le-mul_right}
 use Rattle.std.proofs.lemmas.List.{length-map, take_all}
@@ -8,14 +8,12 @@ use Rattle.std.proofs.lemmas.List.Sums.{sum_by-cons}
 use Rattle.lert_frames.specs.declared.bin.LoadedBin.{LoadedBin}
 use Rattle.lert_frames.specs.Frame.{IsBin}
 use Rattle.lert_spec.specs.Bins.{Bin}
-use Rattle.lert_spec.specs.declared.numbers.Numbers.{Numbers}
 use Rattle.lert_spec.specs.declared.piece.Piece.{Piece}
 use Rattle.lert_levels.specs.declared.bin_at.BinAt.{BinAt}
 use Rattle.lert_levels.specs.Gathered.{lists_of}
 use Rattle.lert_levels.specs.Loading.{AreBins, width_of, widths_in}
 use Rattle.lert_levels.specs.Merged.{widths_of}
 use Rattle.lert_levels.specs.Parts.{streams_to}
-use Rattle.lert_levels.specs.Rows.{IsRow}
 
 -- the bins of level 0 are bins of their widths
 pub young_are : (limit : ℕ) (bins : List Bin) → All (λ (bin : Bin). IsBin limit (bin.to - bin.from) bin.pieces) bins → AreBins limit (map (λ (bin : Bin). bin.to - bin.from) bins) (map (λ (bin : Bin). bin.pieces) bins)

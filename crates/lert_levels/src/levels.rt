@@ -219,7 +219,13 @@ impl<T: CountTable> Levels<T> {
         ensures young { 1 ≤ length zero.now.bins }
     {
         let depth = self.settings.depth(m) as usize;
-        parts_of(self.alloc, &self.settings, m, zero.len(), self.reached(depth))
+        parts_of(
+            self.alloc,
+            &self.settings,
+            m,
+            zero.len(),
+            self.reached(depth),
+        )
     }
 
     // The new bins of the flush at position `m`. `totals` takes the totals.

@@ -1,20 +1,13 @@
-use Rattle.std.proofs.Common.{ℕ, ◌≡◌, ◌+◌, ◌-◌, ◌≤◌, ◌<◌, ◌∙◌, List, map, take, length, ap, sym, subst, arith, slice_range}
-use Rattle.std.specs.Prelude.{IfOk}
+use Rattle.std.proofs.Common.{ℕ, ◌≡◌, ◌-◌, ◌≤◌, ◌∙◌, map, take, length, ap, sym, subst, arith}
 use Rattle.std.specs.List.{All}
 use Rattle.std.proofs.lemmas.Result.{IfOk-weaker}
 use Rattle.std.proofs.lemmas.List.{length-map}
-use Rattle.lert_bay.specs.Files.{Files}
 use Rattle.lert_spec.specs.declared.numbers.Numbers.{Numbers}
-use Rattle.lert_spec.specs.declared.piece.Piece.{Piece}
-use Rattle.lert_spec.specs.Bins.{tallied}
-use Rattle.lert_spec.specs.Edges.{depth, lookback}
+use Rattle.lert_spec.specs.Edges.{depth}
 use Rattle.lert_spec.specs.Limits.{IsValid}
-use Rattle.lert_levels.specs.declared.bin_at.BinAt.{BinAt}
-use Rattle.lert_levels.specs.declared.gather.Part.{Part}
-use Rattle.lert_levels.specs.Flushed.{AreEvents, AreNew}
 use Rattle.lert_levels.specs.Gathered.{IsWithin}
 use Rattle.lert_levels.specs.Loading.{OneBreaks}
-use Rattle.lert_levels.specs.Merged.{IsMade, IsFrames}
+use Rattle.lert_levels.specs.Merged.{IsFrames}
 use Rattle.lert_levels.specs.OnDisk.{OnDisk}
 use Rattle.lert_levels.specs.Parts.{parts_at, streams_to}
 use Rattle.lert_levels.specs.Rows.{AreRows, tallied_in}
