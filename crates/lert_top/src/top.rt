@@ -5,13 +5,14 @@ ghost use Rattle.std.specs.VecDeque.{deque_capacity};
 ghost use Rattle.lert_cone.specs.Listing.{reports_of};
 ghost use Rattle.lert_cone.specs.declared.state.ConeState.TheVariants.{Finished};
 ghost use Rattle.lert_io.specs.Fault.{HasCause, HasRisen};
+ghost use Rattle.lert_spec.specs.Lines.{Printed, lines};
 ghost use Rattle.lert_top.specs.Asked.{AreReturned, IsAsked, IsAskedForBays};
-ghost use Rattle.lert_top.specs.Bays.{AreFresh, AreLater, AreMarked, IsStale, bays_of};
+ghost use Rattle.lert_top.specs.Bays.{AreFresh, AreLater, AreMarked, AreTold, IsStale, bays_of};
 ghost use Rattle.lert_top.specs.Command.{command, usage};
 ghost use Rattle.lert_top.specs.Cones.{AreNew};
 ghost use Rattle.lert_top.specs.Page.{IsCut};
 ghost use Rattle.lert_top.specs.Router.{IsFinished, IsTaking};
-ghost use Rattle.lert_top.specs.Run.{AreInTime, HasRun, StatusShows, is_past_freshness, most_keys, text_of};
+ghost use Rattle.lert_top.specs.Run.{ArePrinted, HasRun, StatusShows, is_past_freshness, most_keys, text_of};
 ghost use Rattle.lert_top.specs.Word.{word_at};
 
 use crate::bays::{find_stale, open_bays, put_back_bays};
@@ -206,10 +207,10 @@ fn report<S: Source, B: Bay, K: Sink>(
 fn print<B: Bay, K: Sink>(page: &mut Page, out: &mut K, router: &Router<B>) -> Result<(), Failed>
     requires empty { page.old ≡ [] }
     requires finished { IsFinished B.files B.leaves B.faults router.now }
-    ensures in_time { OnOk result (AreInTime router.now.settings router.now.keys (2 ^ router.now.settings.cone_bits)) }
-    ensures ok { (text : List ℕ) → K.taken out.old ≡ Some text →
-        OnOk result (K.taken out.new ≡ Some (text ++ text_of router.now.settings router.now.keys)) }
-    ensures cut { OnErr result (IsCut (K.taken out.old) (K.taken out.new)
+    ensures ok { (text : List ℕ) → K.taken out.old ≡ Some text → OnOk result ((cones : List Printed)
+        × ArePrinted B.files router.now.settings (bays_of router.now.cones.items) router.now.keys (2 ^ router.now.settings.cone_bits) cones
+        × (K.taken out.new ≡ Some (text ++ lines cones))) }
+    ensures cut { AreTold B.files (bays_of router.now.cones.items) → OnErr result (IsCut (K.taken out.old) (K.taken out.new)
         (text_of router.now.settings router.now.keys)) }
     ensures cause { HasCause (K.faults out.old) (K.faults out.new) result }
     ensures mark { K.mark out.new ≡ K.mark out.old }
