@@ -233,8 +233,8 @@ module _ {B : Type 0} (files : B → Option Files) (leaves : B → Files → Typ
       pub lane_state : old.state ≡ state_of (finished at)
       lane_state = ap (λ (c : Standing B). c.state) old_is ∙ (lanes.each at below).state_is
 
-      old_stands : StandsFor files leaves faults old (lanes.each at below).history
-      old_stands = subst (λ (c : Standing B). StandsFor files leaves faults c (lanes.each at below).history) (sym old_is) (lanes.each at below).stands
+      pub lane_stands : StandsFor files leaves faults old (lanes.each at below).history
+      lane_stands = subst (λ (c : Standing B). StandsFor files leaves faults c (lanes.each at below).history) (sym old_is) (lanes.each at below).stands
 
       -- a lane over another cone in the place of this one
       abbrev LaneTo : ℕ → Bool → Standing B → List ℕ → Type 0
@@ -278,7 +278,7 @@ module _ {B : Type 0} (files : B → Option Files) (leaves : B → Files → Typ
                     standing = new;
                     history = here.history;
                     cone_is = slice_get-set_same cones at new inside;
-                    stands = stands here.history old_stands;
+                    stands = stands here.history lane_stands;
                     listing_is =
                         listed
                         ∙ (ap (λ (l : Listing). record l { closed = true }) lane_listing
@@ -303,9 +303,9 @@ module _ {B : Type 0} (files : B → Option Files) (leaves : B → Files → Typ
             | inl equal ↦
                 let here = lanes.each at below in
                 let bay_same = bay_is (set cones at new) at new bay (slice_get-set_same cones at new inside) (ap (slice_get (bays_of (set cones at new))) (sym equal) ∙ there) in
-                let none = old_stands.none_over (ap is_broken lane_state ∙ unbroken (finished at)) in
+                let none = lane_stands.none_over (ap is_broken lane_state ∙ unbroken (finished at)) in
                 subst (λ c. IfTold (files bay) (HoldsPart s keys c)) (sym equal) (subst (λ b. IfTold (files b) (HoldsPart s keys at)) (sym bay_same)
-                (partly_of at keys new here.history (stands here.history old_stands)
+                (partly_of at keys new here.history (stands here.history lane_stands)
                 (kept.settings ∙ ap (λ (l : Listing). l.settings) lane_listing)
                 (kept.cone ∙ ap (λ (l : Listing). l.cone) lane_listing)
                 (part_woven s at here.history here.each here.cut keys (ring_of rings at) here.joined)
@@ -388,7 +388,7 @@ module _ {B : Type 0} (files : B → Option Files) (leaves : B → Files → Typ
                       standing = new;
                       history = here.history ++ packet ∷ [];
                       cone_is = slice_get-set_same cones at new inside;
-                      stands = stands here.history old_stands;
+                      stands = stands here.history lane_stands;
                       listing_is =
                           listed
                           ∙ (ap (λ (l : Listing). record l { events = l.events ++ ring }) lane_listing
@@ -408,7 +408,7 @@ module _ {B : Type 0} (files : B → Option Files) (leaves : B → Files → Typ
             (settings : new.listing.settings ≡ old.listing.settings) (number : new.listing.cone ≡ old.listing.cone) where
           over_woven : (b : Bool) → is_refusal refusal ≡ b → (over : Packet) → new.over ≡ Some over → IsPartWoven s at 1 (keys ∷ []) ((lanes.each at below).history ++ over ∷ [])
           over_woven true is over there =
-              let none = old_stands.none_over (ap is_broken lane_state ∙ unbroken (finished at)) in
+              let none = lane_stands.none_over (ap is_broken lane_state ∙ unbroken (finished at)) in
               absurd (let gone = sym (ap (λ (c : Standing B). c.over) (unchanged is) ∙ none) ∙ there in cc)
           over_woven false is over there =
               subst (λ (p : Packet). IsPartWoven s at 1 (keys ∷ []) ((lanes.each at below).history ++ p ∷ [])) (same_Some (packet_with ring) over (sym (left_over is) ∙ there))
@@ -424,7 +424,7 @@ module _ {B : Type 0} (files : B → Option Files) (leaves : B → Files → Typ
                     let here = lanes.each at below in
                     let bay_same = bay_is (set cones at new) at new bay (slice_get-set_same cones at new inside) (ap (slice_get (bays_of (set cones at new))) (sym equal) ∙ there) in
                     subst (λ c. IfTold (files bay) (HoldsPart s keys c)) (sym equal) (subst (λ b. IfTold (files b) (HoldsPart s keys at)) (sym bay_same)
-                    (partly_of at keys new here.history (stays here.history old_stands)
+                    (partly_of at keys new here.history (stays here.history lane_stands)
                     (settings ∙ ap (λ (l : Listing). l.settings) lane_listing) (number ∙ ap (λ (l : Listing). l.cone) lane_listing)
                     (part_woven s at here.history here.each here.cut keys ring here.joined)
                     (over_woven (is_refusal refusal) refl)))

@@ -64,8 +64,8 @@ impl<B: Bay> Router<B> {
         }
     }
 
-    /// Takes the next key. After a refusal, of a full cone, of a bay or for want of memory, no call is to
-    /// be made.
+    /// Takes the next key. After a refusal, of a full cone, of a bay, by a file that left its format or for
+    /// want of memory, no call is to be made.
     pub fn take(&mut self, key: u64) -> Result<(), Status>
         requires taking { IsTaking B.files B.leaves B.faults self.old }
         ensures settings { self.new.settings ≡ self.old.settings }
@@ -85,7 +85,7 @@ impl<B: Bay> Router<B> {
     }
 
     /// Hands out what the rings hold, in ascending cones, and then finishes the cones, in ascending
-    /// order. After a refusal, of a full cone, of a bay or for want of memory, no call is to be made.
+    /// order. After a refusal, as of `take`, no call is to be made.
     pub fn finish(&mut self) -> Result<(), Status>
         requires taking { IsTaking B.files B.leaves B.faults self.old }
         ensures settings { self.new.settings ≡ self.old.settings }
@@ -126,6 +126,7 @@ impl<B: Bay> Router<B> {
         } }
         ensures state { result.now.state ≡ Finished }
         ensures bay { slice_get (bays_of self.now.cones.items) number ≡ Some result.now.bay }
+        ensures stands { (history : List Packet) × StandsFor B.files B.leaves B.faults result.now history }
     {
         &self.cones[number as usize]
     }
