@@ -1,15 +1,3 @@
-pub mod CountLemmas
-pub mod CountedLemmas
-pub mod DueLemmas
-pub mod Examples
-pub mod GatherLemmas
-pub mod HeldLemmas
+pub mod DueLaws
 pub mod KeyLemmas
-pub mod ListedLemmas
-pub mod MergeLemmas
-pub mod NextLemmas
-pub mod SoundLaws
-pub mod StandLaws
-pub mod StandLemmas
-pub mod Timing
-pub mod Windows
+pub mod RoomLaws

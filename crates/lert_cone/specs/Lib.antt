@@ -1,10 +1,3 @@
-pub mod Counted
 pub mod Due
 pub mod History
 pub mod Listing
-pub mod Merging
-pub mod Placed
-pub mod Room
-pub mod Sound
-pub mod Standing
-pub mod Stands
