@@ -1,0 +1,3 @@
+mod Examples
+pub mod RangeLaws
+pub mod RowLaws

@@ -1,0 +1,8 @@
+//! The levels of a cone: level 0 in memory, the older ones as frames in the file of frames.
+#![tactic(auto)]
+
+mod bin_at;
+mod fault;
+
+pub use bin_at::BinAt;
+pub use fault::FlushFault;
