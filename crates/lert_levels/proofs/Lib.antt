@@ -1,3 +1,5 @@
 mod Examples
 pub mod RangeLaws
 pub mod RowLaws
+pub mod Windows
+pub mod CoverLaws

@@ -23,7 +23,7 @@ map_cond_one f false x = refl
 
 -- ---- bins and their ranges
 
-filled_cuts : (s : Numbers) (events : List ℕ) (level low high : ℕ) (ks : List ℕ) →
+pub filled_cuts : (s : Numbers) (events : List ℕ) (level low high : ℕ) (ks : List ℕ) →
     filter (λ bin. ltb bin.from bin.to) (map (bin_at s events level low high) ks)
     ≡ map (filled s events) (filter (λ range. ltb range.from range.to) (map (range_at (span s level) low high) ks))
 filled_cuts s events level low high [] = refl
@@ -127,6 +127,9 @@ pub record Enters (s : Numbers) (m below level : ℕ) : Type 0 where
   pub after : drop (cond {A = ℕ} (ltb level (depth s m)) 1 0) (front ++ record { from = start; to = edge s below m } ∷ []) ≡ between s below level m
   pub aligned : edge s below (m - 1) % span s level ≡ 0 → start ≡ edge s below (m - 1)
   pub inside : edge s below (m - 1) % span s level ≢ 0 → start < edge s below (m - 1)
+  pub begun : start ≤ edge s below (m - 1)
+  pub further : edge s below (m - 1) < edge s below m
+  pub fits : edge s below m - start ≤ span s level
 
 module _ (s : Numbers) (base : 1 ≤ s.base) (ratio : 1 ≤ s.ratio) where
   wide : (level : ℕ) → 1 ≤ span s level
@@ -257,6 +260,9 @@ module _ (s : Numbers) (base : 1 ≤ s.base) (ratio : 1 ≤ s.ratio) where
         before = sym same_before ∙ newest_last s width low high k n above (omega arith) (omega arith);
         aligned = λ none. omega arith;
         inside = λ some. omega arith;
+        begun = omega arith;
+        further = omega arith;
+        fits = omega arith;
         after = elim (cases_lt level (depth s m)) [
           | inl deeper ↦ (
               let older_by_one = moves_by_one s base ratio level m (depth_moves level m deeper) in
@@ -281,6 +287,66 @@ module _ (s : Numbers) (base : 1 ≤ s.base) (ratio : 1 ≤ s.ratio) where
   enters level m from first fits deep =
       let up : suc (level - 1) ≡ level = omega arith in
       subst (Enters s m (level - 1)) up (enters_between (level - 1) m first fits (omega arith))
+
+  -- the oldest bin goes whole: its end was an edge of the level before
+  goes_within : (below m : ℕ) → 2 ≤ s.bins → suc below < depth s m → edge s (suc below) m ≤ edge s below (m - 1)
+  goes_within below m some less =
+      let level = suc below in
+      let width = span s level in
+      let c = steps s below (m - 1) in
+      let here = moves_by_one s base ratio level m (depth_moves level m less) in
+      let younger = moves_by_one s base ratio below m (depth_moves below m (omega arith)) in
+      let follows = steps-suc s below m (wide level) in
+      let parts = div-add-mod (steps s below m) s.ratio in
+      let more = mul-le-mul_right s.ratio (let fewer : suc (steps s level m) ≤ steps s below m / s.ratio = omega arith in fewer) in
+      let turned = mul_comm s.ratio (steps s below m / s.ratio) in
+      let next = suc-mul (steps s level m) s.ratio in
+      let whole : steps s level m * s.ratio ≤ c = omega arith in
+      let grouped : width * steps s level m ≡ span s below * (steps s level m * s.ratio) =
+      ap (λ w. w * steps s level m) (span-suc s below) ∙ mul_assoc (span s below) s.ratio (steps s level m) ∙ ap (λ x. span s below * x) (mul_comm s.ratio (steps s level m)) in
+      omega (arith, mul-le-mul_left (span s below) whole)
+
+  -- the bins of a level whose oldest one goes
+  oldest_between : (below m : ℕ) → 1 ≤ m → 2 ≤ s.bins → suc below < depth s m →
+      (rest : List Range) × (between s below (suc below) (m - 1) ≡ record { from = edge s (suc below) (m - 1); to = edge s (suc below) m } ∷ rest)
+  oldest_between below m first some less =
+      let level = suc below in
+      let width = span s level in
+      let j = steps s level (m - 1) in
+      let high = edge s below (m - 1) in
+      let n = suc ((m - 1) / width) in
+      let by_one = moves_by_one s base ratio level m (depth_moves level m less) in
+      let low_is : edge s level (m - 1) ≡ j * width = mul_comm width j in
+      let next_is : edge s level m ≡ suc j * width = ap (λ steps. width * steps) by_one ∙ mul_comm width (suc j) in
+      let within = goes_within below m some less in
+      let reached : suc j ≤ (m - 1) / width = (le-div_iff_mul-le {k = width} {x = suc j} {y = m - 1} (wide level)).1 (omega (arith, edge_within s below (m - 1))) in
+      (range_cuts width (suc j * width) high 0 n,
+      ap (λ l. range_cuts width l high 0 n) low_is
+      ∙ oldest_goes s width high j n (wide level) (omega arith) (omega arith)
+      ∙ ap₂ (λ a b. record { from = a; to = b } ∷ range_cuts width (suc j * width) high 0 n) (sym low_is) (sym next_is))
+
+  pub oldest_is : (level m : ℕ) → 1 ≤ level → 1 ≤ m → 2 ≤ s.bins → level < depth s m →
+      (rest : List Range) × (ranges s (m - 1) level ≡ record { from = edge s level (m - 1); to = edge s level m } ∷ rest)
+  oldest_is level m from first some less =
+      let up : suc (level - 1) ≡ level = omega arith in
+      let deep = subst (λ i. i < depth s m) (sym up) less in
+      subst (λ i. (rest : List Range) × (between s (level - 1) i (m - 1) ≡ record { from = edge s i (m - 1); to = edge s i m } ∷ rest)) up (oldest_between (level - 1) m first some deep)
+
+  -- the bins of level 0 above its edge before a flush: the oldest one is whole
+  pub oldest_young : (m : ℕ) → 1 ≤ m → 1 ≤ depth s m →
+      (rest : List Range) × (range_cuts (span s 0) (edge s 0 (m - 1)) m 0 (suc (m / span s 0)) ≡ record { from = edge s 0 (m - 1); to = edge s 0 m } ∷ rest)
+  oldest_young m first less =
+      let width = span s 0 in
+      let j = steps s 0 (m - 1) in
+      let n = suc (m / width) in
+      let by_one = moves_by_one s base ratio 0 m (depth_moves 0 m (omega arith)) in
+      let low_is : edge s 0 (m - 1) ≡ j * width = mul_comm width j in
+      let next_is : edge s 0 m ≡ suc j * width = ap (λ steps. width * steps) by_one ∙ mul_comm width (suc j) in
+      let reached : suc j ≤ m / width = (le-div_iff_mul-le {k = width} {x = suc j} {y = m} (wide 0)).1 (omega (arith, edge_within s 0 m)) in
+      (range_cuts width (suc j * width) m 0 n,
+      ap (λ l. range_cuts width l m 0 n) low_is
+      ∙ oldest_goes s width m j n (wide 0) (omega (arith, edge_within s 0 m)) (omega arith)
+      ∙ ap₂ (λ a b. record { from = a; to = b } ∷ range_cuts width (suc j * width) m 0 n) (sym low_is) (sym next_is))
 
   -- a level has no more bins than the settings say
   few_between : (below n : ℕ) → 1 ≤ s.bins → length (between s below (suc below) n) ≤ s.bins

@@ -4,6 +4,7 @@ use Rattle.std.specs.List.{range_with_len}
 use Rattle.lert_frames.specs.Frame.{HoldsFrame}
 use Rattle.lert_frames.specs.Place.{frame_place}
 use Rattle.lert_spec.specs.declared.numbers.Numbers.{Numbers}
+use Rattle.lert_spec.specs.declared.piece.Piece.{Piece}
 use Rattle.lert_spec.specs.Bins.{tallied}
 use Rattle.lert_spec.specs.Edges.{span, edge, depth}
 use Rattle.lert_levels.specs.declared.bin_at.BinAt.{BinAt}
@@ -42,11 +43,19 @@ pub record AreRows (s : Numbers) (rows : List (List BinAt)) : Type 0 where
   pub levels : length rows ≡ s.levels
   pub each : (level : ℕ) → 1 ≤ level → level ≤ s.levels → IsRow s level (row_of rows level)
 
--- the frame of each bin holds the counts of its positions
+-- the counts of a bin's positions
+abbrev pub tallied_in : Numbers → List ℕ → BinAt → List Piece
+tallied_in s events bin = tallied s (slice_range events bin.from bin.to)
+
+-- the frame of each bin holds them
 abbrev pub HoldsBins : Numbers → List ℕ → List (List BinAt) → List ℕ → Type 0
 HoldsBins s events rows file =
     (level : ℕ) → 1 ≤ level → level ≤ s.levels →
-    All (λ bin. HoldsFrame (frame_place s level bin.frame) file (tallied s (slice_range events bin.from bin.to))) (row_of rows level)
+    All (λ bin. HoldsFrame (frame_place s level bin.frame) file (tallied_in s events bin)) (row_of rows level)
+
+-- the counts of all bins of the levels from 1 up to this one, level by level, each level's oldest first
+abbrev pub tallied_to : Numbers → List ℕ → List (List BinAt) → ℕ → List (List Piece)
+tallied_to s events rows level = flat_map (λ row. map (tallied_in s events) row) (take level rows)
 
 -- a byte with the number of bins of each level, and behind it their frames, oldest first
 abbrev pub directory_text : List (List BinAt) → List ℕ
