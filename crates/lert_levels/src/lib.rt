@@ -3,6 +3,8 @@
 
 mod bin_at;
 mod fault;
+mod zero;
 
 pub use bin_at::BinAt;
 pub use fault::FlushFault;
+pub use zero::Zero;
