@@ -10,7 +10,7 @@ use Rattle.lert_spec.specs.Look.{is_listed}
 use Rattle.lert_spec.specs.Mix.{cone_of, tail_of}
 use Rattle.lert_spec.specs.Table.{AscendsFrom, IsTable}
 use Rattle.lert_spec.proofs.TailLaws.{key_with, is_due_piece}
-use Rattle.lert_cone.specs.Due.{Dues, TookTotals, due_reports, due_key, with_report, with_total}
+use Rattle.lert_cone.specs.Due.{Dues, TookFrom, TookTotals, due_reports, due_key, with_report, with_total}
 use Rattle.lert_cone.proofs.KeyLemmas.{key_with_is, other_tail}
 
 -- a table without its last piece is one, and that piece is below its limit
@@ -181,6 +181,28 @@ module _ (d : Dues) (bits : d.settings.cone_bits ≤ 64) (named : d.cone < 2 ^ d
               | inr not_due ↦ subst (λ (v : Dues). TookTotals v all) (sym (behind ∙ ap (λ t. with_report d (cond t (Some key) None)) not_due)) (when_not_due room not_due)
             ])
       ]
+
+-- a total changes the reports alone
+module _ (d : Dues) (p : Piece) where
+  after_report : (start : Dues) (key : Option ℕ) (pieces : List Piece) → (d.settings ≡ start.settings) × (d.cone ≡ start.cone) × (d.before ≡ start.before) × (d.at ≡ start.at) →
+      TookTotals (with_report d key) pieces → TookFrom start (with_report d key) pieces
+  after_report start None pieces same took = record { settings_are = same.0; cone_is = same.1; before_is = same.2; at_is = same.3; took = took }
+  after_report start (Some key) pieces same took =
+      elim (eqb (length d.reports) d.settings.room) as (λ t. TookTotals (cond t (record d { is_full = true }) (record d { reports = d.reports ++ record { key = key; at = d.at } ∷ [] })) pieces →
+      TookFrom start (cond t (record d { is_full = true }) (record d { reports = d.reports ++ record { key = key; at = d.at } ∷ [] })) pieces) [
+        | true ↦ λ is. record { settings_are = same.0; cone_is = same.1; before_is = same.2; at_is = same.3; took = is }
+        | false ↦ λ is. record { settings_are = same.0; cone_is = same.1; before_is = same.2; at_is = same.3; took = is }
+      ] took
+
+  pub from_total : (start : Dues) (pieces : List Piece) → d.settings.cone_bits ≤ 64 → d.cone < 2 ^ d.settings.cone_bits → TookFrom start d pieces → All (λ piece. piece.tail < p.tail) pieces →
+      TookFrom start (with_total d p) (pieces ++ p ∷ [])
+  from_total start pieces bits named from less =
+      let same : (d.settings ≡ start.settings) × (d.cone ≡ start.cone) × (d.before ≡ start.before) × (d.at ≡ start.at) = (from.settings_are, from.cone_is, from.before_is, from.at_is) in
+      elim d.is_full as (λ t. TookTotals (cond t d (with_report d (due_key d.settings d.cone d.reports p))) (pieces ++ p ∷ []) →
+      TookFrom start (cond t d (with_report d (due_key d.settings d.cone d.reports p))) (pieces ++ p ∷ [])) [
+        | true ↦ λ is. record { settings_are = from.settings_are; cone_is = from.cone_is; before_is = from.before_is; at_is = from.at_is; took = is }
+        | false ↦ λ is. after_report start (due_key d.settings d.cone d.reports p) (pieces ++ p ∷ []) same is
+      ] (took_more d bits named pieces p from.took less)
 
 -- a number that is no tail makes no table
 pub took_none : (d : Dues) (pieces : List Piece) (p : Piece) → (p.tail < 2 ^ (64 - d.settings.cone_bits) → ⊥) → TookTotals d (pieces ++ p ∷ [])

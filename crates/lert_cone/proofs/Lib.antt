@@ -1,3 +1,4 @@
 pub mod DueLaws
 pub mod KeyLemmas
 pub mod RoomLaws
+pub mod TotalLaws

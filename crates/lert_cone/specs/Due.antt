@@ -34,6 +34,29 @@ pub record TookTotals (dues : Dues) (pieces : List Piece) : Type 0 where
 abbrev pub due_key : Numbers → ℕ → List Report → Piece → Option ℕ
 due_key s cone listed piece = if is_due_piece s cone s.threshold listed piece then Some (key_with s cone piece.tail) else None
 
+-- no taker
+abbrev pub unbegun : Dues
+unbegun = record {
+  settings = record { threshold = 0; bins = 0; ratio = 0; base = 0; levels = 0; cone_bits = 0; room = 0; packet = 0 };
+  cone = 0;
+  reports = [];
+  before = [];
+  at = 0;
+  is_full = false;
+}
+
+-- the taker as totals begin at a position
+abbrev pub started : Dues → ℕ → Dues
+started dues at = record dues { before = dues.reports; at = at; is_full = false }
+
+-- since a state it took these totals, and all else is as it was
+pub record TookFrom (start dues : Dues) (pieces : List Piece) : Type 0 where
+  pub settings_are : dues.settings ≡ start.settings
+  pub cone_is : dues.cone ≡ start.cone
+  pub before_is : dues.before ≡ start.before
+  pub at_is : dues.at ≡ start.at
+  pub took : TookTotals dues pieces
+
 -- one more report of a key, where there is one, and room for it
 abbrev pub with_report : Dues → Option ℕ → Dues
 with_report dues None = dues

@@ -1,3 +1,5 @@
 pub mod Due
 pub mod History
 pub mod Listing
+pub mod Tally
+pub mod Wrote

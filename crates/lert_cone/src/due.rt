@@ -1,16 +1,15 @@
 //! The reports of a cone, as a merge gives its totals.
 
-ghost use Rattle.std.specs.Prelude.{◌≡◌, ◌↔◌, ℕ, ◌-◌, ◌^◌, ◌<◌, ◌≤◌, true, false, [], IfOk, IsTrue, MatchOption, length};
+ghost use Rattle.std.specs.Prelude.{◌≡◌, ◌↔◌, ℕ, ◌-◌, ◌^◌, ◌<◌, List, [], ◌∷◌, ◌++◌, All, false, IsTrue, MatchOption};
 ghost use Rattle.lert_spec.specs.Limits.{IsValid};
 ghost use Rattle.lert_spec.specs.Mix.{cone_of};
 ghost use Rattle.lert_spec.specs.declared.piece.Piece.{Piece};
+ghost use Rattle.lert_cone.specs.Due.{Dues, unbegun};
 
 use lert_base::{CountTable, Piece, Report, Settings, Totals};
-use lert_io::OutOfMemory;
 use lert_mixer::key_of;
 use lert_reports::ReportStore;
-use std::alloc::Global;
-use std::marker::Model;
+use std::marker::{Brand, Model, PhantomData};
 use std::snapshot::Snapshot;
 
 /// The reports of a cone, and the position at which totals bring more of them.
@@ -45,43 +44,55 @@ impl<T: CountTable> Model for Due<T> {
 }
 
 impl<T: CountTable> Due<T> {
-    ghost use Rattle.lert_cone.specs.Due.{TookTotals, due_key, with_total};
+    ghost use Rattle.lert_cone.specs.Due.{TookFrom, due_key, started, with_total};
 
-    /// No report yet.
-    pub fn new(alloc: Global, settings: &Settings) -> Result<Due<T>, OutOfMemory>
-        ensures { IfOk result (λ due. due ≡ record {
+    /// The reports of a cone in this store.
+    pub fn new(settings: &Settings, cone: u32, store: ReportStore<T>) -> Due<T>
+        requires named { cone < 2 ^ settings.now.cone_bits }
+        requires same { store.settings ≡ settings.now }
+        requires none { store.reports ≡ [] }
+        ensures { result ≡ record {
           settings = settings.now;
-          cone = 0;
+          cone = cone;
           reports = [];
           before = [];
           at = 0;
           is_full = false;
-        }) }
+        } }
     {
         let _valid = settings.numbers();
-        let store = ReportStore::new(alloc, settings)?;
-        Ok(Due {
+        Due {
             settings: *settings,
-            cone: 0,
+            cone,
             before: Snapshot::of(&store),
             store,
             at: 0,
             is_full: false,
-        })
+        }
     }
 
     /// Totals from now on bring reports at this position.
     pub fn begin(&mut self, at: u64)
-        ensures begun { self.new ≡ record self.old { before = self.old.reports; at = at; is_full = false } }
-        ensures took { TookTotals self.new [] }
+        ensures begun { self.new ≡ started self.old at }
+        ensures took { TookFrom self.new self.new [] }
     {
         self.before = Snapshot::of(&self.store);
         self.at = at;
         self.is_full = false;
     }
 
+    /// Takes the total of a tail, behind those of lesser ones.
+    pub fn total(&mut self, tail: u64, count: u64)
+        ensures { (start : Dues) (pieces : List Piece) → TookFrom start self.old pieces → All (λ piece. piece.tail < tail) pieces →
+            TookFrom start self.new (pieces ++ record { tail = tail; count = count } ∷ []) }
+    {
+        if self.is_tail(tail) {
+            self.take_total(&Piece { tail, count });
+        }
+    }
+
     /// The reports.
-    pub fn reports(&self) -> &ReportStore<T>
+    pub fn store(&self) -> &ReportStore<T>
         ensures { result.now ≡ record { settings = self.now.settings; reports = self.now.reports } }
     {
         &self.store
@@ -138,14 +149,48 @@ impl<T: CountTable> Due<T> {
     }
 }
 
-impl<T: CountTable> Totals for Due<T> {
-    ghost use Rattle.lert_cone.specs.Due.{TookTotals};
+/// The state in which a taker begins, which its calls don't change.
+pub trait Begun {
+    ghost start: { Dues };
+}
 
-    ghost took = { TookTotals };
+impl Begun for Brand {
+    ghost start = { unbegun };
+}
+
+/// Reports that took their totals since a state that the proof names.
+#[derive(Drop)]
+pub struct DueSince<T: CountTable, N: Begun> {
+    due: Due<T>,
+    since: PhantomData<N>,
+}
+
+impl<T: CountTable, N: Begun> DueSince<T, N> {
+    /// No total yet.
+    pub fn new(due: Due<T>) -> DueSince<T, N>
+        ensures { result.due ≡ due }
+    {
+        DueSince {
+            due,
+            since: PhantomData,
+        }
+    }
+
+    /// The reports as they stand now.
+    pub fn into_due(self) -> Due<T>
+        ensures { result ≡ self.due }
+    {
+        let DueSince { due, .. } = self;
+        due
+    }
+}
+
+impl<T: CountTable, N: Begun> Totals for DueSince<T, N> {
+    ghost use Rattle.lert_cone.specs.Due.{TookFrom};
+
+    ghost took = { λ taker pieces. TookFrom N.start taker.due pieces };
 
     fn total(&mut self, tail: u64, count: u64) {
-        if self.is_tail(tail) {
-            self.take_total(&Piece { tail, count });
-        }
+        self.due.total(tail, count);
     }
 }

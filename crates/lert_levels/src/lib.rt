@@ -3,8 +3,10 @@
 
 mod bin_at;
 mod fault;
+mod levels;
 mod zero;
 
 pub use bin_at::BinAt;
 pub use fault::FlushFault;
+pub use levels::Levels;
 pub use zero::Zero;
