@@ -1,4 +1,6 @@
 pub mod DueLaws
 pub mod KeyLemmas
 pub mod RoomLaws
+pub mod TallyLaws
 pub mod TotalLaws
+pub mod WroteLaws
