@@ -1,13 +1,15 @@
 -- Level 0 and the rows as the next key comes.
-use Rattle.std.proofs.Common.{ℕ, ◌≡◌, ◌≢◌, ◌+◌, ◌-◌, ◌*◌, ◌/◌, ◌%◌, ◌<◌, ◌≤◌, zero, suc, Bool, cond, eqb, List, [], ◌∷◌, ◌++◌, length, drop, get_or, map, All, refl, ap, ap₂, sym, ◌∙◌, arith, inl, inr, subst, slice_range, length-append}
+use Rattle.std.proofs.Common.{ℕ, ◌≡◌, ◌≢◌, ◌+◌, ◌-◌, ◌*◌, ◌/◌, ◌%◌, ◌<◌, ◌≤◌, zero, suc, Bool, cond, eqb, List, [], ◌∷◌, ◌++◌, length, drop, get_or, map, All, refl, ap, ap₂, sym, ◌∙◌, arith, inl, inr, subst, slice_range, sum_by, length-append}
 use Rattle.std.proofs.Math.Nat.{div-add-mod, mod-lt, mul-mod_left, mul_comm, mul-suc, suc-mul}
 use Rattle.std.proofs.lemmas.Bool.{cases_eq, cases_lt, eq-eqb, ne_eqb}
 use Rattle.std.proofs.lemmas.List.{get_or-map}
 use Rattle.lert_spec.specs.declared.numbers.Numbers.{Numbers}
+use Rattle.lert_spec.specs.declared.piece.Piece.{Piece}
 use Rattle.lert_spec.specs.Bins.{Bin, tallied}
-use Rattle.lert_spec.specs.Edges.{span, offset, edge, depth, capacity}
+use Rattle.lert_spec.specs.Edges.{span, offset, edge, depth, lookback, capacity}
 use Rattle.lert_spec.specs.Limits.{IsValid}
 use Rattle.lert_spec.specs.Mix.{tail_of}
+use Rattle.lert_spec.specs.Table.{count_of}
 use Rattle.lert_spec.proofs.EdgeLaws.{span_pos, steps, moves_by_one}
 use Rattle.lert_spec.proofs.LookLaws.{slice_range-append}
 use Rattle.lert_frames.specs.Frame.{HoldsFrame}
@@ -16,8 +18,10 @@ use Rattle.lert_levels.specs.declared.bin_at.BinAt.{BinAt}
 use Rattle.lert_levels.specs.Ranges.{Range, ranges, young_bins}
 use Rattle.lert_levels.specs.Rows.{IsAt, HoldsBins, range_of, row_of}
 use Rattle.lert_levels.specs.Young.{Young, IsNextPosition, with_event}
-use Rattle.lert_levels.proofs.RangeLaws.{IsCut, cuts_are, depth_moves, ranges_still}
+use Rattle.lert_levels.proofs.RangeLaws.{IsCut, cuts_are, depth_moves, depth_stays, ranges_still}
+use Rattle.lert_levels.proofs.Windows.{young_cover}
 use Rattle.lert_levels.proofs.YoungBins.{young-added, young-dropped}
+use Rattle.lert_cone.specs.Tally.{AreYoung, totals_at}
 use Rattle.lert_cone.proofs.TotalLaws.{edge_within}
 
 module _ (s : Numbers) (valid : IsValid s) where
@@ -88,6 +92,30 @@ module _ (s : Numbers) (valid : IsValid s) where
       let next = dropped_edge m deep in
       ap (drop 1) (young-dropped s events (edge s 0 (m - 1)) wide (aligned (m - 1)) (omega (arith, edge_within s 0 m)))
       ∙ ap (young_bins s events) (sym next)
+
+  -- where no edge moves that of level 0 stays
+  pub edge_still : (m : ℕ) → depth s m ≡ 0 → edge s 0 m ≡ edge s 0 (m - 1)
+  edge_still m shallow = depth_stays s base ratio 0 m (omega (arith, valid.limits.levels_from)) (omega (arith, shallow))
+
+  -- and the total that is brought is that of level 0
+  pub young_total : (events : List ℕ) (m tail found from : ℕ) (bins : List Bin) → length events ≡ m → from ≡ edge s 0 (m - 1) → depth s m ≡ 0 → AreYoung s events from bins →
+      found ≡ sum_by (λ (bin : Bin). count_of bin.pieces tail) bins → record { tail = tail; count = found } ∷ [] ≡ totals_at s events m tail
+  young_total events m tail found from bins long from_is shallow young found_is =
+      let early = edge_within s 0 (m - 1) in
+      let within : from ≤ length events = omega arith in
+      let here : found ≡ count_of (tallied s (slice_range events (edge s 0 (m - 1)) m)) tail =
+      found_is ∙ ap (sum_by (λ (bin : Bin). count_of bin.pieces tail)) young.is
+      ∙ young_cover s events tail from base ratio within
+      ∙ ap₂ (λ a b. count_of (tallied s (slice_range events a b)) tail) from_is long in
+      ap (λ c. record { tail = tail; count = c } ∷ []) here
+      ∙ ap (λ t. cond {A = List Piece} t (record { tail = tail; count = count_of (tallied s (slice_range events (edge s 0 (m - 1)) m)) tail } ∷ []) (tallied s (slice_range events (lookback s m) m)))
+      (sym (eq-eqb (depth s m) 0 shallow))
+
+  -- at a flush they are those of its window
+  pub flush_total : (events : List ℕ) (m tail : ℕ) → depth s m ≢ 0 → tallied s (slice_range events (lookback s m) m) ≡ totals_at s events m tail
+  flush_total events m tail deep =
+      ap (λ t. cond {A = List Piece} t (record { tail = tail; count = count_of (tallied s (slice_range events (edge s 0 (m - 1)) m)) tail } ∷ []) (tallied s (slice_range events (lookback s m) m)))
+      (sym (ne_eqb (depth s m) 0 deep))
 
   -- where no edge moves the rows stay
   pub rows_still : (m : ℕ) (rows : List (List BinAt)) → depth s m ≡ 0 → IsAt s (m - 1) rows → IsAt s m rows

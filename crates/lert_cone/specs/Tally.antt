@@ -4,7 +4,7 @@ use Rattle.lert_bay.specs.Files.{Files}
 use Rattle.lert_spec.specs.declared.numbers.Numbers.{Numbers}
 use Rattle.lert_spec.specs.declared.piece.Piece.{Piece}
 use Rattle.lert_spec.specs.declared.report.Report.{Report}
-use Rattle.lert_spec.specs.Bins.{tallied}
+use Rattle.lert_spec.specs.Bins.{Bin, tallied}
 use Rattle.lert_spec.specs.Edges.{edge, depth, lookback, capacity}
 use Rattle.lert_spec.specs.Limits.{IsValid}
 use Rattle.lert_spec.specs.Table.{count_of}
@@ -14,6 +14,10 @@ use Rattle.lert_levels.specs.declared.bin_at.BinAt.{BinAt}
 use Rattle.lert_levels.specs.Ranges.{young_bins}
 use Rattle.lert_levels.specs.Rows.{IsAt, HoldsBins}
 use Rattle.lert_levels.specs.Young.{Young}
+use Rattle.lert_levels.specs.declared.fault.FlushFault.{FlushFault}
+use Rattle.lert_levels.specs.declared.fault.FlushFault.TheVariants.{Failed as FlushFailed, Malformed, OutOfMemory as NoMemory}
+use Rattle.lert_cone.specs.declared.tally.TakeFault.{TakeFault}
+use Rattle.lert_cone.specs.declared.tally.TakeFault.TheVariants.{Failed, Unsound, OutOfMemory}
 use Rattle.lert_cone.specs.Due.{Dues, unbegun}
 use Rattle.lert_cone.specs.Listing.{Listing, reports_of}
 
@@ -38,6 +42,10 @@ pub record IsTally (tally : Tallied) (levels : Numbers) (due : Option Dues) (len
   pub there : due ≡ Some tally.due
   pub len_is : len ≡ length tally.listing.events
 
+-- these are the bins of level 0 above a position
+pub record AreYoung (s : Numbers) (events : List ℕ) (from : ℕ) (bins : List Bin) : Type 0 where
+  pub is : bins ≡ young_bins s events from
+
 -- where no call broke off in the middle: the keys are the cone's own and no more than it takes, level 0 has the bins above
 -- its edge, and the rows those of the older levels
 pub record IsCounted (tally : Tallied) : Type 0 where
@@ -46,7 +54,7 @@ pub record IsCounted (tally : Tallied) : Type 0 where
   pub own : AreOfCone tally.listing.settings tally.listing.cone tally.listing.events
   pub from : tally.young.from ≡ edge tally.listing.settings 0 (length tally.listing.events)
   pub to : tally.young.to ≡ length tally.listing.events
-  pub bins : tally.young.bins ≡ young_bins tally.listing.settings tally.listing.events (edge tally.listing.settings 0 (length tally.listing.events))
+  pub bins : AreYoung tally.listing.settings tally.listing.events (edge tally.listing.settings 0 (length tally.listing.events)) tally.young.bins
   pub rows : IsAt tally.listing.settings (length tally.listing.events) tally.rows
   pub due_settings : tally.due.settings ≡ tally.listing.settings
   pub due_cone : tally.due.cone ≡ tally.listing.cone
@@ -62,3 +70,9 @@ abbrev pub totals_at : Numbers → List ℕ → ℕ → ℕ → List Piece
 totals_at s events m tail =
     if depth s m == 0 then record { tail = tail; count = count_of (tallied s (slice_range events (edge s 0 (m - 1)) m)) tail } ∷ []
     else tallied s (slice_range events (lookback s m) m)
+
+-- why a key isn't taken, where a flush or a scan refused: a frame stands in the file of frames, whose number is 2
+abbrev pub take_fault : FlushFault → TakeFault
+take_fault FlushFailed = Failed
+take_fault (Malformed at) = Unsound 2 at
+take_fault NoMemory = OutOfMemory

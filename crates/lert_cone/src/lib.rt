@@ -4,7 +4,8 @@
 mod acked;
 mod due;
 mod state;
+mod tally;
 
 pub use acked::Acked;
-pub use due::Due;
 pub use state::ConeState;
+pub use tally::TakeFault;
