@@ -5,11 +5,13 @@ use Rattle.lert_bay.specs.Files.{Files}
 use Rattle.lert_spec.specs.declared.numbers.Numbers.{Numbers}
 use Rattle.lert_spec.specs.declared.piece.Piece.{Piece}
 use Rattle.lert_spec.specs.declared.report.Report.{Report}
+use Rattle.lert_spec.specs.Bins.{tallied}
 use Rattle.lert_spec.specs.Edges.{edge, capacity}
 use Rattle.lert_spec.specs.Limits.{IsValid}
 use Rattle.lert_spec.specs.Look.{look, closing}
 use Rattle.lert_spec.specs.Mix.{cone_of, tail_of}
 use Rattle.lert_spec.specs.Table.{IsTable}
+use Rattle.lert_spec.proofs.TallyLaws.{IsTable-tallied}
 use Rattle.lert_levels.specs.declared.bin_at.BinAt.{BinAt}
 use Rattle.lert_levels.specs.declared.fault.FlushFault.{FlushFault}
 use Rattle.lert_levels.specs.declared.fault.FlushFault.TheVariants.{Failed as FlushFailed, Malformed, OutOfMemory as NoMemory}
@@ -22,9 +24,9 @@ use Rattle.lert_cone.specs.Due.{Dues, TookFrom, due_reports, started}
 use Rattle.lert_cone.specs.Listing.{Listing, reports_of}
 use Rattle.lert_cone.specs.Tally.{Tallied, IsCounted, IsHeld, AreYoung, totals_at, take_fault}
 use Rattle.lert_cone.proofs.KeyLemmas.{AreKeys-push, AreOfCone-push}
-use Rattle.lert_cone.proofs.RoomLaws.{look_fits}
+use Rattle.lert_cone.proofs.RoomLaws.{look_fits, closing_fits}
 use Rattle.lert_cone.proofs.TallyLaws.{next_position, next_from, next_bins, frames_more}
-use Rattle.lert_cone.proofs.TotalLaws.{totals_table, look_is}
+use Rattle.lert_cone.proofs.TotalLaws.{closing_is, totals_table, look_is}
 
 -- what a taker's state says of the definition: the totals of a start bring the definition's reports, or too many
 module _ (s : Numbers) (cone at : ℕ) (before all : List Report) (pieces : List Piece) (start due : Dues)
@@ -133,6 +135,65 @@ module _ (t : Tallied) (ls : Numbers) (levels_are : ls ≡ t.listing.settings) (
                 start_settings start_cone (ap (λ (d : Dues). d.before) start_is ∙ looked) (ap (λ (d : Dues). d.at) start_is ∙ m_is) table took_here all_looked room
                 ∙ sym (ap (λ b. cond b (closing t.listing.settings all) (look t.listing.settings all)) still);
           })
+
+-- the end
+module _ (t : Tallied) (ls : Numbers) (levels_are : ls ≡ t.listing.settings) (valid : IsValid t.listing.settings) (named : t.listing.cone < 2 ^ t.listing.settings.cone_bits) (counted : IsCounted t) where
+  pub rows_end : IsAt ls (length t.listing.events) t.rows
+  rows_end = subst (λ (v : Numbers). IsAt v (length t.listing.events) t.rows) (sym levels_are) counted.rows
+
+  pub fits_end : length t.listing.events ≤ capacity ls
+  fits_end = omega (arith, counted.fits, ap capacity levels_are)
+
+  pub from_end : t.young.from ≡ edge ls 0 (length t.listing.events)
+  from_end = counted.from ∙ ap (λ (v : Numbers). edge v 0 (length t.listing.events)) (sym levels_are)
+
+  pub young_end : AreYoung ls t.listing.events t.young.from t.young.bins
+  young_end = record { is = counted.bins.is ∙ (λ i. young_bins (sym levels_are i) t.listing.events (sym counted.from i)) }
+
+  pub frames_end : (seen : Files) → IsHeld t seen → HoldsBins ls t.listing.events t.rows (seen 2)
+  frames_end seen held = subst (λ (v : Numbers). HoldsBins v t.listing.events t.rows (seen 2)) (sym levels_are) held.frames
+
+  module _ (at : ℕ) (at_is : at ≡ length t.listing.events) (start due : Dues) (start_is : start ≡ started t.due at) where
+    settings_end : start.settings ≡ t.listing.settings
+    settings_end = ap (λ (d : Dues). d.settings) start_is ∙ counted.due_settings
+
+    cone_end : start.cone ≡ t.listing.cone
+    cone_end = ap (λ (d : Dues). d.cone) start_is ∙ counted.due_cone
+
+    pub counted_end : (pieces : List Piece) × TookFrom start due pieces → IsCounted (record { listing = record t.listing { closed = true }; young = t.young; rows = t.rows; due = due })
+    counted_end took = record {
+      fits = counted.fits;
+      keys = counted.keys;
+      own = counted.own;
+      from = counted.from;
+      to = counted.to;
+      bins = counted.bins;
+      rows = counted.rows;
+      due_settings = took.1.settings_are ∙ settings_end;
+      due_cone = took.1.cone_is ∙ cone_end;
+    }
+
+    module _ (still : t.listing.closed ≡ false) (seen : Files) (held : IsHeld t seen) (took : TookFrom start due (tallied ls t.listing.events)) where
+      looked_end : t.due.reports ≡ look t.listing.settings t.listing.events
+      looked_end = held.reports ∙ ap (λ b. cond b (closing t.listing.settings t.listing.events) (look t.listing.settings t.listing.events)) still
+
+      took_end : TookFrom start due (tallied t.listing.settings t.listing.events)
+      took_end = subst (λ (v : Numbers). TookFrom start due (tallied v t.listing.events)) levels_are took
+
+      pub never_full_end : due.is_full ≡ true → ⊥
+      never_full_end full =
+          let over = too_many t.listing.settings t.listing.cone (length t.listing.events) (look t.listing.settings t.listing.events) (closing t.listing.settings t.listing.events)
+          (tallied t.listing.settings t.listing.events) start due settings_end cone_end (ap (λ (d : Dues). d.before) start_is ∙ looked_end) (ap (λ (d : Dues). d.at) start_is ∙ at_is)
+          (IsTable-tallied t.listing.settings t.listing.events) took_end (closing_is t.listing.settings t.listing.cone t.listing.events valid named counted.keys counted.own) full in
+          omega (arith, closing_fits t.listing.settings t.listing.events valid counted.fits)
+
+      pub held_end : due.is_full ≡ false → IsHeld (record { listing = record t.listing { closed = true }; young = t.young; rows = t.rows; due = due }) seen
+      held_end room = record {
+        frames = held.frames;
+        reports = reports_are t.listing.settings t.listing.cone (length t.listing.events) (look t.listing.settings t.listing.events) (closing t.listing.settings t.listing.events)
+            (tallied t.listing.settings t.listing.events) start due settings_end cone_end (ap (λ (d : Dues). d.before) start_is ∙ looked_end) (ap (λ (d : Dues). d.at) start_is ∙ at_is)
+            (IsTable-tallied t.listing.settings t.listing.events) took_end (closing_is t.listing.settings t.listing.cone t.listing.events valid named counted.keys counted.own) room;
+      }
 
 -- a fault that isn't of a frame
 pub sound_fault : (fault : FlushFault) → ((at : ℕ) → fault ≢ Malformed at) → (file at : ℕ) → take_fault fault ≢ Unsound file at

@@ -168,6 +168,36 @@ impl<T: CountTable> Tally<T> {
         self.len = m;
         Ok(())
     }
+
+    /// Ends the cone: scans all levels, and lists the reports that are left. It writes nothing.
+    pub fn finish<B: Bay>(&mut self, bay: &mut B) -> Result<(), TakeFault>
+        requires still { self.old.listing.closed ≡ false }
+        requires counted { IsCounted self.old }
+        ensures listing { self.new.listing ≡ record self.old.listing { closed = self.new.listing.closed } }
+        ensures rows { self.new.rows ≡ self.old.rows }
+        ensures closed { OnOk result (self.new.listing.closed ≡ true) }
+        ensures counted { OnOk result (IsCounted self.new) }
+        ensures held { IfTold (B.files bay.old) (λ seen. IsHeld self.old seen → OnOk result (IsHeld self.new seen)) }
+        ensures sound { IfTold (B.files bay.old) (λ seen. IsHeld self.old seen → (file at : ℕ) → result ≢ Err (TakeFault.Unsound file at)) }
+        ensures only_read { OnlyRead (B.files bay.old) (B.files bay.new) (B.leaves bay.old) (B.leaves bay.new) (B.moment bay.old) (B.moment bay.new) (B.left_since bay.old) (B.left_since bay.new) }
+        ensures failed { IsErrOf result TakeFault.Failed → HasRisen (B.faults bay.old) (B.faults bay.new) }
+        ensures never_falls { B.faults bay.old ≤ B.faults bay.new }
+        ensures mark { B.mark bay.new ≡ B.mark bay.old }
+    {
+        let Some(mut due) = self.due.take() else {
+            unreachable!()
+        };
+        due.begin(self.len);
+        let (due, result) = scan_into::<B, T, Brand>(&mut self.levels, bay, &self.zero, due);
+        let is_full = due.is_full();
+        self.due = Some(due);
+        result?;
+        if is_full {
+            return Err(TakeFault::Unsound { file: LOG, at: 0 });
+        }
+        self.closed = true;
+        Ok(())
+    }
 }
 
 // Flushes the levels at position `m`, with the reports as the taker of the totals.
@@ -260,4 +290,32 @@ fn bring<B: Bay, T: CountTable, N: Begun>(
         }
         Err(fault) => (due, Err(fault)),
     }
+}
+
+// Scans all levels, with the reports as the taker of the totals.
+fn scan_into<B: Bay, T: CountTable, N: Begun>(
+    levels: &mut Levels<T>,
+    bay: &mut B,
+    zero: &Zero<T>,
+    due: Due<T>,
+) -> (Due<T>, Result<(), FlushFault>)
+    requires start { TookFrom N.start due [] }
+    requires settings { zero.now.settings ≡ levels.old.settings }
+    ensures stays { levels.new ≡ levels.old }
+    ensures totals { (events : List ℕ) → length events ≤ capacity levels.old.settings → IsAt levels.old.settings (length events) levels.old.rows →
+        zero.now.from ≡ edge levels.old.settings 0 (length events) → zero.now.to ≡ length events → AreYoung levels.old.settings events zero.now.from zero.now.bins →
+        IfTold (B.files bay.old) (λ seen. HoldsBins levels.old.settings events levels.old.rows (seen 2) →
+        OnOk result.1 (TookFrom N.start result.0 (tallied levels.old.settings events))) }
+    ensures took { OnOk result.1 ((list : List Piece) × TookFrom N.start result.0 list) }
+    ensures sound { (events : List ℕ) → length events ≤ capacity levels.old.settings → IsAt levels.old.settings (length events) levels.old.rows →
+        IfTold (B.files bay.old) (λ seen. HoldsBins levels.old.settings events levels.old.rows (seen 2) →
+        (at : ℕ) → result.1 ≢ Err (FlushFault.Malformed at)) }
+    ensures only_read { OnlyRead (B.files bay.old) (B.files bay.new) (B.leaves bay.old) (B.leaves bay.new) (B.moment bay.old) (B.moment bay.new) (B.left_since bay.old) (B.left_since bay.new) }
+    ensures failed { IsErrOf result.1 FlushFault.Failed → HasRisen (B.faults bay.old) (B.faults bay.new) }
+    ensures never_falls { B.faults bay.old ≤ B.faults bay.new }
+    ensures mark { B.mark bay.new ≡ B.mark bay.old }
+{
+    let mut taker = DueSince::<T, N>::new(due);
+    let result = levels.scan(bay, zero, &mut taker);
+    (taker.into_due(), result)
 }
