@@ -1,6 +1,9 @@
 pub mod DueLaws
+pub mod FramedLaws
 pub mod KeyLemmas
 pub mod RoomLaws
+pub mod SoundLaws
+pub mod StandLaws
 pub mod TakeLaws
 pub mod TallyLaws
 pub mod TotalLaws

@@ -1,5 +1,9 @@
 pub mod Due
+pub mod Framed
 pub mod History
 pub mod Listing
+pub mod Room
+pub mod Sound
+pub mod Stands
 pub mod Tally
 pub mod Wrote

@@ -1,11 +1,23 @@
-//! One cone.
+//! One cone over its files: it appends packets to its journal, takes their keys one by one, and lists its reports.
+//!
+//! The one contract is that of `Cone`: after each call it stands for the list of the packets that it acknowledged. Where its
+//! bay tells its files, these are sound for the list, the frames hold the bins of the last flush, and the reports are those
+//! that the definition makes of the keys, so they are in time.
+//!
+//! `Tally` counts the keys over level 0 and the levels on the bay, and `Due` takes the totals of a flush as reports. The
+//! command that runs a trace through all cones stands on this crate.
 #![tactic(auto)]
 
 mod acked;
 mod due;
+mod headers;
+mod refusal;
+mod room;
 mod state;
 mod tally;
 
 pub use acked::Acked;
+pub use headers::is_fresh;
+pub use refusal::{ConeFault, CreateFault, CreateRefused};
+pub use room::ConeRoom;
 pub use state::ConeState;
-pub use tally::TakeFault;

@@ -1,0 +1,113 @@
+-- The files of a cone as their headers leave them, and through an append.
+use Rattle.std.proofs.Common.{◌≡◌, ℕ, ◌+◌, ◌*◌, ◌<◌, ◌≤◌, List, [], ◌∷◌, ◌++◌, length, take, get_or, Option, Some, None, All, refl, sym, ap, ◌∙◌, subst, arith, length-append}
+use Rattle.std.proofs.Common.{append-nil, suc}
+use Rattle.std.proofs.Math.Seq.{get_or-append_seam}
+use Rattle.std.proofs.lemmas.Grind.{flat_map-append}
+use Rattle.std.proofs.lemmas.List.{take-take, take_at, take_all}
+use Rattle.std.proofs.lemmas.List.Elements.{All-nil}
+use Rattle.std.proofs.lemmas.Option.{none-some, same_Some}
+use Rattle.lert_base.specs.Packet.{Packet}
+use Rattle.lert_bay.specs.Files.{Files, Turns}
+use Rattle.lert_bay.specs.Settled.{part, Keeps}
+use Rattle.lert_gatelog.specs.Gated.{IsClosed, next_gate}
+use Rattle.lert_gatelog.specs.Kept.{InEach, KeepsOthers, IsWhollySettled, OthersStay}
+use Rattle.lert_gatelog.proofs.GatedLaws.{byte_of_part, part_within}
+use Rattle.lert_journal.specs.Header.{header}
+use Rattle.lert_journal.specs.Payload.{payload_of, IsJournaled}
+use Rattle.lert_journal.proofs.PayloadLaws.{length_payload}
+use Rattle.lert_spec.specs.declared.numbers.Numbers.{Numbers}
+use Rattle.lert_cone.specs.History.{events_of, end_of}
+use Rattle.lert_cone.specs.Sound.{IsSound, IsKeptWhole, log_text}
+
+-- ---- told files
+
+-- files that are told after a step were told before it
+pub turns_back : (step : Files → Files → Type 0) (before after : Option Files) → Turns step before after → (new : Files) → after ≡ Some new → (old : Files) × (before ≡ Some old) × step old new
+turns_back step (Some old) after turns new told =
+    let came = turns.told old refl in
+    (old, refl, subst (step old) (same_Some came.0 new (sym came.1 ∙ told)) came.2)
+turns_back step None after turns new told = absurd (none-some new (sym (turns.untold refl) ∙ told))
+
+-- ---- histories
+
+-- the keys of one packet more
+pub events_more : (history : List Packet) (packet : Packet) → events_of (history ++ packet ∷ []) ≡ events_of history ++ packet.keys
+events_more history packet = flat_map-append (λ p. p.keys) history (packet ∷ []) ∙ ap (λ keys. events_of history ++ keys) (append-nil packet.keys)
+
+pub counted_more : (history : List Packet) (packet : Packet) → length (events_of (history ++ packet ∷ [])) ≡ length (events_of history) + length packet.keys
+counted_more history packet = ap length (events_more history packet) ∙ length-append (events_of history) packet.keys
+
+-- the gate behind one packet more
+pub end_more : (history : List Packet) (packet : Packet) → next_gate (end_of history) (payload_of packet) ≡ end_of (history ++ packet ∷ [])
+end_more history packet = omega (arith, length_payload packet, counted_more history packet, length-append history (packet ∷ []))
+
+-- a packet takes at most 21 bytes for each of its keys
+pub end_near : (history : List Packet) → All (λ packet. 0 < length packet.keys) history → end_of history ≤ 32 + 21 * length (events_of history)
+end_near history some = omega (arith, few history some)
+  where
+    few : (h : List Packet) → All (λ packet. 0 < length packet.keys) h → length h ≤ length (events_of h)
+    few [] each = omega arith
+    few (packet ∷ rest) each = omega (arith, each 0 packet (omega arith), few rest (λ k d below. each (suc k) d (omega (arith, below))), length-append packet.keys (events_of rest))
+
+-- ---- the headers
+
+-- a text that begins with a header of 32 bytes and a byte 0
+pub begins : (head bytes : List ℕ) → length head ≡ 32 → part bytes 0 33 ≡ head ++ 0 ∷ [] → (part bytes 0 32 ≡ head) × IsClosed bytes 32
+begins head bytes long is =
+    let longer : length (head ++ 0 ∷ []) ≡ 33 = omega (arith, length-append head (0 ∷ []), long) in
+    let within : 33 ≤ length bytes = part_within bytes (head ++ 0 ∷ []) 0 33 is (omega (arith, longer)) (omega (arith, longer)) in
+    let here : get_or bytes 32 0 ≡ 0 = byte_of_part bytes (head ++ 0 ∷ []) 0 33 32 is (omega (arith, longer)) (omega (arith, longer)) ∙ (ap (λ n. get_or (head ++ 0 ∷ []) n 0) (sym long) ∙ get_or-append_seam head 0 [] 0) in (
+      sym (take-take 32 33 bytes (omega arith)) ∙ (ap (take 32) is ∙ take_at head (0 ∷ []) 32 long),
+      record { within = omega (arith, within); shut = λ one. absurd (omega (arith, here, one)) },
+    )
+
+-- what is known once the headers are on the disk: `leaves_one` and `seen_one` stand behind the journal's, `leaves` and
+-- `seen` behind the log's, and `since` are the images from the one to the other
+pub record IsBegun (head : List ℕ) (leaves_one leaves since : Files → Type 0) (seen_one seen : Files) : Type 0 where
+  pub journal : InEach leaves_one 0 (λ bytes. bytes ≡ head ++ 0 ∷ [])
+  pub journal_settled : IsWhollySettled leaves_one seen_one 0
+  pub first_read : leaves_one seen_one
+  pub others : KeepsOthers leaves_one since seen_one 1
+  pub now : (image : Files) → leaves image → since image
+  pub stay : OthersStay 1 seen_one seen
+  pub log : InEach leaves 1 (λ bytes. bytes ≡ log_text)
+  pub log_settled : IsWhollySettled leaves seen 1
+  pub as_read : leaves seen
+
+module _ (s : Numbers) (cone : ℕ) (leaves_one leaves since : Files → Type 0) (seen_one seen : Files) (long : length (header s cone) ≡ 32)
+    (begun : IsBegun (header s cone) leaves_one leaves since seen_one seen) where
+  first_text : seen_one 0 ≡ header s cone ++ 0 ∷ []
+  first_text = begun.journal seen_one begun.first_read
+
+  first_long : length (seen_one 0) ≡ 33
+  first_long = ap length first_text ∙ omega (arith, length-append (header s cone) (0 ∷ []), long)
+
+  keeps : Keeps leaves seen_one 0 0 33
+  keeps image may = subst (λ (to : ℕ). part (image 0) 0 to ≡ part (seen_one 0) 0 to) first_long
+      (begun.others 0 0 (length (seen_one 0)) (λ same. absurd (omega (arith, same))) begun.journal_settled image (begun.now image may))
+
+  front : (image : Files) → leaves image → part (image 0) 0 33 ≡ header s cone ++ 0 ∷ []
+  front image may = keeps image may ∙ (take_all 33 (seen_one 0) (omega (arith, first_long)) ∙ first_text)
+
+  pub begun_closed : (image : Files) → leaves image → IsClosed (image 0) 32
+  begun_closed image may = (begins (header s cone) (image 0) long (front image may)).1
+
+  pub begun_sound : (image : Files) → leaves image → IsSound s cone [] image
+  begun_sound image may = record {
+    headed = (begins (header s cone) (image 0) long (front image may)).0;
+    records = record { records = refl; closed = begun_closed image may };
+    journaled = All-nil (IsJournaled s cone);
+    within = omega arith;
+    log = ap (λ bytes. part bytes 0 9) (begun.log image may);
+  }
+
+  pub begun_whole : IsKeptWhole leaves seen (IsSound s cone [])
+  begun_whole = record {
+    kept = record { as_read = begun_sound seen begun.as_read; images = begun_sound; log_alone = begun.log seen begun.as_read };
+    journal = record {
+      within = omega arith;
+      same = λ image may. subst (λ (bytes : List ℕ). part (image 0) 0 (length bytes) ≡ part bytes 0 (length bytes)) (sym (begun.stay 0 (λ same. absurd (omega (arith, same)))))
+          (subst (λ (to : ℕ). part (image 0) 0 to ≡ part (seen_one 0) 0 to) (sym first_long) (keeps image may));
+    };
+    log = begun.log_settled;
+  }
