@@ -205,3 +205,8 @@ sound_fault NoMemory fine file at same = cc
 pub err_is : (result : Result (Unit {0}) TakeFault) (fault : FlushFault) → IsErrAnd result (λ taken. taken ≡ take_fault fault) → ((at : ℕ) → fault ≢ Malformed at) → (file at : ℕ) → result ≢ Err (Unsound file at)
 err_is (Ok done) fault is fine file at same = cc
 err_is (Err taken) fault is fine file at same = sound_fault fault fine file at (sym is ∙ (let inner : taken ≡ Unsound file at = cc in inner))
+
+-- a call that hands on a fault as it is
+pub handed_on : (result : Result (Unit {0}) TakeFault) (fault : TakeFault) → IsErrAnd result (λ given. given ≡ fault) → Err fault ≡ result
+handed_on (Ok done) fault is = absurd is
+handed_on (Err given) fault is = ap Err (sym is)

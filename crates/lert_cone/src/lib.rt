@@ -9,6 +9,7 @@
 #![tactic(auto)]
 
 mod acked;
+mod cone;
 mod due;
 mod headers;
 mod refusal;
@@ -17,6 +18,7 @@ mod state;
 mod tally;
 
 pub use acked::Acked;
+pub use cone::Cone;
 pub use headers::is_fresh;
 pub use refusal::{ConeFault, CreateFault, CreateRefused};
 pub use room::ConeRoom;

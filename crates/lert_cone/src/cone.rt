@@ -1,0 +1,407 @@
+//! A cone over its files.
+
+ghost use Rattle.std.specs.Prelude.{◌≡◌, ◌≢◌, ℕ, ◌+◌, ◌<◌, ◌≤◌, ◌^◌, ◌↔◌, ◌++◌, [], ◌∷◌, true, false, List, length, replicate, Some, None, Err, All, IfOk, IfErr, OnOk, OnErr, IsErrOf};
+ghost use Rattle.lert_base.specs.Entries.{packet_of};
+ghost use Rattle.lert_base.specs.Packet.{Packet};
+ghost use Rattle.lert_bay.specs.Files.{Files, IfTold, Turns};
+ghost use Rattle.lert_bay.specs.Images.{Lasts, KeepsImages};
+ghost use Rattle.lert_frames.specs.Kept.{OnlyRead};
+ghost use Rattle.lert_gatelog.specs.Gated.{IsClosed, next_gate};
+ghost use Rattle.lert_gatelog.specs.Kept.{InEach};
+ghost use Rattle.lert_io.specs.Fault.{HasRisen};
+ghost use Rattle.lert_journal.specs.Payload.{IsJournaled, payload_of};
+ghost use Rattle.lert_spec.specs.Edges.{capacity};
+ghost use Rattle.lert_spec.specs.Look.{look, closing};
+ghost use Rattle.lert_spec.specs.Mix.{cone_of};
+ghost use Rattle.lert_spec.specs.Timely.{IsTimely, IsTimelySoFar};
+ghost use Rattle.lert_cone.specs.History.{events_of, most_payload};
+ghost use Rattle.lert_cone.specs.Sound.{AreEmpty, FramesStay, LogStays, IsSound, IsSoundOver, IsKeptWhole};
+ghost use Rattle.lert_cone.specs.Stands.{StandsFor, Answers, IsSameCone, is_broken, is_refusal, broken_by};
+ghost use Rattle.lert_cone.specs.Tally.{IsCounted, IsHeld};
+ghost use Rattle.lert_cone.specs.Wrote.{WroteFrames};
+
+use crate::acked::Acked;
+use crate::headers::{is_fresh, write_headers};
+use crate::refusal::{ConeFault, CreateFault, CreateRefused};
+use crate::room::ConeRoom;
+use crate::state::ConeState;
+use crate::tally::{TakeFault, Tally};
+use lert_base::{CountTable, Entry, Settings};
+use lert_bay::Bay;
+use lert_gatelog::GateLog;
+use lert_journal::append_entry;
+use lert_reports::ReportStore;
+use std::marker::Model;
+use std::snapshot::Snapshot;
+
+/// A cone that acknowledges a packet only when its record is on the disk.
+///
+/// It stands for the list of the packets that it acknowledged. A packet costs the four calls of one append, two of
+/// them syncs, a place in level 0 for each of its keys, and one flush at each flush position.
+#[derive(Drop)]
+pub struct Cone<B: Bay, T: CountTable> {
+    bay: B,
+    made: Snapshot<B>,
+    tally: Tally<T>,
+    journal: GateLog,
+    buffer: Vec<u8>,
+    events: u64,
+    state: ConeState,
+    over: Option<Snapshot<Entry>>,
+}
+
+impl<B: Bay, T: CountTable> Model for Cone<B, T> {
+    ghost use Rattle.std.specs.Prelude.{length};
+    ghost use Rattle.lert_cone.specs.Stands.{Standing, IsCone, over_of};
+
+    ghost Value = { Standing B };
+
+    ghost view = { λ c. record {
+      bay = c.bay;
+      made = c.made.value;
+      listing = c.tally.listing;
+      rows = c.tally.rows;
+      reports = c.tally.due.reports;
+      events = c.events;
+      state = c.state;
+      over = over_of c.over;
+      gate = c.journal.gate;
+    } };
+
+    ghost invariant = { λ c. IsCone B.files B.leaves B.faults (record {
+      bay = c.bay;
+      made = c.made.value;
+      listing = c.tally.listing;
+      rows = c.tally.rows;
+      reports = c.tally.due.reports;
+      events = c.events;
+      state = c.state;
+      over = over_of c.over;
+      gate = c.journal.gate;
+    }) c.tally c.journal (length c.buffer.items) };
+}
+
+impl<B: Bay, T: CountTable> Cone<B, T> {
+    /// A cone without a packet: writes and syncs the headers and the first gates of the journal and the log. Takes no
+    /// memory. A refusal hands the bay and the room back; after `Failed` any bytes may stand in these two files.
+    pub fn create(
+        room: ConeRoom<T>,
+        cone: u32,
+        mut bay: B,
+    ) -> Result<Cone<B, T>, CreateRefused<B, T>>
+        requires { cone < 2 ^ room.cone_bits }
+        ensures made { IfOk result (λ c. c ≡ record {
+          bay = c.bay;
+          made = c.bay;
+          listing = record { settings = room; cone = cone; events = []; closed = false };
+          rows = replicate room.levels [];
+          reports = [];
+          events = 0;
+          state = ConeState.Running;
+          over = None;
+          gate = 32;
+        }) }
+        ensures stands_for { IfOk result (λ c. StandsFor B.files B.leaves B.faults c []) }
+        ensures frames { IfOk result (λ c. Turns FramesStay (B.files bay) (B.files c.bay)) }
+        ensures never_falls { IfOk result (λ c. B.faults bay ≤ B.faults c.bay) }
+        ensures mark { IfOk result (λ c. B.mark c.bay ≡ B.mark bay) }
+
+        // Where the bay tells its files, Ok comes only where all are empty, and NotFresh only where one isn't.
+        ensures fresh { IfTold (B.files bay) (λ seen. OnOk result (AreEmpty seen)) }
+        ensures not_fresh { IfTold (B.files bay) (λ seen. IfErr result (λ refused. refused.fault ≡ CreateFault.NotFresh → AreEmpty seen → ⊥)) }
+
+        // Nothing is written but into empty files.
+        ensures unwritten { IfTold (B.files bay) (λ seen. IfErr result (λ refused. (AreEmpty seen → ⊥) →
+            (B.files refused.bay ≡ B.files bay) × KeepsImages (B.leaves bay) (B.leaves refused.bay))) }
+        ensures handed_back { IfErr result (λ refused. (refused.room ≡ room)
+            × Turns FramesStay (B.files bay) (B.files refused.bay)
+            × (B.faults bay ≤ B.faults refused.bay) × (B.mark refused.bay ≡ B.mark bay)) }
+        ensures failed { IfErr result (λ refused. refused.fault ≡ CreateFault.Failed → HasRisen (B.faults bay) (B.faults refused.bay)) }
+    {
+        match begin(&mut bay, room.settings(), cone) {
+            Ok(journal) => {
+                let (tally, buffer) = room.into_parts(cone);
+                Ok(Cone {
+                    made: Snapshot::of(&bay),
+                    bay,
+                    tally,
+                    journal,
+                    buffer,
+                    events: 0,
+                    state: ConeState::Running,
+                    over: None,
+                })
+            }
+            Err(fault) => Err(CreateRefused { fault, bay, room }),
+        }
+    }
+
+    /// Takes the packet of an entry: appends it to the journal, and then takes its keys, one after another. Ok comes
+    /// when the packet is on the disk and its keys are counted.
+    pub fn admit(&mut self, entry: &Entry) -> Result<Acked, ConeFault>
+        requires fits { IsJournaled self.old.listing.settings self.old.listing.cone (packet_of entry.now) }
+
+        // Ok makes the list into the list and the packet.
+        ensures stands_for { OnOk result ((h : List Packet) → StandsFor B.files B.leaves B.faults self.old h →
+            StandsFor B.files B.leaves B.faults self.new (h ++ packet_of entry.now ∷ [])) }
+        ensures answers { IfOk result (λ acked. (h : List Packet) → StandsFor B.files B.leaves B.faults self.old h →
+            Answers (B.files self.old.bay) self.old.listing.settings h (packet_of entry.now) acked) }
+        ensures acked { IfOk result (λ acked. acked ≡ record {
+          from = self.old.events + 1;
+          to = self.old.events + length entry.now.keys.keys;
+          reports = length self.new.reports;
+        }) }
+        ensures taken { OnOk result (self.new ≡ record self.old {
+          bay = self.new.bay;
+          listing = record self.old.listing { events = self.old.listing.events ++ entry.now.keys.keys };
+          rows = self.new.rows;
+          reports = self.new.reports;
+          events = self.old.events + length entry.now.keys.keys;
+          gate = next_gate self.old.gate (payload_of (packet_of entry.now));
+        }) }
+
+        // A refusal leaves the lists, and the first three leave all.
+        ensures stays { OnErr result ((h : List Packet) → StandsFor B.files B.leaves B.faults self.old h →
+            StandsFor B.files B.leaves B.faults self.new h) }
+        ensures unchanged { IfErr result (λ fault. is_refusal fault ≡ true → self.new ≡ self.old) }
+        ensures broke { IfErr result (λ fault. is_refusal fault ≡ false → self.new ≡ record self.old {
+          bay = self.new.bay;
+          listing = record self.old.listing { events = self.new.listing.events };
+          rows = self.new.rows;
+          reports = self.new.reports;
+          state = self.new.state;
+          over = Some (packet_of entry.now);
+          gate = self.new.gate;
+        }) }
+
+        ensures same_cone { IsSameCone self.old self.new }
+
+        // Why it refuses.
+        ensures closed { (result ≡ Err ConeFault.Closed) ↔ (self.old.state ≡ ConeState.Finished) }
+        ensures broken { (result ≡ Err ConeFault.Broken) ↔ (is_broken self.old.state ≡ true) }
+        ensures full { (n len : ℕ) → (result ≡ Err (ConeFault.CapacityFull n len)) ↔
+            ((self.old.state ≡ ConeState.Running) × (n ≡ self.old.events) × (len ≡ length entry.now.keys.keys)
+            × (capacity self.old.listing.settings < n + len)) }
+        ensures bay_failed { IsErrOf result ConeFault.BayFailed →
+            (self.new.state ≡ ConeState.BrokenByBay) × HasRisen (B.faults self.old.bay) (B.faults self.new.bay) }
+        ensures unsound { (file at : ℕ) → IsErrOf result (ConeFault.Unsound file at) → (self.new.state ≡ ConeState.BrokenByRead file at)
+            × ((h : List Packet) → StandsFor B.files B.leaves B.faults self.old h → B.files self.old.bay ≡ None) }
+        ensures out_of_memory { IsErrOf result ConeFault.OutOfMemory → self.new.state ≡ ConeState.BrokenByMemory }
+
+        // In each image of each moment of the call the files are sound for the list, or for the list and the packet.
+        ensures each_moment { is_broken self.old.state ≡ false → IfTold (B.files self.old.bay) (λ _. (h : List Packet) →
+            StandsFor B.files B.leaves B.faults self.old h → (image : Files) →
+            B.left_since self.new.bay (B.moment self.old.bay) image →
+            IsSoundOver self.old.listing.settings self.old.listing.cone h (Some (packet_of entry.now)) image) }
+        ensures seen { Turns LogStays (B.files self.old.bay) (B.files self.new.bay) }
+        ensures time { Lasts (B.moment self.old.bay) (B.moment self.new.bay) (B.left_since self.old.bay) (B.left_since self.new.bay) }
+        ensures never_falls { B.faults self.old.bay ≤ B.faults self.new.bay }
+        ensures mark { B.mark self.new.bay ≡ B.mark self.old.bay }
+    {
+        let len = entry.keys.len() as u64;
+        self.test(len)?;
+        if append_entry(&mut self.journal, &mut self.bay, entry, &mut self.buffer).is_err() {
+            self.over = Some(Snapshot::of(entry));
+            self.state = ConeState::BrokenByBay;
+            return Err(ConeFault::BayFailed);
+        }
+        if let Err(fault) = take_keys(&mut self.tally, &mut self.bay, entry.keys.as_slice()) {
+            self.over = Some(Snapshot::of(entry));
+            self.state = broken_by(fault);
+            return Err(ConeFault::from(fault));
+        }
+        let from = self.events + 1;
+        self.events += len;
+        Ok(Acked {
+            from,
+            to: self.events,
+            reports: self.tally.store().len() as u64,
+        })
+    }
+
+    /// Ends the cone: scans all levels, makes the reports that are left, and answers how many stand then. It writes nothing.
+    pub fn finish(&mut self) -> Result<u64, ConeFault>
+        ensures stands_for { OnOk result ((h : List Packet) → StandsFor B.files B.leaves B.faults self.old h →
+            StandsFor B.files B.leaves B.faults self.new h) }
+        ensures answers { IfOk result (λ reports. (h : List Packet) → StandsFor B.files B.leaves B.faults self.old h →
+            IfTold (B.files self.old.bay) (λ _. reports ≡ length (closing self.old.listing.settings (events_of h)))) }
+        ensures reports { IfOk result (λ reports. reports ≡ length self.new.reports) }
+        ensures finished { OnOk result (self.new ≡ record self.old {
+          bay = self.new.bay;
+          listing = record self.old.listing { closed = true };
+          reports = self.new.reports;
+          state = ConeState.Finished;
+        }) }
+
+        // A refusal leaves the list, and the first two leave all.
+        ensures stays { OnErr result ((h : List Packet) → StandsFor B.files B.leaves B.faults self.old h →
+            StandsFor B.files B.leaves B.faults self.new h) }
+        ensures unchanged { IfErr result (λ fault. is_refusal fault ≡ true → self.new ≡ self.old) }
+        ensures broke { IfErr result (λ fault. is_refusal fault ≡ false → self.new ≡ record self.old {
+          bay = self.new.bay;
+          reports = self.new.reports;
+          state = self.new.state;
+        }) }
+
+        ensures same_cone { IsSameCone self.old self.new }
+
+        // Why it refuses.
+        ensures closed { (result ≡ Err ConeFault.Closed) ↔ (self.old.state ≡ ConeState.Finished) }
+        ensures broken { (result ≡ Err ConeFault.Broken) ↔ (is_broken self.old.state ≡ true) }
+        ensures never_full { (n len : ℕ) → result ≡ Err (ConeFault.CapacityFull n len) → ⊥ }
+        ensures bay_failed { IsErrOf result ConeFault.BayFailed →
+            (self.new.state ≡ ConeState.BrokenByBay) × HasRisen (B.faults self.old.bay) (B.faults self.new.bay) }
+        ensures unsound { (file at : ℕ) → IsErrOf result (ConeFault.Unsound file at) → (self.new.state ≡ ConeState.BrokenByRead file at)
+            × ((h : List Packet) → StandsFor B.files B.leaves B.faults self.old h → B.files self.old.bay ≡ None) }
+        ensures out_of_memory { IsErrOf result ConeFault.OutOfMemory → self.new.state ≡ ConeState.BrokenByMemory }
+
+        // No file and no image changes, also at no moment between.
+        ensures only_read { OnlyRead (B.files self.old.bay) (B.files self.new.bay) (B.leaves self.old.bay) (B.leaves self.new.bay) (B.moment self.old.bay) (B.moment self.new.bay) (B.left_since self.old.bay) (B.left_since self.new.bay) }
+        ensures never_falls { B.faults self.old.bay ≤ B.faults self.new.bay }
+        ensures mark { B.mark self.new.bay ≡ B.mark self.old.bay }
+    {
+        self.test_state()?;
+        if let Err(fault) = self.tally.finish(&mut self.bay) {
+            self.state = broken_by(fault);
+            return Err(ConeFault::from(fault));
+        }
+        self.state = ConeState::Finished;
+        Ok(self.tally.store().len() as u64)
+    }
+
+    /// The reports, in the order of their positions. Of a broken cone's nothing is said.
+    pub fn reports(&self) -> &ReportStore<T>
+        ensures value { result.now.reports ≡ self.now.reports }
+        ensures settings { is_broken self.now.state ≡ false → result.now.settings ≡ self.now.listing.settings }
+        ensures running { self.now.state ≡ ConeState.Running → (h : List Packet) → StandsFor B.files B.leaves B.faults self.now h →
+            IfTold (B.files self.now.bay) (λ _. result.now.reports ≡ look self.now.listing.settings (events_of h)) }
+        ensures finished { self.now.state ≡ ConeState.Finished → (h : List Packet) → StandsFor B.files B.leaves B.faults self.now h →
+            IfTold (B.files self.now.bay) (λ _. result.now.reports ≡ closing self.now.listing.settings (events_of h)) }
+
+        // A key that reaches the threshold stands there, and soon enough. No key stands there twice.
+        ensures in_time { self.now.state ≡ ConeState.Finished → (h : List Packet) → StandsFor B.files B.leaves B.faults self.now h →
+            IfTold (B.files self.now.bay) (λ _. IsTimely self.now.listing.settings.threshold self.now.listing.settings.bins (events_of h) result.now.reports) }
+        ensures in_time_so_far { self.now.state ≡ ConeState.Running → (h : List Packet) → StandsFor B.files B.leaves B.faults self.now h →
+            IfTold (B.files self.now.bay) (λ _. IsTimelySoFar self.now.listing.settings.threshold self.now.listing.settings.bins (events_of h) result.now.reports) }
+    {
+        self.tally.store()
+    }
+
+    /// How many keys the packets have that it acknowledged.
+    pub fn events(&self) -> u64
+        ensures count { result ≡ self.now.events }
+        ensures within { result ≤ capacity self.now.listing.settings }
+        ensures memory { is_broken self.now.state ≡ false → result ≡ length self.now.listing.events }
+    {
+        self.events
+    }
+
+    /// What it may still do. It is broken by its bay only where the bay's count rose since the cone was made.
+    pub fn state(&self) -> ConeState
+        ensures value { result ≡ self.now.state }
+        ensures by_bay { result ≡ ConeState.BrokenByBay → HasRisen (B.faults self.now.made) (B.faults self.now.bay) }
+    {
+        self.state
+    }
+
+    /// The bay, whatever the state.
+    pub fn into_bay(self) -> B
+        ensures { result ≡ self.bay }
+    {
+        let Cone { bay, .. } = self;
+        bay
+    }
+
+    // The tests of a packet of so many keys, in their order.
+    fn test(&self, len: u64) -> Result<(), ConeFault>
+        requires { len < 2 ^ 32 }
+        ensures ok { OnOk result ((self.now.state ≡ ConeState.Running) × (self.now.events + len ≤ capacity self.now.listing.settings)) }
+        ensures closed { (result ≡ Err ConeFault.Closed) ↔ (self.now.state ≡ ConeState.Finished) }
+        ensures broken { (result ≡ Err ConeFault.Broken) ↔ (is_broken self.now.state ≡ true) }
+        ensures full { (n more : ℕ) → (result ≡ Err (ConeFault.CapacityFull n more)) ↔
+            ((self.now.state ≡ ConeState.Running) × (n ≡ self.now.events) × (more ≡ len)
+            × (capacity self.now.listing.settings < n + more)) }
+        ensures refusal { IfErr result (λ fault. is_refusal fault ≡ true) }
+    {
+        self.test_state()?;
+        let capacity = self.tally.settings().capacity();
+        if self.events + len > capacity {
+            return Err(ConeFault::CapacityFull {
+                n: self.events,
+                len,
+            });
+        }
+        Ok(())
+    }
+
+    // The tests of any call.
+    fn test_state(&self) -> Result<(), ConeFault>
+        ensures ok { OnOk result (self.now.state ≡ ConeState.Running) }
+        ensures closed { (result ≡ Err ConeFault.Closed) ↔ (self.now.state ≡ ConeState.Finished) }
+        ensures broken { (result ≡ Err ConeFault.Broken) ↔ (is_broken self.now.state ≡ true) }
+        ensures refusal { IfErr result (λ fault. is_refusal fault ≡ true) }
+        ensures never_full { (n len : ℕ) → result ≡ Err (ConeFault.CapacityFull n len) → ⊥ }
+    {
+        match self.state {
+            ConeState::Running => Ok(()),
+            ConeState::Finished => Err(ConeFault::Closed),
+            ConeState::BrokenByBay => Err(ConeFault::Broken),
+            ConeState::BrokenByRead { .. } => Err(ConeFault::Broken),
+            ConeState::BrokenByMemory => Err(ConeFault::Broken),
+        }
+    }
+}
+
+// Writes the headers into files that are all empty.
+fn begin<B: Bay>(bay: &mut B, settings: &Settings, cone: u32) -> Result<GateLog, CreateFault>
+    requires named { cone < 2 ^ settings.now.cone_bits }
+    ensures journal { IfOk result (λ log. log ≡ record { file = 0; gate = 32; most = most_payload settings.now }) }
+    ensures sound { OnOk result (IfTold (B.files bay.new) (λ seen. IsKeptWhole (B.leaves bay.new) seen (IsSound settings.now cone []))) }
+    ensures closed { OnOk result (IfTold (B.files bay.new) (λ _. InEach (B.leaves bay.new) 0 (λ bytes. IsClosed bytes 32))) }
+    ensures fresh { IfTold (B.files bay.old) (λ seen. OnOk result (AreEmpty seen)) }
+    ensures not_fresh { IfTold (B.files bay.old) (λ seen. IsErrOf result CreateFault.NotFresh → AreEmpty seen → ⊥) }
+    ensures unwritten { IfTold (B.files bay.old) (λ seen. OnErr result ((AreEmpty seen → ⊥) →
+        (B.files bay.new ≡ B.files bay.old) × KeepsImages (B.leaves bay.old) (B.leaves bay.new))) }
+    ensures frames { Turns FramesStay (B.files bay.old) (B.files bay.new) }
+    ensures never_falls { B.faults bay.old ≤ B.faults bay.new }
+    ensures failed { IsErrOf result CreateFault.Failed → HasRisen (B.faults bay.old) (B.faults bay.new) }
+    ensures mark { B.mark bay.new ≡ B.mark bay.old }
+{
+    if !is_fresh(bay)? {
+        return Err(CreateFault::NotFresh);
+    }
+    Ok(write_headers(bay, settings, cone)?)
+}
+
+// Takes keys, one after another.
+fn take_keys<B: Bay, T: CountTable>(tally: &mut Tally<T>, bay: &mut B, keys: &[u64]) -> Result<(), TakeFault>
+    requires still { tally.old.listing.closed ≡ false }
+    requires own { All (λ key. cone_of tally.old.listing.settings key ≡ tally.old.listing.cone) keys.now }
+    requires fits { length tally.old.listing.events + length keys.now ≤ capacity tally.old.listing.settings }
+    requires counted { IsCounted tally.old }
+    ensures listing { tally.new.listing ≡ record tally.old.listing { events = tally.new.listing.events } }
+    ensures taken { OnOk result (tally.new.listing.events ≡ tally.old.listing.events ++ keys.now) }
+    ensures counted { OnOk result (IsCounted tally.new) }
+    ensures held { IfTold (B.files bay.old) (λ seen. IsHeld tally.old seen → OnOk result (IfTold (B.files bay.new) (λ after. IsHeld tally.new after))) }
+    ensures sound { IfTold (B.files bay.old) (λ seen. IsHeld tally.old seen → (file at : ℕ) → result ≢ Err (TakeFault.Unsound file at)) }
+    ensures wrote { WroteFrames (B.files bay.old) (B.files bay.new) (B.leaves bay.old) (B.leaves bay.new) (B.moment bay.old) (B.moment bay.new) (B.left_since bay.old) (B.left_since bay.new) }
+    ensures failed { IsErrOf result TakeFault.Failed → HasRisen (B.faults bay.old) (B.faults bay.new) }
+    ensures never_falls { B.faults bay.old ≤ B.faults bay.new }
+    ensures mark { B.mark bay.new ≡ B.mark bay.old }
+{
+    for key in keys {
+        tally.take(bay, *key)?;
+    }
+    Ok(())
+}
+
+// The state that a fault in the middle of a call leaves.
+fn broken_by(fault: TakeFault) -> ConeState
+    ensures { result ≡ broken_by fault }
+{
+    match fault {
+        TakeFault::Failed => ConeState::BrokenByBay,
+        TakeFault::Unsound { file, at } => ConeState::BrokenByRead { file, at },
+        TakeFault::OutOfMemory => ConeState::BrokenByMemory,
+    }
+}
