@@ -24,12 +24,16 @@ use Rattle.lert_spec.specs.Edges.{capacity}
 use Rattle.lert_spec.specs.Limits.{IsValid}
 use Rattle.lert_cone.specs.declared.state.ConeState.{ConeState}
 use Rattle.lert_cone.specs.declared.state.ConeState.TheVariants.{Running, Finished, BrokenByBay, BrokenByRead, BrokenByMemory}
+use Rattle.lert_cone.specs.declared.refusal.ConeFault.{ConeFault}
+use Rattle.lert_cone.specs.declared.refusal.ConeFault.TheVariants.{Closed, Broken, CapacityFull, BayFailed, Unsound, OutOfMemory}
+use Rattle.lert_cone.specs.declared.tally.TakeFault.{TakeFault}
+use Rattle.lert_cone.specs.declared.tally.TakeFault.TheVariants.{Failed as TakeFailed, Unsound as TakeUnsound, OutOfMemory as TakeOutOfMemory}
 use Rattle.lert_cone.specs.History.{events_of, most_payload, end_of}
 use Rattle.lert_spec.specs.Look.{look, closing}
 use Rattle.lert_cone.specs.Framed.{AreFramed}
 use Rattle.lert_cone.specs.Listing.{Listing, reports_of}
 use Rattle.lert_cone.specs.Sound.{IsSound, IsSoundOver, IsKept, IsKeptWhole}
-use Rattle.lert_cone.specs.Stands.{Standing, StandsFor, IsCone, IsWhole, is_broken}
+use Rattle.lert_cone.specs.Stands.{Standing, StandsFor, IsCone, IsWhole, is_broken, is_finished, is_refusal, broken_by, cone_fault}
 use Rattle.lert_cone.specs.Tally.{Tallied, IsCounted, IsHeld}
 use Rattle.lert_cone.specs.Wrote.{WroteFrames}
 use Rattle.lert_cone.proofs.FramedLaws.{framed, framed_back}
@@ -173,9 +177,11 @@ module _ (leaves images : Files → Type 0) (seen : Files) (s : Numbers) (cone :
         log = subst (λ n. part (image 1) 0 n ≡ part (seen 1) 0 n) log_long (log_same image may) ∙ sound.log;
       }
 
-  -- and the gate of the journal, which is closed as a read gives it, is closed there
-  pub closed_in : (gate : ℕ) → IsClosed (seen 0) gate → (image : Files) → images image → IsClosed (image 0) gate
-  closed_in gate shut image may = closed_behind gate (length (image 0)) (seen 0) (image 0) shut (torn_behind (seen 0) (image 0) (gate + 1) (journal_same image may))
+-- a gate that is closed as a read gives it is closed in each image, where the journal is settled
+pub closed_through : (leaves images : Files → Type 0) (seen : Files) (gate : ℕ) → IsWhollySettled leaves seen 0 → KeepsOthers leaves images seen 2 → IsClosed (seen 0) gate → (image : Files) → images image → IsClosed (image 0) gate
+closed_through leaves images seen gate settled others shut image may =
+    closed_behind gate (length (image 0)) (seen 0) (image 0) shut
+    (torn_behind (seen 0) (image 0) (gate + 1) (others 0 0 (length (seen 0)) (λ same. absurd (omega (arith, same))) settled image may))
 
 -- the files are kept through writes into the frames
 module _ (leaves_before leaves_after since : Files → Type 0) (before after : Files) (s : Numbers) (cone : ℕ) (history : List Packet)
@@ -378,8 +384,7 @@ module _ {B : Type 0} (files : B → Option Files) (leaves : B → Files → Typ
       )
 
   -- what an append leaves, where the bay tells its files after it
-  module _ (old : Standing B) (bay : B) (since : Files → Type 0) (gate : ℕ) (history : List Packet) (packet : Packet) (running : old.state ≡ Running)
-      (gate_is : gate ≡ next_gate old.gate (payload_of packet)) (journaled : IsJournaled old.listing.settings old.listing.cone packet)
+  module _ (old : Standing B) (bay : B) (since : Files → Type 0) (history : List Packet) (packet : Packet) (running : old.state ≡ Running) (journaled : IsJournaled old.listing.settings old.listing.cone packet)
       (fits : old.events + length packet.keys ≤ capacity old.listing.settings) (appends_ : Appends old bay since packet) (stands : StandsFor files leaves faults old history) where
     whole_before : (seen : Files) → files old.bay ≡ Some seen → IsWhole (leaves old.bay) seen old.listing old.rows old.reports old.gate history
     whole_before = stands.whole (ap is_broken running)
@@ -400,8 +405,15 @@ module _ {B : Type 0} (files : B → Option Files) (leaves : B → Files → Typ
         let whole = whole_before back.0 back.1 in
         sound_since (leaves old.bay) since (leaves bay) back.0 seen old.listing.settings old.listing.cone old.gate history packet whole.files whole.gate_is back.2 journaled fits_there
 
+    -- the list with the packet
+    pub some_more : All (λ p. 0 < length p.keys) (history ++ packet ∷ [])
+    some_more = All-append (λ p. 0 < length p.keys) history (packet ∷ []) stands.some (All-cons (λ p. 0 < length p.keys) packet [] journaled.some (All-nil (λ p. 0 < length p.keys)))
+
+    pub events_after : length (events_of (history ++ packet ∷ [])) ≡ old.events + length packet.keys
+    events_after = omega (arith, counted_more history packet, stands.counted)
+
     -- Ok
-    module _ (appended : IfTold (files bay) (λ _. (packets : List Packet) → InEach (leaves old.bay) 0 (λ bytes. HasPackets (most_payload old.listing.settings) bytes 32 packets old.gate) → InEach (leaves bay) 0 (λ bytes. HasPackets (most_payload old.listing.settings) bytes 32 (packets ++ packet ∷ []) gate)))
+    module _ (gate : ℕ) (gate_is : gate ≡ next_gate old.gate (payload_of packet)) (appended : IfTold (files bay) (λ _. (packets : List Packet) → InEach (leaves old.bay) 0 (λ bytes. HasPackets (most_payload old.listing.settings) bytes 32 packets old.gate) → InEach (leaves bay) 0 (λ bytes. HasPackets (most_payload old.listing.settings) bytes 32 (packets ++ packet ∷ []) gate)))
         (settled : IfTold (files bay) (λ seen. IsWhollySettled (leaves bay) seen 0)) where
       pub files_after : IfTold (files bay) (λ seen. IsKeptWhole (leaves bay) seen (IsSound old.listing.settings old.listing.cone (history ++ packet ∷ [])))
       files_after seen told =
@@ -410,6 +422,12 @@ module _ {B : Type 0} (files : B → Option Files) (leaves : B → Files → Typ
           files_more (leaves old.bay) since (leaves bay) back.0 seen old.listing.settings old.listing.cone old.gate history packet whole.files whole.gate_is back.2 journaled fits_there gate gate_is
           (appended seen told history (records (leaves old.bay) since (leaves bay) back.0 seen old.listing.settings old.listing.cone old.gate history packet whole.files whole.gate_is back.2 journaled fits_there))
           (settled seen told)
+
+      pub gate_after : (seen : Files) → files old.bay ≡ Some seen → gate ≡ end_of (history ++ packet ∷ [])
+      gate_after seen told = gate_is ∙ (ap (λ g. next_gate g (payload_of packet)) (whole_before seen told).gate_is ∙ end_more history packet)
+
+      pub keys_after : (seen : Files) → files old.bay ≡ Some seen → old.listing.events ++ packet.keys ≡ events_of (history ++ packet ∷ [])
+      keys_after seen told = ap (λ keys. keys ++ packet.keys) (whole_before seen told).keys ∙ sym (events_more history packet)
 
       -- memory holds the same after it
       pub held_after : (tally : Tallied) → tally.listing ≡ old.listing → tally.rows ≡ old.rows → tally.due.reports ≡ old.reports → IsCounted tally → (seen : Files) → files bay ≡ Some seen → IsHeld tally seen
@@ -443,15 +461,137 @@ module _ {B : Type 0} (files : B → Option Files) (leaves : B → Files → Typ
         sound_last seen told image may =
             inr (packet, refl, sound_in (leaves bay) images seen old.listing.settings old.listing.cone (history ++ packet ∷ []) (files_after seen told) (wrote_others seen told) image may)
 
-    -- the list with the packet
-    pub some_more : All (λ p. 0 < length p.keys) (history ++ packet ∷ [])
-    some_more = All-append (λ p. 0 < length p.keys) history (packet ∷ []) stands.some (All-cons (λ p. 0 < length p.keys) packet [] journaled.some (All-nil (λ p. 0 < length p.keys)))
+  -- a packet more, and its keys
+  pub more_cone : (bay made last : B) (tally after : Tallied) (events events_after room room_after : ℕ) (state : ConeState) (over : Option Packet) (journal journal_after : Log) (packet : Packet)
+      → state ≡ Running → after.listing ≡ record tally.listing { events = tally.listing.events ++ packet.keys } → IsCounted after → events_after ≡ events + length packet.keys
+      → journal_after ≡ record journal { gate = next_gate journal.gate (payload_of packet) } → room_after ≡ room → 0 < length packet.keys → events + length packet.keys ≤ capacity tally.listing.settings
+      → faults bay ≤ faults last → IfTold (files last) (λ _. InEach (leaves last) 0 (λ bytes. IsClosed bytes journal_after.gate))
+      → IsCone files leaves faults (record { bay = bay; made = made; listing = tally.listing; rows = tally.rows; reports = tally.due.reports; events = events; state = state; over = over; gate = journal.gate }) tally journal room
+      → IsCone files leaves faults (record { bay = last; made = made; listing = after.listing; rows = after.rows; reports = after.due.reports; events = events_after; state = state; over = over; gate = journal_after.gate }) after journal_after room_after
+  more_cone bay made last tally after events events_after room room_after state over journal journal_after packet running is counted events_is journal_is room_is some fits falls shut cone = record {
+    file = ap (λ (j : Log). j.file) journal_is ∙ cone.file;
+    most = ap (λ (j : Log). j.most) journal_is ∙ cone.most ∙ ap (λ (l : Listing). most_payload l.settings) (sym is);
+    roomy = room_is ∙ (cone.roomy ∙ ap (λ n. n + 5) (sym (ap (λ (j : Log). j.most) journal_is)));
+    within = subst (λ (l : Listing). events_after ≤ capacity l.settings) (sym is) (omega (arith, events_is, fits));
+    valid = subst (λ (l : Listing). IsValid l.settings) (sym is) cone.valid;
+    never_falls = omega (arith, cone.never_falls, falls);
+    by_bay = λ never. absurd (false≢true (sym (ap is_broken running) ∙ ap is_broken never));
+    none_over = cone.none_over;
+    counted = λ still. omega (arith, ap (λ (l : Listing). length l.events) is, length-append tally.listing.events packet.keys, cone.counted still, events_is);
+    tallied = λ _. counted;
+    closed = λ still. ap (λ (l : Listing). l.closed) is ∙ cone.closed still;
+    near = λ still. omega (arith, cone.near still, ap (λ (j : Log). j.gate) journal_is, length_payload packet, events_is, some);
+    shut = λ _. shut;
+  }
 
-    pub events_after : length (events_of (history ++ packet ∷ [])) ≡ old.events + length packet.keys
-    events_after = omega (arith, counted_more history packet, stands.counted)
+  -- the end, or a refusal in it: it only read
+  module _ (bay made last : B) (tally : Tallied) (events gate : ℕ) (state : ConeState) (over : Option Packet) (history : List Packet) (running : state ≡ Running) (files_same : files last ≡ files bay) (keeps : KeepsImages (leaves bay) (leaves last))
+      (stands : StandsFor files leaves faults (record { bay = bay; made = made; listing = tally.listing; rows = tally.rows; reports = tally.due.reports; events = events; state = state; over = over; gate = gate }) history) where
+    whole_read : (seen : Files) → files last ≡ Some seen → IsWhole (leaves bay) seen tally.listing tally.rows tally.due.reports gate history
+    whole_read seen told = stands.whole (ap is_broken running) seen (sym files_same ∙ told)
 
-    pub gate_after : (seen : Files) → files old.bay ≡ Some seen → gate ≡ end_of (history ++ packet ∷ [])
-    gate_after seen told = gate_is ∙ (ap (λ g. next_gate g (payload_of packet)) (whole_before seen told).gate_is ∙ end_more history packet)
+    files_still : IfTold (files last) (λ seen. IsKeptWhole (leaves last) seen (IsSound tally.listing.settings tally.listing.cone history))
+    files_still seen told = files_read (leaves bay) (leaves last) seen tally.listing.settings tally.listing.cone history (whole_read seen told).files keeps
 
-    pub keys_after : (seen : Files) → files old.bay ≡ Some seen → old.listing.events ++ packet.keys ≡ events_of (history ++ packet ∷ [])
-    keys_after seen told = ap (λ keys. keys ++ packet.keys) (whole_before seen told).keys ∙ sym (events_more history packet)
+    pub stands_ended : (after : Tallied) → after.listing ≡ record tally.listing { closed = true } → IsCounted after → ((seen : Files) → files bay ≡ Some seen → IsHeld after seen)
+        → StandsFor files leaves faults (record { bay = last; made = made; listing = after.listing; rows = after.rows; reports = after.due.reports; events = events; state = Finished; over = over; gate = gate }) history
+    stands_ended after is counted held =
+        stands_whole (record { bay = bay; made = made; listing = tally.listing; rows = tally.rows; reports = tally.due.reports; events = events; state = state; over = over; gate = gate })
+        (record { bay = last; made = made; listing = after.listing; rows = after.rows; reports = after.due.reports; events = events; state = Finished; over = over; gate = gate }) history history
+        (ap (λ (l : Listing). l.settings) is) refl (stands.none_over (ap is_broken running)) stands.some stands.counted stands.within
+        (λ seen told.
+        let whole = whole_read seen told in
+        whole_held last after gate history seen (subst (λ (l : Listing). IsValid l.settings) (sym is) stands.valid) counted (held seen (sym files_same ∙ told))
+        (subst (λ (l : Listing). IsKeptWhole (leaves last) seen (IsSound l.settings l.cone history)) (sym is) (files_still seen told))
+        whole.gate_is (ap (λ (l : Listing). l.events) is ∙ whole.keys))
+        stands
+
+    pub stands_unended : (after : Tallied) (broken : ConeState) → after.listing ≡ tally.listing → is_broken broken ≡ true
+        → (broken ≡ BrokenByBay → HasRisen (faults made) (faults last)) → ((file at : ℕ) → broken ≡ BrokenByRead file at → files bay ≡ None)
+        → StandsFor files leaves faults (record { bay = last; made = made; listing = after.listing; rows = after.rows; reports = after.due.reports; events = events; state = broken; over = over; gate = gate }) history
+    stands_unended after broken is is_so by_bay by_read =
+        stands_broken (record { bay = bay; made = made; listing = tally.listing; rows = tally.rows; reports = tally.due.reports; events = events; state = state; over = over; gate = gate })
+        (record { bay = last; made = made; listing = after.listing; rows = after.rows; reports = after.due.reports; events = events; state = broken; over = over; gate = gate }) history
+        (ap (λ (l : Listing). l.settings) is) is_so refl by_bay (λ file at same. files_same ∙ by_read file at same)
+        (λ seen told.
+        let kept = (files_still seen told).kept in
+        subst (λ (l : Listing). IsKept (leaves last) seen (IsSoundOver l.settings l.cone history over)) (sym is)
+        (record { as_read = inl kept.as_read; images = λ image may. inl (kept.images image may); log_alone = kept.log_alone }))
+        stands
+
+  pub ended_cone : (bay made last : B) (tally after : Tallied) (events room : ℕ) (state ended : ConeState) (over : Option Packet) (journal : Log)
+      → state ≡ Running → ended ≡ Finished → after.listing ≡ record tally.listing { closed = true } → IsCounted after → faults bay ≤ faults last → files last ≡ files bay → KeepsImages (leaves bay) (leaves last)
+      → IsCone files leaves faults (record { bay = bay; made = made; listing = tally.listing; rows = tally.rows; reports = tally.due.reports; events = events; state = state; over = over; gate = journal.gate }) tally journal room
+      → IsCone files leaves faults (record { bay = last; made = made; listing = after.listing; rows = after.rows; reports = after.due.reports; events = events; state = ended; over = over; gate = journal.gate }) after journal room
+  ended_cone bay made last tally after events room state ended over journal running finished is counted falls files_same keeps cone = record {
+    file = cone.file;
+    most = cone.most ∙ ap (λ (l : Listing). most_payload l.settings) (sym is);
+    roomy = cone.roomy;
+    within = subst (λ (l : Listing). events ≤ capacity l.settings) (sym is) cone.within;
+    valid = subst (λ (l : Listing). IsValid l.settings) (sym is) cone.valid;
+    never_falls = omega (arith, cone.never_falls, falls);
+    by_bay = λ never. absurd (false≢true (sym (ap is_broken finished) ∙ ap is_broken never));
+    none_over = λ _. cone.none_over (ap is_broken running);
+    counted = λ _. ap (λ (l : Listing). length l.events) is ∙ cone.counted (ap is_broken running);
+    tallied = λ _. counted;
+    closed = λ _. ap (λ (l : Listing). l.closed) is ∙ sym (ap is_finished finished);
+    near = λ _. cone.near (ap is_broken running);
+    shut = λ _ seen told image may. cone.shut (ap is_broken running) seen (sym files_same ∙ told) image ((keeps image).0 may);
+  }
+
+  -- one that broke off
+  pub broken_cone : (old new : Standing B) (tally after : Tallied) (journal journal_after : Log) (room room_after : ℕ) → is_broken new.state ≡ true → new.listing.settings ≡ old.listing.settings → new.events ≡ old.events → new.made ≡ old.made
+      → journal_after.file ≡ journal.file → journal_after.most ≡ journal.most → room_after ≡ room → faults old.bay ≤ faults new.bay → (new.state ≡ BrokenByBay → HasRisen (faults new.made) (faults new.bay))
+      → IsCone files leaves faults old tally journal room → IsCone files leaves faults new after journal_after room_after
+  broken_cone old new tally after journal journal_after room room_after broken same events_are made_is file_is most_is room_is falls by_bay cone = record {
+    file = file_is ∙ cone.file;
+    most = most_is ∙ cone.most ∙ ap most_payload (sym same);
+    roomy = room_is ∙ cone.roomy ∙ ap (λ n. n + 5) (sym most_is);
+    within = subst (λ (s : Numbers). new.events ≤ capacity s) (sym same) (omega (arith, events_are, cone.within));
+    valid = subst IsValid (sym same) cone.valid;
+    never_falls = omega (arith, ap faults made_is, cone.never_falls, falls);
+    by_bay = by_bay;
+    none_over = λ still. absurd (false≢true (sym still ∙ broken));
+    counted = λ still. absurd (false≢true (sym still ∙ broken));
+    tallied = λ still. absurd (false≢true (sym still ∙ broken));
+    closed = λ still. absurd (false≢true (sym still ∙ broken));
+    near = λ still. absurd (false≢true (sym still ∙ broken));
+    shut = λ still. absurd (false≢true (sym still ∙ broken));
+  }
+
+-- ---- a fault in the middle of a call
+
+pub is_broken_by : (fault : TakeFault) → is_broken (broken_by fault) ≡ true
+is_broken_by TakeFailed = refl
+is_broken_by (TakeUnsound file at) = refl
+is_broken_by TakeOutOfMemory = refl
+
+pub by_bay_of : (fault : TakeFault) → broken_by fault ≡ BrokenByBay → fault ≡ TakeFailed
+by_bay_of TakeFailed same = refl
+by_bay_of (TakeUnsound file at) same = absurd (let never : ⊥ = cc in never)
+by_bay_of TakeOutOfMemory same = absurd (let never : ⊥ = cc in never)
+
+pub by_read_of : (fault : TakeFault) (file at : ℕ) → broken_by fault ≡ BrokenByRead file at → fault ≡ TakeUnsound file at
+by_read_of TakeFailed file at same = absurd (let never : ⊥ = cc in never)
+by_read_of (TakeUnsound other place) file at same = (let is : TakeUnsound other place ≡ TakeUnsound file at = cc in is)
+by_read_of TakeOutOfMemory file at same = absurd (let never : ⊥ = cc in never)
+
+pub failed_of : (fault : TakeFault) → cone_fault fault ≡ BayFailed → fault ≡ TakeFailed
+failed_of TakeFailed same = refl
+failed_of (TakeUnsound file at) same = absurd (let never : ⊥ = cc in never)
+failed_of TakeOutOfMemory same = absurd (let never : ⊥ = cc in never)
+
+pub unsound_of : (fault : TakeFault) (file at : ℕ) → cone_fault fault ≡ Unsound file at → fault ≡ TakeUnsound file at
+unsound_of TakeFailed file at same = absurd (let never : ⊥ = cc in never)
+unsound_of (TakeUnsound other place) file at same = (let is : TakeUnsound other place ≡ TakeUnsound file at = cc in is)
+unsound_of TakeOutOfMemory file at same = absurd (let never : ⊥ = cc in never)
+
+pub memory_of : (fault : TakeFault) → cone_fault fault ≡ OutOfMemory → fault ≡ TakeOutOfMemory
+memory_of TakeFailed same = absurd (let never : ⊥ = cc in never)
+memory_of (TakeUnsound file at) same = absurd (let never : ⊥ = cc in never)
+memory_of TakeOutOfMemory same = refl
+
+pub no_refusal : (fault : TakeFault) → is_refusal (cone_fault fault) ≡ false
+no_refusal TakeFailed = refl
+no_refusal (TakeUnsound file at) = refl
+no_refusal TakeOutOfMemory = refl
