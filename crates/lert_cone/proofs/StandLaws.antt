@@ -32,7 +32,7 @@ use Rattle.lert_cone.specs.History.{events_of, most_payload, end_of}
 use Rattle.lert_spec.specs.Look.{look, closing}
 use Rattle.lert_cone.specs.Framed.{AreFramed}
 use Rattle.lert_cone.specs.Listing.{Listing, reports_of}
-use Rattle.lert_cone.specs.Sound.{IsSound, IsSoundOver, IsKept, IsKeptWhole}
+use Rattle.lert_cone.specs.Sound.{IsSound, IsSoundOver, IsKept, IsKeptWhole, LogStays}
 use Rattle.lert_cone.specs.Stands.{Standing, StandsFor, IsCone, IsWhole, is_broken, is_finished, is_refusal, broken_by, cone_fault}
 use Rattle.lert_cone.specs.Tally.{Tallied, IsCounted, IsHeld}
 use Rattle.lert_cone.specs.Wrote.{WroteFrames}
@@ -558,6 +558,27 @@ module _ {B : Type 0} (files : B → Option Files) (leaves : B → Files → Typ
     near = λ still. absurd (false≢true (sym still ∙ broken));
     shut = λ still. absurd (false≢true (sym still ∙ broken));
   }
+
+-- ---- the log
+
+-- the log stays through an append to the journal
+pub log_after : (before after : Option Files) (file : ℕ) → file ≡ 0 → Turns (OthersStay file) before after → Turns LogStays before after
+log_after before after file is turns = record {
+  told = λ old told.
+      let came = turns.told old told in
+      (came.0, came.1, came.2 1 (λ same. absurd (omega (arith, is, same))));
+  untold = turns.untold;
+}
+
+-- and through writes into the frames
+pub log_later : (before between after : Option Files) → Turns LogStays before between → Turns (OthersStay 2) between after → Turns LogStays before after
+log_later before between after one two = record {
+  told = λ old told.
+      let came = one.told old told in
+      let went = two.told came.0 came.1 in
+      (went.0, went.1, went.2 1 (λ same. absurd (omega (arith, same))) ∙ came.2);
+  untold = λ none. two.untold (one.untold none);
+}
 
 -- ---- a fault in the middle of a call
 
