@@ -1,0 +1,12 @@
+//! The levels of a cone: level 0 in memory, the older ones as frames in the file of frames.
+#![tactic(auto)]
+
+mod bin_at;
+mod fault;
+mod levels;
+mod zero;
+
+pub use bin_at::BinAt;
+pub use fault::FlushFault;
+pub use levels::Levels;
+pub use zero::Zero;
