@@ -1,5 +1,5 @@
 -- Keys move out of rings into their cones, and each cone with its ring keeps its part.
-use Rattle.std.proofs.Common.{◌≡◌, ◌≢◌, ℕ, ◌+◌, ◌*◌, ◌^◌, ◌<◌, ◌≤◌, Bool, true, false, cond, eqb, ◌||◌, List, [], ◌∷◌, ◌++◌, length, set, get_or, replicate, Option, Some, slice_get, refl, ap, sym, ◌∙◌, subst, inl, inr, arith, append-nil, append_assoc, length-append}
+use Rattle.std.proofs.Common.{◌≡◌, ◌≢◌, ℕ, ◌+◌, ◌*◌, ◌^◌, ◌<◌, ◌≤◌, Bool, true, false, cond, eqb, ◌||◌, List, [], ◌∷◌, ◌++◌, length, set, get_or, replicate, Option, Some, None, slice_get, refl, ap, sym, ◌∙◌, subst, inl, inr, arith, append-nil, append_assoc, length-append}
 use Rattle.std.specs.Prelude.{All}
 use Rattle.std.proofs.lemmas.Bool.{cases_eq, eq-eqb, ne_eqb}
 use Rattle.std.proofs.lemmas.List.{get_or-append-add, get_or-set_same, get_or-set_other, length-set, length-map, length-replicate, get_or-replicate, set-get_or}
@@ -25,7 +25,7 @@ use Rattle.lert_spec.specs.Limits.{IsValid}
 use Rattle.lert_spec.specs.Mix.{cone_of, part_of}
 use Rattle.lert_top.specs.declared.status.Status.{Status}
 use Rattle.lert_top.specs.declared.status.Status.TheVariants as status
-use Rattle.lert_top.specs.Bays.{AreLater, ArePartWoven, AreWoven, HasFailed, HoldsKeys, HoldsPart, HoldsWeave, IfHeld, bays_of}
+use Rattle.lert_top.specs.Bays.{AreLater, ArePartWoven, AreWoven, HasFailed, HoldsKeys, HoldsPart, HoldsWeave, IfHeld, IsUntold, bays_of}
 use Rattle.lert_top.specs.Cones.{AreNew}
 use Rattle.lert_top.specs.Lanes.{AreDrained, AreLanes, AreShort, IsLane, open_cones, state_of}
 use Rattle.lert_top.specs.Run.{AllFit, IsRefused}
@@ -324,14 +324,23 @@ module _ {B : Type 0} (files : B → Option Files) (leaves : B → Files → Typ
         rose = rose;
       }
 
+      -- a cone whose bay doesn't tell its files
+      cone_untold : files old.bay ≡ None → IsUntold files (bays_of cones) at
+      cone_untold none = record {
+        named = slice_get_within (bays_of cones) at old.bay (bay_at cones at old found);
+        untold = λ bay there seen told. let clash = sym none ∙ (ap files (sym (bay_is cones at old bay found there)) ∙ told) in cc;
+      }
+
       -- why it isn't finished
       pub unfinished_by : (new : Standing B) (refusal : ConeFault) → is_refusal refusal ≡ false → (refusal ≡ fault.BayFailed → HasRisen (faults old.bay) (faults new.bay)) →
+          ((file place : ℕ) → refusal ≡ fault.Unsound file place → (h : List Packet) → StandsFor files leaves faults old h → files old.bay ≡ None) →
           IsRefused files faults s (bays_of cones) (bays_of (set cones at new)) keys (cone_status at refusal)
-      unfinished_by new fault.Closed broke failed = absurd cc
-      unfinished_by new fault.Broken broke failed = absurd cc
-      unfinished_by new (fault.CapacityFull n len) broke failed = absurd cc
-      unfinished_by new fault.BayFailed broke failed = cone_failed new (failed refl)
-      unfinished_by new fault.OutOfMemory broke failed = tt
+      unfinished_by new fault.Closed broke failed unsound = absurd cc
+      unfinished_by new fault.Broken broke failed unsound = absurd cc
+      unfinished_by new (fault.CapacityFull n len) broke failed unsound = absurd cc
+      unfinished_by new fault.BayFailed broke failed unsound = cone_failed new (failed refl)
+      unfinished_by new (fault.Unsound file place) broke failed unsound = cone_untold (unsound file place refl (lanes.each at below).history lane_stands)
+      unfinished_by new fault.OutOfMemory broke failed unsound = tt
 
       module _ (first : from ≤ at) (some : 1 ≤ length (ring_of rings at)) (few : length (ring_of rings at) ≤ 4 * s.packet) where
         abbrev ring : List ℕ
@@ -436,8 +445,9 @@ module _ {B : Type 0} (files : B → Option Files) (leaves : B → Files → Typ
           pub refused_by : (status : Status) → status ≡ cone_status at refusal → refusal ≢ fault.Closed → refusal ≢ fault.Broken →
               ((n len : ℕ) → refusal ≡ fault.CapacityFull n len → (n ≡ old.events) × (len ≡ length ring) × (capacity old.listing.settings < n + len)) →
               (refusal ≡ fault.BayFailed → HasRisen (faults old.bay) (faults new.bay)) →
+              ((file place : ℕ) → refusal ≡ fault.Unsound file place → (h : List Packet) → StandsFor files leaves faults old h → files old.bay ≡ None) →
               IsRefused files faults s (bays_of cones) (bays_of (set cones at new)) keys status
-          refused_by status is running unbroken_is full failed =
+          refused_by status is running unbroken_is full failed unsound =
               subst (IsRefused files faults s (bays_of cones) (bays_of (set cones at new)) keys) (sym is) (by_fault refusal refl)
             where
               by_fault : (f : ConeFault) → refusal ≡ f → IsRefused files faults s (bays_of cones) (bays_of (set cones at new)) keys (cone_status at f)
@@ -463,6 +473,7 @@ module _ {B : Type 0} (files : B → Option Files) (leaves : B → Files → Typ
                     omega (arith, joined, sum, here.stands.counted, counted, why.1),
                   )
               by_fault fault.BayFailed same = cone_failed new (failed same)
+              by_fault (fault.Unsound file place) same = cone_untold (unsound file place same (lanes.each at below).history lane_stands)
               by_fault fault.OutOfMemory same = tt
 
 -- cones that were just made, with rings that are empty

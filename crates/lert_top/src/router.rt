@@ -1,6 +1,6 @@
 //! Keys on their way to the cones, each by the ring of its cone.
 
-ghost use Rattle.std.specs.Prelude.{◌≡◌, ℕ, ◌+◌, ◌*◌, ◌^◌, ◌<◌, ◌≤◌, true, false, [], ◌∷◌, ◌++◌, length, IfOk, IfErr, IsErrOf, OnErr, OnOk, List, Some, replicate, slice_get};
+ghost use Rattle.std.specs.Prelude.{◌≡◌, ℕ, ◌+◌, ◌*◌, ◌^◌, ◌<◌, ◌≤◌, true, false, [], ◌∷◌, ◌++◌, length, IfOk, IfErr, IsErrOf, OnErr, OnOk, List, None, Some, replicate, slice_get};
 ghost use Rattle.lert_buffers.specs.Rings.{ring_of, with_ring};
 ghost use Rattle.lert_base.specs.Packet.{Packet};
 ghost use Rattle.lert_cone.specs.Stands.{IsSameCone, StandsFor, is_refusal};
@@ -18,6 +18,7 @@ use lert_base::{Entry, KeyList, Settings};
 use lert_bay::Bay;
 use lert_buffers::{Buffers, Fill};
 use lert_cone::{Cone, ConeFault};
+use lert_cqf::Cqf;
 use lert_io::{OutOfMemory, Seen};
 use lert_mixer::cone_of;
 use std::alloc::Global;
@@ -28,7 +29,7 @@ use std::alloc::Global;
 #[derive(Drop)]
 pub struct Router<B: Bay> {
     settings: Settings,
-    cones: Vec<Cone<B>>,
+    cones: Vec<Cone<B, Cqf>>,
     rings: Buffers,
     entry: Entry,
     keys: Seen<u64>,
@@ -42,8 +43,8 @@ impl<B: Bay> Router<B> {
     pub fn new(
         alloc: Global,
         settings: &Settings,
-        cones: Vec<Cone<B>>,
-    ) -> Result<Router<B>, Vec<Cone<B>>>
+        cones: Vec<Cone<B, Cqf>>,
+    ) -> Result<Router<B>, Vec<Cone<B, Cqf>>>
         requires number { length cones.items ≡ 2 ^ settings.now.cone_bits }
         requires new_cones { AreNew B.files B.leaves B.faults settings.now cones.items }
         ensures settings { IfOk result (λ router. router.settings ≡ settings.now) }
@@ -115,7 +116,7 @@ impl<B: Bay> Router<B> {
     }
 
     /// A finished cone: it took its part of the keys.
-    pub fn cone(&self, number: u32) -> &Cone<B>
+    pub fn cone(&self, number: u32) -> &Cone<B, Cqf>
         requires finished { IsFinished B.files B.leaves B.faults self.now }
         requires named { number < 2 ^ self.now.settings.cone_bits }
         ensures listing { result.now.listing ≡ record {
@@ -132,7 +133,7 @@ impl<B: Bay> Router<B> {
     }
 
     /// The cones.
-    pub fn into_cones(self) -> Vec<Cone<B>>
+    pub fn into_cones(self) -> Vec<Cone<B, Cqf>>
         ensures { result.items ≡ self.cones.items }
     {
         let Router { cones, .. } = self;
@@ -205,7 +206,7 @@ impl<B: Bay> Router<B> {
         Ok(())
     }
 
-    // Finishes all cones, in ascending order, up to the first that its bay or want of memory refuses.
+    // Finishes all cones, in ascending order, up to the first that its bay, a frame of it or want of memory refuses.
     fn close_all(&mut self) -> Result<(), Status>
         requires taking { IsOpen B.files B.leaves B.faults (2 ^ self.old.settings.cone_bits) self.old }
         requires drained { AreDrained (2 ^ self.old.settings.cone_bits) self.old.rings }
@@ -238,14 +239,16 @@ fn make_rings(alloc: Global, settings: &Settings) -> Result<(Buffers, Entry), Ou
     Ok((rings, entry))
 }
 
-// Finishes a running cone. A refusal leaves it broken, by its bay or for want of memory.
-fn close<B: Bay>(cone: &mut Cone<B>) -> Result<(), ConeFault>
+// Finishes a running cone. A refusal leaves it broken, by its bay, by a frame or for want of memory.
+fn close<B: Bay>(cone: &mut Cone<B, Cqf>) -> Result<(), ConeFault>
     requires { cone.old.state ≡ Running }
     ensures listing { OnOk result (cone.new.listing ≡ record cone.old.listing { closed = true }) }
     ensures state { OnOk result (cone.new.state ≡ Finished) }
     ensures broke { IfErr result (λ fault. is_refusal fault ≡ false) }
     ensures over { OnErr result (cone.new.over ≡ cone.old.over) }
     ensures failed { IsErrOf result ConeFault.BayFailed → HasRisen (B.faults cone.old.bay) (B.faults cone.new.bay) }
+    ensures unsound { (file at : ℕ) → IsErrOf result (ConeFault.Unsound file at) → (h : List Packet) →
+        StandsFor B.files B.leaves B.faults cone.old h → B.files cone.old.bay ≡ None }
     ensures same_cone { IsSameCone cone.old cone.new }
     ensures later { IsLater B.files B.faults B.mark cone.old.bay cone.new.bay }
     ensures stands { (h : List Packet) → StandsFor B.files B.leaves B.faults cone.old h → StandsFor B.files B.leaves B.faults cone.new h }

@@ -109,6 +109,7 @@ impl Status {
             ConeFault::Broken => unreachable!(),
             ConeFault::CapacityFull { n, len } => Status::CapacityFull { cone, n, len },
             ConeFault::BayFailed => Status::BayFault { cone },
+            ConeFault::Unsound { file, at } => Status::Malformed { cone, file, at },
             ConeFault::OutOfMemory => Status::OutOfMemory,
         }
     }

@@ -55,7 +55,7 @@ returns-in-Err-clause-refused g c =
     let then = bays_of router.cones.items in
     let now = bays_of (set router.cones.items at new) in
     let why = unfinished_by g.B.Bay.files g.B.Bay.leaves g.B.Faulty.faults router.settings _ (λ cone. ltb cone at) router.cones.items router.rings router.keys here.lanes at below old found new
-    c.in-Err.fault c.in-Err.ensures.broke (λ same. c.in-Err.ensures.failed (ap Err same)) in
+    c.in-Err.fault c.in-Err.ensures.broke (λ same. c.in-Err.ensures.failed (ap Err same)) (λ file place same. c.in-Err.ensures.unsound file place (ap Err same)) in
     refused_since g.B.Bay.files g.B.Faulty.faults g.B.Faulty.mark c.args.self.now.settings first then now router.keys here.later
     (later_cone g.B.Bay.files g.B.Faulty.faults g.B.Faulty.mark router.cones.items at old new found c.close.ensures.later) c.of_cone.result
     (subst (IsRefused g.B.Bay.files g.B.Faulty.faults c.args.self.now.settings then now router.keys) (sym c.of_cone.ensures)

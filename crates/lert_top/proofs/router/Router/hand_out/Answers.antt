@@ -136,3 +136,4 @@ returns-in-Err-clause-refused g c =
     (λ same. let there = c.in-Err.ensures.broken.0 (ap Err same) in let state_broken = ap is_broken state in cc)
     (λ n len same. let why = (c.in-Err.ensures.full n len).0 (ap Err same) in (why.1, why.2 ∙ keys_are, why.3))
     (λ same. (c.in-Err.ensures.bay_failed (ap Err same)).1)
+    (λ file place same. (c.in-Err.ensures.unsound file place (ap Err same)).1)
