@@ -1,10 +1,9 @@
-pub mod Counted
 pub mod Due
+pub mod Framed
 pub mod History
 pub mod Listing
-pub mod Merging
-pub mod Placed
 pub mod Room
 pub mod Sound
-pub mod Standing
 pub mod Stands
+pub mod Tally
+pub mod Wrote

@@ -1,17 +1,20 @@
 -- The memory of a cone before it has a number.
-use Rattle.std.specs.Prelude.{◌≡◌, ℕ, ◌+◌, [], false}
+use Rattle.std.specs.Prelude.{◌≡◌, ℕ, ◌+◌, [], replicate}
+use Rattle.lert_levels.specs.Leveled.{Leveled}
+use Rattle.lert_levels.specs.Young.{Young}
+use Rattle.lert_reports.specs.Stored.{Stored}
 use Rattle.lert_spec.specs.declared.numbers.Numbers.{Numbers}
 use Rattle.lert_spec.specs.Limits.{IsValid}
 use Rattle.lert_cone.specs.History.{most_payload}
-use Rattle.lert_cone.specs.Listing.{Listing}
 
 -- the bytes of the greatest packet's text: its length, its payload and the next gate
 abbrev pub room_of : Numbers → ℕ
 room_of s = most_payload s + 5
 
--- a list without keys, and a buffer for the greatest packet
-pub record IsRoom (listing : Listing) (room : ℕ) : Type 0 where
-  pub valid : IsValid listing.settings
-  pub empty : listing.events ≡ []
-  pub running : listing.closed ≡ false
-  pub roomy : room ≡ room_of listing.settings
+-- levels and a store that are empty, and a buffer for the greatest packet
+pub record IsRoom (s : Numbers) (young : Young) (levels : Leveled) (stored : Stored) (room : ℕ) : Type 0 where
+  pub valid : IsValid s
+  pub young_is : young ≡ record { settings = s; from = 0; to = 0; bins = [] }
+  pub levels_are : levels ≡ record { settings = s; rows = replicate s.levels [] }
+  pub stored_is : stored ≡ record { settings = s; reports = [] }
+  pub roomy : room ≡ room_of s

@@ -57,3 +57,7 @@ pub record AreEmpty (seen : Files) : Type 0 where
 -- the frames stay as a read gives them
 abbrev pub FramesStay : Files → Files → Type 0
 FramesStay old new = new 2 ≡ old 2
+
+-- the log stays as a read gives it
+abbrev pub LogStays : Files → Files → Type 0
+LogStays old new = new 1 ≡ old 1

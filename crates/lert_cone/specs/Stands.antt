@@ -8,30 +8,38 @@ use Rattle.lert_bay.specs.Files.{Files, IfTold}
 use Rattle.lert_gatelog.specs.Gated.{IsClosed, Log}
 use Rattle.lert_gatelog.specs.Kept.{InEach}
 use Rattle.lert_io.specs.Fault.{HasRisen}
+use Rattle.lert_levels.specs.declared.bin_at.BinAt.{BinAt}
 use Rattle.lert_spec.specs.declared.numbers.Numbers.{Numbers}
+use Rattle.lert_spec.specs.declared.report.Report.{Report}
 use Rattle.lert_spec.specs.Edges.{capacity}
 use Rattle.lert_spec.specs.Limits.{IsValid}
 use Rattle.lert_spec.specs.Look.{look}
 use Rattle.lert_cone.specs.declared.state.ConeState.{ConeState}
-use Rattle.lert_cone.specs.declared.state.ConeState.TheVariants.{Running, Finished, BrokenByBay, BrokenByMemory}
+use Rattle.lert_cone.specs.declared.state.ConeState.TheVariants.{Running, Finished, BrokenByBay, BrokenByRead, BrokenByMemory}
 use Rattle.lert_cone.specs.declared.acked.Acked.{Acked}
 use Rattle.lert_cone.specs.declared.refusal.ConeFault.{ConeFault}
-use Rattle.lert_cone.specs.declared.refusal.ConeFault.TheVariants.{Closed, Broken, CapacityFull, BayFailed, OutOfMemory}
+use Rattle.lert_cone.specs.declared.refusal.ConeFault.TheVariants.{Closed, Broken, CapacityFull, BayFailed, Unsound, OutOfMemory}
 use Rattle.lert_cone.specs.History.{most_payload, end_of}
-use Rattle.lert_cone.specs.Listing.{Listing}
+use Rattle.lert_cone.specs.Framed.{AreFramed}
+use Rattle.lert_cone.specs.Listing.{Listing, reports_of}
 use Rattle.lert_cone.specs.Sound.{IsSound, IsSoundOver, IsKept, IsKeptWhole}
+use Rattle.lert_cone.specs.Tally.{Tallied, IsCounted}
+use Rattle.lert_cone.specs.declared.tally.TakeFault.{TakeFault}
+use Rattle.lert_cone.specs.declared.tally.TakeFault.TheVariants.{Failed as TakeFailed, Unsound as TakeUnsound, OutOfMemory as TakeOutOfMemory}
 
 -- a call broke off in the middle, and none writes any more
 abbrev pub is_broken : ConeState → Bool
 is_broken Running = false
 is_broken Finished = false
 is_broken BrokenByBay = true
+is_broken (BrokenByRead file at) = true
 is_broken BrokenByMemory = true
 
 abbrev pub is_finished : ConeState → Bool
 is_finished Running = false
 is_finished Finished = true
 is_finished BrokenByBay = false
+is_finished (BrokenByRead file at) = false
 is_finished BrokenByMemory = false
 
 -- a call was refused before its first step
@@ -40,18 +48,32 @@ is_refusal Closed = true
 is_refusal Broken = true
 is_refusal (CapacityFull n len) = true
 is_refusal BayFailed = false
+is_refusal (Unsound file at) = false
 is_refusal OutOfMemory = false
+
+-- the state that a fault in the middle leaves, and the answer
+abbrev pub broken_by : TakeFault → ConeState
+broken_by TakeFailed = BrokenByBay
+broken_by (TakeUnsound file at) = BrokenByRead file at
+broken_by TakeOutOfMemory = BrokenByMemory
+
+abbrev pub cone_fault : TakeFault → ConeFault
+cone_fault TakeFailed = BayFailed
+cone_fault (TakeUnsound file at) = Unsound file at
+cone_fault TakeOutOfMemory = OutOfMemory
 
 -- the packet of an entry that is kept
 abbrev pub over_of : Option (Snapshot Entry) → Option Packet
 over_of over = option_map (λ kept. packet_of kept.value) over
 
--- a cone: its bay now and as it was when the cone was made, its keys in memory, how many keys it acknowledged, its state,
--- the packet that a broken call left over, and the journal's gate
+-- a cone: its bay now and as it was when the cone was made, its keys, the rows of its levels, its reports, how many keys it
+-- acknowledged, its state, the packet that a broken call left over, and the journal's gate
 pub record Standing (B : Type 0) : Type 0 where
   pub bay : B
   pub made : B
   pub listing : Listing
+  pub rows : List (List BinAt)
+  pub reports : List Report
   pub events : ℕ
   pub state : ConeState
   pub over : Option Packet
@@ -63,31 +85,34 @@ pub record IsSameCone {B : Type 0} (old new : Standing B) : Type 0 where
   pub cone : new.listing.cone ≡ old.listing.cone
   pub made : new.made ≡ old.made
 
--- a cone that isn't broken stands for a list, where its bay tells its files: they are sound for it and settled, and
--- memory holds its keys
-pub record IsWhole (leaves : Files → Type 0) (seen : Files) (listing : Listing) (gate : ℕ) (history : List Packet) : Type 0 where
+-- a cone that isn't broken stands for a list, where its bay tells its files: they are sound for it and settled, the named
+-- frames hold its older levels, and memory holds its keys and reports
+pub record IsWhole (leaves : Files → Type 0) (seen : Files) (listing : Listing) (rows : List (List BinAt)) (reports : List Report) (gate : ℕ) (history : List Packet) : Type 0 where
   pub files : IsKeptWhole leaves seen (IsSound listing.settings listing.cone history)
   pub gate_is : gate ≡ end_of history
   pub keys : listing.events ≡ events_of history
+  pub frames : AreFramed listing.settings listing.events rows (seen 2)
+  pub reports_are : reports ≡ reports_of listing
 
 -- A cone stands for a list of packets. Each has a key, and together they have as many as the cone acknowledged, which are
 -- no more than it takes. Where its bay tells its files, they are sound for the list; of a broken cone for the list or for
 -- the list and the packet that was left over. It is broken by its bay only where the bay's count of faults rose since the
--- cone was made.
+-- cone was made, and by a read only where the bay doesn't tell its files.
 pub record StandsFor {B : Type 0} (files : B → Option Files) (leaves : B → Files → Type 0) (faults : B → ℕ) (cone : Standing B) (history : List Packet) : Type 0 where
   pub some : All (λ packet. 0 < length packet.keys) history
   pub counted : length (events_of history) ≡ cone.events
   pub within : cone.events ≤ capacity cone.listing.settings
   pub valid : IsValid cone.listing.settings
-  pub whole : is_broken cone.state ≡ false → IfTold (files cone.bay) (λ seen. IsWhole (leaves cone.bay) seen cone.listing cone.gate history)
+  pub whole : is_broken cone.state ≡ false → IfTold (files cone.bay) (λ seen. IsWhole (leaves cone.bay) seen cone.listing cone.rows cone.reports cone.gate history)
   pub broken : is_broken cone.state ≡ true → IfTold (files cone.bay) (λ seen.
       IsKept (leaves cone.bay) seen (IsSoundOver cone.listing.settings cone.listing.cone history cone.over))
   pub none_over : is_broken cone.state ≡ false → cone.over ≡ None
   pub by_bay : cone.state ≡ BrokenByBay → HasRisen (faults cone.made) (faults cone.bay)
+  pub by_read : (file at : ℕ) → cone.state ≡ BrokenByRead file at → files cone.bay ≡ None
 
 -- what is so of every cone, of its journal's place and of the room of its buffer. A cone that isn't broken has nothing left
--- over, its gate is closed in every image, and a key takes at most 21 bytes of its journal
-pub record IsCone {B : Type 0} (files : B → Option Files) (leaves : B → Files → Type 0) (faults : B → ℕ) (cone : Standing B) (journal : Log) (room : ℕ) : Type 0 where
+-- over, its counts are those of its keys, its gate is closed in every image, and a key takes at most 21 bytes of its journal
+pub record IsCone {B : Type 0} (files : B → Option Files) (leaves : B → Files → Type 0) (faults : B → ℕ) (cone : Standing B) (tally : Tallied) (journal : Log) (room : ℕ) : Type 0 where
   pub file : journal.file ≡ 0
   pub most : journal.most ≡ most_payload cone.listing.settings
   pub roomy : room ≡ journal.most + 5
@@ -97,6 +122,7 @@ pub record IsCone {B : Type 0} (files : B → Option Files) (leaves : B → File
   pub by_bay : cone.state ≡ BrokenByBay → HasRisen (faults cone.made) (faults cone.bay)
   pub none_over : is_broken cone.state ≡ false → cone.over ≡ None
   pub counted : is_broken cone.state ≡ false → length cone.listing.events ≡ cone.events
+  pub tallied : is_broken cone.state ≡ false → IsCounted tally
   pub closed : is_broken cone.state ≡ false → cone.listing.closed ≡ is_finished cone.state
   pub near : is_broken cone.state ≡ false → cone.gate ≤ 32 + 21 * cone.events
   pub shut : is_broken cone.state ≡ false → IfTold (files cone.bay) (λ _. InEach (leaves cone.bay) 0 (λ bytes. IsClosed bytes cone.gate))

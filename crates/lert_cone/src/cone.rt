@@ -1,12 +1,13 @@
 //! A cone over its files.
 
-ghost use Rattle.std.specs.Prelude.{◌≡◌, ℕ, ◌+◌, ◌<◌, ◌≤◌, ◌^◌, ◌↔◌, ◌++◌, [], ◌∷◌, true, false, List, length, Some, None, Err, All, IfOk, IfErr, OnOk, OnErr, IsErrOf};
+ghost use Rattle.std.specs.Prelude.{◌≡◌, ◌≢◌, ℕ, ◌+◌, ◌<◌, ◌≤◌, ◌^◌, ◌↔◌, ◌++◌, [], ◌∷◌, true, false, List, length, replicate, Some, None, Err, All, IfOk, IfErr, OnOk, OnErr, IsErrOf};
 ghost use Rattle.lert_base.specs.Entries.{packet_of};
 ghost use Rattle.lert_base.specs.Packet.{Packet, events_of};
 ghost use Rattle.lert_bay.specs.Files.{Files, IfTold, Turns};
 ghost use Rattle.lert_bay.specs.Images.{Lasts, KeepsImages};
+ghost use Rattle.lert_frames.specs.Kept.{OnlyRead};
 ghost use Rattle.lert_gatelog.specs.Gated.{IsClosed, next_gate};
-ghost use Rattle.lert_gatelog.specs.Kept.{InEach, OthersStay};
+ghost use Rattle.lert_gatelog.specs.Kept.{InEach};
 ghost use Rattle.lert_io.specs.Fault.{HasRisen};
 ghost use Rattle.lert_journal.specs.Payload.{IsJournaled, payload_of};
 ghost use Rattle.lert_spec.specs.Edges.{capacity};
@@ -14,37 +15,34 @@ ghost use Rattle.lert_spec.specs.Look.{look, closing};
 ghost use Rattle.lert_spec.specs.Mix.{cone_of};
 ghost use Rattle.lert_spec.specs.Timely.{IsTimely, IsTimelySoFar};
 ghost use Rattle.lert_cone.specs.History.{most_payload};
-ghost use Rattle.lert_cone.specs.Listing.{reports_of};
-ghost use Rattle.lert_cone.specs.Sound.{AreEmpty, FramesStay, IsSound, IsSoundOver, IsKeptWhole};
-ghost use Rattle.lert_cone.specs.Stands.{StandsFor, Answers, IsSameCone, is_broken, is_refusal};
+ghost use Rattle.lert_cone.specs.Sound.{AreEmpty, FramesStay, LogStays, IsSound, IsSoundOver, IsKeptWhole};
+ghost use Rattle.lert_cone.specs.Stands.{StandsFor, Answers, IsSameCone, is_broken, is_refusal, broken_by};
+ghost use Rattle.lert_cone.specs.Tally.{IsCounted, IsHeld};
+ghost use Rattle.lert_cone.specs.Wrote.{WroteFrames};
 
 use crate::acked::Acked;
-use crate::fault::ListFault;
 use crate::headers::{is_fresh, write_headers};
-use crate::list_cone::ListCone;
 use crate::refusal::{ConeFault, CreateFault, CreateRefused};
 use crate::room::ConeRoom;
 use crate::state::ConeState;
-use lert_base::{Entry, Report, Settings};
+use crate::tally::{TakeFault, Tally};
+use lert_base::{CountTable, Entry, Settings};
 use lert_bay::Bay;
 use lert_gatelog::GateLog;
-use lert_io::{Failed, OutOfMemory};
 use lert_journal::append_entry;
+use lert_reports::ReportStore;
 use std::marker::Model;
 use std::snapshot::Snapshot;
-
-#[cfg(test)]
-mod tests;
 
 /// A cone that acknowledges a packet only when its record is on the disk.
 ///
 /// It stands for the list of the packets that it acknowledged. A packet costs the four calls of one append, two of
-/// them syncs, and each of its keys what it costs a `ListCone`.
+/// them syncs, a place in level 0 for each of its keys, and one flush at each flush position.
 #[derive(Drop)]
-pub struct Cone<B: Bay> {
+pub struct Cone<B: Bay, T: CountTable> {
     bay: B,
     made: Snapshot<B>,
-    list: ListCone,
+    tally: Tally<T>,
     journal: GateLog,
     buffer: Vec<u8>,
     events: u64,
@@ -52,7 +50,7 @@ pub struct Cone<B: Bay> {
     over: Option<Snapshot<Entry>>,
 }
 
-impl<B: Bay> Model for Cone<B> {
+impl<B: Bay, T: CountTable> Model for Cone<B, T> {
     ghost use Rattle.std.specs.Prelude.{length};
     ghost use Rattle.lert_cone.specs.Stands.{Standing, IsCone, over_of};
 
@@ -61,7 +59,9 @@ impl<B: Bay> Model for Cone<B> {
     ghost view = { λ c. record {
       bay = c.bay;
       made = c.made.value;
-      listing = c.list;
+      listing = c.tally.listing;
+      rows = c.tally.rows;
+      reports = c.tally.due.reports;
       events = c.events;
       state = c.state;
       over = over_of c.over;
@@ -71,23 +71,31 @@ impl<B: Bay> Model for Cone<B> {
     ghost invariant = { λ c. IsCone B.files B.leaves B.faults (record {
       bay = c.bay;
       made = c.made.value;
-      listing = c.list;
+      listing = c.tally.listing;
+      rows = c.tally.rows;
+      reports = c.tally.due.reports;
       events = c.events;
       state = c.state;
       over = over_of c.over;
       gate = c.journal.gate;
-    }) c.journal (length c.buffer.items) };
+    }) c.tally c.journal (length c.buffer.items) };
 }
 
-impl<B: Bay> Cone<B> {
+impl<B: Bay, T: CountTable> Cone<B, T> {
     /// A cone without a packet: writes and syncs the headers and the first gates of the journal and the log. Takes no
     /// memory. A refusal hands the bay and the room back; after `Failed` any bytes may stand in these two files.
-    pub fn create(room: ConeRoom, cone: u32, mut bay: B) -> Result<Cone<B>, CreateRefused<B>>
+    pub fn create(
+        room: ConeRoom<T>,
+        cone: u32,
+        mut bay: B,
+    ) -> Result<Cone<B, T>, CreateRefused<B, T>>
         requires { cone < 2 ^ room.cone_bits }
         ensures made { IfOk result (λ c. c ≡ record {
           bay = c.bay;
           made = c.bay;
           listing = record { settings = room; cone = cone; events = []; closed = false };
+          rows = replicate room.levels [];
+          reports = [];
           events = 0;
           state = ConeState.Running;
           over = None;
@@ -112,11 +120,11 @@ impl<B: Bay> Cone<B> {
     {
         match begin(&mut bay, room.settings(), cone) {
             Ok(journal) => {
-                let (list, buffer) = room.into_parts(cone);
+                let (tally, buffer) = room.into_parts(cone);
                 Ok(Cone {
                     made: Snapshot::of(&bay),
                     bay,
-                    list,
+                    tally,
                     journal,
                     buffer,
                     events: 0,
@@ -141,11 +149,13 @@ impl<B: Bay> Cone<B> {
         ensures acked { IfOk result (λ acked. acked ≡ record {
           from = self.old.events + 1;
           to = self.old.events + length entry.now.keys.keys;
-          reports = length (look self.old.listing.settings self.new.listing.events);
+          reports = length self.new.reports;
         }) }
         ensures taken { OnOk result (self.new ≡ record self.old {
           bay = self.new.bay;
           listing = record self.old.listing { events = self.old.listing.events ++ entry.now.keys.keys };
+          rows = self.new.rows;
+          reports = self.new.reports;
           events = self.old.events + length entry.now.keys.keys;
           gate = next_gate self.old.gate (payload_of (packet_of entry.now));
         }) }
@@ -157,6 +167,8 @@ impl<B: Bay> Cone<B> {
         ensures broke { IfErr result (λ fault. is_refusal fault ≡ false → self.new ≡ record self.old {
           bay = self.new.bay;
           listing = record self.old.listing { events = self.new.listing.events };
+          rows = self.new.rows;
+          reports = self.new.reports;
           state = self.new.state;
           over = Some (packet_of entry.now);
           gate = self.new.gate;
@@ -172,6 +184,8 @@ impl<B: Bay> Cone<B> {
             × (capacity self.old.listing.settings < n + len)) }
         ensures bay_failed { IsErrOf result ConeFault.BayFailed →
             (self.new.state ≡ ConeState.BrokenByBay) × HasRisen (B.faults self.old.bay) (B.faults self.new.bay) }
+        ensures unsound { (file at : ℕ) → IsErrOf result (ConeFault.Unsound file at) → (self.new.state ≡ ConeState.BrokenByRead file at)
+            × ((h : List Packet) → StandsFor B.files B.leaves B.faults self.old h → B.files self.old.bay ≡ None) }
         ensures out_of_memory { IsErrOf result ConeFault.OutOfMemory → self.new.state ≡ ConeState.BrokenByMemory }
 
         // In each image of each moment of the call the files are sound for the list, or for the list and the packet.
@@ -179,7 +193,7 @@ impl<B: Bay> Cone<B> {
             StandsFor B.files B.leaves B.faults self.old h → (image : Files) →
             B.left_since self.new.bay (B.moment self.old.bay) image →
             IsSoundOver self.old.listing.settings self.old.listing.cone h (Some (packet_of entry.now)) image) }
-        ensures seen { Turns (OthersStay 0) (B.files self.old.bay) (B.files self.new.bay) }
+        ensures seen { Turns LogStays (B.files self.old.bay) (B.files self.new.bay) }
         ensures time { Lasts (B.moment self.old.bay) (B.moment self.new.bay) (B.left_since self.old.bay) (B.left_since self.new.bay) }
         ensures never_falls { B.faults self.old.bay ≤ B.faults self.new.bay }
         ensures mark { B.mark self.new.bay ≡ B.mark self.old.bay }
@@ -191,29 +205,31 @@ impl<B: Bay> Cone<B> {
             self.state = ConeState::BrokenByBay;
             return Err(ConeFault::BayFailed);
         }
-        if take_keys(&mut self.list, entry.keys.as_slice()).is_err() {
+        if let Err(fault) = take_keys(&mut self.tally, &mut self.bay, entry.keys.as_slice()) {
             self.over = Some(Snapshot::of(entry));
-            self.state = ConeState::BrokenByMemory;
-            return Err(ConeFault::OutOfMemory);
+            self.state = broken_by(fault);
+            return Err(ConeFault::from(fault));
         }
         let from = self.events + 1;
         self.events += len;
         Ok(Acked {
             from,
             to: self.events,
-            reports: self.list.reports().len() as u64,
+            reports: self.tally.store().len() as u64,
         })
     }
 
-    /// Ends the cone: makes the reports that are left, and answers how many stand then. It makes no call of the bay.
+    /// Ends the cone: scans all levels, makes the reports that are left, and answers how many stand then. It writes nothing.
     pub fn finish(&mut self) -> Result<u64, ConeFault>
         ensures stands_for { OnOk result ((h : List Packet) → StandsFor B.files B.leaves B.faults self.old h →
             StandsFor B.files B.leaves B.faults self.new h) }
         ensures answers { IfOk result (λ reports. (h : List Packet) → StandsFor B.files B.leaves B.faults self.old h →
             IfTold (B.files self.old.bay) (λ _. reports ≡ length (closing self.old.listing.settings (events_of h)))) }
-        ensures reports { IfOk result (λ reports. reports ≡ length (closing self.old.listing.settings self.old.listing.events)) }
+        ensures reports { IfOk result (λ reports. reports ≡ length self.new.reports) }
         ensures finished { OnOk result (self.new ≡ record self.old {
+          bay = self.new.bay;
           listing = record self.old.listing { closed = true };
+          reports = self.new.reports;
           state = ConeState.Finished;
         }) }
 
@@ -221,8 +237,11 @@ impl<B: Bay> Cone<B> {
         ensures stays { OnErr result ((h : List Packet) → StandsFor B.files B.leaves B.faults self.old h →
             StandsFor B.files B.leaves B.faults self.new h) }
         ensures unchanged { IfErr result (λ fault. is_refusal fault ≡ true → self.new ≡ self.old) }
-        ensures broke { IfErr result (λ fault. is_refusal fault ≡ false →
-            (fault ≡ ConeFault.OutOfMemory) × (self.new ≡ record self.old { state = ConeState.BrokenByMemory })) }
+        ensures broke { IfErr result (λ fault. is_refusal fault ≡ false → self.new ≡ record self.old {
+          bay = self.new.bay;
+          reports = self.new.reports;
+          state = self.new.state;
+        }) }
 
         ensures same_cone { IsSameCone self.old self.new }
 
@@ -230,31 +249,42 @@ impl<B: Bay> Cone<B> {
         ensures closed { (result ≡ Err ConeFault.Closed) ↔ (self.old.state ≡ ConeState.Finished) }
         ensures broken { (result ≡ Err ConeFault.Broken) ↔ (is_broken self.old.state ≡ true) }
         ensures never_full { (n len : ℕ) → result ≡ Err (ConeFault.CapacityFull n len) → ⊥ }
+        ensures bay_failed { IsErrOf result ConeFault.BayFailed →
+            (self.new.state ≡ ConeState.BrokenByBay) × HasRisen (B.faults self.old.bay) (B.faults self.new.bay) }
+        ensures unsound { (file at : ℕ) → IsErrOf result (ConeFault.Unsound file at) → (self.new.state ≡ ConeState.BrokenByRead file at)
+            × ((h : List Packet) → StandsFor B.files B.leaves B.faults self.old h → B.files self.old.bay ≡ None) }
+        ensures out_of_memory { IsErrOf result ConeFault.OutOfMemory → self.new.state ≡ ConeState.BrokenByMemory }
+
+        // No file and no image changes, also at no moment between.
+        ensures only_read { OnlyRead (B.files self.old.bay) (B.files self.new.bay) (B.leaves self.old.bay) (B.leaves self.new.bay) (B.moment self.old.bay) (B.moment self.new.bay) (B.left_since self.old.bay) (B.left_since self.new.bay) }
+        ensures never_falls { B.faults self.old.bay ≤ B.faults self.new.bay }
+        ensures mark { B.mark self.new.bay ≡ B.mark self.old.bay }
     {
         self.test_state()?;
-        if self.list.finish().is_err() {
-            self.state = ConeState::BrokenByMemory;
-            return Err(ConeFault::OutOfMemory);
+        if let Err(fault) = self.tally.finish(&mut self.bay) {
+            self.state = broken_by(fault);
+            return Err(ConeFault::from(fault));
         }
         self.state = ConeState::Finished;
-        Ok(self.list.reports().len() as u64)
+        Ok(self.tally.store().len() as u64)
     }
 
-    /// The reports, in the order of their positions. No key is in them twice. Of a broken cone's nothing is said.
-    pub fn reports(&self) -> &[Report]
-        ensures value { result.now ≡ reports_of self.now.listing }
+    /// The reports, in the order of their positions. Of a broken cone's nothing is said.
+    pub fn reports(&self) -> &ReportStore<T>
+        ensures value { result.now.reports ≡ self.now.reports }
+        ensures settings { is_broken self.now.state ≡ false → result.now.settings ≡ self.now.listing.settings }
         ensures running { self.now.state ≡ ConeState.Running → (h : List Packet) → StandsFor B.files B.leaves B.faults self.now h →
-            IfTold (B.files self.now.bay) (λ _. result.now ≡ look self.now.listing.settings (events_of h)) }
+            IfTold (B.files self.now.bay) (λ _. result.now.reports ≡ look self.now.listing.settings (events_of h)) }
         ensures finished { self.now.state ≡ ConeState.Finished → (h : List Packet) → StandsFor B.files B.leaves B.faults self.now h →
-            IfTold (B.files self.now.bay) (λ _. result.now ≡ closing self.now.listing.settings (events_of h)) }
+            IfTold (B.files self.now.bay) (λ _. result.now.reports ≡ closing self.now.listing.settings (events_of h)) }
 
-        // A key that reaches the threshold stands there, and soon enough.
-        ensures in_time { self.now.state ≡ ConeState.Finished →
-            IsTimely self.now.listing.settings.threshold self.now.listing.settings.bins self.now.listing.events result.now }
-        ensures in_time_so_far { self.now.state ≡ ConeState.Running →
-            IsTimelySoFar self.now.listing.settings.threshold self.now.listing.settings.bins self.now.listing.events result.now }
+        // A key that reaches the threshold stands there, and soon enough. No key stands there twice.
+        ensures in_time { self.now.state ≡ ConeState.Finished → (h : List Packet) → StandsFor B.files B.leaves B.faults self.now h →
+            IfTold (B.files self.now.bay) (λ _. IsTimely self.now.listing.settings.threshold self.now.listing.settings.bins (events_of h) result.now.reports) }
+        ensures in_time_so_far { self.now.state ≡ ConeState.Running → (h : List Packet) → StandsFor B.files B.leaves B.faults self.now h →
+            IfTold (B.files self.now.bay) (λ _. IsTimelySoFar self.now.listing.settings.threshold self.now.listing.settings.bins (events_of h) result.now.reports) }
     {
-        self.list.reports()
+        self.tally.store()
     }
 
     /// How many keys the packets have that it acknowledged.
@@ -294,7 +324,7 @@ impl<B: Bay> Cone<B> {
         ensures refusal { IfErr result (λ fault. is_refusal fault ≡ true) }
     {
         self.test_state()?;
-        let capacity = self.list.settings().capacity();
+        let capacity = self.tally.settings().capacity();
         if self.events + len > capacity {
             return Err(ConeFault::CapacityFull {
                 n: self.events,
@@ -315,7 +345,9 @@ impl<B: Bay> Cone<B> {
         match self.state {
             ConeState::Running => Ok(()),
             ConeState::Finished => Err(ConeFault::Closed),
-            ConeState::BrokenByBay | ConeState::BrokenByMemory => Err(ConeFault::Broken),
+            ConeState::BrokenByBay => Err(ConeFault::Broken),
+            ConeState::BrokenByRead { .. } => Err(ConeFault::Broken),
+            ConeState::BrokenByMemory => Err(ConeFault::Broken),
         }
     }
 }
@@ -342,20 +374,34 @@ fn begin<B: Bay>(bay: &mut B, settings: &Settings, cone: u32) -> Result<GateLog,
 }
 
 // Takes keys, one after another.
-fn take_keys(list: &mut ListCone, keys: &[u64]) -> Result<(), OutOfMemory>
-    requires running { list.old.closed ≡ false }
-    requires own { All (λ key. cone_of list.old.settings key ≡ list.old.cone) keys.now }
-    requires fits { length list.old.events + length keys.now ≤ capacity list.old.settings }
-    ensures ok { OnOk result (list.new ≡ record list.old { events = list.old.events ++ keys.now }) }
-    ensures rest { list.new ≡ record list.old { events = list.new.events } }
+fn take_keys<B: Bay, T: CountTable>(tally: &mut Tally<T>, bay: &mut B, keys: &[u64]) -> Result<(), TakeFault>
+    requires still { tally.old.listing.closed ≡ false }
+    requires own { All (λ key. cone_of tally.old.listing.settings key ≡ tally.old.listing.cone) keys.now }
+    requires fits { length tally.old.listing.events + length keys.now ≤ capacity tally.old.listing.settings }
+    requires counted { IsCounted tally.old }
+    ensures listing { tally.new.listing ≡ record tally.old.listing { events = tally.new.listing.events } }
+    ensures taken { OnOk result (tally.new.listing.events ≡ tally.old.listing.events ++ keys.now) }
+    ensures counted { OnOk result (IsCounted tally.new) }
+    ensures held { IfTold (B.files bay.old) (λ seen. IsHeld tally.old seen → OnOk result (IfTold (B.files bay.new) (λ after. IsHeld tally.new after))) }
+    ensures sound { IfTold (B.files bay.old) (λ seen. IsHeld tally.old seen → (file at : ℕ) → result ≢ Err (TakeFault.Unsound file at)) }
+    ensures wrote { WroteFrames (B.files bay.old) (B.files bay.new) (B.leaves bay.old) (B.leaves bay.new) (B.moment bay.old) (B.moment bay.new) (B.left_since bay.old) (B.left_since bay.new) }
+    ensures failed { IsErrOf result TakeFault.Failed → HasRisen (B.faults bay.old) (B.faults bay.new) }
+    ensures never_falls { B.faults bay.old ≤ B.faults bay.new }
+    ensures mark { B.mark bay.new ≡ B.mark bay.old }
 {
     for key in keys {
-        match list.take(*key) {
-            Ok(()) => {}
-            Err(ListFault::OutOfMemory) => return Err(OutOfMemory),
-            Err(ListFault::Closed) => unreachable!(),
-            Err(ListFault::CapacityFull { .. }) => unreachable!(),
-        }
+        tally.take(bay, *key)?;
     }
     Ok(())
+}
+
+// The state that a fault in the middle of a call leaves.
+fn broken_by(fault: TakeFault) -> ConeState
+    ensures { result ≡ broken_by fault }
+{
+    match fault {
+        TakeFault::Failed => ConeState::BrokenByBay,
+        TakeFault::Unsound { file, at } => ConeState::BrokenByRead { file, at },
+        TakeFault::OutOfMemory => ConeState::BrokenByMemory,
+    }
 }

@@ -3,6 +3,8 @@
 ghost use Rattle.std.specs.Prelude.{◌≡◌};
 
 use crate::room::ConeRoom;
+use crate::tally::TakeFault;
+use lert_base::CountTable;
 use lert_bay::Bay;
 use lert_io::Failed;
 
@@ -18,8 +20,25 @@ pub enum ConeFault {
     CapacityFull { n: u64, len: u64 },
     /// A call of the bay failed. The journal has the packet or not, and the cone is broken.
     BayFailed,
+    /// A frame that was read left its format at byte `at` of its file; or, with the log and place 0, one report more than
+    /// there is room for would be needed. The journal has the packet, and the cone is broken.
+    Unsound { file: u8, at: u64 },
     /// There is no memory for what was asked, and the cone is broken. No clause says when this comes.
     OutOfMemory,
+}
+
+impl From<TakeFault> for ConeFault {
+    ghost use Rattle.lert_cone.specs.Stands.{cone_fault};
+
+    ghost from_gives = { λ fault given. given ≡ cone_fault fault };
+
+    fn from(fault: TakeFault) -> ConeFault {
+        match fault {
+            TakeFault::Failed => ConeFault::BayFailed,
+            TakeFault::Unsound { file, at } => ConeFault::Unsound { file, at },
+            TakeFault::OutOfMemory => ConeFault::OutOfMemory,
+        }
+    }
 }
 
 /// Why a cone isn't made.
@@ -43,8 +62,8 @@ impl From<Failed> for CreateFault {
 
 /// A cone that wasn't made, with what was handed in.
 #[derive(Drop)]
-pub struct CreateRefused<B: Bay> {
+pub struct CreateRefused<B: Bay, T: CountTable> {
     pub fault: CreateFault,
     pub bay: B,
-    pub room: ConeRoom,
+    pub room: ConeRoom<T>,
 }

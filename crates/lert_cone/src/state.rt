@@ -7,8 +7,11 @@ pub enum ConeState {
     Running,
     /// It was finished, and takes no more.
     Finished,
-    /// A call of its bay failed in the middle of a packet. It writes no more.
+    /// A call of its bay failed in the middle of a packet or of the end. It writes no more.
     BrokenByBay,
+    /// A frame left its format at byte `at` of its file, or one report more than there is room for was needed, which is
+    /// said as place 0 of the log. It writes no more.
+    BrokenByRead { file: u8, at: u64 },
     /// There was no memory in the middle of a call. It writes no more.
     BrokenByMemory,
 }

@@ -7,7 +7,7 @@ use Rattle.lert_bay.specs.Files.{Files}
 use Rattle.lert_cone.specs.Stands.{Standing}
 use Rattle.lert_io.proofs.Rising.{risen_since}
 use Rattle.lert_top.specs.Asked.{AreReturned}
-use Rattle.lert_top.specs.Bays.{AreLater, AreMarked, HasFailed, IsLater, bays_of}
+use Rattle.lert_top.specs.Bays.{AreLater, AreMarked, AreTold, HasFailed, IsLater, IsUntold, bays_of}
 
 -- a write into a list changes one place
 pub slice_get-set_same : {X : Type 0} (xs : List X) (i : ℕ) (y : X) → i < length xs → slice_get (set xs i y) i ≡ Some y
@@ -58,6 +58,14 @@ bay_is cones at cone bay is found = same_Some bay cone.bay (sym found ∙ bay_at
 module _ {B : Type 0} (files : B → Option Files) (faults mark : B → ℕ) where
   pub later_same : (bay : B) → IsLater files faults mark bay bay
   later_same bay = record { marked = refl; never_falls = omega arith; tells = record { told = λ old was. (old, was, tt); untold = λ was. was } }
+
+  -- a bay that was read alone
+  pub later_read : (old new : B) → mark new ≡ mark old → faults old ≤ faults new → files new ≡ files old → IsLater files faults mark old new
+  later_read old new marked falls same = record {
+    marked = marked;
+    never_falls = falls;
+    tells = record { told = λ seen was. (seen, same ∙ was, tt); untold = λ was. same ∙ was };
+  }
 
   pub later_more : (first then now : B) → IsLater files faults mark first then → IsLater files faults mark then now → IsLater files faults mark first now
   later_more first then now one two = record {
@@ -139,6 +147,24 @@ module _ {B : Type 0} (files : B → Option Files) (faults mark : B → ℕ) whe
         is = is;
         rose = λ below. let up = failed.rose below in omega (arith, up, (two.each cone failed.now after failed.is is).never_falls);
       }
+
+  -- bays that tell their files tell them later
+  pub told_later : (bays later : List B) → AreLater files faults mark bays later → AreTold files bays → AreTold files later
+  told_later bays later are told = λ cone bay is.
+      let was = slice_get-get_or bays cone bay (omega (arith, slice_get_within later cone bay is, are.number)) in
+      let before = told cone (get_or bays cone bay) was in
+      let now = (are.each cone (get_or bays cone bay) bay was is).tells.told before.0 before.1 in
+      (now.0, now.1)
+
+  -- a bay that doesn't tell its files later didn't before
+  pub untold_since : (first then : List B) (cone : ℕ) → AreLater files faults mark first then → IsUntold files then cone → IsUntold files first cone
+  untold_since first then cone one untold = record {
+    named = omega (arith, untold.named, one.number);
+    untold = λ bay there seen told.
+        let mid = slice_get-get_or then cone bay untold.named in
+        let told_mid = (one.each cone bay (get_or then cone bay) there mid).tells.told seen told in
+        untold.untold (get_or then cone bay) mid told_mid.0 told_mid.1;
+  }
 
 -- an item within a list
 pub slice_get-some : {X : Type 0} (xs : List X) (k : ℕ) → k < length xs → (x : X) × (slice_get xs k ≡ Some x)

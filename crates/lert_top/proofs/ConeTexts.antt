@@ -1,18 +1,22 @@
 -- The texts of cones, one behind the other.
-use Rattle.std.proofs.Common.{◌≡◌, ℕ, ◌+◌, ◌^◌, ◌≤◌, suc, true, List, [], ◌∷◌, ◌++◌, length, take, drop, sum_by, Option, ap, sym, ◌∙◌, subst, arith, inl, inr, append_assoc, append-nil}
-use Rattle.std.proofs.lemmas.Bool.{cases_eq}
+use Rattle.std.proofs.Common.{◌≡◌, ℕ, ◌+◌, ◌^◌, ◌≤◌, suc, true, List, [], ◌∷◌, ◌++◌, length, get_or, slice_get, take, drop, sum_by, Option, Some, refl, ap, sym, ◌∙◌, subst, arith, append_assoc, append-nil, length-append}
 use Rattle.std.proofs.lemmas.List.{take-append-drop}
-use Rattle.std.proofs.lemmas.List.FromFn.{length-map-range_with_len, map-range_with_len_more, sum_by-map-range_with_len_more, take-map-range_with_len}
+use Rattle.std.proofs.lemmas.List.FromFn.{fill_by_all, take-map-range_with_len}
+use Rattle.std.proofs.lemmas.Option.{same_Some, slice_get-get_or, slice_get_within}
 use Rattle.lert_base.specs.Beginning.{BeginsWith}
+use Rattle.lert_bay.specs.Files.{Files, IfTold}
 use Rattle.lert_cone.specs.Listing.{Listing, reports_of}
+use Rattle.lert_cone.specs.Stands.{Standing}
 use Rattle.lert_spec.specs.declared.numbers.Numbers.{Numbers}
 use Rattle.lert_spec.specs.declared.report.Report.{Report}
-use Rattle.lert_spec.specs.Lines.{Printed, cone_text, cone_texts, total_line}
+use Rattle.lert_spec.specs.Lines.{Printed, cone_text, cone_texts, lines, total_line}
 use Rattle.lert_spec.specs.Look.{closing}
 use Rattle.lert_spec.specs.Mix.{part_of}
-use Rattle.lert_spec.specs.Timely.{IsTimely}
+use Rattle.lert_top.specs.Bays.{AreTold}
 use Rattle.lert_top.specs.Page.{IsCut}
-use Rattle.lert_top.specs.Run.{AreInTime, printed, printed_of, text_of}
+use Rattle.lert_top.specs.Run.{ArePrinted, IsPrinted, printed, printed_of, text_of}
+use Rattle.lert_top.proofs.BayLaws.{slice_get-some}
+use Rattle.lert_top.proofs.ConeLaws.{each-push}
 use Rattle.lert_top.proofs.Printing.{IsCut-more}
 
 cone_texts-append : (n : ℕ) (xs ys : List Printed) → cone_texts n (xs ++ ys) ≡ cone_texts n xs ++ cone_texts (n + length xs) ys
@@ -22,34 +26,56 @@ cone_texts-append n (x ∷ xs) ys =
     ap (λ text. cone_text n x ++ text) (cone_texts-append (suc n) xs ys ∙ ap (λ m. cone_texts (suc n) xs ++ cone_texts m ys) same)
     ∙ sym (append_assoc (cone_text n x) (cone_texts (suc n) xs) (cone_texts (n + suc (length xs)) ys))
 
--- what a closed cone with its part of the keys prints
-pub printed_is : (s : Numbers) (keys : List ℕ) (number : ℕ) (cone : Listing) (events : ℕ) (reports : List Report) →
-    cone ≡ record { settings = s; cone = number; events = part_of s number keys; closed = true } →
-    events ≡ length cone.events → reports ≡ reports_of cone →
-    record { events = events; reports = reports; closed = true } ≡ printed_of s keys number
-printed_is s keys number cone events reports is counted listed =
-    ap (λ n. record { events = n; reports = reports; closed = true }) (counted ∙ ap (λ (c : Listing). length c.events) is)
-    ∙ ap (λ (rs : List Report). record { events = length (part_of s number keys); reports = rs; closed = true }) (listed ∙ ap reports_of is)
+-- the text of one cone more
+pub texts_push : (cones : List Printed) (number : ℕ) (one : Printed) → length cones ≡ number → cone_texts 0 cones ++ cone_text number one ≡ cone_texts 0 (cones ++ one ∷ [])
+texts_push cones number one is =
+    let place : 0 + length cones ≡ number = omega (arith, is) in
+    sym (cone_texts-append 0 cones (one ∷ [])
+    ∙ ap (λ m. cone_texts 0 cones ++ cone_texts m (one ∷ [])) place
+    ∙ ap (λ text. cone_texts 0 cones ++ text) (append-nil (cone_text number one)))
+
+-- the texts of all cones and the totals are the whole text
+pub lines_are : (cones : List Printed) (events reports : ℕ) → events ≡ sum_by (λ (p : Printed). p.events) cones → reports ≡ sum_by (λ (p : Printed). length p.reports) cones →
+    cone_texts 0 cones ++ total_line events reports ≡ lines cones
+lines_are cones events reports events_are reports_are =
+    ap (λ n. cone_texts 0 cones ++ total_line n reports) events_are
+    ∙ ap (λ n. cone_texts 0 cones ++ total_line (sum_by (λ (p : Printed). p.events) cones) n) reports_are
+
+-- nothing was printed yet
+pub printed_none : {B : Type 0} (files : B → Option Files) (s : Numbers) (bays : List B) (keys : List ℕ) → ArePrinted files s bays keys 0 []
+printed_none files s bays keys = record { number_is = refl; each = λ cone one found. absurd (omega (arith, slice_get_within [] cone one found)) }
+
+module _ {B : Type 0} (files : B → Option Files) (s : Numbers) (bays : List B) (keys : List ℕ) (number : ℕ) where
+  -- what a closed cone with its part of the keys prints
+  pub is_printed : (cone : Standing B) (events : ℕ) (reports : List Report) → cone.listing ≡ record { settings = s; cone = number; events = part_of s number keys; closed = true } →
+      slice_get bays number ≡ Some cone.bay → events ≡ length cone.listing.events → IfTold (files cone.bay) (λ _. reports ≡ reports_of cone.listing) →
+      IsPrinted files s bays keys number (record { events = events; reports = reports; closed = true })
+  is_printed cone events reports is at counted listed = record {
+    events_are = counted ∙ ap (λ (l : Listing). length l.events) is;
+    closed_is = refl;
+    reports_are = λ bay there seen told. listed seen (ap files (same_Some cone.bay bay (sym at ∙ there)) ∙ told) ∙ ap reports_of is;
+  }
+
+  module _ (cones : List Printed) (are : ArePrinted files s bays keys number cones) where
+    pub printed_push : (one : Printed) → IsPrinted files s bays keys number one → ArePrinted files s bays keys (number + 1) (cones ++ one ∷ [])
+    printed_push one is = record {
+      number_is = omega (arith, length-append cones (one ∷ []), are.number_is);
+      each = each-push (IsPrinted files s bays keys) cones one are.each (subst (λ n. IsPrinted files s bays keys n one) (sym are.number_is) is);
+    }
+
+    -- where all bays tell their files, it is what is to be printed
+    pub printed_told : AreTold files bays → number ≤ length bays → cones ≡ printed s keys number
+    printed_told told within = fill_by_all (printed_of s keys) cones number (printed_of s keys number) are.number_is (λ cone below.
+        let one = get_or cones cone (printed_of s keys number) in
+        let is = are.each cone one (slice_get-get_or cones cone (printed_of s keys number) (omega (arith, below, are.number_is))) in
+        let bay = slice_get-some bays cone (omega (arith, below, within)) in
+        let seen = told cone bay.0 bay.1 in
+        one_is cone one is.events_are (is.reports_are bay.0 bay.1 seen.0 seen.1) is.closed_is)
+      where
+        one_is : (cone : ℕ) (one : Printed) → one.events ≡ length (part_of s cone keys) → one.reports ≡ closing s (part_of s cone keys) → one.closed ≡ true → one ≡ printed_of s keys cone
+        one_is cone one events reports closed = λ i. record { events = events i; reports = reports i; closed = closed i }
 
 module _ (s : Numbers) (keys : List ℕ) (number : ℕ) where
-  -- one cone more
-  pub texts-more : cone_texts 0 (printed s keys number) ++ cone_text number (printed_of s keys number) ≡ cone_texts 0 (printed s keys (number + 1))
-  texts-more =
-      let so_far = printed s keys number in
-      let one = printed_of s keys number in
-      let more = map-range_with_len_more (printed_of s keys) 0 number number (omega arith) in
-      let place : 0 + length so_far ≡ number = omega (arith, length-map-range_with_len (printed_of s keys) 0 number) in
-      sym (ap (cone_texts 0) more
-      ∙ cone_texts-append 0 so_far (one ∷ [])
-      ∙ ap (λ m. cone_texts 0 so_far ++ cone_texts m (one ∷ [])) place
-      ∙ ap (λ text. cone_texts 0 so_far ++ text) (append-nil (cone_text number one)))
-
-  pub events-more : sum_by (λ (p : Printed). p.events) (printed s keys number) + length (part_of s number keys) ≡ sum_by (λ (p : Printed). p.events) (printed s keys (number + 1))
-  events-more = sym (sum_by-map-range_with_len_more (λ (p : Printed). p.events) (printed_of s keys) 0 number number (omega arith))
-
-  pub reports-more : sum_by (λ (p : Printed). length p.reports) (printed s keys number) + length (closing s (part_of s number keys)) ≡ sum_by (λ (p : Printed). length p.reports) (printed s keys (number + 1))
-  reports-more = sym (sum_by-map-range_with_len_more (λ (p : Printed). length p.reports) (printed_of s keys) 0 number number (omega arith))
-
   -- the texts of the first cones begin the text of all
   pub text_rest : number ≤ 2 ^ s.cone_bits → BeginsWith (text_of s keys) (cone_texts 0 (printed s keys number))
   text_rest within =
@@ -68,25 +94,3 @@ module _ (s : Numbers) (keys : List ℕ) (number : ℕ) where
 -- what is a part of a text that begins another is one of that
 pub IsCut-begins : (start now : Option (List ℕ)) (text begun : List ℕ) → BeginsWith text begun → IsCut start now begun → IsCut start now text
 IsCut-begins start now text begun begins cut = subst (IsCut start now) begins.1 (IsCut-more start now begun begins.0 cut)
-
--- the reports of one cone more are in time
-pub AreInTime-more : (s : Numbers) (keys : List ℕ) (number : ℕ) (cone : Listing) (reports : List Report) → AreInTime s keys number →
-    cone ≡ record { settings = s; cone = number; events = part_of s number keys; closed = true } → reports ≡ reports_of cone →
-    (cone.closed ≡ true → IsTimely cone.settings.threshold cone.settings.bins cone.events reports) → AreInTime s keys (number + 1)
-AreInTime-more s keys number cone reports before is listed timely = λ other below.
-    elim (cases_eq other number) [
-      | inl same ↦
-          subst (λ (n : ℕ). IsTimely s.threshold s.bins (part_of s n keys) (closing s (part_of s n keys))) (sym same)
-          (subst (λ (c : Listing). IsTimely c.settings.threshold c.settings.bins c.events (reports_of c)) is
-          (subst (IsTimely cone.settings.threshold cone.settings.bins cone.events) listed (timely (ap (λ (c : Listing). c.closed) is))))
-      | inr differs ↦ before other (omega arith)
-    ]
-
--- all cones and the totals are the whole text
-pub text_of-parts : (s : Numbers) (keys : List ℕ) (number events reports : ℕ) → number ≡ 2 ^ s.cone_bits →
-    events ≡ sum_by (λ (p : Printed). p.events) (printed s keys number) → reports ≡ sum_by (λ (p : Printed). length p.reports) (printed s keys number) →
-    cone_texts 0 (printed s keys number) ++ total_line events reports ≡ text_of s keys
-text_of-parts s keys number events reports all events_are reports_are =
-    ap (λ n. cone_texts 0 (printed s keys number) ++ total_line n reports) events_are
-    ∙ ap (λ n. cone_texts 0 (printed s keys number) ++ total_line (sum_by (λ (p : Printed). p.events) (printed s keys number)) n) reports_are
-    ∙ ap (λ n. cone_texts 0 (printed s keys n) ++ total_line (sum_by (λ (p : Printed). p.events) (printed s keys n)) (sum_by (λ (p : Printed). length p.reports) (printed s keys n))) all

@@ -8,11 +8,11 @@ use Rattle.lert_io.specs.Fault.{HasRisen, IsFaultless}
 use Rattle.lert_spec.specs.Trace.{left, whole}
 use Rattle.lert_spec.specs.declared.numbers.Numbers.{Numbers}
 use Rattle.lert_top.specs.declared.status.Status.{Status}
-use Rattle.lert_top.specs.declared.status.Status.TheVariants.{Done, Usage, PlaceFault, TraceFault, BadTrace, TooLong, NotFresh, BayFault, CapacityFull, OutFault, OutOfMemory}
-use Rattle.lert_top.specs.Bays.{AreFaultless, AreFresh, AreLater, AreToldFresh, HasFailed, IsStale}
+use Rattle.lert_top.specs.declared.status.Status.TheVariants.{Done, Usage, PlaceFault, TraceFault, BadTrace, TooLong, NotFresh, BayFault, CapacityFull, Malformed, OutFault, OutOfMemory}
+use Rattle.lert_top.specs.Bays.{AreFaultless, AreFresh, AreLater, AreToldFresh, HasFailed, IsStale, IsUntold}
 use Rattle.lert_top.specs.Run.{AllFit, HasRun, HasThem, IsFull, IsOver, IsUnmade, StatusShows, StopShows, ArePartly, is_past_freshness, most_keys}
 use Rattle.lert_top.specs.Word.{word_at}
-use Rattle.lert_top.proofs.BayLaws.{failed_since, slice_get-some}
+use Rattle.lert_top.proofs.BayLaws.{failed_since, slice_get-some, told_later, untold_since}
 
 pub some_is : {X : Type 0} {x y : X} → Some x ≡ Some y → x ≡ y
 some_is same = cc
@@ -44,6 +44,13 @@ stale_or_not files bays cone fresh stale =
     let held = fresh cone there.0 there.1 in
     stale.not_empty there.0 there.1 held.0 held.1 held.2
 
+-- a bay tells its files where all tell them
+untold_or_not : {B : Type 0} (files : B → Option Files) (bays : List B) (cone : ℕ) → AreToldFresh files bays → IsUntold files bays cone → ⊥
+untold_or_not files bays cone fresh untold =
+    let there = slice_get-some bays cone untold.named in
+    let held = fresh cone there.0 there.1 in
+    untold.untold there.0 there.1 held.0 held.1
+
 module _ {S K B : Type 0} (remaining : S → Option (List ℕ)) (faults : S → ℕ) (taken : K → Option (List ℕ)) (sink_faults : K → ℕ) (files : B → Option Files) (bay_faults : B → ℕ)
     (settings : Numbers) where
   -- the same trace and the same source behind it
@@ -58,7 +65,9 @@ module _ {S K B : Type 0} (remaining : S → Option (List ℕ)) (faults : S → 
   pub shows_since : (mark : B → ℕ) (opened back : S) (before after : K) (first then now : List B) (stale : ℕ → Type 0) → AreLater files bay_faults mark first then → AreLater files bay_faults mark then now → (status : Status) →
       StatusShows remaining faults taken sink_faults files bay_faults settings opened back before after then now (λ _. ⊥) status →
       StatusShows remaining faults taken sink_faults files bay_faults settings opened back before after first now stale status
-  shows_since mark opened back before after first then now stale one two Done shows = shows
+  shows_since mark opened back before after first then now stale one two Done shows = λ bytes was.
+      let all = shows bytes was in
+      (all.0, all.1, all.2, λ text had. let taken_all = all.3 text had in (λ told. taken_all.0 (told_later files bay_faults mark first then one told), taken_all.1))
   shows_since mark opened back before after first then now stale one two (Usage rule) shows = absurd shows
   shows_since mark opened back before after first then now stale one two PlaceFault shows = absurd shows
   shows_since mark opened back before after first then now stale one two (TraceFault trace) shows = shows
@@ -68,7 +77,9 @@ module _ {S K B : Type 0} (remaining : S → Option (List ℕ)) (faults : S → 
   shows_since mark opened back before after first then now stale one two (BayFault cone) shows =
       (failed_since files bay_faults mark first then now cone one two shows.0, shows.1, shows.2)
   shows_since mark opened back before after first then now stale one two (CapacityFull cone n len) shows = shows
-  shows_since mark opened back before after first then now stale one two OutFault shows = shows
+  shows_since mark opened back before after first then now stale one two (Malformed cone file at) shows = (untold_since files bay_faults mark first then cone one shows.0, shows.1, shows.2)
+  shows_since mark opened back before after first then now stale one two OutFault shows =
+      (shows.0, λ bytes was. let all = shows.1 bytes was in (all.0, all.1, λ told. all.2 (told_later files bay_faults mark first then one told)))
   shows_since mark opened back before after first then now stale one two OutOfMemory shows = shows
 
   -- why no cones were made, before a byte of the trace was read
@@ -83,6 +94,7 @@ module _ {S K B : Type 0} (remaining : S → Option (List ℕ)) (faults : S → 
   shows_unmade opened back before bays later same (NotFresh cone) unmade = (unmade, refl)
   shows_unmade opened back before bays later same (BayFault cone) unmade = (unmade, refl, inl same)
   shows_unmade opened back before bays later same (CapacityFull cone n len) unmade = absurd unmade
+  shows_unmade opened back before bays later same (Malformed cone file at) unmade = absurd unmade
   shows_unmade opened back before bays later same OutFault unmade = absurd unmade
   shows_unmade opened back before bays later same OutOfMemory unmade = (refl, inl same)
 
@@ -99,6 +111,7 @@ module _ {S K B : Type 0} (remaining : S → Option (List ℕ)) (faults : S → 
   shows_stopped opened back before bays later stale parts (NotFresh cone) stopped = absurd stopped
   shows_stopped opened back before bays later stale parts (BayFault cone) stopped = (stopped, refl, inr parts)
   shows_stopped opened back before bays later stale parts (CapacityFull cone n len) stopped = (stopped.0, stopped.1, refl, parts)
+  shows_stopped opened back before bays later stale parts (Malformed cone file at) stopped = (stopped, refl, parts)
   shows_stopped opened back before bays later stale parts OutFault stopped = absurd stopped
   shows_stopped opened back before bays later stale parts OutOfMemory stopped = (refl, inr parts)
 
@@ -143,6 +156,7 @@ module _ {S K B : Type 0} (remaining : S → Option (List ℕ)) (faults : S → 
         ]
     stale_exactly cone bay seen none there told not_empty lower (BayFault other) shows fresh = absurd (failed_or_not bay_faults bays later other none shows.0)
     stale_exactly cone bay seen none there told not_empty lower (CapacityFull other n len) shows fresh = absurd (not_empty (fresh refl cone bay there seen told))
+    stale_exactly cone bay seen none there told not_empty lower (Malformed other file at) shows fresh = absurd (not_empty (fresh refl cone bay there seen told))
     stale_exactly cone bay seen none there told not_empty lower OutFault shows fresh = absurd (not_empty (fresh refl cone bay there seen told))
     stale_exactly cone bay seen none there told not_empty lower OutOfMemory shows fresh = inr refl
 
@@ -160,6 +174,7 @@ module _ {S K B : Type 0} (remaining : S → Option (List ℕ)) (faults : S → 
       bad_exactly (NotFresh cone) shows at leaves fits = absurd (stale_or_not files bays cone fresh shows.0)
       bad_exactly (BayFault cone) shows at leaves fits = absurd (failed_or_not bay_faults bays later cone bays_none shows.0)
       bad_exactly (CapacityFull cone n len) shows at leaves fits = absurd (full_or_not (whole bytes) cone n len shows.0 (shows.1 bytes was) fits)
+      bad_exactly (Malformed cone file place) shows at leaves fits = absurd (untold_or_not files bays cone fresh shows.0)
       bad_exactly OutFault shows at leaves fits = absurd (leaves_or_not bytes at (shows.1 bytes was).0.to_end.well_formed leaves)
       bad_exactly OutOfMemory shows at leaves fits = inr refl
 
@@ -174,6 +189,7 @@ module _ {S K B : Type 0} (remaining : S → Option (List ℕ)) (faults : S → 
       full_exactly (NotFresh cone) shows formed over named many = absurd (stale_or_not files bays cone fresh shows.0)
       full_exactly (BayFault cone) shows formed over named many = absurd (failed_or_not bay_faults bays later cone bays_none shows.0)
       full_exactly (CapacityFull cone n len) shows formed over named many = inl (cone, n, len, refl)
+      full_exactly (Malformed cone file place) shows formed over named many = absurd (untold_or_not files bays cone fresh shows.0)
       full_exactly OutFault shows formed over named many = absurd (over_or_not (whole bytes) over named (shows.1 bytes was).0.fits many)
       full_exactly OutOfMemory shows formed over named many = inr refl
 
@@ -187,6 +203,7 @@ module _ {S K B : Type 0} (remaining : S → Option (List ℕ)) (faults : S → 
       complete (NotFresh cone) shows kept formed fits = absurd (stale_or_not files bays cone fresh shows.0)
       complete (BayFault cone) shows kept formed fits = absurd (failed_or_not bay_faults bays later cone bays_none shows.0)
       complete (CapacityFull cone n len) shows kept formed fits = absurd (full_or_not (whole bytes) cone n len shows.0 (shows.1 bytes was) fits)
+      complete (Malformed cone file place) shows kept formed fits = absurd (untold_or_not files bays cone fresh shows.0)
       complete OutFault shows kept formed fits = absurd (no_rise (sink_faults before) (sink_faults after) kept shows.0)
       complete OutOfMemory shows kept formed fits = inr refl
 

@@ -1,5 +1,5 @@
 -- Keys move out of rings into their cones, and each cone with its ring keeps its part.
-use Rattle.std.proofs.Common.{◌≡◌, ◌≢◌, ℕ, ◌+◌, ◌*◌, ◌^◌, ◌<◌, ◌≤◌, Bool, true, false, cond, eqb, ◌||◌, List, [], ◌∷◌, ◌++◌, length, set, get_or, replicate, Option, Some, slice_get, refl, ap, sym, ◌∙◌, subst, inl, inr, arith, append-nil, append_assoc, length-append}
+use Rattle.std.proofs.Common.{◌≡◌, ◌≢◌, ℕ, ◌+◌, ◌*◌, ◌^◌, ◌<◌, ◌≤◌, Bool, true, false, cond, eqb, ◌||◌, List, [], ◌∷◌, ◌++◌, length, set, get_or, replicate, Option, Some, None, slice_get, refl, ap, sym, ◌∙◌, subst, inl, inr, arith, append-nil, append_assoc, length-append}
 use Rattle.std.specs.Prelude.{All}
 use Rattle.std.proofs.lemmas.Bool.{cases_eq, eq-eqb, ne_eqb}
 use Rattle.std.proofs.lemmas.List.{get_or-append-add, get_or-set_same, get_or-set_other, length-set, length-map, length-replicate, get_or-replicate, set-get_or}
@@ -13,10 +13,11 @@ use Rattle.lert_buffers.specs.declared.buffers.Fill.TheVariants.{Low, MustGo, Re
 use Rattle.lert_cone.proofs.SoundLaws.{events_more}
 use Rattle.lert_cone.specs.Listing.{Listing}
 use Rattle.lert_cone.specs.Sound.{IsSound, IsSoundOver}
-use Rattle.lert_cone.specs.Stands.{Standing, StandsFor, is_broken, is_refusal}
+use Rattle.lert_cone.specs.Stands.{IsSameCone, Standing, StandsFor, is_broken, is_refusal}
 use Rattle.lert_cone.specs.declared.refusal.ConeFault.{ConeFault}
 use Rattle.lert_cone.specs.declared.refusal.ConeFault.TheVariants as fault
-use Rattle.lert_cone.specs.declared.state.ConeState.TheVariants.{BrokenByMemory, Finished}
+use Rattle.lert_cone.specs.declared.state.ConeState.TheVariants.{Finished}
+use Rattle.lert_io.specs.Fault.{HasRisen}
 use Rattle.lert_journal.specs.Payload.{IsJournaled}
 use Rattle.lert_spec.specs.declared.numbers.Numbers.{Numbers}
 use Rattle.lert_spec.specs.Edges.{capacity}
@@ -24,12 +25,12 @@ use Rattle.lert_spec.specs.Limits.{IsValid}
 use Rattle.lert_spec.specs.Mix.{cone_of, part_of}
 use Rattle.lert_top.specs.declared.status.Status.{Status}
 use Rattle.lert_top.specs.declared.status.Status.TheVariants as status
-use Rattle.lert_top.specs.Bays.{AreLater, ArePartWoven, AreWoven, HasFailed, HoldsKeys, HoldsPart, HoldsWeave, IfHeld, bays_of}
+use Rattle.lert_top.specs.Bays.{AreLater, ArePartWoven, AreWoven, HasFailed, HoldsKeys, HoldsPart, HoldsWeave, IfHeld, IsUntold, bays_of}
 use Rattle.lert_top.specs.Cones.{AreNew}
 use Rattle.lert_top.specs.Lanes.{AreDrained, AreLanes, AreShort, IsLane, open_cones, state_of}
 use Rattle.lert_top.specs.Run.{AllFit, IsRefused}
 use Rattle.lert_top.specs.Status.{cone_status}
-use Rattle.lert_top.proofs.BayLaws.{bay_at, bay_is, bays_of-set, failed_since, slice_get-some, slice_get-set_other, slice_get-set_same}
+use Rattle.lert_top.proofs.BayLaws.{bay_at, bay_is, bays_of-set, failed_since, slice_get-some, slice_get-set_other, slice_get-set_same, untold_since}
 use Rattle.lert_top.proofs.WeaveLaws.{cut_more, part_woven, woven}
 
 -- what holds of each of two lists together holds of each of the second
@@ -232,8 +233,8 @@ module _ {B : Type 0} (files : B → Option Files) (leaves : B → Files → Typ
       pub lane_state : old.state ≡ state_of (finished at)
       lane_state = ap (λ (c : Standing B). c.state) old_is ∙ (lanes.each at below).state_is
 
-      old_stands : StandsFor files leaves faults old (lanes.each at below).history
-      old_stands = subst (λ (c : Standing B). StandsFor files leaves faults c (lanes.each at below).history) (sym old_is) (lanes.each at below).stands
+      pub lane_stands : StandsFor files leaves faults old (lanes.each at below).history
+      lane_stands = subst (λ (c : Standing B). StandsFor files leaves faults c (lanes.each at below).history) (sym old_is) (lanes.each at below).stands
 
       -- a lane over another cone in the place of this one
       abbrev LaneTo : ℕ → Bool → Standing B → List ℕ → Type 0
@@ -261,10 +262,10 @@ module _ {B : Type 0} (files : B → Option Files) (leaves : B → Files → Typ
           }
 
       -- a cone is finished
-      pub lanes_close : (new : Standing B) → new ≡ record old { listing = record old.listing { closed = true }; state = Finished } →
+      pub lanes_close : (new : Standing B) → new.listing ≡ record old.listing { closed = true } → new.state ≡ Finished →
           ((h : List Packet) → StandsFor files leaves faults old h → StandsFor files leaves faults new h) →
           (other : ℕ → Bool) → other at ≡ true → ((cone : ℕ) → cone ≢ at → finished cone ≡ other cone) → AreLanes files leaves faults s from other (set cones at new) rings keys
-      lanes_close new is stands other ends same =
+      lanes_close new listed state stands other ends same =
           let here = lanes.each at below in
           record {
             valid = lanes.valid;
@@ -277,12 +278,12 @@ module _ {B : Type 0} (files : B → Option Files) (leaves : B → Files → Typ
                     standing = new;
                     history = here.history;
                     cone_is = slice_get-set_same cones at new inside;
-                    stands = stands here.history old_stands;
+                    stands = stands here.history lane_stands;
                     listing_is =
-                        ap (λ (c : Standing B). c.listing) is
+                        listed
                         ∙ (ap (λ (l : Listing). record l { closed = true }) lane_listing
                         ∙ ap (λ (e : Bool). record { settings = s; cone = at; events = events_of here.history; closed = e }) (sym ends));
-                    state_is = ap (λ (c : Standing B). c.state) is ∙ ap state_of (sym ends);
+                    state_is = state ∙ ap state_of (sym ends);
                     each = here.each;
                     cut = here.cut;
                     full = here.full;
@@ -292,26 +293,54 @@ module _ {B : Type 0} (files : B → Option Files) (leaves : B → Files → Typ
                 ];
           }
 
-      -- a cone that isn't finished for want of memory
-      pub partly_close : (new : Standing B) → new ≡ record old { state = BrokenByMemory } →
+      -- what the journals hold where a cone isn't finished
+      pub partly_close : (new : Standing B) → IsSameCone old new → new.over ≡ old.over →
           ((h : List Packet) → StandsFor files leaves faults old h → StandsFor files leaves faults new h) → ArePartWoven files s (bays_of (set cones at new)) keys
-      partly_close new is stands = λ cone bay there.
+      partly_close new kept over_is stands = λ cone bay there.
           let moved : slice_get (set (bays_of cones) at new.bay) cone ≡ Some bay = ap (λ xs. slice_get xs cone) (sym (bays_of-set cones at new)) ∙ there in
           let named : cone < 2 ^ s.cone_bits = omega (arith, slice_get_within (bays_of (set cones at new)) cone bay there, length-map (set cones at new) (λ (c : Standing B). c.bay), length-set cones at new, lanes.cones_number) in
           elim (cases_eq cone at) [
             | inl equal ↦
                 let here = lanes.each at below in
                 let bay_same = bay_is (set cones at new) at new bay (slice_get-set_same cones at new inside) (ap (slice_get (bays_of (set cones at new))) (sym equal) ∙ there) in
-                let none = old_stands.none_over (ap is_broken lane_state ∙ unbroken (finished at)) in
+                let none = lane_stands.none_over (ap is_broken lane_state ∙ unbroken (finished at)) in
                 subst (λ c. IfTold (files bay) (HoldsPart s keys c)) (sym equal) (subst (λ b. IfTold (files b) (HoldsPart s keys at)) (sym bay_same)
-                (partly_of at keys new here.history (stands here.history old_stands)
-                (ap (λ (c : Standing B). c.listing.settings) is ∙ ap (λ (l : Listing). l.settings) lane_listing)
-                (ap (λ (c : Standing B). c.listing.cone) is ∙ ap (λ (l : Listing). l.cone) lane_listing)
+                (partly_of at keys new here.history (stands here.history lane_stands)
+                (kept.settings ∙ ap (λ (l : Listing). l.settings) lane_listing)
+                (kept.cone ∙ ap (λ (l : Listing). l.cone) lane_listing)
                 (part_woven s at here.history here.each here.cut keys (ring_of rings at) here.joined)
-                (λ over some. absurd (let gone = sym (ap (λ (c : Standing B). c.over) is ∙ none) ∙ some in cc))))
+                (λ over some. absurd (let gone = sym (over_is ∙ none) ∙ some in cc))))
             | inr differs ↦
                 lane_partly from cone (finished cone) keys (ring_of rings cone) cones (lanes.each cone named) bay (sym (slice_get-set_other (bays_of cones) at cone new.bay differs) ∙ moved)
           ]
+
+      -- a cone failed
+      cone_failed : (new : Standing B) → HasRisen (faults old.bay) (faults new.bay) → HasFailed faults (bays_of cones) (bays_of (set cones at new)) at
+      cone_failed new rose = record {
+        before = old.bay;
+        now = new.bay;
+        was = bay_at cones at old found;
+        is = bay_at (set cones at new) at new (slice_get-set_same cones at new inside);
+        rose = rose;
+      }
+
+      -- a cone whose bay doesn't tell its files
+      cone_untold : files old.bay ≡ None → IsUntold files (bays_of cones) at
+      cone_untold none = record {
+        named = slice_get_within (bays_of cones) at old.bay (bay_at cones at old found);
+        untold = λ bay there seen told. let clash = sym none ∙ (ap files (sym (bay_is cones at old bay found there)) ∙ told) in cc;
+      }
+
+      -- why it isn't finished
+      pub unfinished_by : (new : Standing B) (refusal : ConeFault) → is_refusal refusal ≡ false → (refusal ≡ fault.BayFailed → HasRisen (faults old.bay) (faults new.bay)) →
+          ((file place : ℕ) → refusal ≡ fault.Unsound file place → (h : List Packet) → StandsFor files leaves faults old h → files old.bay ≡ None) →
+          IsRefused files faults s (bays_of cones) (bays_of (set cones at new)) keys (cone_status at refusal)
+      unfinished_by new fault.Closed broke failed unsound = absurd cc
+      unfinished_by new fault.Broken broke failed unsound = absurd cc
+      unfinished_by new (fault.CapacityFull n len) broke failed unsound = absurd cc
+      unfinished_by new fault.BayFailed broke failed unsound = cone_failed new (failed refl)
+      unfinished_by new (fault.Unsound file place) broke failed unsound = cone_untold (unsound file place refl (lanes.each at below).history lane_stands)
+      unfinished_by new fault.OutOfMemory broke failed unsound = tt
 
       module _ (first : from ≤ at) (some : 1 ≤ length (ring_of rings at)) (few : length (ring_of rings at) ≤ 4 * s.packet) where
         abbrev ring : List ℕ
@@ -368,7 +397,7 @@ module _ {B : Type 0} (files : B → Option Files) (leaves : B → Files → Typ
                       standing = new;
                       history = here.history ++ packet ∷ [];
                       cone_is = slice_get-set_same cones at new inside;
-                      stands = stands here.history old_stands;
+                      stands = stands here.history lane_stands;
                       listing_is =
                           listed
                           ∙ (ap (λ (l : Listing). record l { events = l.events ++ ring }) lane_listing
@@ -388,7 +417,7 @@ module _ {B : Type 0} (files : B → Option Files) (leaves : B → Files → Typ
             (settings : new.listing.settings ≡ old.listing.settings) (number : new.listing.cone ≡ old.listing.cone) where
           over_woven : (b : Bool) → is_refusal refusal ≡ b → (over : Packet) → new.over ≡ Some over → IsPartWoven s at 1 (keys ∷ []) ((lanes.each at below).history ++ over ∷ [])
           over_woven true is over there =
-              let none = old_stands.none_over (ap is_broken lane_state ∙ unbroken (finished at)) in
+              let none = lane_stands.none_over (ap is_broken lane_state ∙ unbroken (finished at)) in
               absurd (let gone = sym (ap (λ (c : Standing B). c.over) (unchanged is) ∙ none) ∙ there in cc)
           over_woven false is over there =
               subst (λ (p : Packet). IsPartWoven s at 1 (keys ∷ []) ((lanes.each at below).history ++ p ∷ [])) (same_Some (packet_with ring) over (sym (left_over is) ∙ there))
@@ -404,7 +433,7 @@ module _ {B : Type 0} (files : B → Option Files) (leaves : B → Files → Typ
                     let here = lanes.each at below in
                     let bay_same = bay_is (set cones at new) at new bay (slice_get-set_same cones at new inside) (ap (slice_get (bays_of (set cones at new))) (sym equal) ∙ there) in
                     subst (λ c. IfTold (files bay) (HoldsPart s keys c)) (sym equal) (subst (λ b. IfTold (files b) (HoldsPart s keys at)) (sym bay_same)
-                    (partly_of at keys new here.history (stays here.history old_stands)
+                    (partly_of at keys new here.history (stays here.history lane_stands)
                     (settings ∙ ap (λ (l : Listing). l.settings) lane_listing) (number ∙ ap (λ (l : Listing). l.cone) lane_listing)
                     (part_woven s at here.history here.each here.cut keys ring here.joined)
                     (over_woven (is_refusal refusal) refl)))
@@ -415,9 +444,10 @@ module _ {B : Type 0} (files : B → Option Files) (leaves : B → Files → Typ
           -- why it was refused
           pub refused_by : (status : Status) → status ≡ cone_status at refusal → refusal ≢ fault.Closed → refusal ≢ fault.Broken →
               ((n len : ℕ) → refusal ≡ fault.CapacityFull n len → (n ≡ old.events) × (len ≡ length ring) × (capacity old.listing.settings < n + len)) →
-              (refusal ≡ fault.BayFailed → HasFailed faults (bays_of cones) (bays_of (set cones at new)) at) →
+              (refusal ≡ fault.BayFailed → HasRisen (faults old.bay) (faults new.bay)) →
+              ((file place : ℕ) → refusal ≡ fault.Unsound file place → (h : List Packet) → StandsFor files leaves faults old h → files old.bay ≡ None) →
               IsRefused files faults s (bays_of cones) (bays_of (set cones at new)) keys status
-          refused_by status is running unbroken_is full failed =
+          refused_by status is running unbroken_is full failed unsound =
               subst (IsRefused files faults s (bays_of cones) (bays_of (set cones at new)) keys) (sym is) (by_fault refusal refl)
             where
               by_fault : (f : ConeFault) → refusal ≡ f → IsRefused files faults s (bays_of cones) (bays_of (set cones at new)) keys (cone_status at f)
@@ -442,7 +472,8 @@ module _ {B : Type 0} (files : B → Option Files) (leaves : B → Files → Typ
                     },
                     omega (arith, joined, sum, here.stands.counted, counted, why.1),
                   )
-              by_fault fault.BayFailed same = failed same
+              by_fault fault.BayFailed same = cone_failed new (failed same)
+              by_fault (fault.Unsound file place) same = cone_untold (unsound file place same (lanes.each at below).history lane_stands)
               by_fault fault.OutOfMemory same = tt
 
 -- cones that were just made, with rings that are empty
@@ -488,6 +519,7 @@ refused_since files faults mark s first then now keys one two (status.TooLong tr
 refused_since files faults mark s first then now keys one two (status.NotFresh cone) refused = absurd refused
 refused_since files faults mark s first then now keys one two (status.BayFault cone) refused = failed_since files faults mark first then now cone one two refused
 refused_since files faults mark s first then now keys one two (status.CapacityFull cone n len) refused = refused
+refused_since files faults mark s first then now keys one two (status.Malformed cone file at) refused = untold_since files faults mark first then cone one refused
 refused_since files faults mark s first then now keys one two status.OutFault refused = absurd refused
 refused_since files faults mark s first then now keys one two status.OutOfMemory refused = tt
 

@@ -3,7 +3,6 @@ pub mod BayLaws
 pub mod ConeLaws
 pub mod ConeTexts
 pub mod Ending
-pub mod FewReports
 pub mod FreshLaws
 pub mod KeysRead
 pub mod LaneLaws

@@ -31,6 +31,15 @@ AreMarked {B = B} mark bays = (cone : ℕ) (bay : B) → slice_get bays cone ≡
 abbrev pub IfHeld : {B : Type 0} → (B → Option Files) → List B → ℕ → (Files → Type 0) → Type 0
 IfHeld {B = B} files bays cone P = (bay : B) → slice_get bays cone ≡ Some bay → IfTold (files bay) P
 
+-- each bay tells its files
+abbrev pub AreTold : {B : Type 0} → (B → Option Files) → List B → Type 0
+AreTold {B = B} files bays = (cone : ℕ) (bay : B) → slice_get bays cone ≡ Some bay → (seen : Files) × (files bay ≡ Some seen)
+
+-- the bay of a cone doesn't tell its files
+pub record IsUntold {B : Type 0} (files : B → Option Files) (bays : List B) (cone : ℕ) : Type 0 where
+  pub named : cone < length bays
+  pub untold : IfHeld files bays cone (λ _. ⊥)
+
 -- no bay that tells its files has a byte in them
 abbrev pub AreFresh : {B : Type 0} → (B → Option Files) → List B → Type 0
 AreFresh {B = B} files bays = (cone : ℕ) → IfHeld files bays cone AreEmpty

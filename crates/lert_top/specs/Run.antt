@@ -12,10 +12,10 @@ use Rattle.lert_spec.specs.Look.{closing}
 use Rattle.lert_spec.specs.Mix.{part_of}
 use Rattle.lert_spec.specs.Timely.{IsTimely}
 use Rattle.lert_spec.specs.Trace.{left, whole}
-use Rattle.lert_top.specs.Bays.{AreFaultless, AreFresh, ArePartWoven, AreToldFresh, AreWoven, HasFailed, HoldsKeys, IfHeld, IsStale}
+use Rattle.lert_top.specs.Bays.{AreFaultless, AreFresh, ArePartWoven, AreTold, AreToldFresh, AreWoven, HasFailed, HoldsKeys, IfHeld, IsStale, IsUntold}
 use Rattle.lert_top.specs.Page.{IsCut}
 use Rattle.lert_top.specs.declared.status.Status.{Status}
-use Rattle.lert_top.specs.declared.status.Status.TheVariants.{Done, Usage, PlaceFault, TraceFault, BadTrace, TooLong, NotFresh, BayFault, CapacityFull, OutFault, OutOfMemory}
+use Rattle.lert_top.specs.declared.status.Status.TheVariants.{Done, Usage, PlaceFault, TraceFault, BadTrace, TooLong, NotFresh, BayFault, CapacityFull, Malformed, OutFault, OutOfMemory}
 
 -- the most keys that a trace may have, 2^36
 abbrev pub most_keys : ℕ
@@ -36,6 +36,18 @@ printed settings keys number = map (printed_of settings keys) (range_with_len 0 
 -- the text of a run over all cones
 abbrev pub text_of : Numbers → List ℕ → List ℕ
 text_of settings keys = lines (printed settings keys (2 ^ settings.cone_bits))
+
+-- what was printed of a cone: the events of its part, and, where its bay tells its files, the reports that stand once it is
+-- closed
+pub record IsPrinted {B : Type 0} (files : B → Option Files) (settings : Numbers) (bays : List B) (keys : List ℕ) (cone : ℕ) (one : Printed) : Type 0 where
+  pub events_are : one.events ≡ length (part_of settings cone keys)
+  pub closed_is : one.closed ≡ true
+  pub reports_are : IfHeld files bays cone (λ _. one.reports ≡ closing settings (part_of settings cone keys))
+
+-- that was printed of the first so many cones
+pub record ArePrinted {B : Type 0} (files : B → Option Files) (settings : Numbers) (bays : List B) (keys : List ℕ) (number : ℕ) (cones : List Printed) : Type 0 where
+  pub number_is : length cones ≡ number
+  pub each : (cone : ℕ) (one : Printed) → slice_get cones cone ≡ Some one → IsPrinted files settings bays keys cone one
 
 -- the reports of each of the first so many cones are in time
 abbrev pub AreInTime : Numbers → List ℕ → ℕ → Type 0
@@ -73,8 +85,8 @@ pub record IsFull {B : Type 0} (files : B → Option Files) (settings : Numbers)
 abbrev pub HasThem : Numbers → List ℕ → ℕ → ℕ → ℕ → Type 0
 HasThem settings keys cone n len = n + len ≤ length (part_of settings cone keys)
 
--- why the cones don't take keys, by their bays as they were and as they are: one of them is full, a bay failed, or there
--- is no memory
+-- why the cones don't take keys, by their bays as they were and as they are: one of them is full, a bay failed, a file of a
+-- bay that doesn't tell its files left its format, or there is no memory
 abbrev pub IsRefused : {B : Type 0} → (B → Option Files) → (B → ℕ) → Numbers → List B → List B → List ℕ → Status → Type 0
 IsRefused files faults settings bays later keys Done = ⊥
 IsRefused files faults settings bays later keys (Usage rule) = ⊥
@@ -85,6 +97,7 @@ IsRefused files faults settings bays later keys (TooLong trace) = ⊥
 IsRefused files faults settings bays later keys (NotFresh cone) = ⊥
 IsRefused files faults settings bays later keys (BayFault cone) = HasFailed faults bays later cone
 IsRefused files faults settings bays later keys (CapacityFull cone n len) = IsFull files settings later cone n len × HasThem settings keys cone n len
+IsRefused files faults settings bays later keys (Malformed cone file at) = IsUntold files bays cone
 IsRefused files faults settings bays later keys OutFault = ⊥
 IsRefused files faults settings bays later keys OutOfMemory = ⊤
 
@@ -99,6 +112,7 @@ IsUnmade files faults bays later (TooLong trace) = ⊥
 IsUnmade files faults bays later (NotFresh cone) = IsStale files bays cone
 IsUnmade files faults bays later (BayFault cone) = HasFailed faults bays later cone
 IsUnmade files faults bays later (CapacityFull cone n len) = ⊥
+IsUnmade files faults bays later (Malformed cone file at) = ⊥
 IsUnmade files faults bays later OutFault = ⊥
 IsUnmade files faults bays later OutOfMemory = ⊤
 
@@ -113,6 +127,7 @@ is_past_freshness (TooLong trace) = true
 is_past_freshness (NotFresh cone) = false
 is_past_freshness (BayFault cone) = false
 is_past_freshness (CapacityFull cone n len) = true
+is_past_freshness (Malformed cone file at) = true
 is_past_freshness OutFault = true
 is_past_freshness OutOfMemory = false
 
@@ -129,6 +144,7 @@ module _ {S B : Type 0} (remaining : S → Option (List ℕ)) (faults : S → �
   StopShows opened now bays later (BayFault cone) = HasFailed bay_faults bays later cone
   StopShows opened now bays later (CapacityFull cone n len) =
       IsFull files settings later cone n len × IfTold (remaining opened) (λ bytes. HasThem settings (whole bytes) cone n len)
+  StopShows opened now bays later (Malformed cone file at) = IsUntold files bays cone
   StopShows opened now bays later OutFault = ⊥
   StopShows opened now bays later OutOfMemory = ⊤
 
@@ -141,11 +157,13 @@ module _ {S B : Type 0} (remaining : S → Option (List ℕ)) (faults : S → �
 module _ {S K B : Type 0} (remaining : S → Option (List ℕ)) (faults : S → ℕ) (taken : K → Option (List ℕ)) (sink_faults : K → ℕ)
     (files : B → Option Files) (bay_faults : B → ℕ) (settings : Numbers) (opened back : S) (before after : K) (bays later : List B) where
   abbrev pub StatusShows : (ℕ → Type 0) → Status → Type 0
-  -- the trace is well formed and was read to its end, each journal is a weave of the cone's keys, the reports that the
-  -- closed cones make of these are in time, and their text was written
+  -- the trace is well formed and was read to its end, each journal is a weave of the cone's keys, the reports that closed
+  -- cones make of these are in time, and, where all bays tell their files, their text was written. On every bay the text
+  -- is that of cones with their events
   StatusShows stale Done = IfTold (remaining opened) (λ bytes.
       IsReadWhole settings bytes (remaining back) × AreWoven files settings later (whole bytes) × AreInTime settings (whole bytes) (2 ^ settings.cone_bits)
-      × IfTold (taken before) (λ text. taken after ≡ Some (text ++ text_of settings (whole bytes))))
+      × IfTold (taken before) (λ text. (AreTold files bays → taken after ≡ Some (text ++ text_of settings (whole bytes)))
+      × ((cones : List Printed) × ArePrinted files settings later (whole bytes) (2 ^ settings.cone_bits) cones × (taken after ≡ Some (text ++ lines cones)))))
   StatusShows stale (Usage rule) = ⊥
   StatusShows stale PlaceFault = ⊥
   StatusShows stale (TraceFault trace) =
@@ -161,10 +179,12 @@ module _ {S K B : Type 0} (remaining : S → Option (List ℕ)) (faults : S → 
   StatusShows stale (CapacityFull cone n len) = IsFull files settings later cone n len
       × IfTold (remaining opened) (λ bytes. HasThem settings (whole bytes) cone n len) × (after ≡ before)
       × ArePartly remaining faults files bay_faults settings opened later
-  -- the trace was read to its end, each journal is a weave, and a part of the text was written
+  StatusShows stale (Malformed cone file at) = IsUntold files bays cone × (after ≡ before) × ArePartly remaining faults files bay_faults settings opened later
+  -- the trace was read to its end, each journal is a weave, and, where all bays tell their files, a part of the text was
+  -- written
   StatusShows stale OutFault = HasRisen (sink_faults before) (sink_faults after) × IfTold (remaining opened) (λ bytes.
       IsReadWhole settings bytes (remaining back) × AreWoven files settings later (whole bytes)
-      × IsCut (taken before) (taken after) (text_of settings (whole bytes)))
+      × (AreTold files bays → IsCut (taken before) (taken after) (text_of settings (whole bytes))))
   StatusShows stale OutOfMemory = (after ≡ before) × ((back ≡ opened) ⊎ ArePartly remaining faults files bay_faults settings opened later)
 
   -- a run over a trace and bays that were opened: what its status says, and which one comes where no fault was counted.

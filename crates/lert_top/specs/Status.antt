@@ -19,6 +19,7 @@ status_number (status.TooLong trace) = 5
 status_number (status.NotFresh cone) = 6
 status_number (status.BayFault cone) = 7
 status_number (status.CapacityFull cone n len) = 8
+status_number (status.Malformed cone file at) = 9
 status_number status.OutFault = 11
 status_number status.OutOfMemory = 12
 
@@ -33,6 +34,7 @@ status_fields (status.TooLong trace) = (trace, 0, 0)
 status_fields (status.NotFresh cone) = (cone, 0, 0)
 status_fields (status.BayFault cone) = (cone, 0, 0)
 status_fields (status.CapacityFull cone n len) = (cone, n, len)
+status_fields (status.Malformed cone file at) = (cone, file, at)
 status_fields status.OutFault = (0, 0, 0)
 status_fields status.OutOfMemory = (0, 0, 0)
 
@@ -48,6 +50,7 @@ cone_status cone cone_fault.Closed = status.OutOfMemory
 cone_status cone cone_fault.Broken = status.OutOfMemory
 cone_status cone (cone_fault.CapacityFull n len) = status.CapacityFull cone n len
 cone_status cone cone_fault.BayFailed = status.BayFault cone
+cone_status cone (cone_fault.Unsound file at) = status.Malformed cone file at
 cone_status cone cone_fault.OutOfMemory = status.OutOfMemory
 
 -- why no cone is made over a bay

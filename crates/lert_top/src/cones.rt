@@ -12,6 +12,7 @@ use crate::status::Status;
 use lert_base::Settings;
 use lert_bay::Bay;
 use lert_cone::{Cone, ConeRoom, CreateFault, CreateRefused};
+use lert_cqf::Cqf;
 use lert_io::OutOfMemory;
 use std::alloc::Global;
 use std::collections::VecDeque;
@@ -22,7 +23,7 @@ pub fn make_cones<B: Bay>(
     alloc: Global,
     settings: &Settings,
     bays: &mut VecDeque<B>,
-) -> Result<Vec<Cone<B>>, Status>
+) -> Result<Vec<Cone<B, Cqf>>, Status>
     requires number { length bays.old.items ≡ 2 ^ settings.now.cone_bits }
     requires room { length bays.old.items ≤ deque_capacity bays.old }
     requires fresh { AreFresh B.files bays.old.items }
@@ -42,7 +43,7 @@ pub fn make_cones<B: Bay>(
 }
 
 // The memory of all cones.
-fn make_rooms(alloc: Global, settings: &Settings) -> Result<Vec<ConeRoom>, OutOfMemory>
+fn make_rooms(alloc: Global, settings: &Settings) -> Result<Vec<ConeRoom<Cqf>>, OutOfMemory>
     ensures number { IfOk result (λ rooms. length rooms.items ≡ 2 ^ settings.now.cone_bits) }
     ensures each { IfOk result (λ rooms. All (λ room. room ≡ settings.now) rooms.items) }
 {
@@ -56,10 +57,10 @@ fn make_rooms(alloc: Global, settings: &Settings) -> Result<Vec<ConeRoom>, OutOf
 // A cone over each bay, in ascending order, in an empty list with room for all.
 fn fill_rooms<B: Bay>(
     settings: &Settings,
-    mut rooms: Vec<ConeRoom>,
+    mut rooms: Vec<ConeRoom<Cqf>>,
     bays: &mut VecDeque<B>,
-    mut cones: Vec<Cone<B>>,
-) -> Result<Vec<Cone<B>>, Status>
+    mut cones: Vec<Cone<B, Cqf>>,
+) -> Result<Vec<Cone<B, Cqf>>, Status>
     requires number { length bays.old.items ≡ 2 ^ settings.now.cone_bits }
     requires room { length bays.old.items ≤ deque_capacity bays.old }
     requires fresh { AreFresh B.files bays.old.items }
@@ -110,7 +111,7 @@ fn status_of(number: u32, fault: CreateFault) -> Status
 }
 
 /// Puts the bays of cones before those of a list, which has room for them.
-pub fn bring_back<B: Bay>(mut cones: Vec<Cone<B>>, bays: &mut VecDeque<B>)
+pub fn bring_back<B: Bay>(mut cones: Vec<Cone<B, Cqf>>, bays: &mut VecDeque<B>)
     requires { length cones.items + length bays.old.items ≤ deque_capacity bays.old }
     ensures bays { bays.new.items ≡ bays_of cones.items ++ bays.old.items }
     ensures room { deque_capacity bays.new ≡ deque_capacity bays.old }

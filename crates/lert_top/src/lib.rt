@@ -1,9 +1,9 @@
 //! The top call of LERT, `run`, with the places that it asks for traces and bays, its words and its statuses.
 //!
 //! The one contract is that of `run`: it is decided by the words, the trace, the bays and the sink alone.
-//! With `Done` the journal of each cone is a weave of its part of the trace, and the text that was written
-//! is that of these parts and of the reports that the closed cones make of them, which are in time; each
-//! other status says why there is no such text.
+//! With `Done` the journal of each cone is a weave of its part of the trace, and, where the bays tell their
+//! files, the text that was written is that of these parts and of the reports that closed cones make of them,
+//! which are in time; each other status says why there is no such text.
 //! The program stands on it.
 #![tactic(auto)]
 

@@ -1,13 +1,14 @@
 //! Keys on their way to the cones, each by the ring of its cone.
 
-ghost use Rattle.std.specs.Prelude.{◌≡◌, ℕ, ◌+◌, ◌*◌, ◌^◌, ◌<◌, ◌≤◌, true, false, [], ◌∷◌, ◌++◌, length, IfOk, IfErr, OnOk, List, replicate};
+ghost use Rattle.std.specs.Prelude.{◌≡◌, ℕ, ◌+◌, ◌*◌, ◌^◌, ◌<◌, ◌≤◌, true, false, [], ◌∷◌, ◌++◌, length, IfOk, IfErr, IsErrOf, OnErr, OnOk, List, None, Some, replicate, slice_get};
 ghost use Rattle.lert_buffers.specs.Rings.{ring_of, with_ring};
 ghost use Rattle.lert_base.specs.Packet.{Packet};
-ghost use Rattle.lert_cone.specs.Stands.{StandsFor};
-ghost use Rattle.lert_cone.specs.declared.state.ConeState.TheVariants.{BrokenByMemory, Finished, Running};
+ghost use Rattle.lert_cone.specs.Stands.{IsSameCone, StandsFor, is_refusal};
+ghost use Rattle.lert_cone.specs.declared.state.ConeState.TheVariants.{Finished, Running};
+ghost use Rattle.lert_io.specs.Fault.{HasRisen};
 ghost use Rattle.lert_spec.specs.Limits.{IsValid};
 ghost use Rattle.lert_spec.specs.Mix.{part_of};
-ghost use Rattle.lert_top.specs.Bays.{AreLater, ArePartWoven, bays_of};
+ghost use Rattle.lert_top.specs.Bays.{AreLater, ArePartWoven, IsLater, bays_of};
 ghost use Rattle.lert_top.specs.Cones.{AreNew};
 ghost use Rattle.lert_top.specs.Lanes.{AreDrained, AreShort, IsIdle};
 ghost use Rattle.lert_top.specs.Run.{IsRefused};
@@ -16,7 +17,8 @@ use crate::status::Status;
 use lert_base::{Entry, KeyList, Settings};
 use lert_bay::Bay;
 use lert_buffers::{Buffers, Fill};
-use lert_cone::Cone;
+use lert_cone::{Cone, ConeFault};
+use lert_cqf::Cqf;
 use lert_io::{OutOfMemory, Seen};
 use lert_mixer::cone_of;
 use std::alloc::Global;
@@ -27,7 +29,7 @@ use std::alloc::Global;
 #[derive(Drop)]
 pub struct Router<B: Bay> {
     settings: Settings,
-    cones: Vec<Cone<B>>,
+    cones: Vec<Cone<B, Cqf>>,
     rings: Buffers,
     entry: Entry,
     keys: Seen<u64>,
@@ -41,8 +43,8 @@ impl<B: Bay> Router<B> {
     pub fn new(
         alloc: Global,
         settings: &Settings,
-        cones: Vec<Cone<B>>,
-    ) -> Result<Router<B>, Vec<Cone<B>>>
+        cones: Vec<Cone<B, Cqf>>,
+    ) -> Result<Router<B>, Vec<Cone<B, Cqf>>>
         requires number { length cones.items ≡ 2 ^ settings.now.cone_bits }
         requires new_cones { AreNew B.files B.leaves B.faults settings.now cones.items }
         ensures settings { IfOk result (λ router. router.settings ≡ settings.now) }
@@ -63,8 +65,8 @@ impl<B: Bay> Router<B> {
         }
     }
 
-    /// Takes the next key. After a refusal, of a full cone, of a bay or for want of memory, no call is to
-    /// be made.
+    /// Takes the next key. After a refusal, of a full cone, of a bay, by a file that left its format or for
+    /// want of memory, no call is to be made.
     pub fn take(&mut self, key: u64) -> Result<(), Status>
         requires taking { IsTaking B.files B.leaves B.faults self.old }
         ensures settings { self.new.settings ≡ self.old.settings }
@@ -84,7 +86,7 @@ impl<B: Bay> Router<B> {
     }
 
     /// Hands out what the rings hold, in ascending cones, and then finishes the cones, in ascending
-    /// order. After a refusal, of a full cone, of a bay or for want of memory, no call is to be made.
+    /// order. After a refusal, as of `take`, no call is to be made.
     pub fn finish(&mut self) -> Result<(), Status>
         requires taking { IsTaking B.files B.leaves B.faults self.old }
         ensures settings { self.new.settings ≡ self.old.settings }
@@ -114,7 +116,7 @@ impl<B: Bay> Router<B> {
     }
 
     /// A finished cone: it took its part of the keys.
-    pub fn cone(&self, number: u32) -> &Cone<B>
+    pub fn cone(&self, number: u32) -> &Cone<B, Cqf>
         requires finished { IsFinished B.files B.leaves B.faults self.now }
         requires named { number < 2 ^ self.now.settings.cone_bits }
         ensures listing { result.now.listing ≡ record {
@@ -124,12 +126,14 @@ impl<B: Bay> Router<B> {
           closed = true;
         } }
         ensures state { result.now.state ≡ Finished }
+        ensures bay { slice_get (bays_of self.now.cones.items) number ≡ Some result.now.bay }
+        ensures stands { (history : List Packet) × StandsFor B.files B.leaves B.faults result.now history }
     {
         &self.cones[number as usize]
     }
 
     /// The cones.
-    pub fn into_cones(self) -> Vec<Cone<B>>
+    pub fn into_cones(self) -> Vec<Cone<B, Cqf>>
         ensures { result.items ≡ self.cones.items }
     {
         let Router { cones, .. } = self;
@@ -202,7 +206,7 @@ impl<B: Bay> Router<B> {
         Ok(())
     }
 
-    // Finishes all cones, in ascending order. Only want of memory refuses it.
+    // Finishes all cones, in ascending order, up to the first that its bay, a frame of it or want of memory refuses.
     fn close_all(&mut self) -> Result<(), Status>
         requires taking { IsOpen B.files B.leaves B.faults (2 ^ self.old.settings.cone_bits) self.old }
         requires drained { AreDrained (2 ^ self.old.settings.cone_bits) self.old.rings }
@@ -211,10 +215,13 @@ impl<B: Bay> Router<B> {
         ensures finished { OnOk result (IsFinished B.files B.leaves B.faults self.new) }
         ensures later { AreLater B.files B.faults B.mark (bays_of self.old.cones.items) (bays_of self.new.cones.items) }
         ensures partly { ArePartWoven B.files self.old.settings (bays_of self.new.cones.items) self.new.keys }
-        ensures refused { IfErr result (λ status. status ≡ Status.OutOfMemory) }
+        ensures refused { IfErr result (IsRefused B.files B.faults self.old.settings
+            (bays_of self.old.cones.items) (bays_of self.new.cones.items) self.new.keys) }
     {
         for cone in 0..self.settings.cones() {
-            close(&mut self.cones[cone as usize])?;
+            if let Err(fault) = close(&mut self.cones[cone as usize]) {
+                return Err(Status::of_cone(cone, fault));
+            }
         }
         Ok(())
     }
@@ -232,16 +239,22 @@ fn make_rings(alloc: Global, settings: &Settings) -> Result<(Buffers, Entry), Ou
     Ok((rings, entry))
 }
 
-// Finishes a running cone. Only want of memory refuses it.
-fn close<B: Bay>(cone: &mut Cone<B>) -> Result<(), Status>
+// Finishes a running cone. A refusal leaves it broken, by its bay, by a frame or for want of memory.
+fn close<B: Bay>(cone: &mut Cone<B, Cqf>) -> Result<(), ConeFault>
     requires { cone.old.state ≡ Running }
-    ensures finished { OnOk result (cone.new ≡ record cone.old { listing = record cone.old.listing { closed = true }; state = Finished }) }
-    ensures refused { IfErr result (λ status. status ≡ Status.OutOfMemory) }
-    ensures broke { IfErr result (λ _. cone.new ≡ record cone.old { state = BrokenByMemory }) }
+    ensures listing { OnOk result (cone.new.listing ≡ record cone.old.listing { closed = true }) }
+    ensures state { OnOk result (cone.new.state ≡ Finished) }
+    ensures broke { IfErr result (λ fault. is_refusal fault ≡ false) }
+    ensures over { OnErr result (cone.new.over ≡ cone.old.over) }
+    ensures failed { IsErrOf result ConeFault.BayFailed → HasRisen (B.faults cone.old.bay) (B.faults cone.new.bay) }
+    ensures unsound { (file at : ℕ) → IsErrOf result (ConeFault.Unsound file at) → (h : List Packet) →
+        StandsFor B.files B.leaves B.faults cone.old h → B.files cone.old.bay ≡ None }
+    ensures same_cone { IsSameCone cone.old cone.new }
+    ensures later { IsLater B.files B.faults B.mark cone.old.bay cone.new.bay }
     ensures stands { (h : List Packet) → StandsFor B.files B.leaves B.faults cone.old h → StandsFor B.files B.leaves B.faults cone.new h }
 {
     match cone.finish() {
         Ok(_) => Ok(()),
-        Err(fault) => Err(Status::of_cone(0, fault)),
+        Err(fault) => Err(fault),
     }
 }

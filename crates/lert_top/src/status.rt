@@ -29,6 +29,9 @@ pub enum Status {
     BayFault { cone: u32 },
     /// A cone has `n` keys, and the `len` of the next packet are more than it takes besides.
     CapacityFull { cone: u32, n: u64, len: u64 },
+    /// A file of this cone, by its number, left its format at the place `at`, though the run itself wrote it.
+    /// It comes only where the cone's bay doesn't tell its files.
+    Malformed { cone: u32, file: u8, at: u64 },
     /// A write of the text failed. A part of it may have been written.
     OutFault,
     /// There is no memory.
@@ -55,6 +58,11 @@ impl Status {
                 n: _,
                 len: _,
             } => 8,
+            Status::Malformed {
+                cone: _,
+                file: _,
+                at: _,
+            } => 9,
             Status::OutFault => 11,
             Status::OutOfMemory => 12,
         }
@@ -71,6 +79,7 @@ impl Status {
             Status::TooLong { trace } => (u64::from(trace), 0, 0),
             Status::NotFresh { cone } | Status::BayFault { cone } => (u64::from(cone), 0, 0),
             Status::CapacityFull { cone, n, len } => (u64::from(cone), n, len),
+            Status::Malformed { cone, file, at } => (u64::from(cone), u64::from(file), at),
             Status::Done | Status::PlaceFault | Status::OutFault | Status::OutOfMemory => (0, 0, 0),
         }
     }
@@ -100,6 +109,7 @@ impl Status {
             ConeFault::Broken => unreachable!(),
             ConeFault::CapacityFull { n, len } => Status::CapacityFull { cone, n, len },
             ConeFault::BayFailed => Status::BayFault { cone },
+            ConeFault::Unsound { file, at } => Status::Malformed { cone, file, at },
             ConeFault::OutOfMemory => Status::OutOfMemory,
         }
     }

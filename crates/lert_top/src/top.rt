@@ -2,16 +2,16 @@
 
 ghost use Rattle.std.specs.Prelude.{◌≡◌, ◌≢◌, ◌↔◌, ◌++◌, ◌∷◌, ◌^◌, ◌<◌, ◌≤◌, ℕ, List, [], length, slice_get, Some, None, true, OnOk, OnErr};
 ghost use Rattle.std.specs.VecDeque.{deque_capacity};
-ghost use Rattle.lert_cone.specs.Listing.{reports_of};
 ghost use Rattle.lert_cone.specs.declared.state.ConeState.TheVariants.{Finished};
 ghost use Rattle.lert_io.specs.Fault.{HasCause, HasRisen};
+ghost use Rattle.lert_spec.specs.Lines.{Printed, lines};
 ghost use Rattle.lert_top.specs.Asked.{AreReturned, IsAsked, IsAskedForBays};
-ghost use Rattle.lert_top.specs.Bays.{AreFresh, AreLater, AreMarked, IsStale, bays_of};
+ghost use Rattle.lert_top.specs.Bays.{AreFresh, AreLater, AreMarked, AreTold, IsStale, bays_of};
 ghost use Rattle.lert_top.specs.Command.{command, usage};
 ghost use Rattle.lert_top.specs.Cones.{AreNew};
 ghost use Rattle.lert_top.specs.Page.{IsCut};
 ghost use Rattle.lert_top.specs.Router.{IsFinished, IsTaking};
-ghost use Rattle.lert_top.specs.Run.{AreInTime, HasRun, StatusShows, is_past_freshness, most_keys, text_of};
+ghost use Rattle.lert_top.specs.Run.{ArePrinted, HasRun, StatusShows, is_past_freshness, most_keys, text_of};
 ghost use Rattle.lert_top.specs.Word.{word_at};
 
 use crate::bays::{find_stale, open_bays, put_back_bays};
@@ -26,6 +26,7 @@ use crate::status::Status;
 use lert_base::{Settings, Words};
 use lert_bay::Bay;
 use lert_cone::Cone;
+use lert_cqf::Cqf;
 use lert_io::{Failed, OutOfMemory, Sink, Source};
 use lert_trace::{MOST_KEYS, TraceReader};
 use std::alloc::Global;
@@ -148,10 +149,10 @@ fn run_bays<S: Source, B: Bay, K: Sink>(
 fn run_cones<S: Source, B: Bay, K: Sink>(
     alloc: Global,
     settings: &Settings,
-    cones: Vec<Cone<B>>,
+    cones: Vec<Cone<B, Cqf>>,
     reader: &mut TraceReader<S>,
     out: &mut K,
-) -> (Vec<Cone<B>>, Status)
+) -> (Vec<Cone<B, Cqf>>, Status)
     requires number { length cones.items ≡ 2 ^ settings.now.cone_bits }
     requires new_cones { AreNew B.files B.leaves B.faults settings.now cones.items }
     requires unread { reader.old.given ≡ 0 }
@@ -206,10 +207,10 @@ fn report<S: Source, B: Bay, K: Sink>(
 fn print<B: Bay, K: Sink>(page: &mut Page, out: &mut K, router: &Router<B>) -> Result<(), Failed>
     requires empty { page.old ≡ [] }
     requires finished { IsFinished B.files B.leaves B.faults router.now }
-    ensures in_time { OnOk result (AreInTime router.now.settings router.now.keys (2 ^ router.now.settings.cone_bits)) }
-    ensures ok { (text : List ℕ) → K.taken out.old ≡ Some text →
-        OnOk result (K.taken out.new ≡ Some (text ++ text_of router.now.settings router.now.keys)) }
-    ensures cut { OnErr result (IsCut (K.taken out.old) (K.taken out.new)
+    ensures ok { (text : List ℕ) → K.taken out.old ≡ Some text → OnOk result ((cones : List Printed)
+        × ArePrinted B.files router.now.settings (bays_of router.now.cones.items) router.now.keys (2 ^ router.now.settings.cone_bits) cones
+        × (K.taken out.new ≡ Some (text ++ lines cones))) }
+    ensures cut { AreTold B.files (bays_of router.now.cones.items) → OnErr result (IsCut (K.taken out.old) (K.taken out.new)
         (text_of router.now.settings router.now.keys)) }
     ensures cause { HasCause (K.faults out.old) (K.faults out.new) result }
     ensures mark { K.mark out.new ≡ K.mark out.old }
@@ -218,7 +219,7 @@ fn print<B: Bay, K: Sink>(page: &mut Page, out: &mut K, router: &Router<B>) -> R
     let mut reports = 0;
     for number in 0..router.cones() {
         let cone = router.cone(number);
-        print_cone(page, out, number, cone.events(), cone.reports())?;
+        print_cone(page, out, number, cone.events(), cone.reports().list())?;
         let (events_here, reports_here) = numbers_of(router.settings(), cone);
         events += events_here;
         reports += reports_here;
@@ -227,11 +228,11 @@ fn print<B: Bay, K: Sink>(page: &mut Page, out: &mut K, router: &Router<B>) -> R
 }
 
 // How many events and reports a finished cone has.
-fn numbers_of<B: Bay>(settings: &Settings, cone: &Cone<B>) -> (u64, u64)
+fn numbers_of<B: Bay>(settings: &Settings, cone: &Cone<B, Cqf>) -> (u64, u64)
     requires settings { cone.now.listing.settings ≡ settings.now }
     requires finished { cone.now.state ≡ Finished }
     ensures events { result.0 ≡ length cone.now.listing.events }
-    ensures reports { result.1 ≡ length (reports_of cone.now.listing) }
+    ensures reports { result.1 ≡ length cone.now.reports }
     ensures few_events { result.0 ≤ 4294967295 }
     ensures few_reports { result.1 ≤ 4294967295 }
 {

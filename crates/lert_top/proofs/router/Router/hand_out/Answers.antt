@@ -8,7 +8,7 @@ use Rattle.lert_buffers.specs.Rings.{Rings, ring_of}
 use Rattle.lert_cone.specs.Stands.{Standing, StandsFor, is_broken}
 use Rattle.lert_journal.specs.Payload.{IsJournaled}
 use Rattle.lert_top.specs.Lanes.{AreLanes, open_cones}
-use Rattle.lert_top.proofs.BayLaws.{bay_at, later_cone, slice_get-set_same}
+use Rattle.lert_top.proofs.BayLaws.{later_cone}
 use Rattle.lert_top.proofs.ConeLaws.{call_later}
 use Rattle.lert_top.proofs.LaneLaws.{lane_journaled, lane_state, lanes_hand, lanes_partly, packet_with, partly_refused, refused_by}
 use Rattle.lert_top.proofs.router.Router.hand_out.Goals as goal
@@ -135,10 +135,5 @@ returns-in-Err-clause-refused g c =
     (λ same. let there = c.in-Err.ensures.closed.0 (ap Err same) in cc)
     (λ same. let there = c.in-Err.ensures.broken.0 (ap Err same) in let state_broken = ap is_broken state in cc)
     (λ n len same. let why = (c.in-Err.ensures.full n len).0 (ap Err same) in (why.1, why.2 ∙ keys_are, why.3))
-    (λ same. record {
-      before = old.bay;
-      now = new.bay;
-      was = bay_at router.cones.items at old found;
-      is = bay_at (set router.cones.items at new) at new (slice_get-set_same router.cones.items at new inside);
-      rose = (c.in-Err.ensures.bay_failed (ap Err same)).1;
-    })
+    (λ same. (c.in-Err.ensures.bay_failed (ap Err same)).1)
+    (λ file place same. (c.in-Err.ensures.unsound file place (ap Err same)).1)

@@ -1,0 +1,212 @@
+-- A cone with one more key, from what the parts of the step say.
+use Rattle.std.proofs.Common.{ℕ, ◌≡◌, ◌≢◌, ◌+◌, ◌-◌, ◌^◌, ◌<◌, ◌≤◌, suc, Bool, true, false, cond, List, [], ◌∷◌, ◌++◌, length, Result, Ok, Err, refl, ap, ap₂, sym, ◌∙◌, arith, subst, length-append}
+use Rattle.std.specs.Result.{IsErrAnd}
+use Rattle.lert_bay.specs.Files.{Files}
+use Rattle.lert_spec.specs.declared.numbers.Numbers.{Numbers}
+use Rattle.lert_spec.specs.declared.piece.Piece.{Piece}
+use Rattle.lert_spec.specs.declared.report.Report.{Report}
+use Rattle.lert_spec.specs.Bins.{tallied}
+use Rattle.lert_spec.specs.Edges.{edge, capacity}
+use Rattle.lert_spec.specs.Limits.{IsValid}
+use Rattle.lert_spec.specs.Look.{look, closing}
+use Rattle.lert_spec.specs.Mix.{cone_of, tail_of}
+use Rattle.lert_spec.specs.Table.{IsTable}
+use Rattle.lert_spec.proofs.TallyLaws.{IsTable-tallied}
+use Rattle.lert_levels.specs.declared.bin_at.BinAt.{BinAt}
+use Rattle.lert_levels.specs.declared.fault.FlushFault.{FlushFault}
+use Rattle.lert_levels.specs.declared.fault.FlushFault.TheVariants.{Failed as FlushFailed, Malformed, OutOfMemory as NoMemory}
+use Rattle.lert_levels.specs.Ranges.{young_bins}
+use Rattle.lert_levels.specs.Rows.{IsAt, HoldsBins}
+use Rattle.lert_levels.specs.Young.{Young, with_event}
+use Rattle.lert_cone.specs.declared.tally.TakeFault.{TakeFault}
+use Rattle.lert_cone.specs.declared.tally.TakeFault.TheVariants.{Unsound}
+use Rattle.lert_cone.specs.Due.{Dues, TookFrom, due_reports, started}
+use Rattle.lert_cone.specs.Listing.{Listing, reports_of}
+use Rattle.lert_cone.specs.Tally.{Tallied, IsCounted, IsHeld, AreYoung, totals_at, take_fault}
+use Rattle.lert_cone.proofs.KeyLemmas.{AreKeys-push, AreOfCone-push}
+use Rattle.lert_cone.proofs.RoomLaws.{look_fits, closing_fits}
+use Rattle.lert_cone.proofs.TallyLaws.{next_position, next_from, next_bins, frames_more}
+use Rattle.lert_cone.proofs.TotalLaws.{closing_is, totals_table, look_is}
+
+-- what a taker's state says of the definition: the totals of a start bring the definition's reports, or too many
+module _ (s : Numbers) (cone at : ℕ) (before all : List Report) (pieces : List Piece) (start due : Dues)
+    (settings : start.settings ≡ s) (same_cone : start.cone ≡ cone) (same_before : start.before ≡ before) (same_at : start.at ≡ at)
+    (table : IsTable (2 ^ (64 - s.cone_bits)) pieces) (from : TookFrom start due pieces) (all_are : all ≡ before ++ due_reports s cone before at pieces) where
+  shown : due.before ++ due_reports due.settings due.cone due.before due.at pieces ≡ all
+  shown = (λ i. (from.before_is ∙ same_before) i ++ due_reports ((from.settings_are ∙ settings) i) ((from.cone_is ∙ same_cone) i) ((from.before_is ∙ same_before) i) ((from.at_is ∙ same_at) i) pieces) ∙ sym all_are
+
+  table_there : IsTable (2 ^ (64 - due.settings.cone_bits)) pieces
+  table_there = subst (λ (t : Numbers). IsTable (2 ^ (64 - t.cone_bits)) pieces) (sym (from.settings_are ∙ settings)) table
+
+  pub reports_are : due.is_full ≡ false → due.reports ≡ all
+  reports_are room = from.took.reported table_there room ∙ shown
+
+  pub too_many : due.is_full ≡ true → s.room < length all
+  too_many full =
+      let over = from.took.too_many table_there full in
+      omega (arith, ap length shown, ap (λ (t : Numbers). t.room) (from.settings_are ∙ settings))
+
+-- the next key
+module _ (t : Tallied) (ls : Numbers) (levels_are : ls ≡ t.listing.settings) (valid : IsValid t.listing.settings) (named : t.listing.cone < 2 ^ t.listing.settings.cone_bits)
+    (young_settings : t.young.settings ≡ t.listing.settings) (counted : IsCounted t) (fits : length t.listing.events < capacity t.listing.settings)
+    (key tail m : ℕ) (tail_is : tail ≡ tail_of t.listing.settings key) (m_is : m ≡ suc (length t.listing.events)) (young : Young) (added : young ≡ with_event t.young tail m) where
+  abbrev all : List ℕ
+  all = t.listing.events ++ key ∷ []
+
+  pub all_long : length all ≡ m
+  all_long = omega (arith, length-append t.listing.events (key ∷ []))
+
+  pub rows_before : IsAt ls (m - 1) t.rows
+  rows_before =
+      let before : m - 1 ≡ length t.listing.events = omega arith in
+      subst (λ (v : Numbers). IsAt v (m - 1) t.rows) (sym levels_are) (subst (λ n. IsAt t.listing.settings n t.rows) (sym before) counted.rows)
+
+  added_here : young ≡ with_event t.young tail (suc (length t.listing.events))
+  added_here = added ∙ ap (with_event t.young tail) m_is
+
+  pub young_now : AreYoung ls all young.from young.bins
+  young_now =
+      let from_now = ap (λ (y : Young). y.from) added_here ∙ next_from t.listing.settings valid t.young t.listing.events key young_settings counted.from counted.to counted.bins.is fits tail in
+      record {
+        is = ap (λ (y : Young). y.bins) added_here
+            ∙ next_bins t.listing.settings valid t.young t.listing.events key young_settings counted.from counted.to counted.bins.is fits tail tail_is
+            ∙ ap₂ (λ (v : Numbers) (p : ℕ). young_bins v all p) (sym levels_are) (sym from_now);
+      }
+
+  pub frames_now : (seen : Files) → IsHeld t seen → HoldsBins ls all t.rows (seen 2)
+  frames_now seen held =
+      subst (λ (v : Numbers). HoldsBins v all t.rows (seen 2)) (sym levels_are)
+      (frames_more t.listing.settings valid t.listing.events (key ∷ []) t.rows (seen 2) counted.rows held.frames)
+
+  module _ (below : key < 2 ^ 64) (own : cone_of t.listing.settings key ≡ t.listing.cone) (start due : Dues) (start_is : start ≡ started t.due m) where
+    start_settings : start.settings ≡ t.listing.settings
+    start_settings = ap (λ (d : Dues). d.settings) start_is ∙ counted.due_settings
+
+    start_cone : start.cone ≡ t.listing.cone
+    start_cone = ap (λ (d : Dues). d.cone) start_is ∙ counted.due_cone
+
+    -- the parts after the step make a cone again
+    pub counted_next : (next : Young) (rows : List (List BinAt)) (after : Tallied) → after ≡ record { listing = record t.listing { events = all }; young = next; rows = rows; due = due } →
+        next.from ≡ edge ls 0 m → next.to ≡ m → AreYoung ls all (edge ls 0 m) next.bins → IsAt ls m rows → (pieces : List Piece) × TookFrom start due pieces → IsCounted after
+    counted_next next rows after after_is from to bins at took =
+        subst (λ (v : Tallied). IsCounted v) (sym after_is) (record {
+          fits = omega (arith, all_long, m_is);
+          keys = AreKeys-push t.listing.events key counted.keys below;
+          own = AreOfCone-push t.listing.settings t.listing.cone t.listing.events key counted.own own;
+          from = from ∙ ap₂ (λ (v : Numbers) (p : ℕ). edge v 0 p) levels_are (sym all_long);
+          to = to ∙ sym all_long;
+          bins = record { is = bins.is ∙ ap₂ (λ (v : Numbers) (p : ℕ). young_bins v all (edge v 0 p)) levels_are (sym all_long) };
+          rows = subst (λ n. IsAt t.listing.settings n rows) (sym all_long) (subst (λ (v : Numbers). IsAt v m rows) levels_are at);
+          due_settings = took.1.settings_are ∙ start_settings;
+          due_cone = took.1.cone_is ∙ start_cone;
+        })
+
+    module _ (still : t.listing.closed ≡ false) (seen : Files) (held : IsHeld t seen) (took : TookFrom start due (totals_at ls all m tail)) where
+      looked : t.due.reports ≡ look t.listing.settings t.listing.events
+      looked = held.reports ∙ ap (λ b. cond b (closing t.listing.settings t.listing.events) (look t.listing.settings t.listing.events)) still
+
+      totals : List Piece
+      totals = totals_at t.listing.settings all (suc (length t.listing.events)) (tail_of t.listing.settings key)
+
+      took_here : TookFrom start due (totals_at t.listing.settings all (suc (length t.listing.events)) (tail_of t.listing.settings key))
+      took_here = subst (λ (pieces : List Piece). TookFrom start due pieces)
+          ((λ i. totals_at (levels_are i) all (m_is i) (tail_is i))) took
+
+      table : IsTable (2 ^ (64 - t.listing.settings.cone_bits)) (totals_at t.listing.settings all (suc (length t.listing.events)) (tail_of t.listing.settings key))
+      table = totals_table t.listing.settings t.listing.cone t.listing.events valid named counted.keys counted.own key below own
+
+      all_looked : look t.listing.settings all ≡ look t.listing.settings t.listing.events ++ due_reports t.listing.settings t.listing.cone (look t.listing.settings t.listing.events) (suc (length t.listing.events)) (totals_at t.listing.settings all (suc (length t.listing.events)) (tail_of t.listing.settings key))
+      all_looked = look_is t.listing.settings t.listing.cone t.listing.events valid named counted.keys counted.own key below own
+
+      pub never_full : due.is_full ≡ true → ⊥
+      never_full full =
+          let over = too_many t.listing.settings t.listing.cone (suc (length t.listing.events)) (look t.listing.settings t.listing.events) (look t.listing.settings all)
+          (totals_at t.listing.settings all (suc (length t.listing.events)) (tail_of t.listing.settings key)) start due
+          start_settings start_cone (ap (λ (d : Dues). d.before) start_is ∙ looked) (ap (λ (d : Dues). d.at) start_is ∙ m_is) table took_here all_looked full in
+          omega (arith, look_fits t.listing.settings all valid (omega (arith, all_long, m_is)))
+
+      pub held_next : (next : Young) (rows : List (List BinAt)) (now : Tallied) (after : Files) → now ≡ record { listing = record t.listing { events = all }; young = next; rows = rows; due = due } →
+          due.is_full ≡ false → HoldsBins ls all rows (after 2) → IsHeld now after
+      held_next next rows now after now_is room frames =
+          subst (λ (v : Tallied). IsHeld v after) (sym now_is) (record {
+            frames = subst (λ (v : Numbers). HoldsBins v all rows (after 2)) levels_are frames;
+            reports = reports_are t.listing.settings t.listing.cone (suc (length t.listing.events)) (look t.listing.settings t.listing.events) (look t.listing.settings all)
+                (totals_at t.listing.settings all (suc (length t.listing.events)) (tail_of t.listing.settings key)) start due
+                start_settings start_cone (ap (λ (d : Dues). d.before) start_is ∙ looked) (ap (λ (d : Dues). d.at) start_is ∙ m_is) table took_here all_looked room
+                ∙ sym (ap (λ b. cond b (closing t.listing.settings all) (look t.listing.settings all)) still);
+          })
+
+-- the end
+module _ (t : Tallied) (ls : Numbers) (levels_are : ls ≡ t.listing.settings) (valid : IsValid t.listing.settings) (named : t.listing.cone < 2 ^ t.listing.settings.cone_bits) (counted : IsCounted t) where
+  pub rows_end : IsAt ls (length t.listing.events) t.rows
+  rows_end = subst (λ (v : Numbers). IsAt v (length t.listing.events) t.rows) (sym levels_are) counted.rows
+
+  pub fits_end : length t.listing.events ≤ capacity ls
+  fits_end = omega (arith, counted.fits, ap capacity levels_are)
+
+  pub from_end : t.young.from ≡ edge ls 0 (length t.listing.events)
+  from_end = counted.from ∙ ap (λ (v : Numbers). edge v 0 (length t.listing.events)) (sym levels_are)
+
+  pub young_end : AreYoung ls t.listing.events t.young.from t.young.bins
+  young_end = record { is = counted.bins.is ∙ (λ i. young_bins (sym levels_are i) t.listing.events (sym counted.from i)) }
+
+  pub frames_end : (seen : Files) → IsHeld t seen → HoldsBins ls t.listing.events t.rows (seen 2)
+  frames_end seen held = subst (λ (v : Numbers). HoldsBins v t.listing.events t.rows (seen 2)) (sym levels_are) held.frames
+
+  module _ (at : ℕ) (at_is : at ≡ length t.listing.events) (start due : Dues) (start_is : start ≡ started t.due at) where
+    settings_end : start.settings ≡ t.listing.settings
+    settings_end = ap (λ (d : Dues). d.settings) start_is ∙ counted.due_settings
+
+    cone_end : start.cone ≡ t.listing.cone
+    cone_end = ap (λ (d : Dues). d.cone) start_is ∙ counted.due_cone
+
+    pub counted_end : (pieces : List Piece) × TookFrom start due pieces → IsCounted (record { listing = record t.listing { closed = true }; young = t.young; rows = t.rows; due = due })
+    counted_end took = record {
+      fits = counted.fits;
+      keys = counted.keys;
+      own = counted.own;
+      from = counted.from;
+      to = counted.to;
+      bins = counted.bins;
+      rows = counted.rows;
+      due_settings = took.1.settings_are ∙ settings_end;
+      due_cone = took.1.cone_is ∙ cone_end;
+    }
+
+    module _ (still : t.listing.closed ≡ false) (seen : Files) (held : IsHeld t seen) (took : TookFrom start due (tallied ls t.listing.events)) where
+      looked_end : t.due.reports ≡ look t.listing.settings t.listing.events
+      looked_end = held.reports ∙ ap (λ b. cond b (closing t.listing.settings t.listing.events) (look t.listing.settings t.listing.events)) still
+
+      took_end : TookFrom start due (tallied t.listing.settings t.listing.events)
+      took_end = subst (λ (v : Numbers). TookFrom start due (tallied v t.listing.events)) levels_are took
+
+      pub never_full_end : due.is_full ≡ true → ⊥
+      never_full_end full =
+          let over = too_many t.listing.settings t.listing.cone (length t.listing.events) (look t.listing.settings t.listing.events) (closing t.listing.settings t.listing.events)
+          (tallied t.listing.settings t.listing.events) start due settings_end cone_end (ap (λ (d : Dues). d.before) start_is ∙ looked_end) (ap (λ (d : Dues). d.at) start_is ∙ at_is)
+          (IsTable-tallied t.listing.settings t.listing.events) took_end (closing_is t.listing.settings t.listing.cone t.listing.events valid named counted.keys counted.own) full in
+          omega (arith, closing_fits t.listing.settings t.listing.events valid counted.fits)
+
+      pub held_end : due.is_full ≡ false → IsHeld (record { listing = record t.listing { closed = true }; young = t.young; rows = t.rows; due = due }) seen
+      held_end room = record {
+        frames = held.frames;
+        reports = reports_are t.listing.settings t.listing.cone (length t.listing.events) (look t.listing.settings t.listing.events) (closing t.listing.settings t.listing.events)
+            (tallied t.listing.settings t.listing.events) start due settings_end cone_end (ap (λ (d : Dues). d.before) start_is ∙ looked_end) (ap (λ (d : Dues). d.at) start_is ∙ at_is)
+            (IsTable-tallied t.listing.settings t.listing.events) took_end (closing_is t.listing.settings t.listing.cone t.listing.events valid named counted.keys counted.own) room;
+      }
+
+-- a fault that isn't of a frame
+pub sound_fault : (fault : FlushFault) → ((at : ℕ) → fault ≢ Malformed at) → (file at : ℕ) → take_fault fault ≢ Unsound file at
+sound_fault FlushFailed fine file at same = cc
+sound_fault (Malformed place) fine file at same = fine place refl
+sound_fault NoMemory fine file at same = cc
+
+-- and what a call that hands on a fault answers
+pub err_is : (result : Result (Unit {0}) TakeFault) (fault : FlushFault) → IsErrAnd result (λ taken. taken ≡ take_fault fault) → ((at : ℕ) → fault ≢ Malformed at) → (file at : ℕ) → result ≢ Err (Unsound file at)
+err_is (Ok done) fault is fine file at same = cc
+err_is (Err taken) fault is fine file at same = sound_fault fault fine file at (sym is ∙ (let inner : taken ≡ Unsound file at = cc in inner))
+
+-- a call that hands on a fault as it is
+pub handed_on : (result : Result (Unit {0}) TakeFault) (fault : TakeFault) → IsErrAnd result (λ given. given ≡ fault) → Err fault ≡ result
+handed_on (Ok done) fault is = absurd is
+handed_on (Err given) fault is = ap Err (sym is)

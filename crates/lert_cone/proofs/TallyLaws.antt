@@ -1,0 +1,150 @@
+-- Level 0 and the rows as the next key comes.
+use Rattle.std.proofs.Common.{ℕ, ◌≡◌, ◌≢◌, ◌+◌, ◌-◌, ◌*◌, ◌/◌, ◌%◌, ◌<◌, ◌≤◌, zero, suc, Bool, cond, eqb, List, [], ◌∷◌, ◌++◌, length, drop, get_or, map, All, refl, ap, ap₂, sym, ◌∙◌, arith, inl, inr, subst, slice_range, sum_by, length-append}
+use Rattle.std.proofs.Math.Nat.{div-add-mod, mod-lt, mul-mod_left, mul_comm, mul-suc, suc-mul}
+use Rattle.std.proofs.lemmas.Bool.{cases_eq, cases_lt, eq-eqb, ne_eqb}
+use Rattle.std.proofs.lemmas.List.{get_or-map}
+use Rattle.lert_spec.specs.declared.numbers.Numbers.{Numbers}
+use Rattle.lert_spec.specs.declared.piece.Piece.{Piece}
+use Rattle.lert_spec.specs.Bins.{Bin, tallied}
+use Rattle.lert_spec.specs.Edges.{span, offset, edge, depth, lookback, capacity}
+use Rattle.lert_spec.specs.Limits.{IsValid}
+use Rattle.lert_spec.specs.Mix.{tail_of}
+use Rattle.lert_spec.specs.Table.{count_of}
+use Rattle.lert_spec.proofs.EdgeLaws.{span_pos, steps, moves_by_one}
+use Rattle.lert_spec.proofs.LookLaws.{slice_range-append}
+use Rattle.lert_frames.specs.Frame.{HoldsFrame}
+use Rattle.lert_frames.specs.Place.{frame_place}
+use Rattle.lert_levels.specs.declared.bin_at.BinAt.{BinAt}
+use Rattle.lert_levels.specs.Ranges.{Range, ranges, young_bins}
+use Rattle.lert_levels.specs.Rows.{IsAt, HoldsBins, range_of, row_of}
+use Rattle.lert_levels.specs.Young.{Young, IsNextPosition, with_event}
+use Rattle.lert_levels.proofs.RangeLaws.{IsCut, cuts_are, depth_moves, depth_stays, ranges_still}
+use Rattle.lert_levels.proofs.Windows.{young_cover}
+use Rattle.lert_levels.proofs.YoungBins.{young-added, young-dropped}
+use Rattle.lert_cone.specs.Tally.{AreYoung, totals_at}
+use Rattle.lert_cone.proofs.TotalLaws.{edge_within}
+
+module _ (s : Numbers) (valid : IsValid s) where
+  base : 1 ≤ s.base
+  base = omega (arith, valid.limits.base_from)
+
+  ratio : 1 ≤ s.ratio
+  ratio = omega (arith, valid.limits.ratio_from)
+
+  wide : 1 ≤ span s 0
+  wide = span_pos s 0 base ratio
+
+  -- an edge begins an interval
+  aligned : (n : ℕ) → edge s 0 n % span s 0 ≡ 0
+  aligned n = ap (λ p. p % span s 0) (mul_comm (span s 0) (steps s 0 n)) ∙ mul-mod_left (steps s 0 n) (span s 0)
+
+  -- and level 0 has a table for the bin of the next event
+  next_free : (n : ℕ) → suc n ≤ edge s 0 n + s.bins * span s 0
+  next_free n =
+      let parts = div-add-mod (n - offset s 0) (span s 0) in
+      let rest = mod-lt (n - offset s 0) {m = span s 0} wide in
+      let bins : s.bins ≡ suc (s.bins - 1) = omega (arith, valid.limits.bins_from) in
+      let all = ap (λ b. b * span s 0) bins ∙ suc-mul (s.bins - 1) (span s 0) in
+      omega arith
+
+  -- the next event, whose level 0 stands at the events so far
+  module _ (y : Young) (events : List ℕ) (key : ℕ) (settings : y.settings ≡ s) (from : y.from ≡ edge s 0 (length events)) (to : y.to ≡ length events)
+      (bins : y.bins ≡ young_bins s events (edge s 0 (length events))) (fits : length events < capacity s) where
+    pub next_position : IsNextPosition y (suc (length events))
+    next_position = record {
+      first = omega arith;
+      last = omega (arith, ap capacity settings);
+      follows = λ _. ap suc (sym to);
+      begins = λ same.
+          let here : length events ≡ edge s 0 (length events) = sym to ∙ sym same ∙ from in
+          ap (λ (t : Numbers). (suc (length events) - 1) % span t 0) settings
+          ∙ ap (λ p. p % span s 0) ((let before : suc (length events) - 1 ≡ length events = omega arith in before) ∙ here)
+          ∙ aligned (length events);
+      free = λ _. subst (λ (t : Numbers). suc (length events) ≤ y.from + t.bins * span t 0) (sym settings) (omega (arith, next_free (length events)));
+    }
+
+    pub next_from : (tail : ℕ) → (with_event y tail (suc (length events))).from ≡ edge s 0 (length events)
+    next_from tail =
+        elim (cases_eq y.from y.to) [
+          | inl same ↦ ap (λ t. cond {A = ℕ} t (suc (length events) - 1) y.from) (eq-eqb y.from y.to same) ∙ (let last : suc (length events) - 1 ≡ edge s 0 (length events) = omega arith in last)
+          | inr differs ↦ ap (λ t. cond {A = ℕ} t (suc (length events) - 1) y.from) (ne_eqb y.from y.to differs) ∙ from
+        ]
+
+    pub next_bins : (tail : ℕ) → tail ≡ tail_of s key → (with_event y tail (suc (length events))).bins ≡ young_bins s (events ++ key ∷ []) (edge s 0 (length events))
+    next_bins tail tail_is =
+        (λ i. (with_event (record { settings = settings i; from = y.from; to = y.to; bins = bins i }) (tail_is i) (suc (length events))).bins)
+        ∙ sym (young-added s events key (edge s 0 (length events)) wide (aligned (length events)) (edge_within s 0 (length events)))
+
+  -- a flush drops the oldest bin of level 0
+  pub dropped_edge : (m : ℕ) → depth s m ≢ 0 → edge s 0 m ≡ edge s 0 (m - 1) + span s 0
+  dropped_edge m deep =
+      let moves = depth_moves s base ratio 0 m (elim (cases_lt 0 (depth s m)) [
+        | inl some ↦ some
+        | inr none ↦ absurd (deep (omega arith))
+      ]) in
+      ap (λ c. span s 0 * c) (moves_by_one s base ratio 0 m moves) ∙ mul-suc (span s 0) (steps s 0 (m - 1))
+
+  pub flush_moves : (m : ℕ) → depth s m ≢ 0 → edge s 0 m ≢ edge s 0 (m - 1)
+  flush_moves m deep same = omega (arith, dropped_edge m deep, wide)
+
+  pub dropped_bins : (events : List ℕ) (m : ℕ) → length events ≡ m → depth s m ≢ 0 → drop 1 (young_bins s events (edge s 0 (m - 1))) ≡ young_bins s events (edge s 0 m)
+  dropped_bins events m long deep =
+      let next = dropped_edge m deep in
+      ap (drop 1) (young-dropped s events (edge s 0 (m - 1)) wide (aligned (m - 1)) (omega (arith, edge_within s 0 m)))
+      ∙ ap (young_bins s events) (sym next)
+
+  -- where no edge moves that of level 0 stays
+  pub edge_still : (m : ℕ) → depth s m ≡ 0 → edge s 0 m ≡ edge s 0 (m - 1)
+  edge_still m shallow = depth_stays s base ratio 0 m (omega (arith, valid.limits.levels_from)) (omega (arith, shallow))
+
+  -- and the total that is brought is that of level 0
+  pub young_total : (events : List ℕ) (m tail found from : ℕ) (bins : List Bin) → length events ≡ m → from ≡ edge s 0 (m - 1) → depth s m ≡ 0 → AreYoung s events from bins →
+      found ≡ sum_by (λ (bin : Bin). count_of bin.pieces tail) bins → record { tail = tail; count = found } ∷ [] ≡ totals_at s events m tail
+  young_total events m tail found from bins long from_is shallow young found_is =
+      let early = edge_within s 0 (m - 1) in
+      let within : from ≤ length events = omega arith in
+      let here : found ≡ count_of (tallied s (slice_range events (edge s 0 (m - 1)) m)) tail =
+      found_is ∙ ap (sum_by (λ (bin : Bin). count_of bin.pieces tail)) young.is
+      ∙ young_cover s events tail from base ratio within
+      ∙ ap₂ (λ a b. count_of (tallied s (slice_range events a b)) tail) from_is long in
+      ap (λ c. record { tail = tail; count = c } ∷ []) here
+      ∙ ap (λ t. cond {A = List Piece} t (record { tail = tail; count = count_of (tallied s (slice_range events (edge s 0 (m - 1)) m)) tail } ∷ []) (tallied s (slice_range events (lookback s m) m)))
+      (sym (eq-eqb (depth s m) 0 shallow))
+
+  -- at a flush they are those of its window
+  pub flush_total : (events : List ℕ) (m tail : ℕ) → depth s m ≢ 0 → tallied s (slice_range events (lookback s m) m) ≡ totals_at s events m tail
+  flush_total events m tail deep =
+      ap (λ t. cond {A = List Piece} t (record { tail = tail; count = count_of (tallied s (slice_range events (edge s 0 (m - 1)) m)) tail } ∷ []) (tallied s (slice_range events (lookback s m) m)))
+      (sym (ne_eqb (depth s m) 0 deep))
+
+  -- where no edge moves the rows stay
+  pub rows_still : (m : ℕ) (rows : List (List BinAt)) → depth s m ≡ 0 → IsAt s (m - 1) rows → IsAt s m rows
+  rows_still m rows shallow at = record {
+    levels = at.levels;
+    each = λ level first last. at.each level first last ∙ sym (ranges_still s base ratio level m first last (omega (arith, shallow)));
+  }
+
+  -- a bin of the rows ends at the events so far
+  ends : (n : ℕ) (rows : List (List BinAt)) → IsAt s n rows → (level : ℕ) → 1 ≤ level → level ≤ s.levels → (k : ℕ) (d : BinAt) → k < length (row_of rows level) → (get_or (row_of rows level) k d).to ≤ n
+  ends n rows at level first last k d within =
+      let row = row_of rows level in
+      let is = at.each level first last in
+      let long : length (ranges s n level) ≡ length row = ap length (sym is) ∙ length_map row in
+      let cut = cuts_are (span s level) (edge s level n) (edge s (level - 1) n) 0 (suc (n / span s level)) k (range_of d) (omega (arith, long)) in
+      let here : get_or (ranges s n level) k (range_of d) ≡ range_of (get_or row k d) = ap (λ rs. get_or rs k (range_of d)) (sym is) ∙ get_or-map range_of row k d (range_of d) within in
+      omega (arith, ap (λ (r : Range). r.to) here, cut.end, edge_within s (level - 1) n)
+    where
+      length_map : (row : List BinAt) → length (map range_of row) ≡ length row
+      length_map [] = refl
+      length_map (bin ∷ row) = ap suc (length_map row)
+
+  -- later events change no bin of the rows
+  module _ (events others : List ℕ) (rows : List (List BinAt)) (file : List ℕ) (at : IsAt s (length events) rows) where
+    slice_same : (level : ℕ) → 1 ≤ level → level ≤ s.levels → (k : ℕ) (d : BinAt) → k < length (row_of rows level) →
+        slice_range (events ++ others) (get_or (row_of rows level) k d).from (get_or (row_of rows level) k d).to ≡ slice_range events (get_or (row_of rows level) k d).from (get_or (row_of rows level) k d).to
+    slice_same level first last k d within =
+        slice_range-append events others (get_or (row_of rows level) k d).from (get_or (row_of rows level) k d).to (ends (length events) rows at level first last k d within)
+
+    pub frames_more : HoldsBins s events rows file → HoldsBins s (events ++ others) rows file
+    frames_more holds level first last k d within =
+        subst (λ keys. HoldsFrame (frame_place s level (get_or (row_of rows level) k d).frame) file (tallied s keys)) (sym (slice_same level first last k d within)) (holds level first last k d within)

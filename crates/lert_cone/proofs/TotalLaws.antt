@@ -1,0 +1,125 @@
+-- The reports that the next key brings, and those of the end, by the totals that a taker gets.
+use Rattle.std.proofs.Common.{ℕ, ◌≡◌, ◌+◌, ◌-◌, ◌*◌, ◌^◌, ◌<◌, ◌≤◌, zero, suc, Bool, true, false, cond, eqb, leb, not, ◌&&◌, List, [], ◌∷◌, ◌++◌, length, map, filter, ap, ap₂, sym, ◌∙◌, arith, inl, inr, subst, slice_range, length-append}
+use Rattle.std.proofs.Math.Nat.{mul-div-le}
+use Rattle.std.proofs.Math.Seq.{take-length}
+use Rattle.std.proofs.lemmas.Bool.{cases_eq, eq-eqb, ne_eqb}
+use Rattle.std.proofs.lemmas.Slice.{between_from_start}
+use Rattle.lert_spec.specs.declared.numbers.Numbers.{Numbers}
+use Rattle.lert_spec.specs.declared.piece.Piece.{Piece}
+use Rattle.lert_spec.specs.declared.report.Report.{Report}
+use Rattle.lert_spec.specs.Bins.{tallied}
+use Rattle.lert_spec.specs.Counts.{count}
+use Rattle.lert_spec.specs.Edges.{span, offset, edge, depth, lookback, capacity}
+use Rattle.lert_spec.specs.Limits.{IsValid}
+use Rattle.lert_spec.specs.Look.{is_listed, look, closing}
+use Rattle.lert_spec.specs.Mix.{cone_of, tail_of}
+use Rattle.lert_spec.specs.Table.{count_of, IsTable}
+use Rattle.lert_spec.proofs.CountLaws.{count-append, count-push}
+use Rattle.lert_spec.proofs.EdgeLaws.{deepest_reaches}
+use Rattle.lert_spec.proofs.LookLaws.{AreKeys, look-push, look-push_between}
+use Rattle.lert_spec.proofs.MixLaws.{tail_below}
+use Rattle.lert_spec.proofs.TailLaws.{AreOfCone, key_with, is_due_piece, due_by_tails}
+use Rattle.lert_spec.proofs.TallyLaws.{IsTable-tallied}
+use Rattle.lert_spec.proofs.WindowLaws.{count_parts, count_never_falls}
+use Rattle.lert_cone.specs.Due.{due_reports}
+use Rattle.lert_cone.specs.Tally.{totals_at}
+use Rattle.lert_cone.proofs.KeyLemmas.{AreKeys-push, AreOfCone-push, count-tail, key_with-tail}
+
+pub edge_within : (s : Numbers) (level n : ℕ) → edge s level n ≤ n
+edge_within s level n = omega (arith, mul-div-le (n - offset s level) (span s level))
+
+-- where a flush has no depth, the edge of level 0 stays
+pub young_stays : (s : Numbers) (n : ℕ) → IsValid s → depth s (suc n) ≡ 0 → edge s 0 (suc n) ≡ edge s 0 n
+young_stays s n valid shallow =
+    let same : suc n - 1 ≡ n = omega arith in
+    elim (cases_eq (edge s 0 (suc n)) (edge s 0 (suc n - 1))) [
+      | inl stays ↦ stays ∙ ap (edge s 0) same
+      | inr moves ↦ absurd (omega (
+        arith,
+        deepest_reaches s (omega (arith, valid.limits.base_from)) (omega (arith, valid.limits.ratio_from)) s.levels 0 (suc n) (omega (arith, valid.limits.levels_from)) moves,
+      ))
+    ]
+
+module _ (s : Numbers) (cone : ℕ) (events : List ℕ) (valid : IsValid s) (named : cone < 2 ^ s.cone_bits) (keys : AreKeys events) (own : AreOfCone s cone events) where
+  bits : s.cone_bits ≤ 64
+  bits = omega (arith, valid.limits.cone_bits_to)
+
+  -- the reports of the end are those of all counts
+  pub closing_is : closing s events ≡ look s events ++ due_reports s cone (look s events) (length events) (tallied s events)
+  closing_is =
+      let n = length events in
+      let due = due_by_tails s cone s.threshold events 0 n (look s events) bits named valid.limits.threshold_from keys own in
+      ap (λ ks. look s events ++ map (λ key. record { key = key; at = n }) ks) due
+      ∙ ap (λ xs. look s events ++ due_reports s cone (look s events) n (tallied s xs)) (between_from_start events n ∙ take-length events)
+
+  module _ (key : ℕ) (below : key < 2 ^ 64) (mine : cone_of s key ≡ cone) where
+    n : ℕ
+    n = length events
+
+    abbrev all : List ℕ
+    all = events ++ key ∷ []
+
+    abbrev tail : ℕ
+    tail = tail_of s key
+
+    abbrev window : ℕ
+    window = count_of (tallied s (slice_range all (edge s 0 (suc (length events) - 1)) (suc (length events)))) tail
+
+    all_keys : AreKeys all
+    all_keys = AreKeys-push events key keys below
+
+    all_own : AreOfCone s cone all
+    all_own = AreOfCone-push s cone events key own mine
+
+    before_is : suc (length events) - 1 ≡ length events
+    before_is = omega arith
+
+    counted : window ≡ count key all (edge s 0 (length events)) (suc (length events))
+    counted = count-tail s cone key (edge s 0 (suc (length events) - 1)) (suc (length events)) all below mine all_keys all_own
+        ∙ ap (λ p. count key all (edge s 0 p) (suc (length events))) before_is
+
+    -- the key itself is counted
+    some : 1 ≤ window
+    some =
+        let from = edge s 0 (length events) in
+        let early = edge_within s 0 (length events) in
+        let longer : length all ≡ suc (length events) = omega (arith, length-append events (key ∷ [])) in
+        let whole = ap (count key all 0) (sym longer) ∙ count-push key events key ∙ ap (λ t. count key events 0 (length events) + cond {A = ℕ} t 1 0) (eq-eqb key key (λ _. key)) in
+        let first = count-append key events (key ∷ []) from early in
+        omega (arith, counted, whole, first, count_never_falls key events from (length events) early, count_parts key all from (suc (length events)) (omega (arith, early)))
+
+    pub totals_table : IsTable (2 ^ (64 - s.cone_bits)) (totals_at s all (suc (length events)) tail)
+    totals_table =
+        elim (cases_eq (depth s (suc (length events))) 0) [
+          | inl shallow ↦ subst (λ t. IsTable (2 ^ (64 - s.cone_bits)) (cond t (record { tail = tail; count = window } ∷ []) (tallied s (slice_range all (lookback s (suc (length events))) (suc (length events))))))
+              (sym (eq-eqb (depth s (suc (length events))) 0 shallow)) (omega arith, tail_below s key, some, tt)
+          | inr deep ↦ subst (λ t. IsTable (2 ^ (64 - s.cone_bits)) (cond t (record { tail = tail; count = window } ∷ []) (tallied s (slice_range all (lookback s (suc (length events))) (suc (length events))))))
+              (sym (ne_eqb (depth s (suc (length events))) 0 deep)) (IsTable-tallied s (slice_range all (lookback s (suc (length events))) (suc (length events))))
+        ]
+
+    -- the report of one piece
+    one_report : (c at : ℕ) (listed : List Report) → due_reports s cone listed at (record { tail = tail; count = c } ∷ []) ≡ cond {A = List Report} (leb s.threshold c && not (is_listed key listed)) (record { key = key; at = at } ∷ []) []
+    one_report c at listed =
+        let same = key_with-tail s cone bits named key below mine in
+        ap (λ k. map (λ x. record { key = x; at = at }) (map (λ (p : Piece). key_with s cone p.tail) (cond (leb s.threshold c && not (is_listed k listed)) (record { tail = tail; count = c } ∷ []) []))) same
+        ∙ shown (leb s.threshold c && not (is_listed key listed))
+      where
+        shown : (t : Bool) → map (λ x. record { key = x; at = at }) (map (λ (p : Piece). key_with s cone p.tail) (cond t (record { tail = tail; count = c } ∷ []) [])) ≡ cond {A = List Report} t (record { key = key; at = at } ∷ []) []
+        shown true = ap (λ k. record { key = k; at = at } ∷ []) (key_with-tail s cone bits named key below mine)
+        shown false = λ _. []
+
+    pub look_is : look s all ≡ look s events ++ due_reports s cone (look s events) (suc (length events)) (totals_at s all (suc (length events)) tail)
+    look_is =
+        let m = suc (length events) in
+        let reports = look s events in
+        elim (cases_eq (depth s m) 0) [
+          | inl shallow ↦
+              look-push_between s events key valid keys below (young_stays s (length events) valid shallow)
+              ∙ ap (λ c. reports ++ cond {A = List Report} (leb s.threshold c && not (is_listed key reports)) (record { key = key; at = m } ∷ []) []) (sym counted)
+              ∙ ap (λ rs. reports ++ rs) (sym (one_report window m reports))
+              ∙ ap (λ t. reports ++ due_reports s cone reports m (cond t (record { tail = tail; count = window } ∷ []) (tallied s (slice_range all (lookback s m) m)))) (sym (eq-eqb (depth s m) 0 shallow))
+          | inr deep ↦
+              look-push s events key valid.limits.threshold_from keys below
+              ∙ ap (λ ks. reports ++ map (λ k. record { key = k; at = m }) ks) (due_by_tails s cone s.threshold all (lookback s m) m reports bits named valid.limits.threshold_from all_keys all_own)
+              ∙ ap (λ t. reports ++ due_reports s cone reports m (cond t (record { tail = tail; count = window } ∷ []) (tallied s (slice_range all (lookback s m) m)))) (sym (ne_eqb (depth s m) 0 deep))
+        ]

@@ -1,0 +1,19 @@
+use Rattle.std.proofs.Common.{rules, arith, ap, sym, subst, ◌∙◌, ◌≡◌, ◌≤◌, Some, None}
+use Rattle.lert_spec.specs.declared.numbers.Numbers.{Numbers}
+use Rattle.lert_cone.specs.Due.{Dues, due_key}
+use Rattle.lert_cone.proofs.DueLaws.{due_key-listed, due_key-fresh}
+use Rattle.lert_cone.proofs.due.Due.due_key.Goals as goal
+
+pub returns-then-has-clause-value : goal.returns-then-has-clause-value
+returns-then-has-clause-value g c = rw (← c.self.view_is) (
+    let below = rw (← c.self.view_is) at c.requires in
+    let enough : c.self.inside.settings.threshold ≤ c.args.piece.now.count = omega (arith, c.if-piece-numbers.false, ap (λ (s : Numbers). s.threshold) c.numbers.ensures.value) in
+    due_key-listed c.self.inside.settings c.self.inside.cone c.self.inside.store.reports c.args.piece.now (omega (arith, c.self.invariant.valid.limits.cone_bits_to)) c.self.invariant.named below
+    c.key_of-key.result c.key_of-key.ensures.only enough (sym c.has.ensures ∙ c.if-has.true))
+
+pub returns-clause-value : goal.returns-clause-value
+returns-clause-value g c = rw (← c.self.view_is) (
+    let below = rw (← c.self.view_is) at c.requires in
+    let enough : c.self.inside.settings.threshold ≤ c.args.piece.now.count = omega (arith, c.if-piece-numbers.false, ap (λ (s : Numbers). s.threshold) c.numbers.ensures.value) in
+    due_key-fresh c.self.inside.settings c.self.inside.cone c.self.inside.store.reports c.args.piece.now (omega (arith, c.self.invariant.valid.limits.cone_bits_to)) c.self.invariant.named below
+    c.key_of-key.result c.key_of-key.ensures.only enough (sym c.has.ensures ∙ c.if-has.false))

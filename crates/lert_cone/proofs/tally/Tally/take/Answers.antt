@@ -1,0 +1,80 @@
+use Rattle.std.proofs.Common.{rules, ◌≡◌, ◌≢◌, ℕ, ◌+◌, ◌-◌, ◌<◌, List, ◌∷◌, ◌++◌, [], suc, true, false, length, ap, sym, ◌∙◌, subst, arith, Option, Result, Ok, Err, Some}
+use Rattle.lert_spec.specs.Edges.{capacity}
+use Rattle.lert_spec.specs.Mix.{cone_of}
+use Rattle.lert_cone.specs.declared.tally.TakeFault.{TakeFault}
+use Rattle.lert_cone.specs.Due.{Dues, TookFrom, started}
+use Rattle.lert_cone.specs.Tally.{Tallied, IsCounted, IsHeld, due_in, totals_at}
+use Rattle.lert_cone.proofs.TakeLaws.{rows_before, young_now, frames_now, all_long, counted_next, held_next, never_full, sound_fault, err_is}
+use Rattle.lert_cone.proofs.tally.Tally.take.Goals as goal
+
+pub bring-due-requires-clause-rows : goal.bring-due-requires-clause-rows
+bring-due-requires-clause-rows g c =
+    let t : Tallied = record { listing = record { settings = c.self.inside.settings; cone = c.self.inside.cone; events = c.self.inside.taken; closed = c.self.inside.closed }; young = c.self.inside.zero; rows = c.self.inside.levels.rows; due = due_in c.self.inside.due } in
+    let counted : IsCounted t = subst (λ (v : Tallied). IsCounted v) (sym c.self.view_is) c.requires.counted in
+    let fits : length c.self.inside.taken < capacity c.self.inside.settings = subst (λ (v : Tallied). length v.listing.events < capacity v.listing.settings) (sym c.self.view_is) c.requires.fits in
+    let m_is : c.self.inside.len + 1 ≡ suc (length c.self.inside.taken) = omega (arith, c.self.invariant.len_is) in
+    rows_before t c.self.inside.levels.settings c.self.invariant.levels_settings c.self.invariant.valid c.self.invariant.named c.self.invariant.young_settings counted fits c.args.key c.tail_of-tail.result (c.self.inside.len + 1) c.tail_of-tail.ensures.value m_is c.add.new.self c.add.ensures
+
+pub returns-in_err-result-clause-sound : goal.returns-in_err-result-clause-sound
+returns-in_err-result-clause-sound g c = λ seen told is_held file at same.
+    let t : Tallied = record { listing = record { settings = c.self.inside.settings; cone = c.self.inside.cone; events = c.self.inside.taken; closed = c.self.inside.closed }; young = c.self.inside.zero; rows = c.self.inside.levels.rows; due = due_in c.self.inside.due } in
+    let counted : IsCounted t = subst (λ (v : Tallied). IsCounted v) (sym c.self.view_is) c.requires.counted in
+    let fits : length c.self.inside.taken < capacity c.self.inside.settings = subst (λ (v : Tallied). length v.listing.events < capacity v.listing.settings) (sym c.self.view_is) c.requires.fits in
+    let m_is : c.self.inside.len + 1 ≡ suc (length c.self.inside.taken) = omega (arith, c.self.invariant.len_is) in
+    let held : IsHeld t seen = subst (λ (v : Tallied). IsHeld v seen) (sym c.self.view_is) is_held in
+    let young = young_now t c.self.inside.levels.settings c.self.invariant.levels_settings c.self.invariant.valid c.self.invariant.named c.self.invariant.young_settings counted fits c.args.key c.tail_of-tail.result (c.self.inside.len + 1) c.tail_of-tail.ensures.value m_is c.add.new.self c.add.ensures in
+    let frames = frames_now t c.self.inside.levels.settings c.self.invariant.levels_settings c.self.invariant.valid c.self.invariant.named c.self.invariant.young_settings counted fits c.args.key c.tail_of-tail.result (c.self.inside.len + 1) c.tail_of-tail.ensures.value m_is c.add.new.self c.add.ensures seen held in
+    let long = all_long t c.self.inside.levels.settings c.self.invariant.levels_settings c.self.invariant.valid c.self.invariant.named c.self.invariant.young_settings counted fits c.args.key c.tail_of-tail.result (c.self.inside.len + 1) c.tail_of-tail.ensures.value m_is c.add.new.self c.add.ensures in
+    let fine = c.bring-due.ensures.sound (c.self.inside.taken ++ c.args.key ∷ []) long seen told frames in
+    err_is c.from_residual.result c.in_err-result.field-0.0 c.from_residual.ensures.1 (λ place is. fine place (c.in_err-result.was ∙ ap Err is)) file at same
+
+pub returns-then-is_full-clause-sound : goal.returns-then-is_full-clause-sound
+returns-then-is_full-clause-sound g c = λ seen told is_held file at same.
+    let t : Tallied = record { listing = record { settings = c.self.inside.settings; cone = c.self.inside.cone; events = c.self.inside.taken; closed = c.self.inside.closed }; young = c.self.inside.zero; rows = c.self.inside.levels.rows; due = due_in c.self.inside.due } in
+    let counted : IsCounted t = subst (λ (v : Tallied). IsCounted v) (sym c.self.view_is) c.requires.counted in
+    let fits : length c.self.inside.taken < capacity c.self.inside.settings = subst (λ (v : Tallied). length v.listing.events < capacity v.listing.settings) (sym c.self.view_is) c.requires.fits in
+    let m_is : c.self.inside.len + 1 ≡ suc (length c.self.inside.taken) = omega (arith, c.self.invariant.len_is) in
+    let own : cone_of c.self.inside.settings c.args.key ≡ c.self.inside.cone = subst (λ (v : Tallied). cone_of v.listing.settings c.args.key ≡ v.listing.cone) (sym c.self.view_is) c.requires.own in
+    let still : c.self.inside.closed ≡ false = subst (λ (v : Tallied). v.listing.closed ≡ false) (sym c.self.view_is) c.requires.still in
+    let start_is : c.begin.new.self ≡ started (due_in c.self.inside.due) (c.self.inside.len + 1) = c.begin.ensures.begun ∙ ap (λ (d : Option Dues). started (due_in d) (c.self.inside.len + 1)) (sym c.in-Some.is ∙ c.take.ensures.value) in
+    let held : IsHeld t seen = subst (λ (v : Tallied). IsHeld v seen) (sym c.self.view_is) is_held in
+    let young = young_now t c.self.inside.levels.settings c.self.invariant.levels_settings c.self.invariant.valid c.self.invariant.named c.self.invariant.young_settings counted fits c.args.key c.tail_of-tail.result (c.self.inside.len + 1) c.tail_of-tail.ensures.value m_is c.add.new.self c.add.ensures in
+    let frames = frames_now t c.self.inside.levels.settings c.self.invariant.levels_settings c.self.invariant.valid c.self.invariant.named c.self.invariant.young_settings counted fits c.args.key c.tail_of-tail.result (c.self.inside.len + 1) c.tail_of-tail.ensures.value m_is c.add.new.self c.add.ensures seen held in
+    let long = all_long t c.self.inside.levels.settings c.self.invariant.levels_settings c.self.invariant.valid c.self.invariant.named c.self.invariant.young_settings counted fits c.args.key c.tail_of-tail.result (c.self.inside.len + 1) c.tail_of-tail.ensures.value m_is c.add.new.self c.add.ensures in
+    let took = rw c.in_ok-result.was at (c.bring-due.ensures.totals (c.self.inside.taken ++ c.args.key ∷ []) long young seen told frames) in
+    never_full t c.self.inside.levels.settings c.self.invariant.levels_settings c.self.invariant.valid c.self.invariant.named c.self.invariant.young_settings counted fits c.args.key c.tail_of-tail.result (c.self.inside.len + 1) c.tail_of-tail.ensures.value m_is c.add.new.self c.add.ensures c.ranges.key.fits own c.begin.new.self c.bring-due.result.0 start_is still seen held took (sym c.is_full-is_full.ensures ∙ c.if-is_full.true)
+
+pub returns-clause-counted : goal.returns-clause-counted
+returns-clause-counted g c =
+    let t : Tallied = record { listing = record { settings = c.self.inside.settings; cone = c.self.inside.cone; events = c.self.inside.taken; closed = c.self.inside.closed }; young = c.self.inside.zero; rows = c.self.inside.levels.rows; due = due_in c.self.inside.due } in
+    let counted : IsCounted t = subst (λ (v : Tallied). IsCounted v) (sym c.self.view_is) c.requires.counted in
+    let fits : length c.self.inside.taken < capacity c.self.inside.settings = subst (λ (v : Tallied). length v.listing.events < capacity v.listing.settings) (sym c.self.view_is) c.requires.fits in
+    let m_is : c.self.inside.len + 1 ≡ suc (length c.self.inside.taken) = omega (arith, c.self.invariant.len_is) in
+    let own : cone_of c.self.inside.settings c.args.key ≡ c.self.inside.cone = subst (λ (v : Tallied). cone_of v.listing.settings c.args.key ≡ v.listing.cone) (sym c.self.view_is) c.requires.own in
+    let still : c.self.inside.closed ≡ false = subst (λ (v : Tallied). v.listing.closed ≡ false) (sym c.self.view_is) c.requires.still in
+    let start_is : c.begin.new.self ≡ started (due_in c.self.inside.due) (c.self.inside.len + 1) = c.begin.ensures.begun ∙ ap (λ (d : Option Dues). started (due_in d) (c.self.inside.len + 1)) (sym c.in-Some.is ∙ c.take.ensures.value) in
+    let long = all_long t c.self.inside.levels.settings c.self.invariant.levels_settings c.self.invariant.valid c.self.invariant.named c.self.invariant.young_settings counted fits c.args.key c.tail_of-tail.result (c.self.inside.len + 1) c.tail_of-tail.ensures.value m_is c.add.new.self c.add.ensures in
+    let young = young_now t c.self.inside.levels.settings c.self.invariant.levels_settings c.self.invariant.valid c.self.invariant.named c.self.invariant.young_settings counted fits c.args.key c.tail_of-tail.result (c.self.inside.len + 1) c.tail_of-tail.ensures.value m_is c.add.new.self c.add.ensures in
+    let from = rw c.in_ok-result.was at c.bring-due.ensures.from in
+    let to = rw c.in_ok-result.was at c.bring-due.ensures.to in
+    let bins = rw c.in_ok-result.was at (c.bring-due.ensures.bins (c.self.inside.taken ++ c.args.key ∷ []) long young) in
+    let rows = rw c.in_ok-result.was at c.bring-due.ensures.rows in
+    let took = rw c.in_ok-result.was at c.bring-due.ensures.took in
+    counted_next t c.self.inside.levels.settings c.self.invariant.levels_settings c.self.invariant.valid c.self.invariant.named c.self.invariant.young_settings counted fits c.args.key c.tail_of-tail.result (c.self.inside.len + 1) c.tail_of-tail.ensures.value m_is c.add.new.self c.add.ensures c.ranges.key.fits own c.begin.new.self c.bring-due.result.0 start_is c.bring-due.new.zero c.bring-due.new.levels.rows (record { listing = record { settings = c.self.inside.settings; cone = c.self.inside.cone; events = c.push.new.self; closed = c.self.inside.closed }; young = c.bring-due.new.zero; rows = c.bring-due.new.levels.rows; due = c.bring-due.result.0 }) (ap (λ (keys : List ℕ). record { listing = record { settings = c.self.inside.settings; cone = c.self.inside.cone; events = keys; closed = c.self.inside.closed }; young = c.bring-due.new.zero; rows = c.bring-due.new.levels.rows; due = c.bring-due.result.0 }) c.push.ensures) from to bins rows took
+
+pub returns-clause-held : goal.returns-clause-held
+returns-clause-held g c = λ seen told is_held after told_after.
+    let t : Tallied = record { listing = record { settings = c.self.inside.settings; cone = c.self.inside.cone; events = c.self.inside.taken; closed = c.self.inside.closed }; young = c.self.inside.zero; rows = c.self.inside.levels.rows; due = due_in c.self.inside.due } in
+    let counted : IsCounted t = subst (λ (v : Tallied). IsCounted v) (sym c.self.view_is) c.requires.counted in
+    let fits : length c.self.inside.taken < capacity c.self.inside.settings = subst (λ (v : Tallied). length v.listing.events < capacity v.listing.settings) (sym c.self.view_is) c.requires.fits in
+    let m_is : c.self.inside.len + 1 ≡ suc (length c.self.inside.taken) = omega (arith, c.self.invariant.len_is) in
+    let own : cone_of c.self.inside.settings c.args.key ≡ c.self.inside.cone = subst (λ (v : Tallied). cone_of v.listing.settings c.args.key ≡ v.listing.cone) (sym c.self.view_is) c.requires.own in
+    let still : c.self.inside.closed ≡ false = subst (λ (v : Tallied). v.listing.closed ≡ false) (sym c.self.view_is) c.requires.still in
+    let start_is : c.begin.new.self ≡ started (due_in c.self.inside.due) (c.self.inside.len + 1) = c.begin.ensures.begun ∙ ap (λ (d : Option Dues). started (due_in d) (c.self.inside.len + 1)) (sym c.in-Some.is ∙ c.take.ensures.value) in
+    let held : IsHeld t seen = subst (λ (v : Tallied). IsHeld v seen) (sym c.self.view_is) is_held in
+    let young = young_now t c.self.inside.levels.settings c.self.invariant.levels_settings c.self.invariant.valid c.self.invariant.named c.self.invariant.young_settings counted fits c.args.key c.tail_of-tail.result (c.self.inside.len + 1) c.tail_of-tail.ensures.value m_is c.add.new.self c.add.ensures in
+    let frames = frames_now t c.self.inside.levels.settings c.self.invariant.levels_settings c.self.invariant.valid c.self.invariant.named c.self.invariant.young_settings counted fits c.args.key c.tail_of-tail.result (c.self.inside.len + 1) c.tail_of-tail.ensures.value m_is c.add.new.self c.add.ensures seen held in
+    let long = all_long t c.self.inside.levels.settings c.self.invariant.levels_settings c.self.invariant.valid c.self.invariant.named c.self.invariant.young_settings counted fits c.args.key c.tail_of-tail.result (c.self.inside.len + 1) c.tail_of-tail.ensures.value m_is c.add.new.self c.add.ensures in
+    let took = rw c.in_ok-result.was at (c.bring-due.ensures.totals (c.self.inside.taken ++ c.args.key ∷ []) long young seen told frames) in
+    let stay = rw c.in_ok-result.was at (c.bring-due.ensures.holds (c.self.inside.taken ++ c.args.key ∷ []) long young seen told frames) in
+    held_next t c.self.inside.levels.settings c.self.invariant.levels_settings c.self.invariant.valid c.self.invariant.named c.self.invariant.young_settings counted fits c.args.key c.tail_of-tail.result (c.self.inside.len + 1) c.tail_of-tail.ensures.value m_is c.add.new.self c.add.ensures c.ranges.key.fits own c.begin.new.self c.bring-due.result.0 start_is still seen held took c.bring-due.new.zero c.bring-due.new.levels.rows (record { listing = record { settings = c.self.inside.settings; cone = c.self.inside.cone; events = c.push.new.self; closed = c.self.inside.closed }; young = c.bring-due.new.zero; rows = c.bring-due.new.levels.rows; due = c.bring-due.result.0 }) after (ap (λ (keys : List ℕ). record { listing = record { settings = c.self.inside.settings; cone = c.self.inside.cone; events = keys; closed = c.self.inside.closed }; young = c.bring-due.new.zero; rows = c.bring-due.new.levels.rows; due = c.bring-due.result.0 }) c.push.ensures) (sym c.is_full-is_full.ensures ∙ c.if-is_full.false) (stay after told_after)

@@ -1,0 +1,78 @@
+-- What the counts and reports of a cone are seen as, and what they hold.
+use Rattle.std.specs.Prelude.{ℕ, ◌≡◌, ◌+◌, ◌-◌, ◌^◌, ◌<◌, ◌≤◌, ◌==◌, List, [], ◌∷◌, length, slice_range, Option, Some, None, if◌then◌else◌}
+use Rattle.lert_bay.specs.Files.{Files}
+use Rattle.lert_spec.specs.declared.numbers.Numbers.{Numbers}
+use Rattle.lert_spec.specs.declared.piece.Piece.{Piece}
+use Rattle.lert_spec.specs.declared.report.Report.{Report}
+use Rattle.lert_spec.specs.Bins.{Bin, tallied}
+use Rattle.lert_spec.specs.Edges.{edge, depth, lookback, capacity}
+use Rattle.lert_spec.specs.Limits.{IsValid}
+use Rattle.lert_spec.specs.Table.{count_of}
+use Rattle.lert_spec.proofs.LookLaws.{AreKeys}
+use Rattle.lert_spec.proofs.TailLaws.{AreOfCone}
+use Rattle.lert_levels.specs.declared.bin_at.BinAt.{BinAt}
+use Rattle.lert_levels.specs.Ranges.{young_bins}
+use Rattle.lert_levels.specs.Rows.{IsAt, HoldsBins}
+use Rattle.lert_levels.specs.Young.{Young}
+use Rattle.lert_levels.specs.declared.fault.FlushFault.{FlushFault}
+use Rattle.lert_levels.specs.declared.fault.FlushFault.TheVariants.{Failed as FlushFailed, Malformed, OutOfMemory as NoMemory}
+use Rattle.lert_cone.specs.declared.tally.TakeFault.{TakeFault}
+use Rattle.lert_cone.specs.declared.tally.TakeFault.TheVariants.{Failed, Unsound, OutOfMemory}
+use Rattle.lert_cone.specs.Due.{Dues, unbegun}
+use Rattle.lert_cone.specs.Listing.{Listing, reports_of}
+
+-- a cone's keys, level 0, the rows of the older levels, and its reports
+pub record Tallied : Type 0 where
+  pub listing : Listing
+  pub young : Young
+  pub rows : List (List BinAt)
+  pub due : Dues
+
+-- the reports, where no merge has them
+abbrev pub due_in : Option Dues → Dues
+due_in None = unbegun
+due_in (Some due) = due
+
+-- what is so between any two calls
+pub record IsTally (tally : Tallied) (levels : Numbers) (due : Option Dues) (len : ℕ) : Type 0 where
+  pub valid : IsValid tally.listing.settings
+  pub named : tally.listing.cone < 2 ^ tally.listing.settings.cone_bits
+  pub young_settings : tally.young.settings ≡ tally.listing.settings
+  pub levels_settings : levels ≡ tally.listing.settings
+  pub there : due ≡ Some tally.due
+  pub len_is : len ≡ length tally.listing.events
+
+-- these are the bins of level 0 above a position
+pub record AreYoung (s : Numbers) (events : List ℕ) (from : ℕ) (bins : List Bin) : Type 0 where
+  pub is : bins ≡ young_bins s events from
+
+-- where no call broke off in the middle: the keys are the cone's own and no more than it takes, level 0 has the bins above
+-- its edge, and the rows those of the older levels
+pub record IsCounted (tally : Tallied) : Type 0 where
+  pub fits : length tally.listing.events ≤ capacity tally.listing.settings
+  pub keys : AreKeys tally.listing.events
+  pub own : AreOfCone tally.listing.settings tally.listing.cone tally.listing.events
+  pub from : tally.young.from ≡ edge tally.listing.settings 0 (length tally.listing.events)
+  pub to : tally.young.to ≡ length tally.listing.events
+  pub bins : AreYoung tally.listing.settings tally.listing.events (edge tally.listing.settings 0 (length tally.listing.events)) tally.young.bins
+  pub rows : IsAt tally.listing.settings (length tally.listing.events) tally.rows
+  pub due_settings : tally.due.settings ≡ tally.listing.settings
+  pub due_cone : tally.due.cone ≡ tally.listing.cone
+
+-- with these files, where they are told: the named frames hold the older levels, and the reports are those of the definition
+pub record IsHeld (tally : Tallied) (seen : Files) : Type 0 where
+  pub frames : HoldsBins tally.listing.settings tally.listing.events tally.rows (seen 2)
+  pub reports : tally.due.reports ≡ reports_of tally.listing
+
+-- the totals that the last of m events brings, its tail being this one: where no edge moves that of its tail in level 0, and
+-- at a flush those of all tails in the window that it looks back to
+abbrev pub totals_at : Numbers → List ℕ → ℕ → ℕ → List Piece
+totals_at s events m tail =
+    if depth s m == 0 then record { tail = tail; count = count_of (tallied s (slice_range events (edge s 0 (m - 1)) m)) tail } ∷ []
+    else tallied s (slice_range events (lookback s m) m)
+
+-- why a key isn't taken, where a flush or a scan refused: a frame stands in the file of frames, whose number is 2
+abbrev pub take_fault : FlushFault → TakeFault
+take_fault FlushFailed = Failed
+take_fault (Malformed at) = Unsound 2 at
+take_fault NoMemory = OutOfMemory
