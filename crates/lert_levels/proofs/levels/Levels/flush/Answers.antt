@@ -69,3 +69,8 @@ returns-clause-told g c seen told events of =
     IfTold (g.B.Bay.files c.land.new.bay) (λ after. HoldsBins v.settings events (moved v.settings m v.rows) (after 2)))
     c.in_ok-made.ensures.same (c.in_ok-land.ensures.holds seen (c.in_ok-made.ensures.only_read.seen ∙ told) events) in
     (holds of.held news, made.1)
+
+pub returns-in_err-made-clause-sound : goal.returns-in_err-made-clause-sound
+returns-in_err-made-clause-sound g c seen told held stand =
+    let p = err_from_is_err_and c.from_residual.result c.from_residual.ensures.1 in
+    rw (p.1, p.2) (c.in_err-made.ensures.sound seen told held stand)
