@@ -1,21 +1,20 @@
 -- What the bins of several levels count together, and what the new bins of a flush hold.
-use Rattle.std.proofs.Common.{ℕ, ◌≡◌, ◌≢◌, ◌+◌, ◌-◌, ◌^◌, ◌<◌, ◌≤◌, zero, suc, Bool, true, false, cond, List, [], ◌∷◌, ◌++◌, length, map, get_or, take, drop, refl, ap, ap₂, sym, ◌∙◌, arith, inl, inr, subst, sum_by, flat_map, slice_range, append-nil, length-append}
-use Rattle.std.proofs.lemmas.Bool.{cases_eq, cases_Bool, eq-eqb, ne_eqb, lt-ltb, eqb-true, eqb-false}
+use Rattle.std.proofs.Common.{ℕ, ◌≡◌, ◌+◌, ◌-◌, ◌^◌, ◌≤◌, zero, suc, List, [], ◌∷◌, ◌++◌, length, map, get_or, take, ap, sym, ◌∙◌, arith, subst, sum_by, flat_map, slice_range, append-nil}
 use Rattle.std.proofs.lemmas.Grind.{flat_map-append}
-use Rattle.std.proofs.lemmas.List.{take_more, take_all, length-map, get_or-map, get_or_at}
-use Rattle.std.proofs.lemmas.List.Sums.{sum_by-append, sum_by-cons}
+use Rattle.std.proofs.lemmas.List.{take_more, take_all}
+use Rattle.std.proofs.lemmas.List.Sums.{sum_by-append}
 use Rattle.lert_spec.specs.declared.numbers.Numbers.{Numbers}
 use Rattle.lert_spec.specs.declared.piece.Piece.{Piece}
 use Rattle.lert_spec.specs.Bins.{Bin, tallied}
-use Rattle.lert_spec.specs.Edges.{span, offset, edge, depth, lookback, capacity}
+use Rattle.lert_spec.specs.Edges.{edge, depth, lookback, capacity}
 use Rattle.lert_spec.specs.Limits.{IsValid}
-use Rattle.lert_spec.specs.Table.{count_of, total, IsTable}
-use Rattle.lert_spec.proofs.EdgeLaws.{edge_never_falls, edge_descends_to, deepest_within, span_pos}
+use Rattle.lert_spec.specs.Table.{count_of, IsTable}
+use Rattle.lert_spec.proofs.EdgeLaws.{edge_descends_to, deepest_within, span_pos}
 use Rattle.lert_levels.specs.declared.bin_at.BinAt.{BinAt}
-use Rattle.lert_levels.specs.Ranges.{Range, ranges, young_bins}
-use Rattle.lert_levels.specs.Rows.{range_of, row_of, IsAt, newest, begins, arrived, tallied_in, tallied_to}
-use Rattle.lert_levels.proofs.RangeLaws.{Enters, enters, edge_within, oldest_edge}
-use Rattle.lert_levels.proofs.Windows.{counted, counted-none, counted-join, ranges_cover, sum_by-map, young_cover, window_table, slice_range-join}
+use Rattle.lert_levels.specs.Ranges.{Range, young_bins}
+use Rattle.lert_levels.specs.Rows.{range_of, row_of, IsAt, tallied_in, tallied_to}
+use Rattle.lert_levels.proofs.RangeLaws.{edge_within, oldest_edge}
+use Rattle.lert_levels.proofs.Windows.{counted, counted-none, counted-join, ranges_cover, sum_by-map, young_cover, window_table}
 
 abbrev of_tail : ℕ → List Piece → ℕ
 of_tail tail pieces = count_of pieces tail

@@ -2,7 +2,7 @@
 use Rattle.std.proofs.Common.{ℕ, ◌≡◌, ◌≢◌, ◌+◌, ◌-◌, ◌*◌, ◌/◌, ◌%◌, ◌<◌, ◌≤◌, zero, suc, Bool, true, false, cond, ltb, List, [], ◌∷◌, ◌++◌, length, map, filter, min, max, drop, refl, ap, ap₂, sym, ◌∙◌, arith, inl, inr, subst}
 use Rattle.std.specs.List.{All, range_with_len}
 use Rattle.std.proofs.lemmas.Bool.{cases_lt, cases_eq, lt-ltb, le-ltb, eq-eqb, ne_eqb}
-use Rattle.std.proofs.lemmas.List.{map-append}
+use Rattle.std.proofs.lemmas.List.{map-append, nil_from_length}
 use Rattle.std.proofs.lemmas.List.Elements.{All-nil, All-cons}
 use Rattle.std.proofs.Math.Nat.{mul-div-le, div-add-mod, mod-lt, mul-suc, mul_comm, mul-le-mul_left, mul-le-mul_right, mul_assoc, suc-mul, le-div_iff_mul-le, div-eq_of_lt-le, add-zero, add-suc}
 use Rattle.lert_spec.specs.declared.numbers.Numbers.{Numbers}
@@ -113,6 +113,11 @@ cuts_few wide low high a b first (suc n) within =
 
 pub edge_within : (s : Numbers) (level n : ℕ) → edge s level n ≤ n
 edge_within s level n = omega (arith, mul-div-le (n - offset s level) (span s level))
+
+-- none between edges that lie no further apart
+pub cuts_none : (wide low high n : ℕ) → high ≤ low → range_cuts wide low high 0 n ≡ []
+cuts_none wide low high n empty =
+    nil_from_length (range_cuts wide low high 0 n) (omega (arith, cuts_few wide low high 0 0 0 n (λ k some. absurd (omega arith))))
 
 -- the ranges between the edges of two levels
 abbrev pub between : Numbers → ℕ → ℕ → ℕ → List Range
@@ -319,11 +324,12 @@ module _ (s : Numbers) (base : 1 ≤ s.base) (ratio : 1 ≤ s.ratio) where
       let low_is : edge s level (m - 1) ≡ j * width = mul_comm width j in
       let next_is : edge s level m ≡ suc j * width = ap (λ steps. width * steps) by_one ∙ mul_comm width (suc j) in
       let within = goes_within below m some less in
-      let reached : suc j ≤ (m - 1) / width = (le-div_iff_mul-le {k = width} {x = suc j} {y = m - 1} (wide level)).1 (omega (arith, edge_within s below (m - 1))) in
-      (range_cuts width (suc j * width) high 0 n,
-      ap (λ l. range_cuts width l high 0 n) low_is
-      ∙ oldest_goes s width high j n (wide level) (omega arith) (omega arith)
-      ∙ ap₂ (λ a b. record { from = a; to = b } ∷ range_cuts width (suc j * width) high 0 n) (sym low_is) (sym next_is))
+      let reached : suc j ≤ (m - 1) / width = (le-div_iff_mul-le {k = width} {x = suc j} {y = m - 1} (wide level)).1 (omega (arith, edge_within s below (m - 1))) in (
+        range_cuts width (suc j * width) high 0 n,
+        ap (λ l. range_cuts width l high 0 n) low_is
+            ∙ oldest_goes s width high j n (wide level) (omega arith) (omega arith)
+            ∙ ap₂ (λ a b. record { from = a; to = b } ∷ range_cuts width (suc j * width) high 0 n) (sym low_is) (sym next_is),
+      )
 
   pub oldest_is : (level m : ℕ) → 1 ≤ level → 1 ≤ m → 2 ≤ s.bins → level < depth s m →
       (rest : List Range) × (ranges s (m - 1) level ≡ record { from = edge s level (m - 1); to = edge s level m } ∷ rest)
@@ -342,11 +348,12 @@ module _ (s : Numbers) (base : 1 ≤ s.base) (ratio : 1 ≤ s.ratio) where
       let by_one = moves_by_one s base ratio 0 m (depth_moves 0 m (omega arith)) in
       let low_is : edge s 0 (m - 1) ≡ j * width = mul_comm width j in
       let next_is : edge s 0 m ≡ suc j * width = ap (λ steps. width * steps) by_one ∙ mul_comm width (suc j) in
-      let reached : suc j ≤ m / width = (le-div_iff_mul-le {k = width} {x = suc j} {y = m} (wide 0)).1 (omega (arith, edge_within s 0 m)) in
-      (range_cuts width (suc j * width) m 0 n,
-      ap (λ l. range_cuts width l m 0 n) low_is
-      ∙ oldest_goes s width m j n (wide 0) (omega (arith, edge_within s 0 m)) (omega arith)
-      ∙ ap₂ (λ a b. record { from = a; to = b } ∷ range_cuts width (suc j * width) m 0 n) (sym low_is) (sym next_is))
+      let reached : suc j ≤ m / width = (le-div_iff_mul-le {k = width} {x = suc j} {y = m} (wide 0)).1 (omega (arith, edge_within s 0 m)) in (
+        range_cuts width (suc j * width) m 0 n,
+        ap (λ l. range_cuts width l m 0 n) low_is
+            ∙ oldest_goes s width m j n (wide 0) (omega (arith, edge_within s 0 m)) (omega arith)
+            ∙ ap₂ (λ a b. record { from = a; to = b } ∷ range_cuts width (suc j * width) m 0 n) (sym low_is) (sym next_is),
+      )
 
   -- a level has no more bins than the settings say
   few_between : (below n : ℕ) → 1 ≤ s.bins → length (between s below (suc below) n) ≤ s.bins

@@ -1,8 +1,8 @@
 -- What a flush makes of the rows: the bins of the levels after it, each in a frame of its own.
-use Rattle.std.proofs.Common.{ℕ, ◌≡◌, ◌≢◌, ◌+◌, ◌-◌, ◌*◌, ◌/◌, ◌%◌, ◌^◌, ◌<◌, ◌≤◌, zero, suc, Bool, true, false, cond, ltb, eqb, List, [], ◌∷◌, ◌++◌, length, map, get_or, take, drop, Some, None, refl, ap, ap₂, sym, ◌∙◌, arith, inl, inr, ◌⊎◌, subst, find, unwrap_or, count_by, append-nil, length-append, length-take, length-drop}
+use Rattle.std.proofs.Common.{ℕ, ◌≡◌, ◌+◌, ◌-◌, ◌/◌, ◌%◌, ◌<◌, ◌≤◌, zero, suc, Bool, true, false, cond, ltb, eqb, List, [], ◌∷◌, ◌++◌, length, map, get_or, take, drop, Some, ap, ap₂, sym, ◌∙◌, arith, inl, inr, subst, find, unwrap_or, count_by, append-nil, length-append}
 use Rattle.std.specs.List.{All, range_with_len}
-use Rattle.std.proofs.lemmas.Bool.{cases_lt, cases_eq, cases_order, cases_Bool, lt-ltb, le-ltb, eq-eqb, ne_eqb, eqb-true, eqb-false}
-use Rattle.std.proofs.lemmas.List.{length-map, map_push, take-map, drop-map, get_or-map, get_or_at, take_at, get_or_default, take-append-drop}
+use Rattle.std.proofs.lemmas.Bool.{cases_lt, cases_eq, cases_order, cases_Bool, lt-ltb, le-ltb, eq-eqb, ne_eqb, eqb-true, eqb-false, false≢true}
+use Rattle.std.proofs.lemmas.List.{length-map, map_push, take-map, drop-map, get_or-map, get_or_at, take_at, take-append-drop}
 use Rattle.std.proofs.lemmas.List.Elements.{All-append, All-take, All-drop, All-cons, All-nil}
 use Rattle.std.proofs.lemmas.List.FromFn.{get_or-map-range_with_len, length-map-range_with_len}
 use Rattle.std.proofs.lemmas.List.Sums.{sum_by-cons, sum_by-append, count_by-le-length}
@@ -105,7 +105,7 @@ lowest_is_free row =
 
 -- ---- the bins after a flush
 
-row_of-moved : (s : Numbers) (m : ℕ) (rows : List (List BinAt)) (level : ℕ) → 1 ≤ level → level ≤ length rows → row_of (moved s m rows) level ≡ moved_row s m level (row_of rows level)
+pub row_of-moved : (s : Numbers) (m : ℕ) (rows : List (List BinAt)) (level : ℕ) → 1 ≤ level → level ≤ length rows → row_of (moved s m rows) level ≡ moved_row s m level (row_of rows level)
 row_of-moved s m rows level from within =
     get_or-map-range_with_len (λ i. moved_row s m i (row_of rows i)) 1 (length rows) (level - 1) level [] (omega arith) (omega arith)
 
@@ -116,6 +116,8 @@ length-moved s m rows = length-map-range_with_len (λ i. moved_row s m i (row_of
 record IsSplit (s : Numbers) (m level : ℕ) (row : List BinAt) (front : List Range) (start : ℕ) : Type 0 where
   kept_are : map range_of (kept s m level row) ≡ front
   starts : (arrived s m level row).from ≡ start
+  some : begins s m level ≡ false → 1 ≤ length row
+  ends : begins s m level ≡ false → (newest row).to ≡ edge s (level - 1) (m - 1)
 
 split_row : (s : Numbers) (m level : ℕ) (row : List BinAt) → map range_of row ≡ ranges s (m - 1) level → (e : Enters s m (level - 1) level) → IsSplit s m level row e.front e.start
 split_row s m level row are e =
@@ -133,6 +135,8 @@ split_row s m level row are e =
                 ∙ ap (λ t. e.front ++ cond t (last ∷ []) []) (le-ltb e.start high (omega arith))
                 ∙ append-nil e.front;
             starts = ap (λ t. cond t high (newest row).from) whole ∙ sym here;
+            some = λ not_so. absurd (false≢true (sym not_so ∙ whole));
+            ends = λ not_so. absurd (false≢true (sym not_so ∙ whole));
           })
       | inr some ↦ (
           let part = ne_eqb rest 0 some in
@@ -140,20 +144,23 @@ split_row s m level row are e =
           let len : length row ≡ length e.front + 1 = omega (arith, length-map row range_of, ap (length {A = Range}) with_last, length-append e.front (last ∷ [])) in
           let before_last : length e.front ≡ length row - 1 = omega arith in
           let d : BinAt = record { from = 0; to = 0; frame = 0 } in
+          let last_is : range_of (newest row) ≡ last =
+          sym (get_or-map range_of row (length row - 1) d (range_of d) (omega arith))
+          ∙ ap (λ rs. get_or rs (length row - 1) (range_of d)) with_last
+          ∙ get_or_at e.front last [] (range_of d) (length row - 1) before_last in
           record {
+            some = λ _. omega arith;
+            ends = λ _. ap (λ (r : Range). r.to) last_is;
             kept_are = ap (λ t. map range_of (cond t row (take (length row - 1) row))) part
                 ∙ sym (take-map range_of (length row - 1) row)
                 ∙ ap (take (length row - 1)) with_last
                 ∙ take_at e.front (last ∷ []) (length row - 1) before_last;
-            starts = ap (λ t. cond t high (newest row).from) part
-                ∙ ap (λ (r : Range). r.from) (sym (get_or-map range_of row (length row - 1) d (range_of d) (omega arith))
-                ∙ ap (λ rs. get_or rs (length row - 1) (range_of d)) with_last
-                ∙ get_or_at e.front last [] (range_of d) (length row - 1) before_last);
+            starts = ap (λ t. cond t high (newest row).from) part ∙ ap (λ (r : Range). r.from) last_is;
           })
     ]
 
 -- what holds of each positions of a row
-All-ranges : (P : Range → Type 0) (row : List BinAt) → All P (map range_of row) → All (λ bin. P (range_of bin)) row
+pub All-ranges : (P : Range → Type 0) (row : List BinAt) → All P (map range_of row) → All (λ bin. P (range_of bin)) row
 All-ranges P row all k d below = subst P (get_or-map range_of row k d (range_of d) below) (all k (range_of d) (omega (arith, length-map row range_of)))
 
 -- fewer bins name a frame no more often
@@ -196,6 +203,14 @@ All-kept P s m level row all =
       | inr part ↦ subst (λ t. All P (cond t row (take (length row - 1) row))) (sym part) (All-take P (length row - 1) row all)
     ]
 
+-- the bin that is written at m
+pub record Arrives (s : Numbers) (m level : ℕ) (row : List BinAt) : Type 0 where
+  pub ordered : (arrived s m level row).from ≤ edge s (level - 1) (m - 1)
+  pub further : edge s (level - 1) (m - 1) < edge s (level - 1) m
+  pub fits : edge s (level - 1) m - (arrived s m level row).from ≤ span s level
+  pub some : begins s m level ≡ false → 1 ≤ length row
+  pub ends : begins s m level ≡ false → (newest row).to ≡ edge s (level - 1) (m - 1)
+
 module _ (s : Numbers) (valid : IsValid s) (m : ℕ) (first : 1 ≤ m) (fits : m ≤ capacity s) where
   base : 1 ≤ s.base
   base = omega (arith, valid.limits.base_from)
@@ -231,7 +246,7 @@ module _ (s : Numbers) (valid : IsValid s) (m : ℕ) (first : 1 ≤ m) (fits : m
   IsAt-moved rows at = record {
     levels = length-moved s m rows ∙ at.levels;
     each = λ level from within.
-    ap (map range_of) (row_of-moved s m rows level from (omega (arith, at.levels))) ∙ row_moves level (row_of rows level) from within (at.each level from within);
+        ap (map range_of) (row_of-moved s m rows level from (omega (arith, at.levels))) ∙ row_moves level (row_of rows level) from within (at.each level from within);
   }
 
   -- a row that has the positions of a level after the flush, its bins in frames of their own
@@ -276,5 +291,18 @@ module _ (s : Numbers) (valid : IsValid s) (m : ℕ) (first : 1 ≤ m) (fits : m
   AreRows-moved rows at are = record {
     levels = length-moved s m rows ∙ at.levels;
     each = λ level from within.
-    subst (IsRow s level) (sym (row_of-moved s m rows level from (omega (arith, at.levels)))) (IsRow-moved level (row_of rows level) from within (at.each level from within) (are.each level from within));
+        subst (IsRow s level) (sym (row_of-moved s m rows level from (omega (arith, at.levels)))) (IsRow-moved level (row_of rows level) from within (at.each level from within) (are.each level from within));
   }
+
+  -- the bin that is written: from where the newest one begins, if it is joined with that, up to the edge of the younger level
+  pub arrives : (level : ℕ) (row : List BinAt) → 1 ≤ level → level ≤ depth s m → map range_of row ≡ ranges s (m - 1) level → Arrives s m level row
+  arrives level row from reached are =
+      let e = enters s base ratio level m from first (omega (arith, positive)) reached in
+      let parts = split_row s m level row are e in
+      record {
+        ordered = omega (arith, parts.starts, e.begun);
+        further = e.further;
+        fits = omega (arith, parts.starts, e.fits);
+        some = parts.some;
+        ends = parts.ends;
+      }

@@ -1,10 +1,9 @@
 -- The bins of level 0 as events come and the oldest one is dropped.
-use Rattle.std.proofs.Common.{ℕ, zero, suc, ◌≡◌, ◌+◌, ◌-◌, ◌*◌, ◌/◌, ◌%◌, ◌<◌, ◌≤◌, cond, ltb, max, min, List, [], ◌∷◌, ◌++◌, length, refl, ap, ap₂, sym, ◌∙◌, arith, inl, inr, slice_range, length-append, append-nil, take, drop, length-drop}
+use Rattle.std.proofs.Common.{ℕ, zero, suc, ◌≡◌, ◌+◌, ◌-◌, ◌*◌, ◌/◌, ◌%◌, ◌≤◌, cond, ltb, max, min, List, [], ◌∷◌, ◌++◌, length, refl, ap, ap₂, sym, ◌∙◌, arith, inl, inr, slice_range, length-append, append-nil, take, drop, length-drop}
 use Rattle.std.proofs.Math.Nat.{div-add-mod, mod-lt, mul-le-mul_right, mul-mod_left, suc-mul, mul_comm}
 use Rattle.std.proofs.lemmas.Bool.{lt-ltb, le-ltb, cases_lt}
 use Rattle.std.proofs.lemmas.List.{drop-append-le, take_all}
 use Rattle.lert_spec.specs.declared.numbers.Numbers.{Numbers}
-use Rattle.lert_spec.specs.declared.piece.Piece.{Piece}
 use Rattle.lert_spec.specs.Bins.{Bin, tallied}
 use Rattle.lert_spec.specs.Edges.{span}
 use Rattle.lert_spec.specs.Mix.{tail_of}
@@ -13,7 +12,7 @@ use Rattle.lert_spec.proofs.BinLaws.{made, cuts, cuts-newest, cuts-front, cuts-a
 use Rattle.lert_spec.proofs.EdgeLaws.{div_never_falls}
 use Rattle.lert_spec.proofs.TallyLaws.{tallied-push}
 use Rattle.lert_levels.specs.Ranges.{young_bins}
-use Rattle.lert_levels.specs.Young.{grown, begun, added}
+use Rattle.lert_levels.specs.Young.{grown, added}
 use Rattle.lert_levels.proofs.YoungLaws.{added-begin, added-grow}
 
 -- only the last bin grows
@@ -56,9 +55,9 @@ young-added s events key from positive aligned within =
     let front = cuts s events wide from n 0 k in
     let start = max from (k * wide) in
     let begins : from ≤ k * wide = (
-      let whole = div-add-mod from wide in
-      let fewer = mul-le-mul_right wide (div_never_falls from n wide positive within) in
-      omega (arith, mul_comm wide (from / wide))
+    let whole = div-add-mod from wide in
+    let fewer = mul-le-mul_right wide (div_never_falls from n wide positive within) in
+    omega (arith, mul_comm wide (from / wide))
     ) in
     let start_is : start ≡ k * wide = omega arith in
     let later = div_never_falls n (suc n) wide positive (omega arith) in

@@ -1,7 +1,7 @@
 -- How the tables of level 0 change, as its bins.
-use Rattle.std.proofs.Common.{ℕ, zero, suc, ◌≡◌, ◌≢◌, ◌+◌, ◌-◌, ◌*◌, ◌/◌, ◌%◌, ◌^◌, ◌<◌, ◌≤◌, cond, eqb, ltb, min, List, [], ◌∷◌, ◌++◌, length, get_or, set, map, drop, refl, ap, ap₂, sym, ◌∙◌, subst, arith, inl, inr, sum_by, length-set, length-append, get_or-set_same, get_or-set_other, take}
+use Rattle.std.proofs.Common.{ℕ, zero, suc, ◌≡◌, ◌+◌, ◌-◌, ◌*◌, ◌/◌, ◌%◌, ◌^◌, ◌<◌, ◌≤◌, cond, eqb, ltb, min, List, [], ◌∷◌, ◌++◌, length, get_or, set, map, drop, refl, ap, ap₂, sym, ◌∙◌, subst, arith, inl, inr, sum_by, length-set, length-append, get_or-set_same, get_or-set_other, take}
 use Rattle.std.proofs.Math.Nat.{div-add-mod, mod-lt, mul-le-mul_right, suc-mul, pow-zero}
-use Rattle.std.proofs.lemmas.Bool.{lt-ltb, le-ltb, eq-eqb, ne_eqb, cases_lt, cases_eq, cases_order}
+use Rattle.std.proofs.lemmas.Bool.{lt-ltb, le-ltb, eq-eqb, ne_eqb, cases_lt, cases_eq}
 use Rattle.std.proofs.Math.ListN.{get_or-append}
 use Rattle.std.proofs.Math.Seq.{get_or-append_seam}
 use Rattle.std.proofs.lemmas.List.{map-set, map-append, get_or-map, length-map, take_all}
@@ -23,11 +23,11 @@ bins_of-none wide from to [] over = refl
 bins_of-none wide from to (p ∷ tables) over =
     ap (λ t. cond {A = List Bin} t (record { from = from; to = min to (from + wide); pieces = p } ∷ bins_of wide (from + wide) to tables) []) (le-ltb from to over)
 
-bins_of-some : (wide from to : ℕ) (p : List Piece) (tables : List (List Piece)) → from < to → bins_of wide from to (p ∷ tables) ≡ record { from = from; to = min to (from + wide); pieces = p } ∷ bins_of wide (from + wide) to tables
+pub bins_of-some : (wide from to : ℕ) (p : List Piece) (tables : List (List Piece)) → from < to → bins_of wide from to (p ∷ tables) ≡ record { from = from; to = min to (from + wide); pieces = p } ∷ bins_of wide (from + wide) to tables
 bins_of-some wide from to p tables under =
     ap (λ t. cond {A = List Bin} t (record { from = from; to = min to (from + wide); pieces = p } ∷ bins_of wide (from + wide) to tables) []) (lt-ltb from to under)
 
-bins_of-length : (wide from to : ℕ) (tables : List (List Piece)) → from < to → 1 ≤ length tables → 1 ≤ length (bins_of wide from to tables)
+pub bins_of-length : (wide from to : ℕ) (tables : List (List Piece)) → from < to → 1 ≤ length tables → 1 ≤ length (bins_of wide from to tables)
 bins_of-length wide from to [] under some = absurd (omega arith)
 bins_of-length wide from to (p ∷ tables) under some = omega (arith, ap length (bins_of-some wide from to p tables under))
 
@@ -131,11 +131,11 @@ pub record Adds {T : Type 0} (pieces : T → List Piece) (room tail_bits : T →
   pub positive : 1 ≤ wide
   pub at_is : at ≡ (m - 1 - begin) / wide
 
-pub adds : {T : Type 0} (pieces : T → List Piece) (room tail_bits : T → ℕ) {s : Numbers} {tables : List T} {from to : ℕ} {young : Young} {m begin wide : ℕ} →
+pub adds : {T : Type 0} (pieces : T → List Piece) (room tail_bits : T → ℕ) {s : Numbers} {tables : List T} {from to : ℕ} {young : Young} {m begin wide at : ℕ} →
     AreFilled pieces room tail_bits s tables from to → record { settings = s; from = from; to = to; bins = bins_of (span s 0) from to (map pieces tables) } ≡ young → IsNextPosition young m →
-    begin ≡ cond (eqb from to) (m - 1) from → wide ≡ span s 0 → 1 ≤ wide → Adds pieces room tail_bits s tables from to young m begin wide ((m - 1 - begin) / wide)
-adds pieces room tail_bits filled seen next begin_is wide_is positive =
-    record { filled = filled; seen = seen; next = next; begin_is = begin_is; wide_is = wide_is; positive = positive; at_is = refl }
+    begin ≡ cond (eqb from to) (m - 1) from → wide ≡ span s 0 → 1 ≤ wide → at ≡ (m - 1 - begin) / wide → Adds pieces room tail_bits s tables from to young m begin wide at
+adds pieces room tail_bits filled seen next begin_is wide_is positive at_is =
+    record { filled = filled; seen = seen; next = next; begin_is = begin_is; wide_is = wide_is; positive = positive; at_is = at_is }
 
 -- the same, from the oldest bin's beginning up to the position before the new one
 record Stands {T : Type 0} (pieces : T → List Piece) (room tail_bits : T → ℕ) (s : Numbers) (tables : List T) (from to begin m at : ℕ) : Type 0 where
@@ -461,14 +461,14 @@ empty_bins pieces s tables = ap (λ (bins : List Bin). record { settings = s; fr
 
 -- ---- how often a tail stands in the tables
 
-count_le-total : (ps : List Piece) (tail : ℕ) → count_of ps tail ≤ total ps
-count_le-total [] tail = omega arith
-count_le-total (p ∷ ps) tail = let rest = count_le-total ps tail in elim (cases_eq p.tail tail) [
+pub count_of_le-total : (ps : List Piece) (tail : ℕ) → count_of ps tail ≤ total ps
+count_of_le-total [] tail = omega arith
+count_of_le-total (p ∷ ps) tail = let rest = count_of_le-total ps tail in elim (cases_eq p.tail tail) [
   | inl same ↦ omega (arith, count_of-cons_same p ps tail same)
   | inr differs ↦ omega (arith, count_of-cons_other p ps tail differs)
 ]
 
-width_within : (s : Numbers) → IsValid s → span s 0 ≤ 65536
+pub width_within : (s : Numbers) → IsValid s → span s 0 ≤ 65536
 width_within s valid = let one : s.ratio ^ 0 ≡ 1 = pow-zero s.ratio in omega (arith, valid.limits.base_to, ap (λ n. s.base * n) one)
 
 -- what was counted in the first tables
@@ -481,7 +481,7 @@ pub counted_more : {T : Type 0} (pieces : T → List Piece) (room tail_bits : T 
     IsCounted pieces tables tail (number + 1) (count + more)
 counted_more {T} pieces room tail_bits s all tables from to filled same_tables tail number count counted below table is more more_is =
     let here = (subst (λ (ts : List T). AreFilled pieces room tail_bits s ts from to) (sym same_tables) filled).each number table below in
-    let few = count_le-total (pieces table) tail in
+    let few = count_of_le-total (pieces table) tail in
     let same : total (pieces (get_or tables number table)) ≡ total (pieces table) = ap (λ (t : T). total (pieces t)) (sym is) in
     let narrow = width_within s filled.valid in
     record {

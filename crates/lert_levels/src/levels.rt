@@ -1,123 +1,366 @@
-//! The levels of a cone on disk: flushes and scans.
+//! The levels on disk.
 
-ghost use Rattle.std.specs.Prelude.{◌≡◌, ◌≢◌, ℕ, ◌+◌, ◌-◌, ◌*◌, ◌^◌, ◌<◌, ◌≤◌, List, [], ◌∷◌, length, map, replicate, slice_range, IfOk, OnOk, OnErr, IsErrOf, Any, Some};
-ghost use Rattle.lert_bay.specs.Files.{Files, IfTold, Turns};
-ghost use Rattle.lert_bay.specs.Images.{Lasts};
-ghost use Rattle.lert_frames.specs.Frame.{frame_left};
+ghost use Rattle.std.specs.Prelude.{◌≡◌, ◌⊎◌, ℕ, ◌+◌, ◌-◌, ◌<◌, ◌≤◌, List, [], length, map, take, replicate, All, IfOk, IfErr, OnOk, OnErr, MatchResult, IsErrOf, slice_index_or, slice_range, vec_capacity};
+ghost use Rattle.lert_bay.specs.Files.{Files, IfTold};
 ghost use Rattle.lert_frames.specs.Kept.{OnlyRead};
-ghost use Rattle.lert_frames.specs.Place.{frame_place, tail_limit};
-ghost use Rattle.lert_io.specs.Fault.{HasRisen};
+ghost use Rattle.lert_frames.specs.Place.{tail_limit};
+ghost use Rattle.lert_io.specs.Fault.{HasRisen, HasCause};
+ghost use Rattle.lert_spec.specs.declared.piece.Piece.{Piece};
 ghost use Rattle.lert_spec.specs.Bins.{tallied};
 ghost use Rattle.lert_spec.specs.Edges.{edge, depth, lookback, capacity};
 ghost use Rattle.lert_spec.specs.Table.{IsTable};
-ghost use Rattle.lert_spec.specs.declared.piece.Piece.{Piece};
-ghost use Rattle.lert_gatelog.specs.Kept.{KeepsOthers, OthersStay};
-ghost use Rattle.lert_levels.specs.Ranges.{young_bins};
-ghost use Rattle.lert_levels.specs.Rows.{IsAt, HoldsBins, moved, row_of};
+ghost use Rattle.lert_levels.specs.declared.bin_at.BinAt.{BinAt};
+ghost use Rattle.lert_levels.specs.Flushed.{AllCanStand, AreNew, AreEvents, AreAllEvents, InNamed};
+ghost use Rattle.lert_levels.specs.Gathered.{IsWithin};
+ghost use Rattle.lert_levels.specs.Landing.{KeepsRest};
+ghost use Rattle.lert_levels.specs.Loading.{AllStand, OneBreaks};
+ghost use Rattle.lert_levels.specs.Merged.{IsMade, IsFrames};
+ghost use Rattle.lert_levels.specs.Parts.{streams_to, parts_at};
+ghost use Rattle.lert_levels.specs.Rows.{row_of, IsAt, IsRow, HoldsBins, moved, directory_text};
 
 use crate::bin_at::BinAt;
+use crate::directory::lay_directory;
 use crate::fault::FlushFault;
+use crate::gather::{Merger, Part};
+use crate::landing::land;
+use crate::merging::load_levels;
+use crate::parts::parts_of;
+use crate::rows::move_row;
 use crate::zero::Zero;
-use lert_base::{CountTable, Settings, Totals};
+use lert_base::{CountTable, Piece, Settings, Totals};
 use lert_bay::Bay;
-use lert_io::OutOfMemory;
+use lert_io::{Failed, OutOfMemory};
 use std::alloc::Global;
 use std::marker::{Model, PhantomData};
 
-/// The bins of a cone's levels on disk.
+/// The levels of a cone on disk, seen as its settings and a row of bins for each level from 1 on. The bins stand in the file
+/// of frames, and level 0 in memory, in tables of type `T`.
+///
+/// Only `new`, `flush` and `scan` take memory.
 #[derive(Drop)]
 pub struct Levels<T: CountTable> {
+    alloc: Global,
     settings: Settings,
     rows: Vec<Vec<BinAt>>,
-    table: PhantomData<T>,
+    directory: Vec<u8>,
+    merger: Merger,
+    tables: PhantomData<T>,
 }
 
 impl<T: CountTable> Model for Levels<T> {
-    ghost use Rattle.std.specs.Prelude.{map};
-    ghost use Rattle.std.specs.declared.vec.Vec.{Vec};
-    ghost use Rattle.lert_levels.specs.Leveled.{Leveled, rows_of};
+    ghost use Rattle.std.specs.Prelude.{map, vec_capacity};
+    ghost use Rattle.lert_levels.specs.OnDisk.{OnDisk, AreKept};
 
-    ghost Value = { Leveled };
+    ghost Value = { OnDisk };
 
-    ghost view = { λ l. record { settings = l.settings; rows = rows_of l.rows.items } };
+    ghost view = { λ l. record { settings = l.settings; rows = map (λ row. row.items) l.rows.items } };
+
+    ghost invariant = { λ l. AreKept (λ row. row.items) (λ row. vec_capacity row) l.settings l.rows.items l.directory.items (vec_capacity l.directory) l.merger };
 }
 
 impl<T: CountTable> Levels<T> {
-    /// No bin.
+    /// No bin. Its only error is want of memory.
     pub fn new(alloc: Global, settings: &Settings) -> Result<Levels<T>, OutOfMemory>
         ensures { IfOk result (λ levels. levels ≡ record { settings = settings.now; rows = replicate settings.now.levels [] }) }
     {
-        Err(OutOfMemory)
+        let numbers = settings.numbers();
+        let bins = numbers.bins as usize;
+        let levels = numbers.levels as usize;
+        let rows = empty_rows(alloc, levels, bins + 1)?;
+        let mut directory = Vec::with_capacity(alloc, levels * (1 + bins))?;
+        lay_directory(&rows, &mut directory);
+        Ok(Levels {
+            alloc,
+            settings: *settings,
+            rows,
+            directory,
+            merger: Merger::new(alloc, (levels + 1) * bins)?,
+            tables: PhantomData,
+        })
     }
 
-    /// The settings.
-    pub fn settings(&self) -> &Settings
-        ensures { result.now ≡ self.now.settings }
+    /// The bins of a level on disk, oldest first.
+    pub fn bins(&self, level: u32) -> &[BinAt]
+        requires first { 1 ≤ level }
+        requires last { level ≤ self.now.settings.levels }
+        ensures { result.now ≡ row_of self.now.rows level }
     {
-        &self.settings
+        &self.rows[level as usize - 1]
     }
 
-    /// Merges all bins of the levels up to the depth of the flush at position `m`, gives `totals` each tail with its sum,
-    /// and writes the oldest bin of each level below that depth into a free frame of the next level.
-    pub fn flush<B: Bay, O: Totals>(&mut self, bay: &mut B, zero: &Zero<T>, m: u64, totals: &mut O) -> Result<(), FlushFault>
+    /// Flushes at position `m`: merges level 0 and the levels on disk that the flush reaches, writes the new bin of each level
+    /// from 1 on that it reaches into the least frame in which no bin of that level stands, and makes the file of frames
+    /// durable. `zero` has the positions above the edge of level 0 before `m`, up to `m`; its oldest bin stays there.
+    ///
+    /// `totals` takes each tail with its sum, in ascending tails. A refusal leaves the bins and the directory as they were, and
+    /// no frame that the directory names is written, whatever it answers. After a refusal nothing is said of what `totals` took.
+    /// It takes the memory of the bins that it reads and makes.
+    pub fn flush<B: Bay, O: Totals>(
+        &mut self,
+        bay: &mut B,
+        zero: &Zero<T>,
+        m: u64,
+        totals: &mut O,
+    ) -> Result<(), FlushFault>
+        requires same { zero.now.settings ≡ self.old.settings }
         requires first { 1 ≤ m }
         requires last { m ≤ capacity self.old.settings }
-        requires flushes { edge self.old.settings 0 m ≢ edge self.old.settings 0 (m - 1) }
-        requires settings { zero.now.settings ≡ self.old.settings }
         requires from { zero.now.from ≡ edge self.old.settings 0 (m - 1) }
         requires to { zero.now.to ≡ m }
-        requires rows { IsAt self.old.settings (m - 1) self.old.rows }
-        requires none { O.took totals.old [] }
-        ensures moved { OnOk result (self.new ≡ record self.old { rows = moved self.old.settings m self.old.rows }) }
+        requires at { IsAt self.old.settings (m - 1) self.old.rows }
+        requires none_taken { O.took totals.old [] }
+
+        // The rows become those of the levels after m events.
+        ensures ok { OnOk result (self.new ≡ record self.old { rows = moved self.old.settings m self.old.rows }) }
+        ensures at { OnOk result (IsAt self.new.settings m self.new.rows) }
         ensures refused { OnErr result (self.new ≡ self.old) }
 
-        // Where the files are told, and the frames hold the bins of some events.
-        ensures holds { (events : List ℕ) → length events ≡ m → zero.now.bins ≡ young_bins self.old.settings events zero.now.from →
-            IfTold (B.files bay.old) (λ seen. HoldsBins self.old.settings events self.old.rows (seen 2) →
-            OnOk result (IfTold (B.files bay.new) (λ after. HoldsBins self.new.settings events self.new.rows (after 2)))) }
-        ensures totals { (events : List ℕ) → length events ≡ m → zero.now.bins ≡ young_bins self.old.settings events zero.now.from →
-            IfTold (B.files bay.old) (λ seen. HoldsBins self.old.settings events self.old.rows (seen 2) →
-            OnOk result (O.took totals.new (tallied self.old.settings (slice_range events (lookback self.old.settings m) m)))) }
-        ensures sound { (events : List ℕ) → length events ≡ m →
-            IfTold (B.files bay.old) (λ seen. HoldsBins self.old.settings events self.old.rows (seen 2) →
-            (at : ℕ) → result ≢ Err (FlushFault.Malformed at)) }
+        // Where the frames held the bins of the events before m, those of the rows then hold theirs, and the totals are the counts
+        // above the lookback. Only a call of the bay or memory may fail.
+        ensures told { IfTold (B.files bay.old) (λ seen. (events : List ℕ) → AreEvents self.old m zero.now.bins events (seen 2) → MatchResult result
+            (λ _. IfTold (B.files bay.new) (λ after. HoldsBins self.old.settings events (moved self.old.settings m self.old.rows) (after 2)) ×
+            O.took totals.new (tallied self.old.settings (slice_range events (lookback self.old.settings m) m)))
+            (λ fault. (fault ≡ FlushFault.Failed) ⊎ (fault ≡ FlushFault.OutOfMemory))) }
+        ensures took { OnOk result ((list : List Piece) × O.took totals.new list × IsTable (tail_limit self.old.settings) list) }
 
-        // Told or not.
-        ensures took { OnOk result ((list : List Piece) × O.took totals.new list × IsTable (2 ^ (64 - self.old.settings.cone_bits)) list) }
-        ensures seen { Turns (OthersStay 2) (B.files bay.old) (B.files bay.new) }
-        ensures others { IfTold (B.files bay.old) (λ seen. KeepsOthers (B.leaves bay.old) (B.left_since bay.new (B.moment bay.old)) seen 2) }
+        // After Ok a crash leaves the file of frames as a read gives it. In the other files, and in the frames that the directory
+        // named, all reads as before, and what was settled stays settled.
+        ensures durable { OnOk result (IfTold (B.files bay.new) (λ seen. (image : Files) → B.leaves bay.new image → image 2 ≡ seen 2)) }
+        ensures rest { KeepsRest (InNamed self.old.settings self.old.rows) (B.files bay.old) (B.files bay.new) (B.leaves bay.old) (B.moment bay.old) (B.moment bay.new) (B.left_since bay.old) (B.left_since bay.new) }
+
+        // Malformed comes nowhere where the frames hold bins of their widths, whatever these count.
+        ensures sound { IfTold (B.files bay.old) (λ seen. (held : BinAt → List Piece) →
+            AllStand self.old.settings (seen 2) held (take (depth self.old.settings m) self.old.rows) →
+            IfErr result (λ fault. (fault ≡ FlushFault.Failed) ⊎ (fault ≡ FlushFault.OutOfMemory))) }
         ensures malformed { IfTold (B.files bay.old) (λ seen. (at : ℕ) → IsErrOf result (FlushFault.Malformed at) →
-            (level : ℕ) × (1 ≤ level) × (level ≤ depth self.old.settings m) ×
-            Any (λ bin. frame_left (tail_limit self.old.settings) (bin.to - bin.from) (frame_place self.old.settings level bin.frame) (seen 2) ≡ Some at) (row_of self.old.rows level)) }
-        ensures time { Lasts (B.moment bay.old) (B.moment bay.new) (B.left_since bay.old) (B.left_since bay.new) }
-        ensures failed { IsErrOf result FlushFault.Failed → HasRisen (B.faults bay.old) (B.faults bay.new) }
+            OneBreaks self.old.settings (take (depth self.old.settings m) self.old.rows) (seen 2) at) }
         ensures never_falls { B.faults bay.old ≤ B.faults bay.new }
+        ensures failed { IsErrOf result FlushFault.Failed → HasRisen (B.faults bay.old) (B.faults bay.new) }
         ensures mark { B.mark bay.new ≡ B.mark bay.old }
     {
-        Err(FlushFault::OutOfMemory)
+        let _valid = self.settings.numbers();
+        let made = self.new_bins(zero, m, bay, totals)?;
+        self.land(m, &made, bay)?;
+        Ok(())
     }
 
-    /// Merges all bins of all levels and gives `totals` each tail with its sum. It writes nothing.
-    pub fn scan<B: Bay, O: Totals>(&mut self, bay: &mut B, zero: &Zero<T>, totals: &mut O) -> Result<(), FlushFault>
-        requires settings { zero.now.settings ≡ self.old.settings }
-        requires none { O.took totals.old [] }
-        ensures stays { self.new ≡ self.old }
-        ensures totals { (events : List ℕ) → length events ≤ capacity self.old.settings → IsAt self.old.settings (length events) self.old.rows →
-            zero.now.from ≡ edge self.old.settings 0 (length events) → zero.now.to ≡ length events → zero.now.bins ≡ young_bins self.old.settings events zero.now.from →
-            IfTold (B.files bay.old) (λ seen. HoldsBins self.old.settings events self.old.rows (seen 2) →
-            OnOk result (O.took totals.new (tallied self.old.settings events))) }
-        ensures sound { (events : List ℕ) → length events ≤ capacity self.old.settings → IsAt self.old.settings (length events) self.old.rows →
-            IfTold (B.files bay.old) (λ seen. HoldsBins self.old.settings events self.old.rows (seen 2) →
-            (at : ℕ) → result ≢ Err (FlushFault.Malformed at)) }
-        ensures took { OnOk result ((list : List Piece) × O.took totals.new list × IsTable (2 ^ (64 - self.old.settings.cone_bits)) list) }
-        ensures only_read { OnlyRead (B.files bay.old) (B.files bay.new) (B.leaves bay.old) (B.leaves bay.new) (B.moment bay.old) (B.moment bay.new) (B.left_since bay.old) (B.left_since bay.new) }
+    /// Merges level 0 with all levels on disk, and writes nothing. `totals` takes each tail with its sum, in ascending tails.
+    /// After a refusal nothing is said of what it took. It takes the memory of the bins.
+    pub fn scan<B: Bay, O: Totals>(
+        &mut self,
+        bay: &mut B,
+        zero: &Zero<T>,
+        totals: &mut O,
+    ) -> Result<(), FlushFault>
+        requires same { zero.now.settings ≡ self.old.settings }
+        requires none_taken { O.took totals.old [] }
+        ensures same { self.new ≡ self.old }
+        ensures told { IfTold (B.files bay.old) (λ seen. (events : List ℕ) → AreAllEvents self.old zero.now.bins events (seen 2) → MatchResult result
+            (λ _. O.took totals.new (tallied self.old.settings events))
+            (λ fault. (fault ≡ FlushFault.Failed) ⊎ (fault ≡ FlushFault.OutOfMemory))) }
+        ensures took { OnOk result ((list : List Piece) × O.took totals.new list × IsTable (tail_limit self.old.settings) list) }
+        ensures sound { IfTold (B.files bay.old) (λ seen. (held : BinAt → List Piece) →
+            AllStand self.old.settings (seen 2) held self.old.rows →
+            IfErr result (λ fault. (fault ≡ FlushFault.Failed) ⊎ (fault ≡ FlushFault.OutOfMemory))) }
         ensures malformed { IfTold (B.files bay.old) (λ seen. (at : ℕ) → IsErrOf result (FlushFault.Malformed at) →
-            (level : ℕ) × (1 ≤ level) × (level ≤ self.old.settings.levels) ×
-            Any (λ bin. frame_left (tail_limit self.old.settings) (bin.to - bin.from) (frame_place self.old.settings level bin.frame) (seen 2) ≡ Some at) (row_of self.old.rows level)) }
-        ensures failed { IsErrOf result FlushFault.Failed → HasRisen (B.faults bay.old) (B.faults bay.new) }
+            OneBreaks self.old.settings self.old.rows (seen 2) at) }
+        ensures only_read { OnlyRead (B.files bay.old) (B.files bay.new) (B.leaves bay.old) (B.leaves bay.new) (B.moment bay.old) (B.moment bay.new) (B.left_since bay.old) (B.left_since bay.new) }
         ensures never_falls { B.faults bay.old ≤ B.faults bay.new }
+        ensures failed { IsErrOf result FlushFault.Failed → HasRisen (B.faults bay.old) (B.faults bay.new) }
         ensures mark { B.mark bay.new ≡ B.mark bay.old }
     {
-        Err(FlushFault::OutOfMemory)
+        let levels = self.settings.numbers().levels as usize;
+        let _made = self.merge(zero, levels, &[], bay, totals)?;
+        Ok(())
+    }
+
+    // The rows of the levels from 1 up to `depth`.
+    fn reached(&self, depth: usize) -> &[Vec<BinAt>]
+        requires { depth ≤ self.now.settings.levels }
+        ensures rows { map (λ row. row.items) result.now ≡ take depth self.now.rows }
+        ensures len { length result.now ≡ depth }
+        ensures are { (k : ℕ) → k < length result.now → IsRow self.now.settings (k + 1) (slice_index_or (map (λ row. row.items) result.now) k []) }
+    {
+        &self.rows[..depth]
+    }
+
+    // Merges level 0 with the levels from 1 up to `depth`: `totals` takes each tail with its sum, and the answer has the table
+    // of each part.
+    fn merge<B: Bay, O: Totals>(
+        &mut self,
+        zero: &Zero<T>,
+        depth: usize,
+        parts: &[Part],
+        bay: &mut B,
+        totals: &mut O,
+    ) -> Result<Vec<Vec<Piece>>, FlushFault>
+        requires same { zero.now.settings ≡ self.old.settings }
+        requires depth { depth ≤ self.old.settings.levels }
+        requires within { All (IsWithin (streams_to (length zero.now.bins) (take depth self.old.rows) depth)) parts.now }
+        requires none_taken { O.took totals.old [] }
+        ensures same { self.new ≡ self.old }
+        ensures made { IfOk result (λ made. IsMade self.old.settings zero.now.bins (take depth self.old.rows) parts.now
+            (O.took totals.new) (IsFrames (B.files bay.old)) (map (λ pieces. pieces.items) made.items)) }
+        ensures sound { IfTold (B.files bay.old) (λ seen. (held : BinAt → List Piece) →
+            AllStand self.old.settings (seen 2) held (take depth self.old.rows) →
+            IfErr result (λ fault. (fault ≡ FlushFault.Failed) ⊎ (fault ≡ FlushFault.OutOfMemory))) }
+        ensures malformed { IfTold (B.files bay.old) (λ seen. (at : ℕ) → IsErrOf result (FlushFault.Malformed at) →
+            OneBreaks self.old.settings (take depth self.old.rows) (seen 2) at) }
+        ensures only_read { OnlyRead (B.files bay.old) (B.files bay.new) (B.leaves bay.old) (B.leaves bay.new) (B.moment bay.old) (B.moment bay.new) (B.left_since bay.old) (B.left_since bay.new) }
+        ensures never_falls { B.faults bay.old ≤ B.faults bay.new }
+        ensures failed { IsErrOf result FlushFault.Failed → HasRisen (B.faults bay.old) (B.faults bay.new) }
+        ensures mark { B.mark bay.new ≡ B.mark bay.old }
+    {
+        let _valid = self.settings.numbers();
+        let rows = self.reached(depth);
+        let streams = load_levels(self.alloc, &self.settings, zero, rows, bay)?;
+        Ok(self.merger.gather(self.alloc, streams, parts, totals)?)
+    }
+
+    // The streams of the new bins of the flush at position `m`.
+    fn parts(&self, zero: &Zero<T>, m: u64) -> Result<Vec<Part>, OutOfMemory>
+        requires same { zero.now.settings ≡ self.now.settings }
+        requires first { 1 ≤ m }
+        requires last { m ≤ capacity self.now.settings }
+        requires some { zero.now.from < zero.now.to }
+        ensures parts { IfOk result (λ parts. parts.items ≡ parts_at self.now.settings m (length zero.now.bins) (take (depth self.now.settings m) self.now.rows)) }
+        ensures young { 1 ≤ length zero.now.bins }
+    {
+        let depth = self.settings.depth(m) as usize;
+        parts_of(
+            self.alloc,
+            &self.settings,
+            m,
+            zero.len(),
+            self.reached(depth),
+        )
+    }
+
+    // The new bins of the flush at position `m`. `totals` takes the totals.
+    fn new_bins<B: Bay, O: Totals>(
+        &mut self,
+        zero: &Zero<T>,
+        m: u64,
+        bay: &mut B,
+        totals: &mut O,
+    ) -> Result<Vec<Vec<Piece>>, FlushFault>
+        requires same { zero.now.settings ≡ self.old.settings }
+        requires first { 1 ≤ m }
+        requires last { m ≤ capacity self.old.settings }
+        requires from { zero.now.from ≡ edge self.old.settings 0 (m - 1) }
+        requires to { zero.now.to ≡ m }
+        requires at { IsAt self.old.settings (m - 1) self.old.rows }
+        requires none_taken { O.took totals.old [] }
+        ensures same { self.new ≡ self.old }
+        ensures count { IfOk result (λ made. length made.items ≡ depth self.old.settings m) }
+        ensures can { IfOk result (λ made. AllCanStand self.old.settings (map (λ pieces. pieces.items) made.items)) }
+        ensures told { IfTold (B.files bay.old) (λ seen. (events : List ℕ) → AreEvents self.old m zero.now.bins events (seen 2) → MatchResult result
+            (λ made. AreNew self.old.settings m events (take (depth self.old.settings m) self.old.rows) (map (λ pieces. pieces.items) made.items) ×
+            O.took totals.new (tallied self.old.settings (slice_range events (lookback self.old.settings m) m)))
+            (λ fault. (fault ≡ FlushFault.Failed) ⊎ (fault ≡ FlushFault.OutOfMemory))) }
+        ensures sound { IfTold (B.files bay.old) (λ seen. (held : BinAt → List Piece) →
+            AllStand self.old.settings (seen 2) held (take (depth self.old.settings m) self.old.rows) →
+            IfErr result (λ fault. (fault ≡ FlushFault.Failed) ⊎ (fault ≡ FlushFault.OutOfMemory))) }
+        ensures took { OnOk result ((list : List Piece) × O.took totals.new list × IsTable (tail_limit self.old.settings) list) }
+        ensures malformed { IfTold (B.files bay.old) (λ seen. (at : ℕ) → IsErrOf result (FlushFault.Malformed at) →
+            OneBreaks self.old.settings (take (depth self.old.settings m) self.old.rows) (seen 2) at) }
+        ensures only_read { OnlyRead (B.files bay.old) (B.files bay.new) (B.leaves bay.old) (B.leaves bay.new) (B.moment bay.old) (B.moment bay.new) (B.left_since bay.old) (B.left_since bay.new) }
+        ensures never_falls { B.faults bay.old ≤ B.faults bay.new }
+        ensures failed { IsErrOf result FlushFault.Failed → HasRisen (B.faults bay.old) (B.faults bay.new) }
+        ensures mark { B.mark bay.new ≡ B.mark bay.old }
+    {
+        let _valid = self.settings.numbers();
+        let depth = self.settings.depth(m) as usize;
+        let parts = self.parts(zero, m)?;
+        self.merge(zero, depth, &parts, bay, totals)
+    }
+
+    // Writes the new bins of the flush at position `m` and moves the rows on. A refusal leaves them as they were.
+    fn land<B: Bay>(&mut self, m: u64, made: &[Vec<Piece>], bay: &mut B) -> Result<(), Failed>
+        requires first { 1 ≤ m }
+        requires last { m ≤ capacity self.old.settings }
+        requires at { IsAt self.old.settings (m - 1) self.old.rows }
+        requires count { length made.now ≡ depth self.old.settings m }
+        requires can { AllCanStand self.old.settings (map (λ pieces. pieces.items) made.now) }
+        ensures ok { OnOk result (self.new ≡ record self.old { rows = moved self.old.settings m self.old.rows }) }
+        ensures refused { OnErr result (self.new ≡ self.old) }
+        ensures holds { IfTold (B.files bay.old) (λ seen. (events : List ℕ) → HoldsBins self.old.settings events self.old.rows (seen 2) →
+            AreNew self.old.settings m events (take (depth self.old.settings m) self.old.rows) (map (λ pieces. pieces.items) made.now) →
+            OnOk result (IfTold (B.files bay.new) (λ after. HoldsBins self.old.settings events (moved self.old.settings m self.old.rows) (after 2)))) }
+        ensures durable { OnOk result (IfTold (B.files bay.new) (λ seen. (image : Files) → B.leaves bay.new image → image 2 ≡ seen 2)) }
+        ensures rest { KeepsRest (InNamed self.old.settings self.old.rows) (B.files bay.old) (B.files bay.new) (B.leaves bay.old) (B.moment bay.old) (B.moment bay.new) (B.left_since bay.old) (B.left_since bay.new) }
+        ensures cause { HasCause (B.faults bay.old) (B.faults bay.new) result }
+        ensures mark { B.mark bay.new ≡ B.mark bay.old }
+    {
+        self.write(m, made, bay)?;
+        self.move_on(m);
+        Ok(())
+    }
+
+    // Writes the new bins of the flush at position `m`.
+    fn write<B: Bay>(&self, m: u64, made: &[Vec<Piece>], bay: &mut B) -> Result<(), Failed>
+        requires first { 1 ≤ m }
+        requires last { m ≤ capacity self.now.settings }
+        requires at { IsAt self.now.settings (m - 1) self.now.rows }
+        requires count { length made.now ≡ depth self.now.settings m }
+        requires can { AllCanStand self.now.settings (map (λ pieces. pieces.items) made.now) }
+        ensures holds { IfTold (B.files bay.old) (λ seen. (events : List ℕ) → HoldsBins self.now.settings events self.now.rows (seen 2) →
+            AreNew self.now.settings m events (take (depth self.now.settings m) self.now.rows) (map (λ pieces. pieces.items) made.now) →
+            OnOk result (IfTold (B.files bay.new) (λ after. HoldsBins self.now.settings events (moved self.now.settings m self.now.rows) (after 2)))) }
+        ensures durable { OnOk result (IfTold (B.files bay.new) (λ seen. (image : Files) → B.leaves bay.new image → image 2 ≡ seen 2)) }
+        ensures rest { KeepsRest (InNamed self.now.settings self.now.rows) (B.files bay.old) (B.files bay.new) (B.leaves bay.old) (B.moment bay.old) (B.moment bay.new) (B.left_since bay.old) (B.left_since bay.new) }
+        ensures cause { HasCause (B.faults bay.old) (B.faults bay.new) result }
+        ensures mark { B.mark bay.new ≡ B.mark bay.old }
+    {
+        let depth = self.settings.depth(m) as usize;
+        land(&self.settings, m, self.reached(depth), made, bay)
+    }
+
+    // Moves the rows on through the flush at position `m`.
+    fn move_on(&mut self, m: u64)
+        requires first { 1 ≤ m }
+        requires last { m ≤ capacity self.old.settings }
+        requires at { IsAt self.old.settings (m - 1) self.old.rows }
+        ensures { self.new ≡ record self.old { rows = moved self.old.settings m self.old.rows } }
+    {
+        let _valid = self.settings.numbers();
+        move_rows(&self.settings, m, &mut self.rows);
+        lay_directory(&self.rows, &mut self.directory);
+    }
+
+    /// For each level from 1 on the number of its bins, and behind it the frames in which they stand, oldest first.
+    pub fn directory(&self) -> &[u8]
+        ensures { result.now ≡ directory_text self.now.rows }
+    {
+        &self.directory
+    }
+}
+
+// So many rows with no bin, and with room for so many.
+fn empty_rows(alloc: Global, levels: usize, bins: usize) -> Result<Vec<Vec<BinAt>>, OutOfMemory>
+    ensures len { IfOk result (λ rows. length rows.items ≡ levels) }
+    ensures empty { IfOk result (λ rows. All (λ row. row.items ≡ []) rows.items) }
+    ensures roomy { IfOk result (λ rows. All (λ row. bins ≤ vec_capacity row) rows.items) }
+{
+    let mut rows = Vec::with_capacity(alloc, levels)?;
+    for _ in 0..levels {
+        rows.push(Vec::with_capacity(alloc, bins)?)?;
+    }
+    Ok(rows)
+}
+
+// Moves the rows on through the flush at position `m`.
+fn move_rows(settings: &Settings, m: u64, rows: &mut [Vec<BinAt>])
+    requires first { 1 ≤ m }
+    requires last { m ≤ capacity settings.now }
+    requires levels { length rows.old ≡ settings.now.levels }
+    requires few { All (λ row. length row.items ≤ settings.now.bins) rows.old }
+    requires roomy { All (λ row. settings.now.bins < vec_capacity row) rows.old }
+    ensures rows { map (λ row. row.items) rows.new ≡ moved settings.now m (map (λ row. row.items) rows.old) }
+    ensures roomy { All (λ row. settings.now.bins < vec_capacity row) rows.new }
+{
+    let _valid = settings.numbers();
+    for (lower, row) in rows.iter_mut().enumerate() {
+        move_row(settings, m, lower as u32 + 1, row);
     }
 }

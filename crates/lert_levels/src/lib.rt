@@ -2,8 +2,17 @@
 #![tactic(auto)]
 
 mod bin_at;
+mod directory;
 mod fault;
+mod gather;
+mod landing;
 mod levels;
+mod loading;
+mod merging;
+mod parts;
+mod rows;
+#[cfg(test)]
+mod samples;
 mod zero;
 
 pub use bin_at::BinAt;

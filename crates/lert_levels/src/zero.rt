@@ -1,14 +1,20 @@
 //! Level 0 in memory.
 
-ghost use Rattle.std.specs.Prelude.{◌≡◌, ◌+◌, ◌-◌, ◌^◌, ◌<◌, ◌≤◌, ◌==◌, if◌then◌else◌, [], drop, IfOk, sum_by};
+ghost use Rattle.std.specs.Prelude.{◌≡◌, ◌+◌, ◌-◌, ◌/◌, ◌^◌, ◌<◌, ◌≤◌, ◌==◌, if◌then◌else◌, ◌++◌, [], All, drop, length, map, IfOk, OnOk, sum_by};
 ghost use Rattle.lert_spec.specs.Edges.{span};
-ghost use Rattle.lert_spec.specs.Table.{count_of};
+ghost use Rattle.lert_frames.specs.Frame.{IsBin};
+ghost use Rattle.lert_spec.specs.Table.{count_of, total, AreGiven};
+ghost use Rattle.lert_levels.specs.Gathered.{lists_of};
 ghost use Rattle.lert_levels.specs.Young.{with_event, IsNextPosition};
 
 use lert_base::{CountTable, Settings};
+use lert_frames::LoadedBin;
 use lert_io::OutOfMemory;
 use std::alloc::Global;
 use std::marker::Model;
+
+#[cfg(test)]
+mod tests;
 
 /// The events of the newest positions of a cone, in bins of the base: seen as its settings, the last position before the
 /// oldest bin, the last position in the newest one, and the bins, oldest first.
@@ -73,7 +79,7 @@ impl<T: CountTable> Zero<T> {
         ensures { self.new ≡ with_event self.old tail m }
     {
         let from = beginning(self.from, self.to, m);
-        let bin = (m - 1 - from) / self.settings.span(0);
+        let bin = number_of(m, from, self.settings.span(0));
         self.tables[bin as usize].add(tail, 1);
         self.from = from;
         self.to = m;
@@ -90,6 +96,47 @@ impl<T: CountTable> Zero<T> {
         count
     }
 
+    /// How many bins there are.
+    pub(crate) fn len(&self) -> usize
+        ensures count { result ≡ length self.now.bins }
+        ensures some { self.now.from < self.now.to → 1 ≤ result }
+        ensures few { result ≤ self.now.settings.bins }
+    {
+        self.used().len()
+    }
+
+    /// Puts the pieces of each bin behind these streams, the oldest bin's first. It takes the memory of the pieces: 16 bytes
+    /// for each. Its only error is want of memory.
+    pub(crate) fn load(
+        &self,
+        alloc: Global,
+        streams: &mut Vec<LoadedBin>,
+    ) -> Result<(), OutOfMemory>
+        ensures lists { OnOk result (lists_of streams.new.items ≡
+            lists_of streams.old.items ++ map (λ bin. bin.pieces) self.now.bins) }
+        ensures fresh { OnOk result (All (λ bin. bin.given ≡ 0) streams.old.items → All (λ bin. bin.given ≡ 0) streams.new.items) }
+        ensures bins { OnOk result (All (λ bin.
+            IsBin (2 ^ (64 - self.now.settings.cone_bits)) (bin.to - bin.from) bin.pieces) self.now.bins) }
+        ensures narrow { All (λ bin. bin.to - bin.from ≤ span self.now.settings 0) self.now.bins }
+        ensures some { self.now.from < self.now.to → 1 ≤ length self.now.bins }
+        ensures few { length self.now.bins ≤ self.now.settings.bins }
+    {
+        load_tables(alloc, self.used(), streams)
+    }
+
+    // The tables in use, the oldest bin's first.
+    fn used(&self) -> &[T]
+        ensures pieces { map T.pieces result.now ≡ map (λ bin. bin.pieces) self.now.bins }
+        ensures tables { All (λ table. (T.room table ≤ 2 ^ 47) × (T.tail_bits table ≡ 64 - self.now.settings.cone_bits)) result.now }
+        ensures widths { All (λ bin. total bin.pieces ≡ bin.to - bin.from) self.now.bins }
+        ensures narrow { All (λ bin. bin.to - bin.from ≤ span self.now.settings 0) self.now.bins }
+        ensures some { self.now.from < self.now.to → 1 ≤ length self.now.bins }
+        ensures few { length self.now.bins ≤ self.now.settings.bins }
+    {
+        let bins = (self.to - self.from).div_ceil(self.settings.span(0));
+        &self.tables[..bins as usize]
+    }
+
     /// Drops the oldest bin, which is whole. Its table is free then.
     pub fn drop_oldest(&mut self)
         requires { self.old.from + span self.old.settings 0 ≤ self.old.to }
@@ -104,12 +151,55 @@ impl<T: CountTable> Zero<T> {
     }
 }
 
+// Puts the pieces of each table behind these streams.
+fn load_tables<T: CountTable>(
+    alloc: Global,
+    tables: &[T],
+    streams: &mut Vec<LoadedBin>,
+) -> Result<(), OutOfMemory>
+    requires { All (λ table. (T.room table ≤ 2 ^ 47) × (T.tail_bits table ≤ 64)) tables.now }
+    ensures lists { OnOk result (lists_of streams.new.items ≡ lists_of streams.old.items ++ map T.pieces tables.now) }
+    ensures fresh { OnOk result (All (λ bin. bin.given ≡ 0) streams.old.items → All (λ bin. bin.given ≡ 0) streams.new.items) }
+    ensures given { OnOk result (All (λ table. AreGiven (2 ^ T.tail_bits table) (T.pieces table)) tables.now) }
+{
+    for table in tables {
+        streams.push(load_table(alloc, table)?)?;
+    }
+    Ok(())
+}
+
+// The pieces of a table, of which none was given.
+fn load_table<T: CountTable>(alloc: Global, table: &T) -> Result<LoadedBin, OutOfMemory>
+    requires room { T.room table.now ≤ 2 ^ 47 }
+    requires tail_bits { T.tail_bits table.now ≤ 64 }
+    ensures pieces { IfOk result (λ bin. bin.pieces.items ≡ T.pieces table.now) }
+    ensures fresh { IfOk result (λ bin. bin.given ≡ 0) }
+    ensures given { OnOk result (AreGiven (2 ^ T.tail_bits table.now) (T.pieces table.now)) }
+{
+    let _in_room = table.events();
+    let mut cursor = table.start();
+    let mut pieces = Vec::new(alloc);
+    while let Some(piece) = table.step(&mut cursor) {
+        pieces.push(piece)?;
+    }
+    Ok(LoadedBin::of(pieces))
+}
+
 // The last position before the oldest bin, once position `m` is added.
 fn beginning(from: u64, to: u64, m: u64) -> u64
     requires { 1 ≤ m }
     ensures { result ≡ (if from == to then m - 1 else from) }
 {
     if from == to { m - 1 } else { from }
+}
+
+// The number of the bin of position `m`. The oldest one, above `from`, has number 0.
+fn number_of(m: u64, from: u64, span: u64) -> u64
+    requires span { 1 ≤ span }
+    requires above { from < m }
+    ensures { result ≡ (m - 1 - from) / span }
+{
+    (m - 1 - from) / span
 }
 
 // A table for the events of a bin of level 0.

@@ -1,6 +1,5 @@
-use Rattle.std.proofs.Common.{List, arith, subst, sym, ◌+◌}
+use Rattle.std.proofs.Common.{List, subst, sym, ◌+◌}
 use Rattle.lert_levels.proofs.YoungLaws.{AreEmpty, empty_begin, empty_more, empty_filled, empty_bins}
-use Rattle.lert_levels.proofs.YoungBins.{young-added}
 use Rattle.lert_levels.proofs.zero.Zero.new.Goals as goal
 
 pub loop-init : goal.loop-init

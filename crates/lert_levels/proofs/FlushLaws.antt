@@ -1,0 +1,120 @@
+-- What the merge of a flush or a scan makes, in the words of the cone's events.
+use Rattle.std.proofs.Common.{ℕ, ◌≡◌, ◌+◌, ◌-◌, ◌^◌, ◌<◌, ◌≤◌, List, [], length, map, take, get_or, ap, sym, ◌∙◌, arith, subst, slice_range, Result, length-take}
+use Rattle.std.specs.Prelude.{Ok, Err, IfOk, IfErr, MatchResult}
+use Rattle.std.proofs.lemmas.List.{length-map, get_or-map}
+use Rattle.std.proofs.lemmas.List.FromFn.{get_or-map-range_with_len, length-map-range_with_len}
+use Rattle.lert_frames.specs.Place.{tail_limit}
+use Rattle.lert_frames.proofs.PlaceLaws.{span_fits}
+use Rattle.lert_spec.specs.declared.numbers.Numbers.{Numbers}
+use Rattle.lert_spec.specs.declared.piece.Piece.{Piece}
+use Rattle.lert_spec.specs.Bins.{Bin, tallied}
+use Rattle.lert_spec.specs.Edges.{span, edge, depth, lookback, capacity}
+use Rattle.lert_spec.specs.Limits.{IsValid}
+use Rattle.lert_spec.specs.Table.{IsTable}
+use Rattle.lert_spec.proofs.EdgeLaws.{deepest_within}
+use Rattle.lert_merge.specs.Merging.{count_in}
+use Rattle.lert_levels.specs.declared.bin_at.BinAt.{BinAt}
+use Rattle.lert_levels.specs.declared.gather.Part.{Part}
+use Rattle.lert_levels.specs.Flushed.{AllCanStand, AreNew, AreEvents, AreAllEvents}
+use Rattle.lert_levels.specs.Gathered.{merged, part_table, IsWithin}
+use Rattle.lert_levels.specs.Landing.{CanStand}
+use Rattle.lert_levels.specs.Merged.{IsMade, streams_of, widths_of}
+use Rattle.lert_levels.specs.Parts.{part_at, parts_at}
+use Rattle.lert_levels.specs.Ranges.{young_bins}
+use Rattle.lert_levels.specs.Rows.{IsAt, AreRows, tallied_in}
+use Rattle.lert_levels.proofs.ArrivalLaws.{tables_from_bins, part_fits, part_holds, part_within}
+use Rattle.lert_levels.proofs.CoverLaws.{flush_totals, scan_totals}
+use Rattle.lert_levels.proofs.HoldLaws.{rows_stand}
+use Rattle.lert_levels.proofs.MergeLaws.{lists_count}
+use Rattle.lert_levels.proofs.MergedLaws.{IsTable-merged, count_of-merged}
+
+pub matched : {T E : Type 0} (P : T → Type 0) (Q : E → Type 0) (result : Result T E) → IfOk result P → IfErr result Q → MatchResult result P Q
+matched P Q (Ok value) ok err = ok
+matched P Q (Err error) ok err = err
+
+-- a made list behind its place
+made_at : (lists : List (List Piece)) (s : Numbers) (m young : ℕ) (rows : List (List BinAt)) (made : List (List Piece)) → made ≡ map (part_table lists) (parts_at s m young rows) → (k : ℕ) → k < length rows → get_or made k [] ≡ part_table lists (part_at s m young rows k)
+made_at lists s m young rows made is k below =
+    let parts = parts_at s m young rows in
+    let count = length-map-range_with_len (part_at s m young rows) 0 (length rows) in
+    let d = part_at s m young rows k in
+    ap (λ ms. get_or ms k []) is
+    ∙ get_or-map (part_table lists) parts k d [] (omega arith)
+    ∙ ap (part_table lists) (get_or-map-range_with_len (part_at s m young rows) 0 (length rows) k k d below (omega arith))
+
+module _ (s : Numbers) (valid : IsValid s) (m : ℕ) (first : 1 ≤ m) (fits : m ≤ capacity s) (rows : List (List BinAt)) (at : IsAt s (m - 1) rows) (young : List Bin) (took : List Piece → Type 0) (frames : List ℕ → Type 0) (made : List (List Piece))
+    (is : IsMade s young (take (depth s m) rows) (parts_at s m (length young) (take (depth s m) rows)) took frames made) where
+  deep : depth s m ≤ s.levels
+  deep = deepest_within s (omega (arith, valid.limits.base_from)) (omega (arith, valid.limits.ratio_from)) s.levels m
+
+  reached : length (take (depth s m) rows) ≡ depth s m
+  reached = omega (arith, length-take (depth s m) rows, at.levels, deep)
+
+  pub made_count : length made ≡ depth s m
+  made_count =
+      let parts = parts_at s m (length young) (take (depth s m) rows) in
+      let count = length-map-range_with_len (part_at s m (length young) (take (depth s m) rows)) 0 (length (take (depth s m) rows)) in
+      ap (length {A = List Piece}) is.are ∙ length-map parts (part_table is.lists) ∙ count ∙ reached
+
+  -- the new bins have room
+  pub made_can : 1 ≤ length young → AllCanStand s made
+  made_can some k below =
+      let some_rows = take (depth s m) rows in
+      let less : k < depth s m = omega (arith, made_count) in
+      let small : span s (k + 1) ≤ 2 ^ 47 = omega (arith, span_fits s valid (k + 1) (omega (arith, deep))) in
+      let streams = lists_count (tail_limit s) young some_rows is.lists (depth s m) (sym reached) is.bins in
+      let within = subst (λ (n : ℕ). IsWithin n (part_at s m (length young) some_rows k)) (sym streams) (part_within s valid m first fits rows at (length young) some k less) in
+      subst (CanStand s (k + 1)) (sym (made_at is.lists s m (length young) some_rows made is.are k (omega (arith, reached))))
+      (part_fits s valid m first fits rows at young is.lists some is.narrow is.bins k less within small)
+
+  -- what `totals` took is a table
+  pub made_table : IsTable (tail_limit s) (merged is.lists)
+  made_table = IsTable-merged (tail_limit s) is.lists (tables_from_bins (tail_limit s) (widths_of young (take (depth s m) rows)) is.lists is.bins)
+
+  -- where the frames hold the bins of the events, the lists are the counts of these
+  lists_are : (file events : List ℕ) → frames file → AreRows s rows → AreEvents (record { settings = s; rows = rows }) m young events file → is.lists ≡ streams_of (young_bins s events (edge s 0 (m - 1))) (tallied_in s events) (take (depth s m) rows)
+  lists_are file events here are of =
+      let stand = rows_stand s events (m - 1) rows file at are (omega (arith, of.len)) of.held (depth s m) deep in
+      is.told file here (tallied_in s events) stand ∙ ap (λ bins. streams_of bins (tallied_in s events) (take (depth s m) rows)) of.young_are
+
+  pub made_new : (file events : List ℕ) → frames file → AreRows s rows → AreEvents (record { settings = s; rows = rows }) m young events file → AreNew s m events (take (depth s m) rows) made
+  made_new file events here are of k below =
+      let some_rows = take (depth s m) rows in
+      let less : k < depth s m = omega (arith, made_count) in
+      made_at is.lists s m (length young) some_rows made is.are k (omega (arith, reached))
+      ∙ ap (λ lists. part_table lists (part_at s m (length young) some_rows k)) (lists_are file events here are of)
+      ∙ ap (λ n. part_table (streams_of (young_bins s events (edge s 0 (m - 1))) (tallied_in s events) some_rows) (part_at s m n some_rows k)) (ap (length {A = Bin}) of.young_are)
+      ∙ part_holds s valid m first fits rows at events of.len k less
+
+  pub made_totals : (file events : List ℕ) → frames file → AreRows s rows → AreEvents (record { settings = s; rows = rows }) m young events file → merged is.lists ≡ tallied s (slice_range events (lookback s m) m)
+  made_totals file events here are of =
+      let tables = tables_from_bins (tail_limit s) (widths_of young (take (depth s m) rows)) is.lists is.bins in
+      flush_totals s valid events m rows (merged is.lists) at of.len made_table
+      (λ tail. count_of-merged (tail_limit s) is.lists tail tables ∙ ap (λ lists. count_in lists tail) (lists_are file events here are of))
+
+  -- `totals` took a table, and the totals where the frames hold the bins
+  pub made_took : (list : List Piece) × took list × IsTable (tail_limit s) list
+  made_took = (merged is.lists, is.taken, made_table)
+
+  pub made_taken : (file events : List ℕ) → frames file → AreRows s rows → AreEvents (record { settings = s; rows = rows }) m young events file → took (tallied s (slice_range events (lookback s m) m))
+  made_taken file events here are of = subst took (made_totals file events here are of) is.taken
+
+-- the same merge by other words for how deep it goes and for its parts
+pub made_turned : (s : Numbers) (young : List Bin) (rows : List (List BinAt)) (low deep : ℕ) (parts others : List Part) (took : List Piece → Type 0) (frames : List ℕ → Type 0) (made : List (List Piece)) → low ≡ deep → parts ≡ others → IsMade s young (take low rows) parts took frames made → IsMade s young (take deep rows) others took frames made
+made_turned s young rows low deep parts others took frames made deep_is others_are is =
+    subst (λ (ps : List Part). IsMade s young (take deep rows) ps took frames made) others_are (subst (λ (d : ℕ). IsMade s young (take d rows) parts took frames made) deep_is is)
+
+-- ---- a scan
+
+module _ (s : Numbers) (valid : IsValid s) (rows : List (List BinAt)) (young : List Bin) (parts : List Part) (took : List Piece → Type 0) (frames : List ℕ → Type 0) (made : List (List Piece)) (is : IsMade s young (take s.levels rows) parts took frames made) where
+  pub scan_took : (list : List Piece) × took list × IsTable (tail_limit s) list
+  scan_took = (merged is.lists, is.taken, IsTable-merged (tail_limit s) is.lists (tables_from_bins (tail_limit s) (widths_of young (take s.levels rows)) is.lists is.bins))
+
+  -- where the frames hold the bins, `totals` took the counts of all events
+  pub scan_taken : (file events : List ℕ) → frames file → AreRows s rows → AreAllEvents (record { settings = s; rows = rows }) young events file → took (tallied s events)
+  scan_taken file events here are of =
+      let tables = tables_from_bins (tail_limit s) (widths_of young (take s.levels rows)) is.lists is.bins in
+      let stand = rows_stand s events (length events) rows file of.at are (omega arith) of.held s.levels (omega arith) in
+      let lists = is.told file here (tallied_in s events) stand ∙ ap (λ bins. streams_of bins (tallied_in s events) (take s.levels rows)) of.young_are in
+      subst took (scan_totals s valid events rows (merged is.lists) of.at of.fits (IsTable-merged (tail_limit s) is.lists tables)
+      (λ tail. count_of-merged (tail_limit s) is.lists tail tables ∙ ap (λ ls. count_in ls tail) lists)) is.taken

@@ -1,0 +1,152 @@
+-- What the frames hold before a flush and after it.
+use Rattle.std.proofs.Common.{ℕ, ◌≡◌, ◌≢◌, ◌+◌, ◌-◌, ◌/◌, ◌^◌, ◌<◌, ◌≤◌, zero, suc, cond, ltb, eqb, List, [], ◌∷◌, ◌++◌, length, take, drop, get_or, Option, Some, ap, ap₂, sym, ◌∙◌, arith, inl, inr, ◌⊎◌, subst, slice_range, length-take, Result}
+use Rattle.std.specs.Prelude.{Ok, Err, OnOk}
+use Rattle.std.specs.List.{All}
+use Rattle.std.proofs.lemmas.Bool.{cases_lt, cases_eq, lt-ltb, le-ltb, eq-eqb}
+use Rattle.std.proofs.lemmas.List.{get_or-take}
+use Rattle.std.proofs.lemmas.List.Elements.{All-append, All-drop, All-cons, All-nil, Contains-get_or}
+use Rattle.std.proofs.lemmas.List.Sums.{sum_by-cons}
+use Rattle.lert_bay.specs.Files.{Files, Turns}
+use Rattle.lert_frames.specs.Frame.{HoldsFrame, text_len}
+use Rattle.lert_frames.specs.Place.{frame_place, frame_len}
+use Rattle.lert_frames.proofs.PlaceLaws.{places_apart}
+use Rattle.lert_spec.specs.declared.numbers.Numbers.{Numbers}
+use Rattle.lert_spec.specs.declared.piece.Piece.{Piece}
+use Rattle.lert_spec.specs.Bins.{tallied}
+use Rattle.lert_spec.specs.Edges.{span, edge, depth}
+use Rattle.lert_spec.proofs.Tables.{length_le-total, count_le-total}
+use Rattle.lert_spec.proofs.TallyLaws.{IsTable-tallied, total-tallied}
+use Rattle.lert_levels.specs.declared.bin_at.BinAt.{BinAt}
+use Rattle.lert_levels.specs.Flushed.{AreNew, InNamed}
+use Rattle.lert_levels.specs.Landing.{LeavesRest, landing_frame, AreApart, AreLanded}
+use Rattle.lert_levels.specs.Loading.{Stands, AllStand}
+use Rattle.lert_levels.specs.Rows.{row_of, IsAt, IsRow, AreRows, HoldsBins, times_named, kept, arrived, moved, tallied_in}
+use Rattle.lert_levels.proofs.LandLaws.{holds_stays, landing_within}
+use Rattle.lert_levels.proofs.RangeLaws.{IsCut, cuts_are, edge_within}
+use Rattle.lert_levels.proofs.RowLaws.{All-ranges, All-kept, row_of-moved, lowest_is_free}
+use Rattle.lert_levels.proofs.Windows.{total-window}
+
+-- ---- what is read
+
+-- a level's row among the first ones
+pub row_among : (rows : List (List BinAt)) (d k : ℕ) → k < d → row_of rows (k + 1) ≡ get_or (take d rows) k []
+row_among rows d k less = ap (λ n. get_or rows n []) (let same : k + 1 - 1 ≡ k = omega arith in same) ∙ sym (get_or-take d rows k [] less)
+
+-- the bins of a level end within the events
+pub bins_end : (s : Numbers) (n : ℕ) (rows : List (List BinAt)) → IsAt s n rows → (level : ℕ) → 1 ≤ level → level ≤ s.levels → All (λ bin. bin.to ≤ n) (row_of rows level)
+bins_end s n rows at level from within =
+    let wide = span s level in
+    let high = edge s (level - 1) n in
+    let cuts = subst (All (IsCut wide high)) (sym (at.each level from within)) (cuts_are wide (edge s level n) high 0 (suc (n / wide))) in
+    λ k d below. (let cut = All-ranges (IsCut wide high) (row_of rows level) cuts k d below in omega (arith, cut.end, edge_within s (level - 1) n))
+
+-- the frames that hold the bins give them to a reader
+pub rows_stand : (s : Numbers) (events : List ℕ) (n : ℕ) (rows : List (List BinAt)) (file : List ℕ) → IsAt s n rows → AreRows s rows → n ≤ length events → HoldsBins s events rows file → (d : ℕ) → d ≤ s.levels → AllStand s file (tallied_in s events) (take d rows)
+rows_stand s events n rows file at are within holds d deep k below =
+    let reached : k < d = omega (arith, length-take d rows) in
+    let row_is = row_among rows d k reached in
+    let level_within : k + 1 ≤ s.levels = omega arith in
+    let ends = bins_end s n rows at (k + 1) (omega arith) level_within in
+    let row = are.each (k + 1) (omega arith) level_within in
+    subst (All (Stands s (k + 1) file (tallied_in s events))) row_is
+    (λ i d' inside. (
+    let bin = get_or (row_of rows (k + 1)) i d' in
+    let end = ends i d' inside in
+    let summed = total-window s events bin.from bin.to (omega arith) in
+    let top = row.ends i d' inside in
+    record {
+      are = record {
+        given = record {
+          table = IsTable-tallied s (slice_range events bin.from bin.to);
+          counts = λ j p here. omega (arith, count_le-total (tallied s (slice_range events bin.from bin.to)) j p here);
+        };
+        summed = summed;
+      };
+      text = holds (k + 1) (omega arith) level_within i d' inside;
+    }))
+
+-- ---- what stays
+
+-- a bin of a row names its frame
+named_at : (row : List BinAt) (i : ℕ) (bin : BinAt) → i < length row → get_or row i bin ≡ bin → 1 ≤ times_named row bin.frame
+named_at [] i bin below is = absurd (omega arith)
+named_at (other ∷ row) zero bin below is =
+    omega (arith, sum_by-cons (λ (b : BinAt). cond {A = ℕ} (eqb b.frame bin.frame) 1 0) other row, ap (λ t. cond {A = ℕ} t 1 0) (eq-eqb other.frame bin.frame (ap (λ (b : BinAt). b.frame) is)))
+named_at (other ∷ row) (suc i) bin below is =
+    omega (arith, sum_by-cons (λ (b : BinAt). cond {A = ℕ} (eqb b.frame bin.frame) 1 0) other row, named_at row i bin (omega arith) is)
+
+-- a range in a frame that is named lies apart from those that a flush writes
+pub named_apart : (s : Numbers) (m : ℕ) (rows : List (List BinAt)) → AreRows s rows → (d : ℕ) → d ≤ s.levels → (from to : ℕ) → InNamed s rows from to → AreApart s m (take d rows) from to
+named_apart s m rows are d deep from to inside k below =
+    let reached : k < d = omega (arith, length-take d rows) in
+    let row = get_or (take d rows) k [] in
+    let row_is = row_among rows d k reached in
+    let here = are.each (k + 1) (omega arith) (omega arith) in
+    let landing = landing_frame s m (take d rows) k in
+    let landing_fits : landing ≤ s.bins = landing_within s m (k + 1) row (subst (IsRow s (k + 1)) row_is here) in
+    let bin = inside.bin in
+    let place = inside.named in
+    let there = are.each inside.level inside.first inside.last in
+    let frame_fits : bin.frame ≤ s.bins = subst (λ (b : BinAt). b.frame ≤ s.bins) place.2 (there.frames place.0 bin place.1) in
+    let differ : (inside.level ≢ k + 1) ⊎ (bin.frame ≢ landing) = elim (cases_eq inside.level (k + 1)) [
+      | inr other ↦ inl other
+      | inl same ↦ inr (λ twice.
+          let own = ap (row_of rows) same ∙ row_is in
+          let some = named_at (row_of rows inside.level) place.0 bin place.1 place.2 in
+          let count = ap₂ times_named own twice in
+          omega (arith, some, count, (lowest_is_free row).free))
+    ] in
+    elim (places_apart s (k + 1) landing inside.level bin.frame (omega arith) landing_fits inside.first frame_fits differ) [
+      | inl before ↦ inl (omega (arith, before, inside.below))
+      | inr behind ↦ inr (omega (arith, behind, inside.above))
+    ]
+
+-- the text of a bin's counts fits its place
+text_fits : (s : Numbers) (events : List ℕ) (level : ℕ) (bin : BinAt) → bin.to - bin.from ≤ span s level → text_len (tallied_in s events bin) ≤ frame_len s level
+text_fits s events level bin narrow =
+    let keys = slice_range events bin.from bin.to in
+    omega (arith, length_le-total 0 (2 ^ (64 - s.cone_bits)) (tallied s keys) (IsTable-tallied s keys), total-tallied s keys, length-take (bin.to - bin.from) (drop bin.from events))
+
+-- after a flush the frames hold the bins of the rows as they are then
+pub holds_moved : (s : Numbers) (m : ℕ) (events : List ℕ) (rows : List (List BinAt)) (made : List (List Piece)) (old new : Files) → length rows ≡ s.levels → AreRows s rows → HoldsBins s events rows (old 2) → LeavesRest (InNamed s rows) old new →
+    length made ≡ depth s m → AreLanded s m (take (depth s m) rows) (new 2) made (depth s m) → AreNew s m events (take (depth s m) rows) made → HoldsBins s events (moved s m rows) (new 2)
+holds_moved s m events rows made old new len are holds leaves count landed news level from within =
+    let row = row_of rows level in
+    let d = depth s m in
+    let P : BinAt → Type 0 = λ bin. HoldsFrame (frame_place s level bin.frame) (new 2) (tallied_in s events bin) in
+    let is = are.each level from within in
+    let stay : All P row =
+    λ i e below. (
+    let bin = get_or row i e in
+    let fits = text_fits s events level bin (is.widths i e below) in
+    holds_stays (InNamed s rows) old new (frame_place s level bin.frame) (tallied_in s events bin) leaves
+    (record { level = level; first = from; last = within; bin = bin; named = Contains-get_or row i e below; above = omega arith; below = omega arith })
+    (holds level from within i e below)) in
+    let written = kept s m level row ++ arrived s m level row ∷ [] in
+    let dropped = cond {A = ℕ} (ltb level d) 1 0 in
+    subst (All P) (sym (row_of-moved s m rows level from (omega arith)))
+    (elim (cases_lt d level) [
+      | inl shallow ↦ subst (λ t. All P (cond t row (drop dropped written))) (sym (lt-ltb d level shallow)) stay
+      | inr reached ↦ (
+          let k = level - 1 in
+          let up : k + 1 ≡ level = omega arith in
+          let own : get_or (take d rows) k [] ≡ row = get_or-take d rows k [] (omega arith) in
+          let stands = landed k (omega arith) in
+          let new_is = news k (omega arith) in
+          let both = subst (HoldsFrame (frame_place s (k + 1) (landing_frame s m (take d rows) k)) (new 2)) new_is stands in
+          let at_row = subst (λ (r : List BinAt). HoldsFrame (frame_place s (k + 1) (arrived s m (k + 1) r).frame) (new 2) (tallied_in s events (arrived s m (k + 1) r))) own both in
+          let here : P (arrived s m level row) = subst (λ (i : ℕ). HoldsFrame (frame_place s i (arrived s m i row).frame) (new 2) (tallied_in s events (arrived s m i row))) up at_row in
+          subst (λ t. All P (cond t row (drop dropped written))) (sym (le-ltb d level reached))
+          (All-drop P dropped written (All-append P (kept s m level row) (arrived s m level row ∷ []) (All-kept P s m level row stay) (All-cons P (arrived s m level row) [] here (All-nil P)))))
+    ])
+
+-- the frames after the new bins were written, as a bay tells them
+pub written_holds : {T E : Type 0} (result : Result T E) (s : Numbers) (m : ℕ) (rows : List (List BinAt)) (made : List (List Piece)) (before after : Option Files) → length rows ≡ s.levels → AreRows s rows → length made ≡ depth s m →
+    Turns (LeavesRest (InNamed s rows)) before after → OnOk result ((seen : Files) → after ≡ Some seen → AreLanded s m (take (depth s m) rows) (seen 2) made (depth s m)) →
+    (seen : Files) → before ≡ Some seen → (events : List ℕ) → HoldsBins s events rows (seen 2) → AreNew s m events (take (depth s m) rows) made →
+    OnOk result ((then : Files) → after ≡ Some then → HoldsBins s events (moved s m rows) (then 2))
+written_holds (Ok value) s m rows made before after len are count turned landed seen told events holds news = λ then then_told.
+    let step = turned.told seen told in
+    let same : step.0 ≡ then = cc in
+    holds_moved s m events rows made seen then len are holds (subst (λ (f : Files). LeavesRest (InNamed s rows) seen f) same step.2) count (landed then then_told) news
+written_holds (Err error) s m rows made before after len are count turned landed seen told events holds news = tt

@@ -1,0 +1,66 @@
+use Rattle.std.proofs.Common.{ℕ, ◌≡◌, ◌+◌, List, map, take, length, ap, sym, subst, arith}
+use Rattle.std.proofs.lemmas.List.{length-map}
+use Rattle.std.proofs.lemmas.Nat.{mul-le}
+use Rattle.std.proofs.lemmas.Result.{err_from_is_err_and}
+use Rattle.lert_spec.specs.declared.numbers.Numbers.{Numbers}
+use Rattle.lert_spec.specs.Limits.{IsValid}
+use Rattle.lert_levels.specs.declared.bin_at.BinAt.{BinAt}
+use Rattle.lert_levels.specs.Gathered.{lists_of}
+use Rattle.lert_levels.specs.Loading.{AllStand}
+use Rattle.lert_levels.specs.Merged.{IsMade, IsFrames}
+use Rattle.lert_levels.specs.OnDisk.{OnDisk}
+use Rattle.lert_levels.proofs.MergeLaws.{streams_few}
+use Rattle.lert_levels.proofs.levels.Levels.merge.Goals as goal
+
+pub returns-in_err-streams-clause-sound : goal.returns-in_err-streams-clause-sound
+returns-in_err-streams-clause-sound g c seen told held stand =
+    let p = err_from_is_err_and c.from_residual.result c.from_residual.ensures.1 in
+    let settings_is : c.self.inside.settings ≡ c.args.self.now.settings = ap (λ (v : OnDisk). v.settings) c.self.view_is in
+    let here = subst (λ (s : Numbers). AllStand s (seen 2) held (map (λ row. row.items) c.reached-rows.result.now)) (sym settings_is)
+    (subst (λ (rows : List (List BinAt)). AllStand c.args.self.now.settings (seen 2) held rows) (sym c.reached-rows.ensures.rows) stand) in
+    rw (p.1, p.2) (c.in_err-streams.ensures.lists seen told held here)
+
+pub gather-requires-clause-room : goal.gather-requires-clause-room
+gather-requires-clause-room g c =
+    let rows = map (λ row. row.items) c.reached-rows.result.now in
+    let settings_is : c.self.inside.settings ≡ c.args.self.now.settings = ap (λ (v : OnDisk). v.settings) c.self.view_is in
+    let count = length-map c.reached-rows.result.now (λ row. row.items) in
+    let levels = ap (λ (s : Numbers). s.levels) settings_is in
+    let bins = ap (λ (s : Numbers). s.bins) settings_is in
+    let few = streams_few c.self.inside.settings.levels c.self.inside.settings.bins (length c.args.zero.now.bins) (length c.reached-rows.result.now) rows (sym count) c.in_ok-streams.ensures.few
+    (λ k below. omega (arith, (c.reached-rows.ensures.are k (omega (arith, below, count))).few, bins)) (omega (arith, count, levels, c.reached-rows.ensures.len, c.requires.depth)) in
+    omega (arith, few, c.in_ok-streams.ensures.count, c.self.invariant.merges)
+
+pub gather-requires-clause-few : goal.gather-requires-clause-few
+gather-requires-clause-few g c =
+    let s = c.self.inside.settings in
+    let rows = map (λ row. row.items) c.reached-rows.result.now in
+    let valid : IsValid s = subst IsValid c.numbers-valid.ensures.value c.numbers-valid.ensures.valid in
+    let settings_is : s ≡ c.args.self.now.settings = ap (λ (v : OnDisk). v.settings) c.self.view_is in
+    let count = length-map c.reached-rows.result.now (λ row. row.items) in
+    let levels = ap (λ (n : Numbers). n.levels) settings_is in
+    let bins = ap (λ (n : Numbers). n.bins) settings_is in
+    let few = streams_few s.levels s.bins (length c.args.zero.now.bins) (length c.reached-rows.result.now) rows (sym count) c.in_ok-streams.ensures.few
+    (λ k below. omega (arith, (c.reached-rows.ensures.are k (omega (arith, below, count))).few, bins)) (omega (arith, count, levels, c.reached-rows.ensures.len, c.requires.depth)) in
+    let most = mul-le (s.levels + 1) s.bins 9 16 (omega (arith, valid.limits.levels_to)) valid.limits.bins_to in
+    omega (arith, few, c.in_ok-streams.ensures.count, most)
+
+pub returns-clause-made : goal.returns-clause-made
+returns-clause-made g c =
+    let s = c.self.inside.settings in
+    let young = c.args.zero.now.bins in
+    let rows = map (λ row. row.items) c.reached-rows.result.now in
+    let settings_is : s ≡ c.args.self.now.settings = ap (λ (v : OnDisk). v.settings) c.self.view_is in
+    let frames = IsFrames (g.B.Bay.files c.args.bay.now) in
+    let made = map (λ pieces. pieces.items) c.in_ok-gather.field-0.items in
+    let took = g.O.Totals.took c.gather.new.totals in
+    let is : IsMade s young rows c.args.parts.now took frames made = record {
+      lists = lists_of c.in_ok-streams.streams.items;
+      bins = c.in_ok-streams.ensures.bins;
+      narrow = c.in_ok-streams.ensures.narrow;
+      taken = c.in_ok-gather.ensures.totals;
+      are = c.in_ok-gather.ensures.parts;
+      told = λ file here held stand. c.in_ok-streams.ensures.lists here.seen here.told held (subst (λ (bytes : List ℕ). AllStand s bytes held rows) here.is stand);
+    } in
+    subst (λ (n : Numbers). IsMade n young (take c.args.depth c.args.self.now.rows) c.args.parts.now took frames made) settings_is
+    (subst (λ (rs : List (List BinAt)). IsMade s young rs c.args.parts.now took frames made) c.reached-rows.ensures.rows is)

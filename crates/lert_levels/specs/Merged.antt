@@ -1,0 +1,36 @@
+-- The merge of level 0 with some of the levels on disk.
+use Rattle.std.specs.Prelude.{◌≡◌, ℕ, ◌-◌, ◌≤◌, List, map, ◌++◌, All, Option, Some}
+use Rattle.lert_bay.specs.Files.{Files}
+use Rattle.lert_spec.specs.declared.numbers.Numbers.{Numbers}
+use Rattle.lert_spec.specs.Bins.{Bin}
+use Rattle.lert_spec.specs.declared.piece.Piece.{Piece}
+use Rattle.lert_levels.specs.declared.bin_at.BinAt.{BinAt}
+use Rattle.lert_frames.specs.Place.{tail_limit}
+use Rattle.lert_spec.specs.Edges.{span}
+use Rattle.lert_levels.specs.declared.gather.Part.{Part}
+use Rattle.lert_levels.specs.Gathered.{merged, part_table}
+use Rattle.lert_levels.specs.Loading.{AllStand, AreBins, held_in, widths_in}
+
+-- the pieces of its streams: those of the bins of level 0, and those that the frames of the rows' bins hold
+abbrev pub streams_of : List Bin → (BinAt → List Piece) → List (List BinAt) → List (List Piece)
+streams_of young held rows = map (λ bin. bin.pieces) young ++ held_in held rows
+
+-- and how wide their bins are
+abbrev pub widths_of : List Bin → List (List BinAt) → List ℕ
+widths_of young rows = map (λ bin. bin.to - bin.from) young ++ widths_in rows
+
+-- what a merge of these streams made: from some lists, which are bins of their widths, and those that the frames hold, where
+-- they stand in the file
+pub record IsMade (s : Numbers) (young : List Bin) (rows : List (List BinAt)) (parts : List Part) (took : List Piece → Type 0) (file_is : List ℕ → Type 0) (made : List (List Piece)) : Type 0 where
+  pub lists : List (List Piece)
+  pub bins : AreBins (tail_limit s) (widths_of young rows) lists
+  pub narrow : All (λ bin. bin.to - bin.from ≤ span s 0) young
+  pub taken : took (merged lists)
+  pub are : made ≡ map (part_table lists) parts
+  pub told : (file : List ℕ) → file_is file → (held : BinAt → List Piece) → AllStand s file held rows → lists ≡ streams_of young held rows
+
+-- these are the bytes of the file of frames, where a bay tells them
+pub record IsFrames (files : Option Files) (file : List ℕ) : Type 0 where
+  pub seen : Files
+  pub told : files ≡ Some seen
+  pub is : file ≡ seen 2

@@ -1,0 +1,19 @@
+-- The levels on disk.
+use Rattle.std.specs.Prelude.{◌≡◌, ℕ, ◌+◌, ◌*◌, ◌<◌, ◌≤◌, List, map, All}
+use Rattle.lert_spec.specs.declared.numbers.Numbers.{Numbers}
+use Rattle.lert_levels.specs.declared.bin_at.BinAt.{BinAt}
+use Rattle.lert_levels.specs.Rows.{AreRows, directory_text}
+
+-- what they are seen as: their settings, and the rows from level 1 on
+pub record OnDisk : Type 0 where
+  pub settings : Numbers
+  pub rows : List (List BinAt)
+
+-- what stands between two calls: rows, each with room for a bin more than a level has, their directory, and room for as many
+-- streams as there are bins
+pub record AreKept {V : Type 0} (items : V → List BinAt) (capacity : V → ℕ) (s : Numbers) (rows : List V) (directory : List ℕ) (room streams : ℕ) : Type 0 where
+  pub are : AreRows s (map items rows)
+  pub roomy : All (λ row. s.bins < capacity row) rows
+  pub directory_is : directory ≡ directory_text (map items rows)
+  pub directory_room : s.levels * (1 + s.bins) ≤ room
+  pub merges : (s.levels + 1) * s.bins ≤ streams

@@ -1,0 +1,100 @@
+//! What a flush makes of a level's row.
+
+ghost use Rattle.std.specs.Prelude.{◌≡◌, ◌<◌, ◌≤◌, ◌^◌, ◌==◌, length, find, vec_capacity};
+ghost use Rattle.std.specs.List.{range_with_len};
+ghost use Rattle.lert_spec.specs.Edges.{capacity};
+ghost use Rattle.lert_levels.specs.Rows.{times_named, lowest_free, newest, begins, arrived, moved_row};
+
+use crate::bin_at::BinAt;
+use crate::directory::put;
+use lert_base::Settings;
+
+/// The bin that a flush at position `m` writes into a level: the one that comes in, by itself where it begins an aligned
+/// interval of the level's span, and else joined with the newest bin of the row. It stands in the least frame in which no
+/// bin of the row stands.
+pub fn arrival(settings: &Settings, m: u64, level: u32, row: &[BinAt]) -> BinAt
+    requires first { 1 ≤ m }
+    requires last { m ≤ capacity settings.now }
+    requires from { 1 ≤ level }
+    requires to { level ≤ settings.now.levels }
+    requires few { length row.now < 2 ^ 8 }
+    ensures { result ≡ arrived settings.now m level row.now }
+{
+    let from = if begins(settings, m, level) {
+        settings.edge(level - 1, m - 1)
+    } else {
+        newest_from(row)
+    };
+    BinAt {
+        from,
+        to: settings.edge(level - 1, m),
+        frame: lowest_free(row),
+    }
+}
+
+/// Whether the bin that comes to a level in the flush at position `m` begins an aligned interval of its span.
+pub fn begins(settings: &Settings, m: u64, level: u32) -> bool
+    requires first { 1 ≤ m }
+    requires last { m ≤ capacity settings.now }
+    requires from { 1 ≤ level }
+    requires to { level ≤ settings.now.levels }
+    ensures { result ≡ begins settings.now m level }
+{
+    settings.edge(level - 1, m - 1) % settings.span(level) == 0
+}
+
+// Where the newest bin of a row begins, 0 where there is none.
+fn newest_from(row: &[BinAt]) -> u64
+    ensures { result ≡ (newest row.now).from }
+{
+    row.last().map_or(0, |bin| bin.from)
+}
+
+// The least number of a frame in which no bin of a row stands.
+fn lowest_free(row: &[BinAt]) -> u8
+    requires { length row.now < 2 ^ 8 }
+    ensures { result ≡ lowest_free row.now }
+{
+    let bins = row.len() as u8;
+    first_free(row, bins).unwrap_or(bins)
+}
+
+// The least of so many frames in which no bin of a row stands.
+fn first_free(row: &[BinAt], frames: u8) -> Option<u8>
+    ensures { result ≡ find (λ frame. times_named row.now frame == 0) (range_with_len 0 frames) }
+{
+    (0..frames).find(|frame| is_free(row, *frame))
+}
+
+// Whether no bin of a row stands in a frame.
+fn is_free(row: &[BinAt], frame: u8) -> bool
+    ensures { result ≡ (times_named row.now frame == 0) }
+{
+    row.iter().filter(|bin| bin.frame == frame).count() == 0
+}
+
+/// Moves a level's row on through the flush at position `m`: the new bin comes in behind the others, or in the place of the
+/// newest one, and the oldest one goes where the flush is deeper.
+pub fn move_row(settings: &Settings, m: u64, level: u32, row: &mut Vec<BinAt>)
+    requires first { 1 ≤ m }
+    requires last { m ≤ capacity settings.now }
+    requires from { 1 ≤ level }
+    requires to { level ≤ settings.now.levels }
+    requires few { length row.old.items < 2 ^ 8 }
+    requires room { length row.old.items < vec_capacity row.old }
+    ensures row { row.new.items ≡ moved_row settings.now m level row.old.items }
+    ensures capacity { vec_capacity row.old ≤ vec_capacity row.new }
+{
+    let depth = settings.depth(m);
+    if level > depth {
+        return;
+    }
+    let bin = arrival(settings, m, level, row);
+    if !begins(settings, m, level) {
+        let _joined = row.pop();
+    }
+    put(row, bin);
+    if level < depth {
+        row.remove(0);
+    }
+}
