@@ -1,4 +1,5 @@
 pub mod DueLaws
+mod Examples
 pub mod FramedLaws
 pub mod KeyLemmas
 pub mod RoomLaws

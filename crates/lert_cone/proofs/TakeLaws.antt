@@ -1,5 +1,6 @@
 -- A cone with one more key, from what the parts of the step say.
-use Rattle.std.proofs.Common.{ℕ, ◌≡◌, ◌≢◌, ◌+◌, ◌-◌, ◌^◌, ◌<◌, ◌≤◌, suc, Bool, true, false, cond, List, [], ◌∷◌, ◌++◌, length, Result, Ok, Err, refl, ap, ap₂, sym, ◌∙◌, arith, subst, length-append}
+use Rattle.std.proofs.Common.{ℕ, ◌≡◌, ◌≢◌, ◌+◌, ◌-◌, ◌^◌, ◌<◌, ◌≤◌, suc, Bool, true, false, cond, List, [], ◌∷◌, ◌++◌, length, Option, Result, Ok, Err, OnOk, ◌⊎◌, inl, inr, refl, ap, ap₂, sym, ◌∙◌, arith, subst, length-append}
+use Rattle.std.specs.Prelude.{MatchResult}
 use Rattle.std.specs.Result.{IsErrAnd}
 use Rattle.lert_bay.specs.Files.{Files}
 use Rattle.lert_spec.specs.declared.numbers.Numbers.{Numbers}
@@ -15,6 +16,7 @@ use Rattle.lert_spec.proofs.TallyLaws.{IsTable-tallied}
 use Rattle.lert_levels.specs.declared.bin_at.BinAt.{BinAt}
 use Rattle.lert_levels.specs.declared.fault.FlushFault.{FlushFault}
 use Rattle.lert_levels.specs.declared.fault.FlushFault.TheVariants.{Failed as FlushFailed, Malformed, OutOfMemory as NoMemory}
+use Rattle.lert_levels.specs.Landing.{KeepsRest}
 use Rattle.lert_levels.specs.Ranges.{young_bins}
 use Rattle.lert_levels.specs.Rows.{IsAt, HoldsBins}
 use Rattle.lert_levels.specs.Young.{Young, with_event}
@@ -23,6 +25,7 @@ use Rattle.lert_cone.specs.declared.tally.TakeFault.TheVariants.{Unsound}
 use Rattle.lert_cone.specs.Due.{Dues, TookFrom, due_reports, started}
 use Rattle.lert_cone.specs.Listing.{Listing, reports_of}
 use Rattle.lert_cone.specs.Tally.{Tallied, IsCounted, IsHeld, AreYoung, totals_at, take_fault}
+use Rattle.lert_cone.specs.Wrote.{WroteFrames}
 use Rattle.lert_cone.proofs.KeyLemmas.{AreKeys-push, AreOfCone-push}
 use Rattle.lert_cone.proofs.RoomLaws.{look_fits, closing_fits}
 use Rattle.lert_cone.proofs.TallyLaws.{next_position, next_from, next_bins, frames_more}
@@ -210,3 +213,34 @@ err_is (Err taken) fault is fine file at same = sound_fault fault fine file at (
 pub handed_on : (result : Result (Unit {0}) TakeFault) (fault : TakeFault) → IsErrAnd result (λ given. given ≡ fault) → Err fault ≡ result
 handed_on (Ok done) fault is = absurd is
 handed_on (Err given) fault is = ap Err (sym is)
+
+-- ---- what a flush answers
+
+pub ok_of : {E : Type 0} (A : Type 0) (B : E → Type 0) (result : Result (Unit {0}) E) → MatchResult result (λ _. A) B → OnOk result A
+ok_of A B (Ok done) holds = holds
+ok_of A B (Err fault) holds = tt
+
+pub on_ok : {T E : Type 0} (A B C : Type 0) (result : Result T E) → OnOk result A → OnOk result B → (A → B → C) → OnOk result C
+on_ok A B C (Ok done) one two goes = goes one two
+on_ok A B C (Err fault) one two goes = tt
+
+pub never_malformed : (A : Type 0) (result : Result (Unit {0}) FlushFault) → MatchResult result (λ _. A) (λ fault. (fault ≡ FlushFailed) ⊎ (fault ≡ NoMemory)) → (at : ℕ) → result ≢ Err (Malformed at)
+never_malformed A (Ok done) holds at same = cc
+never_malformed A (Err fault) (inl failed) at same = cc
+never_malformed A (Err fault) (inr none) at same = cc
+
+-- a flush writes into the frames alone
+pub wrote_of : (kept : ℕ → ℕ → Type 0) (files_before files_after : Option Files) (leaves_before leaves_after : Files → Type 0) (first last : ℕ) (since_before since_after : ℕ → Files → Type 0) →
+    KeepsRest kept files_before files_after leaves_before first last since_before since_after → ((image : Files) → leaves_after image → since_after first image) →
+    WroteFrames files_before files_after leaves_before leaves_after first last since_before since_after
+wrote_of kept files_before files_after leaves_before leaves_after first last since_before since_after rest now = record {
+  seen = record {
+    told = λ old is.
+        let came = rest.seen.told old is in
+        (came.0, came.1, came.2.others);
+    untold = rest.seen.untold;
+  };
+  others = λ old told other from to differs settled image may. rest.settled old told other from to (inl differs) settled image may;
+  now = now;
+  time = rest.time;
+}

@@ -1,8 +1,8 @@
 -- Level 0 and the rows as the next key comes.
-use Rattle.std.proofs.Common.{ℕ, ◌≡◌, ◌≢◌, ◌+◌, ◌-◌, ◌*◌, ◌/◌, ◌%◌, ◌<◌, ◌≤◌, zero, suc, Bool, cond, eqb, List, [], ◌∷◌, ◌++◌, length, drop, get_or, map, All, refl, ap, ap₂, sym, ◌∙◌, arith, inl, inr, subst, slice_range, sum_by, length-append}
+use Rattle.std.proofs.Common.{ℕ, ◌≡◌, ◌≢◌, ◌+◌, ◌-◌, ◌*◌, ◌/◌, ◌%◌, ◌<◌, ◌≤◌, zero, suc, Bool, cond, eqb, List, [], ◌∷◌, ◌++◌, length, drop, get_or, map, All, refl, ap, ap₂, sym, ◌∙◌, arith, inl, inr, subst, slice_range, sum_by, replicate, length-append}
 use Rattle.std.proofs.Math.Nat.{div-add-mod, mod-lt, mul-mod_left, mul_comm, mul-suc, suc-mul}
 use Rattle.std.proofs.lemmas.Bool.{cases_eq, cases_lt, eq-eqb, ne_eqb}
-use Rattle.std.proofs.lemmas.List.{get_or-map}
+use Rattle.std.proofs.lemmas.List.{get_or-map, length-replicate}
 use Rattle.lert_spec.specs.declared.numbers.Numbers.{Numbers}
 use Rattle.lert_spec.specs.declared.piece.Piece.{Piece}
 use Rattle.lert_spec.specs.Bins.{Bin, tallied}
@@ -20,7 +20,7 @@ use Rattle.lert_levels.specs.Rows.{IsAt, HoldsBins, range_of, row_of}
 use Rattle.lert_levels.specs.Young.{Young, IsNextPosition, with_event}
 use Rattle.lert_levels.proofs.RangeLaws.{IsCut, cuts_are, depth_moves, depth_stays, ranges_still}
 use Rattle.lert_levels.proofs.Windows.{young_cover}
-use Rattle.lert_levels.proofs.YoungBins.{young-added, young-dropped}
+use Rattle.lert_levels.proofs.YoungBins.{young-added, young-dropped, young-none}
 use Rattle.lert_cone.specs.Tally.{AreYoung, totals_at}
 use Rattle.lert_cone.proofs.TotalLaws.{edge_within}
 
@@ -148,3 +148,31 @@ module _ (s : Numbers) (valid : IsValid s) where
     pub frames_more : HoldsBins s events rows file → HoldsBins s (events ++ others) rows file
     frames_more holds level first last k d within =
         subst (λ keys. HoldsFrame (frame_place s level (get_or (row_of rows level) k d).frame) file (tallied s keys)) (sym (slice_same level first last k d within)) (holds level first last k d within)
+
+  -- before the first event no level has a bin
+  no_range : (ranges : List Range) (wide : ℕ) → All (IsCut wide 0) ranges → ranges ≡ []
+  no_range [] wide cut = refl
+  no_range (range ∷ ranges) wide cut =
+      let first = cut 0 range (omega arith) in absurd (omega (arith, first.some, first.end))
+
+  pub edge_none : (level : ℕ) → edge s level 0 ≡ 0
+  edge_none level = omega (arith, edge_within s level 0)
+
+  no_ranges : (level : ℕ) → ranges s 0 level ≡ []
+  no_ranges level =
+      let cut = cuts_are (span s level) (edge s level 0) (edge s (level - 1) 0) 0 (suc (0 / span s level)) in
+      no_range (ranges s 0 level) (span s level) (subst (λ high. All (IsCut (span s level) high) (ranges s 0 level)) (edge_none (level - 1)) cut)
+
+  pub rows_none : IsAt s 0 (replicate s.levels [])
+  rows_none = record {
+    levels = length-replicate s.levels [];
+    each = λ level first last. ap (map range_of) (row_none (level - 1) s.levels) ∙ sym (no_ranges level);
+  }
+    where
+      row_none : (k n : ℕ) → get_or {A = List BinAt} (replicate n []) k [] ≡ []
+      row_none k zero = refl
+      row_none zero (suc n) = refl
+      row_none (suc k) (suc n) = row_none k n
+
+  pub young_none : (bins : List Bin) → bins ≡ [] → AreYoung s [] (edge s 0 0) bins
+  young_none bins none = record { is = none ∙ sym (young-none s [] (edge s 0 0) (omega arith)) }

@@ -1,6 +1,6 @@
 -- The memory of a cone before it has a number.
 use Rattle.std.specs.Prelude.{◌≡◌, ℕ, ◌+◌, [], replicate}
-use Rattle.lert_levels.specs.Leveled.{Leveled}
+use Rattle.lert_levels.specs.OnDisk.{OnDisk}
 use Rattle.lert_levels.specs.Young.{Young}
 use Rattle.lert_reports.specs.Stored.{Stored}
 use Rattle.lert_spec.specs.declared.numbers.Numbers.{Numbers}
@@ -12,7 +12,7 @@ abbrev pub room_of : Numbers → ℕ
 room_of s = most_payload s + 5
 
 -- levels and a store that are empty, and a buffer for the greatest packet
-pub record IsRoom (s : Numbers) (young : Young) (levels : Leveled) (stored : Stored) (room : ℕ) : Type 0 where
+pub record IsRoom (s : Numbers) (young : Young) (levels : OnDisk) (stored : Stored) (room : ℕ) : Type 0 where
   pub valid : IsValid s
   pub young_is : young ≡ record { settings = s; from = 0; to = 0; bins = [] }
   pub levels_are : levels ≡ record { settings = s; rows = replicate s.levels [] }

@@ -34,6 +34,9 @@ use lert_reports::ReportStore;
 use std::marker::Model;
 use std::snapshot::Snapshot;
 
+#[cfg(test)]
+mod tests;
+
 /// A cone that acknowledges a packet only when its record is on the disk.
 ///
 /// It stands for the list of the packets that it acknowledged. A packet costs the four calls of one append, two of

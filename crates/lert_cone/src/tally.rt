@@ -226,7 +226,7 @@ fn flush_into<B: Bay, T: CountTable, N: Begun>(
         IfTold (B.files bay.old) (λ seen. HoldsBins levels.old.settings events levels.old.rows (seen 2) →
         OnOk result.1 (TookFrom N.start result.0 (tallied levels.old.settings (slice_range events (lookback levels.old.settings m) m)))) }
     ensures took { OnOk result.1 ((list : List Piece) × TookFrom N.start result.0 list) }
-    ensures sound { (events : List ℕ) → length events ≡ m →
+    ensures sound { (events : List ℕ) → length events ≡ m → AreYoung levels.old.settings events zero.now.from zero.now.bins →
         IfTold (B.files bay.old) (λ seen. HoldsBins levels.old.settings events levels.old.rows (seen 2) →
         (at : ℕ) → result.1 ≢ Err (FlushFault.Malformed at)) }
     ensures wrote { WroteFrames (B.files bay.old) (B.files bay.new) (B.leaves bay.old) (B.leaves bay.new) (B.moment bay.old) (B.moment bay.new) (B.left_since bay.old) (B.left_since bay.new) }
@@ -271,7 +271,7 @@ fn bring<B: Bay, T: CountTable, N: Begun>(
         IfTold (B.files bay.old) (λ seen. HoldsBins levels.old.settings events levels.old.rows (seen 2) →
         OnOk result.1 (TookFrom N.start result.0 (totals_at levels.old.settings events m tail))) }
     ensures took { OnOk result.1 ((list : List Piece) × TookFrom N.start result.0 list) }
-    ensures sound { (events : List ℕ) → length events ≡ m →
+    ensures sound { (events : List ℕ) → length events ≡ m → AreYoung levels.old.settings events zero.old.from zero.old.bins →
         IfTold (B.files bay.old) (λ seen. HoldsBins levels.old.settings events levels.old.rows (seen 2) →
         (at : ℕ) → result.1 ≢ Err (FlushFault.Malformed at)) }
     ensures wrote { WroteFrames (B.files bay.old) (B.files bay.new) (B.leaves bay.old) (B.leaves bay.new) (B.moment bay.old) (B.moment bay.new) (B.left_since bay.old) (B.left_since bay.new) }
@@ -279,7 +279,7 @@ fn bring<B: Bay, T: CountTable, N: Begun>(
     ensures never_falls { B.faults bay.old ≤ B.faults bay.new }
     ensures mark { B.mark bay.new ≡ B.mark bay.old }
 {
-    if levels.settings().depth(m) == 0 {
+    if zero.settings().depth(m) == 0 {
         due.total(tail, zero.count(tail));
         return (due, Ok(()));
     }
@@ -309,6 +309,7 @@ fn scan_into<B: Bay, T: CountTable, N: Begun>(
         OnOk result.1 (TookFrom N.start result.0 (tallied levels.old.settings events))) }
     ensures took { OnOk result.1 ((list : List Piece) × TookFrom N.start result.0 list) }
     ensures sound { (events : List ℕ) → length events ≤ capacity levels.old.settings → IsAt levels.old.settings (length events) levels.old.rows →
+        zero.now.from ≡ edge levels.old.settings 0 (length events) → AreYoung levels.old.settings events zero.now.from zero.now.bins →
         IfTold (B.files bay.old) (λ seen. HoldsBins levels.old.settings events levels.old.rows (seen 2) →
         (at : ℕ) → result.1 ≢ Err (FlushFault.Malformed at)) }
     ensures only_read { OnlyRead (B.files bay.old) (B.files bay.new) (B.leaves bay.old) (B.leaves bay.new) (B.moment bay.old) (B.moment bay.new) (B.left_since bay.old) (B.left_since bay.new) }

@@ -6,7 +6,7 @@ use Rattle.lert_spec.specs.declared.numbers.Numbers.{Numbers}
 use Rattle.lert_spec.specs.declared.piece.Piece.{Piece}
 use Rattle.lert_spec.specs.Bins.{Bin}
 use Rattle.lert_spec.specs.Edges.{span, edge, depth}
-use Rattle.lert_levels.specs.Leveled.{Leveled}
+use Rattle.lert_levels.specs.OnDisk.{OnDisk}
 use Rattle.lert_levels.specs.Ranges.{young_bins}
 use Rattle.lert_levels.specs.Rows.{IsAt, HoldsBins}
 use Rattle.lert_levels.specs.Young.{Young}
@@ -25,17 +25,17 @@ deep found m now s value same some none = some (value ∙ ap (λ (t : Numbers). 
 
 pub returns-then-depth-eq0-clause-from : goal.returns-then-depth-eq0-clause-from
 returns-then-depth-eq0-clause-from g c =
-    c.requires.from ∙ sym (edge_still c.args.levels.now.settings c.requires.valid c.args.m (shallow c.depth.result c.args.m c.settings.result.now c.args.levels.now.settings c.depth.ensures.value c.settings.ensures c.if-depth-eq0.true))
+    c.requires.from ∙ sym (edge_still c.args.levels.now.settings c.requires.valid c.args.m (shallow c.depth.result c.args.m c.settings.result.now c.args.levels.now.settings c.depth.ensures.value (c.settings.ensures ∙ c.requires.settings) c.if-depth-eq0.true))
 
 pub returns-then-depth-eq0-clause-bins : goal.returns-then-depth-eq0-clause-bins
 returns-then-depth-eq0-clause-bins g c = λ events long bins.
     let s = c.args.levels.now.settings in
-    let still = edge_still s c.requires.valid c.args.m (shallow c.depth.result c.args.m c.settings.result.now s c.depth.ensures.value c.settings.ensures c.if-depth-eq0.true) in
+    let still = edge_still s c.requires.valid c.args.m (shallow c.depth.result c.args.m c.settings.result.now s c.depth.ensures.value (c.settings.ensures ∙ c.requires.settings) c.if-depth-eq0.true) in
     record { is = bins.is ∙ ap (λ p. young_bins c.args.levels.now.settings events p) (c.requires.from ∙ sym still) }
 
 pub returns-then-depth-eq0-clause-rows : goal.returns-then-depth-eq0-clause-rows
 returns-then-depth-eq0-clause-rows g c =
-    rows_still c.args.levels.now.settings c.requires.valid c.args.m c.args.levels.now.rows (shallow c.depth.result c.args.m c.settings.result.now c.args.levels.now.settings c.depth.ensures.value c.settings.ensures c.if-depth-eq0.true) c.requires.rows
+    rows_still c.args.levels.now.settings c.requires.valid c.args.m c.args.levels.now.rows (shallow c.depth.result c.args.m c.settings.result.now c.args.levels.now.settings c.depth.ensures.value (c.settings.ensures ∙ c.requires.settings) c.if-depth-eq0.true) c.requires.rows
 
 pub returns-then-depth-eq0-clause-holds : goal.returns-then-depth-eq0-clause-holds
 returns-then-depth-eq0-clause-holds g c = λ events long bins seen told holds after told_after.
@@ -45,7 +45,7 @@ pub returns-then-depth-eq0-clause-totals : goal.returns-then-depth-eq0-clause-to
 returns-then-depth-eq0-clause-totals g c = λ events long bins seen told holds.
     let s = c.args.levels.now.settings in
     let is = young_total s c.requires.valid events c.args.m c.args.tail c.count.result c.args.zero.now.from c.args.zero.now.bins long c.requires.from
-    (shallow c.depth.result c.args.m c.settings.result.now s c.depth.ensures.value c.settings.ensures c.if-depth-eq0.true) bins c.count.ensures in
+    (shallow c.depth.result c.args.m c.settings.result.now s c.depth.ensures.value (c.settings.ensures ∙ c.requires.settings) c.if-depth-eq0.true) bins c.count.ensures in
     subst (λ (pieces : List Piece). TookFrom g.N.Begun.start c.total.new.self pieces) is
     (c.total.ensures g.N.Begun.start [] c.requires.start (All-nil (λ (piece : Piece). piece.tail < c.args.tail)))
 
@@ -55,24 +55,24 @@ returns-then-depth-eq0-clause-took g c =
 
 pub flush_into-due-requires-clause-flushes : goal.flush_into-due-requires-clause-flushes
 flush_into-due-requires-clause-flushes g c =
-    flush_moves c.args.levels.now.settings c.requires.valid c.args.m (deep c.depth.result c.args.m c.settings.result.now c.args.levels.now.settings c.depth.ensures.value c.settings.ensures c.if-depth-eq0.false)
+    flush_moves c.args.levels.now.settings c.requires.valid c.args.m (deep c.depth.result c.args.m c.settings.result.now c.args.levels.now.settings c.depth.ensures.value (c.settings.ensures ∙ c.requires.settings) c.if-depth-eq0.false)
 
 pub drop_oldest-requires : goal.drop_oldest-requires
 drop_oldest-requires g c =
-    let next = dropped_edge c.args.levels.now.settings c.requires.valid c.args.m (deep c.depth.result c.args.m c.settings.result.now c.args.levels.now.settings c.depth.ensures.value c.settings.ensures c.if-depth-eq0.false) in
+    let next = dropped_edge c.args.levels.now.settings c.requires.valid c.args.m (deep c.depth.result c.args.m c.settings.result.now c.args.levels.now.settings c.depth.ensures.value (c.settings.ensures ∙ c.requires.settings) c.if-depth-eq0.false) in
     let wide : span c.args.zero.now.settings 0 ≡ span c.args.levels.now.settings 0 = ap (λ (t : Numbers). span t 0) c.requires.settings in
     omega (arith, next, wide, c.requires.from, c.requires.to, edge_within c.args.levels.now.settings 0 c.args.m)
 
 pub returns-in-Ok-clause-from : goal.returns-in-Ok-clause-from
 returns-in-Ok-clause-from g c =
-    let next = dropped_edge c.args.levels.now.settings c.requires.valid c.args.m (deep c.depth.result c.args.m c.settings.result.now c.args.levels.now.settings c.depth.ensures.value c.settings.ensures c.if-depth-eq0.false) in
+    let next = dropped_edge c.args.levels.now.settings c.requires.valid c.args.m (deep c.depth.result c.args.m c.settings.result.now c.args.levels.now.settings c.depth.ensures.value (c.settings.ensures ∙ c.requires.settings) c.if-depth-eq0.false) in
     ap (λ (y : Young). y.from) c.drop_oldest.ensures
     ∙ ap₂ (λ (from : ℕ) (t : Numbers). from + span t 0) c.requires.from c.requires.settings
     ∙ sym next
 
 pub returns-in-Ok-clause-bins : goal.returns-in-Ok-clause-bins
 returns-in-Ok-clause-bins g c = λ events long bins.
-    let dropped = dropped_bins c.args.levels.now.settings c.requires.valid events c.args.m long (deep c.depth.result c.args.m c.settings.result.now c.args.levels.now.settings c.depth.ensures.value c.settings.ensures c.if-depth-eq0.false) in
+    let dropped = dropped_bins c.args.levels.now.settings c.requires.valid events c.args.m long (deep c.depth.result c.args.m c.settings.result.now c.args.levels.now.settings c.depth.ensures.value (c.settings.ensures ∙ c.requires.settings) c.if-depth-eq0.false) in
     record {
       is = ap (λ (y : Young). y.bins) c.drop_oldest.ensures
           ∙ ap (drop 1) (bins.is ∙ ap (λ p. young_bins c.args.levels.now.settings events p) c.requires.from)
@@ -82,22 +82,22 @@ returns-in-Ok-clause-bins g c = λ events long bins.
 pub returns-in-Ok-clause-rows : goal.returns-in-Ok-clause-rows
 returns-in-Ok-clause-rows g c =
     let moved_ = rw c.in-Ok.is at c.flush_into-due.ensures.moved in
-    subst (λ (v : Leveled). IsAt c.args.levels.now.settings c.args.m v.rows) (sym moved_)
+    subst (λ (v : OnDisk). IsAt c.args.levels.now.settings c.args.m v.rows) (sym moved_)
     (IsAt-moved c.args.levels.now.settings c.requires.valid c.args.m c.requires.first c.requires.last c.args.levels.now.rows c.requires.rows)
 
 pub returns-in-Ok-clause-holds : goal.returns-in-Ok-clause-holds
 returns-in-Ok-clause-holds g c = λ events long bins seen told holds after told_after.
     let moved_ = rw c.in-Ok.is at c.flush_into-due.ensures.moved in
     let held = rw c.in-Ok.is at (c.flush_into-due.ensures.holds events long bins seen told holds) in
-    subst (λ (t : Numbers). HoldsBins t events c.flush_into-due.new.levels.rows (after 2)) (ap (λ (v : Leveled). v.settings) moved_) (held after told_after)
+    subst (λ (t : Numbers). HoldsBins t events c.flush_into-due.new.levels.rows (after 2)) (ap (λ (v : OnDisk). v.settings) moved_) (held after told_after)
 
 pub returns-in-Ok-clause-totals : goal.returns-in-Ok-clause-totals
 returns-in-Ok-clause-totals g c = λ events long bins seen told holds.
     let took = rw c.in-Ok.is at (c.flush_into-due.ensures.totals events long bins seen told holds) in
     subst (λ (pieces : List Piece). TookFrom g.N.Begun.start c.flush_into-due.result.0 pieces)
-    (flush_total c.args.levels.now.settings c.requires.valid events c.args.m c.args.tail (deep c.depth.result c.args.m c.settings.result.now c.args.levels.now.settings c.depth.ensures.value c.settings.ensures c.if-depth-eq0.false))
+    (flush_total c.args.levels.now.settings c.requires.valid events c.args.m c.args.tail (deep c.depth.result c.args.m c.settings.result.now c.args.levels.now.settings c.depth.ensures.value (c.settings.ensures ∙ c.requires.settings) c.if-depth-eq0.false))
     took
 
 pub returns-in-Err-clause-sound : goal.returns-in-Err-clause-sound
-returns-in-Err-clause-sound g c = λ events long seen told holds at same.
-    c.flush_into-due.ensures.sound events long seen told holds at (c.in-Err.is ∙ same)
+returns-in-Err-clause-sound g c = λ events long bins seen told holds at same.
+    c.flush_into-due.ensures.sound events long bins seen told holds at (c.in-Err.is ∙ same)

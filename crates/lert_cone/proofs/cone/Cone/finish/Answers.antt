@@ -8,7 +8,7 @@ use Rattle.lert_cone.specs.declared.state.ConeState.TheVariants.{Running, Finish
 use Rattle.lert_cone.specs.Listing.{Listing}
 use Rattle.lert_cone.specs.Stands.{Standing, over_of, is_broken, broken_by}
 use Rattle.lert_reports.specs.Stored.{Stored}
-use Rattle.lert_cone.proofs.StandLaws.{stands_ended, stands_unended, ended_cone, held_whole, reports_finished, untold, risen_since, is_broken_by, by_bay_of, by_read_of, unsound_of}
+use Rattle.lert_cone.proofs.StandLaws.{stands_ended, stands_unended, ended_cone, broken_cone, held_whole, reports_finished, untold, risen_since, is_broken_by, by_bay_of, by_read_of, unsound_of}
 use Rattle.lert_cone.proofs.cone.Cone.finish.Goals as goal
 
 pub returns-in-Err-clause-stays : goal.returns-in-Err-clause-stays
@@ -19,6 +19,14 @@ returns-in-Err-clause-stays g c = rw (← c.self.view_is) (λ h stands.
     (λ same. risen_since (g.B.Faulty.faults c.self.inside.made.value) (g.B.Faulty.faults c.self.inside.bay) (g.B.Faulty.faults c.finish.new.bay) c.self.invariant.never_falls c.finish.ensures.never_falls
     (c.finish.ensures.failed (c.in-Err.is ∙ ap Err (by_bay_of c.in-Err.fault (sym c.broken_by-self-inside.ensures ∙ same)))))
     (λ file at same. untold (g.B.Bay.files c.self.inside.bay) (λ seen told. c.finish.ensures.sound seen told (held_whole g.B.Bay.files g.B.Bay.leaves g.B.Faulty.faults c.self.inside.bay c.self.inside.tally c.self.inside.journal.gate h seen stands.valid counted (stands.whole (ap is_broken running) seen told)) file at (c.in-Err.is ∙ ap Err (by_read_of c.in-Err.fault file at (sym c.broken_by-self-inside.ensures ∙ same))))))
+
+pub invariant_of-self : goal.invariant_of-self
+invariant_of-self g c =
+    broken_cone g.B.Bay.files g.B.Bay.leaves g.B.Faulty.faults (record { bay = c.self.inside.bay; made = c.self.inside.made.value; listing = c.self.inside.tally.listing; rows = c.self.inside.tally.rows; reports = c.self.inside.tally.due.reports; events = c.self.inside.events; state = c.self.inside.state; over = over_of c.self.inside.over; gate = c.self.inside.journal.gate }) _ c.self.inside.tally c.finish.new.self c.self.inside.journal c.self.inside.journal _ _
+    (ap is_broken c.broken_by-self-inside.ensures ∙ is_broken_by c.in-Err.fault) (ap (λ (l : Listing). l.settings) c.in-Err.ensures.refused) refl refl refl refl refl c.finish.ensures.never_falls
+    (λ same. risen_since (g.B.Faulty.faults c.self.inside.made.value) (g.B.Faulty.faults c.self.inside.bay) (g.B.Faulty.faults c.finish.new.bay) c.self.invariant.never_falls c.finish.ensures.never_falls
+    (c.finish.ensures.failed (c.in-Err.is ∙ ap Err (by_bay_of c.in-Err.fault (sym c.broken_by-self-inside.ensures ∙ same)))))
+    c.self.invariant
 
 pub returns-in-Err-clause-unsound : goal.returns-in-Err-clause-unsound
 returns-in-Err-clause-unsound g c = rw (← c.self.view_is) (λ file at same.

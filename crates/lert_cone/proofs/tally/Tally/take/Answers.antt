@@ -25,7 +25,7 @@ returns-in_err-result-clause-sound g c = λ seen told is_held file at same.
     let young = young_now t c.self.inside.levels.settings c.self.invariant.levels_settings c.self.invariant.valid c.self.invariant.named c.self.invariant.young_settings counted fits c.args.key c.tail_of-tail.result (c.self.inside.len + 1) c.tail_of-tail.ensures.value m_is c.add.new.self c.add.ensures in
     let frames = frames_now t c.self.inside.levels.settings c.self.invariant.levels_settings c.self.invariant.valid c.self.invariant.named c.self.invariant.young_settings counted fits c.args.key c.tail_of-tail.result (c.self.inside.len + 1) c.tail_of-tail.ensures.value m_is c.add.new.self c.add.ensures seen held in
     let long = all_long t c.self.inside.levels.settings c.self.invariant.levels_settings c.self.invariant.valid c.self.invariant.named c.self.invariant.young_settings counted fits c.args.key c.tail_of-tail.result (c.self.inside.len + 1) c.tail_of-tail.ensures.value m_is c.add.new.self c.add.ensures in
-    let fine = c.bring-due.ensures.sound (c.self.inside.taken ++ c.args.key ∷ []) long seen told frames in
+    let fine = c.bring-due.ensures.sound (c.self.inside.taken ++ c.args.key ∷ []) long young seen told frames in
     err_is c.from_residual.result c.in_err-result.field-0.0 c.from_residual.ensures.1 (λ place is. fine place (c.in_err-result.was ∙ ap Err is)) file at same
 
 pub returns-then-is_full-clause-sound : goal.returns-then-is_full-clause-sound
