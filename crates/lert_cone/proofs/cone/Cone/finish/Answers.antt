@@ -4,7 +4,6 @@ use Rattle.lert_spec.specs.Look.{closing}
 use Rattle.lert_cone.specs.declared.refusal.ConeFault.{ConeFault}
 use Rattle.lert_cone.specs.declared.refusal.ConeFault.TheVariants.{Unsound}
 use Rattle.lert_cone.specs.declared.state.ConeState.TheVariants.{Running, Finished}
-
 use Rattle.lert_cone.specs.Listing.{Listing}
 use Rattle.lert_cone.specs.Stands.{Standing, over_of, is_broken, broken_by}
 use Rattle.lert_reports.specs.Stored.{Stored}

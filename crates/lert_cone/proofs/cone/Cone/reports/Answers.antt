@@ -5,7 +5,6 @@ use Rattle.lert_spec.specs.Edges.{capacity}
 use Rattle.lert_spec.specs.Timely.{IsTimely, IsTimelySoFar}
 use Rattle.lert_spec.proofs.TimeBound.{IsTimely-closing, IsTimelySoFar-look}
 use Rattle.lert_reports.specs.Stored.{Stored}
-
 use Rattle.lert_cone.specs.Stands.{is_broken, is_finished}
 use Rattle.lert_cone.proofs.StandLaws.{reports_running, reports_finished}
 use Rattle.lert_cone.proofs.cone.Cone.reports.Goals as goal
