@@ -1,9 +1,9 @@
 -- What the parts of a flush's merge make: the new bins.
-use Rattle.std.proofs.Common.{ℕ, ◌≡◌, ◌≢◌, ◌+◌, ◌-◌, ◌*◌, ◌/◌, ◌^◌, ◌<◌, ◌≤◌, zero, suc, Bool, true, false, cond, List, [], ◌∷◌, ◌++◌, length, map, take, get_or, Option, Some, None, refl, ap, ap₂, sym, ◌∙◌, arith, inl, inr, subst, sum_by, flat_map, slice_range, add-one, lit≤}
-use Rattle.std.specs.List.{All, range_with_len}
-use Rattle.std.proofs.Math.Nat.{mul-suc, pow-le-pow_right}
-use Rattle.std.proofs.lemmas.Bool.{cases_Bool, cases_lt}
-use Rattle.std.proofs.lemmas.List.{get_or-map, get_or-take, length-map, length-take, take_all, get_or_append_left}
+use Rattle.std.proofs.Common.{ℕ, ◌≡◌, ◌+◌, ◌-◌, ◌*◌, ◌/◌, ◌^◌, ◌<◌, ◌≤◌, zero, suc, cond, List, [], ◌∷◌, ◌++◌, length, map, take, get_or, Some, None, refl, ap, ap₂, sym, ◌∙◌, arith, inl, inr, subst, sum_by, flat_map, slice_range}
+use Rattle.std.specs.List.{All}
+use Rattle.std.proofs.Math.Nat.{mul-suc}
+use Rattle.std.proofs.lemmas.Bool.{cases_Bool}
+use Rattle.std.proofs.lemmas.List.{get_or-map, length-map, length-take, take_all, get_or_append_left}
 use Rattle.std.proofs.lemmas.List.FromFn.{get_or-map-range_with_len, length-map-range_with_len}
 use Rattle.std.proofs.lemmas.List.Sums.{sum_by-cons, sum_by-take-le}
 use Rattle.lert_frames.specs.Frame.{IsBin}
@@ -11,22 +11,21 @@ use Rattle.lert_frames.specs.Place.{tail_limit}
 use Rattle.lert_spec.specs.declared.numbers.Numbers.{Numbers}
 use Rattle.lert_spec.specs.declared.piece.Piece.{Piece}
 use Rattle.lert_spec.specs.Bins.{Bin, tallied}
-use Rattle.lert_spec.specs.Edges.{span, offset, edge, depth, capacity}
+use Rattle.lert_spec.specs.Edges.{span, edge, depth, capacity}
 use Rattle.lert_spec.specs.Limits.{IsValid}
-use Rattle.lert_spec.specs.Table.{count_of, total, IsTable, AreGiven}
-use Rattle.lert_spec.proofs.EdgeLaws.{span_pos, steps, moves_by_one, deepest_within}
-use Rattle.lert_spec.proofs.LimitLaws.{capacity_to}
+use Rattle.lert_spec.specs.Table.{count_of, total, IsTable}
+use Rattle.lert_spec.proofs.EdgeLaws.{steps, moves_by_one, deepest_within}
 use Rattle.lert_spec.proofs.TallyLaws.{IsTable-tallied}
 use Rattle.lert_merge.specs.Merging.{count_in}
 use Rattle.lert_levels.specs.declared.bin_at.BinAt.{BinAt}
-use Rattle.lert_levels.specs.declared.gather.Part.{Part}
-use Rattle.lert_levels.specs.Gathered.{merged, list_at, lists_in, newest_in, part_table, IsWithin}
+use Rattle.lert_levels.specs.Gathered.{merged, list_at, newest_in, part_table, IsWithin}
 use Rattle.lert_levels.specs.Landing.{CanStand}
 use Rattle.lert_levels.specs.Loading.{AreBins, width_of, widths_in, held_in}
 use Rattle.lert_levels.specs.Merged.{streams_of, widths_of}
-use Rattle.lert_levels.specs.Parts.{streams_to, oldest_stream, newest_stream, part_at, parts_at}
+use Rattle.lert_levels.specs.Parts.{streams_to, oldest_stream, part_at, parts_at}
 use Rattle.lert_levels.specs.Ranges.{Range, ranges, filled, young_bins}
 use Rattle.lert_levels.specs.Rows.{range_of, row_of, IsAt, newest, begins, arrived, tallied_in}
+use Rattle.lert_levels.proofs.HoldLaws.{row_among}
 use Rattle.lert_levels.proofs.MergedLaws.{AreTables, IsTable-merged, count_of-merged, total-merged, AreGiven-merged}
 use Rattle.lert_levels.proofs.PartLaws.{streams_more, stream_at}
 use Rattle.lert_levels.proofs.RangeLaws.{range_cuts, oldest_is, oldest_young, depth_moves}
@@ -86,7 +85,7 @@ module _ (s : Numbers) (valid : IsValid s) (m : ℕ) (first : 1 ≤ m) (fits : m
 
   -- the row of a level that the flush reaches
   row_is : (k : ℕ) → k < depth s m → row_of rows (k + 1) ≡ get_or (take (depth s m) rows) k []
-  row_is k less = ap (λ n. get_or rows n []) (let same : k + 1 - 1 ≡ k = omega arith in same) ∙ sym (get_or-take (depth s m) rows k [] less)
+  row_is k less = row_among rows (depth s m) k less
 
   ranges_are : (k : ℕ) → k < depth s m → map range_of (get_or (take (depth s m) rows) k []) ≡ ranges s (m - 1) (k + 1)
   ranges_are k less = ap (map range_of) (sym (row_is k less)) ∙ at.each (k + 1) (omega arith) (omega (arith, deep))
@@ -177,11 +176,11 @@ module _ (s : Numbers) (valid : IsValid s) (m : ℕ) (first : 1 ≤ m) (fits : m
             part_is
             ∙ window_table s events new.from new.to (merged (tallied s low ∷ other ∷ [])) (IsTable-merged limit (tallied s low ∷ other ∷ []) tables)
             (λ tail. (
-              let counts = count_of-merged limit (tallied s low ∷ other ∷ []) tail tables ∙ two_counts (tallied s low) other tail in
-              let first_part = ap₂ (counted s events tail) (sym from_is) to_is in
-              let whole = counted-join s events tail new.from (edge s k (m - 1)) (edge s k m) (omega (arith, arrival.ordered, high_is)) (omega (arith, arrival.further, high_is, end_is)) in
-              let ends = ap (counted s events tail new.from) end_is in
-              omega arith)))
+            let counts = count_of-merged limit (tallied s low ∷ other ∷ []) tail tables ∙ two_counts (tallied s low) other tail in
+            let first_part = ap₂ (counted s events tail) (sym from_is) to_is in
+            let whole = counted-join s events tail new.from (edge s k (m - 1)) (edge s k m) (omega (arith, arrival.ordered, high_is)) (omega (arith, arrival.further, high_is, end_is)) in
+            let ends = ap (counted s events tail new.from) end_is in
+            omega arith)))
       ]
 
   -- ---- whatever the frames hold
@@ -275,6 +274,7 @@ module _ (s : Numbers) (valid : IsValid s) (m : ℕ) (first : 1 ≤ m) (fits : m
       oldest_within young some zero less all = omega arith
       oldest_within young some (suc k) less all =
           omega (arith, all (k + 1), streams_more young (take (depth s m) rows) k (omega (arith, enough)), (goes k less).some)
+
       newest_within : (young : ℕ) → 1 ≤ young → (k : ℕ) → k < depth s m → (stream : ℕ) → ((n : ℕ) → streams_to young (take (depth s m) rows) n ≤ streams_to young (take (depth s m) rows) (depth s m)) →
           (part_at s m young (take (depth s m) rows) k).newest ≡ Some stream → stream < streams_to young (take (depth s m) rows) (depth s m)
       newest_within young some k less stream all is =

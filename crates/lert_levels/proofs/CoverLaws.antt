@@ -1,21 +1,21 @@
 -- What the bins of several levels count together, and what the new bins of a flush hold.
-use Rattle.std.proofs.Common.{ℕ, ◌≡◌, ◌≢◌, ◌+◌, ◌-◌, ◌^◌, ◌<◌, ◌≤◌, zero, suc, Bool, true, false, cond, List, [], ◌∷◌, ◌++◌, length, map, get_or, take, drop, refl, ap, ap₂, sym, ◌∙◌, arith, inl, inr, subst, sum_by, flat_map, slice_range, append-nil, length-append}
-use Rattle.std.proofs.lemmas.Bool.{cases_eq, cases_Bool, eq-eqb, ne_eqb, lt-ltb, eqb-true, eqb-false}
+use Rattle.std.proofs.Common.{ℕ, ◌≡◌, ◌+◌, ◌-◌, ◌^◌, ◌≤◌, zero, suc, List, [], ◌∷◌, ◌++◌, length, map, get_or, take, ap, sym, ◌∙◌, arith, subst, sum_by, flat_map, slice_range, append-nil}
 use Rattle.std.proofs.lemmas.Grind.{flat_map-append}
-use Rattle.std.proofs.lemmas.List.{take_more, take_all, length-map, get_or-map, get_or_at}
-use Rattle.std.proofs.lemmas.List.Sums.{sum_by-append, sum_by-cons}
+use Rattle.std.proofs.lemmas.List.{take_more, take_all}
+use Rattle.std.proofs.lemmas.List.Sums.{sum_by-append}
 use Rattle.lert_spec.specs.declared.numbers.Numbers.{Numbers}
 use Rattle.lert_spec.specs.declared.piece.Piece.{Piece}
 use Rattle.lert_spec.specs.Bins.{Bin, tallied}
-use Rattle.lert_spec.specs.Edges.{span, offset, edge, depth, lookback, capacity}
+use Rattle.lert_spec.specs.Edges.{edge, depth, lookback, capacity}
 use Rattle.lert_spec.specs.Limits.{IsValid}
-use Rattle.lert_spec.specs.Table.{count_of, total, IsTable}
-use Rattle.lert_spec.proofs.EdgeLaws.{edge_never_falls, edge_descends_to, deepest_within, span_pos}
+use Rattle.lert_spec.specs.Table.{count_of, IsTable}
+use Rattle.lert_spec.proofs.EdgeLaws.{edge_descends_to, deepest_within, span_pos}
 use Rattle.lert_levels.specs.declared.bin_at.BinAt.{BinAt}
-use Rattle.lert_levels.specs.Ranges.{Range, ranges, young_bins}
-use Rattle.lert_levels.specs.Rows.{range_of, row_of, IsAt, newest, begins, arrived, tallied_in, tallied_to}
-use Rattle.lert_levels.proofs.RangeLaws.{Enters, enters, edge_within, oldest_edge}
-use Rattle.lert_levels.proofs.Windows.{counted, counted-none, counted-join, ranges_cover, sum_by-map, young_cover, window_table, slice_range-join}
+use Rattle.lert_levels.specs.Loading.{held_in}
+use Rattle.lert_levels.specs.Ranges.{Range, young_bins}
+use Rattle.lert_levels.specs.Rows.{range_of, row_of, IsAt, tallied_in}
+use Rattle.lert_levels.proofs.RangeLaws.{edge_within, oldest_edge}
+use Rattle.lert_levels.proofs.Windows.{counted, counted-none, counted-join, ranges_cover, sum_by-map, young_cover, window_table}
 
 abbrev of_tail : ℕ → List Piece → ℕ
 of_tail tail pieces = count_of pieces tail
@@ -36,7 +36,7 @@ module _ (s : Numbers) (valid : IsValid s) where
 
   -- the bins of the levels from 1 up to one count what stands between its edge and that of level 0
   pub rows_cover : (events : List ℕ) (tail n : ℕ) (rows : List (List BinAt)) → IsAt s n rows → (level : ℕ) → level ≤ s.levels →
-      sum_by (of_tail tail) (tallied_to s events rows level) ≡ counted s events tail (edge s level n) (edge s 0 n)
+      sum_by (of_tail tail) (held_in (tallied_in s events) (take level rows)) ≡ counted s events tail (edge s level n) (edge s 0 n)
   rows_cover events tail n rows at zero within = sym (counted-none s events tail (edge s 0 n))
   rows_cover events tail n rows at (suc level) within =
       let lists = λ (row : List BinAt). map (tallied_in s events) row in
@@ -53,7 +53,7 @@ module _ (s : Numbers) (valid : IsValid s) where
       ∙ ranges_cover s events tail n (suc level) base ratio (omega arith)
       ∙ ap (λ k. counted s events tail (edge s (suc level) n) (edge s k n)) (let same : suc level - 1 ≡ level = omega arith in same) in
       let joined = counted-join s events tail (edge s (suc level) n) (edge s level n) (edge s 0 n) (descends_from level n) (below_youngest level n) in
-      let parts : sum_by (of_tail tail) (tallied_to s events rows (suc level)) ≡ sum_by (of_tail tail) (tallied_to s events rows level) + sum_by (of_tail tail) (lists row) =
+      let parts : sum_by (of_tail tail) (held_in (tallied_in s events) (take (suc level) rows)) ≡ sum_by (of_tail tail) (held_in (tallied_in s events) (take level rows)) + sum_by (of_tail tail) (lists row) =
       ap (λ rs. sum_by (of_tail tail) (flat_map lists rs)) more
       ∙ ap (sum_by (of_tail tail)) (flat_map-append lists (take level rows) (row ∷ []) ∙ ap (λ rest. flat_map lists (take level rows) ++ rest) (append-nil (lists row)))
       ∙ sum_by-append (of_tail tail) (flat_map lists (take level rows)) (lists row) in
@@ -61,12 +61,12 @@ module _ (s : Numbers) (valid : IsValid s) where
 
   -- with those of level 0 above its edge they count all behind the older edge
   pub all_cover : (events : List ℕ) (tail n : ℕ) (rows : List (List BinAt)) → IsAt s n rows → n ≤ length events → (level : ℕ) → level ≤ s.levels →
-      sum_by (of_tail tail) (map (λ (bin : Bin). bin.pieces) (young_bins s events (edge s 0 n)) ++ tallied_to s events rows level) ≡ counted s events tail (edge s level n) (length events)
+      sum_by (of_tail tail) (map (λ (bin : Bin). bin.pieces) (young_bins s events (edge s 0 n)) ++ held_in (tallied_in s events) (take level rows)) ≡ counted s events tail (edge s level n) (length events)
   all_cover events tail n rows at within level reached =
       let young = young_bins s events (edge s 0 n) in
       let pieces = λ (bin : Bin). bin.pieces in
       let edge_low = edge_within s 0 n in
-      let parts = sum_by-append (of_tail tail) (map pieces young) (tallied_to s events rows level) in
+      let parts = sum_by-append (of_tail tail) (map pieces young) (held_in (tallied_in s events) (take level rows)) in
       let first = sum_by-map pieces (of_tail tail) young ∙ young_cover s events tail (edge s 0 n) base ratio (omega arith) in
       let others = rows_cover events tail n rows at level reached in
       let joined = counted-join s events tail (edge s level n) (edge s 0 n) (length events) (below_youngest level n) (omega arith) in
@@ -74,7 +74,7 @@ module _ (s : Numbers) (valid : IsValid s) where
 
   -- the totals of the flush at m
   pub flush_totals : (events : List ℕ) (m : ℕ) (rows : List (List BinAt)) (pieces : List Piece) → IsAt s (m - 1) rows → length events ≡ m → IsTable (2 ^ (64 - s.cone_bits)) pieces →
-      ((tail : ℕ) → count_of pieces tail ≡ sum_by (of_tail tail) (map (λ (bin : Bin). bin.pieces) (young_bins s events (edge s 0 (m - 1))) ++ tallied_to s events rows (depth s m))) →
+      ((tail : ℕ) → count_of pieces tail ≡ sum_by (of_tail tail) (map (λ (bin : Bin). bin.pieces) (young_bins s events (edge s 0 (m - 1))) ++ held_in (tallied_in s events) (take (depth s m) rows))) →
       pieces ≡ tallied s (slice_range events (lookback s m) m)
   flush_totals events m rows pieces at len table sums =
       window_table s events (lookback s m) m pieces table
@@ -83,7 +83,7 @@ module _ (s : Numbers) (valid : IsValid s) where
 
   -- the totals of all events
   pub scan_totals : (events : List ℕ) (rows : List (List BinAt)) (pieces : List Piece) → IsAt s (length events) rows → length events ≤ capacity s → IsTable (2 ^ (64 - s.cone_bits)) pieces →
-      ((tail : ℕ) → count_of pieces tail ≡ sum_by (of_tail tail) (map (λ (bin : Bin). bin.pieces) (young_bins s events (edge s 0 (length events))) ++ tallied_to s events rows s.levels)) →
+      ((tail : ℕ) → count_of pieces tail ≡ sum_by (of_tail tail) (map (λ (bin : Bin). bin.pieces) (young_bins s events (edge s 0 (length events))) ++ held_in (tallied_in s events) (take s.levels rows))) →
       pieces ≡ tallied s events
   scan_totals events rows pieces at fits table sums =
       let n = length events in

@@ -1,12 +1,12 @@
 -- Worked examples of the definitions, computed: bins of 4 events at level 0, three bins a level, a ratio of 2, two levels on
 -- disk, and thirty-two keys.
-use Rattle.std.proofs.Common.{◌≡◌, ℕ, List, [], ◌∷◌, ◌++◌, refl, length, map}
+use Rattle.std.proofs.Common.{◌≡◌, ℕ, List, [], ◌∷◌, ◌++◌, refl, map}
 use Rattle.std.specs.List.{range_with_len}
 use Rattle.lert_spec.specs.declared.numbers.Numbers.{Numbers}
 use Rattle.lert_spec.specs.Bins.{bins}
 use Rattle.lert_levels.specs.declared.bin_at.BinAt.{BinAt}
-use Rattle.lert_levels.specs.Ranges.{Range, ranges, filled, young_bins}
-use Rattle.lert_levels.specs.Rows.{range_of, row_of, moved, directory_text}
+use Rattle.lert_levels.specs.Ranges.{ranges, filled, young_bins}
+use Rattle.lert_levels.specs.Rows.{moved, directory_text}
 
 abbrev small : Numbers
 small = record { threshold = 3; bins = 3; ratio = 2; base = 4; levels = 2; cone_bits = 8; room = 32; packet = 8 }

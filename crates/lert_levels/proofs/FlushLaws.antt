@@ -1,7 +1,6 @@
 -- What the merge of a flush or a scan makes, in the words of the cone's events.
-use Rattle.std.proofs.Common.{ℕ, ◌≡◌, ◌+◌, ◌-◌, ◌^◌, ◌<◌, ◌≤◌, zero, suc, List, [], ◌∷◌, ◌++◌, length, map, take, get_or, ap, sym, ◌∙◌, arith, inl, inr, ◌⊎◌, subst, sum_by, slice_range, Result, length-take}
+use Rattle.std.proofs.Common.{ℕ, ◌≡◌, ◌+◌, ◌-◌, ◌^◌, ◌<◌, ◌≤◌, List, [], length, map, take, get_or, ap, sym, ◌∙◌, arith, subst, slice_range, Result, length-take}
 use Rattle.std.specs.Prelude.{Ok, Err, IfOk, IfErr, MatchResult}
-use Rattle.std.specs.List.{All}
 use Rattle.std.proofs.lemmas.List.{length-map, get_or-map}
 use Rattle.std.proofs.lemmas.List.FromFn.{get_or-map-range_with_len, length-map-range_with_len}
 use Rattle.lert_frames.specs.Place.{tail_limit}
@@ -20,10 +19,9 @@ use Rattle.lert_levels.specs.Flushed.{AllCanStand, AreNew, AreEvents, AreAllEven
 use Rattle.lert_levels.specs.Gathered.{merged, part_table, IsWithin}
 use Rattle.lert_levels.specs.Landing.{CanStand}
 use Rattle.lert_levels.specs.Merged.{IsMade, streams_of, widths_of}
-use Rattle.lert_levels.specs.OnDisk.{OnDisk}
-use Rattle.lert_levels.specs.Parts.{streams_to, part_at, parts_at}
+use Rattle.lert_levels.specs.Parts.{part_at, parts_at}
 use Rattle.lert_levels.specs.Ranges.{young_bins}
-use Rattle.lert_levels.specs.Rows.{IsAt, AreRows, HoldsBins, arrived, tallied_in}
+use Rattle.lert_levels.specs.Rows.{IsAt, AreRows, tallied_in}
 use Rattle.lert_levels.proofs.ArrivalLaws.{tables_from_bins, part_fits, part_holds, part_within}
 use Rattle.lert_levels.proofs.CoverLaws.{flush_totals, scan_totals}
 use Rattle.lert_levels.proofs.HoldLaws.{rows_stand}

@@ -1,30 +1,26 @@
 -- What the frames hold before a flush and after it.
-use Rattle.std.proofs.Common.{ℕ, ◌≡◌, ◌≢◌, ◌+◌, ◌-◌, ◌*◌, ◌/◌, ◌^◌, ◌<◌, ◌≤◌, zero, suc, Bool, true, false, cond, ltb, eqb, List, [], ◌∷◌, ◌++◌, length, map, take, drop, get_or, Option, Some, None, refl, ap, ap₂, sym, ◌∙◌, arith, inl, inr, ◌⊎◌, subst, slice_range, length-take, length-drop, Result}
+use Rattle.std.proofs.Common.{ℕ, ◌≡◌, ◌≢◌, ◌+◌, ◌-◌, ◌/◌, ◌^◌, ◌<◌, ◌≤◌, zero, suc, cond, ltb, eqb, List, [], ◌∷◌, ◌++◌, length, take, drop, get_or, Option, Some, ap, ap₂, sym, ◌∙◌, arith, inl, inr, ◌⊎◌, subst, slice_range, length-take, Result}
 use Rattle.std.specs.Prelude.{Ok, Err, OnOk}
-use Rattle.std.specs.List.{All, Contains}
-use Rattle.std.proofs.Math.Nat.{pow-le-pow_right}
+use Rattle.std.specs.List.{All}
 use Rattle.std.proofs.lemmas.Bool.{cases_lt, cases_eq, lt-ltb, le-ltb, eq-eqb}
-use Rattle.std.proofs.lemmas.List.{get_or-take, length-map}
+use Rattle.std.proofs.lemmas.List.{get_or-take}
 use Rattle.std.proofs.lemmas.List.Elements.{All-append, All-drop, All-cons, All-nil, Contains-get_or}
 use Rattle.std.proofs.lemmas.List.Sums.{sum_by-cons}
 use Rattle.lert_bay.specs.Files.{Files, Turns}
-use Rattle.lert_frames.specs.Frame.{HoldsFrame, IsBin, text_len}
-use Rattle.lert_frames.specs.Place.{frame_place, frame_len, tail_limit}
+use Rattle.lert_frames.specs.Frame.{HoldsFrame, text_len}
+use Rattle.lert_frames.specs.Place.{frame_place, frame_len}
 use Rattle.lert_frames.proofs.PlaceLaws.{places_apart}
 use Rattle.lert_spec.specs.declared.numbers.Numbers.{Numbers}
 use Rattle.lert_spec.specs.declared.piece.Piece.{Piece}
 use Rattle.lert_spec.specs.Bins.{tallied}
-use Rattle.lert_spec.specs.Edges.{span, edge, depth, capacity}
-use Rattle.lert_spec.specs.Limits.{IsValid}
-use Rattle.lert_spec.specs.Table.{total}
+use Rattle.lert_spec.specs.Edges.{span, edge, depth}
 use Rattle.lert_spec.proofs.Tables.{length_le-total, count_le-total}
 use Rattle.lert_spec.proofs.TallyLaws.{IsTable-tallied, total-tallied}
 use Rattle.lert_levels.specs.declared.bin_at.BinAt.{BinAt}
 use Rattle.lert_levels.specs.Flushed.{AreNew, InNamed}
-use Rattle.lert_levels.specs.Landing.{IsApart, LeavesRest, landing_frame, AreApart, AreLanded}
-use Rattle.lert_levels.specs.Loading.{Stands, AllStand, width_of}
-use Rattle.lert_levels.specs.Ranges.{Range, ranges}
-use Rattle.lert_levels.specs.Rows.{range_of, row_of, IsAt, IsRow, AreRows, HoldsBins, times_named, lowest_free, kept, arrived, moved_row, moved, tallied_in}
+use Rattle.lert_levels.specs.Landing.{LeavesRest, landing_frame, AreApart, AreLanded}
+use Rattle.lert_levels.specs.Loading.{Stands, AllStand}
+use Rattle.lert_levels.specs.Rows.{row_of, IsAt, IsRow, AreRows, HoldsBins, times_named, kept, arrived, moved, tallied_in}
 use Rattle.lert_levels.proofs.LandLaws.{holds_stays, landing_within}
 use Rattle.lert_levels.proofs.RangeLaws.{IsCut, cuts_are, edge_within}
 use Rattle.lert_levels.proofs.RowLaws.{All-ranges, All-kept, row_of-moved, lowest_is_free}
@@ -54,20 +50,20 @@ rows_stand s events n rows file at are within holds d deep k below =
     let row = are.each (k + 1) (omega arith) level_within in
     subst (All (Stands s (k + 1) file (tallied_in s events))) row_is
     (λ i d' inside. (
-      let bin = get_or (row_of rows (k + 1)) i d' in
-      let end = ends i d' inside in
-      let summed = total-window s events bin.from bin.to (omega arith) in
-      let top = row.ends i d' inside in
-      record {
-        are = record {
-          given = record {
-            table = IsTable-tallied s (slice_range events bin.from bin.to);
-            counts = λ j p here. omega (arith, count_le-total (tallied s (slice_range events bin.from bin.to)) j p here);
-          };
-          summed = summed;
+    let bin = get_or (row_of rows (k + 1)) i d' in
+    let end = ends i d' inside in
+    let summed = total-window s events bin.from bin.to (omega arith) in
+    let top = row.ends i d' inside in
+    record {
+      are = record {
+        given = record {
+          table = IsTable-tallied s (slice_range events bin.from bin.to);
+          counts = λ j p here. omega (arith, count_le-total (tallied s (slice_range events bin.from bin.to)) j p here);
         };
-        text = holds (k + 1) (omega arith) level_within i d' inside;
-      }))
+        summed = summed;
+      };
+      text = holds (k + 1) (omega arith) level_within i d' inside;
+    }))
 
 -- ---- what stays
 
@@ -121,11 +117,11 @@ holds_moved s m events rows made old new len are holds leaves count landed news 
     let is = are.each level from within in
     let stay : All P row =
     λ i e below. (
-      let bin = get_or row i e in
-      let fits = text_fits s events level bin (is.widths i e below) in
-      holds_stays (InNamed s rows) old new (frame_place s level bin.frame) (tallied_in s events bin) leaves
-      (record { level = level; first = from; last = within; bin = bin; named = Contains-get_or row i e below; above = omega arith; below = omega arith })
-      (holds level from within i e below)) in
+    let bin = get_or row i e in
+    let fits = text_fits s events level bin (is.widths i e below) in
+    holds_stays (InNamed s rows) old new (frame_place s level bin.frame) (tallied_in s events bin) leaves
+    (record { level = level; first = from; last = within; bin = bin; named = Contains-get_or row i e below; above = omega arith; below = omega arith })
+    (holds level from within i e below)) in
     let written = kept s m level row ++ arrived s m level row ∷ [] in
     let dropped = cond {A = ℕ} (ltb level d) 1 0 in
     subst (All P) (sym (row_of-moved s m rows level from (omega arith)))

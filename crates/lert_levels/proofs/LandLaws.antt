@@ -1,18 +1,17 @@
 -- Calls that write some frames and leave the rest, one after the other.
-use Rattle.std.proofs.Common.{ℕ, ◌≡◌, ◌≢◌, ◌+◌, ◌-◌, ◌*◌, ◌<◌, ◌≤◌, zero, suc, List, [], ◌∷◌, ◌++◌, length, take, drop, get_or, refl, ap, sym, ◌∙◌, arith, inl, inr, ◌⊎◌, subst, Option, Some, None, Result, length-take, length-drop}
+use Rattle.std.proofs.Common.{ℕ, ◌≡◌, ◌≢◌, ◌+◌, ◌<◌, ◌≤◌, List, [], length, take, get_or, refl, ap, sym, ◌∙◌, arith, inl, inr, ◌⊎◌, subst, Option, Some, Result, length-take, length-drop}
 use Rattle.std.specs.Prelude.{Ok, Err, OnOk, OnErr}
 use Rattle.std.proofs.lemmas.Bool.{cases_eq, cases_lt}
-use Rattle.std.proofs.lemmas.Option.{none-some}
 use Rattle.lert_bay.specs.Files.{Files, Turns, Changes, Holds, Torn, LeftByFailure}
-use Rattle.lert_bay.specs.Images.{Lasts, Elapses, Settles, KeepsImages}
+use Rattle.lert_bay.specs.Images.{Elapses, Settles, KeepsImages}
 use Rattle.lert_bay.specs.Settled.{part, Keeps, IsSettled}
 use Rattle.lert_bay.proofs.Lasting.{lasts_on, lasts_none, lasts_more}
-use Rattle.lert_bay.proofs.Settling.{part_torn, length_part, part_none}
+use Rattle.lert_bay.proofs.Settling.{part_torn}
 use Rattle.lert_bay.proofs.Tearing.{torn_held}
 use Rattle.lert_frames.proofs.StoreLaws.{length_frame}
 use Rattle.lert_frames.proofs.WriteLaws.{either_way}
 use Rattle.lert_frames.specs.Frame.{HoldsFrame, frame_text, text_len}
-use Rattle.lert_frames.specs.Kept.{OnlyRead, KeepsOutside}
+use Rattle.lert_frames.specs.Kept.{OnlyRead}
 use Rattle.lert_frames.specs.Place.{frame_place, frame_len, tail_limit}
 use Rattle.lert_frames.proofs.PlaceLaws.{places_apart}
 use Rattle.lert_spec.specs.declared.numbers.Numbers.{Numbers}
@@ -83,14 +82,14 @@ rest_on kept files_first files_middle files_last leaves_first leaves_middle firs
     untold = λ untold. two.seen.untold (one.seen.untold untold);
   };
   settled = λ seen told number from to may settled image since. (
-    let then = one.seen.told seen told in
-    let keeps = one.settled seen told number from to may settled in
-    let there = settled_middle kept leaves_first leaves_middle since_middle first seen then.0 number from to may then.2
-    (λ other left. earlier_middle first middle other one.time.later (now other left)) settled keeps in
-    elim (two.time.known first image one.time.later since) [
-      | inl past ↦ keeps image past
-      | inr after ↦ two.settled then.0 then.1 number from to may there.0 image after ∙ there.1
-    ]);
+      let then = one.seen.told seen told in
+      let keeps = one.settled seen told number from to may settled in
+      let there = settled_middle kept leaves_first leaves_middle since_middle first seen then.0 number from to may then.2
+      (λ other left. earlier_middle first middle other one.time.later (now other left)) settled keeps in
+      elim (two.time.known first image one.time.later since) [
+        | inl past ↦ keeps image past
+        | inr after ↦ two.settled then.0 then.1 number from to may there.0 image after ∙ there.1
+      ]);
   time = lasts_on first middle last since_first since_middle since_last one.time two.time earlier_last;
 }
 
@@ -120,15 +119,15 @@ stored_rest s level frame pieces result before after fits ok err =
     either_way (Turns (LeavesRest (IsApart s level frame)) before after) (Turns (Changes (Holds place (frame_text pieces)) 2) before after) (Turns (Changes (LeftByFailure place (text_len pieces)) 2) before after) result ok err
     (λ wrote. record {
       told = λ old told. (
-        let then = wrote.told old told in
-        let torn = torn_held place (frame_text pieces) (old 2) (then.0 2) then.2.here in
-        (then.0, then.1, torn_rest s level frame (text_len pieces) old then.0 fits then.2.others (subst (λ (n : ℕ). Torn place n (old 2) (then.0 2)) (length_frame pieces) torn)));
+          let then = wrote.told old told in
+          let torn = torn_held place (frame_text pieces) (old 2) (then.0 2) then.2.here in
+          (then.0, then.1, torn_rest s level frame (text_len pieces) old then.0 fits then.2.others (subst (λ (n : ℕ). Torn place n (old 2) (then.0 2)) (length_frame pieces) torn)));
       untold = wrote.untold;
     })
     (λ failed. record {
       told = λ old told. (
-        let then = failed.told old told in
-        (then.0, then.1, torn_rest s level frame (text_len pieces) old then.0 fits then.2.others then.2.here.torn));
+          let then = failed.told old told in
+          (then.0, then.1, torn_rest s level frame (text_len pieces) old then.0 fits then.2.others then.2.here.torn));
       untold = failed.untold;
     })
 

@@ -1,6 +1,5 @@
 -- The rows and the frames between two flushes, for those who keep a cone: with no event, and with one event more.
-use Rattle.std.proofs.Common.{ℕ, ◌≡◌, ◌+◌, ◌-◌, ◌*◌, ◌/◌, ◌<◌, ◌≤◌, suc, List, [], ◌++◌, length, map, replicate, ap, sym, ◌∙◌, arith, inl, inr, subst, slice_range, slice_index_or}
-use Rattle.std.specs.List.{All}
+use Rattle.std.proofs.Common.{ℕ, ◌≡◌, ◌-◌, ◌/◌, ◌<◌, ◌≤◌, suc, List, [], ◌++◌, length, map, replicate, ap, sym, ◌∙◌, arith, inl, inr, subst, slice_index_or}
 use Rattle.std.proofs.lemmas.Bool.{cases_lt}
 use Rattle.std.proofs.lemmas.List.{length-replicate}
 use Rattle.lert_frames.specs.Frame.{HoldsFrame}
@@ -10,7 +9,6 @@ use Rattle.lert_spec.specs.Bins.{tallied}
 use Rattle.lert_spec.specs.Edges.{span, edge, depth}
 use Rattle.lert_spec.proofs.LookLaws.{slice_range-append}
 use Rattle.lert_levels.specs.declared.bin_at.BinAt.{BinAt}
-use Rattle.lert_levels.specs.Ranges.{Range, ranges}
 use Rattle.lert_levels.specs.Rows.{range_of, row_of, IsAt, HoldsBins, tallied_in}
 use Rattle.lert_levels.proofs.HoldLaws.{bins_end}
 use Rattle.lert_levels.proofs.LevelLaws.{row_of-none}
@@ -21,7 +19,7 @@ pub IsAt-none : (s : Numbers) → IsAt s 0 (replicate s.levels [])
 IsAt-none s = record {
   levels = length-replicate {A = List BinAt} s.levels [];
   each = λ level from within.
-  ap (map range_of) (row_of-none s.levels level) ∙ sym (cuts_none (span s level) (edge s level 0) (edge s (level - 1) 0) (suc (0 / span s level)) (omega (arith, edge_within s (level - 1) 0)));
+      ap (map range_of) (row_of-none s.levels level) ∙ sym (cuts_none (span s level) (edge s level 0) (edge s (level - 1) 0) (suc (0 / span s level)) (omega (arith, edge_within s (level - 1) 0)));
 }
 
 -- and each frame holds what it is to hold

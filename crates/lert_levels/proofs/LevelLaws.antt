@@ -1,6 +1,6 @@
 -- The levels on disk: rows with no bin, and what a directory needs.
-use Rattle.std.proofs.Common.{ℕ, ◌≡◌, ◌+◌, ◌-◌, ◌*◌, ◌<◌, ◌≤◌, zero, suc, List, [], ◌∷◌, ◌++◌, length, map, take, drop, get_or, set, replicate, length-take, refl, ap, ap₂, sym, ◌∙◌, arith, inl, inr, subst, sum_by, flat_map}
-use Rattle.std.specs.List.{All, range_with_len}
+use Rattle.std.proofs.Common.{ℕ, ◌≡◌, ◌+◌, ◌-◌, ◌*◌, ◌<◌, ◌≤◌, zero, suc, List, [], ◌∷◌, ◌++◌, length, map, take, drop, get_or, set, replicate, length-take, refl, ap, ap₂, sym, ◌∙◌, arith, inl, inr, subst}
+use Rattle.std.specs.List.{All}
 use Rattle.std.proofs.lemmas.Bool.{cases_lt}
 use Rattle.std.proofs.lemmas.List.{length-map, take-map, get_or-map, get_or-replicate, get_or_past, length-replicate, same_lists, take_at, get_or-set_same, get_or-set_other, get_or_default}
 use Rattle.std.proofs.lemmas.List.Concat.{length-flat_map}
@@ -15,7 +15,7 @@ use Rattle.lert_levels.specs.Rows.{row_of, IsAt, IsRow, AreRows, directory_text,
 use Rattle.lert_levels.specs.OnDisk.{OnDisk, AreKept}
 use Rattle.lert_levels.proofs.DirectoryLaws.{row_text}
 use Rattle.lert_levels.proofs.HoldLaws.{row_among}
-use Rattle.lert_levels.proofs.RowLaws.{IsAt-moved, AreRows-moved, length-moved}
+use Rattle.lert_levels.proofs.RowLaws.{AreRows-moved, length-moved}
 
 -- rows with no bin
 pub all_empty : {V : Type 0} (items : V → List BinAt) (rows : List V) (n : ℕ) → length rows ≡ n → All (λ row. items row ≡ []) rows → map items rows ≡ replicate n []
@@ -52,8 +52,11 @@ AreRows-none s = record {
 pub directory_short : (bins : ℕ) (rows : List (List BinAt)) → All (λ row. length row ≤ bins) rows → length (directory_text rows) ≤ length rows * (1 + bins)
 directory_short bins rows few =
     let whole = length-flat_map row_text rows in
-    omega (arith, sum_by-le (λ (row : List BinAt). length (row_text row)) (1 + bins) rows
-    (λ k d below. (let long = length-map (get_or rows k d) (λ (bin : BinAt). bin.frame) in omega (arith, few k d below))))
+    omega (
+      arith,
+      sum_by-le (λ (row : List BinAt). length (row_text row)) (1 + bins) rows
+          (λ k d below. (let long = length-map (get_or rows k d) (λ (bin : BinAt). bin.frame) in omega (arith, few k d below))),
+    )
 
 -- a list that isn't empty has an item
 with_item : {V : Type 0} (P : Type 0) (items : List V) → 1 ≤ length items → ((item : V) → P) → P
@@ -72,12 +75,12 @@ rows_moved items s m before after len each =
     (λ k d below.
     with_item (get_or (map items after) k d ≡ get_or (moved s m olds) k d) before (omega arith)
     (λ v. (
-      let place : k + 1 - 1 ≡ k = omega arith in
-      let row : row_of olds (k + 1) ≡ items (get_or before k v) = ap (λ n. get_or olds n []) place ∙ get_or-map items before k v [] (omega arith) in
-      get_or-map items after k v d (omega arith)
-      ∙ each k v (omega arith)
-      ∙ ap (moved_row s m (k + 1)) (sym row)
-      ∙ sym (get_or-map-range_with_len (λ level. moved_row s m level (row_of olds level)) 1 (length olds) k (k + 1) d (omega arith) (omega arith)))))
+    let place : k + 1 - 1 ≡ k = omega arith in
+    let row : row_of olds (k + 1) ≡ items (get_or before k v) = ap (λ n. get_or olds n []) place ∙ get_or-map items before k v [] (omega arith) in
+    get_or-map items after k v d (omega arith)
+    ∙ each k v (omega arith)
+    ∙ ap (moved_row s m (k + 1)) (sym row)
+    ∙ sym (get_or-map-range_with_len (λ level. moved_row s m level (row_of olds level)) 1 (length olds) k (k + 1) d (omega arith) (omega arith)))))
 
 -- one row more that is moved on
 pub moved_on : {V : Type 0} (items : V → List BinAt) (s : Numbers) (m : ℕ) (before rows : List V) (i : ℕ) (e new : V) → i < length rows → ((k : ℕ) (d : V) → k < i → items (get_or rows k d) ≡ moved_row s m (k + 1) (items (get_or before k d))) →
@@ -139,9 +142,9 @@ module _ {V : Type 0} (items : V → List BinAt) (capacity_of : V → ℕ) (s : 
       let count = length-map new items in
       let short = directory_short s.bins (map items new)
       (λ k d below. (let row = new_rows.each (k + 1) (omega arith) (omega (arith, new_rows.levels)) in
-          let place : k + 1 - 1 ≡ k = omega arith in
-          let is = ap (λ n. get_or (map items new) n []) place ∙ get_or_default (map items new) k [] d below in
-          omega (arith, row.few, ap (length {A = BinAt}) is))) in
+      let place : k + 1 - 1 ≡ k = omega arith in
+      let is = ap (λ n. get_or (map items new) n []) place ∙ get_or_default (map items new) k [] d below in
+      omega (arith, row.few, ap (length {A = BinAt}) is))) in
       let product = ap (λ n. n * (1 + s.bins)) new_rows.levels in
       omega (arith, kept.directory_room)
 

@@ -324,11 +324,12 @@ module _ (s : Numbers) (base : 1 ≤ s.base) (ratio : 1 ≤ s.ratio) where
       let low_is : edge s level (m - 1) ≡ j * width = mul_comm width j in
       let next_is : edge s level m ≡ suc j * width = ap (λ steps. width * steps) by_one ∙ mul_comm width (suc j) in
       let within = goes_within below m some less in
-      let reached : suc j ≤ (m - 1) / width = (le-div_iff_mul-le {k = width} {x = suc j} {y = m - 1} (wide level)).1 (omega (arith, edge_within s below (m - 1))) in
-      (range_cuts width (suc j * width) high 0 n,
-      ap (λ l. range_cuts width l high 0 n) low_is
-      ∙ oldest_goes s width high j n (wide level) (omega arith) (omega arith)
-      ∙ ap₂ (λ a b. record { from = a; to = b } ∷ range_cuts width (suc j * width) high 0 n) (sym low_is) (sym next_is))
+      let reached : suc j ≤ (m - 1) / width = (le-div_iff_mul-le {k = width} {x = suc j} {y = m - 1} (wide level)).1 (omega (arith, edge_within s below (m - 1))) in (
+        range_cuts width (suc j * width) high 0 n,
+        ap (λ l. range_cuts width l high 0 n) low_is
+            ∙ oldest_goes s width high j n (wide level) (omega arith) (omega arith)
+            ∙ ap₂ (λ a b. record { from = a; to = b } ∷ range_cuts width (suc j * width) high 0 n) (sym low_is) (sym next_is),
+      )
 
   pub oldest_is : (level m : ℕ) → 1 ≤ level → 1 ≤ m → 2 ≤ s.bins → level < depth s m →
       (rest : List Range) × (ranges s (m - 1) level ≡ record { from = edge s level (m - 1); to = edge s level m } ∷ rest)
@@ -347,11 +348,12 @@ module _ (s : Numbers) (base : 1 ≤ s.base) (ratio : 1 ≤ s.ratio) where
       let by_one = moves_by_one s base ratio 0 m (depth_moves 0 m (omega arith)) in
       let low_is : edge s 0 (m - 1) ≡ j * width = mul_comm width j in
       let next_is : edge s 0 m ≡ suc j * width = ap (λ steps. width * steps) by_one ∙ mul_comm width (suc j) in
-      let reached : suc j ≤ m / width = (le-div_iff_mul-le {k = width} {x = suc j} {y = m} (wide 0)).1 (omega (arith, edge_within s 0 m)) in
-      (range_cuts width (suc j * width) m 0 n,
-      ap (λ l. range_cuts width l m 0 n) low_is
-      ∙ oldest_goes s width m j n (wide 0) (omega (arith, edge_within s 0 m)) (omega arith)
-      ∙ ap₂ (λ a b. record { from = a; to = b } ∷ range_cuts width (suc j * width) m 0 n) (sym low_is) (sym next_is))
+      let reached : suc j ≤ m / width = (le-div_iff_mul-le {k = width} {x = suc j} {y = m} (wide 0)).1 (omega (arith, edge_within s 0 m)) in (
+        range_cuts width (suc j * width) m 0 n,
+        ap (λ l. range_cuts width l m 0 n) low_is
+            ∙ oldest_goes s width m j n (wide 0) (omega (arith, edge_within s 0 m)) (omega arith)
+            ∙ ap₂ (λ a b. record { from = a; to = b } ∷ range_cuts width (suc j * width) m 0 n) (sym low_is) (sym next_is),
+      )
 
   -- a level has no more bins than the settings say
   few_between : (below n : ℕ) → 1 ≤ s.bins → length (between s below (suc below) n) ≤ s.bins

@@ -1,10 +1,8 @@
 -- The bins of levels as they are read: one more, and a level more.
-use Rattle.std.proofs.Common.{ℕ, ◌≡◌, ◌+◌, ◌<◌, ◌≤◌, zero, suc, List, [], ◌∷◌, ◌++◌, length, map, take, get_or, refl, ap, ap₂, flat_map, sym, ◌∙◌, arith, inl, inr, ◌⊎◌, ◌↔◌, subst, Option, Result}
-use Rattle.std.specs.Prelude.{Ok, Err, IsErrAnd, MatchResult}
-use Rattle.std.specs.List.{All, AllZip}
+use Rattle.std.proofs.Common.{ℕ, ◌≡◌, ◌+◌, ◌<◌, ◌≤◌, List, [], ◌∷◌, ◌++◌, length, map, take, get_or, ap, ap₂, flat_map, sym, ◌∙◌, inl, inr, subst, Option, Result}
+use Rattle.std.specs.Prelude.{Ok, Err, IsErrAnd}
 use Rattle.std.proofs.lemmas.List.{append_assoc, map_push, map_more, get_or-map, flat_map_more, take_more}
 use Rattle.lert_bay.specs.Files.{Files}
-use Rattle.lert_bay.specs.Images.{Lasts}
 use Rattle.lert_bay.proofs.Lasting.{lasts_on}
 use Rattle.lert_frames.specs.declared.bin.LoadedBin.{LoadedBin}
 use Rattle.lert_frames.specs.declared.fault.LoadFault.{LoadFault}
@@ -14,7 +12,7 @@ use Rattle.lert_frames.specs.Kept.{OnlyRead}
 use Rattle.lert_spec.specs.declared.piece.Piece.{Piece}
 use Rattle.lert_levels.specs.declared.bin_at.BinAt.{BinAt}
 use Rattle.lert_levels.specs.declared.fault.FlushFault.{FlushFault}
-use Rattle.lert_levels.specs.declared.fault.FlushFault.TheVariants.{Failed, Malformed, OutOfMemory}
+use Rattle.lert_levels.specs.declared.fault.FlushFault.TheVariants.{Malformed}
 use Rattle.lert_levels.specs.Gathered.{lists_of}
 use Rattle.lert_levels.specs.Loading.{width_of, AreBins, flush_fault}
 

@@ -1,8 +1,8 @@
 -- What a flush makes of the rows: the bins of the levels after it, each in a frame of its own.
-use Rattle.std.proofs.Common.{ℕ, ◌≡◌, ◌≢◌, ◌+◌, ◌-◌, ◌*◌, ◌/◌, ◌%◌, ◌^◌, ◌<◌, ◌≤◌, zero, suc, Bool, true, false, cond, ltb, eqb, List, [], ◌∷◌, ◌++◌, length, map, get_or, take, drop, Some, None, refl, ap, ap₂, sym, ◌∙◌, arith, inl, inr, ◌⊎◌, subst, find, unwrap_or, count_by, append-nil, length-append, length-take, length-drop}
+use Rattle.std.proofs.Common.{ℕ, ◌≡◌, ◌+◌, ◌-◌, ◌/◌, ◌%◌, ◌<◌, ◌≤◌, zero, suc, Bool, true, false, cond, ltb, eqb, List, [], ◌∷◌, ◌++◌, length, map, get_or, take, drop, Some, ap, ap₂, sym, ◌∙◌, arith, inl, inr, subst, find, unwrap_or, count_by, append-nil, length-append}
 use Rattle.std.specs.List.{All, range_with_len}
 use Rattle.std.proofs.lemmas.Bool.{cases_lt, cases_eq, cases_order, cases_Bool, lt-ltb, le-ltb, eq-eqb, ne_eqb, eqb-true, eqb-false, false≢true}
-use Rattle.std.proofs.lemmas.List.{length-map, map_push, take-map, drop-map, get_or-map, get_or_at, take_at, get_or_default, take-append-drop}
+use Rattle.std.proofs.lemmas.List.{length-map, map_push, take-map, drop-map, get_or-map, get_or_at, take_at, take-append-drop}
 use Rattle.std.proofs.lemmas.List.Elements.{All-append, All-take, All-drop, All-cons, All-nil}
 use Rattle.std.proofs.lemmas.List.FromFn.{get_or-map-range_with_len, length-map-range_with_len}
 use Rattle.std.proofs.lemmas.List.Sums.{sum_by-cons, sum_by-append, count_by-le-length}
@@ -246,7 +246,7 @@ module _ (s : Numbers) (valid : IsValid s) (m : ℕ) (first : 1 ≤ m) (fits : m
   IsAt-moved rows at = record {
     levels = length-moved s m rows ∙ at.levels;
     each = λ level from within.
-    ap (map range_of) (row_of-moved s m rows level from (omega (arith, at.levels))) ∙ row_moves level (row_of rows level) from within (at.each level from within);
+        ap (map range_of) (row_of-moved s m rows level from (omega (arith, at.levels))) ∙ row_moves level (row_of rows level) from within (at.each level from within);
   }
 
   -- a row that has the positions of a level after the flush, its bins in frames of their own
@@ -291,7 +291,7 @@ module _ (s : Numbers) (valid : IsValid s) (m : ℕ) (first : 1 ≤ m) (fits : m
   AreRows-moved rows at are = record {
     levels = length-moved s m rows ∙ at.levels;
     each = λ level from within.
-    subst (IsRow s level) (sym (row_of-moved s m rows level from (omega (arith, at.levels)))) (IsRow-moved level (row_of rows level) from within (at.each level from within) (are.each level from within));
+        subst (IsRow s level) (sym (row_of-moved s m rows level from (omega (arith, at.levels)))) (IsRow-moved level (row_of rows level) from within (at.each level from within) (are.each level from within));
   }
 
   -- the bin that is written: from where the newest one begins, if it is joined with that, up to the edge of the younger level

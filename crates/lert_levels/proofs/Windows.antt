@@ -1,5 +1,5 @@
 -- The counts of the keys at some positions in a row, of those positions cut in two, and of a level's positions bin by bin.
-use Rattle.std.proofs.Common.{ℕ, ◌≡◌, ◌+◌, ◌-◌, ◌*◌, ◌/◌, ◌^◌, ◌<◌, ◌≤◌, zero, suc, cond, ltb, List, [], ◌∷◌, ◌++◌, length, map, take, drop, min, max, ap, ap₂, sym, ◌∙◌, arith, inl, inr, subst, sum_by, slice_range, length-drop}
+use Rattle.std.proofs.Common.{ℕ, ◌≡◌, ◌+◌, ◌-◌, ◌*◌, ◌/◌, ◌^◌, ◌≤◌, zero, suc, cond, List, [], ◌∷◌, ◌++◌, length, map, take, drop, min, max, ap, ap₂, sym, ◌∙◌, arith, inl, inr, subst, sum_by, slice_range, length-drop}
 use Rattle.std.proofs.Math.Nat.{mul-le-mul_right, suc-mul, div-add-mod, mod-lt, mul_comm}
 use Rattle.std.proofs.Math.Seq.{take-add}
 use Rattle.std.proofs.lemmas.Bool.{cases_lt, lt-ltb, le-ltb}
@@ -8,13 +8,13 @@ use Rattle.std.proofs.lemmas.List.Sums.{sum_by-cons}
 use Rattle.std.specs.List.{range_with_len}
 use Rattle.lert_spec.specs.declared.numbers.Numbers.{Numbers}
 use Rattle.lert_spec.specs.declared.piece.Piece.{Piece}
-use Rattle.lert_spec.specs.Bins.{Bin, bin_at, tallied}
+use Rattle.lert_spec.specs.Bins.{Bin, tallied}
 use Rattle.lert_spec.specs.Edges.{span, edge}
 use Rattle.lert_spec.specs.Table.{count_of, total, IsTable}
 use Rattle.lert_spec.proofs.EdgeLaws.{span_pos, edge_descends}
 use Rattle.lert_spec.proofs.TallyLaws.{tails, tails-append, IsTable-tallied, count_of-tallied, total-tallied, one_table}
 use Rattle.lert_levels.specs.Ranges.{Range, range_at, ranges, filled, young_bins}
-use Rattle.lert_levels.proofs.RangeLaws.{range_cuts, between, filled_cuts, edge_within}
+use Rattle.lert_levels.proofs.RangeLaws.{range_cuts, filled_cuts, edge_within}
 
 -- a window cut in two
 pub slice_range-join : (events : List ℕ) (from mid to : ℕ) → from ≤ mid → mid ≤ to → slice_range events from mid ++ slice_range events mid to ≡ slice_range events from to

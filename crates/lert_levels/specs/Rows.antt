@@ -53,10 +53,6 @@ HoldsBins s events rows file =
     (level : ℕ) → 1 ≤ level → level ≤ s.levels →
     All (λ bin. HoldsFrame (frame_place s level bin.frame) file (tallied_in s events bin)) (row_of rows level)
 
--- the counts of all bins of the levels from 1 up to this one, level by level, each level's oldest first
-abbrev pub tallied_to : Numbers → List ℕ → List (List BinAt) → ℕ → List (List Piece)
-tallied_to s events rows level = flat_map (λ row. map (tallied_in s events) row) (take level rows)
-
 -- a byte with the number of bins of each level, and behind it their frames, oldest first
 abbrev pub directory_text : List (List BinAt) → List ℕ
 directory_text rows = flat_map (λ row. length row ∷ map (λ bin. bin.frame) row) rows

@@ -127,6 +127,11 @@ impl<T: CountTable> Levels<T> {
         // named, all reads as before, and what was settled stays settled.
         ensures durable { OnOk result (IfTold (B.files bay.new) (λ seen. (image : Files) → B.leaves bay.new image → image 2 ≡ seen 2)) }
         ensures rest { KeepsRest (InNamed self.old.settings self.old.rows) (B.files bay.old) (B.files bay.new) (B.leaves bay.old) (B.moment bay.old) (B.moment bay.new) (B.left_since bay.old) (B.left_since bay.new) }
+
+        // Malformed comes nowhere where the frames hold bins of their widths, whatever these count.
+        ensures sound { IfTold (B.files bay.old) (λ seen. (held : BinAt → List Piece) →
+            AllStand self.old.settings (seen 2) held (take (depth self.old.settings m) self.old.rows) →
+            IfErr result (λ fault. (fault ≡ FlushFault.Failed) ⊎ (fault ≡ FlushFault.OutOfMemory))) }
         ensures malformed { IfTold (B.files bay.old) (λ seen. (at : ℕ) → IsErrOf result (FlushFault.Malformed at) →
             OneBreaks self.old.settings (take (depth self.old.settings m) self.old.rows) (seen 2) at) }
         ensures never_falls { B.faults bay.old ≤ B.faults bay.new }
@@ -154,6 +159,9 @@ impl<T: CountTable> Levels<T> {
             (λ _. O.took totals.new (tallied self.old.settings events))
             (λ fault. (fault ≡ FlushFault.Failed) ⊎ (fault ≡ FlushFault.OutOfMemory))) }
         ensures took { OnOk result ((list : List Piece) × O.took totals.new list × IsTable (tail_limit self.old.settings) list) }
+        ensures sound { IfTold (B.files bay.old) (λ seen. (held : BinAt → List Piece) →
+            AllStand self.old.settings (seen 2) held self.old.rows →
+            IfErr result (λ fault. (fault ≡ FlushFault.Failed) ⊎ (fault ≡ FlushFault.OutOfMemory))) }
         ensures malformed { IfTold (B.files bay.old) (λ seen. (at : ℕ) → IsErrOf result (FlushFault.Malformed at) →
             OneBreaks self.old.settings self.old.rows (seen 2) at) }
         ensures only_read { OnlyRead (B.files bay.old) (B.files bay.new) (B.leaves bay.old) (B.leaves bay.new) (B.moment bay.old) (B.moment bay.new) (B.left_since bay.old) (B.left_since bay.new) }
@@ -219,7 +227,13 @@ impl<T: CountTable> Levels<T> {
         ensures young { 1 ≤ length zero.now.bins }
     {
         let depth = self.settings.depth(m) as usize;
-        parts_of(self.alloc, &self.settings, m, zero.len(), self.reached(depth))
+        parts_of(
+            self.alloc,
+            &self.settings,
+            m,
+            zero.len(),
+            self.reached(depth),
+        )
     }
 
     // The new bins of the flush at position `m`. `totals` takes the totals.
@@ -244,6 +258,9 @@ impl<T: CountTable> Levels<T> {
             (λ made. AreNew self.old.settings m events (take (depth self.old.settings m) self.old.rows) (map (λ pieces. pieces.items) made.items) ×
             O.took totals.new (tallied self.old.settings (slice_range events (lookback self.old.settings m) m)))
             (λ fault. (fault ≡ FlushFault.Failed) ⊎ (fault ≡ FlushFault.OutOfMemory))) }
+        ensures sound { IfTold (B.files bay.old) (λ seen. (held : BinAt → List Piece) →
+            AllStand self.old.settings (seen 2) held (take (depth self.old.settings m) self.old.rows) →
+            IfErr result (λ fault. (fault ≡ FlushFault.Failed) ⊎ (fault ≡ FlushFault.OutOfMemory))) }
         ensures took { OnOk result ((list : List Piece) × O.took totals.new list × IsTable (tail_limit self.old.settings) list) }
         ensures malformed { IfTold (B.files bay.old) (λ seen. (at : ℕ) → IsErrOf result (FlushFault.Malformed at) →
             OneBreaks self.old.settings (take (depth self.old.settings m) self.old.rows) (seen 2) at) }

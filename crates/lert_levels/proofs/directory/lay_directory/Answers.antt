@@ -1,4 +1,4 @@
-use Rattle.std.proofs.Common.{◌≡◌, ◌≤◌, ◌+◌, length, map, take, arith, ap}
+use Rattle.std.proofs.Common.{length, arith, ap}
 use Rattle.lert_levels.proofs.DirectoryLaws.{room_left}
 use Rattle.lert_levels.proofs.directory.lay_directory.Goals as goal
 

@@ -1,5 +1,4 @@
-use Rattle.std.proofs.Common.{ℕ, ◌∙◌, map}
-use Rattle.lert_frames.proofs.WriteLaws.{turns_back, on_ok}
+use Rattle.std.proofs.Common.{map}
 use Rattle.lert_levels.specs.Landing.{Anywhere, AreApart}
 use Rattle.lert_levels.proofs.LandLaws.{rest_on, rest_fewer}
 use Rattle.lert_levels.proofs.landing.land.Goals as goal

@@ -1,4 +1,4 @@
-use Rattle.std.proofs.Common.{ℕ, ◌≤◌, arith}
+use Rattle.std.proofs.Common.{◌≤◌, arith}
 use Rattle.lert_spec.proofs.Tables.{length_le-total}
 use Rattle.lert_frames.specs.Frame.{text_len}
 use Rattle.lert_frames.specs.Place.{frame_len, tail_limit}

@@ -1,8 +1,7 @@
-use Rattle.std.proofs.Common.{rules, ℕ, ◌≡◌, ◌+◌, ◌<◌, ◌≤◌, ◌∙◌, List, [], length, map, get_or, ap, sym, subst, arith}
+use Rattle.std.proofs.Common.{rules, ◌≡◌, ◌+◌, ◌∙◌, List, [], map, get_or, ap, sym, subst, arith}
 use Rattle.std.proofs.lemmas.List.{length-map, get_or-map}
 use Rattle.lert_frames.proofs.WriteLaws.{turns_back}
 use Rattle.lert_spec.specs.Limits.{IsValid}
-use Rattle.lert_spec.specs.declared.piece.Piece.{Piece}
 use Rattle.lert_levels.specs.declared.bin_at.BinAt.{BinAt}
 use Rattle.lert_levels.specs.Landing.{IsApart, LeavesRest, landing_frame}
 use Rattle.lert_levels.specs.Rows.{IsRow, arrived}
@@ -58,10 +57,10 @@ loop-lower-preserved g c =
     get_or-map (λ bin. bin.items) c.args.bins.now i c.index-bins-lower.result [] (omega (arith, c.loop-lower-test.true, c.requires.len)) ∙ ap (λ bin. bin.items) (sym c.index-bins-lower.is) ∙ sym c.deref-in-loop-lower.ensures.value in
     record {
       stand = λ seen told. (
-        let back = turns_back (LeavesRest (IsApart s (i + 1) c.from.result)) (g.B.Bay.files c.loop-lower.bay) (g.B.Bay.files c.store_bin.new.bay) seen c.in_ok-store_bin.ensures.rest.seen told in
-        landed_more s c.args.m rows bins (λ k below. c.requires.rows k (omega (arith, below, rows_len))) (omega (arith, c.requires.len, rows_len, bins_len)) (λ k below. c.requires.bins k (omega (arith, below, bins_len)))
-        back.0 seen i c.from.result c.deref-in-loop-lower.result.now (omega (arith, c.loop-lower-test.true, rows_len)) frame_is pieces_are back.2
-        (c.in_ok-store_bin.ensures.stands seen told) (c.loop-lower.invariant.stand back.0 back.1));
+          let back = turns_back (LeavesRest (IsApart s (i + 1) c.from.result)) (g.B.Bay.files c.loop-lower.bay) (g.B.Bay.files c.store_bin.new.bay) seen c.in_ok-store_bin.ensures.rest.seen told in
+          landed_more s c.args.m rows bins (λ k below. c.requires.rows k (omega (arith, below, rows_len))) (omega (arith, c.requires.len, rows_len, bins_len)) (λ k below. c.requires.bins k (omega (arith, below, bins_len)))
+          back.0 seen i c.from.result c.deref-in-loop-lower.result.now (omega (arith, c.loop-lower-test.true, rows_len)) frame_is pieces_are back.2
+          (c.in_ok-store_bin.ensures.stands seen told) (c.loop-lower.invariant.stand back.0 back.1));
       rest = rest_more s c.args.m rows bins (λ k below. c.requires.rows k (omega (arith, below, rows_len))) (omega (arith, c.requires.len, rows_len, bins_len)) (λ k below. c.requires.bins k (omega (arith, below, bins_len)))
           i c.from.result (g.B.Bay.files c.args.bay.now) (g.B.Bay.files c.loop-lower.bay) (g.B.Bay.files c.store_bin.new.bay) (g.B.Bay.leaves c.args.bay.now) (g.B.Bay.leaves c.loop-lower.bay)
           (g.B.Bay.moment c.args.bay.now) (g.B.Bay.moment c.loop-lower.bay) (g.B.Bay.moment c.store_bin.new.bay) (g.B.Bay.left_since c.args.bay.now) (g.B.Bay.left_since c.loop-lower.bay) (g.B.Bay.left_since c.store_bin.new.bay)

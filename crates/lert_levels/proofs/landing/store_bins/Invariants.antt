@@ -1,4 +1,4 @@
-use Rattle.std.proofs.Common.{ℕ, ◌≡◌, ◌≤◌, Some, map}
+use Rattle.std.proofs.Common.{◌≡◌, ◌≤◌, Some, map}
 use Rattle.lert_bay.specs.Files.{Files}
 use Rattle.lert_levels.specs.Landing.{KeepsRest, AreApart, AreLanded}
 use Rattle.lert_levels.proofs.landing.store_bins.Given as goal

@@ -1,6 +1,3 @@
-use Rattle.std.proofs.Common.{ℕ, ◌∙◌, sym}
-use Rattle.lert_bay.specs.Files.{Files}
-use Rattle.lert_frames.proofs.WriteLaws.{on_ok}
 use Rattle.lert_levels.specs.Landing.{Anywhere}
 use Rattle.lert_levels.proofs.LandLaws.{sync_rest, synced_was, synced_durable}
 use Rattle.lert_levels.proofs.landing.sync_frames.Goals as goal

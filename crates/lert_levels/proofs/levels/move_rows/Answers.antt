@@ -1,4 +1,4 @@
-use Rattle.std.proofs.Common.{rules, ℕ, ◌≡◌, ◌+◌, ◌<◌, ◌≤◌, ◌∙◌, map, get_or, length, ap, sym, subst, arith, vec_capacity}
+use Rattle.std.proofs.Common.{◌<◌, ◌∙◌, arith, vec_capacity}
 use Rattle.std.proofs.lemmas.List.{get_or-set_other}
 use Rattle.std.proofs.lemmas.List.Elements.{All-set}
 use Rattle.lert_levels.proofs.LevelLaws.{rows_moved, moved_on}

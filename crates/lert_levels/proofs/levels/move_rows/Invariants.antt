@@ -1,4 +1,4 @@
-use Rattle.std.proofs.Common.{ℕ, ◌≡◌, ◌+◌, ◌<◌, ◌≤◌, length, map, get_or, vec_capacity}
+use Rattle.std.proofs.Common.{ℕ, ◌≡◌, ◌+◌, ◌<◌, ◌≤◌, get_or, vec_capacity}
 use Rattle.std.specs.List.{All}
 use Rattle.lert_levels.specs.Rows.{moved_row}
 use Rattle.lert_levels.proofs.levels.move_rows.Given as goal

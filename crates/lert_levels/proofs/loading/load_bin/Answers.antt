@@ -1,4 +1,4 @@
-use Rattle.std.proofs.Common.{ℕ, ◌≡◌, ap, subst}
+use Rattle.std.proofs.Common.{ℕ, ap, subst}
 use Rattle.std.specs.Prelude.{Err}
 use Rattle.lert_levels.specs.Loading.{BinBreaks}
 use Rattle.lert_levels.proofs.ReadLaws.{malformed_there}

@@ -1,4 +1,4 @@
-use Rattle.std.proofs.Common.{rules, ℕ, ◌≡◌, ◌∙◌, ◌++◌, ap, sym, subst, map, get_or}
+use Rattle.std.proofs.Common.{rules, ◌∙◌, ◌++◌, ap, map, get_or}
 use Rattle.std.proofs.lemmas.List.{take_all}
 use Rattle.std.proofs.lemmas.Result.{err_from_is_err_and}
 use Rattle.std.proofs.lemmas.List.Elements.{Contains-get_or}
@@ -6,7 +6,6 @@ use Rattle.lert_frames.proofs.WriteLaws.{same_err}
 use Rattle.lert_frames.specs.Place.{tail_limit}
 use Rattle.lert_levels.specs.declared.bin_at.BinAt.{BinAt}
 use Rattle.lert_levels.specs.Gathered.{lists_of}
-use Rattle.lert_levels.specs.Loading.{width_of, AreBins}
 use Rattle.lert_levels.proofs.ReadLaws.{lists_more, bins_more}
 use Rattle.lert_levels.proofs.loading.load_row.Goals as goal
 

@@ -1,4 +1,4 @@
-use Rattle.std.proofs.Common.{ℕ, ◌≡◌, ◌+◌, ◌-◌, ◌≤◌, ◌++◌, List, Some, length, map, take}
+use Rattle.std.proofs.Common.{ℕ, ◌≡◌, ◌≤◌, ◌++◌, List, Some, map, take}
 use Rattle.std.specs.List.{All}
 use Rattle.lert_bay.specs.Files.{Files}
 use Rattle.lert_frames.specs.Kept.{OnlyRead}

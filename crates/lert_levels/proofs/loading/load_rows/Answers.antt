@@ -1,4 +1,4 @@
-use Rattle.std.proofs.Common.{rules, ℕ, ◌≡◌, ◌+◌, ◌<◌, ◌∙◌, ◌++◌, List, [], length, ap, sym, subst, map, take, flat_map, get_or, arith}
+use Rattle.std.proofs.Common.{rules, ℕ, ◌<◌, ◌∙◌, ◌++◌, List, length, ap, subst, map, take, arith}
 use Rattle.std.specs.List.{All}
 use Rattle.std.proofs.lemmas.List.{take_all, length-map}
 use Rattle.std.proofs.lemmas.Result.{err_from_is_err_and}

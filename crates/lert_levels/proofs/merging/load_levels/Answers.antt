@@ -1,11 +1,10 @@
-use Rattle.std.proofs.Common.{ℕ, ◌≡◌, ◌+◌, ◌-◌, ◌^◌, ◌∙◌, ◌++◌, [], List, map, length, ap, sym, subst, arith}
+use Rattle.std.proofs.Common.{◌≡◌, ◌-◌, ◌∙◌, ◌++◌, map, length, ap, sym, subst}
 use Rattle.std.specs.List.{All}
 use Rattle.std.proofs.lemmas.List.{length-map}
 use Rattle.lert_frames.specs.Frame.{IsBin}
 use Rattle.lert_frames.specs.Place.{tail_limit}
 use Rattle.lert_spec.specs.Bins.{Bin}
 use Rattle.lert_spec.specs.declared.numbers.Numbers.{Numbers}
-use Rattle.lert_spec.specs.declared.piece.Piece.{Piece}
 use Rattle.lert_levels.specs.Gathered.{lists_of}
 use Rattle.lert_levels.specs.Loading.{AreBins}
 use Rattle.lert_levels.proofs.MergeLaws.{young_are, streams_count}

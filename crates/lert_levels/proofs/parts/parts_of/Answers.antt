@@ -1,4 +1,4 @@
-use Rattle.std.proofs.Common.{rules, ℕ, ◌≡◌, ◌+◌, ◌*◌, ◌≤◌, ◌∙◌, map, length, ap, sym, subst, arith, add-one}
+use Rattle.std.proofs.Common.{◌≡◌, ◌+◌, ◌*◌, ◌∙◌, map, length, ap, sym, subst, arith, add-one}
 use Rattle.std.proofs.Math.Nat.{suc-mul}
 use Rattle.std.proofs.lemmas.List.{length-map}
 use Rattle.lert_levels.specs.Parts.{streams_to, oldest_stream}

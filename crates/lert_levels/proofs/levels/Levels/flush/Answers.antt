@@ -1,12 +1,9 @@
-use Rattle.std.proofs.Common.{ℕ, ◌≡◌, ◌≤◌, ◌-◌, ◌∙◌, List, map, take, length, ap, sym, subst, arith}
+use Rattle.std.proofs.Common.{◌≡◌, ◌∙◌, map, take, ap, sym, subst}
 use Rattle.std.proofs.lemmas.Result.{err_from_is_err_and}
-use Rattle.lert_bay.specs.Files.{Files, IfTold}
+use Rattle.lert_bay.specs.Files.{IfTold}
 use Rattle.lert_frames.proofs.WriteLaws.{same_err}
-use Rattle.lert_spec.specs.declared.numbers.Numbers.{Numbers}
-use Rattle.lert_spec.specs.declared.piece.Piece.{Piece}
 use Rattle.lert_spec.specs.Edges.{depth}
 use Rattle.lert_spec.specs.Limits.{IsValid}
-use Rattle.lert_levels.specs.declared.bin_at.BinAt.{BinAt}
 use Rattle.lert_levels.specs.Flushed.{AllCanStand, AreNew, InNamed}
 use Rattle.lert_levels.specs.Landing.{KeepsRest}
 use Rattle.lert_levels.specs.OnDisk.{OnDisk}
@@ -69,6 +66,11 @@ returns-clause-told g c seen told events of =
     let news = subst (λ items. AreNew s m events (take (depth s m) c.args.self.now.rows) (map (λ pieces. pieces.items) items)) (sym c.deref.ensures.value) made.0 in
     let holds = subst
     (λ (v : OnDisk). HoldsBins v.settings events v.rows (seen 2) → AreNew v.settings m events (take (depth v.settings m) v.rows) (map (λ pieces. pieces.items) c.deref.result.now) →
-        IfTold (g.B.Bay.files c.land.new.bay) (λ after. HoldsBins v.settings events (moved v.settings m v.rows) (after 2)))
+    IfTold (g.B.Bay.files c.land.new.bay) (λ after. HoldsBins v.settings events (moved v.settings m v.rows) (after 2)))
     c.in_ok-made.ensures.same (c.in_ok-land.ensures.holds seen (c.in_ok-made.ensures.only_read.seen ∙ told) events) in
     (holds of.held news, made.1)
+
+pub returns-in_err-made-clause-sound : goal.returns-in_err-made-clause-sound
+returns-in_err-made-clause-sound g c seen told held stand =
+    let p = err_from_is_err_and c.from_residual.result c.from_residual.ensures.1 in
+    rw (p.1, p.2) (c.in_err-made.ensures.sound seen told held stand)

@@ -1,4 +1,4 @@
-use Rattle.std.proofs.Common.{ℕ, ◌≡◌, ◌+◌, ◌*◌, ◌≤◌, ◌∙◌, List, map, take, length, ap, sym, subst, arith}
+use Rattle.std.proofs.Common.{ℕ, ◌≡◌, ◌+◌, List, map, take, length, ap, sym, subst, arith}
 use Rattle.std.proofs.lemmas.List.{length-map}
 use Rattle.std.proofs.lemmas.Nat.{mul-le}
 use Rattle.std.proofs.lemmas.Result.{err_from_is_err_and}
@@ -7,9 +7,8 @@ use Rattle.lert_spec.specs.Limits.{IsValid}
 use Rattle.lert_levels.specs.declared.bin_at.BinAt.{BinAt}
 use Rattle.lert_levels.specs.Gathered.{lists_of}
 use Rattle.lert_levels.specs.Loading.{AllStand}
-use Rattle.lert_levels.specs.Merged.{IsMade, IsFrames, streams_of}
+use Rattle.lert_levels.specs.Merged.{IsMade, IsFrames}
 use Rattle.lert_levels.specs.OnDisk.{OnDisk}
-use Rattle.lert_levels.specs.Parts.{streams_to}
 use Rattle.lert_levels.proofs.MergeLaws.{streams_few}
 use Rattle.lert_levels.proofs.levels.Levels.merge.Goals as goal
 

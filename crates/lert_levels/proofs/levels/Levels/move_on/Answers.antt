@@ -1,4 +1,4 @@
-use Rattle.std.proofs.Common.{ℕ, ◌<◌, ◌++◌, length, take, drop, sym, subst, vec_capacity}
+use Rattle.std.proofs.Common.{◌<◌, ◌++◌, length, take, drop, sym, subst, vec_capacity}
 use Rattle.std.specs.List.{All}
 use Rattle.lert_spec.specs.Limits.{IsValid}
 use Rattle.lert_levels.proofs.LevelLaws.{rows_few, after_few, after_room, after_kept}

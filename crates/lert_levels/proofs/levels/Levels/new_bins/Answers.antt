@@ -1,20 +1,13 @@
-use Rattle.std.proofs.Common.{ℕ, ◌≡◌, ◌+◌, ◌-◌, ◌≤◌, ◌<◌, ◌∙◌, List, map, take, length, ap, sym, subst, arith, slice_range}
-use Rattle.std.specs.Prelude.{IfOk}
+use Rattle.std.proofs.Common.{ℕ, ◌≡◌, ◌-◌, ◌≤◌, ◌∙◌, map, take, length, ap, sym, subst, arith}
 use Rattle.std.specs.List.{All}
 use Rattle.std.proofs.lemmas.Result.{IfOk-weaker}
 use Rattle.std.proofs.lemmas.List.{length-map}
-use Rattle.lert_bay.specs.Files.{Files}
 use Rattle.lert_spec.specs.declared.numbers.Numbers.{Numbers}
-use Rattle.lert_spec.specs.declared.piece.Piece.{Piece}
-use Rattle.lert_spec.specs.Bins.{tallied}
-use Rattle.lert_spec.specs.Edges.{depth, lookback}
+use Rattle.lert_spec.specs.Edges.{depth}
 use Rattle.lert_spec.specs.Limits.{IsValid}
-use Rattle.lert_levels.specs.declared.bin_at.BinAt.{BinAt}
-use Rattle.lert_levels.specs.declared.gather.Part.{Part}
-use Rattle.lert_levels.specs.Flushed.{AreEvents, AreNew}
 use Rattle.lert_levels.specs.Gathered.{IsWithin}
-use Rattle.lert_levels.specs.Loading.{OneBreaks}
-use Rattle.lert_levels.specs.Merged.{IsMade, IsFrames}
+use Rattle.lert_levels.specs.Loading.{AllStand, OneBreaks}
+use Rattle.lert_levels.specs.Merged.{IsFrames}
 use Rattle.lert_levels.specs.OnDisk.{OnDisk}
 use Rattle.lert_levels.specs.Parts.{parts_at, streams_to}
 use Rattle.lert_levels.specs.Rows.{AreRows, tallied_in}
@@ -109,3 +102,11 @@ returns-clause-malformed g c seen told at is =
     let settings_is : c.self.inside.settings ≡ s = ap (λ (v : OnDisk). v.settings) c.self.view_is in
     let depth_is : c.depth-depth.result ≡ depth s c.args.m = c.depth-depth.ensures.value ∙ ap (λ (n : Numbers). depth n c.args.m) settings_is in
     subst (λ (d : ℕ). OneBreaks s (take d rows) (seen 2) at) depth_is (c.merge.ensures.malformed seen told at is)
+
+pub returns-clause-sound : goal.returns-clause-sound
+returns-clause-sound g c seen told held stand =
+    let s = c.args.self.now.settings in
+    let rows = c.args.self.now.rows in
+    let settings_is : c.self.inside.settings ≡ s = ap (λ (v : OnDisk). v.settings) c.self.view_is in
+    let depth_is : c.depth-depth.result ≡ depth s c.args.m = c.depth-depth.ensures.value ∙ ap (λ (n : Numbers). depth n c.args.m) settings_is in
+    c.merge.ensures.sound seen told held (subst (λ (d : ℕ). AllStand s (seen 2) held (take d rows)) (sym depth_is) stand)

@@ -1,4 +1,3 @@
-use Rattle.std.proofs.Common.{ℕ, ◌≡◌}
 use Rattle.lert_levels.proofs.LevelLaws.{reached_rows, reached_are}
 use Rattle.lert_levels.proofs.levels.Levels.reached.Goals as goal
 

@@ -1,12 +1,11 @@
-use Rattle.std.proofs.Common.{ℕ, ◌≡◌, ◌≤◌, ◌∙◌, List, map, take, length, ap, sym, subst, arith, refl}
+use Rattle.std.proofs.Common.{◌≡◌, ◌∙◌, List, take, length, ap, sym, subst, arith, refl}
 use Rattle.std.proofs.lemmas.List.{take_all}
 use Rattle.std.proofs.lemmas.Result.{err_from_is_err_and}
 use Rattle.lert_frames.proofs.WriteLaws.{same_err}
 use Rattle.lert_spec.specs.declared.numbers.Numbers.{Numbers}
-use Rattle.lert_spec.specs.declared.piece.Piece.{Piece}
 use Rattle.lert_spec.specs.Limits.{IsValid}
 use Rattle.lert_levels.specs.declared.bin_at.BinAt.{BinAt}
-use Rattle.lert_levels.specs.Loading.{OneBreaks}
+use Rattle.lert_levels.specs.Loading.{AllStand, OneBreaks}
 use Rattle.lert_levels.specs.Merged.{IsFrames}
 use Rattle.lert_levels.specs.OnDisk.{OnDisk}
 use Rattle.lert_levels.specs.Rows.{AreRows, tallied_in}
@@ -56,3 +55,13 @@ returns-clause-took g c =
     let took = g.O.Totals.took c.merge.new.totals in
     let frames = IsFrames (g.B.Bay.files c.args.bay.now) in
     scan_took s valid c.args.self.now.rows c.args.zero.now.bins _ took frames _ (made_turned s c.args.zero.now.bins c.args.self.now.rows c.numbers-levels.result.levels s.levels _ _ took frames _ levels_is refl c.in_ok-_made.ensures.made)
+
+pub returns-in_err-_made-clause-sound : goal.returns-in_err-_made-clause-sound
+returns-in_err-_made-clause-sound g c seen told held stand =
+    let p = err_from_is_err_and c.from_residual.result c.from_residual.ensures.1 in
+    let s = c.args.self.now.settings in
+    let settings_is : c.self.inside.settings ≡ s = ap (λ (v : OnDisk). v.settings) c.self.view_is in
+    let levels_is : c.numbers-levels.result.levels ≡ s.levels = ap (λ (n : Numbers). n.levels) (c.numbers-levels.ensures.value ∙ settings_is) in
+    let are : AreRows s c.args.self.now.rows = subst (λ (v : OnDisk). AreRows v.settings v.rows) c.self.view_is c.self.invariant.are in
+    let all : take c.numbers-levels.result.levels c.args.self.now.rows ≡ c.args.self.now.rows = take_all c.numbers-levels.result.levels c.args.self.now.rows (omega (arith, are.levels)) in
+    rw (p.1, p.2) (c.in_err-_made.ensures.sound seen told held (subst (λ (rows : List (List BinAt)). AllStand s (seen 2) held rows) (sym all) stand))
