@@ -13,6 +13,8 @@ mod parts;
 mod rows;
 #[cfg(test)]
 mod samples;
+#[cfg(test)]
+mod tests;
 mod zero;
 
 pub use bin_at::BinAt;

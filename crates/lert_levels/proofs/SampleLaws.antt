@@ -1,0 +1,47 @@
+-- What the tests' flushes begin with: positions up to 32.
+use Rattle.std.proofs.Common.{ℕ, zero, suc, ◌≡◌, ◌+◌, ◌-◌, ◌*◌, ◌≤◌, List, refl, ap, sym, ◌∙◌, subst, arith}
+
+use Rattle.lert_spec.specs.declared.numbers.Numbers.{Numbers}
+use Rattle.lert_spec.specs.Edges.{span}
+use Rattle.lert_levels.specs.declared.bin_at.BinAt.{BinAt}
+use Rattle.lert_levels.specs.Ranges.{ranges}
+use Rattle.lert_levels.specs.Rows.{IsAt}
+use Rattle.lert_levels.specs.OnDisk.{OnDisk}
+use Rattle.lert_levels.specs.Samples.{small, IsReady}
+use Rattle.lert_levels.specs.Young.{Young}
+
+-- no bin moves between two flush positions
+same_ranges : (k level : ℕ) → k ≤ 5 → 1 ≤ level → level ≤ 2 → ranges small (12 + 4 * k) level ≡ ranges small (15 + 4 * k) level
+same_ranges k zero few first last = absurd (omega arith)
+same_ranges zero (suc zero) few first last = refl
+same_ranges (suc zero) (suc zero) few first last = refl
+same_ranges (suc (suc zero)) (suc zero) few first last = refl
+same_ranges (suc (suc (suc zero))) (suc zero) few first last = refl
+same_ranges (suc (suc (suc (suc zero)))) (suc zero) few first last = refl
+same_ranges (suc (suc (suc (suc (suc zero))))) (suc zero) few first last = refl
+same_ranges (suc (suc (suc (suc (suc (suc k)))))) (suc zero) few first last = absurd (omega arith)
+same_ranges zero (suc (suc zero)) few first last = refl
+same_ranges (suc zero) (suc (suc zero)) few first last = refl
+same_ranges (suc (suc zero)) (suc (suc zero)) few first last = refl
+same_ranges (suc (suc (suc zero))) (suc (suc zero)) few first last = refl
+same_ranges (suc (suc (suc (suc zero)))) (suc (suc zero)) few first last = refl
+same_ranges (suc (suc (suc (suc (suc zero))))) (suc (suc zero)) few first last = refl
+same_ranges (suc (suc (suc (suc (suc (suc k)))))) (suc (suc zero)) few first last = absurd (omega arith)
+same_ranges k (suc (suc (suc level))) few first last = absurd (omega arith)
+
+at_next : (k : ℕ) (rows : List (List BinAt)) → k ≤ 5 → IsAt small (12 + 4 * k) rows → IsAt small (15 + 4 * k) rows
+at_next k rows few at = record { levels = at.levels; each = λ level first last. at.each level first last ∙ same_ranges k level few first last }
+
+-- after a flush, without the oldest bin of level 0 and with four events more
+pub ready_next : (k : ℕ) (young : Young) (disk after : OnDisk) (new : Young) → IsReady (12 + 4 * k) young disk → k ≤ 5 → after.settings ≡ disk.settings → IsAt after.settings (12 + 4 * k) after.rows →
+    new.settings ≡ small → new.from ≡ young.from + span young.settings 0 → new.to ≡ 16 + 4 * k → IsReady (16 + 4 * k) new after
+ready_next k young disk after new ready few settings at new_settings from to =
+    let now = settings ∙ ready.disk_settings in
+    let before : 16 + 4 * k - 1 ≡ 15 + 4 * k = omega arith in
+    record {
+      young_settings = new_settings;
+      disk_settings = now;
+      from = (let wide = ap (λ (s : Numbers). span s 0) ready.young_settings in let four : span small 0 ≡ 4 = refl in omega (arith, ready.from));
+      to = to;
+      at = subst (λ n. IsAt small n after.rows) (sym before) (at_next k after.rows few (subst (λ (s : Numbers). IsAt s (12 + 4 * k) after.rows) now at));
+    }
