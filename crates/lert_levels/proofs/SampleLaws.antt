@@ -1,6 +1,5 @@
 -- What the tests' flushes begin with: positions up to 32.
 use Rattle.std.proofs.Common.{ℕ, zero, suc, ◌≡◌, ◌+◌, ◌-◌, ◌*◌, ◌≤◌, List, refl, ap, sym, ◌∙◌, subst, arith}
-
 use Rattle.lert_spec.specs.declared.numbers.Numbers.{Numbers}
 use Rattle.lert_spec.specs.Edges.{span}
 use Rattle.lert_levels.specs.declared.bin_at.BinAt.{BinAt}
