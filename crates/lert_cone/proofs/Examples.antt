@@ -7,7 +7,8 @@ use Rattle.lert_journal.specs.Payload.{IsJournaled}
 use Rattle.lert_spec.specs.declared.numbers.Numbers.{Numbers}
 use Rattle.lert_spec.specs.Mix.{mix, cone_of}
 use Rattle.lert_cone.specs.Framed.{last_flush}
-use Rattle.lert_cone.specs.History.{events_of, most_payload, end_of}
+use Rattle.lert_base.specs.Packet.{events_of}
+use Rattle.lert_cone.specs.History.{most_payload, end_of}
 use Rattle.lert_cone.specs.Sound.{IsSound}
 
 abbrev small : Numbers

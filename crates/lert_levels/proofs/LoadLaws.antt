@@ -5,7 +5,7 @@ use Rattle.std.proofs.lemmas.Bool.{cases_lt}
 use Rattle.std.proofs.lemmas.List.{map-append, map_more, get_or-map, get_or_default, length-map, take-map}
 use Rattle.std.proofs.lemmas.List.Elements.{All-append, All-take}
 use Rattle.std.proofs.lemmas.Grind.{div_ceil_times}
-use Rattle.lert_frames.specs.GivenLaws.{given_wide}
+use Rattle.lert_spec.proofs.GivenLaws.{given_wide}
 use Rattle.lert_frames.specs.Frame.{IsBin}
 use Rattle.lert_frames.specs.declared.bin.LoadedBin.{LoadedBin}
 use Rattle.lert_spec.specs.declared.piece.Piece.{Piece}
