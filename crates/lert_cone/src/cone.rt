@@ -377,7 +377,11 @@ fn begin<B: Bay>(bay: &mut B, settings: &Settings, cone: u32) -> Result<GateLog,
 }
 
 // Takes keys, one after another.
-fn take_keys<B: Bay, T: CountTable>(tally: &mut Tally<T>, bay: &mut B, keys: &[u64]) -> Result<(), TakeFault>
+fn take_keys<B: Bay, T: CountTable>(
+    tally: &mut Tally<T>,
+    bay: &mut B,
+    keys: &[u64],
+) -> Result<(), TakeFault>
     requires still { tally.old.listing.closed ≡ false }
     requires own { All (λ key. cone_of tally.old.listing.settings key ≡ tally.old.listing.cone) keys.now }
     requires fits { length tally.old.listing.events + length keys.now ≤ capacity tally.old.listing.settings }

@@ -89,7 +89,13 @@ impl<T: CountTable> Tally<T> {
     ghost use Rattle.lert_cone.specs.Tally.{IsCounted, IsHeld};
 
     /// No key yet.
-    pub fn new(settings: &Settings, cone: u32, zero: Zero<T>, levels: Levels<T>, store: ReportStore<T>) -> Tally<T>
+    pub fn new(
+        settings: &Settings,
+        cone: u32,
+        zero: Zero<T>,
+        levels: Levels<T>,
+        store: ReportStore<T>,
+    ) -> Tally<T>
         requires named { cone < 2 ^ settings.now.cone_bits }
         requires zero { zero ≡ record { settings = settings.now; from = 0; to = 0; bins = [] } }
         requires levels { levels ≡ record { settings = settings.now; rows = replicate settings.now.levels [] } }
@@ -157,7 +163,14 @@ impl<T: CountTable> Tally<T> {
             unreachable!()
         };
         due.begin(m);
-        let (due, result) = bring::<B, T, Brand>(&mut self.zero, &mut self.levels, bay, tail, m, due);
+        let (due, result) = bring::<B, T, Brand>(
+            &mut self.zero,
+            &mut self.levels,
+            bay,
+            tail,
+            m,
+            due,
+        );
         let is_full = due.is_full();
         self.due = Some(due);
         result?;

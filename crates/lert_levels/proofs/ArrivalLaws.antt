@@ -3,7 +3,7 @@ use Rattle.std.proofs.Common.{ℕ, ◌≡◌, ◌+◌, ◌-◌, ◌*◌, ◌/◌
 use Rattle.std.specs.List.{All}
 use Rattle.std.proofs.Math.Nat.{mul-suc}
 use Rattle.std.proofs.lemmas.Bool.{cases_Bool}
-use Rattle.std.proofs.lemmas.List.{get_or-map, get_or-take, length-map, length-take, take_all, get_or_append_left}
+use Rattle.std.proofs.lemmas.List.{get_or-map, length-map, length-take, take_all, get_or_append_left}
 use Rattle.std.proofs.lemmas.List.FromFn.{get_or-map-range_with_len, length-map-range_with_len}
 use Rattle.std.proofs.lemmas.List.Sums.{sum_by-cons, sum_by-take-le}
 use Rattle.lert_frames.specs.Frame.{IsBin}
@@ -25,6 +25,7 @@ use Rattle.lert_levels.specs.Merged.{streams_of, widths_of}
 use Rattle.lert_levels.specs.Parts.{streams_to, oldest_stream, part_at, parts_at}
 use Rattle.lert_levels.specs.Ranges.{Range, ranges, filled, young_bins}
 use Rattle.lert_levels.specs.Rows.{range_of, row_of, IsAt, newest, begins, arrived, tallied_in}
+use Rattle.lert_levels.proofs.HoldLaws.{row_among}
 use Rattle.lert_levels.proofs.MergedLaws.{AreTables, IsTable-merged, count_of-merged, total-merged, AreGiven-merged}
 use Rattle.lert_levels.proofs.PartLaws.{streams_more, stream_at}
 use Rattle.lert_levels.proofs.RangeLaws.{range_cuts, oldest_is, oldest_young, depth_moves}
@@ -84,7 +85,7 @@ module _ (s : Numbers) (valid : IsValid s) (m : ℕ) (first : 1 ≤ m) (fits : m
 
   -- the row of a level that the flush reaches
   row_is : (k : ℕ) → k < depth s m → row_of rows (k + 1) ≡ get_or (take (depth s m) rows) k []
-  row_is k less = ap (λ n. get_or rows n []) (let same : k + 1 - 1 ≡ k = omega arith in same) ∙ sym (get_or-take (depth s m) rows k [] less)
+  row_is k less = row_among rows (depth s m) k less
 
   ranges_are : (k : ℕ) → k < depth s m → map range_of (get_or (take (depth s m) rows) k []) ≡ ranges s (m - 1) (k + 1)
   ranges_are k less = ap (map range_of) (sym (row_is k less)) ∙ at.each (k + 1) (omega arith) (omega (arith, deep))

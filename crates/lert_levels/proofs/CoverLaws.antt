@@ -11,8 +11,9 @@ use Rattle.lert_spec.specs.Limits.{IsValid}
 use Rattle.lert_spec.specs.Table.{count_of, IsTable}
 use Rattle.lert_spec.proofs.EdgeLaws.{edge_descends_to, deepest_within, span_pos}
 use Rattle.lert_levels.specs.declared.bin_at.BinAt.{BinAt}
+use Rattle.lert_levels.specs.Loading.{held_in}
 use Rattle.lert_levels.specs.Ranges.{Range, young_bins}
-use Rattle.lert_levels.specs.Rows.{range_of, row_of, IsAt, tallied_in, tallied_to}
+use Rattle.lert_levels.specs.Rows.{range_of, row_of, IsAt, tallied_in}
 use Rattle.lert_levels.proofs.RangeLaws.{edge_within, oldest_edge}
 use Rattle.lert_levels.proofs.Windows.{counted, counted-none, counted-join, ranges_cover, sum_by-map, young_cover, window_table}
 

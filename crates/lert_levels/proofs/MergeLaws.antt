@@ -1,5 +1,5 @@
 -- The bins of level 0 and of some levels on disk, as the streams of a merge.
-use Rattle.std.proofs.Common.{ℕ, ◌≡◌, ◌+◌, ◌-◌, ◌*◌, ◌<◌, ◌≤◌, suc, List, [], ◌∷◌, length, map, get_or, refl, ap, ◌∙◌, arith, sum_by, length-append, add-one}
+use Rattle.std.proofs.Common.{ℕ, ◌≡◌, ◌+◌, ◌-◌, ◌*◌, ◌<◌, ◌≤◌, suc, List, [], ◌∷◌, length, map, get_or, refl, ap, sym, ◌∙◌, arith, sum_by, length-append, add-one}
 use Rattle.std.specs.List.{All}
 use Rattle.std.proofs.Math.Nat.{suc-mul, mul-le-mul_right}
 use Rattle.std.proofs.lemmas.List.{length-map, take_all}
@@ -34,18 +34,21 @@ length_widths [] = refl
 length_widths (row ∷ rows) =
     omega (arith, length-append (map width_of row) (widths_in rows), length-map row width_of, sum_by-cons (λ (r : List BinAt). length r) row rows, length_widths rows)
 
--- how many streams there are
-pub streams_count : (limit : ℕ) (young : List Bin) (rows : List (List BinAt)) (streams : List LoadedBin) (n : ℕ) → n ≡ length rows → AreBins limit (widths_of young rows) (lists_of streams) → length streams ≡ streams_to (length young) rows n
-streams_count limit young rows streams n n_is are =
-    let counts = bins_length limit (widths_of young rows) (lists_of streams) are in
+-- how many lists there are
+pub lists_count : (limit : ℕ) (young : List Bin) (rows : List (List BinAt)) (lists : List (List Piece)) (n : ℕ) → n ≡ length rows → AreBins limit (widths_of young rows) lists → length lists ≡ streams_to (length young) rows n
+lists_count limit young rows lists n n_is are =
+    let counts = bins_length limit (widths_of young rows) lists are in
     let whole = ap (λ rs. sum_by (λ (row : List BinAt). length row) rs) (take_all n rows (omega arith)) in
     omega (
       arith,
-      length-map streams (λ (bin : LoadedBin). bin.pieces.items),
       length-append (map (λ (bin : Bin). bin.to - bin.from) young) (widths_in rows),
       length-map young (λ (bin : Bin). bin.to - bin.from),
       length_widths rows,
     )
+
+-- how many streams there are
+pub streams_count : (limit : ℕ) (young : List Bin) (rows : List (List BinAt)) (streams : List LoadedBin) (n : ℕ) → n ≡ length rows → AreBins limit (widths_of young rows) (lists_of streams) → length streams ≡ streams_to (length young) rows n
+streams_count limit young rows streams n n_is are = sym (length-map streams (λ (bin : LoadedBin). bin.pieces.items)) ∙ lists_count limit young rows (lists_of streams) n n_is are
 
 -- at most as many as the settings say
 pub few_streams : (bins : ℕ) (rows : List (List BinAt)) → ((k : ℕ) → k < length rows → length (get_or rows k []) ≤ bins) → sum_by (λ (row : List BinAt). length row) rows ≤ length rows * bins
@@ -61,15 +64,3 @@ streams_few levels bins young n rows n_is few_young each few =
     let product = mul-le-mul_right bins few in
     let next = ap (λ k. k * bins) (add-one levels) ∙ suc-mul levels bins in
     omega arith
-
--- how many lists these are
-pub lists_count : (limit : ℕ) (young : List Bin) (rows : List (List BinAt)) (lists : List (List Piece)) (n : ℕ) → n ≡ length rows → AreBins limit (widths_of young rows) lists → length lists ≡ streams_to (length young) rows n
-lists_count limit young rows lists n n_is are =
-    let counts = bins_length limit (widths_of young rows) lists are in
-    let whole = ap (λ rs. sum_by (λ (row : List BinAt). length row) rs) (take_all n rows (omega arith)) in
-    omega (
-      arith,
-      length-append (map (λ (bin : Bin). bin.to - bin.from) young) (widths_in rows),
-      length-map young (λ (bin : Bin). bin.to - bin.from),
-      length_widths rows,
-    )

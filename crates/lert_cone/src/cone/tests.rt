@@ -55,11 +55,7 @@ fn small(room: u64) -> Result<Settings, Fail>
     Ok(settings.ok().ok_or("the numbers are settings")?)
 }
 
-fn created<B: Bay>(
-    alloc: Global,
-    settings: &Settings,
-    bay: B,
-) -> Result<Cone<B, PlainTable>, Fail>
+fn created<B: Bay>(alloc: Global, settings: &Settings, bay: B) -> Result<Cone<B, PlainTable>, Fail>
 where
     B: Drop,
     ensures settings { IfOk result (λ c. c.listing.settings ≡ settings.now) }
@@ -122,7 +118,10 @@ fn three_keys_leave_their_files(rt: HostRuntime) -> Result<(), Fail> {
     assert_eq!(rt; cone.admit(&sevens), Err(ConeFault::Closed));
     assert_eq!(rt; cone.finish(), Err(ConeFault::Closed));
     assert_eq!(rt; cone.events(), 3);
-    assert_eq!(rt; cone.reports().list(), [Report { key: 7, at: 3 }].as_slice());
+    assert_eq!(rt;
+        cone.reports().list(),
+        [Report { key: 7, at: 3 }].as_slice()
+    );
     let bay = cone.into_bay();
     assert_eq!(rt; bay.bytes(JOURNAL), JOURNAL_TEXT.as_slice());
     assert_eq!(rt; bay.bytes(LOG), LOG_TEXT.as_slice());

@@ -126,25 +126,27 @@ returns-in-Err-clause-stays g c = rw (← c.self.view_is) (λ h stands.
 pub returns-in-Err-clause-unsound : goal.returns-in-Err-clause-unsound
 returns-in-Err-clause-unsound g c = rw (← c.self.view_is) (λ file at same.
     let answer : c.from.result ≡ Unsound file at = cc in
-    let fault_is = unsound_of c.in-Err.fault file at (sym c.from.ensures ∙ answer) in
-    (c.broken_by-self-inside.ensures ∙ ap broken_by fault_is, (λ h stands.
-    let ok = subst (λ (v : Standing g.row.B.Denot). (v.state ≡ Running) × (v.events + c.len-len.result ≤ capacity v.listing.settings)) (sym c.self.view_is) c.in_ok-test.ensures.ok in
-    let counted = c.self.invariant.tallied (ap is_broken ok.0) in
-    let journaled : IsJournaled c.self.inside.tally.listing.settings c.self.inside.tally.listing.cone (packet_of c.args.entry.now) = subst (λ (v : Standing g.row.B.Denot). IsJournaled v.listing.settings v.listing.cone (packet_of c.args.entry.now)) (sym c.self.view_is) c.requires.fits in
-    let within : c.self.inside.events + c.len-len.result ≤ capacity c.self.inside.tally.listing.settings = ok.1 in
-    let fits : c.self.inside.events + length c.args.entry.now.keys.keys ≤ capacity c.self.inside.tally.listing.settings = omega (arith, within, c.len-len.ensures) in
-    let appends_ = appends g.B.Bay.files g.B.Bay.leaves g.B.Faulty.faults (record { bay = c.self.inside.bay; made = c.self.inside.made.value; listing = c.self.inside.tally.listing; rows = c.self.inside.tally.rows; reports = c.self.inside.tally.due.reports; events = c.self.inside.events; state = c.self.inside.state; over = over_of c.self.inside.over; gate = c.self.inside.journal.gate }) c.append_entry.new.bay (g.B.Bay.left_since c.append_entry.new.bay (g.B.Bay.moment c.self.inside.bay)) c.self.inside.journal.file c.self.inside.journal.most (packet_of c.args.entry.now) c.self.invariant.file c.self.invariant.most
-    c.append_entry.ensures.seen c.append_entry.ensures.each_moment c.append_entry.ensures.before c.append_entry.ensures.others (g.met.B.Bay.as_read c.append_entry.new.bay)
-    (λ image may. g.met.B.Bay.since_earlier c.append_entry.new.bay (g.B.Bay.moment c.self.inside.bay) (g.B.Bay.moment c.append_entry.new.bay) image c.append_entry.ensures.time.later (g.met.B.Bay.since_now c.append_entry.new.bay image may)) in
-    let gate_is = ap (λ (log : Log). log.gate) (when_ok c.append_entry.result (search rules) c.append_entry.ensures.moved) in
-    let appended : IfTold (g.B.Bay.files c.append_entry.new.bay) (λ _. (packets : List Packet) → InEach (g.B.Bay.leaves c.self.inside.bay) 0 (λ bytes. HasPackets (most_payload c.self.inside.tally.listing.settings) bytes 32 packets c.self.inside.journal.gate) → InEach (g.B.Bay.leaves c.append_entry.new.bay) 0 (λ bytes. HasPackets (most_payload c.self.inside.tally.listing.settings) bytes 32 (packets ++ (packet_of c.args.entry.now) ∷ []) c.append_entry.new.log.gate)) = λ seen_after told_after.
-    (let back = turns_back (OthersStay c.self.inside.journal.file) (g.B.Bay.files c.self.inside.bay) (g.B.Bay.files c.append_entry.new.bay) c.append_entry.ensures.seen seen_after told_after in
-    appended_there c.append_entry.result (g.B.Bay.leaves c.self.inside.bay) (g.B.Bay.leaves c.append_entry.new.bay) c.self.inside.tally.listing.settings c.self.inside.journal.file c.self.inside.journal.most c.self.inside.journal.gate c.append_entry.new.log.gate (packet_of c.args.entry.now)
-    c.self.invariant.file c.self.invariant.most (search rules) (c.append_entry.ensures.appended back.0 back.1)) in
-    let settled : IfTold (g.B.Bay.files c.append_entry.new.bay) (λ seen_after. IsWhollySettled (g.B.Bay.leaves c.append_entry.new.bay) seen_after 0) = λ seen_after told_after. subst (λ (f : ℕ). IsWhollySettled (g.B.Bay.leaves c.append_entry.new.bay) seen_after f) c.self.invariant.file (when_ok c.append_entry.result (search rules) c.append_entry.ensures.settled seen_after told_after) in
-    untold (g.B.Bay.files c.self.inside.bay) (λ seen told.
-    let middle = c.append_entry.ensures.seen.told seen told in
-    c.take_keys.ensures.sound middle.0 middle.1 (held_after g.B.Bay.files g.B.Bay.leaves g.B.Faulty.faults (record { bay = c.self.inside.bay; made = c.self.inside.made.value; listing = c.self.inside.tally.listing; rows = c.self.inside.tally.rows; reports = c.self.inside.tally.due.reports; events = c.self.inside.events; state = c.self.inside.state; over = over_of c.self.inside.over; gate = c.self.inside.journal.gate }) c.append_entry.new.bay (g.B.Bay.left_since c.append_entry.new.bay (g.B.Bay.moment c.self.inside.bay)) h (packet_of c.args.entry.now) ok.0 journaled fits appends_ stands c.append_entry.new.log.gate gate_is appended settled c.self.inside.tally refl refl refl counted middle.0 middle.1) file at (c.in-Err.is ∙ ap Err fault_is)))))
+    let fault_is = unsound_of c.in-Err.fault file at (sym c.from.ensures ∙ answer) in (
+      c.broken_by-self-inside.ensures ∙ ap broken_by fault_is,
+      (λ h stands.
+          let ok = subst (λ (v : Standing g.row.B.Denot). (v.state ≡ Running) × (v.events + c.len-len.result ≤ capacity v.listing.settings)) (sym c.self.view_is) c.in_ok-test.ensures.ok in
+          let counted = c.self.invariant.tallied (ap is_broken ok.0) in
+          let journaled : IsJournaled c.self.inside.tally.listing.settings c.self.inside.tally.listing.cone (packet_of c.args.entry.now) = subst (λ (v : Standing g.row.B.Denot). IsJournaled v.listing.settings v.listing.cone (packet_of c.args.entry.now)) (sym c.self.view_is) c.requires.fits in
+          let within : c.self.inside.events + c.len-len.result ≤ capacity c.self.inside.tally.listing.settings = ok.1 in
+          let fits : c.self.inside.events + length c.args.entry.now.keys.keys ≤ capacity c.self.inside.tally.listing.settings = omega (arith, within, c.len-len.ensures) in
+          let appends_ = appends g.B.Bay.files g.B.Bay.leaves g.B.Faulty.faults (record { bay = c.self.inside.bay; made = c.self.inside.made.value; listing = c.self.inside.tally.listing; rows = c.self.inside.tally.rows; reports = c.self.inside.tally.due.reports; events = c.self.inside.events; state = c.self.inside.state; over = over_of c.self.inside.over; gate = c.self.inside.journal.gate }) c.append_entry.new.bay (g.B.Bay.left_since c.append_entry.new.bay (g.B.Bay.moment c.self.inside.bay)) c.self.inside.journal.file c.self.inside.journal.most (packet_of c.args.entry.now) c.self.invariant.file c.self.invariant.most
+          c.append_entry.ensures.seen c.append_entry.ensures.each_moment c.append_entry.ensures.before c.append_entry.ensures.others (g.met.B.Bay.as_read c.append_entry.new.bay)
+          (λ image may. g.met.B.Bay.since_earlier c.append_entry.new.bay (g.B.Bay.moment c.self.inside.bay) (g.B.Bay.moment c.append_entry.new.bay) image c.append_entry.ensures.time.later (g.met.B.Bay.since_now c.append_entry.new.bay image may)) in
+          let gate_is = ap (λ (log : Log). log.gate) (when_ok c.append_entry.result (search rules) c.append_entry.ensures.moved) in
+          let appended : IfTold (g.B.Bay.files c.append_entry.new.bay) (λ _. (packets : List Packet) → InEach (g.B.Bay.leaves c.self.inside.bay) 0 (λ bytes. HasPackets (most_payload c.self.inside.tally.listing.settings) bytes 32 packets c.self.inside.journal.gate) → InEach (g.B.Bay.leaves c.append_entry.new.bay) 0 (λ bytes. HasPackets (most_payload c.self.inside.tally.listing.settings) bytes 32 (packets ++ (packet_of c.args.entry.now) ∷ []) c.append_entry.new.log.gate)) = λ seen_after told_after.
+          (let back = turns_back (OthersStay c.self.inside.journal.file) (g.B.Bay.files c.self.inside.bay) (g.B.Bay.files c.append_entry.new.bay) c.append_entry.ensures.seen seen_after told_after in
+          appended_there c.append_entry.result (g.B.Bay.leaves c.self.inside.bay) (g.B.Bay.leaves c.append_entry.new.bay) c.self.inside.tally.listing.settings c.self.inside.journal.file c.self.inside.journal.most c.self.inside.journal.gate c.append_entry.new.log.gate (packet_of c.args.entry.now)
+          c.self.invariant.file c.self.invariant.most (search rules) (c.append_entry.ensures.appended back.0 back.1)) in
+          let settled : IfTold (g.B.Bay.files c.append_entry.new.bay) (λ seen_after. IsWhollySettled (g.B.Bay.leaves c.append_entry.new.bay) seen_after 0) = λ seen_after told_after. subst (λ (f : ℕ). IsWhollySettled (g.B.Bay.leaves c.append_entry.new.bay) seen_after f) c.self.invariant.file (when_ok c.append_entry.result (search rules) c.append_entry.ensures.settled seen_after told_after) in
+          untold (g.B.Bay.files c.self.inside.bay) (λ seen told.
+          let middle = c.append_entry.ensures.seen.told seen told in
+          c.take_keys.ensures.sound middle.0 middle.1 (held_after g.B.Bay.files g.B.Bay.leaves g.B.Faulty.faults (record { bay = c.self.inside.bay; made = c.self.inside.made.value; listing = c.self.inside.tally.listing; rows = c.self.inside.tally.rows; reports = c.self.inside.tally.due.reports; events = c.self.inside.events; state = c.self.inside.state; over = over_of c.self.inside.over; gate = c.self.inside.journal.gate }) c.append_entry.new.bay (g.B.Bay.left_since c.append_entry.new.bay (g.B.Bay.moment c.self.inside.bay)) h (packet_of c.args.entry.now) ok.0 journaled fits appends_ stands c.append_entry.new.log.gate gate_is appended settled c.self.inside.tally refl refl refl counted middle.0 middle.1) file at (c.in-Err.is ∙ ap Err fault_is))),
+    ))
 
 pub returns-in-Err-clause-each_moment : goal.returns-in-Err-clause-each_moment
 returns-in-Err-clause-each_moment g c = rw (← c.self.view_is) (λ still seen told h stands image may.
