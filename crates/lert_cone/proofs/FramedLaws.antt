@@ -1,11 +1,11 @@
 -- The frames of the rows hold the bins of the last flush exactly where they hold those of all events so far.
-use Rattle.std.proofs.Common.{ℕ, zero, suc, ◌≡◌, ◌+◌, ◌-◌, ◌<◌, ◌≤◌, cond, eqb, List, [], ◌∷◌, ◌++◌, length, take, get_or, map, All, refl, ap, ap₂, sym, ◌∙◌, arith, inl, inr, subst, slice_range}
+use Rattle.std.proofs.Common.{ℕ, zero, suc, ◌≡◌, ◌+◌, ◌-◌, ◌≤◌, cond, List, [], ◌∷◌, ◌++◌, length, take, get_or, map, All, refl, ap, sym, ◌∙◌, arith, inl, inr, subst, slice_range}
 use Rattle.std.proofs.lemmas.Bool.{cases_eq, eq-eqb, ne_eqb}
 use Rattle.std.proofs.lemmas.List.{take_more, length-take, take_all}
 use Rattle.lert_frames.specs.Frame.{HoldsFrame}
 use Rattle.lert_frames.specs.Place.{frame_place}
 use Rattle.lert_levels.specs.declared.bin_at.BinAt.{BinAt}
-use Rattle.lert_levels.specs.Ranges.{Range, ranges, filled}
+use Rattle.lert_levels.specs.Ranges.{filled}
 use Rattle.lert_levels.specs.Rows.{IsAt, HoldsBins, range_of, row_of}
 use Rattle.lert_levels.proofs.RangeLaws.{bins-ranges}
 use Rattle.lert_spec.specs.declared.numbers.Numbers.{Numbers}

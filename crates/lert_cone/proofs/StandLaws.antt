@@ -1,15 +1,13 @@
 -- Which lists a cone stands for: when it is made, through an append and the flushes behind it, and when it is finished.
-use Rattle.std.proofs.Common.{◌≡◌, ℕ, ◌+◌, ◌<◌, ◌≤◌, Bool, true, false, List, [], ◌∷◌, ◌++◌, length, take, get_or, map, replicate, Option, Some, None, All, Result, Ok, Err, OnOk, OnErr, cond, refl, sym, ap, ap₂, ◌∙◌, subst, inl, inr, arith, zero-add, length-append}
+use Rattle.std.proofs.Common.{◌≡◌, ℕ, ◌+◌, ◌<◌, ◌≤◌, true, false, List, [], ◌∷◌, ◌++◌, length, take, get_or, map, Option, Some, None, All, Result, Ok, Err, OnOk, OnErr, cond, refl, sym, ap, ◌∙◌, subst, inl, inr, arith, zero-add, length-append}
 use Rattle.std.proofs.lemmas.Bool.{false≢true, cases_lt}
 use Rattle.std.proofs.lemmas.List.{take-take, take_all}
 use Rattle.std.proofs.lemmas.List.Elements.{All-append, All-nil, All-cons}
-use Rattle.std.proofs.lemmas.Option.{none-some, same_Some}
 use Rattle.std.specs.Result.{is_err}
 use Rattle.lert_base.specs.Packet.{Packet, events_of}
 use Rattle.lert_bay.specs.Files.{Files, IfTold, Turns, Torn}
-use Rattle.lert_bay.specs.Images.{KeepsImages, Lasts}
-use Rattle.lert_bay.specs.Settled.{part, Keeps, IsSettled}
-use Rattle.lert_frames.specs.Kept.{OnlyRead}
+use Rattle.lert_bay.specs.Images.{KeepsImages}
+use Rattle.lert_bay.specs.Settled.{part}
 use Rattle.lert_gatelog.specs.Gated.{IsClosed, Log, next_gate}
 use Rattle.lert_gatelog.specs.Kept.{InEach, KeepsOthers, KeepsBefore, IsWhollySettled, OthersStay}
 use Rattle.lert_gatelog.proofs.GatedLaws.{byte_of_part, part_within, gated_behind, closed_behind}
@@ -19,13 +17,11 @@ use Rattle.lert_journal.specs.Payload.{payload_of, IsJournaled}
 use Rattle.lert_journal.proofs.PayloadLaws.{length_payload}
 use Rattle.lert_levels.specs.declared.bin_at.BinAt.{BinAt}
 use Rattle.lert_spec.specs.declared.numbers.Numbers.{Numbers}
-use Rattle.lert_spec.specs.declared.report.Report.{Report}
 use Rattle.lert_spec.specs.Edges.{capacity}
 use Rattle.lert_spec.specs.Limits.{IsValid}
 use Rattle.lert_cone.specs.declared.state.ConeState.{ConeState}
-use Rattle.lert_cone.specs.declared.state.ConeState.TheVariants.{Running, Finished, BrokenByBay, BrokenByRead, BrokenByMemory}
-use Rattle.lert_cone.specs.declared.refusal.ConeFault.{ConeFault}
-use Rattle.lert_cone.specs.declared.refusal.ConeFault.TheVariants.{Closed, Broken, CapacityFull, BayFailed, Unsound, OutOfMemory}
+use Rattle.lert_cone.specs.declared.state.ConeState.TheVariants.{Running, Finished, BrokenByBay, BrokenByRead}
+use Rattle.lert_cone.specs.declared.refusal.ConeFault.TheVariants.{BayFailed, Unsound, OutOfMemory}
 use Rattle.lert_cone.specs.declared.tally.TakeFault.{TakeFault}
 use Rattle.lert_cone.specs.declared.tally.TakeFault.TheVariants.{Failed as TakeFailed, Unsound as TakeUnsound, OutOfMemory as TakeOutOfMemory}
 use Rattle.lert_cone.specs.History.{most_payload, end_of}
@@ -35,7 +31,6 @@ use Rattle.lert_cone.specs.Listing.{Listing, reports_of}
 use Rattle.lert_cone.specs.Sound.{IsSound, IsSoundOver, IsKept, IsKeptWhole, LogStays}
 use Rattle.lert_cone.specs.Stands.{Standing, StandsFor, IsCone, IsWhole, is_broken, is_finished, is_refusal, broken_by, cone_fault}
 use Rattle.lert_cone.specs.Tally.{Tallied, IsCounted, IsHeld}
-use Rattle.lert_cone.specs.Wrote.{WroteFrames}
 use Rattle.lert_cone.proofs.FramedLaws.{framed, framed_back}
 use Rattle.lert_cone.proofs.SoundLaws.{events_more, counted_more, end_more, turns_back}
 

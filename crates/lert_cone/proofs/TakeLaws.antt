@@ -1,5 +1,5 @@
 -- A cone with one more key, from what the parts of the step say.
-use Rattle.std.proofs.Common.{ℕ, ◌≡◌, ◌≢◌, ◌+◌, ◌-◌, ◌^◌, ◌<◌, ◌≤◌, suc, Bool, true, false, cond, List, [], ◌∷◌, ◌++◌, length, Option, Result, Ok, Err, OnOk, ◌⊎◌, inl, inr, refl, ap, ap₂, sym, ◌∙◌, arith, subst, length-append}
+use Rattle.std.proofs.Common.{ℕ, ◌≡◌, ◌≢◌, ◌-◌, ◌^◌, ◌<◌, ◌≤◌, suc, true, false, cond, List, [], ◌∷◌, ◌++◌, length, Option, Result, Ok, Err, OnOk, ◌⊎◌, inl, inr, refl, ap, ap₂, sym, ◌∙◌, arith, subst, length-append}
 use Rattle.std.specs.Prelude.{MatchResult}
 use Rattle.std.specs.Result.{IsErrAnd}
 use Rattle.lert_bay.specs.Files.{Files}
@@ -23,12 +23,11 @@ use Rattle.lert_levels.specs.Young.{Young, with_event}
 use Rattle.lert_cone.specs.declared.tally.TakeFault.{TakeFault}
 use Rattle.lert_cone.specs.declared.tally.TakeFault.TheVariants.{Unsound}
 use Rattle.lert_cone.specs.Due.{Dues, TookFrom, due_reports, started}
-use Rattle.lert_cone.specs.Listing.{Listing, reports_of}
 use Rattle.lert_cone.specs.Tally.{Tallied, IsCounted, IsHeld, AreYoung, totals_at, take_fault}
 use Rattle.lert_cone.specs.Wrote.{WroteFrames}
 use Rattle.lert_cone.proofs.KeyLemmas.{AreKeys-push, AreOfCone-push}
 use Rattle.lert_cone.proofs.RoomLaws.{look_fits, closing_fits}
-use Rattle.lert_cone.proofs.TallyLaws.{next_position, next_from, next_bins, frames_more}
+use Rattle.lert_cone.proofs.TallyLaws.{next_from, next_bins, frames_more}
 use Rattle.lert_cone.proofs.TotalLaws.{closing_is, totals_table, look_is}
 
 -- what a taker's state says of the definition: the totals of a start bring the definition's reports, or too many

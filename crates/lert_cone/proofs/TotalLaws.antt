@@ -1,5 +1,5 @@
 -- The reports that the next key brings, and those of the end, by the totals that a taker gets.
-use Rattle.std.proofs.Common.{ℕ, ◌≡◌, ◌+◌, ◌-◌, ◌*◌, ◌^◌, ◌<◌, ◌≤◌, zero, suc, Bool, true, false, cond, eqb, leb, not, ◌&&◌, List, [], ◌∷◌, ◌++◌, length, map, filter, ap, ap₂, sym, ◌∙◌, arith, inl, inr, subst, slice_range, length-append}
+use Rattle.std.proofs.Common.{ℕ, ◌≡◌, ◌+◌, ◌-◌, ◌^◌, ◌<◌, ◌≤◌, suc, Bool, true, false, cond, leb, not, ◌&&◌, List, [], ◌∷◌, ◌++◌, length, map, ap, sym, ◌∙◌, arith, inl, inr, subst, slice_range, length-append}
 use Rattle.std.proofs.Math.Nat.{mul-div-le}
 use Rattle.std.proofs.Math.Seq.{take-length}
 use Rattle.std.proofs.lemmas.Bool.{cases_eq, eq-eqb, ne_eqb}
@@ -9,7 +9,7 @@ use Rattle.lert_spec.specs.declared.piece.Piece.{Piece}
 use Rattle.lert_spec.specs.declared.report.Report.{Report}
 use Rattle.lert_spec.specs.Bins.{tallied}
 use Rattle.lert_spec.specs.Counts.{count}
-use Rattle.lert_spec.specs.Edges.{span, offset, edge, depth, lookback, capacity}
+use Rattle.lert_spec.specs.Edges.{span, offset, edge, depth, lookback}
 use Rattle.lert_spec.specs.Limits.{IsValid}
 use Rattle.lert_spec.specs.Look.{is_listed, look, closing}
 use Rattle.lert_spec.specs.Mix.{cone_of, tail_of}
@@ -18,7 +18,7 @@ use Rattle.lert_spec.proofs.CountLaws.{count-append, count-push}
 use Rattle.lert_spec.proofs.EdgeLaws.{deepest_reaches}
 use Rattle.lert_spec.proofs.LookLaws.{AreKeys, look-push, look-push_between}
 use Rattle.lert_spec.proofs.MixLaws.{tail_below}
-use Rattle.lert_spec.proofs.TailLaws.{AreOfCone, key_with, is_due_piece, due_by_tails}
+use Rattle.lert_spec.proofs.TailLaws.{AreOfCone, key_with, due_by_tails}
 use Rattle.lert_spec.proofs.TallyLaws.{IsTable-tallied}
 use Rattle.lert_spec.proofs.WindowLaws.{count_parts, count_never_falls}
 use Rattle.lert_cone.specs.Due.{due_reports}

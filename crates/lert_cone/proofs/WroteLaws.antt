@@ -1,7 +1,6 @@
 -- Calls in turn that write into the file of frames alone.
-use Rattle.std.proofs.Common.{◌≡◌, ◌≢◌, ℕ, ◌≤◌, List, length, Option, Some, None, refl, sym, ap, ◌∙◌, subst, inl, inr, arith}
-use Rattle.lert_bay.specs.Files.{Files, Turns}
-use Rattle.lert_bay.specs.Images.{Lasts}
+use Rattle.std.proofs.Common.{◌≡◌, ◌≢◌, ℕ, ◌≤◌, length, Option, Some, refl, sym, ap, ◌∙◌, inl, inr, arith}
+use Rattle.lert_bay.specs.Files.{Files}
 use Rattle.lert_bay.specs.Settled.{part, IsSettled}
 use Rattle.lert_bay.proofs.Lasting.{lasts_none, lasts_on}
 use Rattle.lert_gatelog.specs.Kept.{OthersStay}

@@ -1,9 +1,8 @@
 -- What the counts and reports of a cone are seen as, and what they hold.
-use Rattle.std.specs.Prelude.{ℕ, ◌≡◌, ◌+◌, ◌-◌, ◌^◌, ◌<◌, ◌≤◌, ◌==◌, List, [], ◌∷◌, length, slice_range, Option, Some, None, if◌then◌else◌}
+use Rattle.std.specs.Prelude.{ℕ, ◌≡◌, ◌-◌, ◌^◌, ◌<◌, ◌≤◌, ◌==◌, List, [], ◌∷◌, length, slice_range, Option, Some, None, if◌then◌else◌}
 use Rattle.lert_bay.specs.Files.{Files}
 use Rattle.lert_spec.specs.declared.numbers.Numbers.{Numbers}
 use Rattle.lert_spec.specs.declared.piece.Piece.{Piece}
-use Rattle.lert_spec.specs.declared.report.Report.{Report}
 use Rattle.lert_spec.specs.Bins.{Bin, tallied}
 use Rattle.lert_spec.specs.Edges.{edge, depth, lookback, capacity}
 use Rattle.lert_spec.specs.Limits.{IsValid}

@@ -1,8 +1,5 @@
-use Rattle.std.proofs.Common.{rules, ◌≡◌, ◌∙◌, ◌+◌, ◌<◌, ◌++◌, ◌∷◌, [], ℕ, List, Err, Some, length, take, get_or, ap, sym, arith, append_assoc}
+use Rattle.std.proofs.Common.{◌∙◌, ◌<◌, ◌++◌, ◌∷◌, [], ℕ, List, length, take, get_or, ap, sym, arith, append_assoc}
 use Rattle.std.proofs.lemmas.List.{take_more}
-use Rattle.lert_bay.specs.Files.{Files}
-use Rattle.lert_cone.specs.declared.tally.TakeFault.{TakeFault}
-use Rattle.lert_cone.specs.declared.tally.TakeFault.TheVariants.{Unsound}
 use Rattle.lert_cone.specs.Listing.{Listing}
 use Rattle.lert_cone.proofs.TakeLaws.{handed_on}
 use Rattle.lert_cone.proofs.WroteLaws.{wrote_on}

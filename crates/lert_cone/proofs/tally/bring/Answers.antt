@@ -1,18 +1,16 @@
-use Rattle.std.proofs.Common.{rules, ◌≡◌, ◌≢◌, ℕ, ◌+◌, ◌-◌, ◌<◌, ◌≤◌, OnOk, List, [], ◌∷◌, ◌++◌, length, drop, subst, sym, ap, ap₂, ◌∙◌, arith, slice_range, Some}
+use Rattle.std.proofs.Common.{◌≡◌, ◌≢◌, ℕ, ◌+◌, ◌<◌, List, [], ◌∷◌, drop, subst, sym, ap, ap₂, ◌∙◌, arith}
 use Rattle.std.proofs.lemmas.List.Elements.{All-nil}
 use Rattle.std.proofs.lemmas.Option.{same_Some}
 use Rattle.lert_bay.specs.Files.{Files}
 use Rattle.lert_spec.specs.declared.numbers.Numbers.{Numbers}
 use Rattle.lert_spec.specs.declared.piece.Piece.{Piece}
-use Rattle.lert_spec.specs.Bins.{Bin}
-use Rattle.lert_spec.specs.Edges.{span, edge, depth}
+use Rattle.lert_spec.specs.Edges.{span, depth}
 use Rattle.lert_levels.specs.OnDisk.{OnDisk}
 use Rattle.lert_levels.specs.Ranges.{young_bins}
 use Rattle.lert_levels.specs.Rows.{IsAt, HoldsBins}
 use Rattle.lert_levels.specs.Young.{Young}
 use Rattle.lert_levels.proofs.RowLaws.{IsAt-moved}
-use Rattle.lert_cone.specs.Due.{Dues, TookFrom}
-use Rattle.lert_cone.specs.Tally.{AreYoung, totals_at}
+use Rattle.lert_cone.specs.Due.{TookFrom}
 use Rattle.lert_cone.proofs.TallyLaws.{edge_still, young_total, flush_total, rows_still, flush_moves, dropped_edge, dropped_bins}
 use Rattle.lert_cone.proofs.TotalLaws.{edge_within}
 use Rattle.lert_cone.proofs.tally.bring.Goals as goal

@@ -3,7 +3,7 @@ use Rattle.lert_base.specs.declared.entry.Entry.{Entry}
 use Rattle.lert_base.specs.Entries.{packet_of}
 use Rattle.lert_base.specs.Packet.{Packet, events_of}
 use Rattle.std.specs.List.{length_refill}
-use Rattle.lert_bay.specs.Files.{Files, IfTold, Turns}
+use Rattle.lert_bay.specs.Files.{IfTold}
 use Rattle.lert_bay.proofs.Lasting.{lasts_on}
 use Rattle.lert_gatelog.specs.Gated.{IsClosed, Log}
 use Rattle.lert_gatelog.specs.Kept.{InEach, IsWhollySettled, OthersStay}
@@ -12,15 +12,12 @@ use Rattle.lert_journal.specs.Payload.{IsJournaled}
 use Rattle.lert_spec.specs.Edges.{capacity}
 use Rattle.lert_spec.specs.Limits.{IsValid}
 use Rattle.lert_spec.specs.Look.{look}
-use Rattle.lert_cone.specs.declared.refusal.ConeFault.{ConeFault}
 use Rattle.lert_cone.specs.declared.refusal.ConeFault.TheVariants.{Unsound}
-use Rattle.lert_cone.specs.declared.state.ConeState.TheVariants.{Running, BrokenByBay, BrokenByRead, BrokenByMemory}
+use Rattle.lert_cone.specs.declared.state.ConeState.TheVariants.{Running, BrokenByBay}
 use Rattle.lert_cone.specs.History.{most_payload}
 use Rattle.lert_cone.specs.Listing.{Listing}
-use Rattle.lert_cone.specs.Sound.{LogStays, IsKept, IsKeptWhole, IsSound, IsSoundOver}
+use Rattle.lert_cone.specs.Sound.{IsKept, IsKeptWhole, IsSound, IsSoundOver}
 use Rattle.lert_cone.specs.Stands.{Standing, over_of, is_broken, is_finished, broken_by}
-use Rattle.lert_cone.specs.Tally.{IsHeld}
-use Rattle.lert_cone.specs.Wrote.{WroteFrames}
 use Rattle.lert_reports.specs.Stored.{Stored}
 use Rattle.lert_cone.proofs.StandLaws.{appends, stands_broken, broken_cone, more_cone, stands_whole, whole_held, kept_after, sound_during, held_after, kept_last, sound_last, files_last, some_more, events_after, gate_after, keys_after, closed_through, reports_running, untold, log_after, log_later, is_broken_by, by_bay_of, by_read_of, unsound_of, when_ok, when_err, risen_since, appended_there}
 use Rattle.lert_cone.proofs.SoundLaws.{turns_back}

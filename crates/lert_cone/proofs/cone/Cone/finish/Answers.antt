@@ -1,7 +1,6 @@
-use Rattle.std.proofs.Common.{◌≡◌, ◌∙◌, Err, refl, length, ap, sym, subst, rules}
+use Rattle.std.proofs.Common.{◌≡◌, ◌∙◌, Err, refl, length, ap, sym, subst}
 use Rattle.lert_base.specs.Packet.{events_of}
 use Rattle.lert_spec.specs.Look.{closing}
-use Rattle.lert_cone.specs.declared.refusal.ConeFault.{ConeFault}
 use Rattle.lert_cone.specs.declared.refusal.ConeFault.TheVariants.{Unsound}
 use Rattle.lert_cone.specs.declared.state.ConeState.TheVariants.{Running, Finished}
 use Rattle.lert_cone.specs.Listing.{Listing}

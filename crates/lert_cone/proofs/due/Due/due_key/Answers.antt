@@ -1,6 +1,5 @@
-use Rattle.std.proofs.Common.{rules, arith, ap, sym, subst, ◌∙◌, ◌≡◌, ◌≤◌, Some, None}
+use Rattle.std.proofs.Common.{arith, ap, sym, ◌∙◌, ◌≤◌}
 use Rattle.lert_spec.specs.declared.numbers.Numbers.{Numbers}
-use Rattle.lert_cone.specs.Due.{Dues, due_key}
 use Rattle.lert_cone.proofs.DueLaws.{due_key-listed, due_key-fresh}
 use Rattle.lert_cone.proofs.due.Due.due_key.Goals as goal
 

@@ -1,7 +1,7 @@
-use Rattle.std.proofs.Common.{rules, ◌≡◌, ◌≢◌, ℕ, ◌<◌, List, true, false, length, ap, sym, ◌∙◌, subst, arith, Option, Err, Some}
+use Rattle.std.proofs.Common.{◌≡◌, List, true, false, ap, sym, ◌∙◌, subst, Option, Err}
 use Rattle.lert_levels.specs.declared.bin_at.BinAt.{BinAt}
 use Rattle.lert_levels.specs.OnDisk.{OnDisk}
-use Rattle.lert_cone.specs.Due.{Dues, TookFrom, started}
+use Rattle.lert_cone.specs.Due.{Dues, started}
 use Rattle.lert_cone.specs.Tally.{Tallied, IsCounted, IsHeld, due_in}
 use Rattle.lert_cone.proofs.TakeLaws.{rows_end, fits_end, from_end, young_end, frames_end, counted_end, held_end, never_full_end, err_is}
 use Rattle.lert_cone.proofs.tally.Tally.finish.Goals as goal

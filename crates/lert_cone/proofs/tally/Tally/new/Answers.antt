@@ -1,9 +1,8 @@
-use Rattle.std.proofs.Common.{◌≡◌, ◌∙◌, ℕ, [], false, List, ap, sym, subst, arith, replicate}
+use Rattle.std.proofs.Common.{◌∙◌, ℕ, false, List, ap, sym, subst, arith}
 use Rattle.lert_levels.specs.declared.bin_at.BinAt.{BinAt}
 use Rattle.lert_levels.specs.OnDisk.{OnDisk}
 use Rattle.lert_levels.specs.Rows.{IsAt}
 use Rattle.lert_levels.specs.Young.{Young}
-use Rattle.lert_spec.specs.declared.numbers.Numbers.{Numbers}
 use Rattle.lert_spec.specs.Limits.{IsValid}
 use Rattle.lert_cone.specs.Due.{Dues}
 use Rattle.lert_cone.specs.Tally.{IsCounted}

@@ -1,10 +1,9 @@
-use Rattle.std.proofs.Common.{rules, ◌≡◌, ◌≢◌, ℕ, ◌+◌, ◌-◌, ◌<◌, List, ◌∷◌, ◌++◌, [], suc, true, false, length, ap, sym, ◌∙◌, subst, arith, Option, Result, Ok, Err, Some}
+use Rattle.std.proofs.Common.{◌≡◌, ℕ, ◌+◌, ◌<◌, List, ◌∷◌, ◌++◌, [], suc, false, length, ap, sym, ◌∙◌, subst, arith, Option, Err}
 use Rattle.lert_spec.specs.Edges.{capacity}
 use Rattle.lert_spec.specs.Mix.{cone_of}
-use Rattle.lert_cone.specs.declared.tally.TakeFault.{TakeFault}
-use Rattle.lert_cone.specs.Due.{Dues, TookFrom, started}
-use Rattle.lert_cone.specs.Tally.{Tallied, IsCounted, IsHeld, due_in, totals_at}
-use Rattle.lert_cone.proofs.TakeLaws.{rows_before, young_now, frames_now, all_long, counted_next, held_next, never_full, sound_fault, err_is}
+use Rattle.lert_cone.specs.Due.{Dues, started}
+use Rattle.lert_cone.specs.Tally.{Tallied, IsCounted, IsHeld, due_in}
+use Rattle.lert_cone.proofs.TakeLaws.{rows_before, young_now, frames_now, all_long, counted_next, held_next, never_full, err_is}
 use Rattle.lert_cone.proofs.tally.Tally.take.Goals as goal
 
 pub bring-due-requires-clause-rows : goal.bring-due-requires-clause-rows
