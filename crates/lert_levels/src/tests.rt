@@ -1,4 +1,4 @@
-//! Which frames the flushes write, what all levels count together, and what a refusal leaves.
+//! Which frames the flushes write, and what all levels count together.
 
 ghost use Rattle.std.specs.Prelude.{◌≡◌, ◌+◌, ◌*◌, ◌≤◌, IfOk, OnOk, OnErr};
 ghost use Rattle.lert_levels.specs.Samples.{small as small_numbers, IsReady};
@@ -6,7 +6,7 @@ ghost use Rattle.lert_levels.specs.Samples.{small as small_numbers, IsReady};
 use crate::samples::{Taken, fill, small};
 use crate::{FlushFault, Levels, Zero};
 use lert_base::{Piece, Settings};
-use lert_bay::{FRAMES, MemBay};
+use lert_bay::MemBay;
 use lert_plain::PlainTable;
 use std::alloc::Global;
 use std::test::Fail;
@@ -76,29 +76,5 @@ fn a_scan_counts_the_events_of_all_levels(rt: HostRuntime) -> Result<(), Fail> {
     levels.scan(&mut bay, &zero, &mut totals)?;
     let [one, two, three, four] = [1, 2, 3, 4].map(|tail| Piece { tail, count: 5 });
     assert_eq!(rt; totals.kept.as_slice(), [one, two, three, four].as_slice());
-    Ok(())
-}
-
-#[test]
-fn a_refusal_leaves_the_directory(rt: HostRuntime) -> Result<(), Fail> {
-    let alloc = rt.alloc();
-    let settings = small()?;
-    let (mut zero, mut levels) = begin(alloc, &settings)?;
-    let mut bay = MemBay::new(alloc)?;
-    // The first call writes how many pieces there are, the second the pieces, and the third makes them durable.
-    bay.fail_at(1);
-    let stored = flush(alloc, &mut zero, &mut levels, &mut bay, 0);
-    assert_eq!(rt; stored, Err(FlushFault::Failed));
-    assert_eq!(rt; levels.directory(), [0, 0].as_slice());
-    bay.fail_at(3);
-    let synced = flush(alloc, &mut zero, &mut levels, &mut bay, 0);
-    assert_eq!(rt; synced, Err(FlushFault::Failed));
-    assert_eq!(rt; levels.directory(), [0, 0].as_slice());
-    flush(alloc, &mut zero, &mut levels, &mut bay, 0)?;
-    // The file ends before the frame's first byte.
-    bay.load(FRAMES, &[])?;
-    let loaded = flush(alloc, &mut zero, &mut levels, &mut bay, 1);
-    assert_eq!(rt; loaded, Err(FlushFault::Malformed { at: 0 }));
-    assert_eq!(rt; levels.directory(), [1, 0, 0].as_slice());
     Ok(())
 }
