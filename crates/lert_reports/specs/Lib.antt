@@ -1,3 +1,4 @@
+pub mod Log
 pub mod LogRules
 pub mod LogText
 pub mod Stored
