@@ -2,6 +2,7 @@ pub mod BinCount
 pub mod DirectoryLaws
 mod Examples
 pub mod FieldLaws
+pub mod LogLaws
 pub mod PlaceLaws
 pub mod RecordBack
 pub mod RecordFound
