@@ -1,0 +1,331 @@
+-- The records of a cone's log as events come: none at first, one more at each flush, and the closing one.
+use Rattle.std.proofs.Common.{ℕ, zero, suc, ◌≡◌, ◌≢◌, ◌+◌, ◌-◌, ◌*◌, ◌/◌, ◌^◌, ◌<◌, ◌≤◌, Bool, true, false, cond, eqb, ltb, List, [], ◌∷◌, ◌++◌, length, take, drop, get_or, map, filter, min, max, All, refl, ap, ap₂, sym, ◌∙◌, arith, inl, inr, ◌⊎◌, subst, length-append, append_assoc, sum_by}
+use Rattle.std.specs.Prelude.{flat_map, slice_index_or, replicate, count_by}
+use Rattle.std.specs.List.{AllPairs, range_with_len}
+use Rattle.std.specs.List.Sorted.{IsNonDecreasing}
+use Rattle.std.proofs.Math.Nat.{mul-div-le, div-add-mod, mod-lt, mul-suc, mul_comm, mul-div_right, pow-zero}
+use Rattle.std.proofs.Math.Numerals.{add-one}
+use Rattle.std.proofs.Math.Seq.{drop-append_seam}
+use Rattle.std.proofs.lemmas.Bool.{cases_lt, cases_eq, cases_Bool, eq-eqb, ne_eqb, false≢true}
+use Rattle.std.proofs.lemmas.List.{length-map, length-take, take-append-le, take_all, take-append-drop, get_or-map, get_or_at, get_or-append-add}
+use Rattle.std.proofs.lemmas.List.Elements.{All-nil, All-cons, All-append, All-map, All-weaker, All-from_get_or}
+use Rattle.std.proofs.lemmas.List.Concat.{length-flat_map}
+use Rattle.std.proofs.lemmas.List.Folds.{flat_map-map}
+use Rattle.std.proofs.lemmas.List.Sums.{length-filter, sum_by-cons, sum_by-le}
+use Rattle.std.proofs.lemmas.Nat.{mul-le}
+use Rattle.lert_levels.specs.declared.bin_at.BinAt.{BinAt}
+use Rattle.lert_levels.specs.Ranges.{Range, range_at, ranges}
+use Rattle.lert_levels.specs.Rows.{directory_text, range_of, row_of, IsAt, IsRow, AreRows}
+use Rattle.lert_levels.proofs.RangeLaws.{ranges_few}
+use Rattle.lert_reports.specs.declared.log.LogBefore.{LogBefore}
+use Rattle.lert_reports.specs.declared.log.LogKind.{LogKind}
+use Rattle.lert_reports.specs.Log.{most_record, is_flush, is_closing, AreRecords, is_closed, last_n0, last_directory, last_at, listed_in, before_of, flushes_in}
+use Rattle.lert_reports.specs.LogRules.{IsInTurn, AreFrames, AreNew, KeepsRules}
+use Rattle.lert_reports.specs.LogText.{LogRecord, bin_count, directory_bytes, log_payload, log_payload_of, next_flush}
+use Rattle.lert_reports.proofs.LogLaws.{records_none, records_more, EndsWith, ends, last_keeps, listed_in-push, last_n0-push, is_closed-push, last_directory-push, flushes_in-push, last_at-push, payload_length}
+use Rattle.lert_spec.specs.declared.numbers.Numbers.{Numbers}
+use Rattle.lert_spec.specs.declared.report.Report.{Report}
+use Rattle.lert_spec.specs.Counts.{count}
+use Rattle.lert_spec.specs.Edges.{span, offset, edge, capacity, lookback}
+use Rattle.lert_spec.specs.Limits.{IsValid}
+use Rattle.lert_spec.specs.Look.{insert_mixed, mixed_order, is_due, with_due, look_to, look, closing}
+use Rattle.lert_spec.specs.Mix.{mix, cone_of}
+use Rattle.lert_spec.specs.Timely.{times_listed}
+use Rattle.lert_spec.proofs.EdgeLaws.{steps, span_pos, moves_by_one}
+use Rattle.lert_spec.proofs.LookLaws.{AreKeys, AreKeys-mixed_order, AreKeys-filter, look_to-append}
+use Rattle.lert_spec.proofs.ReportLaws.{insert_before, insert_same, insert_behind}
+use Rattle.lert_spec.proofs.TailLaws.{AreOfCone, AreKeys-take, AreKeys-drop}
+use Rattle.lert_spec.proofs.TimeBound.{IsTimely-closing, IsTimelySoFar-look}
+use Rattle.lert_cone.specs.Framed.{last_flush, flushed}
+use Rattle.lert_cone.specs.Logged.{frames_of, next_record, IsLogOf}
+
+-- ---- directories
+
+-- the directory of a record is the one of the levels
+pub directory_is : (rows : List (List BinAt)) → directory_bytes (frames_of rows) ≡ directory_text rows
+directory_is rows =
+    let frames : List BinAt → List ℕ = λ row. map (λ bin. bin.frame) row in
+    flat_map-map (λ (ns : List ℕ). length ns ∷ ns) frames rows
+    ∙ λ i. flat_map (λ (row : List BinAt). length-map row (λ (bin : BinAt). bin.frame) i ∷ frames row) rows
+
+-- levels without bins have no frames
+frames_none : (n : ℕ) → replicate n [] ≡ frames_of (replicate n [])
+frames_none zero = refl
+frames_none (suc n) = ap (λ (levels : List (List ℕ)). [] ∷ levels) (frames_none n)
+
+-- a record's payload is what is written of it
+pub payload_is : (kind : LogKind) (n0 : ℕ) (rows : List (List BinAt)) (records : List LogRecord) (reports : List Report) →
+    log_payload kind n0 32 1 (directory_text rows) (drop (length (listed_in records)) reports) ≡ log_payload_of (next_record kind n0 rows records reports)
+payload_is kind n0 rows records reports =
+    ap (λ directory. log_payload kind n0 32 1 directory (drop (length (listed_in records)) reports)) (sym (directory_is rows))
+
+-- ---- the last flush
+
+module _ (s : Numbers) where
+  flush_stays : (n : ℕ) → edge s 0 (suc n) ≡ edge s 0 n → last_flush s (suc n) ≡ last_flush s n
+  flush_stays n stays = ap (λ t. cond t (last_flush s n) (suc n)) (eq-eqb (edge s 0 (suc n)) (edge s 0 n) stays)
+
+  flush_there : (n : ℕ) → edge s 0 (suc n) ≢ edge s 0 n → last_flush s (suc n) ≡ suc n
+  flush_there n moves = ap (λ t. cond t (last_flush s n) (suc n)) (ne_eqb (edge s 0 (suc n)) (edge s 0 n) moves)
+
+  pub last_flush_within : (n : ℕ) → last_flush s n ≤ n
+  last_flush_within zero = omega arith
+  last_flush_within (suc n) =
+      elim (cases_eq (edge s 0 (suc n)) (edge s 0 n)) [
+        | inl stays ↦ omega (arith, flush_stays n stays, last_flush_within n)
+        | inr moves ↦ omega (arith, flush_there n moves)
+      ]
+
+longer : (events : List ℕ) (key : ℕ) → length (events ++ key ∷ []) ≡ suc (length events)
+longer events key = omega (arith, length-append events (key ∷ []))
+
+-- ---- no event, and a position without a flush
+
+pub log_none : (s : Numbers) (cone : ℕ) → IsLogOf s cone [] (replicate s.levels []) false []
+log_none s cone = record {
+  rules = records_none s cone;
+  closed_is = refl;
+  n0_is = refl;
+  directory_is = frames_none s.levels;
+  reports_are = refl;
+}
+
+pub log_between : (s : Numbers) (cone : ℕ) (events : List ℕ) (key : ℕ) (rows : List (List BinAt)) (records : List LogRecord) →
+    edge s 0 (suc (length events)) ≡ edge s 0 (length events) → IsLogOf s cone events rows false records → IsLogOf s cone (events ++ key ∷ []) rows false records
+log_between s cone events key rows records stays is =
+    let n = length events in
+    let all = events ++ key ∷ [] in
+    let last : last_flush s (length all) ≡ last_flush s n = ap (last_flush s) (longer events key) ∙ flush_stays s n stays in
+    let same : flushed s all ≡ flushed s events =
+    ap (λ k. take k all) last ∙ take-append-le (last_flush s n) events (key ∷ []) (last_flush_within s n) in
+    record {
+      rules = is.rules;
+      closed_is = is.closed_is;
+      n0_is = is.n0_is ∙ sym last;
+      directory_is = is.directory_is;
+      reports_are = is.reports_are ∙ ap (look s) (sym same);
+    }
+
+-- ---- counted by places
+
+count_map : {A B : Type 0} (f : A → B) (p : B → Bool) (xs : List A) → count_by p (map f xs) ≡ count_by (λ x. p (f x)) xs
+count_map f p [] = refl
+count_map f p (x ∷ xs) =
+    sum_by-cons (λ y. cond {A = ℕ} (p y) 1 0) (f x) (map f xs)
+    ∙ ap (λ n. cond {A = ℕ} (p (f x)) 1 0 + n) (count_map f p xs)
+    ∙ sym (sum_by-cons (λ y. cond {A = ℕ} (p (f y)) 1 0) x xs)
+
+counted_there : {A : Type 0} (key : A → ℕ) (xs : List A) (j : ℕ) (d : A) → j < length xs → 1 ≤ count_by (λ x. eqb (key x) (key (get_or xs j d))) xs
+counted_there key [] j d below = absurd (omega arith)
+counted_there key (x ∷ xs) zero d below =
+    let parts = sum_by-cons (λ y. cond {A = ℕ} (eqb (key y) (key x)) 1 0) x xs in
+    let here = ap (λ t. cond {A = ℕ} t 1 0) (eq-eqb (key x) (key x) refl) in
+    omega (arith, parts, here)
+counted_there key (x ∷ xs) (suc j) d below =
+    let parts = sum_by-cons (λ y. cond {A = ℕ} (eqb (key y) (key (get_or xs j d))) 1 0) x xs in
+    omega (arith, parts, counted_there key xs j d (omega (arith, below)))
+
+-- keys that each stand at most once differ
+apart : {A : Type 0} (key : A → ℕ) (xs : List A) → ((k : ℕ) → count_by (λ x. eqb (key x) k) xs ≤ 1) → AllPairs (λ one other. key one ≢ key other) xs
+apart key [] few i j d less within same = omega arith
+apart key (x ∷ xs) few zero zero d less within same = omega arith
+apart key (x ∷ xs) few zero (suc j) d less within same =
+    let k = key x in
+    let parts = sum_by-cons (λ y. cond {A = ℕ} (eqb (key y) k) 1 0) x xs in
+    let here = ap (λ t. cond {A = ℕ} t 1 0) (eq-eqb k k refl) in
+    let there : 1 ≤ count_by (λ y. eqb (key y) k) xs = subst (λ n. 1 ≤ count_by (λ y. eqb (key y) n) xs) (sym same) (counted_there key xs j d (omega (arith, within))) in
+    omega (arith, few k, parts, here, there)
+apart key (x ∷ xs) few (suc i) zero d less within same = omega arith
+apart key (x ∷ xs) few (suc i) (suc j) d less within same =
+    apart key xs (λ k. omega (arith, few k, sum_by-cons (λ y. cond {A = ℕ} (eqb (key y) k) 1 0) x xs)) i j d (omega (arith, less)) (omega (arith, within)) same
+
+-- ---- the frames of a record
+
+-- a record counts a level's bins as its ranges
+pub bins_are : (s : Numbers) (level n : ℕ) → bin_count s level n ≡ length (ranges s n level)
+bins_are s level n =
+    let width = span s level in
+    let low = edge s level n in
+    let high = edge s (level - 1) n in
+    let some : Range → Bool = λ range. ltb range.from range.to in
+    let intervals = range_with_len 0 (suc (n / width)) in
+    (λ i. count_by (λ k. ltb (max low (k * width)) (min high (add-one k i * width))) (range_with_len 0 (add-one (n / width) i)))
+    ∙ sym (length-filter some (map (range_at width low high) intervals) ∙ count_map (range_at width low high) some intervals)
+
+-- the frames of rows are those of a record
+frames_are : (s : Numbers) (n : ℕ) (rows : List (List BinAt)) → IsAt s n rows → AreRows s rows → (k : ℕ) → k < s.levels → AreFrames s (k + 1) n (slice_index_or (frames_of rows) k [])
+frames_are s n rows at are k below =
+    let frame : BinAt → ℕ = λ bin. bin.frame in
+    let frames : List BinAt → List ℕ = λ row. map frame row in
+    let row = get_or rows k [] in
+    let level = k + 1 in
+    let row_is : row_of rows level ≡ row = ap (λ i. get_or rows i []) (let same : k + 1 - 1 ≡ k = omega arith in same) in
+    let here : get_or (frames_of rows) k [] ≡ frames row = get_or-map frames rows k [] [] (omega (arith, at.levels, below)) in
+    let is : IsRow s level row = subst (IsRow s level) row_is (are.each level (omega arith) (omega (arith, below))) in
+    let positions : map range_of row ≡ ranges s n level = ap (map range_of) (sym row_is) ∙ at.each level (omega arith) (omega (arith, below)) in
+    let long = length-map row frame in
+    let none : BinAt = record { from = 0; to = 0; frame = 0 } in
+    subst (AreFrames s level n) (sym here)
+    (record {
+      counted = long ∙ sym (length-map row range_of) ∙ ap (length {A = Range}) positions ∙ sym (bins_are s level n);
+      known = All-map (λ (f : ℕ). f ≤ s.bins) frame row is.frames;
+      distinct = λ i j d less within same.
+          apart frame row is.distinct i j none less (omega (arith, within, long))
+          (sym (get_or-map frame row i none d (omega (arith, less, within, long))) ∙ same ∙ get_or-map frame row j none d (omega (arith, within, long)));
+    })
+
+-- a payload of a record that keeps the rules has some bytes, and no more than a log takes
+pub payload_fits : (s : Numbers) (cone : ℕ) (before : LogBefore) (one : LogRecord) → IsValid s → KeepsRules s cone before one → (0 < length (log_payload_of one)) × (length (log_payload_of one) ≤ most_record s)
+payload_fits s cone before one valid keeps =
+    let level_bytes : List ℕ → List ℕ = λ frames. length frames ∷ frames in
+    let few : (k : ℕ) → k < length one.directory → length (level_bytes (get_or one.directory k [])) ≤ 1 + s.bins =
+    λ k below. (
+    let counted = (keeps.frames k (omega (arith, below, keeps.levels))).counted in
+    omega (
+      arith,
+      counted,
+      bins_are s (k + 1) one.n0,
+      ranges_few s (omega (arith, valid.limits.base_from)) (omega (arith, valid.limits.ratio_from)) (k + 1) one.n0 (omega (arith, valid.limits.bins_from)) (omega arith),
+    )) in
+    let all : All (λ frames. length (level_bytes frames) ≤ 1 + s.bins) one.directory = All-from_get_or (λ frames. length (level_bytes frames) ≤ 1 + s.bins) one.directory [] few in
+    let sum = sum_by-le (λ (frames : List ℕ). length (level_bytes frames)) (1 + s.bins) one.directory all in
+    let product = ap (λ n. n * (1 + s.bins)) keeps.levels in
+    let long = length-flat_map level_bytes one.directory in
+    let whole = payload_length one in
+    (omega (arith, whole), omega (arith, whole, long, sum, product, keeps.room))
+
+-- ---- how many flushes there are
+
+same_factor : (w a b : ℕ) → 1 ≤ w → w * a ≡ w * b → a ≡ b
+same_factor w a b wide same = sym (mul-div_right a {m = w} wide) ∙ ap (λ x. x / w) same ∙ mul-div_right b {m = w} wide
+
+spread : (b k w : ℕ) → b * w + w * suc k ≡ (suc b + k) * w
+spread b k w = grind arith
+
+module _ (s : Numbers) (valid : IsValid s) where
+  base : 1 ≤ s.base
+  base = omega (arith, valid.limits.base_from)
+
+  ratio : 1 ≤ s.ratio
+  ratio = omega (arith, valid.limits.ratio_from)
+
+  wide : 1 ≤ span s 0
+  wide = span_pos s 0 base ratio
+
+  span_is : span s 0 ≡ s.base
+  span_is = ap (λ p. s.base * p) (pow-zero s.ratio) ∙ omega arith
+
+  -- the place of the flush that so many others come before
+  place_is : (k : ℕ) → offset s 0 + span s 0 * suc k ≡ next_flush s k
+  place_is k =
+      let some : suc (s.bins - 1) ≡ s.bins = omega (arith, valid.limits.bins_from) in
+      spread (s.bins - 1) k (span s 0) ∙ ap₂ (λ b w. (b + k) * w) some span_is
+
+  -- a flush's place isn't 0
+  flush_pos : (k : ℕ) → 1 ≤ next_flush s k
+  flush_pos k = mul-le 1 1 (s.bins + k) s.base (omega (arith, valid.limits.bins_from)) base
+
+  -- before the next flush
+  pub before_next : (n : ℕ) → n < next_flush s (steps s 0 n)
+  before_next n =
+      let k = steps s 0 n in
+      let parts = div-add-mod (n - offset s 0) (span s 0) in
+      let rest = mod-lt (n - offset s 0) {m = span s 0} wide in
+      omega (arith, place_is k, mul-suc (span s 0) k, parts, rest)
+
+  record Flushes (n : ℕ) : Type 0 where
+    place : suc n ≡ next_flush s (steps s 0 n)
+    one_more : steps s 0 (suc n) ≡ suc (steps s 0 n)
+
+  -- where the youngest edge moves, there is the next flush
+  flushes_at : (n : ℕ) → edge s 0 (suc n) ≢ edge s 0 n → Flushes n
+  flushes_at n moves =
+      let k = steps s 0 n in
+      let before : suc n - 1 ≡ n = omega arith in
+      let one_more : steps s 0 (suc n) ≡ suc k =
+      moves_by_one s base ratio 0 (suc n) (subst (λ b. edge s 0 (suc n) ≢ edge s 0 b) (sym before) moves) ∙ ap (λ b. suc (steps s 0 b)) before in
+      let lower = subst (λ c. span s 0 * c ≤ suc n - offset s 0) one_more (mul-div-le (suc n - offset s 0) (span s 0)) in
+      let upper = before_next n in
+      let next = mul-suc (span s 0) k in
+      record { place = omega (arith, lower, upper, place_is k, next, wide); one_more = one_more }
+
+  steps_stay : (n : ℕ) → edge s 0 (suc n) ≡ edge s 0 n → steps s 0 (suc n) ≡ steps s 0 n
+  steps_stay n stays = same_factor (span s 0) (steps s 0 (suc n)) (steps s 0 n) wide stays
+
+  -- the last flush by the number of flushes
+  record LastIs (n : ℕ) : Type 0 where
+    none : steps s 0 n ≡ 0 → last_flush s n ≡ 0
+    some : (k : ℕ) → steps s 0 n ≡ suc k → last_flush s n ≡ next_flush s k
+
+  last_is : (n : ℕ) → LastIs n
+  last_is zero = record {
+    none = λ _. refl;
+    some = λ k more. (let within = subst (λ c. span s 0 * c ≤ 0 - offset s 0) more (mul-div-le (0 - offset s 0) (span s 0)) in
+        absurd (omega (arith, within, mul-suc (span s 0) k, wide)));
+  }
+  last_is (suc n) =
+      elim (cases_eq (edge s 0 (suc n)) (edge s 0 n)) [
+        | inl stays ↦ (
+            let same = steps_stay n stays in
+            let earlier = last_is n in
+            record {
+              none = λ empty. flush_stays s n stays ∙ earlier.none (sym same ∙ empty);
+              some = λ k more. flush_stays s n stays ∙ earlier.some k (sym same ∙ more);
+            })
+        | inr moves ↦ (
+            let at = flushes_at n moves in
+            record {
+              none = λ empty. absurd (omega (arith, at.one_more, empty));
+              some = λ k more. flush_there s n moves ∙ at.place ∙ ap (next_flush s) (let same : steps s 0 n ≡ k = omega (arith, at.one_more, more) in same);
+            })
+      ]
+
+  -- a flush's record in its turn
+  flush_turn : (before : LogBefore) (kind : LogKind) (n0 : ℕ) → is_closing kind ≡ false → IsInTurn s before kind n0 → (n0 ≡ next_flush s before.flushes) × (is_flush kind ≡ true)
+  flush_turn before LogKind.Flush n0 not_closing turn = (turn, refl)
+  flush_turn before LogKind.Closing n0 not_closing turn = absurd (false≢true (sym not_closing))
+
+  same_flush : (a b : ℕ) → next_flush s a ≡ next_flush s b → a ≡ b
+  same_flush a b same =
+      let sums = same_factor s.base (s.bins + a) (s.bins + b) base (mul_comm s.base (s.bins + a) ∙ same ∙ mul_comm (s.bins + b) s.base) in
+      omega (arith, sums)
+
+  module _ (cone : ℕ) (events : List ℕ) (rows : List (List BinAt)) (records : List LogRecord) (is : IsLogOf s cone events rows false records) where
+    n : ℕ
+    n = length events
+
+    flushes_none : records ≡ [] → flushes_in records ≡ steps s 0 (length events)
+    flushes_none empty =
+        let none : flushes_in records ≡ 0 = ap flushes_in empty in
+        let start : last_n0 records ≡ 0 = ap last_n0 empty in
+        elim (cases_lt 0 (steps s 0 (length events))) [
+          | inl some ↦ (
+              let k = steps s 0 (length events) - 1 in
+              let last = (last_is (length events)).some k (omega (arith, some)) in
+              absurd (omega (arith, last, flush_pos k, is.n0_is, start)))
+          | inr few ↦ omega (arith, none, few)
+        ]
+
+    flushes_some : EndsWith records → flushes_in records ≡ steps s 0 (length events)
+    flushes_some more =
+        let front = more.front in
+        let last = more.last in
+        let keeps = (last_keeps s cone front last (subst (AreRecords s cone) more.is is.rules)).0 in
+        let not_closing : is_closing last.kind ≡ false = sym (is_closed-push front last) ∙ ap is_closed (sym more.is) ∙ is.closed_is in
+        let turn = flush_turn (before_of front) last.kind last.n0 not_closing keeps.in_turn in
+        let here : next_flush s (flushes_in front) ≡ last_flush s (length events) = sym turn.0 ∙ sym (last_n0-push front last) ∙ ap last_n0 (sym more.is) ∙ is.n0_is in
+        let one_more : flushes_in records ≡ flushes_in front + 1 = ap flushes_in more.is ∙ flushes_in-push front last ∙ ap (λ t. flushes_in front + cond {A = ℕ} t 1 0) turn.1 in
+        elim (cases_lt 0 (steps s 0 (length events))) [
+          | inl some ↦ (
+              let k = steps s 0 (length events) - 1 in
+              let same = same_flush (flushes_in front) k (here ∙ (last_is (length events)).some k (omega (arith, some))) in
+              omega (arith, one_more, same, some))
+          | inr few ↦ absurd (omega (arith, here, (last_is (length events)).none (omega (arith, few)), flush_pos (flushes_in front)))
+        ]
+
+    -- a log has as many records of a flush as there were flushes
+    pub flushes_are : flushes_in records ≡ steps s 0 (length events)
+    flushes_are = elim (ends records) [
+      | inl empty ↦ flushes_none empty
+      | inr more ↦ flushes_some more
+    ]
