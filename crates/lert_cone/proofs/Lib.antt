@@ -2,6 +2,8 @@ pub mod DueLaws
 mod Examples
 pub mod FramedLaws
 pub mod KeyLemmas
+pub mod LogLaws
+pub mod RecordLaws
 pub mod RoomLaws
 pub mod SoundLaws
 pub mod StandLaws

@@ -1,5 +1,5 @@
 -- Which pieces of a table bring a report, and what a taker of totals is seen as.
-use Rattle.std.specs.Prelude.{ℕ, ◌≡◌, ◌-◌, ◌<◌, ◌^◌, ◌==◌, Bool, true, false, List, [], ◌∷◌, ◌++◌, length, map, filter, All, Option, Some, None, if◌then◌else◌}
+use Rattle.std.specs.Prelude.{ℕ, ◌≡◌, ◌-◌, ◌<◌, ◌≤◌, ◌^◌, ◌==◌, Bool, true, false, List, [], ◌∷◌, ◌++◌, length, map, filter, All, Option, Some, None, if◌then◌else◌}
 use Rattle.lert_spec.specs.declared.numbers.Numbers.{Numbers}
 use Rattle.lert_spec.specs.declared.piece.Piece.{Piece}
 use Rattle.lert_spec.specs.declared.report.Report.{Report}
@@ -49,12 +49,13 @@ unbegun = record {
 abbrev pub started : Dues → ℕ → Dues
 started dues at = record dues { before = dues.reports; at = at; is_full = false }
 
--- since a state it took these totals, and all else is as it was
+-- since a state it took these totals, no report went, and all else is as it was
 pub record TookFrom (start dues : Dues) (pieces : List Piece) : Type 0 where
   pub settings_are : dues.settings ≡ start.settings
   pub cone_is : dues.cone ≡ start.cone
   pub before_is : dues.before ≡ start.before
   pub at_is : dues.at ≡ start.at
+  pub grows : length dues.before ≤ length dues.reports
   pub took : TookTotals dues pieces
 
 -- one more report of a key, where there is one, and room for it

@@ -1,7 +1,10 @@
 pub mod Due
 pub mod Framed
 pub mod History
+pub mod InStep
 pub mod Listing
+pub mod Logged
+pub mod Record
 pub mod Room
 pub mod Sound
 pub mod Stands

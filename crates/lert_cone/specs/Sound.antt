@@ -1,34 +1,80 @@
 -- What the files of a cone hold for a list of packets, and what a bay keeps of that.
-use Rattle.std.specs.Prelude.{◌≡◌, ℕ, ◌≤◌, List, [], ◌∷◌, ◌++◌, length, All, Option, Some}
+use Rattle.std.specs.Prelude.{◌≡◌, ℕ, ◌-◌, ◌≤◌, Bool, true, List, [], ◌∷◌, ◌++◌, length, take, All, Option, Some, slice_index_or, if◌then◌else◌}
 use Rattle.std.proofs.Common.{◌⊎◌}
 use Rattle.lert_base.specs.Packet.{Packet, events_of}
 use Rattle.lert_bay.specs.Files.{Files}
 use Rattle.lert_bay.specs.Settled.{part}
+use Rattle.lert_frames.specs.Frame.{HoldsFrame}
+use Rattle.lert_frames.specs.Place.{frame_place}
 use Rattle.lert_gatelog.specs.Kept.{IsWhollySettled}
 use Rattle.lert_journal.specs.Header.{header}
 use Rattle.lert_journal.specs.Journal.{HasPackets}
 use Rattle.lert_journal.specs.Payload.{IsJournaled}
+use Rattle.lert_reports.specs.Log.{HasLog, listed_in, last_n0, last_directory, is_closed}
+use Rattle.lert_reports.specs.LogText.{LogRecord}
 use Rattle.lert_spec.specs.declared.numbers.Numbers.{Numbers}
+use Rattle.lert_spec.specs.Bins.{Bin, bins}
 use Rattle.lert_spec.specs.Edges.{capacity}
+use Rattle.lert_spec.specs.Look.{look, closing}
+use Rattle.lert_cone.specs.Framed.{last_flush}
 use Rattle.lert_cone.specs.History.{most_payload, end_of}
 
--- the bytes that begin a log: the letters LERTL, and version 1
-abbrev pub log_header : List ℕ
-log_header = 76 ∷ 69 ∷ 82 ∷ 84 ∷ 76 ∷ 1 ∷ 0 ∷ 0 ∷ []
+-- ---- the journal
 
--- a log without a record: its header and a closed gate
-abbrev pub log_text : List ℕ
-log_text = log_header ++ 0 ∷ []
-
--- the files of a cone are sound for a list of packets: the journal has the header of the cone, its open records are these
--- packets, each of which a journal may hold, and together they have no more keys than a cone takes; the log has its
--- header and no open record
-pub record IsSound (s : Numbers) (cone : ℕ) (history : List Packet) (files : Files) : Type 0 where
-  pub headed : part (files 0) 0 32 ≡ header s cone
-  pub records : HasPackets (most_payload s) (files 0) 32 history (end_of history)
+-- the bytes are the journal of a list of packets: the header of the cone, and open records of these packets, each of which
+-- a journal may hold, and which together have no more keys than a cone takes
+pub record IsJournal (s : Numbers) (cone : ℕ) (history : List Packet) (bytes : List ℕ) : Type 0 where
+  pub headed : part bytes 0 32 ≡ header s cone
+  pub records : HasPackets (most_payload s) bytes 32 history (end_of history)
   pub journaled : All (IsJournaled s cone) history
   pub within : length (events_of history) ≤ capacity s
-  pub log : part (files 1) 0 9 ≡ log_text
+
+-- all packets but the last
+abbrev pub but_last : List Packet → List Packet
+but_last history = take (length history - 1) history
+
+-- ---- the frames
+
+-- the frames of a level with these numbers hold these bins, one after another
+abbrev pub HoldFrames : Numbers → ℕ → List ℕ → List ℕ → List Bin → Type 0
+HoldFrames s level file [] [] = Unit {0}
+HoldFrames s level file [] (bin ∷ bins) = ⊥
+HoldFrames s level file (frame ∷ frames) [] = ⊥
+HoldFrames s level file (frame ∷ frames) (bin ∷ bins) =
+    HoldsFrame (frame_place s level frame) file bin.pieces × HoldFrames s level file frames bins
+
+-- those that a directory names hold the bins of each level from 1 on after these events
+pub record HoldsDirectory (s : Numbers) (events : List ℕ) (directory : List (List ℕ)) (file : List ℕ) : Type 0 where
+  pub each : (level : ℕ) → 1 ≤ level → level ≤ s.levels → HoldFrames s level file (slice_index_or directory (level - 1) []) (bins s events level)
+
+-- ---- all three files
+
+-- The files of a cone are sound for a list of packets: the journal is that of the list, and the log has records that keep
+-- the rules. The last of them was written after n0 events, 0 where there is none. These are no more than those of the list,
+-- and no flush position lies between them and the last packet. The frames that it names hold the bins of the first n0
+-- events, and the reports of all records are those that the definition makes of these, or, behind a closing record, which
+-- stands behind all events, those at the end.
+pub record IsSound (s : Numbers) (cone : ℕ) (history : List Packet) (files : Files) : Type 0 where
+  pub journal : IsJournal s cone history (files 0)
+  pub logged : List LogRecord
+  pub log_end : ℕ
+  pub log : HasLog s cone (files 1) logged log_end
+  pub n0_most : last_n0 logged ≤ length (events_of history)
+  pub n0_least : last_flush s (length (events_of (but_last history))) ≤ last_n0 logged
+  pub frames : HoldsDirectory s (take (last_n0 logged) (events_of history)) (last_directory s logged) (files 2)
+  pub reports_are : listed_in logged ≡ (if is_closed logged then closing s (events_of history) else look s (take (last_n0 logged) (events_of history)))
+  pub closed_behind : is_closed logged ≡ true → last_n0 logged ≡ length (events_of history)
+
+-- sound, and its last record is a closing one or not: a closing one stands behind all events, and where there is none the
+-- last one stands at the last flush position
+pub record IsSoundAs (s : Numbers) (cone : ℕ) (closed : Bool) (history : List Packet) (files : Files) : Type 0 where
+  pub sound : IsSound s cone history files
+  pub closed_is : is_closed sound.logged ≡ closed
+  pub n0_is : last_n0 sound.logged ≡ (if closed then length (events_of history) else last_flush s (length (events_of history)))
+
+-- sound, and closed
+abbrev pub IsSoundClosed : Numbers → ℕ → List Packet → Files → Type 0
+IsSoundClosed s cone history files = IsSoundAs s cone true history files
 
 -- sound for the list, or for the list and the packet that is left over, where there is one
 abbrev pub IsSoundOver : Numbers → ℕ → List Packet → Option Packet → Files → Type 0
@@ -36,11 +82,12 @@ IsSoundOver s cone history over files =
     IsSound s cone history files
     ⊎ ((packet : Packet) × (over ≡ Some packet) × IsSound s cone (history ++ packet ∷ []) files)
 
--- as a read gives the files, and in every image, they are so, and the log reads as its header and a closed gate alone
+-- ---- what a bay keeps
+
+-- as a read gives the files, and in every image, they are so
 pub record IsKept (leaves : Files → Type 0) (seen : Files) (P : Files → Type 0) : Type 0 where
   pub as_read : P seen
   pub images : (image : Files) → leaves image → P image
-  pub log_alone : seen 1 ≡ log_text
 
 -- and the journal and the log are settled from the first byte to the last
 pub record IsKeptWhole (leaves : Files → Type 0) (seen : Files) (P : Files → Type 0) : Type 0 where
@@ -57,7 +104,3 @@ pub record AreEmpty (seen : Files) : Type 0 where
 -- the frames stay as a read gives them
 abbrev pub FramesStay : Files → Files → Type 0
 FramesStay old new = new 2 ≡ old 2
-
--- the log stays as a read gives it
-abbrev pub LogStays : Files → Files → Type 0
-LogStays old new = new 1 ≡ old 1

@@ -5,8 +5,7 @@ use Rattle.lert_base.specs.declared.entry.Entry.{Entry}
 use Rattle.lert_base.specs.Entries.{packet_of}
 use Rattle.lert_base.specs.Packet.{Packet, events_of}
 use Rattle.lert_bay.specs.Files.{Files, IfTold}
-use Rattle.lert_gatelog.specs.Gated.{IsClosed, Log}
-use Rattle.lert_gatelog.specs.Kept.{InEach}
+use Rattle.lert_gatelog.specs.Gated.{Log}
 use Rattle.lert_io.specs.Fault.{HasRisen}
 use Rattle.lert_levels.specs.declared.bin_at.BinAt.{BinAt}
 use Rattle.lert_spec.specs.declared.numbers.Numbers.{Numbers}
@@ -20,10 +19,13 @@ use Rattle.lert_cone.specs.declared.acked.Acked.{Acked}
 use Rattle.lert_cone.specs.declared.refusal.ConeFault.{ConeFault}
 use Rattle.lert_cone.specs.declared.refusal.ConeFault.TheVariants.{Closed, Broken, CapacityFull, BayFailed, Unsound, OutOfMemory}
 use Rattle.lert_cone.specs.History.{most_payload, end_of}
-use Rattle.lert_cone.specs.Framed.{AreFramed}
-use Rattle.lert_cone.specs.Listing.{Listing, reports_of}
-use Rattle.lert_cone.specs.Sound.{IsSound, IsSoundOver, IsKept, IsKeptWhole}
+use Rattle.lert_cone.specs.InStep.{IsInStep, IsLogging}
+use Rattle.lert_cone.specs.Listing.{Listing}
+use Rattle.lert_cone.specs.Record.{LogPlace}
+use Rattle.lert_cone.specs.Room.{room_of}
+use Rattle.lert_cone.specs.Sound.{IsSoundAs, IsSoundOver, IsKept, IsKeptWhole}
 use Rattle.lert_cone.specs.Tally.{Tallied, IsCounted}
+use Rattle.lert_cone.specs.Wrote.{IsShutIfTold}
 use Rattle.lert_cone.specs.declared.tally.TakeFault.{TakeFault}
 use Rattle.lert_cone.specs.declared.tally.TakeFault.TheVariants.{Failed as TakeFailed, Unsound as TakeUnsound, OutOfMemory as TakeOutOfMemory}
 
@@ -67,7 +69,7 @@ abbrev pub over_of : Option (Snapshot Entry) → Option Packet
 over_of over = option_map (λ kept. packet_of kept.value) over
 
 -- a cone: its bay now and as it was when the cone was made, its keys, the rows of its levels, its reports, how many keys it
--- acknowledged, its state, the packet that a broken call left over, and the journal's gate
+-- acknowledged, its state, the packet that a broken call left over, the journal's gate, and its log
 pub record Standing (B : Type 0) : Type 0 where
   pub bay : B
   pub made : B
@@ -78,6 +80,7 @@ pub record Standing (B : Type 0) : Type 0 where
   pub state : ConeState
   pub over : Option Packet
   pub gate : ℕ
+  pub log : LogPlace
 
 -- what no call changes of a cone: its settings, its number, and its bay as it was when the cone was made
 pub record IsSameCone {B : Type 0} (old new : Standing B) : Type 0 where
@@ -85,14 +88,15 @@ pub record IsSameCone {B : Type 0} (old new : Standing B) : Type 0 where
   pub cone : new.listing.cone ≡ old.listing.cone
   pub made : new.made ≡ old.made
 
--- a cone that isn't broken stands for a list, where its bay tells its files: they are sound for it and settled, the named
--- frames hold its older levels, and memory holds its keys and reports
-pub record IsWhole (leaves : Files → Type 0) (seen : Files) (listing : Listing) (rows : List (List BinAt)) (reports : List Report) (gate : ℕ) (history : List Packet) : Type 0 where
-  pub files : IsKeptWhole leaves seen (IsSound listing.settings listing.cone history)
+-- A cone that isn't broken stands for a list, where its bay tells its files. As a read gives them, and in every image, they
+-- are sound for it, with a closing record exactly where the cone is finished, and with the last record of a running one
+-- at the last flush. The journal and the log are settled. In every image the log has its records, which say of the keys
+-- what memory has of them, and the frames that the rows name hold the older levels. Memory holds the keys and reports.
+pub record IsWhole (leaves : Files → Type 0) (seen : Files) (listing : Listing) (rows : List (List BinAt)) (reports : List Report) (gate : ℕ) (log : LogPlace) (history : List Packet) : Type 0 where
+  pub files : IsKeptWhole leaves seen (IsSoundAs listing.settings listing.cone listing.closed history)
   pub gate_is : gate ≡ end_of history
   pub keys : listing.events ≡ events_of history
-  pub frames : AreFramed listing.settings listing.events rows (seen 2)
-  pub reports_are : reports ≡ reports_of listing
+  pub in_step : IsInStep leaves seen history listing rows reports log
 
 -- A cone stands for a list of packets. Each has a key, and together they have as many as the cone acknowledged, which are
 -- no more than it takes. Where its bay tells its files, they are sound for the list; of a broken cone for the list or for
@@ -103,7 +107,7 @@ pub record StandsFor {B : Type 0} (files : B → Option Files) (leaves : B → F
   pub counted : length (events_of history) ≡ cone.events
   pub within : cone.events ≤ capacity cone.listing.settings
   pub valid : IsValid cone.listing.settings
-  pub whole : is_broken cone.state ≡ false → IfTold (files cone.bay) (λ seen. IsWhole (leaves cone.bay) seen cone.listing cone.rows cone.reports cone.gate history)
+  pub whole : is_broken cone.state ≡ false → IfTold (files cone.bay) (λ seen. IsWhole (leaves cone.bay) seen cone.listing cone.rows cone.reports cone.gate cone.log history)
   pub broken : is_broken cone.state ≡ true → IfTold (files cone.bay) (λ seen.
       IsKept (leaves cone.bay) seen (IsSoundOver cone.listing.settings cone.listing.cone history cone.over))
   pub none_over : is_broken cone.state ≡ false → cone.over ≡ None
@@ -111,11 +115,12 @@ pub record StandsFor {B : Type 0} (files : B → Option Files) (leaves : B → F
   pub by_read : (file at : ℕ) → cone.state ≡ BrokenByRead file at → files cone.bay ≡ None
 
 -- what is so of every cone, of its journal's place and of the room of its buffer. A cone that isn't broken has nothing left
--- over, its counts are those of its keys, its gate is closed in every image, and a key takes at most 21 bytes of its journal
+-- over, its counts are those of its keys, and a key takes at most 21 bytes of its journal. The gates of a running one are
+-- closed in every image, and the journal and the log are settled
 pub record IsCone {B : Type 0} (files : B → Option Files) (leaves : B → Files → Type 0) (faults : B → ℕ) (cone : Standing B) (tally : Tallied) (journal : Log) (room : ℕ) : Type 0 where
   pub file : journal.file ≡ 0
   pub most : journal.most ≡ most_payload cone.listing.settings
-  pub roomy : room ≡ journal.most + 5
+  pub roomy : room ≡ room_of cone.listing.settings
   pub within : cone.events ≤ capacity cone.listing.settings
   pub valid : IsValid cone.listing.settings
   pub never_falls : faults cone.made ≤ faults cone.bay
@@ -125,7 +130,9 @@ pub record IsCone {B : Type 0} (files : B → Option Files) (leaves : B → File
   pub tallied : is_broken cone.state ≡ false → IsCounted tally
   pub closed : is_broken cone.state ≡ false → cone.listing.closed ≡ is_finished cone.state
   pub near : is_broken cone.state ≡ false → cone.gate ≤ 32 + 21 * cone.events
-  pub shut : is_broken cone.state ≡ false → IfTold (files cone.bay) (λ _. InEach (leaves cone.bay) 0 (λ bytes. IsClosed bytes cone.gate))
+  pub shut : cone.state ≡ Running → IsShutIfTold (files cone.bay) (leaves cone.bay) 0 cone.gate
+  pub logging : cone.state ≡ Running → IsLogging tally cone.log room
+  pub log_shut : cone.state ≡ Running → IsShutIfTold (files cone.bay) (leaves cone.bay) 1 cone.log.gate
 
 -- the reply to a packet behind a list: the positions of its first and its last key, and, where the bay tells its files, how
 -- many reports stand with it

@@ -11,7 +11,7 @@ use Rattle.lert_spec.proofs.LookLaws.{AreKeys}
 use Rattle.lert_spec.proofs.TailLaws.{AreOfCone}
 use Rattle.lert_levels.specs.declared.bin_at.BinAt.{BinAt}
 use Rattle.lert_levels.specs.Ranges.{young_bins}
-use Rattle.lert_levels.specs.Rows.{IsAt, HoldsBins}
+use Rattle.lert_levels.specs.Rows.{IsAt, AreRows, HoldsBins}
 use Rattle.lert_levels.specs.Young.{Young}
 use Rattle.lert_levels.specs.declared.fault.FlushFault.{FlushFault}
 use Rattle.lert_levels.specs.declared.fault.FlushFault.TheVariants.{Failed as FlushFailed, Malformed, OutOfMemory as NoMemory}
@@ -45,9 +45,10 @@ pub record IsTally (tally : Tallied) (levels : Numbers) (due : Option Dues) (len
 pub record AreYoung (s : Numbers) (events : List ℕ) (from : ℕ) (bins : List Bin) : Type 0 where
   pub is : bins ≡ young_bins s events from
 
--- where no call broke off in the middle: the keys are the cone's own and no more than it takes, level 0 has the bins above
--- its edge, and the rows those of the older levels
+-- where no call broke off in the middle: the settings are valid, the keys are the cone's own and no more than it takes,
+-- level 0 has the bins above its edge, and the rows those of the older levels
 pub record IsCounted (tally : Tallied) : Type 0 where
+  pub valid : IsValid tally.listing.settings
   pub fits : length tally.listing.events ≤ capacity tally.listing.settings
   pub keys : AreKeys tally.listing.events
   pub own : AreOfCone tally.listing.settings tally.listing.cone tally.listing.events
@@ -55,6 +56,7 @@ pub record IsCounted (tally : Tallied) : Type 0 where
   pub to : tally.young.to ≡ length tally.listing.events
   pub bins : AreYoung tally.listing.settings tally.listing.events (edge tally.listing.settings 0 (length tally.listing.events)) tally.young.bins
   pub rows : IsAt tally.listing.settings (length tally.listing.events) tally.rows
+  pub are : AreRows tally.listing.settings tally.rows
   pub due_settings : tally.due.settings ≡ tally.listing.settings
   pub due_cone : tally.due.cone ≡ tally.listing.cone
 

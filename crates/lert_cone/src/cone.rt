@@ -1,28 +1,28 @@
 //! A cone over its files.
 
-ghost use Rattle.std.specs.Prelude.{◌≡◌, ◌≢◌, ℕ, ◌+◌, ◌<◌, ◌≤◌, ◌^◌, ◌↔◌, ◌++◌, [], ◌∷◌, true, false, List, length, replicate, Some, None, Err, All, IfOk, IfErr, OnOk, OnErr, IsErrOf};
+ghost use Rattle.std.specs.Prelude.{◌≡◌, ◌≢◌, ℕ, ◌+◌, ◌<◌, ◌≤◌, ◌^◌, ◌↔◌, ◌++◌, [], ◌∷◌, true, false, List, length, replicate, Some, None, Err, IfOk, IfErr, OnOk, OnErr, IsErrOf};
 ghost use Rattle.lert_base.specs.Entries.{packet_of};
 ghost use Rattle.lert_base.specs.Packet.{Packet, events_of};
 ghost use Rattle.lert_bay.specs.Files.{Files, IfTold, Turns};
 ghost use Rattle.lert_bay.specs.Images.{Lasts, KeepsImages};
-ghost use Rattle.lert_frames.specs.Kept.{OnlyRead};
-ghost use Rattle.lert_gatelog.specs.Gated.{IsClosed, next_gate};
-ghost use Rattle.lert_gatelog.specs.Kept.{InEach};
+ghost use Rattle.lert_gatelog.specs.Gated.{next_gate};
+ghost use Rattle.lert_reports.specs.Log.{most_record};
 ghost use Rattle.lert_io.specs.Fault.{HasRisen};
 ghost use Rattle.lert_journal.specs.Payload.{IsJournaled, payload_of};
 ghost use Rattle.lert_spec.specs.Edges.{capacity};
 ghost use Rattle.lert_spec.specs.Look.{look, closing};
-ghost use Rattle.lert_spec.specs.Mix.{cone_of};
 ghost use Rattle.lert_spec.specs.Timely.{IsTimely, IsTimelySoFar};
 ghost use Rattle.lert_cone.specs.History.{most_payload};
-ghost use Rattle.lert_cone.specs.Sound.{AreEmpty, FramesStay, LogStays, IsSound, IsSoundOver, IsKeptWhole};
+ghost use Rattle.lert_cone.specs.InStep.{AreNew};
+ghost use Rattle.lert_cone.specs.Sound.{AreEmpty, FramesStay, IsSound, IsSoundClosed, IsSoundOver, IsKept};
 ghost use Rattle.lert_cone.specs.Stands.{StandsFor, Answers, IsSameCone, is_broken, is_refusal, broken_by};
-ghost use Rattle.lert_cone.specs.Tally.{IsCounted, IsHeld};
-ghost use Rattle.lert_cone.specs.Wrote.{WroteFrames};
+ghost use Rattle.lert_cone.specs.Wrote.{Anything};
 
 use crate::acked::Acked;
 use crate::headers::{is_fresh, write_headers};
+use crate::keys::{close, take_keys};
 use crate::refusal::{ConeFault, CreateFault, CreateRefused};
+use crate::report_log::ReportLog;
 use crate::room::ConeRoom;
 use crate::state::ConeState;
 use crate::tally::{TakeFault, Tally};
@@ -40,13 +40,14 @@ mod tests;
 /// A cone that acknowledges a packet only when its record is on the disk.
 ///
 /// It stands for the list of the packets that it acknowledged. A packet costs the four calls of one append, two of
-/// them syncs, a place in level 0 for each of its keys, and one flush at each flush position.
+/// them syncs, a place in level 0 for each of its keys, and one flush and one append to the log at each flush position.
 #[derive(Drop)]
 pub struct Cone<B: Bay, T: CountTable> {
     bay: B,
     made: Snapshot<B>,
     tally: Tally<T>,
     journal: GateLog,
+    log: ReportLog,
     buffer: Vec<u8>,
     events: u64,
     state: ConeState,
@@ -69,6 +70,7 @@ impl<B: Bay, T: CountTable> Model for Cone<B, T> {
       state = c.state;
       over = over_of c.over;
       gate = c.journal.gate;
+      log = c.log;
     } };
 
     ghost invariant = { λ c. IsCone B.files B.leaves B.faults (record {
@@ -81,6 +83,7 @@ impl<B: Bay, T: CountTable> Model for Cone<B, T> {
       state = c.state;
       over = over_of c.over;
       gate = c.journal.gate;
+      log = c.log;
     }) c.tally c.journal (length c.buffer.items) };
 }
 
@@ -103,6 +106,7 @@ impl<B: Bay, T: CountTable> Cone<B, T> {
           state = ConeState.Running;
           over = None;
           gate = 32;
+          log = record { gate = 8; most = most_record room; named = 0 };
         }) }
         ensures stands_for { IfOk result (λ c. StandsFor B.files B.leaves B.faults c []) }
         ensures frames { IfOk result (λ c. Turns FramesStay (B.files bay) (B.files c.bay)) }
@@ -122,13 +126,14 @@ impl<B: Bay, T: CountTable> Cone<B, T> {
         ensures failed { IfErr result (λ refused. refused.fault ≡ CreateFault.Failed → HasRisen (B.faults bay) (B.faults refused.bay)) }
     {
         match begin(&mut bay, room.settings(), cone) {
-            Ok(journal) => {
+            Ok((journal, log)) => {
                 let (tally, buffer) = room.into_parts(cone);
                 Ok(Cone {
                     made: Snapshot::of(&bay),
                     bay,
                     tally,
                     journal,
+                    log,
                     buffer,
                     events: 0,
                     state: ConeState::Running,
@@ -139,8 +144,8 @@ impl<B: Bay, T: CountTable> Cone<B, T> {
         }
     }
 
-    /// Takes the packet of an entry: appends it to the journal, and then takes its keys, one after another. Ok comes
-    /// when the packet is on the disk and its keys are counted.
+    /// Takes the packet of an entry: appends it to the journal, and then takes its keys, one after another. At a flush position
+    /// the log gets a record. Ok comes when the packet is on the disk and its keys are counted.
     pub fn admit(&mut self, entry: &Entry) -> Result<Acked, ConeFault>
         requires fits { IsJournaled self.old.listing.settings self.old.listing.cone (packet_of entry.now) }
 
@@ -161,6 +166,7 @@ impl<B: Bay, T: CountTable> Cone<B, T> {
           reports = self.new.reports;
           events = self.old.events + length entry.now.keys.keys;
           gate = next_gate self.old.gate (payload_of (packet_of entry.now));
+          log = self.new.log;
         }) }
 
         // A refusal leaves the lists, and the first three leave all.
@@ -175,6 +181,7 @@ impl<B: Bay, T: CountTable> Cone<B, T> {
           state = self.new.state;
           over = Some (packet_of entry.now);
           gate = self.new.gate;
+          log = self.new.log;
         }) }
 
         ensures same_cone { IsSameCone self.old self.new }
@@ -196,7 +203,7 @@ impl<B: Bay, T: CountTable> Cone<B, T> {
             StandsFor B.files B.leaves B.faults self.old h → (image : Files) →
             B.left_since self.new.bay (B.moment self.old.bay) image →
             IsSoundOver self.old.listing.settings self.old.listing.cone h (Some (packet_of entry.now)) image) }
-        ensures seen { Turns LogStays (B.files self.old.bay) (B.files self.new.bay) }
+        ensures seen { Turns Anything (B.files self.old.bay) (B.files self.new.bay) }
         ensures time { Lasts (B.moment self.old.bay) (B.moment self.new.bay) (B.left_since self.old.bay) (B.left_since self.new.bay) }
         ensures never_falls { B.faults self.old.bay ≤ B.faults self.new.bay }
         ensures mark { B.mark self.new.bay ≡ B.mark self.old.bay }
@@ -208,7 +215,14 @@ impl<B: Bay, T: CountTable> Cone<B, T> {
             self.state = ConeState::BrokenByBay;
             return Err(ConeFault::BayFailed);
         }
-        if let Err(fault) = take_keys(&mut self.tally, &mut self.bay, entry.keys.as_slice()) {
+        let keys = entry.keys.as_slice();
+        if let Err(fault) = take_keys(
+            &mut self.tally,
+            &mut self.log,
+            &mut self.bay,
+            keys,
+            &mut self.buffer,
+        ) {
             self.over = Some(Snapshot::of(entry));
             self.state = broken_by(fault);
             return Err(ConeFault::from(fault));
@@ -222,7 +236,8 @@ impl<B: Bay, T: CountTable> Cone<B, T> {
         })
     }
 
-    /// Ends the cone: scans all levels, makes the reports that are left, and answers how many stand then. It writes nothing.
+    /// Ends the cone: scans all levels, makes the reports that are left, and answers how many stand then. The closing record
+    /// stands in the log then: four calls of the bay beside those of the scan.
     pub fn finish(&mut self) -> Result<u64, ConeFault>
         ensures stands_for { OnOk result ((h : List Packet) → StandsFor B.files B.leaves B.faults self.old h →
             StandsFor B.files B.leaves B.faults self.new h) }
@@ -234,6 +249,7 @@ impl<B: Bay, T: CountTable> Cone<B, T> {
           listing = record self.old.listing { closed = true };
           reports = self.new.reports;
           state = ConeState.Finished;
+          log = self.new.log;
         }) }
 
         // A refusal leaves the list, and the first two leave all.
@@ -242,8 +258,10 @@ impl<B: Bay, T: CountTable> Cone<B, T> {
         ensures unchanged { IfErr result (λ fault. is_refusal fault ≡ true → self.new ≡ self.old) }
         ensures broke { IfErr result (λ fault. is_refusal fault ≡ false → self.new ≡ record self.old {
           bay = self.new.bay;
+          listing = record self.old.listing { closed = self.new.listing.closed };
           reports = self.new.reports;
           state = self.new.state;
+          log = self.new.log;
         }) }
 
         ensures same_cone { IsSameCone self.old self.new }
@@ -258,13 +276,24 @@ impl<B: Bay, T: CountTable> Cone<B, T> {
             × ((h : List Packet) → StandsFor B.files B.leaves B.faults self.old h → B.files self.old.bay ≡ None) }
         ensures out_of_memory { IsErrOf result ConeFault.OutOfMemory → self.new.state ≡ ConeState.BrokenByMemory }
 
-        // No file and no image changes, also at no moment between.
-        ensures only_read { OnlyRead (B.files self.old.bay) (B.files self.new.bay) (B.leaves self.old.bay) (B.leaves self.new.bay) (B.moment self.old.bay) (B.moment self.new.bay) (B.left_since self.old.bay) (B.left_since self.new.bay) }
+        // In each image of each moment of the call the files are sound for the list, and after Ok they are closed.
+        ensures each_moment { is_broken self.old.state ≡ false → IfTold (B.files self.old.bay) (λ _. (h : List Packet) →
+            StandsFor B.files B.leaves B.faults self.old h → (image : Files) →
+            B.left_since self.new.bay (B.moment self.old.bay) image → IsSound self.old.listing.settings self.old.listing.cone h image) }
+        ensures sound_closed { OnOk result (IfTold (B.files self.new.bay) (λ seen. (h : List Packet) → StandsFor B.files B.leaves B.faults self.old h →
+            IsKept (B.leaves self.new.bay) seen (IsSoundClosed self.old.listing.settings self.old.listing.cone h))) }
+        ensures seen { Turns Anything (B.files self.old.bay) (B.files self.new.bay) }
+        ensures time { Lasts (B.moment self.old.bay) (B.moment self.new.bay) (B.left_since self.old.bay) (B.left_since self.new.bay) }
         ensures never_falls { B.faults self.old.bay ≤ B.faults self.new.bay }
         ensures mark { B.mark self.new.bay ≡ B.mark self.old.bay }
     {
         self.test_state()?;
-        if let Err(fault) = self.tally.finish(&mut self.bay) {
+        if let Err(fault) = close(
+            &mut self.tally,
+            &mut self.log,
+            &mut self.bay,
+            &mut self.buffer,
+        ) {
             self.state = broken_by(fault);
             return Err(ConeFault::from(fault));
         }
@@ -356,11 +385,15 @@ impl<B: Bay, T: CountTable> Cone<B, T> {
 }
 
 // Writes the headers into files that are all empty.
-fn begin<B: Bay>(bay: &mut B, settings: &Settings, cone: u32) -> Result<GateLog, CreateFault>
+fn begin<B: Bay>(
+    bay: &mut B,
+    settings: &Settings,
+    cone: u32,
+) -> Result<(GateLog, ReportLog), CreateFault>
     requires named { cone < 2 ^ settings.now.cone_bits }
-    ensures journal { IfOk result (λ log. log ≡ record { file = 0; gate = 32; most = most_payload settings.now }) }
-    ensures sound { OnOk result (IfTold (B.files bay.new) (λ seen. IsKeptWhole (B.leaves bay.new) seen (IsSound settings.now cone []))) }
-    ensures closed { OnOk result (IfTold (B.files bay.new) (λ _. InEach (B.leaves bay.new) 0 (λ bytes. IsClosed bytes 32))) }
+    ensures journal { IfOk result (λ logs. logs.0 ≡ record { file = 0; gate = 32; most = most_payload settings.now }) }
+    ensures log { IfOk result (λ logs. logs.1 ≡ record { gate = 8; most = most_record settings.now; named = 0 }) }
+    ensures begun { OnOk result (IfTold (B.files bay.new) (λ seen. AreNew settings.now cone (B.leaves bay.new) seen)) }
     ensures fresh { IfTold (B.files bay.old) (λ seen. OnOk result (AreEmpty seen)) }
     ensures not_fresh { IfTold (B.files bay.old) (λ seen. IsErrOf result CreateFault.NotFresh → AreEmpty seen → ⊥) }
     ensures unwritten { IfTold (B.files bay.old) (λ seen. OnErr result ((AreEmpty seen → ⊥) →
@@ -374,32 +407,6 @@ fn begin<B: Bay>(bay: &mut B, settings: &Settings, cone: u32) -> Result<GateLog,
         return Err(CreateFault::NotFresh);
     }
     Ok(write_headers(bay, settings, cone)?)
-}
-
-// Takes keys, one after another.
-fn take_keys<B: Bay, T: CountTable>(
-    tally: &mut Tally<T>,
-    bay: &mut B,
-    keys: &[u64],
-) -> Result<(), TakeFault>
-    requires still { tally.old.listing.closed ≡ false }
-    requires own { All (λ key. cone_of tally.old.listing.settings key ≡ tally.old.listing.cone) keys.now }
-    requires fits { length tally.old.listing.events + length keys.now ≤ capacity tally.old.listing.settings }
-    requires counted { IsCounted tally.old }
-    ensures listing { tally.new.listing ≡ record tally.old.listing { events = tally.new.listing.events } }
-    ensures taken { OnOk result (tally.new.listing.events ≡ tally.old.listing.events ++ keys.now) }
-    ensures counted { OnOk result (IsCounted tally.new) }
-    ensures held { IfTold (B.files bay.old) (λ seen. IsHeld tally.old seen → OnOk result (IfTold (B.files bay.new) (λ after. IsHeld tally.new after))) }
-    ensures sound { IfTold (B.files bay.old) (λ seen. IsHeld tally.old seen → (file at : ℕ) → result ≢ Err (TakeFault.Unsound file at)) }
-    ensures wrote { WroteFrames (B.files bay.old) (B.files bay.new) (B.leaves bay.old) (B.leaves bay.new) (B.moment bay.old) (B.moment bay.new) (B.left_since bay.old) (B.left_since bay.new) }
-    ensures failed { IsErrOf result TakeFault.Failed → HasRisen (B.faults bay.old) (B.faults bay.new) }
-    ensures never_falls { B.faults bay.old ≤ B.faults bay.new }
-    ensures mark { B.mark bay.new ≡ B.mark bay.old }
-{
-    for key in keys {
-        tally.take(bay, *key)?;
-    }
-    Ok(())
 }
 
 // The state that a fault in the middle of a call leaves.

@@ -1,14 +1,15 @@
 //! The first bytes of a cone's files.
 
-ghost use Rattle.std.specs.Prelude.{◌≡◌, ◌↔◌, ◌<◌, ◌^◌, [], IsTrue, IfOk, OnOk, OnErr};
+ghost use Rattle.std.specs.Prelude.{◌≡◌, ◌↔◌, ◌<◌, ◌≤◌, ◌^◌, [], IsTrue, IfOk, OnOk, OnErr};
 ghost use Rattle.lert_bay.specs.Files.{Files, IfTold, Turns};
 ghost use Rattle.lert_bay.specs.Images.{KeepsImages, Lasts};
-ghost use Rattle.lert_gatelog.specs.Gated.{IsClosed};
-ghost use Rattle.lert_gatelog.specs.Kept.{InEach};
 ghost use Rattle.lert_io.specs.Fault.{HasCause};
 ghost use Rattle.lert_cone.specs.History.{most_payload};
-ghost use Rattle.lert_cone.specs.Sound.{IsSound, IsKeptWhole, AreEmpty, FramesStay};
+ghost use Rattle.lert_reports.specs.Log.{most_record};
+ghost use Rattle.lert_cone.specs.Sound.{AreEmpty, FramesStay};
+ghost use Rattle.lert_cone.specs.InStep.{AreNew};
 
+use crate::report_log::{ReportLog, greatest_record};
 use lert_base::Settings;
 use lert_bay::{Bay, FRAMES, JOURNAL, LOG};
 use lert_gatelog::GateLog;
@@ -18,8 +19,14 @@ use lert_journal::{HEADER_LEN, write_header};
 // The letters LERTL, and version 1.
 const LOG_HEADER: [u8; 8] = [0x4c, 0x45, 0x52, 0x54, 0x4c, 0x01, 0x00, 0x00];
 
-// The greatest payload of a log: no record is written yet.
-const MOST_RECORD: u32 = 0;
+/// The greatest length of a packet's payload in a journal: eight bytes, and eight for each of its keys, which are at most
+/// four times as many as a packet of the settings has.
+pub fn greatest_payload(settings: &Settings) -> u32
+    ensures value { result ≡ most_payload settings.now }
+    ensures most { result ≤ 32776 }
+{
+    8 + 32 * settings.numbers().packet as u32
+}
 
 /// Whether all three files are empty. It changes none.
 pub fn is_fresh<B: Bay>(bay: &mut B) -> Result<bool, Failed>
@@ -43,13 +50,17 @@ pub fn is_fresh<B: Bay>(bay: &mut B) -> Result<bool, Failed>
 }
 
 /// Writes the header and the first gate of the journal and of the log into empty files, and syncs them.
-/// Answers the journal at its first gate.
-pub fn write_headers<B: Bay>(bay: &mut B, settings: &Settings, cone: u32) -> Result<GateLog, Failed>
+/// Answers the journal and the log at their first gates.
+pub fn write_headers<B: Bay>(
+    bay: &mut B,
+    settings: &Settings,
+    cone: u32,
+) -> Result<(GateLog, ReportLog), Failed>
     requires named { cone < 2 ^ settings.now.cone_bits }
     requires fresh { IfTold (B.files bay.old) (λ seen. AreEmpty seen) }
-    ensures journal { IfOk result (λ log. log ≡ record { file = 0; gate = 32; most = most_payload settings.now }) }
-    ensures sound { OnOk result (IfTold (B.files bay.new) (λ seen. IsKeptWhole (B.leaves bay.new) seen (IsSound settings.now cone []))) }
-    ensures closed { OnOk result (IfTold (B.files bay.new) (λ _. InEach (B.leaves bay.new) 0 (λ bytes. IsClosed bytes 32))) }
+    ensures journal { IfOk result (λ logs. logs.0 ≡ record { file = 0; gate = 32; most = most_payload settings.now }) }
+    ensures log { IfOk result (λ logs. logs.1 ≡ record { gate = 8; most = most_record settings.now; named = 0 }) }
+    ensures begun { OnOk result (IfTold (B.files bay.new) (λ seen. AreNew settings.now cone (B.leaves bay.new) seen)) }
     ensures frames { Turns FramesStay (B.files bay.old) (B.files bay.new) }
     ensures time { Lasts (B.moment bay.old) (B.moment bay.new) (B.left_since bay.old) (B.left_since bay.new) }
     ensures cause { HasCause (B.faults bay.old) (B.faults bay.new) result }
@@ -57,8 +68,7 @@ pub fn write_headers<B: Bay>(bay: &mut B, settings: &Settings, cone: u32) -> Res
 {
     let mut header = [0; HEADER_LEN];
     write_header(settings, cone, &mut header);
-    let most = 8 + 32 * settings.numbers().packet as u32;
-    let journal = GateLog::create(bay, JOURNAL, &header, most)?;
-    GateLog::create(bay, LOG, &LOG_HEADER, MOST_RECORD)?;
-    Ok(journal)
+    let journal = GateLog::create(bay, JOURNAL, &header, greatest_payload(settings))?;
+    let log = GateLog::create(bay, LOG, &LOG_HEADER, greatest_record(settings))?;
+    Ok((journal, ReportLog::new(log)))
 }

@@ -4,15 +4,18 @@
 //! bay tells its files, these are sound for the list, the frames hold the bins of the last flush, and the reports are those
 //! that the definition makes of the keys, so they are in time.
 //!
-//! `Tally` counts the keys over level 0 and the levels on the bay, and `Due` takes the totals of a flush as reports. The
-//! command that runs a trace through all cones stands on this crate.
+//! `Tally` counts the keys over level 0 and the levels on the bay, and `Due` takes the totals of a flush as reports.
+//! `ReportLog` writes the records of the log: one behind each flush, and one at the end. The command that runs a trace
+//! through all cones stands on this crate.
 #![tactic(auto)]
 
 mod acked;
 mod cone;
 mod due;
 mod headers;
+mod keys;
 mod refusal;
+mod report_log;
 mod room;
 mod state;
 mod tally;

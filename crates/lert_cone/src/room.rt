@@ -3,6 +3,8 @@
 ghost use Rattle.std.specs.Prelude.{◌≡◌, ◌^◌, ◌<◌, [], false, length, IfOk, replicate};
 ghost use Rattle.lert_spec.specs.Limits.{IsValid};
 
+use crate::headers::greatest_payload;
+use crate::report_log::greatest_record;
 use crate::tally::Tally;
 use lert_base::{CountTable, Settings};
 use lert_io::OutOfMemory;
@@ -12,7 +14,7 @@ use std::alloc::Global;
 use std::marker::Model;
 
 /// The memory of a cone that isn't numbered yet, seen as its settings: the tables of level 0, what a flush needs, the store
-/// of reports, and a buffer for the greatest packet.
+/// of reports, and a buffer for the greatest text that is appended, a packet's or a log record's.
 ///
 /// Until bins are read in streams a flush asks for more.
 #[derive(Drop)]
@@ -45,7 +47,7 @@ impl<T: CountTable> ConeRoom<T> {
     pub fn new(alloc: Global, settings: &Settings) -> Result<ConeRoom<T>, OutOfMemory>
         ensures { IfOk result (λ room. room ≡ settings.now) }
     {
-        let most_text = 13 + 32 * settings.numbers().packet as usize;
+        let most_text = 5 + greatest_payload(settings).max(greatest_record(settings)) as usize;
         Ok(ConeRoom {
             settings: *settings,
             zero: Zero::new(alloc, settings)?,

@@ -1,6 +1,6 @@
 //! The counts and reports of a cone: level 0 in memory, the older levels on its bay.
 
-ghost use Rattle.std.specs.Prelude.{◌≡◌, ◌≢◌, ℕ, ◌+◌, ◌-◌, ◌^◌, ◌<◌, ◌≤◌, true, false, List, [], ◌∷◌, ◌++◌, length, replicate, slice_range, IfOk, OnOk, OnErr, IsErrOf, Err};
+ghost use Rattle.std.specs.Prelude.{◌≡◌, ◌≢◌, ℕ, ◌+◌, ◌-◌, ◌^◌, ◌<◌, ◌≤◌, true, false, List, [], ◌∷◌, ◌++◌, length, replicate, slice_range, IfOk, OnOk, OnErr, IsErrOf, IsTrue, IsFalse, Err};
 ghost use Rattle.lert_bay.specs.Files.{Files, IfTold};
 ghost use Rattle.lert_frames.specs.Kept.{OnlyRead};
 ghost use Rattle.lert_io.specs.Fault.{HasRisen};
@@ -9,15 +9,17 @@ ghost use Rattle.lert_spec.specs.Edges.{edge, depth, lookback, capacity};
 ghost use Rattle.lert_spec.specs.Limits.{IsValid};
 ghost use Rattle.lert_spec.specs.Mix.{cone_of};
 ghost use Rattle.lert_spec.specs.declared.piece.Piece.{Piece};
-ghost use Rattle.lert_levels.specs.Rows.{IsAt, HoldsBins, moved};
+ghost use Rattle.lert_gatelog.specs.Kept.{InEach};
+ghost use Rattle.lert_levels.specs.Flushed.{InNamed};
+ghost use Rattle.lert_levels.specs.Landing.{KeepsRest};
+ghost use Rattle.lert_levels.specs.Rows.{IsAt, AreRows, HoldsBins, moved, directory_text};
 ghost use Rattle.lert_cone.specs.Due.{TookFrom};
 ghost use Rattle.lert_cone.specs.Tally.{AreYoung, totals_at};
-ghost use Rattle.lert_cone.specs.Wrote.{WroteFrames};
 
 use crate::due::{Begun, Due, DueSince};
 use lert_base::{CountTable, Settings};
 use lert_bay::{Bay, FRAMES, LOG};
-use lert_io::Seen;
+use lert_io::{Failed, Seen};
 use lert_levels::{FlushFault, Levels, Zero};
 use lert_mixer::tail_of;
 use lert_reports::ReportStore;
@@ -45,6 +47,16 @@ impl From<FlushFault> for TakeFault {
             FlushFault::Malformed { at } => TakeFault::Unsound { file: FRAMES, at },
             FlushFault::OutOfMemory => TakeFault::OutOfMemory,
         }
+    }
+}
+
+impl From<Failed> for TakeFault {
+    ghost use Rattle.lert_cone.specs.declared.tally.TakeFault.TheVariants.{Failed as CallFailed};
+
+    ghost from_gives = { λ _ fault. fault ≡ CallFailed };
+
+    fn from(_error: Failed) -> TakeFault {
+        TakeFault::Failed
     }
 }
 
@@ -136,6 +148,30 @@ impl<T: CountTable> Tally<T> {
         }
     }
 
+    /// How many keys there are.
+    pub fn len(&self) -> u64
+        ensures { result ≡ length self.now.listing.events }
+    {
+        self.len
+    }
+
+    /// For each level from 1 on the number of its bins, and behind it the frames in which they stand, oldest first.
+    pub fn directory(&self) -> &[u8]
+        ensures { result.now ≡ directory_text self.now.rows }
+    {
+        self.levels.directory()
+    }
+
+    /// Whether the last key stands at a flush position.
+    pub fn is_flushed(&self) -> bool
+        requires some { 0 < length self.now.listing.events }
+        requires fits { length self.now.listing.events ≤ capacity self.now.listing.settings }
+        ensures flushed { IsTrue result → edge self.now.listing.settings 0 (length self.now.listing.events) ≢ edge self.now.listing.settings 0 (length self.now.listing.events - 1) }
+        ensures still { IsFalse result → edge self.now.listing.settings 0 (length self.now.listing.events) ≡ edge self.now.listing.settings 0 (length self.now.listing.events - 1) }
+    {
+        self.settings.depth(self.len) != 0
+    }
+
     /// Takes the next key: counts it in level 0, flushes where its position is a flush position, and lists the reports that
     /// are due with it.
     pub fn take<B: Bay>(&mut self, bay: &mut B, key: u64) -> Result<(), TakeFault>
@@ -146,12 +182,19 @@ impl<T: CountTable> Tally<T> {
         ensures listing { self.new.listing ≡ record self.old.listing { events = self.new.listing.events } }
         ensures taken { OnOk result (self.new.listing.events ≡ self.old.listing.events ++ key ∷ []) }
         ensures counted { OnOk result (IsCounted self.new) }
+        ensures grows { OnOk result (length self.old.due.reports ≤ length self.new.due.reports) }
+
+        // Where the edge of level 0 stays the rows stay.
+        ensures still { edge self.old.listing.settings 0 (length self.old.listing.events + 1) ≡ edge self.old.listing.settings 0 (length self.old.listing.events) →
+            OnOk result (self.new.rows ≡ self.old.rows) }
 
         // Where the files are told, and the frames and reports are those of the keys so far.
         ensures held { IfTold (B.files bay.old) (λ seen. IsHeld self.old seen →
             OnOk result (IfTold (B.files bay.new) (λ after. IsHeld self.new after))) }
         ensures sound { IfTold (B.files bay.old) (λ seen. IsHeld self.old seen → (file at : ℕ) → result ≢ Err (TakeFault.Unsound file at)) }
-        ensures wrote { WroteFrames (B.files bay.old) (B.files bay.new) (B.leaves bay.old) (B.leaves bay.new) (B.moment bay.old) (B.moment bay.new) (B.left_since bay.old) (B.left_since bay.new) }
+        ensures images { IfTold (B.files bay.old) (λ seen. IsHeld self.old seen → InEach (B.leaves bay.old) 2 (HoldsBins self.old.listing.settings self.old.listing.events self.old.rows) →
+            OnOk result (IfTold (B.files bay.new) (λ _. InEach (B.leaves bay.new) 2 (HoldsBins self.new.listing.settings self.new.listing.events self.new.rows)))) }
+        ensures rest { KeepsRest (InNamed self.old.listing.settings self.old.rows) (B.files bay.old) (B.files bay.new) (B.leaves bay.old) (B.moment bay.old) (B.moment bay.new) (B.left_since bay.old) (B.left_since bay.new) }
         ensures failed { IsErrOf result TakeFault.Failed → HasRisen (B.faults bay.old) (B.faults bay.new) }
         ensures never_falls { B.faults bay.old ≤ B.faults bay.new }
         ensures mark { B.mark bay.new ≡ B.mark bay.old }
@@ -242,7 +285,8 @@ fn flush_into<B: Bay, T: CountTable, N: Begun>(
     ensures sound { (events : List ℕ) → length events ≡ m → AreYoung levels.old.settings events zero.now.from zero.now.bins →
         IfTold (B.files bay.old) (λ seen. HoldsBins levels.old.settings events levels.old.rows (seen 2) →
         (at : ℕ) → result.1 ≢ Err (FlushFault.Malformed at)) }
-    ensures wrote { WroteFrames (B.files bay.old) (B.files bay.new) (B.leaves bay.old) (B.leaves bay.new) (B.moment bay.old) (B.moment bay.new) (B.left_since bay.old) (B.left_since bay.new) }
+    ensures durable { OnOk result.1 (IfTold (B.files bay.new) (λ seen. (image : Files) → B.leaves bay.new image → image 2 ≡ seen 2)) }
+    ensures rest { KeepsRest (InNamed levels.old.settings levels.old.rows) (B.files bay.old) (B.files bay.new) (B.leaves bay.old) (B.moment bay.old) (B.moment bay.new) (B.left_since bay.old) (B.left_since bay.new) }
     ensures failed { IsErrOf result.1 FlushFault.Failed → HasRisen (B.faults bay.old) (B.faults bay.new) }
     ensures never_falls { B.faults bay.old ≤ B.faults bay.new }
     ensures mark { B.mark bay.new ≡ B.mark bay.old }
@@ -287,7 +331,12 @@ fn bring<B: Bay, T: CountTable, N: Begun>(
     ensures sound { (events : List ℕ) → length events ≡ m → AreYoung levels.old.settings events zero.old.from zero.old.bins →
         IfTold (B.files bay.old) (λ seen. HoldsBins levels.old.settings events levels.old.rows (seen 2) →
         (at : ℕ) → result.1 ≢ Err (FlushFault.Malformed at)) }
-    ensures wrote { WroteFrames (B.files bay.old) (B.files bay.new) (B.leaves bay.old) (B.leaves bay.new) (B.moment bay.old) (B.moment bay.new) (B.left_since bay.old) (B.left_since bay.new) }
+    ensures images { (events : List ℕ) → length events ≡ m → AreYoung levels.old.settings events zero.old.from zero.old.bins →
+        IfTold (B.files bay.old) (λ seen. HoldsBins levels.old.settings events levels.old.rows (seen 2) → InEach (B.leaves bay.old) 2 (HoldsBins levels.old.settings events levels.old.rows) →
+        OnOk result.1 (IfTold (B.files bay.new) (λ _. InEach (B.leaves bay.new) 2 (HoldsBins levels.old.settings events levels.new.rows)))) }
+    ensures are { OnOk result.1 (AreRows levels.old.settings levels.old.rows → AreRows levels.old.settings levels.new.rows) }
+    ensures still { edge levels.old.settings 0 m ≡ edge levels.old.settings 0 (m - 1) → OnOk result.1 (levels.new.rows ≡ levels.old.rows) }
+    ensures rest { KeepsRest (InNamed levels.old.settings levels.old.rows) (B.files bay.old) (B.files bay.new) (B.leaves bay.old) (B.moment bay.old) (B.moment bay.new) (B.left_since bay.old) (B.left_since bay.new) }
     ensures failed { IsErrOf result.1 FlushFault.Failed → HasRisen (B.faults bay.old) (B.faults bay.new) }
     ensures never_falls { B.faults bay.old ≤ B.faults bay.new }
     ensures mark { B.mark bay.new ≡ B.mark bay.old }

@@ -2,7 +2,7 @@ use Rattle.std.proofs.Common.{◌≡◌, ◌++◌, ◌≤◌, take}
 use Rattle.lert_bay.specs.Files.{IfTold}
 use Rattle.lert_cone.specs.Tally.{IsCounted, IsHeld}
 use Rattle.lert_cone.specs.Wrote.{WroteFrames}
-use Rattle.lert_cone.proofs.cone.take_keys.Given as goal
+use Rattle.lert_cone.proofs.keys.take_keys.Given as goal
 
 -- the counts are those of the keys so far
 abbrev pub invariant-loop-key : goal.invariant-loop-key

@@ -3,7 +3,7 @@ use Rattle.std.proofs.lemmas.List.{take_more}
 use Rattle.lert_cone.specs.Listing.{Listing}
 use Rattle.lert_cone.proofs.TakeLaws.{handed_on}
 use Rattle.lert_cone.proofs.WroteLaws.{wrote_on}
-use Rattle.lert_cone.proofs.cone.take_keys.Goals as goal
+use Rattle.lert_cone.proofs.keys.take_keys.Goals as goal
 
 pub returns-in_err-take-clause-sound : goal.returns-in_err-take-clause-sound
 returns-in_err-take-clause-sound g c = λ seen told is_held file at same.

@@ -1,0 +1,51 @@
+-- How a cone's files and its memory go together between two calls of its bay.
+use Rattle.std.specs.Prelude.{◌≡◌, ℕ, ◌+◌, ◌*◌, ◌≤◌, List, [], ◌++◌, length}
+use Rattle.lert_base.specs.Packet.{Packet, events_of}
+use Rattle.lert_bay.specs.Files.{Files}
+use Rattle.lert_gatelog.specs.Kept.{InEach, IsWhollySettled}
+use Rattle.lert_levels.specs.declared.bin_at.BinAt.{BinAt}
+use Rattle.lert_levels.specs.Rows.{HoldsBins}
+use Rattle.lert_reports.specs.Log.{HasLog, listed_in, most_record}
+use Rattle.lert_reports.specs.LogText.{LogRecord}
+use Rattle.lert_spec.specs.declared.numbers.Numbers.{Numbers}
+use Rattle.lert_spec.specs.declared.report.Report.{Report}
+use Rattle.lert_cone.specs.Listing.{Listing, reports_of}
+use Rattle.lert_cone.specs.Logged.{IsLogOf}
+use Rattle.lert_cone.specs.Record.{LogPlace}
+use Rattle.lert_cone.specs.Sound.{IsJournal, but_last}
+use Rattle.lert_cone.specs.Tally.{Tallied}
+
+-- In every image the journal has these packets, the log has the records of the keys so far, and the frames that the rows
+-- name hold their bins. The journal and the log are settled from their first byte to their last. The records name as
+-- many reports as the log's place says, and memory has the reports of the keys so far.
+pub record IsInStep (leaves : Files → Type 0) (seen : Files) (history : List Packet) (listing : Listing) (rows : List (List BinAt)) (reports : List Report) (log : LogPlace) : Type 0 where
+  pub logged : List LogRecord
+  pub log_of : IsLogOf listing.settings listing.cone listing.events rows listing.closed logged
+  pub named_is : log.named ≡ length (listed_in logged)
+  pub journal : InEach leaves 0 (IsJournal listing.settings listing.cone history)
+  pub log_there : InEach leaves 1 (λ bytes. HasLog listing.settings listing.cone bytes logged log.gate)
+  pub frames : InEach leaves 2 (HoldsBins listing.settings listing.events rows)
+  pub journal_settled : IsWhollySettled leaves seen 0
+  pub log_settled : IsWhollySettled leaves seen 1
+  pub reports_are : reports ≡ reports_of listing
+
+-- these keys and then these begin those of the packets, and the first of them reach up to the last packet
+pub record IsPartway (history : List Packet) (events more : List ℕ) : Type 0 where
+  pub rest : List ℕ
+  pub is : events_of history ≡ events ++ (more ++ rest)
+  pub late : length (events_of (but_last history)) ≤ length events
+
+-- what is so of a cone's log before its next record: the records name none but the cone's reports, a key takes a bounded
+-- number of bytes of the log, and the buffer has room for a record
+pub record IsLogging (tally : Tallied) (log : LogPlace) (room : ℕ) : Type 0 where
+  pub most : log.most ≡ most_record tally.listing.settings
+  pub named : log.named ≤ length tally.due.reports
+  pub near : log.gate ≤ 8 + 134217728 * length tally.listing.events
+  pub roomy : log.most + 5 ≤ room
+
+-- the files as they are made: in every image the journal has no packet and the log no record, and both are settled
+pub record AreNew (s : Numbers) (cone : ℕ) (leaves : Files → Type 0) (seen : Files) : Type 0 where
+  pub journal : InEach leaves 0 (IsJournal s cone [])
+  pub log_there : InEach leaves 1 (λ bytes. HasLog s cone bytes [] 8)
+  pub journal_settled : IsWhollySettled leaves seen 0
+  pub log_settled : IsWhollySettled leaves seen 1
