@@ -184,23 +184,30 @@ module _ (d : Dues) (bits : d.settings.cone_bits ≤ 64) (named : d.cone < 2 ^ d
 
 -- a total changes the reports alone
 module _ (d : Dues) (p : Piece) where
-  after_report : (start : Dues) (key : Option ℕ) (pieces : List Piece) → (d.settings ≡ start.settings) × (d.cone ≡ start.cone) × (d.before ≡ start.before) × (d.at ≡ start.at) →
+  after_report : (start : Dues) (key : Option ℕ) (pieces : List Piece) → (d.settings ≡ start.settings) × (d.cone ≡ start.cone) × (d.before ≡ start.before) × (d.at ≡ start.at) × (length d.before ≤ length d.reports) →
       TookTotals (with_report d key) pieces → TookFrom start (with_report d key) pieces
-  after_report start None pieces same took = record { settings_are = same.0; cone_is = same.1; before_is = same.2; at_is = same.3; took = took }
+  after_report start None pieces same took = record { settings_are = same.0; cone_is = same.1; before_is = same.2; at_is = same.3; grows = same.4; took = took }
   after_report start (Some key) pieces same took =
       elim (eqb (length d.reports) d.settings.room) as (λ t. TookTotals (cond t (record d { is_full = true }) (record d { reports = d.reports ++ record { key = key; at = d.at } ∷ [] })) pieces →
       TookFrom start (cond t (record d { is_full = true }) (record d { reports = d.reports ++ record { key = key; at = d.at } ∷ [] })) pieces) [
-        | true ↦ λ is. record { settings_are = same.0; cone_is = same.1; before_is = same.2; at_is = same.3; took = is }
-        | false ↦ λ is. record { settings_are = same.0; cone_is = same.1; before_is = same.2; at_is = same.3; took = is }
+        | true ↦ λ is. record { settings_are = same.0; cone_is = same.1; before_is = same.2; at_is = same.3; grows = same.4; took = is }
+        | false ↦ λ is. record {
+          settings_are = same.0;
+          cone_is = same.1;
+          before_is = same.2;
+          at_is = same.3;
+          grows = omega (arith, same.4, length-append d.reports (record { key = key; at = d.at } ∷ []));
+          took = is;
+        }
       ] took
 
   pub from_total : (start : Dues) (pieces : List Piece) → d.settings.cone_bits ≤ 64 → d.cone < 2 ^ d.settings.cone_bits → TookFrom start d pieces → All (λ piece. piece.tail < p.tail) pieces →
       TookFrom start (with_total d p) (pieces ++ p ∷ [])
   from_total start pieces bits named from less =
-      let same : (d.settings ≡ start.settings) × (d.cone ≡ start.cone) × (d.before ≡ start.before) × (d.at ≡ start.at) = (from.settings_are, from.cone_is, from.before_is, from.at_is) in
+      let same : (d.settings ≡ start.settings) × (d.cone ≡ start.cone) × (d.before ≡ start.before) × (d.at ≡ start.at) × (length d.before ≤ length d.reports) = (from.settings_are, from.cone_is, from.before_is, from.at_is, from.grows) in
       elim d.is_full as (λ t. TookTotals (cond t d (with_report d (due_key d.settings d.cone d.reports p))) (pieces ++ p ∷ []) →
       TookFrom start (cond t d (with_report d (due_key d.settings d.cone d.reports p))) (pieces ++ p ∷ [])) [
-        | true ↦ λ is. record { settings_are = from.settings_are; cone_is = from.cone_is; before_is = from.before_is; at_is = from.at_is; took = is }
+        | true ↦ λ is. record { settings_are = from.settings_are; cone_is = from.cone_is; before_is = from.before_is; at_is = from.at_is; grows = from.grows; took = is }
         | false ↦ λ is. after_report start (due_key d.settings d.cone d.reports p) (pieces ++ p ∷ []) same is
       ] (took_more d bits named pieces p from.took less)
 

@@ -16,15 +16,13 @@ use Rattle.lert_spec.proofs.TallyLaws.{IsTable-tallied}
 use Rattle.lert_levels.specs.declared.bin_at.BinAt.{BinAt}
 use Rattle.lert_levels.specs.declared.fault.FlushFault.{FlushFault}
 use Rattle.lert_levels.specs.declared.fault.FlushFault.TheVariants.{Failed as FlushFailed, Malformed, OutOfMemory as NoMemory}
-use Rattle.lert_levels.specs.Landing.{KeepsRest}
 use Rattle.lert_levels.specs.Ranges.{young_bins}
-use Rattle.lert_levels.specs.Rows.{IsAt, HoldsBins}
+use Rattle.lert_levels.specs.Rows.{IsAt, AreRows, HoldsBins}
 use Rattle.lert_levels.specs.Young.{Young, with_event}
 use Rattle.lert_cone.specs.declared.tally.TakeFault.{TakeFault}
 use Rattle.lert_cone.specs.declared.tally.TakeFault.TheVariants.{Unsound}
 use Rattle.lert_cone.specs.Due.{Dues, TookFrom, due_reports, started}
 use Rattle.lert_cone.specs.Tally.{Tallied, IsCounted, IsHeld, AreYoung, totals_at, take_fault}
-use Rattle.lert_cone.specs.Wrote.{WroteFrames}
 use Rattle.lert_cone.proofs.KeyLemmas.{AreKeys-push, AreOfCone-push}
 use Rattle.lert_cone.proofs.RoomLaws.{look_fits, closing_fits}
 use Rattle.lert_cone.proofs.TallyLaws.{next_from, next_bins, frames_more}
@@ -89,9 +87,10 @@ module _ (t : Tallied) (ls : Numbers) (levels_are : ls ≡ t.listing.settings) (
 
     -- the parts after the step make a cone again
     pub counted_next : (next : Young) (rows : List (List BinAt)) (after : Tallied) → after ≡ record { listing = record t.listing { events = all }; young = next; rows = rows; due = due } →
-        next.from ≡ edge ls 0 m → next.to ≡ m → AreYoung ls all (edge ls 0 m) next.bins → IsAt ls m rows → (pieces : List Piece) × TookFrom start due pieces → IsCounted after
-    counted_next next rows after after_is from to bins at took =
+        next.from ≡ edge ls 0 m → next.to ≡ m → AreYoung ls all (edge ls 0 m) next.bins → IsAt ls m rows → AreRows ls rows → (pieces : List Piece) × TookFrom start due pieces → IsCounted after
+    counted_next next rows after after_is from to bins at are took =
         subst (λ (v : Tallied). IsCounted v) (sym after_is) (record {
+          valid = valid;
           fits = omega (arith, all_long, m_is);
           keys = AreKeys-push t.listing.events key counted.keys below;
           own = AreOfCone-push t.listing.settings t.listing.cone t.listing.events key counted.own own;
@@ -99,6 +98,7 @@ module _ (t : Tallied) (ls : Numbers) (levels_are : ls ≡ t.listing.settings) (
           to = to ∙ sym all_long;
           bins = record { is = bins.is ∙ ap₂ (λ (v : Numbers) (p : ℕ). young_bins v all (edge v 0 p)) levels_are (sym all_long) };
           rows = subst (λ n. IsAt t.listing.settings n rows) (sym all_long) (subst (λ (v : Numbers). IsAt v m rows) levels_are at);
+          are = subst (λ (v : Numbers). AreRows v rows) levels_are are;
           due_settings = took.1.settings_are ∙ start_settings;
           due_cone = took.1.cone_is ∙ start_cone;
         })
@@ -164,6 +164,7 @@ module _ (t : Tallied) (ls : Numbers) (levels_are : ls ≡ t.listing.settings) (
 
     pub counted_end : (pieces : List Piece) × TookFrom start due pieces → IsCounted (record { listing = record t.listing { closed = true }; young = t.young; rows = t.rows; due = due })
     counted_end took = record {
+      valid = valid;
       fits = counted.fits;
       keys = counted.keys;
       own = counted.own;
@@ -171,6 +172,7 @@ module _ (t : Tallied) (ls : Numbers) (levels_are : ls ≡ t.listing.settings) (
       to = counted.to;
       bins = counted.bins;
       rows = counted.rows;
+      are = counted.are;
       due_settings = took.1.settings_are ∙ settings_end;
       due_cone = took.1.cone_is ∙ cone_end;
     }
@@ -227,19 +229,3 @@ pub never_malformed : (A : Type 0) (result : Result (Unit {0}) FlushFault) → M
 never_malformed A (Ok done) holds at same = cc
 never_malformed A (Err fault) (inl failed) at same = cc
 never_malformed A (Err fault) (inr none) at same = cc
-
--- a flush writes into the frames alone
-pub wrote_of : (kept : ℕ → ℕ → Type 0) (files_before files_after : Option Files) (leaves_before leaves_after : Files → Type 0) (first last : ℕ) (since_before since_after : ℕ → Files → Type 0) →
-    KeepsRest kept files_before files_after leaves_before first last since_before since_after → ((image : Files) → leaves_after image → since_after first image) →
-    WroteFrames files_before files_after leaves_before leaves_after first last since_before since_after
-wrote_of kept files_before files_after leaves_before leaves_after first last since_before since_after rest now = record {
-  seen = record {
-    told = λ old is.
-        let came = rest.seen.told old is in
-        (came.0, came.1, came.2.others);
-    untold = rest.seen.untold;
-  };
-  others = λ old told other from to differs settled image may. rest.settled old told other from to (inl differs) settled image may;
-  now = now;
-  time = rest.time;
-}

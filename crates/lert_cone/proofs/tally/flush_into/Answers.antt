@@ -2,14 +2,14 @@ use Rattle.std.proofs.Common.{◌≡◌, ◌⊎◌, ◌∙◌, OnOk, ap, subst, 
 use Rattle.lert_bay.specs.Files.{IfTold}
 use Rattle.lert_levels.specs.declared.fault.FlushFault.{FlushFault}
 use Rattle.lert_levels.specs.declared.fault.FlushFault.TheVariants.{Failed, OutOfMemory}
-use Rattle.lert_levels.specs.Flushed.{AreEvents, InNamed}
+use Rattle.lert_levels.specs.Flushed.{AreEvents}
 use Rattle.lert_levels.specs.OnDisk.{OnDisk}
 use Rattle.lert_levels.specs.Ranges.{young_bins}
 use Rattle.lert_levels.specs.Rows.{HoldsBins, moved}
 use Rattle.lert_spec.specs.Bins.{tallied}
 use Rattle.lert_spec.specs.Edges.{lookback}
 use Rattle.lert_cone.specs.Due.{Dues, TookFrom}
-use Rattle.lert_cone.proofs.TakeLaws.{ok_of, on_ok, never_malformed, wrote_of}
+use Rattle.lert_cone.proofs.TakeLaws.{ok_of, on_ok, never_malformed}
 use Rattle.lert_cone.proofs.tally.flush_into.Goals as goal
 
 pub returns-clause-holds : goal.returns-clause-holds
@@ -45,9 +45,3 @@ returns-clause-sound g c = λ events long bins seen told holds at.
     } in
     let both = c.flush-result.ensures.told seen told events events_ in
     never_malformed (IfTold (g.B.Bay.files c.flush-result.new.bay) (λ after. HoldsBins c.args.levels.now.settings events (moved c.args.levels.now.settings c.args.m c.args.levels.now.rows) (after 2)) × TookFrom g.N.Begun.start c.flush-result.new.totals.due (tallied c.args.levels.now.settings (slice_range events (lookback c.args.levels.now.settings c.args.m) c.args.m))) c.flush-result.result both at
-
-pub returns-clause-wrote : goal.returns-clause-wrote
-returns-clause-wrote g c =
-    wrote_of (InNamed c.args.levels.now.settings c.args.levels.now.rows) (g.B.Bay.files c.args.bay.now) (g.B.Bay.files c.flush-result.new.bay) (g.B.Bay.leaves c.args.bay.now) (g.B.Bay.leaves c.flush-result.new.bay)
-    (g.B.Bay.moment c.args.bay.now) (g.B.Bay.moment c.flush-result.new.bay) (g.B.Bay.left_since c.args.bay.now) (g.B.Bay.left_since c.flush-result.new.bay) c.flush-result.ensures.rest
-    (λ image may. g.met.B.Bay.since_earlier c.flush-result.new.bay (g.B.Bay.moment c.args.bay.now) (g.B.Bay.moment c.flush-result.new.bay) image c.flush-result.ensures.rest.time.later (g.met.B.Bay.since_now c.flush-result.new.bay image may))

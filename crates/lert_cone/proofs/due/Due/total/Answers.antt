@@ -15,5 +15,6 @@ returns-else-is_tail g c = λ start pieces from less. record {
   cone_is = from.cone_is;
   before_is = from.before_is;
   at_is = from.at_is;
+  grows = from.grows;
   took = took_none c.args.self.now pieces (record { tail = c.args.tail; count = c.args.count }) (λ below. absurd (let is = c.is_tail.ensures.tail.1 below in search rules));
 }

@@ -1,4 +1,6 @@
 use Rattle.std.proofs.Common.{◌≡◌, ℕ, ◌+◌, ◌<◌, List, ◌∷◌, ◌++◌, [], suc, false, length, ap, sym, ◌∙◌, subst, arith, Option, Err}
+use Rattle.lert_levels.specs.Rows.{AreRows}
+use Rattle.lert_spec.specs.declared.numbers.Numbers.{Numbers}
 use Rattle.lert_spec.specs.Edges.{capacity}
 use Rattle.lert_spec.specs.Mix.{cone_of}
 use Rattle.lert_cone.specs.Due.{Dues, started}
@@ -58,8 +60,9 @@ returns-clause-counted g c =
     let to = rw c.in_ok-result.was at c.bring-due.ensures.to in
     let bins = rw c.in_ok-result.was at (c.bring-due.ensures.bins (c.self.inside.taken ++ c.args.key ∷ []) long young) in
     let rows = rw c.in_ok-result.was at c.bring-due.ensures.rows in
+    let are = rw c.in_ok-result.was at c.bring-due.ensures.are in
     let took = rw c.in_ok-result.was at c.bring-due.ensures.took in
-    counted_next t c.self.inside.levels.settings c.self.invariant.levels_settings c.self.invariant.valid c.self.invariant.named c.self.invariant.young_settings counted fits c.args.key c.tail_of-tail.result (c.self.inside.len + 1) c.tail_of-tail.ensures.value m_is c.add.new.self c.add.ensures c.ranges.key.fits own c.begin.new.self c.bring-due.result.0 start_is c.bring-due.new.zero c.bring-due.new.levels.rows (record { listing = record { settings = c.self.inside.settings; cone = c.self.inside.cone; events = c.push.new.self; closed = c.self.inside.closed }; young = c.bring-due.new.zero; rows = c.bring-due.new.levels.rows; due = c.bring-due.result.0 }) (ap (λ (keys : List ℕ). record { listing = record { settings = c.self.inside.settings; cone = c.self.inside.cone; events = keys; closed = c.self.inside.closed }; young = c.bring-due.new.zero; rows = c.bring-due.new.levels.rows; due = c.bring-due.result.0 }) c.push.ensures) from to bins rows took
+    counted_next t c.self.inside.levels.settings c.self.invariant.levels_settings c.self.invariant.valid c.self.invariant.named c.self.invariant.young_settings counted fits c.args.key c.tail_of-tail.result (c.self.inside.len + 1) c.tail_of-tail.ensures.value m_is c.add.new.self c.add.ensures c.ranges.key.fits own c.begin.new.self c.bring-due.result.0 start_is c.bring-due.new.zero c.bring-due.new.levels.rows (record { listing = record { settings = c.self.inside.settings; cone = c.self.inside.cone; events = c.push.new.self; closed = c.self.inside.closed }; young = c.bring-due.new.zero; rows = c.bring-due.new.levels.rows; due = c.bring-due.result.0 }) (ap (λ (keys : List ℕ). record { listing = record { settings = c.self.inside.settings; cone = c.self.inside.cone; events = keys; closed = c.self.inside.closed }; young = c.bring-due.new.zero; rows = c.bring-due.new.levels.rows; due = c.bring-due.result.0 }) c.push.ensures) from to bins rows (are (subst (λ (v : Numbers). AreRows v c.self.inside.levels.rows) (sym c.self.invariant.levels_settings) counted.are)) took
 
 pub returns-clause-held : goal.returns-clause-held
 returns-clause-held g c = λ seen told is_held after told_after.
