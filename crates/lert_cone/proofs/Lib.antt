@@ -2,6 +2,7 @@ pub mod DueLaws
 mod Examples
 pub mod FramedLaws
 pub mod KeyLemmas
+pub mod LogLaws
 pub mod RoomLaws
 pub mod SoundLaws
 pub mod StandLaws

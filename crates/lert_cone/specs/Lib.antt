@@ -2,6 +2,7 @@ pub mod Due
 pub mod Framed
 pub mod History
 pub mod Listing
+pub mod Logged
 pub mod Room
 pub mod Sound
 pub mod Stands
