@@ -1,5 +1,5 @@
 -- The records of a cone's log as events come: none at first, one more at each flush, and the closing one.
-use Rattle.std.proofs.Common.{ℕ, zero, suc, ◌≡◌, ◌≢◌, ◌+◌, ◌-◌, ◌*◌, ◌/◌, ◌^◌, ◌<◌, ◌≤◌, Bool, true, false, cond, eqb, ltb, List, [], ◌∷◌, ◌++◌, length, take, drop, get_or, map, filter, min, max, All, refl, ap, ap₂, sym, ◌∙◌, arith, inl, inr, ◌⊎◌, subst, length-append, append_assoc, sum_by}
+use Rattle.std.proofs.Common.{ℕ, zero, suc, ◌≡◌, ◌≢◌, ◌+◌, ◌-◌, ◌*◌, ◌/◌, ◌^◌, ◌<◌, ◌≤◌, Bool, true, false, cond, eqb, ltb, List, [], ◌∷◌, ◌++◌, length, take, drop, get_or, map, filter, min, max, All, refl, ap, ap₂, sym, ◌∙◌, arith, inl, inr, subst, length-append, append_assoc}
 use Rattle.std.specs.Prelude.{flat_map, slice_index_or, replicate, count_by}
 use Rattle.std.specs.List.{AllPairs, range_with_len}
 use Rattle.std.specs.List.Sorted.{IsNonDecreasing}
@@ -7,7 +7,7 @@ use Rattle.std.proofs.Math.Nat.{mul-div-le, div-add-mod, mod-lt, mul-suc, mul_co
 use Rattle.std.proofs.Math.Numerals.{add-one}
 use Rattle.std.proofs.Math.Seq.{drop-append_seam}
 use Rattle.std.proofs.lemmas.Bool.{cases_lt, cases_eq, cases_Bool, eq-eqb, ne_eqb, false≢true}
-use Rattle.std.proofs.lemmas.List.{length-map, length-take, take-append-le, take_all, take-append-drop, get_or-map, get_or_at, get_or-append-add}
+use Rattle.std.proofs.lemmas.List.{append-nil, length-map, length-take, take-append-le, take_all, take-append-drop, get_or-map, get_or_at, get_or-append-add}
 use Rattle.std.proofs.lemmas.List.Elements.{All-nil, All-cons, All-append, All-map, All-weaker, All-from_get_or}
 use Rattle.std.proofs.lemmas.List.Concat.{length-flat_map}
 use Rattle.std.proofs.lemmas.List.Folds.{flat_map-map}
@@ -19,7 +19,7 @@ use Rattle.lert_levels.specs.Rows.{directory_text, range_of, row_of, IsAt, IsRow
 use Rattle.lert_levels.proofs.RangeLaws.{ranges_few}
 use Rattle.lert_reports.specs.declared.log.LogBefore.{LogBefore}
 use Rattle.lert_reports.specs.declared.log.LogKind.{LogKind}
-use Rattle.lert_reports.specs.Log.{most_record, is_flush, is_closing, AreRecords, is_closed, last_n0, last_directory, last_at, listed_in, before_of, flushes_in}
+use Rattle.lert_reports.specs.Log.{most_record, is_flush, is_closing, AreRecords, is_closed, last_n0, last_at, listed_in, before_of, flushes_in}
 use Rattle.lert_reports.specs.LogRules.{IsInTurn, AreFrames, AreNew, KeepsRules}
 use Rattle.lert_reports.specs.LogText.{LogRecord, bin_count, directory_bytes, log_payload, log_payload_of, next_flush}
 use Rattle.lert_reports.proofs.LogLaws.{records_none, records_more, EndsWith, ends, last_keeps, listed_in-push, last_n0-push, is_closed-push, last_directory-push, flushes_in-push, last_at-push, payload_length}
@@ -329,3 +329,304 @@ module _ (s : Numbers) (valid : IsValid s) where
       | inl empty ↦ flushes_none empty
       | inr more ↦ flushes_some more
     ]
+
+-- ---- what holds of the reports that are made
+
+-- a report of this cone's keys, at one of the first n positions
+pub record IsReport (s : Numbers) (cone n : ℕ) (report : Report) : Type 0 where
+  pub fits : report.key < 2 ^ 64
+  pub own : cone_of s report.key ≡ cone
+  pub from : 1 ≤ report.at
+  pub to : report.at ≤ n
+
+-- such reports, in the order of their positions, and of a key each
+pub record AreReports (s : Numbers) (cone n : ℕ) (reports : List Report) : Type 0 where
+  pub each : All (IsReport s cone n) reports
+  pub ascending : AllPairs (λ one other. one.at ≤ other.at) reports
+  pub distinct : AllPairs (λ one other. one.key ≢ other.key) reports
+
+module _ (s : Numbers) (cone : ℕ) where
+  own_insert : (key : ℕ) (keys : List ℕ) → cone_of s key ≡ cone → AreOfCone s cone keys → AreOfCone s cone (insert_mixed key keys)
+  own_insert key [] here own = (here, tt)
+  own_insert key (other ∷ others) here own =
+      elim (cases_lt (mix key) (mix other)) [
+        | inl less ↦ rw (insert_before key other others less) (here, own)
+        | inr more ↦ elim (cases_eq key other) [
+          | inl same ↦ rw (insert_same key other others more same) own
+          | inr differs ↦ rw (insert_behind key other others more differs) (own.0, own_insert key others here own.1)
+        ]
+      ]
+
+  own_mixed : (events : List ℕ) → AreOfCone s cone events → AreOfCone s cone (mixed_order events)
+  own_mixed [] own = tt
+  own_mixed (event ∷ events) own = own_insert event (mixed_order events) own.0 (own_mixed events own.1)
+
+  own_filter : (test : ℕ → Bool) (keys : List ℕ) → AreOfCone s cone keys → AreOfCone s cone (filter test keys)
+  own_filter test [] own = tt
+  own_filter test (key ∷ keys) own =
+      let rest = own_filter test keys own.1 in
+      elim (cases_Bool (test key)) [
+        | inl passes ↦ subst (AreOfCone s cone) (sym (ap (λ t. cond t (key ∷ filter test keys) (filter test keys)) passes)) (own.0, rest)
+        | inr fails ↦ subst (AreOfCone s cone) (sym (ap (λ t. cond t (key ∷ filter test keys) (filter test keys)) fails)) rest
+      ]
+
+  keys_each : (at : ℕ) (keys : List ℕ) → 1 ≤ at → AreKeys keys → AreOfCone s cone keys → All (λ key. IsReport s cone at (record { key = key; at = at })) keys
+  keys_each at [] from fit own = All-nil (λ (key : ℕ). IsReport s cone at (record { key = key; at = at }))
+  keys_each at (key ∷ keys) from fit own =
+      All-cons (λ (k : ℕ). IsReport s cone at (record { key = k; at = at })) key keys
+      (record { fits = fit.0; own = own.0; from = from; to = omega arith })
+      (keys_each at keys from fit.1 own.1)
+
+  -- those that a window adds, behind earlier ones
+  due_each : (threshold from to n : ℕ) (events : List ℕ) (reports : List Report) → n ≤ to → 1 ≤ to → AreKeys events → AreOfCone s cone events → All (IsReport s cone n) reports →
+      All (IsReport s cone to) (with_due threshold events from to reports)
+  due_each threshold from to n events reports later some fit own are =
+      let test : ℕ → Bool = is_due threshold events from to reports in
+      let due = filter test (mixed_order events) in
+      All-append (IsReport s cone to) reports (map (λ key. record { key = key; at = to }) due)
+      (All-weaker (IsReport s cone n) (IsReport s cone to) (λ report is. record { fits = is.fits; own = is.own; from = is.from; to = omega (arith, is.to, later) }) reports are)
+      (All-map (IsReport s cone to) (λ (key : ℕ). record { key = key; at = to }) due
+      (keys_each to due some (AreKeys-filter test (mixed_order events) (AreKeys-mixed_order events fit)) (own_filter test (mixed_order events) (own_mixed events own))))
+
+  look_each : (events : List ℕ) (m : ℕ) → AreKeys events → AreOfCone s cone events → All (IsReport s cone m) (look_to s events m)
+  look_each events zero fit own = All-nil (IsReport s cone 0)
+  look_each events (suc m) fit own = due_each s.threshold (lookback s (suc m)) (suc m) m events (look_to s events m) (omega arith) (omega arith) fit own (look_each events m fit own)
+
+  closing_each : (events : List ℕ) → AreKeys events → AreOfCone s cone events → All (IsReport s cone (length events)) (closing s events)
+  closing_each [] fit own = All-nil (IsReport s cone 0)
+  closing_each (event ∷ events) fit own =
+      let all = event ∷ events in
+      due_each s.threshold 0 (length all) (length all) all (look s all) (omega arith) (omega arith) fit own (look_each all (length all) fit own)
+
+ascend : (reports : List Report) → IsNonDecreasing (map (λ report. report.at) reports) → AllPairs (λ one other. one.at ≤ other.at) reports
+ascend reports order i j d less within =
+    let at : Report → ℕ = λ report. report.at in
+    omega (
+      arith,
+      order i j (at d) (omega (arith, less)) (omega (arith, length-map reports at, within)),
+      get_or-map at reports i d (at d) (omega (arith, less, within)),
+      get_or-map at reports j d (at d) within,
+    )
+
+module _ (s : Numbers) (events : List ℕ) (valid : IsValid s) (fits : length events ≤ capacity s) where
+  look_once : (key : ℕ) → times_listed key (look s events) ≤ 1
+  look_once key =
+      let timely = IsTimelySoFar-look s events valid fits in
+      elim (cases_lt (count key events 0 (length events)) s.threshold) [
+        | inl light ↦ omega (arith, timely.light key light)
+        | inr heavy ↦ elim (timely.heavy key heavy) [
+          | inl reported ↦ omega (arith, reported.once)
+          | inr missing ↦ omega (arith, missing.missing)
+        ]
+      ]
+
+  closing_once : (key : ℕ) → times_listed key (closing s events) ≤ 1
+  closing_once key =
+      let timely = IsTimely-closing s events valid fits in
+      elim (cases_lt (count key events 0 (length events)) s.threshold) [
+        | inl light ↦ omega (arith, timely.light key light)
+        | inr heavy ↦ omega (arith, (timely.heavy key heavy).once)
+      ]
+
+  module _ (cone : ℕ) (keys : AreKeys events) (own : AreOfCone s cone events) where
+    pub look_are : AreReports s cone (length events) (look s events)
+    look_are = record {
+      each = look_each s cone events (length events) keys own;
+      ascending = ascend (look s events) (IsTimelySoFar-look s events valid fits).in_order;
+      distinct = apart (λ (report : Report). report.key) (look s events) look_once;
+    }
+
+    pub closing_are : AreReports s cone (length events) (closing s events)
+    closing_are = record {
+      each = closing_each s cone events keys own;
+      ascending = ascend (closing s events) (IsTimely-closing s events valid fits).in_order;
+      distinct = apart (λ (report : Report). report.key) (closing s events) closing_once;
+    }
+
+-- ---- earlier reports begin later ones
+
+pub record BeginsWith (front reports : List Report) : Type 0 where
+  pub more : List Report
+  pub is : reports ≡ front ++ more
+
+pub look_begins : (s : Numbers) (events : List ℕ) (a n : ℕ) → a ≤ n → BeginsWith (look_to s events a) (look_to s events n)
+look_begins s events a zero early =
+    let none : a ≡ 0 = omega arith in
+    subst (λ k. BeginsWith (look_to s events k) (look_to s events 0)) (sym none) (record { more = []; is = refl })
+look_begins s events a (suc n) early =
+    elim (cases_lt a (suc n)) [
+      | inl before ↦ (
+          let begun = look_begins s events a n (omega arith) in
+          let due = map (λ key. record { key = key; at = suc n }) (filter (is_due s.threshold events (lookback s (suc n)) (suc n) (look_to s events n)) (mixed_order events)) in
+          record { more = begun.more ++ due; is = ap (λ reports. reports ++ due) begun.is ∙ append_assoc (look_to s events a) begun.more due })
+      | inr now ↦ (
+          let here : a ≡ suc n = omega arith in
+          record { more = []; is = ap (look_to s events) (sym here) ∙ sym (append-nil (look_to s events a)) })
+    ]
+
+-- reports of the first events are the first reports
+pub look_first : (s : Numbers) (events : List ℕ) (n : ℕ) → 1 ≤ s.threshold → AreKeys events → n ≤ length events → look s (take n events) ≡ look_to s events n
+look_first s events n positive keys within =
+    let first = take n events in
+    let long : length first ≡ n = length-take n events ∙ omega (arith, within) in
+    ap (look_to s first) long
+    ∙ sym (look_to-append s first (drop n events) n positive (AreKeys-take n events keys) (AreKeys-drop n events keys) (omega (arith, long)))
+    ∙ ap (λ xs. look_to s xs n) (take-append-drop n events)
+
+-- what the log lists begins the reports that are made later
+flushed_begin : (s : Numbers) (events more : List ℕ) → 1 ≤ s.threshold → AreKeys (events ++ more) → BeginsWith (look s (flushed s events)) (look s (events ++ more))
+flushed_begin s events more positive keys =
+    let all = events ++ more in
+    let last = last_flush s (length events) in
+    let within = last_flush_within s (length events) in
+    let long = length-append events more in
+    let first : look s (flushed s events) ≡ look_to s all last =
+    ap (look s) (sym (take-append-le last events more within)) ∙ look_first s all last positive keys (omega (arith, within, long)) in
+    subst (λ reports. BeginsWith reports (look s all)) (sym first) (look_begins s all last (length all) (omega (arith, within, long)))
+
+closing_begins : (s : Numbers) (events : List ℕ) (reports : List Report) → BeginsWith reports (look s events) → BeginsWith reports (closing s events)
+closing_begins s events reports begun =
+    let due = map (λ key. record { key = key; at = length events }) (filter (is_due s.threshold events 0 (length events) (look s events)) (mixed_order events)) in
+    record { more = begun.more ++ due; is = ap (λ rs. rs ++ due) begun.is ∙ append_assoc reports begun.more due }
+
+-- ---- a record more
+
+-- those that aren't listed come at no earlier position than the last one that is
+later : (listed new : List Report) → AllPairs (λ one other. one.at ≤ other.at) (listed ++ new) → All (λ report. last_at listed ≤ report.at) new
+later listed new ascending k d below =
+    let whole = length-append listed new in
+    let there : get_or (listed ++ new) (length listed + k) d ≡ get_or new k d = get_or-append-add listed new k d in
+    elim (ends listed) [
+      | inl empty ↦ (let none : last_at listed ≡ 0 = ap last_at empty in omega (arith, none))
+      | inr more ↦ (
+          let front = more.front in
+          let last = more.last in
+          let last_is : last_at listed ≡ last.at = ap last_at more.is ∙ last_at-push front last in
+          let long = ap (length {A = Report}) more.is ∙ length-append front (last ∷ []) in
+          let here : get_or (listed ++ new) (length front) d ≡ last =
+          ap (λ reports. get_or (reports ++ new) (length front) d) more.is
+          ∙ ap (λ reports. get_or reports (length front) d) (append_assoc front (last ∷ []) new)
+          ∙ get_or_at front last new d (length front) refl in
+          let pair = ascending (length front) (length listed + k) d (omega (arith, long)) (omega (arith, whole, below)) in
+          omega (arith, pair, last_is, ap (λ (report : Report). report.at) here, ap (λ (report : Report). report.at) there))
+    ]
+
+-- behind the listed ones they are new
+new_are : (s : Numbers) (cone n : ℕ) (listed new : List Report) → AreReports s cone n (listed ++ new) → AreNew s cone (last_at listed) n new
+new_are s cone n listed new are =
+    let whole = length-append listed new in
+    let there : (k : ℕ) (d : Report) → get_or (listed ++ new) (length listed + k) d ≡ get_or new k d = λ k d. get_or-append-add listed new k d in
+    let each : All (IsReport s cone n) new = λ k d below. subst (IsReport s cone n) (there k d) (are.each (length listed + k) d (omega (arith, whole, below))) in
+    let at : Report → ℕ = λ report. report.at in
+    record {
+      fit = λ k d below. (each k d below).fits;
+      of_cone = λ k d below. (each k d below).own;
+      placed = λ k d below. ((each k d below).from, later listed new are.ascending k d below, (each k d below).to);
+      ascending = λ i j d less within.
+          omega (
+            arith,
+            are.ascending (length listed + i) (length listed + j) d (omega (arith, less)) (omega (arith, whole, within)),
+            ap at (there i d),
+            ap at (there j d),
+          );
+    }
+
+-- the reports that aren't listed, behind those that are
+rest_is : (listed reports : List Report) → BeginsWith listed reports → listed ++ drop (length listed) reports ≡ reports
+rest_is listed reports begun =
+    ap (λ rs. listed ++ drop (length listed) rs) begun.is
+    ∙ ap (λ rs. listed ++ rs) (drop-append_seam listed begun.more)
+    ∙ sym begun.is
+
+-- a record that keeps the rules behind others, and what the log holds with it
+pub record LogsNext (s : Numbers) (cone : ℕ) (events : List ℕ) (rows : List (List BinAt)) (closed : Bool) (records : List LogRecord) (one : LogRecord) : Type 0 where
+  pub keeps : KeepsRules s cone (before_of records) one
+  pub is : IsLogOf s cone events rows closed (records ++ one ∷ [])
+
+module _ (s : Numbers) (valid : IsValid s) (cone : ℕ) (kind : LogKind) (n0 : ℕ) (rows : List (List BinAt)) (records : List LogRecord) (reports : List Report)
+    (within : n0 ≤ capacity s) (turn : IsInTurn s (before_of records) kind n0) (at : IsAt s n0 rows) (are_rows : AreRows s rows)
+    (are : AreReports s cone n0 reports) (few : length reports ≤ s.room) (begun : BeginsWith (listed_in records) reports) (rules : AreRecords s cone records) (still_open : is_closed records ≡ false) where
+  abbrev one : LogRecord
+  one = next_record kind n0 rows records reports
+
+  abbrev new : List Report
+  new = drop (length (listed_in records)) reports
+
+  whole : listed_in records ++ new ≡ reports
+  whole = rest_is (listed_in records) reports begun
+
+  keeps_rules : KeepsRules s cone (before_of records) one
+  keeps_rules = record {
+    within = within;
+    in_turn = turn;
+    offset_from = omega arith;
+    offset_to = omega arith;
+    first_from = omega arith;
+    first_to = omega arith;
+    levels = length-map rows (λ (row : List BinAt). map (λ (bin : BinAt). bin.frame) row) ∙ at.levels;
+    frames = frames_are s n0 rows at are_rows;
+    room = omega (arith, few, ap (length {A = Report}) whole, length-append (listed_in records) new);
+    reports = new_are s cone n0 (listed_in records) new (subst (AreReports s cone n0) (sym whole) are);
+  }
+
+  more_records : AreRecords s cone (records ++ one ∷ [])
+  more_records = records_more s cone records one rules still_open keeps_rules (subst (AllPairs (λ (earlier later : Report). earlier.key ≢ later.key)) (sym whole) are.distinct)
+
+  all_listed : listed_in (records ++ one ∷ []) ≡ reports
+  all_listed = listed_in-push records one ∙ whole
+
+-- a flush adds the record of the rows that it made, and lists the reports that were made up to there
+pub log_at_flush : (s : Numbers) (valid : IsValid s) (cone : ℕ) (events : List ℕ) (key : ℕ) (rows_before rows : List (List BinAt)) (records : List LogRecord) (reports : List Report) →
+    suc (length events) ≤ capacity s → edge s 0 (suc (length events)) ≢ edge s 0 (length events) → AreKeys (events ++ key ∷ []) → AreOfCone s cone (events ++ key ∷ []) →
+    IsAt s (suc (length events)) rows → AreRows s rows → reports ≡ look s (events ++ key ∷ []) → length reports ≤ s.room → IsLogOf s cone events rows_before false records →
+    LogsNext s cone (events ++ key ∷ []) rows false records (next_record LogKind.Flush (suc (length events)) rows records reports)
+log_at_flush s valid cone events key rows_before rows records reports within moves keys own at are_rows reports_are few is =
+    let n = length events in
+    let all = events ++ key ∷ [] in
+    let one = next_record LogKind.Flush (suc n) rows records reports in
+    let positive : 1 ≤ s.threshold = omega (arith, valid.limits.threshold_from) in
+    let long = longer events key in
+    let last : last_flush s (length all) ≡ suc n = ap (last_flush s) long ∙ flush_there s n moves in
+    let turn : suc n ≡ next_flush s (flushes_in records) = (flushes_at s valid n moves).place ∙ ap (next_flush s) (sym (flushes_are s valid cone events rows_before records is)) in
+    let are : AreReports s cone (suc n) reports =
+    subst (λ k. AreReports s cone k reports) long (subst (AreReports s cone (length all)) (sym reports_are) (look_are s all valid (omega (arith, within, long)) cone keys own)) in
+    let begun : BeginsWith (listed_in records) reports =
+    subst (λ rs. BeginsWith rs reports) (sym is.reports_are) (subst (BeginsWith (look s (flushed s events))) (sym reports_are) (flushed_begin s events (key ∷ []) positive keys)) in
+    let flushed_all : flushed s all ≡ all = take_all (last_flush s (length all)) all (omega (arith, last, long)) in
+    record {
+      keeps = keeps_rules s valid cone LogKind.Flush (suc n) rows records reports within turn at are_rows are few begun is.rules is.closed_is;
+      is = record {
+        rules = more_records s valid cone LogKind.Flush (suc n) rows records reports within turn at are_rows are few begun is.rules is.closed_is;
+        closed_is = is_closed-push records one;
+        n0_is = last_n0-push records one ∙ sym last;
+        directory_is = last_directory-push s records one;
+        reports_are = all_listed s valid cone LogKind.Flush (suc n) rows records reports within turn at are_rows are few begun is.rules is.closed_is ∙ reports_are ∙ ap (look s) (sym flushed_all);
+      };
+    }
+
+-- closing adds a record after all events, with the rows of the last flush, and lists all reports
+pub log_at_close : (s : Numbers) (valid : IsValid s) (cone : ℕ) (events : List ℕ) (rows : List (List BinAt)) (records : List LogRecord) (reports : List Report) →
+    length events ≤ capacity s → AreKeys events → AreOfCone s cone events → IsAt s (length events) rows → AreRows s rows → reports ≡ closing s events → length reports ≤ s.room → IsLogOf s cone events rows false records →
+    LogsNext s cone events rows true records (next_record LogKind.Closing (length events) rows records reports)
+log_at_close s valid cone events rows records reports within keys own at are_rows reports_are few is =
+    let n = length events in
+    let one = next_record LogKind.Closing n rows records reports in
+    let positive : 1 ≤ s.threshold = omega (arith, valid.limits.threshold_from) in
+    let early : last_n0 records ≤ n = omega (arith, is.n0_is, last_flush_within s n) in
+    let next : n < next_flush s (flushes_in records) = subst (λ k. n < next_flush s k) (sym (flushes_are s valid cone events rows records is)) (before_next s valid n) in
+    let are : AreReports s cone n reports = subst (AreReports s cone n) (sym reports_are) (closing_are s events valid within cone keys own) in
+    let looked : BeginsWith (look s (flushed s events)) (look s events) =
+    subst (λ xs. BeginsWith (look s (flushed s events)) (look s xs)) (append-nil events) (flushed_begin s events [] positive (subst AreKeys (sym (append-nil events)) keys)) in
+    let begun : BeginsWith (listed_in records) reports =
+    subst (λ rs. BeginsWith rs reports) (sym is.reports_are)
+    (subst (BeginsWith (look s (flushed s events))) (sym reports_are) (closing_begins s events (look s (flushed s events)) looked)) in
+    record {
+      keeps = keeps_rules s valid cone LogKind.Closing n rows records reports within (early, next) at are_rows are few begun is.rules is.closed_is;
+      is = record {
+        rules = more_records s valid cone LogKind.Closing n rows records reports within (early, next) at are_rows are few begun is.rules is.closed_is;
+        closed_is = is_closed-push records one;
+        n0_is = last_n0-push records one;
+        directory_is = last_directory-push s records one;
+        reports_are = all_listed s valid cone LogKind.Closing n rows records reports within (early, next) at are_rows are few begun is.rules is.closed_is ∙ reports_are;
+      };
+    }

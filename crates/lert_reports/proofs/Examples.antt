@@ -1,5 +1,5 @@
 -- The log text, computed on the closing record of three keys 7, on a flush, and on payloads that break each rule.
-use Rattle.std.proofs.Common.{◌≡◌, ℕ, zero, suc, ◌+◌, ◌<◌, ◌≤◌, ◌^◌, List, [], ◌∷◌, ◌++◌, take, drop, Some, None, refl, arith}
+use Rattle.std.proofs.Common.{◌≡◌, ℕ, zero, suc, ◌+◌, ◌<◌, ◌≤◌, ◌^◌, List, [], ◌∷◌, ◌++◌, take, drop, Some, None, refl, arith, inl}
 use Rattle.std.specs.Prelude.{slice_index_or}
 use Rattle.std.proofs.lemmas.List.Elements.{All-cons}
 use Rattle.lert_spec.specs.declared.numbers.Numbers.{Numbers}
@@ -8,6 +8,9 @@ use Rattle.lert_reports.specs.declared.log.LogBefore.{LogBefore}
 use Rattle.lert_reports.specs.declared.log.LogKind.{LogKind}
 use Rattle.lert_reports.specs.declared.log.LogParts.{LogParts}
 use Rattle.lert_reports.specs.LogText.{LogRecord, log_payload_of, left_at, log_left, bin_count}
+use Rattle.lert_gatelog.specs.Gated.{Records, No_gate}
+use Rattle.lert_reports.specs.Log.{log_header, most_record, before_of, AreRecords, HasLog, IsRepeatedAt, LogLeavesAt, In_header, At_gate, Behind_closing}
+use Rattle.lert_reports.proofs.LogLaws.{records_none, records_more}
 use Rattle.lert_reports.specs.LogRules.{AreFrames, AreNew, KeepsRules, record_in}
 
 abbrev alone : Numbers
@@ -196,3 +199,53 @@ report_to_come rules = omega (arith, (rules.reports.placed 0 (record { key = 7; 
 
 flush_out_of_turn : KeepsRules alone 0 nothing_before (record flushed { n0 = 16 }) → ⊥
 flush_out_of_turn rules = omega (arith, rules.in_turn)
+
+-- ---- a whole log: the header, the closing record of three keys 7, and a closed gate
+
+abbrev closed_log : List ℕ
+closed_log = log_header ++ (1 ∷ 47 ∷ 0 ∷ 0 ∷ 0 ∷ []) ++ closed_bytes
+
+closed_stands : Records (most_record alone) (closed_log ++ 0 ∷ []) 8 (log_payload_of closed ∷ []) 60
+closed_stands = (record { opened = refl; counted = refl; some = omega arith; fits = omega arith; there = refl }, refl)
+
+closed_alone : AreRecords alone 0 (closed ∷ [])
+closed_alone = records_more alone 0 [] closed (records_none alone 0) refl closed_keeps_rules (λ i j d less within. omega arith)
+
+is_log : HasLog alone 0 (closed_log ++ 0 ∷ []) (closed ∷ []) 60
+is_log = record {
+  headed = refl;
+  records_stand = record { records = closed_stands; closed = record { within = omega arith; shut = λ one. omega (arith, one) } };
+  rules = closed_alone;
+}
+
+-- another letter, and a header that ends early
+other_header : LogLeavesAt alone 0 (take 4 log_header ++ 74 ∷ drop 5 closed_log) 4
+other_header = In_header refl (omega arith)
+
+cut_header : LogLeavesAt alone 0 (take 3 log_header) 3
+cut_header = In_header refl (omega arith)
+
+-- no gate behind the record, an open one, and a payload with a third kind
+no_gate : LogLeavesAt alone 0 closed_log 60
+no_gate = At_gate (closed ∷ []) 60
+    (record { headed = refl; records_stand = (record { opened = refl; counted = refl; some = omega arith; fits = omega arith; there = refl }, refl); rules = closed_alone })
+    (record { breaks = inl (refl, No_gate (omega arith)); not_behind_closing = λ closing one. omega (arith, one) })
+
+behind_closing : LogLeavesAt alone 0 (closed_log ++ 1 ∷ []) 60
+behind_closing = Behind_closing (closed ∷ []) 60
+    (record { headed = refl; records_stand = (record { opened = refl; counted = refl; some = omega arith; fits = omega arith; there = refl }, refl); rules = closed_alone })
+    (record { closing = refl; opened = refl; at_is = refl })
+
+-- a key listed twice: it isn't left by its fields
+abbrev twice_bytes : List ℕ
+twice_bytes = log_payload_of (record closed { reports = record { key = 7; at = 3 } ∷ record { key = 7; at = 3 } ∷ [] })
+
+twice_by_fields : log_left alone 0 (before_of []) twice_bytes ≡ None
+unfolding left_at mix
+twice_by_fields = refl
+
+listed_twice : IsRepeatedAt alone [] twice_bytes 47
+listed_twice = record { k = 1; some = omega arith; place_is = refl; whole = omega arith; listed_before = refl }
+
+listed_earlier : IsRepeatedAt alone closed.reports closed_bytes 31
+listed_earlier = record { k = 0; some = omega arith; place_is = refl; whole = omega arith; listed_before = refl }

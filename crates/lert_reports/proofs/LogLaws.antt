@@ -1,16 +1,17 @@
 -- How a log grows by a record, what its records say together, and how long a payload is.
-use Rattle.std.proofs.Common.{ℕ, ◌≡◌, ◌≢◌, ◌+◌, ◌*◌, Bool, false, cond, List, [], ◌∷◌, ◌++◌, length, refl, ap, ap₂, sym, ◌∙◌, arith, inl, inr, ◌⊎◌, subst, length-append}
+use Rattle.std.proofs.Common.{ℕ, ◌≡◌, ◌≢◌, ◌+◌, ◌*◌, Bool, false, cond, List, [], ◌∷◌, ◌++◌, length, map, refl, ap, ap₂, sym, ◌∙◌, arith, inl, inr, ◌⊎◌, subst, length-append}
 use Rattle.std.specs.Prelude.{flat_map}
 use Rattle.std.specs.List.{AllPairs}
-use Rattle.std.proofs.lemmas.List.{append-nil}
+use Rattle.std.proofs.lemmas.List.{append-nil, map-append}
 use Rattle.std.proofs.lemmas.List.Concat.{flat_map-cons}
 use Rattle.std.proofs.lemmas.List.Sums.{fold_push, sum_by_push}
 use Rattle.std.proofs.lemmas.Grind.{flat_map-append}
 use Rattle.byteorder.specs.Endian.{little_bytes}
 use Rattle.lert_spec.specs.declared.numbers.Numbers.{Numbers}
 use Rattle.lert_spec.specs.declared.report.Report.{Report}
+use Rattle.lert_reports.specs.declared.log.LogKind.{LogKind}
 use Rattle.lert_reports.specs.LogRules.{KeepsRules}
-use Rattle.lert_reports.specs.LogText.{LogRecord, kind_number, directory_bytes, report_bytes, log_payload_of}
+use Rattle.lert_reports.specs.LogText.{LogRecord, kind_number, directory_bytes, report_bytes, log_payload, log_payload_of}
 use Rattle.lert_reports.specs.Log.{is_flush, is_closing, listed_in, last_n0, is_closed, last_directory, last_at, flushes_in, before_of, AreRecords}
 
 -- ---- lists by their last element
@@ -107,16 +108,22 @@ length_reports (report ∷ reports) =
     let parts = ap (length {A = ℕ}) (flat_map-cons report_bytes report reports) in
     omega (arith, parts, length-append (report_bytes report) (flat_map report_bytes reports), length_reports reports)
 
-pub payload_length : (one : LogRecord) → length (log_payload_of one) ≡ 29 + length (directory_bytes one.directory) + 16 * length one.reports
-payload_length one =
-    let head = (kind_number one.kind ∷ []) ++ little_bytes 8 one.n0 ++ little_bytes 8 one.offset ++ little_bytes 8 one.first in
-    let directory = directory_bytes one.directory in
-    let count = little_bytes 4 (length one.reports) in
-    let reports = flat_map report_bytes one.reports in
+pub log_payload_length : (kind : LogKind) (n0 offset first : ℕ) (directory : List ℕ) (reports : List Report) → length (log_payload kind n0 offset first directory reports) ≡ 29 + length directory + 16 * length reports
+log_payload_length kind n0 offset first directory reports =
+    let head = (kind_number kind ∷ []) ++ little_bytes 8 n0 ++ little_bytes 8 offset ++ little_bytes 8 first in
+    let count = little_bytes 4 (length reports) in
+    let bytes = flat_map report_bytes reports in
     omega (
       arith,
-      length-append (head ++ directory ++ count) reports,
+      length-append (head ++ directory ++ count) bytes,
       length-append (head ++ directory) count,
       length-append head directory,
-      length_reports one.reports,
+      length_reports reports,
     )
+
+pub payload_length : (one : LogRecord) → length (log_payload_of one) ≡ 29 + length (directory_bytes one.directory) + 16 * length one.reports
+payload_length one = log_payload_length one.kind one.n0 one.offset one.first (directory_bytes one.directory) one.reports
+
+-- the payloads of records and one more
+pub payloads-push : (records : List LogRecord) (one : LogRecord) → map log_payload_of (records ++ one ∷ []) ≡ map log_payload_of records ++ log_payload_of one ∷ []
+payloads-push records one = map-append log_payload_of records (one ∷ [])

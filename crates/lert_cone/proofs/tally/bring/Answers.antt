@@ -7,9 +7,9 @@ use Rattle.lert_spec.specs.declared.piece.Piece.{Piece}
 use Rattle.lert_spec.specs.Edges.{span, depth}
 use Rattle.lert_levels.specs.OnDisk.{OnDisk}
 use Rattle.lert_levels.specs.Ranges.{young_bins}
-use Rattle.lert_levels.specs.Rows.{IsAt, HoldsBins}
+use Rattle.lert_levels.specs.Rows.{IsAt, AreRows, HoldsBins}
 use Rattle.lert_levels.specs.Young.{Young}
-use Rattle.lert_levels.proofs.RowLaws.{IsAt-moved}
+use Rattle.lert_levels.proofs.RowLaws.{IsAt-moved, AreRows-moved}
 use Rattle.lert_cone.specs.Due.{TookFrom}
 use Rattle.lert_cone.proofs.TallyLaws.{edge_still, young_total, flush_total, rows_still, flush_moves, dropped_edge, dropped_bins}
 use Rattle.lert_cone.proofs.TotalLaws.{edge_within}
@@ -99,3 +99,21 @@ returns-in-Ok-clause-totals g c = λ events long bins seen told holds.
 pub returns-in-Err-clause-sound : goal.returns-in-Err-clause-sound
 returns-in-Err-clause-sound g c = λ events long bins seen told holds at same.
     c.flush_into-due.ensures.sound events long bins seen told holds at (c.in-Err.is ∙ same)
+
+pub returns-in-Ok-clause-images : goal.returns-in-Ok-clause-images
+returns-in-Ok-clause-images g c = λ events long bins seen told holds each after told_after image may.
+    let moved_ = rw c.in-Ok.is at c.flush_into-due.ensures.moved in
+    let held = rw c.in-Ok.is at (c.flush_into-due.ensures.holds events long bins seen told holds) in
+    let durable = rw c.in-Ok.is at c.flush_into-due.ensures.durable in
+    subst (λ (bytes : List ℕ). HoldsBins c.args.levels.now.settings events c.flush_into-due.new.levels.rows bytes) (sym (durable after told_after image may))
+    (subst (λ (t : Numbers). HoldsBins t events c.flush_into-due.new.levels.rows (after 2)) (ap (λ (v : OnDisk). v.settings) moved_) (held after told_after))
+
+pub returns-in-Ok-clause-are : goal.returns-in-Ok-clause-are
+returns-in-Ok-clause-are g c = λ are.
+    let moved_ = rw c.in-Ok.is at c.flush_into-due.ensures.moved in
+    subst (λ (v : OnDisk). AreRows c.args.levels.now.settings v.rows) (sym moved_)
+    (AreRows-moved c.args.levels.now.settings c.requires.valid c.args.m c.requires.first c.requires.last c.args.levels.now.rows c.requires.rows are)
+
+pub returns-in-Ok-clause-still : goal.returns-in-Ok-clause-still
+returns-in-Ok-clause-still g c = λ stays.
+    absurd (flush_moves c.args.levels.now.settings c.requires.valid c.args.m (deep c.depth.result c.args.m c.settings.result.now c.args.levels.now.settings c.depth.ensures.value (c.settings.ensures ∙ c.requires.settings) c.if-depth-eq0.false) stays)

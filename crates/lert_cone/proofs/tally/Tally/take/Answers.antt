@@ -1,11 +1,13 @@
 use Rattle.std.proofs.Common.{◌≡◌, ℕ, ◌+◌, ◌<◌, List, ◌∷◌, ◌++◌, [], suc, false, length, ap, sym, ◌∙◌, subst, arith, Option, Err}
-use Rattle.lert_levels.specs.Rows.{AreRows}
+use Rattle.lert_gatelog.specs.Kept.{InEach}
+use Rattle.lert_levels.specs.Rows.{AreRows, HoldsBins}
 use Rattle.lert_spec.specs.declared.numbers.Numbers.{Numbers}
 use Rattle.lert_spec.specs.Edges.{capacity}
 use Rattle.lert_spec.specs.Mix.{cone_of}
 use Rattle.lert_cone.specs.Due.{Dues, started}
 use Rattle.lert_cone.specs.Tally.{Tallied, IsCounted, IsHeld, due_in}
 use Rattle.lert_cone.proofs.TakeLaws.{rows_before, young_now, frames_now, all_long, counted_next, held_next, never_full, err_is}
+use Rattle.lert_cone.proofs.TallyLaws.{frames_more}
 use Rattle.lert_cone.proofs.tally.Tally.take.Goals as goal
 
 pub bring-due-requires-clause-rows : goal.bring-due-requires-clause-rows
@@ -80,3 +82,23 @@ returns-clause-held g c = λ seen told is_held after told_after.
     let took = rw c.in_ok-result.was at (c.bring-due.ensures.totals (c.self.inside.taken ++ c.args.key ∷ []) long young seen told frames) in
     let stay = rw c.in_ok-result.was at (c.bring-due.ensures.holds (c.self.inside.taken ++ c.args.key ∷ []) long young seen told frames) in
     held_next t c.self.inside.levels.settings c.self.invariant.levels_settings c.self.invariant.valid c.self.invariant.named c.self.invariant.young_settings counted fits c.args.key c.tail_of-tail.result (c.self.inside.len + 1) c.tail_of-tail.ensures.value m_is c.add.new.self c.add.ensures c.ranges.key.fits own c.begin.new.self c.bring-due.result.0 start_is still seen held took c.bring-due.new.zero c.bring-due.new.levels.rows (record { listing = record { settings = c.self.inside.settings; cone = c.self.inside.cone; events = c.push.new.self; closed = c.self.inside.closed }; young = c.bring-due.new.zero; rows = c.bring-due.new.levels.rows; due = c.bring-due.result.0 }) after (ap (λ (keys : List ℕ). record { listing = record { settings = c.self.inside.settings; cone = c.self.inside.cone; events = keys; closed = c.self.inside.closed }; young = c.bring-due.new.zero; rows = c.bring-due.new.levels.rows; due = c.bring-due.result.0 }) c.push.ensures) (sym c.is_full-is_full.ensures ∙ c.if-is_full.false) (stay after told_after)
+
+pub returns-clause-images : goal.returns-clause-images
+returns-clause-images g c = λ seen told is_held each after told_after.
+    let t : Tallied = record { listing = record { settings = c.self.inside.settings; cone = c.self.inside.cone; events = c.self.inside.taken; closed = c.self.inside.closed }; young = c.self.inside.zero; rows = c.self.inside.levels.rows; due = due_in c.self.inside.due } in
+    let counted : IsCounted t = subst (λ (v : Tallied). IsCounted v) (sym c.self.view_is) c.requires.counted in
+    let fits : length c.self.inside.taken < capacity c.self.inside.settings = subst (λ (v : Tallied). length v.listing.events < capacity v.listing.settings) (sym c.self.view_is) c.requires.fits in
+    let m_is : c.self.inside.len + 1 ≡ suc (length c.self.inside.taken) = omega (arith, c.self.invariant.len_is) in
+    let own : cone_of c.self.inside.settings c.args.key ≡ c.self.inside.cone = subst (λ (v : Tallied). cone_of v.listing.settings c.args.key ≡ v.listing.cone) (sym c.self.view_is) c.requires.own in
+    let still : c.self.inside.closed ≡ false = subst (λ (v : Tallied). v.listing.closed ≡ false) (sym c.self.view_is) c.requires.still in
+    let start_is : c.begin.new.self ≡ started (due_in c.self.inside.due) (c.self.inside.len + 1) = c.begin.ensures.begun ∙ ap (λ (d : Option Dues). started (due_in d) (c.self.inside.len + 1)) (sym c.in-Some.is ∙ c.take.ensures.value) in
+    let held : IsHeld t seen = subst (λ (v : Tallied). IsHeld v seen) (sym c.self.view_is) is_held in
+    let young = young_now t c.self.inside.levels.settings c.self.invariant.levels_settings c.self.invariant.valid c.self.invariant.named c.self.invariant.young_settings counted fits c.args.key c.tail_of-tail.result (c.self.inside.len + 1) c.tail_of-tail.ensures.value m_is c.add.new.self c.add.ensures in
+    let frames = frames_now t c.self.inside.levels.settings c.self.invariant.levels_settings c.self.invariant.valid c.self.invariant.named c.self.invariant.young_settings counted fits c.args.key c.tail_of-tail.result (c.self.inside.len + 1) c.tail_of-tail.ensures.value m_is c.add.new.self c.add.ensures seen held in
+    let long = all_long t c.self.inside.levels.settings c.self.invariant.levels_settings c.self.invariant.valid c.self.invariant.named c.self.invariant.young_settings counted fits c.args.key c.tail_of-tail.result (c.self.inside.len + 1) c.tail_of-tail.ensures.value m_is c.add.new.self c.add.ensures in
+    let each_here : InEach (g.B.Bay.leaves c.args.bay.now) 2 (HoldsBins t.listing.settings t.listing.events t.rows) = subst (λ (v : Tallied). InEach (g.B.Bay.leaves c.args.bay.now) 2 (HoldsBins v.listing.settings v.listing.events v.rows)) (sym c.self.view_is) each in
+    let each_now : InEach (g.B.Bay.leaves c.args.bay.now) 2 (HoldsBins c.self.inside.levels.settings (c.self.inside.taken ++ c.args.key ∷ []) c.self.inside.levels.rows) =
+    λ image may. subst (λ (v : Numbers). HoldsBins v (c.self.inside.taken ++ c.args.key ∷ []) c.self.inside.levels.rows (image 2)) (sym c.self.invariant.levels_settings) (frames_more c.self.inside.settings c.self.invariant.valid c.self.inside.taken (c.args.key ∷ []) c.self.inside.levels.rows (image 2) counted.rows (each_here image may)) in
+    let stay = rw c.in_ok-result.was at (c.bring-due.ensures.images (c.self.inside.taken ++ c.args.key ∷ []) long young seen told frames each_now) in
+    subst (λ (keys : List ℕ). InEach (g.B.Bay.leaves c.bring-due.new.bay) 2 (HoldsBins c.self.inside.settings keys c.bring-due.new.levels.rows)) (sym c.push.ensures)
+    (subst (λ (v : Numbers). InEach (g.B.Bay.leaves c.bring-due.new.bay) 2 (HoldsBins v (c.self.inside.taken ++ c.args.key ∷ []) c.bring-due.new.levels.rows)) c.self.invariant.levels_settings (stay after told_after))
