@@ -1,4 +1,4 @@
--- The frames of the rows hold the bins of the last flush exactly where they hold those of all events so far.
+-- Since the last flush no bin of an older level changed.
 use Rattle.std.proofs.Common.{ℕ, zero, suc, ◌≡◌, ◌+◌, ◌-◌, ◌≤◌, cond, List, [], ◌∷◌, ◌++◌, length, take, get_or, map, All, refl, ap, sym, ◌∙◌, arith, inl, inr, subst, slice_range}
 use Rattle.std.proofs.lemmas.Bool.{cases_eq, eq-eqb, ne_eqb}
 use Rattle.std.proofs.lemmas.List.{take_more, length-take, take_all}
@@ -14,7 +14,7 @@ use Rattle.lert_spec.specs.Edges.{edge}
 use Rattle.lert_spec.specs.Limits.{IsValid}
 use Rattle.lert_spec.proofs.BinLaws.{bins-still}
 use Rattle.lert_spec.proofs.EdgeLaws.{moves_together}
-use Rattle.lert_cone.specs.Framed.{last_flush, flushed, HoldEach, AreFramed}
+use Rattle.lert_cone.specs.Framed.{last_flush, flushed}
 
 module _ (s : Numbers) (valid : IsValid s) where
   base : 1 ≤ s.base
@@ -46,33 +46,5 @@ module _ (s : Numbers) (valid : IsValid s) where
           | inr moves ↦ ap (λ t. bins s (take (cond t (last_flush s n) (suc n)) events) level) (ne_eqb (edge s 0 (suc n)) (edge s 0 n) moves)
         ]
 
-    flushed_bins : bins s (flushed s events) level ≡ bins s events level
+    pub flushed_bins : bins s (flushed s events) level ≡ bins s events level
     flushed_bins = bins_since (length events) (omega arith) ∙ ap (λ keys. bins s keys level) (take_all (length events) events (omega arith))
-
-  -- a level's row, whose frames hold what its bins say
-  to_each : (events file : List ℕ) (level : ℕ) (row : List BinAt) → All (λ bin. HoldsFrame (frame_place s level bin.frame) file (tallied s (slice_range events bin.from bin.to))) row →
-      HoldEach s level file row (map (filled s events) (map range_of row))
-  to_each events file level [] holds = tt
-  to_each events file level (bin ∷ row) holds =
-      (refl, refl, holds 0 bin (omega arith), to_each events file level row (λ k d within. holds (suc k) d (omega (arith, within))))
-
-  from_each : (events file : List ℕ) (level : ℕ) (row : List BinAt) → HoldEach s level file row (map (filled s events) (map range_of row)) →
-      All (λ bin. HoldsFrame (frame_place s level bin.frame) file (tallied s (slice_range events bin.from bin.to))) row
-  from_each events file level [] holds k d within = absurd (omega arith)
-  from_each events file level (bin ∷ row) holds zero d within = holds.2
-  from_each events file level (bin ∷ row) holds (suc k) d within = from_each events file level row holds.3 k d (omega (arith, within))
-
-  module _ (events : List ℕ) (rows : List (List BinAt)) (file : List ℕ) (at : IsAt s (length events) rows) where
-    row_bins : (level : ℕ) → 1 ≤ level → level ≤ s.levels → map (filled s events) (map range_of (row_of rows level)) ≡ bins s (flushed s events) level
-    row_bins level first last = ap (map (filled s events)) (at.each level first last) ∙ sym (bins-ranges s events level) ∙ sym (flushed_bins events level)
-
-    pub framed : HoldsBins s events rows file → AreFramed s events rows file
-    framed holds = record {
-      each = λ level first last.
-          subst (λ (bs : List Bin). HoldEach s level file (row_of rows level) bs) (row_bins level first last) (to_each events file level (row_of rows level) (holds level first last));
-    }
-
-    pub framed_back : AreFramed s events rows file → HoldsBins s events rows file
-    framed_back held level first last =
-        from_each events file level (row_of rows level)
-        (subst (λ (bs : List Bin). HoldEach s level file (row_of rows level) bs) (sym (row_bins level first last)) (held.each level first last))

@@ -17,7 +17,10 @@ use Rattle.lert_journal.specs.Payload.{payload_of, IsJournaled}
 use Rattle.lert_journal.proofs.PayloadLaws.{length_payload}
 use Rattle.lert_spec.specs.declared.numbers.Numbers.{Numbers}
 use Rattle.lert_cone.specs.History.{end_of}
-use Rattle.lert_cone.specs.Sound.{IsSound, IsKeptWhole, log_text}
+use Rattle.lert_cone.specs.InStep.{AreNew}
+use Rattle.lert_cone.specs.Sound.{IsJournal}
+use Rattle.lert_reports.specs.Log.{HasLog, log_header}
+use Rattle.lert_reports.proofs.LogLaws.{records_none}
 
 -- ---- told files
 
@@ -70,9 +73,16 @@ pub record IsBegun (head : List ℕ) (leaves_one leaves since : Files → Type 0
   pub others : KeepsOthers leaves_one since seen_one 1
   pub now : (image : Files) → leaves image → since image
   pub stay : OthersStay 1 seen_one seen
-  pub log : InEach leaves 1 (λ bytes. bytes ≡ log_text)
+  pub log : InEach leaves 1 (λ bytes. bytes ≡ log_header ++ 0 ∷ [])
   pub log_settled : IsWhollySettled leaves seen 1
-  pub as_read : leaves seen
+
+-- a log's header and a closed gate are a log without a record
+log_none : (s : Numbers) (cone : ℕ) → HasLog s cone (log_header ++ 0 ∷ []) [] 8
+log_none s cone = record {
+  headed = refl;
+  records_stand = record { records = refl; closed = record { within = omega arith; shut = λ one. absurd (omega (arith, one)) } };
+  rules = records_none s cone;
+}
 
 module _ (s : Numbers) (cone : ℕ) (leaves_one leaves since : Files → Type 0) (seen_one seen : Files) (long : length (header s cone) ≡ 32)
     (begun : IsBegun (header s cone) leaves_one leaves since seen_one seen) where
@@ -89,25 +99,22 @@ module _ (s : Numbers) (cone : ℕ) (leaves_one leaves since : Files → Type 0)
   front : (image : Files) → leaves image → part (image 0) 0 33 ≡ header s cone ++ 0 ∷ []
   front image may = keeps image may ∙ (take_all 33 (seen_one 0) (omega (arith, first_long)) ∙ first_text)
 
-  pub begun_closed : (image : Files) → leaves image → IsClosed (image 0) 32
-  begun_closed image may = (begins (header s cone) (image 0) long (front image may)).1
-
-  pub begun_sound : (image : Files) → leaves image → IsSound s cone [] image
-  begun_sound image may = record {
+  begun_journal : InEach leaves 0 (IsJournal s cone [])
+  begun_journal image may = record {
     headed = (begins (header s cone) (image 0) long (front image may)).0;
-    records = record { records = refl; closed = begun_closed image may };
+    records = record { records = refl; closed = (begins (header s cone) (image 0) long (front image may)).1 };
     journaled = All-nil (IsJournaled s cone);
     within = omega arith;
-    log = ap (λ bytes. part bytes 0 9) (begun.log image may);
   }
 
-  pub begun_whole : IsKeptWhole leaves seen (IsSound s cone [])
-  begun_whole = record {
-    kept = record { as_read = begun_sound seen begun.as_read; images = begun_sound; log_alone = begun.log seen begun.as_read };
-    journal = record {
+  pub begun_new : AreNew s cone leaves seen
+  begun_new = record {
+    journal = begun_journal;
+    log_there = λ image may. subst (λ (bytes : List ℕ). HasLog s cone bytes [] 8) (sym (begun.log image may)) (log_none s cone);
+    journal_settled = record {
       within = omega arith;
       same = λ image may. subst (λ (bytes : List ℕ). part (image 0) 0 (length bytes) ≡ part bytes 0 (length bytes)) (sym (begun.stay 0 (λ same. absurd (omega (arith, same)))))
           (subst (λ (to : ℕ). part (image 0) 0 to ≡ part (seen_one 0) 0 to) (sym first_long) (keeps image may));
     };
-    log = begun.log_settled;
+    log_settled = begun.log_settled;
   }

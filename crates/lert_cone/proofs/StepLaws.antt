@@ -1,0 +1,229 @@
+-- The files of a cone between two calls: when they are sound, and what they keep through calls that leave them alone.
+use Rattle.std.proofs.Common.{◌≡◌, ◌≢◌, ℕ, zero, suc, ◌+◌, ◌-◌, ◌^◌, ◌<◌, ◌≤◌, Bool, true, false, cond, List, [], ◌∷◌, ◌++◌, length, take, drop, get_or, map, Option, Some, All, refl, sym, ap, ◌∙◌, subst, inl, inr, ◌⊎◌, arith, length-append, append-nil, slice_range}
+use Rattle.std.specs.Prelude.{slice_index_or, replicate}
+use Rattle.std.proofs.lemmas.Bool.{cases_Bool, cases_eq, cases_lt, eq-eqb, ne_eqb, false≢true}
+use Rattle.std.proofs.lemmas.List.{take-take, take_all, take-append-le, get_or-map, map-append, length-map, length-take}
+use Rattle.std.proofs.lemmas.List.Elements.{Contains-get_or}
+use Rattle.lert_base.specs.Packet.{Packet, events_of}
+use Rattle.lert_bay.specs.Files.{Files}
+use Rattle.lert_bay.specs.Settled.{part, Keeps, IsSettled}
+use Rattle.lert_frames.specs.Frame.{HoldsFrame, frame_text, text_len}
+use Rattle.lert_frames.specs.Place.{frame_place, frame_len}
+use Rattle.lert_frames.proofs.StoreLaws.{length_frame}
+use Rattle.lert_gatelog.specs.Gated.{IsGated, next_gate}
+use Rattle.lert_gatelog.specs.Kept.{InEach, KeepsOthers, KeepsBefore, IsWhollySettled, IsWithOrWithout}
+use Rattle.lert_gatelog.proofs.GatedLaws.{gated_behind, part_within, records_ascend}
+use Rattle.lert_journal.specs.Payload.{payload_of}
+use Rattle.lert_levels.specs.declared.bin_at.BinAt.{BinAt}
+use Rattle.lert_levels.specs.Flushed.{InNamed}
+use Rattle.lert_levels.specs.Ranges.{Range, filled, ranges}
+use Rattle.lert_levels.specs.Rows.{IsAt, AreRows, HoldsBins, range_of, row_of, tallied_in}
+use Rattle.lert_levels.proofs.RangeLaws.{bins-ranges}
+use Rattle.lert_reports.specs.Log.{HasLog, AreRecords, listed_in, last_n0, last_directory, is_closed, log_header, most_record}
+use Rattle.lert_reports.specs.LogText.{LogRecord, log_payload_of}
+use Rattle.lert_spec.specs.declared.numbers.Numbers.{Numbers}
+use Rattle.lert_spec.specs.declared.piece.Piece.{Piece}
+use Rattle.lert_spec.specs.Bins.{Bin, bins, tallied}
+use Rattle.lert_spec.specs.Edges.{edge, span}
+use Rattle.lert_spec.specs.Limits.{IsValid}
+use Rattle.lert_spec.specs.Look.{look, closing}
+use Rattle.lert_spec.proofs.Tables.{length_le-total}
+use Rattle.lert_spec.proofs.TallyLaws.{IsTable-tallied, total-tallied}
+use Rattle.lert_cone.specs.Framed.{last_flush, flushed}
+use Rattle.lert_cone.specs.History.{most_payload, end_of}
+use Rattle.lert_cone.specs.InStep.{IsInStep, IsPartway}
+use Rattle.lert_cone.specs.Logged.{IsLogOf, frames_of}
+use Rattle.lert_cone.specs.Sound.{IsJournal, IsSound, IsSoundAs, HoldFrames, HoldsDirectory, but_last}
+use Rattle.lert_cone.proofs.FramedLaws.{flushed_bins}
+use Rattle.lert_cone.proofs.LogLaws.{last_flush_within}
+use Rattle.lert_cone.proofs.WroteLaws.{torn_behind}
+
+-- ---- what stays
+
+-- the first bytes of what is the same
+first_same : (image read : List ℕ) (all few : ℕ) → few ≤ all → part image 0 all ≡ part read 0 all → part image 0 few ≡ part read 0 few
+first_same image read all few less same = sym (take-take few all image less) ∙ ap (take few) same ∙ take-take few all read less
+
+pub journal_since : (since : Files → Type 0) (seen : Files) (s : Numbers) (cone : ℕ) (history : List Packet) → IsJournal s cone history (seen 0) → Keeps since seen 0 0 (length (seen 0)) → InEach since 0 (IsJournal s cone history)
+journal_since since seen s cone history journal keeps image may = record {
+  headed = first_same (image 0) (seen 0) (length (seen 0)) 32 (omega (arith, journal.records.closed.within)) (keeps image may) ∙ journal.headed;
+  records = gated_behind (most_payload s) 32 (map payload_of history) (end_of history) (length (image 0)) (seen 0) (image 0) journal.records (torn_behind (seen 0) (image 0) (end_of history + 1) (keeps image may));
+  journaled = journal.journaled;
+  within = journal.within;
+}
+
+-- a log's first gate stands before its closed one
+pub log_reaches : (s : Numbers) (cone : ℕ) (bytes : List ℕ) (logged : List LogRecord) (gate : ℕ) → HasLog s cone bytes logged gate → 8 ≤ gate
+log_reaches s cone bytes logged gate log = records_ascend (most_record s) 8 (map log_payload_of logged) bytes gate log.records_stand.records
+
+pub log_since : (since : Files → Type 0) (seen : Files) (s : Numbers) (cone : ℕ) (logged : List LogRecord) (gate : ℕ) → HasLog s cone (seen 1) logged gate → Keeps since seen 1 0 (length (seen 1)) → InEach since 1 (λ bytes. HasLog s cone bytes logged gate)
+log_since since seen s cone logged gate log keeps image may = record {
+  headed = first_same (image 1) (seen 1) (length (seen 1)) 8 (omega (arith, log.records_stand.closed.within, log_reaches s cone (seen 1) logged gate log)) (keeps image may) ∙ log.headed;
+  records_stand = gated_behind (most_record s) 8 (map log_payload_of logged) gate (length (image 1)) (seen 1) (image 1) log.records_stand (torn_behind (seen 1) (image 1) (gate + 1) (keeps image may));
+  rules = log.rules;
+}
+
+-- the text of a bin's counts fits its place
+text_fits : (s : Numbers) (events : List ℕ) (level : ℕ) (bin : BinAt) → bin.to - bin.from ≤ span s level → text_len (tallied_in s events bin) ≤ frame_len s level
+text_fits s events level bin narrow =
+    let keys = slice_range events bin.from bin.to in
+    omega (arith, length_le-total 0 (2 ^ (64 - s.cone_bits)) (tallied s keys) (IsTable-tallied s keys), total-tallied s keys, length-take (bin.to - bin.from) (drop bin.from events))
+
+-- the frames that rows name hold their bins in each image since, where what is settled in them stays so
+pub frames_since : (leaves since : Files → Type 0) (seen : Files) (s : Numbers) (events : List ℕ) (rows : List (List BinAt)) → AreRows s rows → leaves seen → InEach leaves 2 (HoldsBins s events rows) →
+    ((from to : ℕ) → InNamed s rows from to → IsSettled leaves seen 2 from to → Keeps since seen 2 from to) → InEach since 2 (HoldsBins s events rows)
+frames_since leaves since seen s events rows are read holds keeps image may level first last k d below =
+    let bin = get_or (row_of rows level) k d in
+    let place = frame_place s level bin.frame in
+    let len = text_len (tallied_in s events bin) in
+    let fits = text_fits s events level bin ((are.each level first last).widths k d below) in
+    let here = holds seen read level first last k d below in
+    let long : length (frame_text (tallied_in s events bin)) ≡ len = length_frame (tallied_in s events bin) in
+    keeps place (place + len)
+    (record { level = level; first = first; last = last; bin = bin; named = Contains-get_or (row_of rows level) k d below; above = omega arith; below = omega (arith, fits) })
+    (record {
+      within = part_within (seen 2) (frame_text (tallied_in s events bin)) place (place + len) here (omega (arith, long)) (omega (arith, long));
+      same = λ other left. holds other left level first last k d below ∙ sym here;
+    }) image may
+    ∙ here
+
+-- ---- when they are sound
+
+-- a later event is no earlier flush
+pub last_flush_grows : (s : Numbers) (a b : ℕ) → a ≤ b → last_flush s a ≤ last_flush s b
+last_flush_grows s a zero less = omega (arith, last_flush_within s a, less)
+last_flush_grows s a (suc b) less =
+    elim (cases_lt a (suc b)) [
+      | inr same ↦ (let is : a ≡ suc b = omega (arith, less, same) in omega (arith, ap (last_flush s) is))
+      | inl below ↦ (
+          let rest = last_flush_grows s a b (omega (arith, below)) in
+          elim (cases_eq (edge s 0 (suc b)) (edge s 0 b)) [
+            | inl stays ↦ (let is : last_flush s (suc b) ≡ last_flush s b = ap (λ t. cond t (last_flush s b) (suc b)) (eq-eqb (edge s 0 (suc b)) (edge s 0 b) stays) in omega (arith, is, rest))
+            | inr moves ↦ (let is : last_flush s (suc b) ≡ suc b = ap (λ t. cond t (last_flush s b) (suc b)) (ne_eqb (edge s 0 (suc b)) (edge s 0 b) moves) in omega (arith, is, last_flush_within s a, less))
+          ])
+    ]
+
+-- a level's frames, from what its row's bins say
+to_frames : (s : Numbers) (events file : List ℕ) (level : ℕ) (row : List BinAt) → All (λ bin. HoldsFrame (frame_place s level bin.frame) file (tallied_in s events bin)) row →
+    HoldFrames s level file (map (λ bin. bin.frame) row) (map (filled s events) (map range_of row))
+to_frames s events file level [] holds = tt
+to_frames s events file level (bin ∷ row) holds =
+    (holds 0 bin (omega arith), to_frames s events file level row (λ k d within. holds (suc k) d (omega (arith, within))))
+
+module _ (s : Numbers) (cone : ℕ) (history : List Packet) (events : List ℕ) (rows : List (List BinAt)) (closed : Bool) (logged : List LogRecord) (gate : ℕ)
+    (valid : IsValid s) (at : IsAt s (length events) rows) (partway : IsPartway history events []) (whole : closed ≡ true → events ≡ events_of history) (log_of : IsLogOf s cone events rows closed logged) where
+  -- how many events the last record was written after
+  n0_running : closed ≡ false → last_n0 logged ≡ last_flush s (length events)
+  n0_running running = log_of.n0_is ∙ ap (λ t. cond t (length events) (last_flush s (length events))) running
+
+  n0_closed : closed ≡ true → last_n0 logged ≡ length events
+  n0_closed ended = log_of.n0_is ∙ ap (λ t. cond t (length events) (last_flush s (length events))) ended
+
+  n0_within : last_n0 logged ≤ length events
+  n0_within = elim (cases_Bool closed) [
+    | inl ended ↦ omega (arith, n0_closed ended)
+    | inr running ↦ omega (arith, n0_running running, last_flush_within s (length events))
+  ]
+
+  ahead : events_of history ≡ events ++ partway.rest
+  ahead = partway.is
+
+  long : length events ≤ length (events_of history)
+  long = omega (arith, ap length ahead, length-append events partway.rest)
+
+  firsts : take (last_n0 logged) (events_of history) ≡ take (last_n0 logged) events
+  firsts = ap (take (last_n0 logged)) ahead ∙ take-append-le (last_n0 logged) events partway.rest n0_within
+
+  -- the bins of the older levels are those of all events
+  bins_same : (level : ℕ) → bins s (take (last_n0 logged) events) level ≡ bins s events level
+  bins_same level = elim (cases_Bool closed) [
+    | inl ended ↦ ap (λ keys. bins s keys level) (take_all (last_n0 logged) events (omega (arith, n0_closed ended)))
+    | inr running ↦ ap (λ n. bins s (take n events) level) (n0_running running) ∙ flushed_bins s valid events level
+  ]
+
+  row_bins : (level : ℕ) → 1 ≤ level → level ≤ s.levels → map (filled s events) (map range_of (row_of rows level)) ≡ bins s (take (last_n0 logged) (events_of history)) level
+  row_bins level first last = ap (map (filled s events)) (at.each level first last) ∙ sym (bins-ranges s events level) ∙ sym (bins_same level) ∙ ap (λ keys. bins s keys level) (sym firsts)
+
+  row_frames : (level : ℕ) → 1 ≤ level → level ≤ s.levels → map (λ (bin : BinAt). bin.frame) (row_of rows level) ≡ slice_index_or (last_directory s logged) (level - 1) []
+  row_frames level first last =
+      sym (get_or-map (λ (row : List BinAt). map (λ (bin : BinAt). bin.frame) row) rows (level - 1) [] [] (omega (arith, at.levels, first, last)))
+      ∙ ap (λ (directory : List (List ℕ)). get_or directory (level - 1) []) (sym log_of.directory_is)
+
+  directory : (file : List ℕ) → HoldsBins s events rows file → HoldsDirectory s (take (last_n0 logged) (events_of history)) (last_directory s logged) file
+  directory file holds = record {
+    each = λ level first last.
+        subst (λ (frames : List ℕ). HoldFrames s level file frames (bins s (take (last_n0 logged) (events_of history)) level)) (row_frames level first last)
+        (subst (λ (bs : List Bin). HoldFrames s level file (map (λ (bin : BinAt). bin.frame) (row_of rows level)) bs) (row_bins level first last)
+        (to_frames s events file level (row_of rows level) (holds level first last)));
+  }
+
+  -- the reports
+  reports_there : listed_in logged ≡ cond (is_closed logged) (closing s (events_of history)) (look s (take (last_n0 logged) (events_of history)))
+  reports_there =
+      log_of.reports_are
+      ∙ elim (cases_Bool closed) [
+        | inl ended ↦
+            ap (λ t. cond t (closing s events) (look s (flushed s events))) ended ∙ ap (closing s) (whole ended)
+            ∙ sym (ap (λ t. cond t (closing s (events_of history)) (look s (take (last_n0 logged) (events_of history)))) (log_of.closed_is ∙ ended))
+        | inr running ↦
+            ap (λ t. cond t (closing s events) (look s (flushed s events))) running
+            ∙ ap (look s) (ap (λ n. take n events) (sym (n0_running running)) ∙ sym firsts)
+            ∙ sym (ap (λ t. cond t (closing s (events_of history)) (look s (take (last_n0 logged) (events_of history)))) (log_of.closed_is ∙ running))
+      ]
+
+  least : last_flush s (length (events_of (but_last history))) ≤ last_n0 logged
+  least = elim (cases_Bool closed) [
+    | inl ended ↦ omega (arith, n0_closed ended, partway.late, last_flush_within s (length (events_of (but_last history))))
+    | inr running ↦ omega (arith, n0_running running, last_flush_grows s (length (events_of (but_last history))) (length events) partway.late)
+  ]
+
+  pub sound_of : (files : Files) → IsJournal s cone history (files 0) → HasLog s cone (files 1) logged gate → HoldsBins s events rows (files 2) → IsSound s cone history files
+  sound_of files journal log holds = record {
+    journal = journal;
+    logged = logged;
+    log_end = gate;
+    log = log;
+    n0_most = omega (arith, n0_within, long);
+    n0_least = least;
+    frames = directory (files 2) holds;
+    reports_are = reports_there;
+    closed_behind = λ ended. n0_closed (sym log_of.closed_is ∙ ended) ∙ ap length (whole (sym log_of.closed_is ∙ ended));
+  }
+
+  pub sound_as : events ≡ events_of history → (files : Files) → IsJournal s cone history (files 0) → HasLog s cone (files 1) logged gate → HoldsBins s events rows (files 2) → IsSoundAs s cone closed history files
+  unfolding sound_of
+  sound_as all files journal log holds = record {
+    sound = sound_of files journal log holds;
+    closed_is = log_of.closed_is;
+    n0_is = log_of.n0_is ∙ ap (λ (keys : List ℕ). cond closed (length keys) (last_flush s (length keys))) all;
+  }
+
+-- ---- one record more
+
+-- behind a closed gate stands a record, or it doesn't
+pub with_or_without : (s : Numbers) (cone : ℕ) (logged : List LogRecord) (one : LogRecord) (gate : ℕ) (payload bytes : List ℕ) → payload ≡ log_payload_of one → AreRecords s cone logged → AreRecords s cone (logged ++ one ∷ []) →
+    part bytes 0 8 ≡ log_header → IsWithOrWithout (most_record s) 8 (map log_payload_of logged) gate payload bytes →
+    HasLog s cone bytes logged gate ⊎ HasLog s cone bytes (logged ++ one ∷ []) (next_gate gate payload)
+with_or_without s cone logged one gate payload bytes is rules more headed (inl without) = inl (record { headed = headed; records_stand = without; rules = rules })
+with_or_without s cone logged one gate payload bytes is rules more headed (inr with_it) =
+    inr (record { headed = headed; records_stand = subst (λ (payloads : List (List ℕ)). IsGated (most_record s) bytes 8 payloads (next_gate gate payload)) (pushed logged one payload is) with_it; rules = more })
+  where
+    pushed : (logged : List LogRecord) (one : LogRecord) (payload : List ℕ) → payload ≡ log_payload_of one → map log_payload_of logged ++ payload ∷ [] ≡ map log_payload_of (logged ++ one ∷ [])
+    pushed logged one payload is = ap (λ p. map log_payload_of logged ++ p ∷ []) is ∙ sym (map-append log_payload_of logged (one ∷ []))
+
+-- with it
+pub with_record : (s : Numbers) (cone : ℕ) (logged : List LogRecord) (one : LogRecord) (gate : ℕ) (payload bytes : List ℕ) → payload ≡ log_payload_of one → AreRecords s cone (logged ++ one ∷ []) →
+    part bytes 0 8 ≡ log_header → IsGated (most_record s) bytes 8 (map log_payload_of logged ++ payload ∷ []) gate → HasLog s cone bytes (logged ++ one ∷ []) gate
+with_record s cone logged one gate payload bytes is more headed stands = record {
+  headed = headed;
+  records_stand = subst (λ (payloads : List (List ℕ)). IsGated (most_record s) bytes 8 payloads gate) (ap (λ p. map log_payload_of logged ++ p ∷ []) is ∙ sym (map-append log_payload_of logged (one ∷ []))) stands;
+  rules = more;
+}
+
+-- the header of a log stays, where what is settled before its gate does
+pub header_since : (leaves since : Files → Type 0) (seen : Files) (s : Numbers) (cone : ℕ) (logged : List LogRecord) (gate : ℕ) → leaves seen → InEach leaves 1 (λ bytes. HasLog s cone bytes logged gate) → KeepsBefore leaves since seen 1 gate →
+    (image : Files) → since image → part (image 1) 0 8 ≡ log_header
+header_since leaves since seen s cone logged gate read log keeps image may =
+    let here = log seen read in
+    let reaches = log_reaches s cone (seen 1) logged gate here in
+    keeps 0 8 reaches (record { within = omega (arith, reaches, here.records_stand.closed.within); same = λ other left. (log other left).headed ∙ sym here.headed }) image may ∙ here.headed
