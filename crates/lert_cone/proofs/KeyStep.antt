@@ -1,7 +1,7 @@
 -- A key and the end through the calls that they make: the files stay sound, and go together with memory again.
-use Rattle.std.proofs.Common.{◌≡◌, ◌≢◌, ℕ, suc, ◌+◌, ◌-◌, ◌<◌, ◌≤◌, Bool, true, false, cond, List, [], ◌∷◌, ◌++◌, length, take, drop, map, Option, Some, refl, sym, ap, ◌∙◌, subst, inl, inr, ◌⊎◌, arith, length-append, append-nil, append_assoc}
+use Rattle.std.proofs.Common.{◌≡◌, ◌≢◌, ℕ, suc, ◌+◌, ◌-◌, ◌<◌, ◌≤◌, Bool, true, false, cond, List, [], ◌∷◌, ◌++◌, length, take, drop, get_or, map, Option, Some, refl, sym, ap, ◌∙◌, subst, inl, inr, ◌⊎◌, arith, length-append, append-nil, append_assoc}
 use Rattle.std.proofs.lemmas.Bool.{false≢true, ne_eqb}
-use Rattle.std.proofs.lemmas.List.{take_all}
+use Rattle.std.proofs.lemmas.List.{take_all, take_more, take-append-drop}
 use Rattle.lert_base.specs.Packet.{Packet, events_of}
 use Rattle.lert_bay.specs.Files.{Files}
 use Rattle.lert_bay.specs.Settled.{part, Keeps, IsSettled}
@@ -274,3 +274,30 @@ module _ (files_before files_after : Option Files) (leaves leaves_after : Files 
     frames = frames;
     reports_are = reports;
   }
+
+-- ---- keys in turn
+
+-- the next of some keys
+pub partway_step : (history : List Packet) (events keys : List ℕ) (i : ℕ) → i < length keys → IsPartway history events keys → IsPartway history (events ++ take i keys) (get_or keys i 0 ∷ [])
+partway_step history events keys i within partway =
+    let key = get_or keys i 0 in
+    let split : keys ≡ (take i keys ++ key ∷ []) ++ drop (i + 1) keys = sym (take-append-drop (i + 1) keys) ∙ ap (λ front. front ++ drop (i + 1) keys) (take_more keys i 0 within) in
+    record {
+      rest = drop (i + 1) keys ++ partway.rest;
+      is = partway.is
+          ∙ ap (λ ks. events ++ (ks ++ partway.rest)) split
+          ∙ ap (λ ks. events ++ ks) (append_assoc (take i keys ++ key ∷ []) (drop (i + 1) keys) partway.rest ∙ append_assoc (take i keys) (key ∷ []) (drop (i + 1) keys ++ partway.rest))
+          ∙ sym (append_assoc events (take i keys) (key ∷ (drop (i + 1) keys ++ partway.rest)));
+      late = omega (arith, partway.late, length-append events (take i keys));
+    }
+
+-- what goes together with memory is sound
+pub sound_now : (leaves : Files → Type 0) (seen : Files) (history : List Packet) (t : Tallied) (log : LogPlace) (more : List ℕ) → IsCounted t → t.listing.closed ≡ false → IsInStep leaves seen history t.listing t.rows t.due.reports log →
+    IsPartway history t.listing.events more → (image : Files) → leaves image → IsSound t.listing.settings t.listing.cone history image
+sound_now leaves seen history t log more counted still up partway image may =
+    sound_of t.listing.settings t.listing.cone history t.listing.events t.rows t.listing.closed up.logged log.gate counted.valid counted.rows (partway_less history t.listing.events more partway)
+    (λ ended. absurd (false≢true (sym still ∙ ended))) up.log_of image (up.journal image may) (up.log_there image may) (up.frames image may)
+
+-- in each image of each moment of a key behind others: either it was left before, or since the key began
+pub sound_behind : (listing first : Listing) (history : List Packet) (image : Files) → listing.settings ≡ first.settings → listing.cone ≡ first.cone → IsSound listing.settings listing.cone history image → IsSound first.settings first.cone history image
+sound_behind listing first history image settings cone sound = subst (λ n. IsSound first.settings n history image) cone (subst (λ (s : Numbers). IsSound s listing.cone history image) settings sound)

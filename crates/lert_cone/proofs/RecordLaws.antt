@@ -1,14 +1,23 @@
 -- The text of a record, as it is appended.
-use Rattle.std.proofs.Common.{◌≡◌, ℕ, ◌+◌, ◌-◌, ◌*◌, ◌≤◌, List, [], ◌∷◌, ◌++◌, length, take, drop, refl, sym, ap, ◌∙◌, arith, length-drop, length-append}
+use Rattle.std.proofs.Common.{◌≡◌, ℕ, ◌+◌, ◌-◌, ◌*◌, ◌<◌, ◌≤◌, List, [], ◌∷◌, ◌++◌, length, take, drop, get_or, All, refl, sym, ap, ◌∙◌, arith, length-drop, length-append}
 use Rattle.std.specs.Prelude.{flat_map}
-use Rattle.std.proofs.lemmas.List.{take_all}
-use Rattle.std.proofs.lemmas.Grind.{flat_map-append}
+use Rattle.std.proofs.lemmas.List.{take_all, get_or_default}
+use Rattle.std.proofs.lemmas.Nat.{mul-le}
 use Rattle.byteorder.specs.Endian.{little_bytes}
 use Rattle.lert_gatelog.specs.Gated.{appendix, IsAppendix}
 use Rattle.lert_gatelog.proofs.GatedLaws.{length_appendix}
+use Rattle.lert_levels.specs.declared.bin_at.BinAt.{BinAt}
+use Rattle.lert_levels.specs.Rows.{AreRows, row_of, directory_text}
+use Rattle.lert_levels.proofs.LevelLaws.{directory_short}
 use Rattle.lert_reports.specs.declared.log.LogKind.{LogKind}
 use Rattle.lert_reports.specs.LogText.{log_payload, kind_number, report_bytes}
+use Rattle.lert_reports.specs.Log.{most_record}
+use Rattle.lert_spec.specs.declared.numbers.Numbers.{Numbers}
+use Rattle.lert_spec.specs.Limits.{IsValid}
 use Rattle.lert_spec.specs.declared.report.Report.{Report}
+use Rattle.lert_cone.specs.InStep.{IsLogging}
+use Rattle.lert_cone.specs.Listing.{Listing}
+use Rattle.lert_cone.specs.Tally.{Tallied}
 use Rattle.lert_cone.specs.Record.{LogPlace, payload_at, payload_len}
 
 pub payload_is_at : (log : LogPlace) (kind : LogKind) (n0 : ℕ) (directory : List ℕ) (reports : List Report) → log_payload kind n0 32 1 directory (drop log.named reports) ≡ payload_at log kind n0 directory reports
@@ -57,3 +66,36 @@ module _ (log : LogPlace) (kind : LogKind) (n0 : ℕ) (directory : List ℕ) (re
     some = omega (arith, payload_long log kind n0 directory reports);
     fits = omega (arith, payload_long log kind n0 directory reports, fits);
   }
+
+-- ---- a record fits a log
+
+-- the directory of rows
+pub directory_few : (s : Numbers) (rows : List (List BinAt)) → AreRows s rows → length (directory_text rows) ≤ s.levels * (1 + s.bins)
+directory_few s rows are =
+    let few : All (λ row. length row ≤ s.bins) rows =
+    λ k d below. (
+    let place : k + 1 - 1 ≡ k = omega arith in
+    let is : row_of rows (k + 1) ≡ get_or rows k d = ap (λ n. get_or rows n []) place ∙ get_or_default rows k [] d below in
+    omega (arith, (are.each (k + 1) (omega arith) (omega (arith, are.levels, below))).few, ap (length {A = BinAt}) is)) in
+    omega (arith, directory_short s.bins rows few, ap (λ n. n * (1 + s.bins)) are.levels)
+
+pub record_fits : (s : Numbers) (rows : List (List BinAt)) (log : LogPlace) (directory : List ℕ) (reports all : List Report) → AreRows s rows → log.most ≡ most_record s → directory ≡ directory_text rows → reports ≡ all → length all ≤ s.room →
+    payload_len log directory reports ≤ log.most
+record_fits s rows log directory reports all are most_is directory_is reports_are few =
+    omega (arith, most_is, ap (length {A = ℕ}) directory_is, directory_few s rows are, ap (length {A = Report}) reports_are, few, length-drop log.named reports)
+
+-- no payload is long
+pub most_few : (s : Numbers) → IsValid s → most_record s ≤ 67109029
+most_few s valid =
+    let product = mul-le s.levels (1 + s.bins) 8 17 valid.limits.levels_to (omega (arith, valid.limits.bins_to)) in
+    omega (arith, product, valid.limits.room_to)
+
+-- and a record more leaves a log in its bounds
+pub logging_more : (t a : Tallied) (log log_after : LogPlace) (room room_after : ℕ) (key : ℕ) (directory : List ℕ) (reports : List Report) → IsValid t.listing.settings → IsLogging t log room → a.listing ≡ record t.listing { events = t.listing.events ++ key ∷ [] } →
+    log_after.most ≡ log.most → log_after.named ≡ length a.due.reports → log_after.gate ≡ log.gate + 5 + payload_len log directory reports → payload_len log directory reports ≤ log.most → room_after ≡ room → IsLogging a log_after room_after
+logging_more t a log log_after room room_after key directory reports valid logging is most_is named_is gate_is fits room_is = record {
+  most = most_is ∙ logging.most ∙ ap (λ (l : Listing). most_record l.settings) (sym is);
+  named = omega (arith, named_is);
+  near = omega (arith, gate_is, fits, logging.near, logging.most, most_few t.listing.settings valid, ap (λ (l : Listing). length l.events) is, length-append t.listing.events (key ∷ []));
+  roomy = omega (arith, most_is, room_is, logging.roomy);
+}
