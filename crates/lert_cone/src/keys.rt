@@ -45,7 +45,7 @@ pub fn take_keys<B: Bay, T: CountTable>(
     ensures each_moment { IfTold (B.files bay.old) (λ seen. (history : List Packet) → IsPartway history tally.old.listing.events keys.now →
         IsInStep (B.leaves bay.old) seen history tally.old.listing tally.old.rows tally.old.due.reports log.old →
         (image : Files) → B.left_since bay.new (B.moment bay.old) image → IsSound tally.old.listing.settings tally.old.listing.cone history image) }
-    ensures sound { IfTold (B.files bay.old) (λ seen. (history : List Packet) →
+    ensures sound { IfTold (B.files bay.old) (λ seen. (history : List Packet) → IsPartway history tally.old.listing.events keys.now →
         IsInStep (B.leaves bay.old) seen history tally.old.listing tally.old.rows tally.old.due.reports log.old →
         (file at : ℕ) → result ≢ Err (TakeFault.Unsound file at)) }
     ensures journal { LeavesFile 0 (B.files bay.old) (B.files bay.new) (B.leaves bay.old) (B.leaves bay.new) (B.moment bay.old) (B.moment bay.new) (B.left_since bay.old) (B.left_since bay.new) }

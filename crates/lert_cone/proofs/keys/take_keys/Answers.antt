@@ -1,7 +1,9 @@
-use Rattle.std.proofs.Common.{◌≡◌, ◌∙◌, ◌<◌, ◌++◌, ◌∷◌, [], ℕ, List, length, take, get_or, ap, sym, subst, inl, inr, arith, append_assoc}
+use Rattle.std.proofs.Common.{◌≡◌, ◌∙◌, ◌<◌, ◌++◌, ◌∷◌, [], ℕ, List, length, take, get_or, ap, sym, subst, inl, inr, arith, append_assoc, append-nil, refl}
 use Rattle.std.proofs.lemmas.List.{take_more}
 use Rattle.lert_base.specs.Packet.{Packet}
-use Rattle.lert_cone.specs.InStep.{IsPartway}
+use Rattle.std.proofs.lemmas.Option.{same_Some}
+use Rattle.lert_bay.specs.Files.{Files}
+use Rattle.lert_cone.specs.InStep.{IsInStep, IsPartway}
 use Rattle.lert_cone.specs.Listing.{Listing}
 use Rattle.lert_cone.proofs.KeyStep.{partway_step, sound_now, sound_behind}
 use Rattle.lert_cone.proofs.TakeLaws.{handed_on}
@@ -19,13 +21,29 @@ returns-in_err-take_key-clause-each_moment g c = λ seen told history partway up
     ])
 
 pub returns-in_err-take_key-clause-sound : goal.returns-in_err-take_key-clause-sound
-returns-in_err-take_key-clause-sound g c = ?
+returns-in_err-take_key-clause-sound g c = λ seen told history partway up file at same.
+    (let mid = c.loop-key.invariant.journal.seen.told seen told in
+    let fine = c.take_key.ensures.sound mid.0 mid.1 history (c.loop-key.invariant.in_step seen told history partway up mid.0 mid.1) file at in
+    fine (c.in_err-take_key.was ∙ handed_on c.from_residual.result c.in_err-take_key.field-0.0 c.from_residual.ensures.1 ∙ same))
 
 pub returns-in_err-take_key-clause-journal : goal.returns-in_err-take_key-clause-journal
 returns-in_err-take_key-clause-journal g c = (leaves_on 0 (g.B.Bay.files c.args.bay.now) (g.B.Bay.files c.loop-key.bay) (g.B.Bay.files c.take_key.new.bay) (g.B.Bay.leaves c.args.bay.now) (g.B.Bay.leaves c.loop-key.bay) (g.B.Bay.leaves c.take_key.new.bay) (g.B.Bay.moment c.args.bay.now) (g.B.Bay.moment c.loop-key.bay) (g.B.Bay.moment c.take_key.new.bay) (g.B.Bay.left_since c.args.bay.now) (g.B.Bay.left_since c.loop-key.bay) (g.B.Bay.left_since c.take_key.new.bay) c.loop-key.invariant.journal c.take_key.ensures.journal (g.met.B.Bay.since_earlier c.take_key.new.bay))
 
 pub loop-key-init : goal.loop-key-init
-loop-key-init g c = ?
+loop-key-init g c = record {
+  taken = ap (λ (keys : List ℕ). record { settings = c.args.tally.now.listing.settings; cone = c.args.tally.now.listing.cone; events = keys; closed = c.args.tally.now.listing.closed }) (sym (append-nil c.args.tally.now.listing.events));
+  counted = c.requires.counted;
+  logging = c.requires.logging;
+  log_shut = c.requires.log_shut;
+  in_step = λ seen told history partway up after told_after.
+      subst (λ (files : Files). IsInStep (g.B.Bay.leaves c.args.bay.now) files history c.args.tally.now.listing c.args.tally.now.rows c.args.tally.now.due.reports c.args.log.now) (same_Some seen after (sym told ∙ told_after)) up;
+  each_moment = λ seen told history partway up image may.
+      sound_now (g.B.Bay.leaves c.args.bay.now) seen history c.args.tally.now c.args.log.now c.args.keys.now c.requires.counted c.requires.still up partway image (g.met.B.Bay.only_now c.args.bay.now image may);
+  journal = leaves_none 0 (g.B.Bay.files c.args.bay.now) (g.B.Bay.leaves c.args.bay.now) (g.B.Bay.moment c.args.bay.now) (g.B.Bay.left_since c.args.bay.now) (g.met.B.Bay.only_now c.args.bay.now) (g.met.B.Bay.since_now c.args.bay.now);
+  most = refl;
+  never_falls = omega arith;
+  mark = refl;
+}
 
 pub loop-key-preserved : goal.loop-key-preserved
 loop-key-preserved g c =
