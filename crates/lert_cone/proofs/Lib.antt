@@ -1,4 +1,5 @@
 pub mod DueLaws
+pub mod EndStep
 mod Examples
 pub mod FramedLaws
 pub mod KeyLemmas

@@ -1,0 +1,139 @@
+-- The end of a cone through the scan and the closing record.
+use Rattle.std.proofs.Common.{◌≡◌, ℕ, ◌+◌, ◌-◌, ◌<◌, ◌≤◌, Bool, true, false, cond, List, [], ◌∷◌, ◌++◌, length, map, Option, Some, refl, sym, ap, ◌∙◌, subst, inl, inr, arith, append-nil, take, drop, length-append}
+use Rattle.std.proofs.lemmas.Bool.{false≢true}
+use Rattle.std.proofs.lemmas.Grind.{flat_map-append}
+use Rattle.std.proofs.lemmas.List.{take-append-drop}
+use Rattle.lert_base.specs.Packet.{Packet, events_of}
+use Rattle.lert_bay.specs.Files.{Files}
+use Rattle.lert_gatelog.specs.Gated.{IsGated, next_gate}
+use Rattle.lert_gatelog.specs.Kept.{InEach, KeepsOthers, KeepsBefore, IsWhollySettled, IsWithOrWithout}
+use Rattle.lert_levels.specs.declared.bin_at.BinAt.{BinAt}
+use Rattle.lert_levels.specs.Rows.{IsAt, AreRows, HoldsBins, directory_text}
+use Rattle.lert_reports.specs.declared.log.LogKind.{LogKind}
+use Rattle.lert_reports.specs.Log.{HasLog, listed_in, most_record}
+use Rattle.lert_reports.specs.LogText.{LogRecord, log_payload_of}
+use Rattle.lert_spec.specs.declared.numbers.Numbers.{Numbers}
+use Rattle.lert_spec.specs.Look.{look, closing}
+use Rattle.lert_cone.specs.Framed.{flushed}
+use Rattle.lert_cone.specs.InStep.{IsInStep, IsPartway}
+use Rattle.lert_cone.specs.Listing.{Listing, reports_of}
+use Rattle.lert_cone.specs.Logged.{IsLogOf, next_record}
+use Rattle.lert_cone.specs.Record.{LogPlace, payload_at}
+use Rattle.lert_cone.specs.Sound.{IsJournal, IsSound, but_last}
+use Rattle.lert_cone.specs.Tally.{Tallied, IsCounted}
+use Rattle.lert_cone.proofs.KeyStep.{next_payload, journal_beside, frames_beside, log_beside, log_behind}
+use Rattle.lert_cone.proofs.LogLaws.{LogsNext, log_at_close}
+use Rattle.lert_cone.proofs.StepLaws.{sound_of}
+
+-- all keys are taken
+pub partway_all : (history : List Packet) (events : List ℕ) → events ≡ events_of history → length (events_of (but_last history)) ≤ length events → IsPartway history events []
+partway_all history events all late = record { rest = []; is = sym all ∙ sym (append-nil events); late = late }
+
+-- what is known once the levels are scanned, of the bay then, where memory and the files went together before (`t`) and no
+-- record is written yet
+pub record IsEnding (leaves : Files → Type 0) (seen : Files) (history : List Packet) (t a : Tallied) (log : LogPlace) (logged : List LogRecord) : Type 0 where
+  pub log_of : IsLogOf t.listing.settings t.listing.cone t.listing.events t.rows false logged
+  pub named_is : log.named ≡ length (listed_in logged)
+  pub listing_is : a.listing ≡ record t.listing { closed = true }
+  pub rows_are : a.rows ≡ t.rows
+  pub read : leaves seen
+  pub journal : InEach leaves 0 (IsJournal t.listing.settings t.listing.cone history)
+  pub journal_settled : IsWhollySettled leaves seen 0
+  pub log_there : InEach leaves 1 (λ bytes. HasLog t.listing.settings t.listing.cone bytes logged log.gate)
+  pub frames : InEach leaves 2 (HoldsBins t.listing.settings t.listing.events t.rows)
+  pub reports_are : a.due.reports ≡ reports_of a.listing
+  pub all : t.listing.events ≡ events_of history
+  pub late : length (events_of (but_last history)) ≤ length t.listing.events
+
+module _ (leaves : Files → Type 0) (seen : Files) (history : List Packet) (t a : Tallied) (log : LogPlace) (logged : List LogRecord)
+    (before : IsCounted t) (ending : IsEnding leaves seen history t a log logged) (few : length a.due.reports ≤ t.listing.settings.room) where
+  closed_reports : a.due.reports ≡ closing t.listing.settings t.listing.events
+  closed_reports = ending.reports_are ∙ ap reports_of ending.listing_is
+
+  abbrev last : LogRecord
+  last = next_record LogKind.Closing (length t.listing.events) t.rows logged a.due.reports
+
+  next : LogsNext t.listing.settings t.listing.cone t.listing.events t.rows true logged (next_record LogKind.Closing (length t.listing.events) t.rows logged a.due.reports)
+  next =
+      log_at_close t.listing.settings before.valid t.listing.cone t.listing.events t.rows logged a.due.reports before.fits before.keys before.own before.rows before.are closed_reports few ending.log_of
+
+  partway : IsPartway history t.listing.events []
+  partway = partway_all history t.listing.events ending.all ending.late
+
+  module _ (since : Files → Type 0) (payload : List ℕ) (payload_is : payload ≡ payload_at log LogKind.Closing (length a.listing.events) (directory_text a.rows) a.due.reports)
+      (others : KeepsOthers leaves since seen 1) (earlier : KeepsBefore leaves since seen 1 log.gate) where
+    payload_here : payload ≡ log_payload_of (next_record LogKind.Closing (length t.listing.events) t.rows logged a.due.reports)
+    payload_here =
+        payload_is
+        ∙ ap (λ n. payload_at log LogKind.Closing n (directory_text a.rows) a.due.reports) (ap (λ (l : Listing). length l.events) ending.listing_is)
+        ∙ ap (λ (rows : List (List BinAt)). payload_at log LogKind.Closing (length t.listing.events) (directory_text rows) a.due.reports) ending.rows_are
+        ∙ next_payload log LogKind.Closing (length t.listing.events) t.rows logged a.due.reports ending.named_is
+
+    journal_then : InEach since 0 (IsJournal t.listing.settings t.listing.cone history)
+    journal_then = journal_beside leaves since seen t.listing.settings t.listing.cone history logged last log.gate payload ending.read ending.journal ending.journal_settled ending.log_there next.is.rules payload_here others earlier
+
+    frames_then : InEach since 2 (HoldsBins t.listing.settings t.listing.events t.rows)
+    frames_then =
+        frames_beside leaves since seen t.listing.settings t.listing.cone history logged last log.gate payload ending.read ending.journal ending.journal_settled ending.log_there next.is.rules payload_here others earlier
+        t.listing.events t.rows before.are ending.frames
+
+    -- in each image of each moment of the append
+    pub sound_close : InEach since 1 (IsWithOrWithout (most_record t.listing.settings) 8 (map log_payload_of logged) log.gate payload) → (image : Files) → since image → IsSound t.listing.settings t.listing.cone history image
+    sound_close each image may =
+        elim (log_beside leaves since seen t.listing.settings t.listing.cone history logged last log.gate payload ending.read ending.journal ending.journal_settled ending.log_there next.is.rules payload_here others earlier each image may) [
+          | inl without ↦ sound_of t.listing.settings t.listing.cone history t.listing.events t.rows false logged log.gate before.valid before.rows partway
+              (λ never. absurd (false≢true never)) ending.log_of image (journal_then image may) without (frames_then image may)
+          | inr with_it ↦ sound_of t.listing.settings t.listing.cone history t.listing.events t.rows true (logged ++ last ∷ []) (next_gate log.gate payload) before.valid before.rows partway
+              (λ _. ending.all) next.is image (journal_then image may) with_it (frames_then image may)
+        ]
+
+    -- and after it
+    of_listing : (P : Numbers → ℕ → List ℕ → List (List BinAt) → Bool → Type 0) → P t.listing.settings t.listing.cone t.listing.events t.rows true → P a.listing.settings a.listing.cone a.listing.events a.rows a.listing.closed
+    of_listing P holds = subst (λ (l : Listing). P l.settings l.cone l.events a.rows l.closed) (sym ending.listing_is)
+        (subst (λ (rows : List (List BinAt)). P t.listing.settings t.listing.cone t.listing.events rows true) (sym ending.rows_are) holds)
+
+    pub up_closed : (after : Files → Type 0) (seen_after : Files) (log_after : LogPlace) → ((image : Files) → after image → since image) → log_after.named ≡ length a.due.reports →
+        InEach after 1 (λ bytes. IsGated (most_record t.listing.settings) bytes 8 (map log_payload_of logged ++ payload ∷ []) log_after.gate) → IsWhollySettled after seen_after 0 → IsWhollySettled after seen_after 1 →
+        IsInStep after seen_after history a.listing a.rows a.due.reports log_after
+    up_closed after seen_after log_after now named_is stands journal_settled log_settled = record {
+      logged = logged ++ last ∷ [];
+      log_of = of_listing (λ s cone events rows closed. IsLogOf s cone events rows closed (logged ++ last ∷ [])) next.is;
+      named_is = named_is ∙ ap length (closed_reports ∙ sym next.is.reports_are);
+      journal = λ image may. of_listing (λ s cone events rows closed. IsJournal s cone history (image 0)) (journal_then image (now image may));
+      log_there = λ image may. of_listing (λ s cone events rows closed. HasLog s cone (image 1) (logged ++ last ∷ []) log_after.gate)
+          (log_behind leaves since seen t.listing.settings t.listing.cone history logged last log.gate payload ending.read ending.journal ending.journal_settled ending.log_there next.is.rules payload_here others earlier
+          after log_after.gate now stands image may);
+      frames = λ image may. of_listing (λ s cone events rows closed. HoldsBins s events rows (image 2)) (frames_then image (now image may));
+      journal_settled = journal_settled;
+      log_settled = log_settled;
+      reports_are = ending.reports_are;
+    }
+
+-- ---- where a bay tells its files
+
+-- all packets but the last have no more keys than all
+pub late_all : (history : List Packet) (events : List ℕ) → events ≡ events_of history → length (events_of (but_last history)) ≤ length events
+late_all history events all =
+    let front = take (length history - 1) history in
+    let back = drop (length history - 1) history in
+    let split : events_of history ≡ events_of front ++ events_of back = ap events_of (sym (take-append-drop (length history - 1) history)) ∙ flat_map-append (λ (p : Packet). p.keys) front back in
+    omega (arith, ap length all, ap length split, length-append (events_of front) (events_of back))
+
+-- after calls that read alone
+pub ending_of : (leaves leaves_after : Files → Type 0) (seen : Files) (history : List Packet) (t a : Tallied) (log : LogPlace) → t.listing.closed ≡ false → (up : IsInStep leaves seen history t.listing t.rows t.due.reports log) →
+    a.listing ≡ record t.listing { closed = true } → a.rows ≡ t.rows → ((image : Files) → leaves_after image → leaves image) → leaves_after seen → a.due.reports ≡ reports_of a.listing → t.listing.events ≡ events_of history →
+    IsEnding leaves_after seen history t a log up.logged
+ending_of leaves leaves_after seen history t a log still up listing_is rows_are back read reports_are all = record {
+  log_of = subst (λ closed. IsLogOf t.listing.settings t.listing.cone t.listing.events t.rows closed up.logged) still up.log_of;
+  named_is = up.named_is;
+  listing_is = listing_is;
+  rows_are = rows_are;
+  read = read;
+  journal = λ image may. up.journal image (back image may);
+  journal_settled = record { within = omega arith; same = λ image may. up.journal_settled.same image (back image may) };
+  log_there = λ image may. up.log_there image (back image may);
+  frames = λ image may. up.frames image (back image may);
+  reports_are = reports_are;
+  all = all;
+  late = late_all history t.listing.events all;
+}
