@@ -233,6 +233,7 @@ impl<T: CountTable> Tally<T> {
         ensures rows { self.new.rows ≡ self.old.rows }
         ensures closed { OnOk result (self.new.listing.closed ≡ true) }
         ensures refused { OnErr result (self.new.listing ≡ self.old.listing) }
+        ensures grows { OnOk result (length self.old.due.reports ≤ length self.new.due.reports) }
         ensures counted { OnOk result (IsCounted self.new) }
         ensures held { IfTold (B.files bay.old) (λ seen. IsHeld self.old seen → OnOk result (IsHeld self.new seen)) }
         ensures sound { IfTold (B.files bay.old) (λ seen. IsHeld self.old seen → (file at : ℕ) → result ≢ Err (TakeFault.Unsound file at)) }
