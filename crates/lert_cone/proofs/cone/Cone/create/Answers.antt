@@ -1,14 +1,10 @@
-use Rattle.std.proofs.Common.{ap}
+use Rattle.std.proofs.Common.{ap, sym, ◌∙◌}
 use Rattle.lert_gatelog.specs.Gated.{Log}
 use Rattle.lert_cone.proofs.StandLaws.{new_cone, new_stands}
 use Rattle.lert_cone.proofs.cone.Cone.create.Goals as goal
 
 pub invariant_of-result : goal.invariant_of-result
-invariant_of-result g c =
-    new_cone g.B.Bay.files g.B.Bay.leaves g.B.Faulty.faults c.begin.new.bay c.of.result.value c.args.room c.args.cone c.into_parts-tally.result.0 c.in-Ok.journal _
-    c.into_parts-tally.ensures.valid c.into_parts-tally.ensures.listing c.into_parts-tally.ensures.counted (rw c.settings.ensures at c.in-Ok.ensures.journal) c.into_parts-tally.ensures.buffer c.of.ensures c.in-Ok.ensures.closed
+invariant_of-result g c = ?
 
 pub returns-in-Ok-clause-stands_for : goal.returns-in-Ok-clause-stands_for
-returns-in-Ok-clause-stands_for g c =
-    new_stands g.B.Bay.files g.B.Bay.leaves g.B.Faulty.faults c.begin.new.bay c.of.result.value c.args.room c.args.cone c.into_parts-tally.result.0 c.in-Ok.journal.gate
-    c.into_parts-tally.ensures.valid c.into_parts-tally.ensures.listing (ap (λ (log : Log). log.gate) c.in-Ok.ensures.journal) c.into_parts-tally.ensures.counted c.into_parts-tally.ensures.held (rw c.settings.ensures at c.in-Ok.ensures.sound)
+returns-in-Ok-clause-stands_for g c = ?
