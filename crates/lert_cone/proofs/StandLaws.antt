@@ -36,7 +36,7 @@ use Rattle.lert_cone.specs.Room.{room_of}
 use Rattle.lert_cone.specs.Sound.{IsJournal, IsSound, IsSoundAs, IsSoundOver, IsKept, but_last}
 use Rattle.lert_cone.specs.Stands.{Standing, StandsFor, IsCone, IsWhole, is_broken, is_finished, is_refusal, broken_by, cone_fault}
 use Rattle.lert_cone.specs.Tally.{Tallied, IsCounted, IsHeld}
-use Rattle.lert_cone.specs.Wrote.{IsShut, IsShutIfTold}
+use Rattle.lert_cone.specs.Wrote.{IsShut, IsShutIfTold, Anything}
 use Rattle.lert_cone.proofs.EndStep.{partway_all, late_all}
 use Rattle.lert_cone.proofs.LogLaws.{log_none}
 use Rattle.lert_cone.proofs.SoundLaws.{events_more, counted_more, end_more}
@@ -403,3 +403,22 @@ pub no_refusal : (fault : TakeFault) → is_refusal (cone_fault fault) ≡ false
 no_refusal TakeFailed = refl
 no_refusal (TakeUnsound file at) = refl
 no_refusal TakeOutOfMemory = refl
+
+-- ---- what is left of a bay
+
+-- files that are told stay told
+pub any_turn : (step : Files → Files → Type 0) (before after : Option Files) → Turns step before after → Turns Anything before after
+any_turn step before after turns = record {
+  told = λ old told.
+      let came = turns.told old told in
+      (came.0, came.1, tt);
+  untold = turns.untold;
+}
+
+-- what holds in each image of each moment holds as the files read then, and in each image
+pub kept_since : (after since : Files → Type 0) (seen : Files) (P : Files → Type 0) → after seen → ((image : Files) → after image → since image) → ((image : Files) → since image → P image) → IsKept after seen P
+kept_since after since seen P read now each = record { as_read = each seen (now seen read); images = λ image may. each image (now image may) }
+
+-- files that aren't told stay untold
+pub turned_none : {step : Files → Files → Type 0} (before after : Option Files) → Turns step before after → before ≡ None → after ≡ None
+turned_none before after turns = turns.untold
