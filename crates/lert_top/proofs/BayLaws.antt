@@ -59,14 +59,6 @@ module _ {B : Type 0} (files : B → Option Files) (faults mark : B → ℕ) whe
   pub later_same : (bay : B) → IsLater files faults mark bay bay
   later_same bay = record { marked = refl; never_falls = omega arith; tells = record { told = λ old was. (old, was, tt); untold = λ was. was } }
 
-  -- a bay that was read alone
-  pub later_read : (old new : B) → mark new ≡ mark old → faults old ≤ faults new → files new ≡ files old → IsLater files faults mark old new
-  later_read old new marked falls same = record {
-    marked = marked;
-    never_falls = falls;
-    tells = record { told = λ seen was. (seen, same ∙ was, tt); untold = λ was. same ∙ was };
-  }
-
   pub later_more : (first then now : B) → IsLater files faults mark first then → IsLater files faults mark then now → IsLater files faults mark first now
   later_more first then now one two = record {
     marked = two.marked ∙ one.marked;

@@ -12,7 +12,7 @@ use Rattle.lert_buffers.specs.Rings.{Rings, fill_of, ring_of, with_ring}
 use Rattle.lert_buffers.specs.declared.buffers.Fill.TheVariants.{Low, MustGo, Ready}
 use Rattle.lert_cone.proofs.SoundLaws.{events_more}
 use Rattle.lert_cone.specs.Listing.{Listing}
-use Rattle.lert_cone.specs.Sound.{IsSound, IsSoundOver}
+use Rattle.lert_cone.specs.Sound.{IsSound, IsSoundAs, IsSoundOver}
 use Rattle.lert_cone.specs.Stands.{IsSameCone, Standing, StandsFor, is_broken, is_refusal}
 use Rattle.lert_cone.specs.declared.refusal.ConeFault.{ConeFault}
 use Rattle.lert_cone.specs.declared.refusal.ConeFault.TheVariants as fault
@@ -80,7 +80,7 @@ module _ {B : Type 0} (files : B → Option Files) (leaves : B → Files → Typ
       by_sound seen (inr more) = record { history = history ++ more.0 ∷ []; woven = over_part more.0 more.1; sound = of_cone (history ++ more.0 ∷ []) seen more.2 }
 
       by_state : (seen : Files) → files standing.bay ≡ Some seen → (b : Bool) → is_broken standing.state ≡ b → HoldsPart s keys number seen
-      by_state seen told false is = record { history = history; woven = part; sound = of_cone history seen (stands.whole is seen told).files.kept.as_read }
+      by_state seen told false is = record { history = history; woven = part; sound = of_cone history seen (stands.whole is seen told).files.kept.as_read.sound }
       by_state seen told true is = by_sound seen (stands.broken is seen told).as_read
 
   module _ (from number : ℕ) (finished : Bool) (keys waiting : List ℕ) (cones : List (Standing B))
@@ -91,19 +91,23 @@ module _ {B : Type 0} (files : B → Option Files) (leaves : B → Files → Typ
     lane_part : IsPartWoven s number 1 (keys ∷ []) lane.history
     lane_part = part_woven s number lane.history lane.each lane.cut keys waiting lane.joined
 
+    lane_kept : (seen : Files) → files lane.standing.bay ≡ Some seen → IsSoundAs s number finished lane.history seen
+    lane_kept seen told = subst (λ (l : Listing). IsSoundAs l.settings l.cone l.closed lane.history seen) lane.listing_is (lane.stands.whole whole_lane seen told).files.kept.as_read
+
     lane_sound : (seen : Files) → files lane.standing.bay ≡ Some seen → IsSound s number lane.history seen
-    lane_sound seen told = subst (λ (l : Listing). IsSound l.settings l.cone lane.history seen) lane.listing_is (lane.stands.whole whole_lane seen told).files.kept.as_read
+    lane_sound seen told = (lane_kept seen told).sound
 
     lane_partly : IfHeld files (bays_of cones) number (HoldsPart s keys number)
     lane_partly = λ bay found seen told.
         let same = bay_is cones number lane.standing bay lane.cone_is found in
         record { history = lane.history; woven = lane_part; sound = lane_sound seen (ap files (sym same) ∙ told) }
 
-    lane_woven : waiting ≡ [] → IfHeld files (bays_of cones) number (HoldsWeave s keys number)
-    lane_woven none = λ bay found seen told.
+    lane_woven : finished ≡ true → waiting ≡ [] → IfHeld files (bays_of cones) number (HoldsWeave s keys number)
+    lane_woven closed none = λ bay found seen told.
         let same = bay_is cones number lane.standing bay lane.cone_is found in
         let joined = sym (append-nil (events_of lane.history)) ∙ (ap (λ xs. events_of lane.history ++ xs) (sym none) ∙ lane.joined) in
-        record { history = lane.history; woven = woven s number lane.history lane.each lane.cut keys joined; sound = lane_sound seen (ap files (sym same) ∙ told) }
+        let kept = subst (λ (b : Bool). IsSoundAs s number b lane.history seen) closed (lane_kept seen (ap files (sym same) ∙ told)) in
+        record { history = lane.history; woven = woven s number lane.history lane.each lane.cut keys joined; sound = kept }
 
     lane_count : (n : ℕ) → n ≡ lane.standing.events → IfHeld files (bays_of cones) number (HoldsKeys s n number)
     lane_count n is = λ bay found seen told.
@@ -117,10 +121,10 @@ module _ {B : Type 0} (files : B → Option Files) (leaves : B → Files → Typ
     pub lanes_partly : ArePartWoven files s (bays_of cones) keys
     lanes_partly = λ cone bay found. lane_partly from cone (finished cone) keys (ring_of rings cone) cones (lanes.each cone (named_bay cone bay found)) bay found
 
-    pub lanes_woven : AreDrained (2 ^ s.cone_bits) rings → AreWoven files s (bays_of cones) keys
-    lanes_woven drained = λ cone bay found.
+    pub lanes_woven : ((cone : ℕ) → finished cone ≡ true) → AreDrained (2 ^ s.cone_bits) rings → AreWoven files s (bays_of cones) keys
+    lanes_woven closed drained = λ cone bay found.
         let named = named_bay cone bay found in
-        lane_woven from cone (finished cone) keys (ring_of rings cone) cones (lanes.each cone named) (drained cone named) bay found
+        lane_woven from cone (finished cone) keys (ring_of rings cone) cones (lanes.each cone named) (closed cone) (drained cone named) bay found
 
     -- cones that took all keys had room for them
     pub lanes_fit : AreDrained (2 ^ s.cone_bits) rings → AllFit s keys

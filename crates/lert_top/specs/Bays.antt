@@ -3,7 +3,7 @@ use Rattle.std.specs.Prelude.{◌≡◌, ℕ, ◌<◌, ◌≤◌, List, [], ◌�
 use Rattle.lert_base.specs.Packet.{Packet, events_of}
 use Rattle.lert_base.specs.Weave.{IsWoven, IsPartWoven}
 use Rattle.lert_bay.specs.Files.{Files, IfTold, Turns}
-use Rattle.lert_cone.specs.Sound.{AreEmpty, IsSound}
+use Rattle.lert_cone.specs.Sound.{AreEmpty, IsSound, IsSoundClosed}
 use Rattle.lert_cone.specs.Stands.{Standing}
 use Rattle.lert_io.specs.Fault.{HasRisen, IsFaultless}
 use Rattle.lert_spec.specs.declared.numbers.Numbers.{Numbers}
@@ -66,11 +66,11 @@ AreFaultless {B = B} faults bays later = (cone : ℕ) (before now : B) → slice
 abbrev pub AreToldFresh : {B : Type 0} → (B → Option Files) → List B → Type 0
 AreToldFresh {B = B} files bays = (cone : ℕ) (bay : B) → slice_get bays cone ≡ Some bay → (seen : Files) × (files bay ≡ Some seen) × AreEmpty seen
 
--- the files of a cone are sound for a weave of its part of a trace's keys
+-- the files of a cone are sound for a weave of its part of a trace's keys, and closed
 pub record HoldsWeave (s : Numbers) (keys : List ℕ) (cone : ℕ) (seen : Files) : Type 0 where
   pub history : List Packet
   pub woven : IsWoven s cone 1 (keys ∷ []) history
-  pub sound : IsSound s cone history seen
+  pub sound : IsSoundClosed s cone history seen
 
 -- the files of a cone are sound for a weave of a beginning of its part of a trace's keys
 pub record HoldsPart (s : Numbers) (keys : List ℕ) (cone : ℕ) (seen : Files) : Type 0 where

@@ -29,7 +29,7 @@ returns-in-Ok-clause-woven g c = λ bytes was.
     let keys = c.finish.ensures.keys ∙ c.in_default.ensures.keys bytes was in
     subst (λ (s : Numbers). AreWoven g.B.Bay.files s (bays_of after.cones.items) (whole bytes)) settings
     (subst (λ (ks : List ℕ). AreWoven g.B.Bay.files after.settings (bays_of after.cones.items) ks) keys
-    (lanes_woven g.B.Bay.files g.B.Bay.leaves g.B.Faulty.faults after.settings _ closed_cones after.cones.items after.rings after.keys finished.lanes finished.drained))
+    (lanes_woven g.B.Bay.files g.B.Bay.leaves g.B.Faulty.faults after.settings _ closed_cones after.cones.items after.rings after.keys finished.lanes (λ cone. refl) finished.drained))
 
 pub returns-in-Ok-clause-later : goal.returns-in-Ok-clause-later
 returns-in-Ok-clause-later g c =
