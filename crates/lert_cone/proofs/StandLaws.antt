@@ -422,3 +422,28 @@ kept_since after since seen P read now each = record { as_read = each seen (now 
 -- files that aren't told stay untold
 pub turned_none : {step : Files → Files → Type 0} (before after : Option Files) → Turns step before after → before ≡ None → after ≡ None
 turned_none before after turns = turns.untold
+
+-- what an append says of a log's file and greatest payload, said of the journal
+pub each_there : (leaves since : Files → Type 0) (s : Numbers) (file most gate : ℕ) (history : List Packet) (packet : Packet) → file ≡ 0 → most ≡ most_payload s
+    → (InEach leaves file (λ bytes. HasPackets most bytes 32 history gate) → InEach since file (HasPacketsOrOneMore most 32 history gate packet))
+    → InEach leaves 0 (λ bytes. HasPackets (most_payload s) bytes 32 history gate) → InEach since 0 (HasPacketsOrOneMore (most_payload s) 32 history gate packet)
+each_there leaves since s file most gate history packet file_is most_is each =
+    subst (λ (m : ℕ). InEach leaves 0 (λ bytes. HasPackets m bytes 32 history gate) → InEach since 0 (HasPacketsOrOneMore m 32 history gate packet)) most_is
+    (subst (λ (f : ℕ). InEach leaves f (λ bytes. HasPackets most bytes 32 history gate) → InEach since f (HasPacketsOrOneMore most 32 history gate packet)) file_is each)
+
+-- a packet more
+pub some_more : (history : List Packet) (packet : Packet) → All (λ p. 0 < length p.keys) history → 0 < length packet.keys → All (λ p. 0 < length p.keys) (history ++ packet ∷ [])
+some_more history packet all some = All-append (λ p. 0 < length p.keys) history (packet ∷ []) all (All-cons (λ p. 0 < length p.keys) packet [] some (All-nil (λ p. 0 < length p.keys)))
+
+pub keys_more : (history : List Packet) (packet : Packet) (events : List ℕ) → events ≡ events_of history → events ++ packet.keys ≡ events_of (history ++ packet ∷ [])
+keys_more history packet events keys = ap (λ ks. ks ++ packet.keys) keys ∙ sym (events_more history packet)
+
+-- turns in a row
+pub turns_on : (one two : Files → Files → Type 0) (before between after : Option Files) → Turns one before between → Turns two between after → Turns Anything before after
+turns_on one two before between after first second = record {
+  told = λ old told.
+      let came = first.told old told in
+      let went = second.told came.0 came.1 in
+      (went.0, went.1, tt);
+  untold = λ none. second.untold (first.untold none);
+}
