@@ -16,6 +16,7 @@ use Rattle.lert_cone.specs.InStep.{IsLogging, IsPartway}
 use Rattle.lert_cone.specs.Listing.{Listing}
 use Rattle.lert_cone.specs.Sound.{IsKept, IsSoundOver}
 use Rattle.lert_cone.specs.Stands.{Standing, over_of, is_broken, is_finished, broken_by}
+use Rattle.lert_cone.specs.Wrote.{IsShutIfTold}
 use Rattle.lert_reports.specs.Stored.{Stored}
 use Rattle.lert_cone.proofs.StandLaws.{sound_appending, up_appended, records_there, each_there, partway_packet, whole_of, stands_broken, broken_cone, more_cone, stands_whole, some_more, keys_more, kept_since, any_turn, turns_on, turned_none, reports_running, untold, is_broken_by, by_bay_of, by_read_of, unsound_of, when_ok, when_err, risen_since, appended_there}
 use Rattle.lert_cone.proofs.SoundLaws.{turns_back, counted_more, end_more}
@@ -26,6 +27,11 @@ pub append_entry-requires-clause-closed : goal.append_entry-requires-clause-clos
 append_entry-requires-clause-closed g c = λ seen told image may.
     let ok = rw (← c.self.view_is) at c.in_ok-test.ensures.ok in
     subst (λ (f : ℕ). IsClosed (image f) c.self.inside.journal.gate) (sym c.self.invariant.file) ((c.self.invariant.shut ok.0 seen told).closed image may)
+
+pub take_keys-requires-clause-log_shut : goal.take_keys-requires-clause-log_shut
+take_keys-requires-clause-log_shut g c =
+    let running : c.self.inside.state ≡ Running = subst (λ (v : Standing g.row.B.Denot). v.state ≡ Running) (sym c.self.view_is) c.in_ok-test.ensures.ok.0 in
+    shut_through 1 c.self.inside.log.gate (g.B.Bay.files c.self.inside.bay) (g.B.Bay.files c.append_entry.new.bay) (g.B.Bay.leaves c.self.inside.bay) (g.B.Bay.leaves c.append_entry.new.bay) (g.B.Bay.moment c.self.inside.bay) (g.B.Bay.moment c.append_entry.new.bay) (g.B.Bay.left_since c.self.inside.bay) (g.B.Bay.left_since c.append_entry.new.bay) (leaves_others c.self.inside.journal.file 1 (λ same. absurd (omega (arith, same, c.self.invariant.file))) (g.B.Bay.files c.self.inside.bay) (g.B.Bay.files c.append_entry.new.bay) (g.B.Bay.leaves c.self.inside.bay) (g.B.Bay.leaves c.append_entry.new.bay) (g.B.Bay.moment c.self.inside.bay) (g.B.Bay.moment c.append_entry.new.bay) (g.B.Bay.left_since c.self.inside.bay) (g.B.Bay.left_since c.append_entry.new.bay) c.append_entry.ensures.seen c.append_entry.ensures.others c.append_entry.ensures.time (λ image may. g.met.B.Bay.since_earlier c.append_entry.new.bay (g.B.Bay.moment c.self.inside.bay) (g.B.Bay.moment c.append_entry.new.bay) image c.append_entry.ensures.time.later (g.met.B.Bay.since_now c.append_entry.new.bay image may))) (g.met.B.Bay.as_read c.self.inside.bay) (c.self.invariant.log_shut running)
 
 -- a refusal before the first step
 pub returns-in_err-test-clause-full : goal.returns-in_err-test-clause-full
@@ -85,7 +91,14 @@ returns-then-is_err-clause-seen g c = rw (← c.self.view_is) (any_turn (OthersS
 
 -- the keys aren't all taken
 pub invariant_of-self-in-Err : goal.invariant_of-self-in-Err
-invariant_of-self-in-Err g c = ?
+invariant_of-self-in-Err g c =
+    let len_is : c.self.inside.buffer.len ≡ length c.self.inside.buffer.items = search rules in
+    let moved = when_ok c.append_entry.result (search rules) c.append_entry.ensures.moved in
+    broken_cone g.B.Bay.files g.B.Bay.leaves g.B.Faulty.faults (record { bay = c.self.inside.bay; made = c.self.inside.made.value; listing = c.self.inside.tally.listing; rows = c.self.inside.tally.rows; reports = c.self.inside.tally.due.reports; events = c.self.inside.events; state = c.self.inside.state; over = over_of c.self.inside.over; gate = c.self.inside.journal.gate; log = c.self.inside.log }) _ c.self.inside.tally c.take_keys.new.tally c.self.inside.journal c.append_entry.new.log _ _
+    (ap is_broken c.broken_by-self-inside.ensures ∙ is_broken_by c.in-Err.fault) (ap (λ (l : Listing). l.settings) c.take_keys.ensures.listing) refl refl (ap (λ (log : Log). log.file) moved) (ap (λ (log : Log). log.most) moved) (sym (length_refill c.self.inside.buffer.len (take c.self.inside.buffer.len (c.append_entry.new.buffer ++ drop (length c.append_entry.new.buffer) c.self.inside.buffer.items)) c.take_keys.new.buffer (length_refill c.self.inside.buffer.len c.self.inside.buffer.items c.append_entry.new.buffer len_is)) ∙ len_is) (omega (arith, c.append_entry.ensures.cause.never_falls, c.take_keys.ensures.never_falls))
+    (λ same. risen_since (g.B.Faulty.faults c.self.inside.made.value) (g.B.Faulty.faults c.append_entry.new.bay) (g.B.Faulty.faults c.take_keys.new.bay)
+    (omega (arith, c.self.invariant.never_falls, c.append_entry.ensures.cause.never_falls)) c.take_keys.ensures.never_falls (c.take_keys.ensures.failed (c.in-Err.is ∙ ap Err (by_bay_of c.in-Err.fault (sym c.broken_by-self-inside.ensures ∙ same)))))
+    c.self.invariant
 
 pub returns-in-Err-clause-stays : goal.returns-in-Err-clause-stays
 returns-in-Err-clause-stays g c = rw (← c.self.view_is) (λ h stands.
@@ -128,8 +141,8 @@ returns-in-Err-clause-stays g c = rw (← c.self.view_is) (λ h stands.
     (subst (λ (f : ℕ). IsWhollySettled (g.B.Bay.leaves c.append_entry.new.bay) mid.0 f) c.self.invariant.file (when_ok c.append_entry.result (search rules) c.append_entry.ensures.settled mid.0 mid.1))
     (settled_through 1 (g.B.Bay.files c.self.inside.bay) (g.B.Bay.files c.append_entry.new.bay) (g.B.Bay.leaves c.self.inside.bay) (g.B.Bay.leaves c.append_entry.new.bay) (g.B.Bay.moment c.self.inside.bay) (g.B.Bay.moment c.append_entry.new.bay) (g.B.Bay.left_since c.self.inside.bay) (g.B.Bay.left_since c.append_entry.new.bay) (leaves_others c.self.inside.journal.file 1 (λ same. absurd (omega (arith, same, c.self.invariant.file))) (g.B.Bay.files c.self.inside.bay) (g.B.Bay.files c.append_entry.new.bay) (g.B.Bay.leaves c.self.inside.bay) (g.B.Bay.leaves c.append_entry.new.bay) (g.B.Bay.moment c.self.inside.bay) (g.B.Bay.moment c.append_entry.new.bay) (g.B.Bay.left_since c.self.inside.bay) (g.B.Bay.left_since c.append_entry.new.bay) c.append_entry.ensures.seen c.append_entry.ensures.others c.append_entry.ensures.time (λ image may. g.met.B.Bay.since_earlier c.append_entry.new.bay (g.B.Bay.moment c.self.inside.bay) (g.B.Bay.moment c.append_entry.new.bay) image c.append_entry.ensures.time.later (g.met.B.Bay.since_now c.append_entry.new.bay image may))) was.0 was.1 whole.in_step.log_settled mid.0 mid.1) in
     let partway = subst (λ (keys : List ℕ). IsPartway (h ++ (packet_of c.args.entry.now) ∷ []) c.self.inside.tally.listing.events keys) (sym c.as_slice-keys.ensures) (partway_packet h (packet_of c.args.entry.now) c.self.inside.tally.listing.events whole.keys) in
-    subst (λ (l : Listing). IsKept (g.B.Bay.leaves c.take_keys.new.bay) seen_last (IsSoundOver l.settings l.cone h _)) (sym c.take_keys.ensures.listing)
-    (subst (λ (over : Option Packet). IsKept (g.B.Bay.leaves c.take_keys.new.bay) seen_last (IsSoundOver c.self.inside.tally.listing.settings c.self.inside.tally.listing.cone h over)) (sym (ap (λ (e : Entry). Some (packet_of e)) c.of.ensures))
+    subst (λ (l : Listing). IsKept (g.B.Bay.leaves c.take_keys.new.bay) seen_last (IsSoundOver l.settings l.cone h (Some (packet_of c.of-in-Err.result.value)))) (sym c.take_keys.ensures.listing)
+    (subst (λ (over : Option Packet). IsKept (g.B.Bay.leaves c.take_keys.new.bay) seen_last (IsSoundOver c.self.inside.tally.listing.settings c.self.inside.tally.listing.cone h over)) (sym (ap (λ (e : Entry). Some (packet_of e)) c.of-in-Err.ensures))
     (kept_since (g.B.Bay.leaves c.take_keys.new.bay) ((g.B.Bay.left_since c.take_keys.new.bay) (g.B.Bay.moment c.self.inside.bay)) seen_last (IsSoundOver c.self.inside.tally.listing.settings c.self.inside.tally.listing.cone h (Some (packet_of c.args.entry.now))) (g.met.B.Bay.as_read c.take_keys.new.bay seen_last told_last) (λ image may. g.met.B.Bay.since_earlier c.take_keys.new.bay (g.B.Bay.moment c.self.inside.bay) (g.B.Bay.moment c.take_keys.new.bay) image (lasts_on (g.B.Bay.moment c.self.inside.bay) (g.B.Bay.moment c.append_entry.new.bay) (g.B.Bay.moment c.take_keys.new.bay) (g.B.Bay.left_since c.self.inside.bay) (g.B.Bay.left_since c.append_entry.new.bay) (g.B.Bay.left_since c.take_keys.new.bay) c.append_entry.ensures.time c.take_keys.ensures.journal.time (g.met.B.Bay.since_earlier c.take_keys.new.bay)).later (g.met.B.Bay.since_now c.take_keys.new.bay image may))
     (λ image may. elim (c.take_keys.ensures.journal.time.known (g.B.Bay.moment c.self.inside.bay) image c.append_entry.ensures.time.later may) [
       | inl past ↦ sound_appending (g.B.Bay.leaves c.self.inside.bay) ((g.B.Bay.left_since c.append_entry.new.bay) (g.B.Bay.moment c.self.inside.bay)) was.0 c.self.inside.tally c.self.inside.log c.self.inside.journal.gate h (packet_of c.args.entry.now) counted still read whole journaled fits others before (each_there (g.B.Bay.leaves c.self.inside.bay) ((g.B.Bay.left_since c.append_entry.new.bay) (g.B.Bay.moment c.self.inside.bay)) c.self.inside.tally.listing.settings c.self.inside.journal.file c.self.inside.journal.most c.self.inside.journal.gate h (packet_of c.args.entry.now) c.self.invariant.file c.self.invariant.most (c.append_entry.ensures.each_moment was.0 was.1 32 h) (records_there (g.B.Bay.leaves c.self.inside.bay) ((g.B.Bay.left_since c.append_entry.new.bay) (g.B.Bay.moment c.self.inside.bay)) was.0 c.self.inside.tally c.self.inside.log c.self.inside.journal.gate h (packet_of c.args.entry.now) counted still read whole journaled fits others before)) image past
@@ -195,7 +208,48 @@ returns-in-Err-clause-time g c = rw (← c.self.view_is) (lasts_on (g.B.Bay.mome
 
 -- all keys are taken
 pub invariant_of-self-2 : goal.invariant_of-self-2
-invariant_of-self-2 g c = ?
+invariant_of-self-2 g c =
+    let ok = subst (λ (v : Standing g.row.B.Denot). (v.state ≡ Running) × (v.events + c.len-len.result ≤ capacity v.listing.settings)) (sym c.self.view_is) c.in_ok-test.ensures.ok in
+    let counted = c.self.invariant.tallied (ap is_broken ok.0) in
+    let still = c.self.invariant.closed (ap is_broken ok.0) ∙ ap is_finished ok.0 in
+    let journaled : IsJournaled c.self.inside.tally.listing.settings c.self.inside.tally.listing.cone (packet_of c.args.entry.now) = subst (λ (v : Standing g.row.B.Denot). IsJournaled v.listing.settings v.listing.cone (packet_of c.args.entry.now)) (sym c.self.view_is) c.requires.fits in
+    let within : c.self.inside.events + c.len-len.result ≤ capacity c.self.inside.tally.listing.settings = ok.1 in
+    let is = c.take_keys.ensures.listing ∙ ap (λ (keys : List ℕ). record { settings = c.self.inside.tally.listing.settings; cone = c.self.inside.tally.listing.cone; events = keys; closed = c.self.inside.tally.listing.closed })
+    (c.in_default.ensures.taken ∙ ap (λ (keys : List ℕ). c.self.inside.tally.listing.events ++ keys) c.as_slice-keys.ensures) in
+    let len_is : c.self.inside.buffer.len ≡ length c.self.inside.buffer.items = search rules in
+    let moved = when_ok c.append_entry.result (search rules) c.append_entry.ensures.moved in
+    let fits : c.self.inside.events + length c.args.entry.now.keys.keys ≤ capacity c.self.inside.tally.listing.settings = omega (arith, within, c.len-len.ensures) in
+    let room_is = (sym (length_refill c.self.inside.buffer.len (take c.self.inside.buffer.len (c.append_entry.new.buffer ++ drop (length c.append_entry.new.buffer) c.self.inside.buffer.items)) c.take_keys.new.buffer (length_refill c.self.inside.buffer.len c.self.inside.buffer.items c.append_entry.new.buffer len_is)) ∙ len_is) in
+    let shut_then : IsShutIfTold (g.B.Bay.files c.append_entry.new.bay) (g.B.Bay.leaves c.append_entry.new.bay) 0 c.append_entry.new.log.gate = λ seen told.
+    (let was = turns_back (OthersStay c.self.inside.journal.file) (g.B.Bay.files c.self.inside.bay) (g.B.Bay.files c.append_entry.new.bay) c.append_entry.ensures.seen seen told in
+    record {
+      settled = subst (λ (f : ℕ). IsWhollySettled (g.B.Bay.leaves c.append_entry.new.bay) seen f) c.self.invariant.file (when_ok c.append_entry.result (search rules) c.append_entry.ensures.settled seen told);
+      closed = λ image may. subst (λ (f : ℕ). IsClosed (image f) c.append_entry.new.log.gate) c.self.invariant.file (when_ok c.append_entry.result (search rules) (c.append_entry.ensures.closed was.0 was.1) image may);
+    }) in
+    let long : length c.take_keys.new.buffer ≡ length (take c.self.inside.buffer.len (c.take_keys.new.buffer ++ drop (length c.take_keys.new.buffer) (take c.self.inside.buffer.len (c.append_entry.new.buffer ++ drop (length c.append_entry.new.buffer) c.self.inside.buffer.items)))) = search rules in
+    more_cone g.B.Bay.files g.B.Bay.leaves g.B.Faulty.faults c.self.inside.bay c.self.inside.made.value c.take_keys.new.bay c.self.inside.tally c.take_keys.new.tally c.self.inside.events _ _ _ c.self.inside.state (over_of c.self.inside.over) c.self.inside.journal c.append_entry.new.log c.self.inside.log c.take_keys.new.log (packet_of c.args.entry.now)
+    ok.0 is c.in_default.ensures.counted (ap (λ n. c.self.inside.events + n) c.len-len.ensures) moved room_is journaled.some fits (omega (arith, c.append_entry.ensures.cause.never_falls, c.take_keys.ensures.never_falls))
+    (shut_through 0 c.append_entry.new.log.gate (g.B.Bay.files c.append_entry.new.bay) (g.B.Bay.files c.take_keys.new.bay) (g.B.Bay.leaves c.append_entry.new.bay) (g.B.Bay.leaves c.take_keys.new.bay) (g.B.Bay.moment c.append_entry.new.bay) (g.B.Bay.moment c.take_keys.new.bay) (g.B.Bay.left_since c.append_entry.new.bay) (g.B.Bay.left_since c.take_keys.new.bay) c.take_keys.ensures.journal (g.met.B.Bay.as_read c.append_entry.new.bay) shut_then)
+    (subst (λ n. IsLogging c.take_keys.new.tally c.take_keys.new.log n) long c.in_default.ensures.logging) c.in_default.ensures.log_shut
+    c.self.invariant
+
+pub returns-clause-taken : goal.returns-clause-taken
+returns-clause-taken g c = rw (← c.self.view_is) (
+    let is = c.take_keys.ensures.listing ∙ ap (λ (keys : List ℕ). record { settings = c.self.inside.tally.listing.settings; cone = c.self.inside.tally.listing.cone; events = keys; closed = c.self.inside.tally.listing.closed })
+    (c.in_default.ensures.taken ∙ ap (λ (keys : List ℕ). c.self.inside.tally.listing.events ++ keys) c.as_slice-keys.ensures) in
+    let moved = when_ok c.append_entry.result (search rules) c.append_entry.ensures.moved in
+    λ i. record {
+      bay = c.take_keys.new.bay;
+      made = c.self.inside.made.value;
+      listing = is i;
+      rows = c.take_keys.new.tally.rows;
+      reports = c.take_keys.new.tally.due.reports;
+      events = c.self.inside.events + c.len-len.ensures i;
+      state = c.self.inside.state;
+      over = over_of c.self.inside.over;
+      gate = (ap (λ (log : Log). log.gate) moved) i;
+      log = c.take_keys.new.log;
+    })
 
 pub returns-clause-stands_for : goal.returns-clause-stands_for
 returns-clause-stands_for g c = rw (← c.self.view_is) (λ h stands.
