@@ -630,3 +630,35 @@ log_at_close s valid cone events rows records reports within keys own at are_row
         reports_are = all_listed s valid cone LogKind.Closing n rows records reports within (early, next) at are_rows are few begun is.rules is.closed_is ∙ reports_are;
       };
     }
+
+-- ---- for those who append
+
+-- rows take few bytes of a record, whatever the events
+pub directory_fits : (s : Numbers) (rows : List (List BinAt)) → AreRows s rows → length (directory_text rows) ≤ s.levels * (1 + s.bins)
+directory_fits s rows are =
+    let row_bytes : List BinAt → List ℕ = λ row. length row ∷ map (λ bin. bin.frame) row in
+    let few : (k : ℕ) → k < length rows → length (row_bytes (get_or rows k [])) ≤ 1 + s.bins =
+    λ k below. (
+    let row_is : row_of rows (k + 1) ≡ get_or rows k [] = ap (λ i. get_or rows i []) (let same : k + 1 - 1 ≡ k = omega arith in same) in
+    let is : IsRow s (k + 1) (get_or rows k []) = subst (IsRow s (k + 1)) row_is (are.each (k + 1) (omega arith) (omega (arith, below, are.levels))) in
+    omega (arith, is.few, length-map (get_or rows k []) (λ (bin : BinAt). bin.frame))) in
+    let all : All (λ row. length (row_bytes row) ≤ 1 + s.bins) rows = All-from_get_or (λ row. length (row_bytes row) ≤ 1 + s.bins) rows [] few in
+    let sum = sum_by-le (λ (row : List BinAt). length (row_bytes row)) (1 + s.bins) rows all in
+    let product = ap (λ n. n * (1 + s.bins)) are.levels in
+    omega (arith, length-flat_map row_bytes rows, sum, product)
+
+-- a later position has no earlier last flush
+pub last_flush_grows : (s : Numbers) (m n : ℕ) → m ≤ n → last_flush s m ≤ last_flush s n
+last_flush_grows s m zero early = (let none : m ≡ 0 = omega arith in omega (arith, ap (last_flush s) none))
+last_flush_grows s m (suc n) early =
+    elim (cases_lt m (suc n)) [
+      | inl before ↦ elim (cases_eq (edge s 0 (suc n)) (edge s 0 n)) [
+        | inl stays ↦ omega (arith, flush_stays s n stays, last_flush_grows s m n (omega arith))
+        | inr moves ↦ omega (arith, flush_there s n moves, last_flush_within s m)
+      ]
+      | inr now ↦ (let same : m ≡ suc n = omega arith in omega (arith, ap (last_flush s) same))
+    ]
+
+-- the events up to the last flush are the first of all that come
+pub flushed_of_more : (s : Numbers) (events more : List ℕ) → take (last_flush s (length events)) (events ++ more) ≡ flushed s events
+flushed_of_more s events more = take-append-le (last_flush s (length events)) events more (last_flush_within s (length events))

@@ -9,7 +9,7 @@ use Rattle.lert_reports.specs.declared.log.LogKind.{LogKind}
 use Rattle.lert_reports.specs.declared.log.LogParts.{LogParts}
 use Rattle.lert_reports.specs.LogText.{LogRecord, log_payload_of, left_at, log_left, bin_count}
 use Rattle.lert_gatelog.specs.Gated.{Records, No_gate}
-use Rattle.lert_reports.specs.Log.{log_header, most_record, before_of, AreRecords, HasLog, IsRepeatedAt, LogLeavesAt, In_header, At_gate, Behind_closing}
+use Rattle.lert_reports.specs.Log.{log_header, most_record, before_of, AreRecords, HasLog, IsRepeatedAt, LogLeavesAt, In_header, At_gate, In_payload, Behind_closing}
 use Rattle.lert_reports.proofs.LogLaws.{records_none, records_more}
 use Rattle.lert_reports.specs.LogRules.{AreFrames, AreNew, KeepsRules, record_in}
 
@@ -249,3 +249,15 @@ listed_twice = record { k = 1; some = omega arith; place_is = refl; whole = omeg
 
 listed_earlier : IsRepeatedAt alone closed.reports closed_bytes 31
 listed_earlier = record { k = 0; some = omega arith; place_is = refl; whole = omega arith; listed_before = refl }
+
+-- a third kind, at the first byte of the payload
+third_kind_log : LogLeavesAt alone 0 (log_header ++ (1 ∷ 47 ∷ 0 ∷ 0 ∷ 0 ∷ []) ++ 3 ∷ drop 1 closed_bytes) 13
+third_kind_log = In_payload [] 8 (record { headed = refl; records_stand = refl; rules = records_none alone 0 })
+    (record {
+      payload = 3 ∷ drop 1 closed_bytes;
+      place = 0;
+      stands = record { opened = refl; counted = refl; some = omega arith; fits = omega arith; there = refl };
+      still_open = refl;
+      leaves = record { leaves = inl third_kind; first_broken = λ other left. omega arith; first_repeated = λ other again. omega arith };
+      at_is = refl;
+    })

@@ -1,10 +1,10 @@
 -- How a log grows by a record, what its records say together, and how long a payload is.
 use Rattle.std.proofs.Common.{ℕ, ◌≡◌, ◌≢◌, ◌+◌, ◌*◌, Bool, false, cond, List, [], ◌∷◌, ◌++◌, length, map, refl, ap, ap₂, sym, ◌∙◌, arith, inl, inr, ◌⊎◌, subst, length-append}
-use Rattle.std.specs.Prelude.{flat_map}
+use Rattle.std.specs.Prelude.{flat_map, fold}
 use Rattle.std.specs.List.{AllPairs}
 use Rattle.std.proofs.lemmas.List.{append-nil, map-append}
 use Rattle.std.proofs.lemmas.List.Concat.{flat_map-cons}
-use Rattle.std.proofs.lemmas.List.Sums.{fold_push, sum_by_push}
+use Rattle.std.proofs.lemmas.List.Sums.{fold_push, fold-append, sum_by_push}
 use Rattle.std.proofs.lemmas.Grind.{flat_map-append}
 use Rattle.byteorder.specs.Endian.{little_bytes}
 use Rattle.lert_spec.specs.declared.numbers.Numbers.{Numbers}
@@ -69,6 +69,28 @@ flushes_in-push records one = sum_by_push (λ (record_ : LogRecord). cond {A = �
 
 pub last_at-push : (reports : List Report) (one : Report) → last_at (reports ++ one ∷ []) ≡ one.at
 last_at-push reports one = fold_push (λ (earlier : ℕ) (report : Report). report.at) 0 reports one
+
+-- the position of the last report, with more behind those that are listed
+abbrev pub last_at_from : ℕ → List Report → ℕ
+last_at_from at reports = fold (λ earlier report. report.at) at reports
+
+pub last_at-append : (listed more : List Report) → last_at (listed ++ more) ≡ last_at_from (last_at listed) more
+last_at-append listed more = fold-append (λ (earlier : ℕ) (report : Report). report.at) 0 listed more
+
+-- what the next record finds behind one more
+pub before_of-push : (records : List LogRecord) (one : LogRecord) → before_of (records ++ one ∷ []) ≡ record {
+  flushes = flushes_in records + cond (is_flush one.kind) 1 0;
+  n0 = one.n0;
+  reports = length (listed_in records) + length one.reports;
+  at = last_at_from (last_at (listed_in records)) one.reports;
+}
+before_of-push records one =
+    let flushes = flushes_in-push records one in
+    let n0 = last_n0-push records one in
+    let listed = listed_in-push records one in
+    let reports = ap (length {A = Report}) listed ∙ length-append (listed_in records) one.reports in
+    let at = ap last_at listed ∙ last_at-append (listed_in records) one.reports in
+    λ i. record { flushes = flushes i; n0 = n0 i; reports = reports i; at = at i }
 
 -- ---- records that keep the rules
 

@@ -218,7 +218,7 @@ report_read s cone before record_ payload parts k other valid rules is tell belo
     report_back payload found.0 (parts.reports_at + 16 * k) (slice_index_or record_.reports k other) (rules.reports.fit k other among) at_fits found.1
 
 -- so the record that is read is the one that was written
-record_back : (s : Numbers) (cone : ℕ) (before : LogBefore) (record_ : LogRecord) (payload : List ℕ) (parts : LogParts) → IsValid s → KeepsRules s cone before record_ → payload ≡ log_payload_of record_ → ArePartsOf s payload parts →
+pub record_back : (s : Numbers) (cone : ℕ) (before : LogBefore) (record_ : LogRecord) (payload : List ℕ) (parts : LogParts) → IsValid s → KeepsRules s cone before record_ → payload ≡ log_payload_of record_ → ArePartsOf s payload parts →
     record_in s payload parts ≡ record_
 record_back s cone before record_ payload parts valid rules is are =
     let tell = parts_tell s cone before record_ payload parts valid rules is are in
@@ -247,3 +247,32 @@ pub reads_back : (s : Numbers) (cone : ℕ) (before : LogBefore) (payload : List
 reads_back s cone before payload (Ok parts) valid found record_ rules is =
     (parts_tell s cone before record_ payload parts valid rules is found.1, record_back s cone before record_ payload parts valid rules is found.1)
 reads_back s cone before payload (Err place) valid left record_ rules is = none-some place (sym (never_left s cone before record_ payload valid rules is) ∙ left)
+
+-- ---- the parts of a record
+
+abbrev pub parts_of : LogRecord → LogParts
+parts_of record_ = record {
+  kind = record_.kind;
+  n0 = record_.n0;
+  offset = record_.offset;
+  first = record_.first;
+  directory_at = 25;
+  reports_at = 29 + length (directory_bytes record_.directory);
+  reports = length record_.reports;
+}
+
+-- they are those of its payload
+pub parts_stand : (s : Numbers) (cone : ℕ) (before : LogBefore) (record_ : LogRecord) (payload : List ℕ) → IsValid s → KeepsRules s cone before record_ → payload ≡ log_payload_of record_ → ArePartsOf s payload (parts_of record_)
+parts_stand s cone before record_ payload valid rules is =
+    let as_laid = laid s cone before record_ payload valid rules is in
+    record {
+      kind_is = sym as_laid.head.kind_is;
+      n0_is = sym as_laid.head.n0_is;
+      offset_is = sym as_laid.head.offset_is;
+      first_is = sym as_laid.head.first_is;
+      directory_is = refl;
+      place_is = omega (arith, as_laid.place_is);
+      reports_are = sym as_laid.reports_are;
+      within = rules.within;
+      ends = omega (arith, as_laid.reports_stand.within, as_laid.place_is, length_reports record_.reports);
+    }
