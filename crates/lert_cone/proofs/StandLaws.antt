@@ -132,8 +132,12 @@ module _ (leaves since : Files → Type 0) (seen : Files) (t : Tallied) (log : L
   sound_appending each image may = elim (each image may) [
     | inl same ↦ inl (sound_of t.listing.settings t.listing.cone history t.listing.events t.rows t.listing.closed up.logged log.gate counted.valid counted.rows
         (partway_all history t.listing.events whole.keys (late_all history t.listing.events whole.keys)) (λ _. whole.keys) up.log_of image (journal_same image may same) (log_then image may) (frames_then image may))
-    | inr more ↦ inr (packet, refl, sound_of t.listing.settings t.listing.cone (history ++ packet ∷ []) t.listing.events t.rows t.listing.closed up.logged log.gate counted.valid counted.rows
-        partway_none (λ ended. absurd (false≢true (sym still ∙ ended))) up.log_of image (journal_more (next_gate gate (payload_of packet)) refl image may more) (log_then image may) (frames_then image may))
+    | inr more ↦ inr (
+      packet,
+      refl,
+      sound_of t.listing.settings t.listing.cone (history ++ packet ∷ []) t.listing.events t.rows t.listing.closed up.logged log.gate counted.valid counted.rows
+          partway_none (λ ended. absurd (false≢true (sym still ∙ ended))) up.log_of image (journal_more (next_gate gate (payload_of packet)) refl image may more) (log_then image may) (frames_then image may),
+    )
   ]
 
   -- after Ok
@@ -248,19 +252,19 @@ module _ {B : Type 0} (files : B → Option Files) (leaves : B → Files → Typ
     closed = λ _. ap (λ (l : Listing). l.closed) is;
     near = λ _. omega (arith, ap (λ (j : Log). j.gate) journal_is);
     shut = λ _ seen told. record {
-        settled = (new seen told).journal_settled;
-        closed = λ image may. subst (λ g. IsClosed (image 0) g) (sym (ap (λ (j : Log). j.gate) journal_is)) ((new seen told).journal image may).records.closed;
-      };
+      settled = (new seen told).journal_settled;
+      closed = λ image may. subst (λ g. IsClosed (image 0) g) (sym (ap (λ (j : Log). j.gate) journal_is)) ((new seen told).journal image may).records.closed;
+    };
     logging = λ _. record {
-        most = ap (λ (l : LogPlace). l.most) log_is ∙ ap (λ (l : Listing). most_record l.settings) (sym is);
-        named = omega (arith, ap (λ (l : LogPlace). l.named) log_is);
-        near = omega (arith, ap (λ (l : LogPlace). l.gate) log_is);
-        roomy = omega (arith, ap (λ (l : LogPlace). l.most) log_is, room_is);
-      };
+      most = ap (λ (l : LogPlace). l.most) log_is ∙ ap (λ (l : Listing). most_record l.settings) (sym is);
+      named = omega (arith, ap (λ (l : LogPlace). l.named) log_is);
+      near = omega (arith, ap (λ (l : LogPlace). l.gate) log_is);
+      roomy = omega (arith, ap (λ (l : LogPlace). l.most) log_is, room_is);
+    };
     log_shut = λ _ seen told. record {
-        settled = (new seen told).log_settled;
-        closed = λ image may. subst (λ g. IsClosed (image 1) g) (sym (ap (λ (l : LogPlace). l.gate) log_is)) ((new seen told).log_there image may).records_stand.closed;
-      };
+      settled = (new seen told).log_settled;
+      closed = λ image may. subst (λ g. IsClosed (image 1) g) (sym (ap (λ (l : LogPlace). l.gate) log_is)) ((new seen told).log_there image may).records_stand.closed;
+    };
   }
 
   -- one in another state that isn't broken, or with a packet more

@@ -158,22 +158,24 @@ returns-in-Err-clause-unsound g c = rw (← c.self.view_is) (λ file at same.
     let journaled : IsJournaled c.self.inside.tally.listing.settings c.self.inside.tally.listing.cone (packet_of c.args.entry.now) = subst (λ (v : Standing g.row.B.Denot). IsJournaled v.listing.settings v.listing.cone (packet_of c.args.entry.now)) (sym c.self.view_is) c.requires.fits in
     let within : c.self.inside.events + c.len-len.result ≤ capacity c.self.inside.tally.listing.settings = ok.1 in
     let answer : c.from.result ≡ Unsound file at = cc in
-    let fault_is = unsound_of c.in-Err.fault file at (sym c.from.ensures ∙ answer) in
-    (c.broken_by-self-inside.ensures ∙ ap broken_by fault_is, (λ h stands. untold (g.B.Bay.files c.self.inside.bay) (λ seen told.
-    let fits : length (events_of h) + length c.args.entry.now.keys.keys ≤ capacity c.self.inside.tally.listing.settings = omega (arith, stands.counted, within, c.len-len.ensures) in
-    let whole = stands.whole (ap is_broken ok.0) seen told in
-    let others = subst (λ (f : ℕ). KeepsOthers (g.B.Bay.leaves c.self.inside.bay) ((g.B.Bay.left_since c.append_entry.new.bay) (g.B.Bay.moment c.self.inside.bay)) seen f) c.self.invariant.file (c.append_entry.ensures.others seen told) in
-    let before = subst (λ (f : ℕ). KeepsBefore (g.B.Bay.leaves c.self.inside.bay) ((g.B.Bay.left_since c.append_entry.new.bay) (g.B.Bay.moment c.self.inside.bay)) seen f c.self.inside.journal.gate) c.self.invariant.file (c.append_entry.ensures.before seen told) in
-    let read = g.met.B.Bay.as_read c.self.inside.bay seen told in
-    let mid = c.append_entry.ensures.seen.told seen told in
-    let gate_is = ap (λ (log : Log). log.gate) (when_ok c.append_entry.result (search rules) c.append_entry.ensures.moved) in
-    let there = appended_there c.append_entry.result (g.B.Bay.leaves c.self.inside.bay) (g.B.Bay.leaves c.append_entry.new.bay) c.self.inside.tally.listing.settings c.self.inside.journal.file c.self.inside.journal.most c.self.inside.journal.gate c.append_entry.new.log.gate (packet_of c.args.entry.now)
-    c.self.invariant.file c.self.invariant.most (search rules) (c.append_entry.ensures.appended seen told) h (records_there (g.B.Bay.leaves c.self.inside.bay) ((g.B.Bay.left_since c.append_entry.new.bay) (g.B.Bay.moment c.self.inside.bay)) seen c.self.inside.tally c.self.inside.log c.self.inside.journal.gate h (packet_of c.args.entry.now) counted still read whole journaled fits others before) in
-    let up = up_appended (g.B.Bay.leaves c.self.inside.bay) ((g.B.Bay.left_since c.append_entry.new.bay) (g.B.Bay.moment c.self.inside.bay)) seen c.self.inside.tally c.self.inside.log c.self.inside.journal.gate h (packet_of c.args.entry.now) counted still read whole journaled fits others before (g.B.Bay.leaves c.append_entry.new.bay) mid.0 c.append_entry.new.log.gate (λ image may. g.met.B.Bay.since_earlier c.append_entry.new.bay (g.B.Bay.moment c.self.inside.bay) (g.B.Bay.moment c.append_entry.new.bay) image c.append_entry.ensures.time.later (g.met.B.Bay.since_now c.append_entry.new.bay image may)) gate_is there
-    (subst (λ (f : ℕ). IsWhollySettled (g.B.Bay.leaves c.append_entry.new.bay) mid.0 f) c.self.invariant.file (when_ok c.append_entry.result (search rules) c.append_entry.ensures.settled mid.0 mid.1))
-    (settled_through 1 (g.B.Bay.files c.self.inside.bay) (g.B.Bay.files c.append_entry.new.bay) (g.B.Bay.leaves c.self.inside.bay) (g.B.Bay.leaves c.append_entry.new.bay) (g.B.Bay.moment c.self.inside.bay) (g.B.Bay.moment c.append_entry.new.bay) (g.B.Bay.left_since c.self.inside.bay) (g.B.Bay.left_since c.append_entry.new.bay) (leaves_others c.self.inside.journal.file 1 (λ same. absurd (omega (arith, same, c.self.invariant.file))) (g.B.Bay.files c.self.inside.bay) (g.B.Bay.files c.append_entry.new.bay) (g.B.Bay.leaves c.self.inside.bay) (g.B.Bay.leaves c.append_entry.new.bay) (g.B.Bay.moment c.self.inside.bay) (g.B.Bay.moment c.append_entry.new.bay) (g.B.Bay.left_since c.self.inside.bay) (g.B.Bay.left_since c.append_entry.new.bay) c.append_entry.ensures.seen c.append_entry.ensures.others c.append_entry.ensures.time (λ image may. g.met.B.Bay.since_earlier c.append_entry.new.bay (g.B.Bay.moment c.self.inside.bay) (g.B.Bay.moment c.append_entry.new.bay) image c.append_entry.ensures.time.later (g.met.B.Bay.since_now c.append_entry.new.bay image may))) seen told whole.in_step.log_settled mid.0 mid.1) in
-    let partway = subst (λ (keys : List ℕ). IsPartway (h ++ (packet_of c.args.entry.now) ∷ []) c.self.inside.tally.listing.events keys) (sym c.as_slice-keys.ensures) (partway_packet h (packet_of c.args.entry.now) c.self.inside.tally.listing.events whole.keys) in
-    c.take_keys.ensures.sound mid.0 mid.1 (h ++ (packet_of c.args.entry.now) ∷ []) partway up file at (c.in-Err.is ∙ ap Err fault_is)))))
+    let fault_is = unsound_of c.in-Err.fault file at (sym c.from.ensures ∙ answer) in (
+      c.broken_by-self-inside.ensures ∙ ap broken_by fault_is,
+      (λ h stands. untold (g.B.Bay.files c.self.inside.bay) (λ seen told.
+          let fits : length (events_of h) + length c.args.entry.now.keys.keys ≤ capacity c.self.inside.tally.listing.settings = omega (arith, stands.counted, within, c.len-len.ensures) in
+          let whole = stands.whole (ap is_broken ok.0) seen told in
+          let others = subst (λ (f : ℕ). KeepsOthers (g.B.Bay.leaves c.self.inside.bay) ((g.B.Bay.left_since c.append_entry.new.bay) (g.B.Bay.moment c.self.inside.bay)) seen f) c.self.invariant.file (c.append_entry.ensures.others seen told) in
+          let before = subst (λ (f : ℕ). KeepsBefore (g.B.Bay.leaves c.self.inside.bay) ((g.B.Bay.left_since c.append_entry.new.bay) (g.B.Bay.moment c.self.inside.bay)) seen f c.self.inside.journal.gate) c.self.invariant.file (c.append_entry.ensures.before seen told) in
+          let read = g.met.B.Bay.as_read c.self.inside.bay seen told in
+          let mid = c.append_entry.ensures.seen.told seen told in
+          let gate_is = ap (λ (log : Log). log.gate) (when_ok c.append_entry.result (search rules) c.append_entry.ensures.moved) in
+          let there = appended_there c.append_entry.result (g.B.Bay.leaves c.self.inside.bay) (g.B.Bay.leaves c.append_entry.new.bay) c.self.inside.tally.listing.settings c.self.inside.journal.file c.self.inside.journal.most c.self.inside.journal.gate c.append_entry.new.log.gate (packet_of c.args.entry.now)
+          c.self.invariant.file c.self.invariant.most (search rules) (c.append_entry.ensures.appended seen told) h (records_there (g.B.Bay.leaves c.self.inside.bay) ((g.B.Bay.left_since c.append_entry.new.bay) (g.B.Bay.moment c.self.inside.bay)) seen c.self.inside.tally c.self.inside.log c.self.inside.journal.gate h (packet_of c.args.entry.now) counted still read whole journaled fits others before) in
+          let up = up_appended (g.B.Bay.leaves c.self.inside.bay) ((g.B.Bay.left_since c.append_entry.new.bay) (g.B.Bay.moment c.self.inside.bay)) seen c.self.inside.tally c.self.inside.log c.self.inside.journal.gate h (packet_of c.args.entry.now) counted still read whole journaled fits others before (g.B.Bay.leaves c.append_entry.new.bay) mid.0 c.append_entry.new.log.gate (λ image may. g.met.B.Bay.since_earlier c.append_entry.new.bay (g.B.Bay.moment c.self.inside.bay) (g.B.Bay.moment c.append_entry.new.bay) image c.append_entry.ensures.time.later (g.met.B.Bay.since_now c.append_entry.new.bay image may)) gate_is there
+          (subst (λ (f : ℕ). IsWhollySettled (g.B.Bay.leaves c.append_entry.new.bay) mid.0 f) c.self.invariant.file (when_ok c.append_entry.result (search rules) c.append_entry.ensures.settled mid.0 mid.1))
+          (settled_through 1 (g.B.Bay.files c.self.inside.bay) (g.B.Bay.files c.append_entry.new.bay) (g.B.Bay.leaves c.self.inside.bay) (g.B.Bay.leaves c.append_entry.new.bay) (g.B.Bay.moment c.self.inside.bay) (g.B.Bay.moment c.append_entry.new.bay) (g.B.Bay.left_since c.self.inside.bay) (g.B.Bay.left_since c.append_entry.new.bay) (leaves_others c.self.inside.journal.file 1 (λ same. absurd (omega (arith, same, c.self.invariant.file))) (g.B.Bay.files c.self.inside.bay) (g.B.Bay.files c.append_entry.new.bay) (g.B.Bay.leaves c.self.inside.bay) (g.B.Bay.leaves c.append_entry.new.bay) (g.B.Bay.moment c.self.inside.bay) (g.B.Bay.moment c.append_entry.new.bay) (g.B.Bay.left_since c.self.inside.bay) (g.B.Bay.left_since c.append_entry.new.bay) c.append_entry.ensures.seen c.append_entry.ensures.others c.append_entry.ensures.time (λ image may. g.met.B.Bay.since_earlier c.append_entry.new.bay (g.B.Bay.moment c.self.inside.bay) (g.B.Bay.moment c.append_entry.new.bay) image c.append_entry.ensures.time.later (g.met.B.Bay.since_now c.append_entry.new.bay image may))) seen told whole.in_step.log_settled mid.0 mid.1) in
+          let partway = subst (λ (keys : List ℕ). IsPartway (h ++ (packet_of c.args.entry.now) ∷ []) c.self.inside.tally.listing.events keys) (sym c.as_slice-keys.ensures) (partway_packet h (packet_of c.args.entry.now) c.self.inside.tally.listing.events whole.keys) in
+          c.take_keys.ensures.sound mid.0 mid.1 (h ++ (packet_of c.args.entry.now) ∷ []) partway up file at (c.in-Err.is ∙ ap Err fault_is))),
+    ))
 
 pub returns-in-Err-clause-each_moment : goal.returns-in-Err-clause-each_moment
 returns-in-Err-clause-each_moment g c = rw (← c.self.view_is) (λ _ seen told h stands image may.
@@ -297,19 +299,19 @@ returns-clause-answers g c = rw (← c.self.view_is) (λ h stands.
       to_is = omega (arith, stands.counted, c.len-len.ensures);
       reports_are = λ seen told.
           let fits : length (events_of h) + length c.args.entry.now.keys.keys ≤ capacity c.self.inside.tally.listing.settings = omega (arith, stands.counted, within, c.len-len.ensures) in
-    let whole = stands.whole (ap is_broken ok.0) seen told in
-    let others = subst (λ (f : ℕ). KeepsOthers (g.B.Bay.leaves c.self.inside.bay) ((g.B.Bay.left_since c.append_entry.new.bay) (g.B.Bay.moment c.self.inside.bay)) seen f) c.self.invariant.file (c.append_entry.ensures.others seen told) in
-    let before = subst (λ (f : ℕ). KeepsBefore (g.B.Bay.leaves c.self.inside.bay) ((g.B.Bay.left_since c.append_entry.new.bay) (g.B.Bay.moment c.self.inside.bay)) seen f c.self.inside.journal.gate) c.self.invariant.file (c.append_entry.ensures.before seen told) in
-    let read = g.met.B.Bay.as_read c.self.inside.bay seen told in
-    let mid = c.append_entry.ensures.seen.told seen told in
-    let gate_is = ap (λ (log : Log). log.gate) (when_ok c.append_entry.result (search rules) c.append_entry.ensures.moved) in
-    let there = appended_there c.append_entry.result (g.B.Bay.leaves c.self.inside.bay) (g.B.Bay.leaves c.append_entry.new.bay) c.self.inside.tally.listing.settings c.self.inside.journal.file c.self.inside.journal.most c.self.inside.journal.gate c.append_entry.new.log.gate (packet_of c.args.entry.now)
-    c.self.invariant.file c.self.invariant.most (search rules) (c.append_entry.ensures.appended seen told) h (records_there (g.B.Bay.leaves c.self.inside.bay) ((g.B.Bay.left_since c.append_entry.new.bay) (g.B.Bay.moment c.self.inside.bay)) seen c.self.inside.tally c.self.inside.log c.self.inside.journal.gate h (packet_of c.args.entry.now) counted still read whole journaled fits others before) in
-    let up = up_appended (g.B.Bay.leaves c.self.inside.bay) ((g.B.Bay.left_since c.append_entry.new.bay) (g.B.Bay.moment c.self.inside.bay)) seen c.self.inside.tally c.self.inside.log c.self.inside.journal.gate h (packet_of c.args.entry.now) counted still read whole journaled fits others before (g.B.Bay.leaves c.append_entry.new.bay) mid.0 c.append_entry.new.log.gate (λ image may. g.met.B.Bay.since_earlier c.append_entry.new.bay (g.B.Bay.moment c.self.inside.bay) (g.B.Bay.moment c.append_entry.new.bay) image c.append_entry.ensures.time.later (g.met.B.Bay.since_now c.append_entry.new.bay image may)) gate_is there
-    (subst (λ (f : ℕ). IsWhollySettled (g.B.Bay.leaves c.append_entry.new.bay) mid.0 f) c.self.invariant.file (when_ok c.append_entry.result (search rules) c.append_entry.ensures.settled mid.0 mid.1))
-    (settled_through 1 (g.B.Bay.files c.self.inside.bay) (g.B.Bay.files c.append_entry.new.bay) (g.B.Bay.leaves c.self.inside.bay) (g.B.Bay.leaves c.append_entry.new.bay) (g.B.Bay.moment c.self.inside.bay) (g.B.Bay.moment c.append_entry.new.bay) (g.B.Bay.left_since c.self.inside.bay) (g.B.Bay.left_since c.append_entry.new.bay) (leaves_others c.self.inside.journal.file 1 (λ same. absurd (omega (arith, same, c.self.invariant.file))) (g.B.Bay.files c.self.inside.bay) (g.B.Bay.files c.append_entry.new.bay) (g.B.Bay.leaves c.self.inside.bay) (g.B.Bay.leaves c.append_entry.new.bay) (g.B.Bay.moment c.self.inside.bay) (g.B.Bay.moment c.append_entry.new.bay) (g.B.Bay.left_since c.self.inside.bay) (g.B.Bay.left_since c.append_entry.new.bay) c.append_entry.ensures.seen c.append_entry.ensures.others c.append_entry.ensures.time (λ image may. g.met.B.Bay.since_earlier c.append_entry.new.bay (g.B.Bay.moment c.self.inside.bay) (g.B.Bay.moment c.append_entry.new.bay) image c.append_entry.ensures.time.later (g.met.B.Bay.since_now c.append_entry.new.bay image may))) seen told whole.in_step.log_settled mid.0 mid.1) in
-    let partway = subst (λ (keys : List ℕ). IsPartway (h ++ (packet_of c.args.entry.now) ∷ []) c.self.inside.tally.listing.events keys) (sym c.as_slice-keys.ensures) (partway_packet h (packet_of c.args.entry.now) c.self.inside.tally.listing.events whole.keys) in
-    let last = c.take_keys.ensures.journal.seen.told mid.0 mid.1 in
+          let whole = stands.whole (ap is_broken ok.0) seen told in
+          let others = subst (λ (f : ℕ). KeepsOthers (g.B.Bay.leaves c.self.inside.bay) ((g.B.Bay.left_since c.append_entry.new.bay) (g.B.Bay.moment c.self.inside.bay)) seen f) c.self.invariant.file (c.append_entry.ensures.others seen told) in
+          let before = subst (λ (f : ℕ). KeepsBefore (g.B.Bay.leaves c.self.inside.bay) ((g.B.Bay.left_since c.append_entry.new.bay) (g.B.Bay.moment c.self.inside.bay)) seen f c.self.inside.journal.gate) c.self.invariant.file (c.append_entry.ensures.before seen told) in
+          let read = g.met.B.Bay.as_read c.self.inside.bay seen told in
+          let mid = c.append_entry.ensures.seen.told seen told in
+          let gate_is = ap (λ (log : Log). log.gate) (when_ok c.append_entry.result (search rules) c.append_entry.ensures.moved) in
+          let there = appended_there c.append_entry.result (g.B.Bay.leaves c.self.inside.bay) (g.B.Bay.leaves c.append_entry.new.bay) c.self.inside.tally.listing.settings c.self.inside.journal.file c.self.inside.journal.most c.self.inside.journal.gate c.append_entry.new.log.gate (packet_of c.args.entry.now)
+          c.self.invariant.file c.self.invariant.most (search rules) (c.append_entry.ensures.appended seen told) h (records_there (g.B.Bay.leaves c.self.inside.bay) ((g.B.Bay.left_since c.append_entry.new.bay) (g.B.Bay.moment c.self.inside.bay)) seen c.self.inside.tally c.self.inside.log c.self.inside.journal.gate h (packet_of c.args.entry.now) counted still read whole journaled fits others before) in
+          let up = up_appended (g.B.Bay.leaves c.self.inside.bay) ((g.B.Bay.left_since c.append_entry.new.bay) (g.B.Bay.moment c.self.inside.bay)) seen c.self.inside.tally c.self.inside.log c.self.inside.journal.gate h (packet_of c.args.entry.now) counted still read whole journaled fits others before (g.B.Bay.leaves c.append_entry.new.bay) mid.0 c.append_entry.new.log.gate (λ image may. g.met.B.Bay.since_earlier c.append_entry.new.bay (g.B.Bay.moment c.self.inside.bay) (g.B.Bay.moment c.append_entry.new.bay) image c.append_entry.ensures.time.later (g.met.B.Bay.since_now c.append_entry.new.bay image may)) gate_is there
+          (subst (λ (f : ℕ). IsWhollySettled (g.B.Bay.leaves c.append_entry.new.bay) mid.0 f) c.self.invariant.file (when_ok c.append_entry.result (search rules) c.append_entry.ensures.settled mid.0 mid.1))
+          (settled_through 1 (g.B.Bay.files c.self.inside.bay) (g.B.Bay.files c.append_entry.new.bay) (g.B.Bay.leaves c.self.inside.bay) (g.B.Bay.leaves c.append_entry.new.bay) (g.B.Bay.moment c.self.inside.bay) (g.B.Bay.moment c.append_entry.new.bay) (g.B.Bay.left_since c.self.inside.bay) (g.B.Bay.left_since c.append_entry.new.bay) (leaves_others c.self.inside.journal.file 1 (λ same. absurd (omega (arith, same, c.self.invariant.file))) (g.B.Bay.files c.self.inside.bay) (g.B.Bay.files c.append_entry.new.bay) (g.B.Bay.leaves c.self.inside.bay) (g.B.Bay.leaves c.append_entry.new.bay) (g.B.Bay.moment c.self.inside.bay) (g.B.Bay.moment c.append_entry.new.bay) (g.B.Bay.left_since c.self.inside.bay) (g.B.Bay.left_since c.append_entry.new.bay) c.append_entry.ensures.seen c.append_entry.ensures.others c.append_entry.ensures.time (λ image may. g.met.B.Bay.since_earlier c.append_entry.new.bay (g.B.Bay.moment c.self.inside.bay) (g.B.Bay.moment c.append_entry.new.bay) image c.append_entry.ensures.time.later (g.met.B.Bay.since_now c.append_entry.new.bay image may))) seen told whole.in_step.log_settled mid.0 mid.1) in
+          let partway = subst (λ (keys : List ℕ). IsPartway (h ++ (packet_of c.args.entry.now) ∷ []) c.self.inside.tally.listing.events keys) (sym c.as_slice-keys.ensures) (partway_packet h (packet_of c.args.entry.now) c.self.inside.tally.listing.events whole.keys) in
+          let last = c.take_keys.ensures.journal.seen.told mid.0 mid.1 in
           let up_last = c.in_default.ensures.in_step mid.0 mid.1 (h ++ (packet_of c.args.entry.now) ∷ []) partway up last.0 last.1 in
           c.len.ensures.count
           ∙ ap length (ap (λ (v : Stored). v.reports) c.store.ensures ∙ up_last.reports_are
