@@ -1,5 +1,6 @@
 -- The definitions, computed on the files that three keys 7 leave.
-use Rattle.std.proofs.Common.{◌≡◌, ℕ, zero, suc, List, [], ◌∷◌, map, refl, arith}
+use Rattle.std.proofs.Common.{◌≡◌, ℕ, zero, suc, ◌+◌, ◌-◌, ◌^◌, ◌<◌, ◌≤◌, List, [], ◌∷◌, map, take, refl, sym, arith}
+use Rattle.std.specs.Prelude.{slice_index_or}
 use Rattle.std.proofs.lemmas.List.Elements.{All-nil, All-cons}
 use Rattle.lert_base.specs.Packet.{Packet}
 use Rattle.lert_bay.specs.Files.{Files}
@@ -9,7 +10,14 @@ use Rattle.lert_spec.specs.Mix.{mix, cone_of}
 use Rattle.lert_cone.specs.Framed.{last_flush}
 use Rattle.lert_base.specs.Packet.{events_of}
 use Rattle.lert_cone.specs.History.{most_payload, end_of}
-use Rattle.lert_cone.specs.Sound.{IsSound}
+use Rattle.lert_cone.specs.Sound.{IsSoundClosed, HoldFrames}
+use Rattle.lert_reports.specs.declared.log.LogKind.{LogKind}
+use Rattle.lert_reports.specs.Log.{HasLog, before_of, last_directory, listed_in}
+use Rattle.lert_reports.specs.LogRules.{AreFrames, KeepsRules}
+use Rattle.lert_reports.specs.LogText.{LogRecord, bin_count}
+use Rattle.lert_reports.proofs.LogLaws.{records_none, records_more}
+use Rattle.lert_spec.specs.Bins.{bins}
+use Rattle.lert_spec.specs.Look.{closing}
 
 abbrev small : Numbers
 small = record { threshold = 3; bins = 3; ratio = 2; base = 4; levels = 2; cone_bits = 0; room = 32; packet = 8 }
@@ -27,9 +35,19 @@ journal_bytes =
     ∷ 7 ∷ 0 ∷ 0 ∷ 0 ∷ 0 ∷ 0 ∷ 0 ∷ 0 ∷ 7 ∷ 0 ∷ 0 ∷ 0 ∷ 0 ∷ 0 ∷ 0 ∷ 0 ∷ 7 ∷ 0 ∷ 0 ∷ 0 ∷ 0 ∷ 0 ∷ 0 ∷ 0
     ∷ 0 ∷ []
 
+abbrev log_bytes : List ℕ
+log_bytes =
+    0x4c ∷ 0x45 ∷ 0x52 ∷ 0x54 ∷ 0x4c ∷ 1 ∷ 0 ∷ 0
+    ∷ 1 ∷ 47 ∷ 0 ∷ 0 ∷ 0
+    ∷ 2 ∷ 3 ∷ 0 ∷ 0 ∷ 0 ∷ 0 ∷ 0 ∷ 0 ∷ 0
+    ∷ 32 ∷ 0 ∷ 0 ∷ 0 ∷ 0 ∷ 0 ∷ 0 ∷ 0 ∷ 1 ∷ 0 ∷ 0 ∷ 0 ∷ 0 ∷ 0 ∷ 0 ∷ 0
+    ∷ 0 ∷ 0 ∷ 1 ∷ 0 ∷ 0 ∷ 0
+    ∷ 7 ∷ 0 ∷ 0 ∷ 0 ∷ 0 ∷ 0 ∷ 0 ∷ 0 ∷ 3 ∷ 0 ∷ 0 ∷ 0 ∷ 0 ∷ 0 ∷ 0 ∷ 0
+    ∷ 0 ∷ []
+
 abbrev files : Files
 files zero = journal_bytes
-files (suc zero) = 0x4c ∷ 0x45 ∷ 0x52 ∷ 0x54 ∷ 0x4c ∷ 1 ∷ 0 ∷ 0 ∷ 0 ∷ []
+files (suc zero) = log_bytes
 files (suc (suc number)) = []
 
 -- two packets of these, and where they end
@@ -59,17 +77,90 @@ journaled = record {
       (All-cons (λ key. cone_of small key ≡ 0) 7 [] refl (All-nil (λ key. cone_of small key ≡ 0))));
 }
 
--- and the files are sound for them
-sound : IsSound small 0 (sevens ∷ []) files
-sound = record {
+-- the closing record behind them
+abbrev ending : LogRecord
+ending = record { kind = LogKind.Closing; n0 = 3; offset = 32; first = 1; directory = [] ∷ [] ∷ []; reports = record { key = 7; at = 3 } ∷ [] }
+
+no_frames : (level : ℕ) → bin_count small level 3 ≡ 0 → AreFrames small level 3 []
+no_frames level none = record {
+  counted = sym none;
+  known = All-nil (λ frame. frame ≤ 3);
+  distinct = λ i j d less within. absurd (omega (arith, within));
+}
+
+no_frames_at : (k : ℕ) → k < 2 → AreFrames small (k + 1) 3 (slice_index_or ending.directory k [])
+no_frames_at zero below = no_frames 1 refl
+no_frames_at (suc zero) below = no_frames 2 refl
+no_frames_at (suc (suc k)) below = absurd (omega (arith, below))
+
+of_cone : cone_of small 7 ≡ 0
+unfolding mix
+of_cone = refl
+
+ending_keeps : KeepsRules small 0 (before_of []) ending
+ending_keeps = record {
+  within = omega arith;
+  in_turn = (omega arith, omega arith);
+  offset_from = omega arith;
+  offset_to = omega arith;
+  first_from = omega arith;
+  first_to = omega arith;
+  levels = refl;
+  frames = no_frames_at;
+  room = omega arith;
+  reports = record {
+    fit = All-cons (λ report. report.key < 2 ^ 64) (record { key = 7; at = 3 }) [] (omega arith) (All-nil (λ report. report.key < 2 ^ 64));
+    of_cone = All-cons (λ report. cone_of small report.key ≡ 0) (record { key = 7; at = 3 }) [] of_cone (All-nil (λ report. cone_of small report.key ≡ 0));
+    placed = All-cons (λ report. (1 ≤ report.at) × (0 ≤ report.at) × (report.at ≤ 3)) (record { key = 7; at = 3 }) [] (omega arith, omega arith, omega arith)
+        (All-nil (λ report. (1 ≤ report.at) × (0 ≤ report.at) × (report.at ≤ 3)));
+    ascending = λ i j d less within. absurd (omega (arith, less, within));
+  };
+}
+
+log : HasLog small 0 log_bytes (ending ∷ []) 60
+log = record {
   headed = refl;
-  records = record {
+  records_stand = record {
     records = (record { opened = refl; counted = refl; some = omega arith; fits = omega arith; there = refl }, refl);
     closed = record { within = omega arith; shut = λ one. absurd (omega (arith, one)) };
   };
-  journaled = All-cons (IsJournaled small 0) sevens [] journaled (All-nil (IsJournaled small 0));
-  within = omega arith;
-  log = refl;
+  rules = records_more small 0 [] ending (records_none small 0) refl ending_keeps (λ i j d less within. absurd (omega (arith, less, within)));
+}
+
+no_bins : (level : ℕ) → 1 ≤ level → level ≤ 2 → HoldFrames small level [] (slice_index_or (last_directory small (ending ∷ [])) (level - 1) []) (bins small (take 3 (events_of (sevens ∷ []))) level)
+no_bins zero first last = absurd (omega (arith, first))
+no_bins (suc zero) first last = tt
+no_bins (suc (suc zero)) first last = tt
+no_bins (suc (suc (suc level))) first last = absurd (omega (arith, last))
+
+listed : listed_in (ending ∷ []) ≡ closing small (events_of (sevens ∷ []))
+unfolding mix
+listed = refl
+
+-- and the files are sound for them, and closed
+sound : IsSoundClosed small 0 (sevens ∷ []) files
+sound = record {
+  sound = record {
+    journal = record {
+      headed = refl;
+      records = record {
+        records = (record { opened = refl; counted = refl; some = omega arith; fits = omega arith; there = refl }, refl);
+        closed = record { within = omega arith; shut = λ one. absurd (omega (arith, one)) };
+      };
+      journaled = All-cons (IsJournaled small 0) sevens [] journaled (All-nil (IsJournaled small 0));
+      within = omega arith;
+    };
+    logged = ending ∷ [];
+    log_end = 60;
+    log = log;
+    n0_most = omega arith;
+    n0_least = omega arith;
+    frames = record { each = no_bins };
+    reports_are = listed;
+    closed_behind = λ _. refl;
+  };
+  closed_is = refl;
+  n0_is = refl;
 }
 
 -- the flushes of these settings stand at the positions 12, 16, 20, ..

@@ -132,8 +132,12 @@ module _ (leaves since : Files → Type 0) (seen : Files) (t : Tallied) (log : L
   sound_appending each image may = elim (each image may) [
     | inl same ↦ inl (sound_of t.listing.settings t.listing.cone history t.listing.events t.rows t.listing.closed up.logged log.gate counted.valid counted.rows
         (partway_all history t.listing.events whole.keys (late_all history t.listing.events whole.keys)) (λ _. whole.keys) up.log_of image (journal_same image may same) (log_then image may) (frames_then image may))
-    | inr more ↦ inr (packet, refl, sound_of t.listing.settings t.listing.cone (history ++ packet ∷ []) t.listing.events t.rows t.listing.closed up.logged log.gate counted.valid counted.rows
-        partway_none (λ ended. absurd (false≢true (sym still ∙ ended))) up.log_of image (journal_more (next_gate gate (payload_of packet)) refl image may more) (log_then image may) (frames_then image may))
+    | inr more ↦ inr (
+      packet,
+      refl,
+      sound_of t.listing.settings t.listing.cone (history ++ packet ∷ []) t.listing.events t.rows t.listing.closed up.logged log.gate counted.valid counted.rows
+          partway_none (λ ended. absurd (false≢true (sym still ∙ ended))) up.log_of image (journal_more (next_gate gate (payload_of packet)) refl image may more) (log_then image may) (frames_then image may),
+    )
   ]
 
   -- after Ok
@@ -248,19 +252,19 @@ module _ {B : Type 0} (files : B → Option Files) (leaves : B → Files → Typ
     closed = λ _. ap (λ (l : Listing). l.closed) is;
     near = λ _. omega (arith, ap (λ (j : Log). j.gate) journal_is);
     shut = λ _ seen told. record {
-        settled = (new seen told).journal_settled;
-        closed = λ image may. subst (λ g. IsClosed (image 0) g) (sym (ap (λ (j : Log). j.gate) journal_is)) ((new seen told).journal image may).records.closed;
-      };
+      settled = (new seen told).journal_settled;
+      closed = λ image may. subst (λ g. IsClosed (image 0) g) (sym (ap (λ (j : Log). j.gate) journal_is)) ((new seen told).journal image may).records.closed;
+    };
     logging = λ _. record {
-        most = ap (λ (l : LogPlace). l.most) log_is ∙ ap (λ (l : Listing). most_record l.settings) (sym is);
-        named = omega (arith, ap (λ (l : LogPlace). l.named) log_is);
-        near = omega (arith, ap (λ (l : LogPlace). l.gate) log_is);
-        roomy = omega (arith, ap (λ (l : LogPlace). l.most) log_is, room_is);
-      };
+      most = ap (λ (l : LogPlace). l.most) log_is ∙ ap (λ (l : Listing). most_record l.settings) (sym is);
+      named = omega (arith, ap (λ (l : LogPlace). l.named) log_is);
+      near = omega (arith, ap (λ (l : LogPlace). l.gate) log_is);
+      roomy = omega (arith, ap (λ (l : LogPlace). l.most) log_is, room_is);
+    };
     log_shut = λ _ seen told. record {
-        settled = (new seen told).log_settled;
-        closed = λ image may. subst (λ g. IsClosed (image 1) g) (sym (ap (λ (l : LogPlace). l.gate) log_is)) ((new seen told).log_there image may).records_stand.closed;
-      };
+      settled = (new seen told).log_settled;
+      closed = λ image may. subst (λ g. IsClosed (image 1) g) (sym (ap (λ (l : LogPlace). l.gate) log_is)) ((new seen told).log_there image may).records_stand.closed;
+    };
   }
 
   -- one in another state that isn't broken, or with a packet more
@@ -422,3 +426,28 @@ kept_since after since seen P read now each = record { as_read = each seen (now 
 -- files that aren't told stay untold
 pub turned_none : {step : Files → Files → Type 0} (before after : Option Files) → Turns step before after → before ≡ None → after ≡ None
 turned_none before after turns = turns.untold
+
+-- what an append says of a log's file and greatest payload, said of the journal
+pub each_there : (leaves since : Files → Type 0) (s : Numbers) (file most gate : ℕ) (history : List Packet) (packet : Packet) → file ≡ 0 → most ≡ most_payload s
+    → (InEach leaves file (λ bytes. HasPackets most bytes 32 history gate) → InEach since file (HasPacketsOrOneMore most 32 history gate packet))
+    → InEach leaves 0 (λ bytes. HasPackets (most_payload s) bytes 32 history gate) → InEach since 0 (HasPacketsOrOneMore (most_payload s) 32 history gate packet)
+each_there leaves since s file most gate history packet file_is most_is each =
+    subst (λ (m : ℕ). InEach leaves 0 (λ bytes. HasPackets m bytes 32 history gate) → InEach since 0 (HasPacketsOrOneMore m 32 history gate packet)) most_is
+    (subst (λ (f : ℕ). InEach leaves f (λ bytes. HasPackets most bytes 32 history gate) → InEach since f (HasPacketsOrOneMore most 32 history gate packet)) file_is each)
+
+-- a packet more
+pub some_more : (history : List Packet) (packet : Packet) → All (λ p. 0 < length p.keys) history → 0 < length packet.keys → All (λ p. 0 < length p.keys) (history ++ packet ∷ [])
+some_more history packet all some = All-append (λ p. 0 < length p.keys) history (packet ∷ []) all (All-cons (λ p. 0 < length p.keys) packet [] some (All-nil (λ p. 0 < length p.keys)))
+
+pub keys_more : (history : List Packet) (packet : Packet) (events : List ℕ) → events ≡ events_of history → events ++ packet.keys ≡ events_of (history ++ packet ∷ [])
+keys_more history packet events keys = ap (λ ks. ks ++ packet.keys) keys ∙ sym (events_more history packet)
+
+-- turns in a row
+pub turns_on : (one two : Files → Files → Type 0) (before between after : Option Files) → Turns one before between → Turns two between after → Turns Anything before after
+turns_on one two before between after first second = record {
+  told = λ old told.
+      let came = first.told old told in
+      let went = second.told came.0 came.1 in
+      (went.0, went.1, tt);
+  untold = λ none. second.untold (first.untold none);
+}

@@ -31,8 +31,9 @@ const SMALL: Numbers = Numbers {
 const JOURNAL_TEXT: [u8; 70] =
     *b"LERTJ\x01\0\0\x03\0\0\0\x20\0\0\0\x04\0\0\0\x08\0\0\0\x03\x02\x02\0\0\0\0\0\x01\x20\0\0\0\0\0\0\0\0\0\0\0\x07\0\0\0\0\0\0\0\x07\0\0\0\0\0\0\0\x07\0\0\0\0\0\0\0\0";
 
-// A log without a record.
-const LOG_TEXT: [u8; 9] = *b"LERTL\x01\0\0\0";
+// The log that they leave: the closing record after three events, which names no frame, and one report.
+const LOG_TEXT: [u8; 61] =
+    *b"LERTL\x01\0\0\x01\x2f\0\0\0\x02\x03\0\0\0\0\0\0\0\x20\0\0\0\0\0\0\0\x01\0\0\0\0\0\0\0\0\0\x01\0\0\0\x07\0\0\0\0\0\0\0\x03\0\0\0\0\0\0\0\0";
 
 // An entry with these keys, all of the only cone.
 fn entry(rt: &impl Abort, alloc: Global, settings: &Settings, keys: &[u64]) -> Result<Entry, Fail>
@@ -203,12 +204,15 @@ fn a_failed_call_breaks_the_cone(rt: HostRuntime) -> Result<(), Fail> {
 }
 
 #[test]
-fn a_failed_flush_breaks_the_cone_and_leaves_the_packet(rt: HostRuntime) -> Result<(), Fail> {
+fn a_failed_flush_or_record_breaks_the_cone_and_leaves_the_packet(
+    rt: HostRuntime,
+) -> Result<(), Fail> {
     let settings = small(32)?;
     let keys = sevens_at(rt.alloc(), 11, &[])?;
     let last = entry(&rt, rt.alloc(), &settings, &[7])?;
-    // Seven calls make the cone, and four append each packet. Behind them stand those of the first flush.
-    for call in [56, 57, 58] {
+    // Seven calls make the cone, and four append each packet. Behind them stand those of the first flush, and then the
+    // four that append its record.
+    for call in [56, 57, 58, 59, 60, 61, 62] {
         let mut bay = MemBay::new(rt.alloc())?;
         bay.fail_at(call);
         let mut cone = created(rt.alloc(), &settings, bay)?;

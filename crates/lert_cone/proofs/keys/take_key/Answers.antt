@@ -60,7 +60,7 @@ returns-then-not-is_flushed-clause-journal g c = (leaves_rest _ 0 (λ same. absu
 
 -- a record
 pub append-requires-clause-fits : goal.append-requires-clause-fits
-append-requires-clause-fits g c = 
+append-requires-clause-fits g c =
     let is = (c.take.ensures.listing ∙ ap (λ (keys : List ℕ). record { settings = c.args.tally.now.listing.settings; cone = c.args.tally.now.listing.cone; events = keys; closed = c.args.tally.now.listing.closed }) c.in_ok-take.ensures.taken) in
     let settings_are : c.take.new.self.listing.settings ≡ c.args.tally.now.listing.settings = ap (λ (l : Listing). l.settings) is in
     let reports_are = c.list-reports.ensures.reports ∙ ap (λ (v : Stored). v.reports) c.store.ensures in
@@ -97,7 +97,7 @@ pub returns-in_err-append-clause-journal : goal.returns-in_err-append-clause-jou
 returns-in_err-append-clause-journal g c = (leaves_on 0 (g.B.Bay.files c.args.bay.now) (g.B.Bay.files c.take.new.bay) (g.B.Bay.files c.append.new.bay) (g.B.Bay.leaves c.args.bay.now) (g.B.Bay.leaves c.take.new.bay) (g.B.Bay.leaves c.append.new.bay) (g.B.Bay.moment c.args.bay.now) (g.B.Bay.moment c.take.new.bay) (g.B.Bay.moment c.append.new.bay) (g.B.Bay.left_since c.args.bay.now) (g.B.Bay.left_since c.take.new.bay) (g.B.Bay.left_since c.append.new.bay) (leaves_rest _ 0 (λ same. absurd (omega (arith, same))) (g.B.Bay.files c.args.bay.now) (g.B.Bay.files c.take.new.bay) (g.B.Bay.leaves c.args.bay.now) (g.B.Bay.leaves c.take.new.bay) (g.B.Bay.moment c.args.bay.now) (g.B.Bay.moment c.take.new.bay) (g.B.Bay.left_since c.args.bay.now) (g.B.Bay.left_since c.take.new.bay) c.take.ensures.rest (λ image may. g.met.B.Bay.since_earlier c.take.new.bay (g.B.Bay.moment c.args.bay.now) (g.B.Bay.moment c.take.new.bay) image c.take.ensures.rest.time.later (g.met.B.Bay.since_now c.take.new.bay image may))) (leaves_others 1 0 (λ same. absurd (omega (arith, same))) (g.B.Bay.files c.take.new.bay) (g.B.Bay.files c.append.new.bay) (g.B.Bay.leaves c.take.new.bay) (g.B.Bay.leaves c.append.new.bay) (g.B.Bay.moment c.take.new.bay) (g.B.Bay.moment c.append.new.bay) (g.B.Bay.left_since c.take.new.bay) (g.B.Bay.left_since c.append.new.bay) c.append.ensures.seen c.append.ensures.others c.append.ensures.time (λ image may. g.met.B.Bay.since_earlier c.append.new.bay (g.B.Bay.moment c.take.new.bay) (g.B.Bay.moment c.append.new.bay) image c.append.ensures.time.later (g.met.B.Bay.since_now c.append.new.bay image may))) (g.met.B.Bay.since_earlier c.append.new.bay))
 
 pub returns-clause-logging : goal.returns-clause-logging
-returns-clause-logging g c = 
+returns-clause-logging g c =
     let is = (c.take.ensures.listing ∙ ap (λ (keys : List ℕ). record { settings = c.args.tally.now.listing.settings; cone = c.args.tally.now.listing.cone; events = keys; closed = c.args.tally.now.listing.closed }) c.in_ok-take.ensures.taken) in
     let settings_are : c.take.new.self.listing.settings ≡ c.args.tally.now.listing.settings = ap (λ (l : Listing). l.settings) is in
     let reports_are = c.list-reports.ensures.reports ∙ ap (λ (v : Stored). v.reports) c.store.ensures in
