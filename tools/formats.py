@@ -19,7 +19,11 @@ WORD = (1 << 64) - 1
 
 
 class Left(Exception):
-    """The file leaves its format. The text says where."""
+    """The file leaves its format at this byte."""
+
+    def __init__(self, at: int) -> None:
+        super().__init__(f"the file leaves its format at byte {at}")
+        self.at = at
 
 
 class Header(NamedTuple):
@@ -52,20 +56,17 @@ def cone_of(cone_bits: int, key: int) -> int:
     return mixed(key) >> (64 - cone_bits)
 
 
-def left(at: int) -> Left:
-    return Left(f"the file leaves its format at byte {at}")
-
-
 def begins_with(data: bytes, magic: bytes) -> None:
     for at, byte in enumerate(magic):
         if at >= len(data) or data[at] != byte:
-            raise left(at)
+            raise Left(at)
 
 
 def header_of(data: bytes) -> Header:
     begins_with(data, JOURNAL_MAGIC)
-    if len(data) < HEADER_LEN:
-        raise left(len(data))
+    # Behind it stands the first gate.
+    if len(data) <= HEADER_LEN:
+        raise Left(len(data))
     return Header(*struct.unpack_from("<4I4BI", data, 8))
 
 
@@ -74,17 +75,17 @@ def payloads(data: bytes, first: int, most: int) -> Iterator[tuple[int, bytes]]:
     gate = first
     while True:
         if gate >= len(data):
-            raise left(len(data))
+            raise Left(len(data))
         if data[gate] != OPEN:
             return
         if gate + 5 > len(data):
-            raise left(len(data))
+            raise Left(len(data))
         (count,) = struct.unpack_from("<I", data, gate + 1)
         if not 0 < count <= most:
-            raise left(gate + 1)
+            raise Left(gate + 1)
         end = gate + 5 + count
         if end > len(data):
-            raise left(len(data))
+            raise Left(len(data))
         yield gate + 1, data[gate + 5 : end]
         gate = end
 
@@ -92,16 +93,16 @@ def payloads(data: bytes, first: int, most: int) -> Iterator[tuple[int, bytes]]:
 def packet_of(header: Header, at: int, payload: bytes) -> Packet:
     count, rest = divmod(len(payload) - 8, 8)
     if rest or not 1 <= count <= 4 * header.packet:
-        raise left(at)
+        raise Left(at)
     by, trace = struct.unpack_from("<2I", payload)
     if by > MOST_BY:
-        raise left(at + 4)
+        raise Left(at + 4)
     if trace > MOST_TRACE:
-        raise left(at + 8)
+        raise Left(at + 8)
     keys = struct.unpack_from(f"<{count}Q", payload, 8)
     for number, key in enumerate(keys):
         if cone_of(header.cone_bits, key) != header.cone:
-            raise left(at + 12 + 8 * number)
+            raise Left(at + 12 + 8 * number)
     return Packet(by, trace, keys)
 
 
@@ -118,4 +119,4 @@ def trace_keys(data: bytes) -> Iterator[int]:
     for (key,) in struct.iter_unpack("<Q", data[8:whole]):
         yield key
     if whole < len(data):
-        raise left(whole)
+        raise Left(whole)
