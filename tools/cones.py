@@ -1,0 +1,334 @@
+"""What the files of a cone hold, by their formats, and the reports of its events, by the definitions alone.
+
+It knows nothing of the program. All files of a cone are kept in memory. The reports of 1,000,000 events take
+some seconds.
+"""
+
+from __future__ import annotations
+
+import struct
+from bisect import bisect_right
+from collections import Counter, defaultdict
+from pathlib import Path
+from typing import Callable, Iterator, NamedTuple, TypeVar
+
+from formats import (
+    HEADER_LEN,
+    LOG_MAGIC,
+    Header,
+    Left,
+    Packet,
+    begins_with,
+    cone_of,
+    header_of,
+    mixed,
+    packets,
+    payloads,
+)
+
+SUFFIXES = (".journal", ".log", ".frames")
+JOURNAL, LOG, FRAMES = range(3)
+FLUSH, CLOSING = 1, 2
+MOST_OFFSET = 1 << 46
+MOST_COUNT = 1 << 47
+
+Read = TypeVar("Read")
+
+
+class Unsound(Exception):
+    """The files keep their formats, and yet aren't sound. The text says why."""
+
+
+class Broken(Exception):
+    """A file leaves its format, or is at odds with the file that was read before, at this byte of it."""
+
+    def __init__(self, file: int, at: int) -> None:
+        super().__init__(f"file {file} is broken at byte {at}")
+        self.file = file
+        self.at = at
+
+
+class Levels(NamedTuple):
+    """The edges of the levels. Positions count from 1; a level holds those above its edge, up to that of the level before."""
+
+    base: int
+    ratio: int
+    bins: int
+    levels: int
+
+    def span(self, level: int) -> int:
+        return self.base * self.ratio**level
+
+    def offset(self, level: int) -> int:
+        return (self.bins - 1) * sum(self.span(one) for one in range(level + 1))
+
+    def edge(self, level: int, events: int) -> int:
+        return max(0, events - self.offset(level)) // self.span(level) * self.span(level)
+
+    def depth(self, at: int) -> int:
+        """The greatest level that takes a bin at this position; 0 at one that is no flush position."""
+        moved = (one for one in range(self.levels, 0, -1) if self.edge(one - 1, at) != self.edge(one - 1, at - 1))
+        return next(moved, 0)
+
+    def lookback(self, at: int) -> int:
+        return self.edge(self.depth(at), at - 1)
+
+    def is_flush(self, at: int) -> bool:
+        return self.edge(0, at) != self.edge(0, at - 1)
+
+    def last_flush(self, events: int) -> int:
+        first = self.bins * self.base
+        return 0 if events < first else events - (events - first) % self.base
+
+    def capacity(self, header: Header) -> int:
+        return min(self.offset(self.levels) + self.span(self.levels) - 1, header.threshold * header.room)
+
+    def ranges(self, level: int, events: int) -> Iterator[tuple[int, int]]:
+        """The positions of the bins of a level: above the first number, up to the second."""
+        low, high, span = self.edge(level, events), self.edge(level - 1, events), self.span(level)
+        for k in range(low // span, -(-high // span)):
+            one = max(low, k * span), min(high, (k + 1) * span)
+            if one[0] < one[1]:
+                yield one
+
+    def frame_len(self, level: int) -> int:
+        return 4 + 16 * self.span(level)
+
+    def frame_place(self, level: int, frame: int) -> int:
+        return (self.bins + 1) * sum(self.frame_len(one) for one in range(1, level)) + frame * self.frame_len(level)
+
+
+class Report(NamedTuple):
+    key: int
+    at: int
+
+
+class Record(NamedTuple):
+    kind: int
+    n0: int
+    offset: int
+    first: int
+    directory: list[list[int]]
+    reports: list[Report]
+
+
+def look(levels: Levels, threshold: int, events: list[int]) -> list[Report]:
+    """At each position the keys not listed that occur `threshold` times in the window that it looks back to."""
+    reports: list[Report] = []
+    places: dict[int, list[int]] = defaultdict(list)
+    # A key that is due somewhere occurs that often in all: only these are looked at.
+    waiting: set[int] = set()
+    listed: set[int] = set()
+    for at, key in enumerate(events, 1):
+        places[key].append(at)
+        if len(places[key]) >= threshold and key not in listed:
+            waiting.add(key)
+        asked = sorted(waiting, key=mixed) if levels.is_flush(at) else [key] if key in waiting else []
+        start = levels.lookback(at) if asked else 0
+        for one in asked:
+            if len(places[one]) - bisect_right(places[one], start) >= threshold:
+                reports.append(Report(one, at))
+                listed.add(one)
+                waiting.remove(one)
+    return reports
+
+
+def closing(levels: Levels, threshold: int, events: list[int]) -> list[Report]:
+    reports = look(levels, threshold, events)
+    listed = {report.key for report in reports}
+    rest = [key for key, count in Counter(events).items() if count >= threshold and key not in listed]
+    return reports + [Report(key, len(events)) for key in sorted(rest, key=mixed)]
+
+
+MADE = {"look": look, "closing": closing}
+
+
+class Fields:
+    """The fields of a log record's payload, read in their order."""
+
+    def __init__(self, payload: bytes, place: int) -> None:
+        self.payload = payload
+        self.place = place
+        self.at = 0
+
+    def number(self, size: int) -> int:
+        if self.at + size > len(self.payload):
+            raise Left(self.place + self.at)
+        self.at += size
+        return int.from_bytes(self.payload[self.at - size : self.at], "little")
+
+    def keep(self, rule: bool, size: int) -> None:
+        """The rule of the field that was read last."""
+        if not rule:
+            raise Left(self.place + self.at - size)
+
+    def ruled(self, size: int, least: int, most: int) -> int:
+        number = self.number(size)
+        self.keep(least <= number <= most, size)
+        return number
+
+
+class Log:
+    """The records of a log, each of which keeps the rules behind those before it."""
+
+    def __init__(self, header: Header, levels: Levels) -> None:
+        self.header = header
+        self.levels = levels
+        self.n0 = 0
+        self.flushes = 0
+        self.closed = False
+        self.directory: list[list[int]] = [[] for _ in range(levels.levels)]
+        self.reports: list[Report] = []
+        self.listed: set[int] = set()
+        self.records: list[Record] = []
+
+    def read(self, data: bytes) -> None:
+        begins_with(data, LOG_MAGIC)
+        most = 29 + self.levels.levels * (1 + self.levels.bins) + 16 * self.header.room
+        for at, payload in payloads(data, len(LOG_MAGIC), most):
+            if self.closed:
+                raise Left(at - 1)
+            self.take(Fields(payload, at + 4))
+
+    def take(self, fields: Fields) -> None:
+        kind = fields.ruled(1, FLUSH, CLOSING)
+        n0 = fields.number(8)
+        due = (self.levels.bins + self.flushes) * self.levels.base
+        in_turn = n0 == due if kind == FLUSH else self.n0 <= n0 < due
+        fields.keep(n0 <= self.levels.capacity(self.header) and in_turn, 8)
+        offset = fields.ruled(8, HEADER_LEN, MOST_OFFSET)
+        first = fields.ruled(8, 1, self.levels.edge(0, n0) + 1)
+        directory = [self.frames(fields, level, n0) for level in range(1, self.levels.levels + 1)]
+        reports = self.new_reports(fields, n0)
+        if fields.at < len(fields.payload):
+            raise Left(fields.place + fields.at)
+        self.n0, self.directory, self.closed = n0, directory, kind == CLOSING
+        self.flushes += kind == FLUSH
+        self.records.append(Record(kind, n0, offset, first, directory, reports))
+
+    def frames(self, fields: Fields, level: int, n0: int) -> list[int]:
+        count = len(list(self.levels.ranges(level, n0)))
+        fields.ruled(1, count, count)
+        frames: list[int] = []
+        for _ in range(count):
+            frame = fields.ruled(1, 0, self.levels.bins)
+            fields.keep(frame not in frames, 1)
+            frames.append(frame)
+        return frames
+
+    def new_reports(self, fields: Fields, n0: int) -> list[Report]:
+        count = fields.ruled(4, 0, self.header.room - len(self.reports))
+        reports = []
+        for _ in range(count):
+            key = fields.number(8)
+            own = cone_of(self.header.cone_bits, key) == self.header.cone
+            fields.keep(own and key not in self.listed, 8)
+            at = fields.ruled(8, max(1, self.reports[-1].at if self.reports else 1), n0)
+            self.listed.add(key)
+            self.reports.append(Report(key, at))
+            reports.append(self.reports[-1])
+        return reports
+
+
+def pieces_at(data: bytes, place: int, tails: int, width: int) -> list[tuple[int, int]]:
+    """The pieces of the frame at a place, whose tails are below a limit and whose counts add up to the width."""
+    if place + 4 > len(data):
+        raise Left(len(data))
+    (count,) = struct.unpack_from("<I", data, place)
+    if count > width:
+        raise Left(place)
+    pieces: list[tuple[int, int]] = []
+    for at in range(place + 4, place + 4 + 16 * count, 16):
+        if at + 8 > len(data):
+            raise Left(len(data))
+        (tail,) = struct.unpack_from("<Q", data, at)
+        if tail >= tails or (pieces and tail <= pieces[-1][0]):
+            raise Left(at)
+        if at + 16 > len(data):
+            raise Left(len(data))
+        (times,) = struct.unpack_from("<Q", data, at + 8)
+        if not 1 <= times <= MOST_COUNT:
+            raise Left(at + 8)
+        pieces.append((tail, times))
+    if sum(times for _tail, times in pieces) != width:
+        raise Left(place)
+    return pieces
+
+
+class Cone:
+    """The files of a cone, read in the order in which they are opened again: the header of the journal, the log, the
+    frames that its last record names, and the packets of the journal."""
+
+    def __init__(self, journal: Path) -> None:
+        self.files = [journal.with_suffix(suffix).read_bytes() for suffix in SUFFIXES]
+        self.header = in_file(JOURNAL, header_of, self.files[JOURNAL])
+        header = self.header
+        self.levels = Levels(header.base, header.ratio, header.bins, header.levels)
+        self.log = Log(header, self.levels)
+        self.packets: list[tuple[int, Packet]] = []
+        self.events: list[int] = []
+        self.frames: list[tuple[int, int, list[tuple[int, int]]]] = []
+
+    def read(self) -> None:
+        in_file(LOG, self.log.read, self.files[LOG])
+        in_file(FRAMES, self.read_frames, self.files[FRAMES])
+        in_file(JOURNAL, self.read_journal, self.files[JOURNAL])
+
+    def read_frames(self, data: bytes) -> None:
+        limit = 1 << (64 - self.header.cone_bits)
+        for level, frames in enumerate(self.log.directory, 1):
+            for (low, high), frame in zip(self.levels.ranges(level, self.log.n0), frames, strict=True):
+                place = self.levels.frame_place(level, frame)
+                self.frames.append((low, high, pieces_at(data, place, limit, high - low)))
+
+    def read_journal(self, data: bytes) -> None:
+        capacity, n0 = self.levels.capacity(self.header), self.log.n0
+        end = HEADER_LEN
+        for gate, packet in packets(data):
+            events = len(self.events) + len(packet.keys)
+            if events > capacity:
+                raise Left(gate + 1)
+            if self.log.closed and events > n0:
+                raise Left(gate)
+            self.packets.append((gate, packet))
+            self.events += packet.keys
+            end = gate + 13 + 8 * len(packet.keys)
+        if len(self.events) < n0:
+            raise Left(end)
+
+    def reports(self, made: str) -> list[Report]:
+        return MADE[made](self.levels, self.header.threshold, self.events)
+
+    def check(self) -> None:
+        """The files, which keep their formats, are sound for the packets of the journal."""
+        n0, events = self.log.n0, len(self.events)
+        before_last = events - len(self.packets[-1][1].keys) if self.packets else 0
+        if n0 < self.levels.last_flush(before_last):
+            raise Unsound(f"the log speaks of {n0} events, and a flush was due behind them")
+        self.check_places()
+        bits = 64 - self.header.cone_bits
+        for low, high, pieces in self.frames:
+            counts = Counter(mixed(key) % (1 << bits) for key in self.events[low:high])
+            if pieces != sorted(counts.items()):
+                raise Unsound(f"the frame of the positions above {low} up to {high} doesn't hold their counts")
+        made = MADE["closing" if self.log.closed else "look"]
+        if self.log.reports != made(self.levels, self.header.threshold, self.events[:n0]):
+            raise Unsound(f"the log's reports aren't those of {n0} events")
+
+    def check_places(self) -> None:
+        """Each record of the log names a record of the journal, and the position of its first key."""
+        starts, position = {(HEADER_LEN, 1)}, 1
+        for gate, packet in self.packets:
+            starts.add((gate, position))
+            position += len(packet.keys)
+        for record in self.log.records:
+            if (record.offset, record.first) not in starts:
+                raise Unsound(f"position {record.first} isn't the first of a record at byte {record.offset}")
+
+
+def in_file(file: int, read: Callable[[bytes], Read], data: bytes) -> Read:
+    """What `read` makes of a file's bytes; the file stands in what it refuses."""
+    try:
+        return read(data)
+    except Left as left:
+        raise Broken(file, left.at) from left

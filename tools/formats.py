@@ -1,0 +1,122 @@
+"""The formats of traces and of a cone's files, as docs/FORMATS.md has them, for the tools beside it.
+
+It knows nothing of the program. A whole file is kept in memory.
+"""
+
+from __future__ import annotations
+
+import struct
+from typing import Iterator, NamedTuple
+
+JOURNAL_MAGIC = bytes.fromhex("4c4552544a010000")
+LOG_MAGIC = bytes.fromhex("4c4552544c010000")
+TRACE_MAGIC = bytes.fromhex("4c45525401000000")
+HEADER_LEN = 32
+OPEN = 1
+MOST_BY = 63
+MOST_TRACE = 1023
+WORD = (1 << 64) - 1
+
+
+class Left(Exception):
+    """The file leaves its format at this byte."""
+
+    def __init__(self, at: int) -> None:
+        super().__init__(f"the file leaves its format at byte {at}")
+        self.at = at
+
+
+class Header(NamedTuple):
+    """What the header of a journal says: the eight numbers, and the cone."""
+
+    threshold: int
+    room: int
+    base: int
+    packet: int
+    bins: int
+    ratio: int
+    levels: int
+    cone_bits: int
+    cone: int
+
+
+class Packet(NamedTuple):
+    by: int
+    trace: int
+    keys: tuple[int, ...]
+
+
+def mixed(key: int) -> int:
+    for factor in (0xFF51AFD7ED558CCD, 0xC4CEB9FE1A85EC53):
+        key = ((key ^ (key >> 33)) * factor) & WORD
+    return key ^ (key >> 33)
+
+
+def cone_of(cone_bits: int, key: int) -> int:
+    return mixed(key) >> (64 - cone_bits)
+
+
+def begins_with(data: bytes, magic: bytes) -> None:
+    for at, byte in enumerate(magic):
+        if at >= len(data) or data[at] != byte:
+            raise Left(at)
+
+
+def header_of(data: bytes) -> Header:
+    begins_with(data, JOURNAL_MAGIC)
+    # Behind it stands the first gate.
+    if len(data) <= HEADER_LEN:
+        raise Left(len(data))
+    return Header(*struct.unpack_from("<4I4BI", data, 8))
+
+
+def payloads(data: bytes, first: int, most: int) -> Iterator[tuple[int, bytes]]:
+    """The payloads of the open records from the first gate on, each with the place of its length."""
+    gate = first
+    while True:
+        if gate >= len(data):
+            raise Left(len(data))
+        if data[gate] != OPEN:
+            return
+        if gate + 5 > len(data):
+            raise Left(len(data))
+        (count,) = struct.unpack_from("<I", data, gate + 1)
+        if not 0 < count <= most:
+            raise Left(gate + 1)
+        end = gate + 5 + count
+        if end > len(data):
+            raise Left(len(data))
+        yield gate + 1, data[gate + 5 : end]
+        gate = end
+
+
+def packet_of(header: Header, at: int, payload: bytes) -> Packet:
+    count, rest = divmod(len(payload) - 8, 8)
+    if rest or not 1 <= count <= 4 * header.packet:
+        raise Left(at)
+    by, trace = struct.unpack_from("<2I", payload)
+    if by > MOST_BY:
+        raise Left(at + 4)
+    if trace > MOST_TRACE:
+        raise Left(at + 8)
+    keys = struct.unpack_from(f"<{count}Q", payload, 8)
+    for number, key in enumerate(keys):
+        if cone_of(header.cone_bits, key) != header.cone:
+            raise Left(at + 12 + 8 * number)
+    return Packet(by, trace, keys)
+
+
+def packets(data: bytes) -> Iterator[tuple[int, Packet]]:
+    """The packets of a journal, each with the place of its gate."""
+    header = header_of(data)
+    for at, payload in payloads(data, HEADER_LEN, 8 + 32 * header.packet):
+        yield at - 1, packet_of(header, at, payload)
+
+
+def trace_keys(data: bytes) -> Iterator[int]:
+    begins_with(data, TRACE_MAGIC)
+    whole = len(data) - len(data) % 8
+    for (key,) in struct.iter_unpack("<Q", data[8:whole]):
+        yield key
+    if whole < len(data):
+        raise Left(whole)
