@@ -20,3 +20,5 @@ pub mod HoldLaws
 pub mod LevelLaws
 pub mod FlushLaws
 pub mod LaterLaws
+pub mod NamedLaws
+pub mod CheckLaws
