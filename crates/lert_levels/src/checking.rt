@@ -1,6 +1,6 @@
 //! A check of the frames in which the bins of levels stand.
 
-ghost use Rattle.std.specs.Prelude.{◌≡◌, ℕ, ◌+◌, ◌<◌, ◌≤◌, List, [], Some, None, length, map, OnOk, IsErrOf, slice_index_or};
+ghost use Rattle.std.specs.Prelude.{◌≡◌, ℕ, ◌+◌, ◌<◌, ◌≤◌, ◌^◌, List, [], Some, None, length, map, OnOk, IsErrOf, slice_index_or};
 ghost use Rattle.lert_bay.specs.Files.{IfTold};
 ghost use Rattle.lert_frames.specs.Kept.{OnlyRead};
 ghost use Rattle.lert_io.specs.Fault.{HasRisen};
@@ -83,6 +83,7 @@ fn check_bin<B: Bay>(
     requires frame { bin.now.frame ≤ settings.now.bins }
     requires some { bin.now.from < bin.now.to }
     requires width { width_of bin.now ≤ span settings.now level }
+    requires end { bin.now.to < 2 ^ 32 }
     ensures stand { IfTold (B.files bay.old) (λ seen. OnOk result (Stands settings.now level (seen 2) (pieces_in settings.now (seen 2) level) bin.now)) }
     ensures whole { IfTold (B.files bay.old) (λ seen. OnOk result (bin_left settings.now (seen 2) level bin.now ≡ None)) }
     ensures malformed { IfTold (B.files bay.old) (λ seen. (at : ℕ) → IsErrOf result (FlushFault.Malformed at) →
