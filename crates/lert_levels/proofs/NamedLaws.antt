@@ -1,17 +1,22 @@
 -- What a directory names: where the bins of a level lie, and that the frames and the positions say which rows they are.
-use Rattle.std.proofs.Common.{ℕ, ◌≡◌, ◌≢◌, ◌+◌, ◌-◌, ◌*◌, ◌/◌, ◌<◌, ◌≤◌, zero, suc, cond, ltb, eqb, List, [], ◌∷◌, ◌++◌, length, map, get_or, take, drop, min, max, flat_map, count_by, refl, ap, ap₂, sym, ◌∙◌, arith, inl, inr, subst}
+use Rattle.std.proofs.Common.{ℕ, ◌≡◌, ◌≢◌, ◌+◌, ◌-◌, ◌*◌, ◌/◌, ◌^◌, ◌<◌, ◌≤◌, zero, suc, cond, ltb, eqb, List, [], ◌∷◌, ◌++◌, length, map, get_or, take, drop, min, max, flat_map, count_by, refl, ap, ap₂, sym, ◌∙◌, arith, inl, inr, subst, set, slice_index, slice_range, append-nil, length-append}
 use Rattle.std.specs.List.{All, AllPairs, range_with_len}
 use Rattle.std.proofs.lemmas.Bool.{cases_lt, lt-ltb, le-ltb}
-use Rattle.std.proofs.lemmas.List.{append_cancel_left, length-map, take_at, same_lists, get_or-map}
-use Rattle.std.proofs.Math.Nat.{mul-le-mul_right, suc-mul, mul_comm, div-add-mod, mod-lt}
+use Rattle.std.proofs.Math.Seq.{drop-cons, drop-append-add, get_or-append_seam}
+use Rattle.std.proofs.lemmas.Grind.{flat_map-append}
+use Rattle.std.proofs.lemmas.List.{append_cancel_left, length-map, take_at, take_more, take-append-drop, get_or-set_same, get_or-set_other}
+use Rattle.std.proofs.lemmas.Nat.{mul-le}
+use Rattle.std.proofs.Math.Nat.{mul-le-mul_right, suc-mul, mul_comm, mul-div-le, div-add-mod, mod-lt}
 use Rattle.lert_spec.specs.declared.numbers.Numbers.{Numbers}
-use Rattle.lert_spec.specs.Edges.{span, edge}
+use Rattle.lert_spec.specs.Edges.{span, edge, capacity}
+use Rattle.lert_spec.specs.Limits.{IsValid}
+use Rattle.lert_spec.proofs.LimitLaws.{capacity_to, span_within}
 use Rattle.lert_levels.specs.declared.bin_at.BinAt.{BinAt}
 use Rattle.lert_levels.specs.Named.{AreNamed}
 use Rattle.lert_levels.specs.Ranges.{Range, range_at, ranges}
 use Rattle.lert_levels.specs.Rows.{range_of, row_of, IsAt, directory_text}
 use Rattle.lert_levels.proofs.DirectoryLaws.{row_text}
-use Rattle.lert_levels.proofs.RangeLaws.{range_cuts}
+use Rattle.lert_levels.proofs.RangeLaws.{range_cuts, edge_within}
 
 -- ---- the intervals that hold a level's positions follow one another
 
@@ -118,3 +123,116 @@ same_rows s n one other at at_too text_is =
 
 pub same_named : (s : Numbers) (n : ℕ) (text : List ℕ) (one other : List (List BinAt)) → AreNamed s n text one → AreNamed s n text other → one ≡ other
 same_named s n text one other is is_too = same_rows s n one other is.at is_too.at (is.text_is ∙ sym is_too.text_is)
+
+-- ---- the part of a level in a directory
+
+module _ (text : List ℕ) (named : List (List BinAt)) (text_is : directory_text named ≡ text) (i at : ℕ) (below : i < length named) (at_is : at ≡ length (directory_text (take i named))) where
+  abbrev row : List BinAt
+  row = get_or named i []
+
+  abbrev frames : List ℕ
+  frames = map (λ bin. bin.frame) row
+
+  abbrev front : List ℕ
+  front = directory_text (take i named)
+
+  abbrev rest : List ℕ
+  rest = directory_text (drop (suc i) named)
+
+  whole : text ≡ front ++ (row_text row ++ rest)
+  whole =
+      sym text_is
+      ∙ ap directory_text (sym (take-append-drop i named))
+      ∙ flat_map-append row_text (take i named) (drop i named)
+      ∙ ap (λ rows. front ++ directory_text rows) (drop-cons named i [] below)
+
+  -- it begins with the number of the level's bins
+  pub count_there : slice_index text at ≡ length row
+  count_there = ap₂ (λ t a. get_or t a 0) whole at_is ∙ get_or-append_seam front (length row) (frames ++ rest) 0
+
+  -- it stands wholly in the text
+  pub part_within : at + 1 + slice_index text at ≤ length text
+  part_within =
+      let long = ap length whole in
+      let parts = length-append front (row_text row ++ rest) in
+      let row_long = length-append frames rest in
+      let named_long = length-map row (λ (bin : BinAt). bin.frame) in
+      omega (arith, count_there, at_is)
+
+  -- the frames follow
+  pub frames_there : slice_range text (at + 1) (at + 1 + slice_index text at) ≡ frames
+  frames_there =
+      let count : at + 1 + slice_index text at - (at + 1) ≡ length row = omega (arith, count_there) in
+      let behind : drop (at + 1) text ≡ frames ++ rest = ap₂ (λ a t. drop (a + 1) t) at_is whole ∙ drop-append-add front (row_text row ++ rest) 1 in
+      ap₂ take count behind ∙ take_at frames rest (length row) (length-map row (λ (bin : BinAt). bin.frame))
+
+  -- and behind them the part of the next level
+  pub next_place : at + (1 + length row) ≡ length (directory_text (take (i + 1) named))
+  next_place =
+      let more : directory_text (take (i + 1) named) ≡ front ++ row_text row =
+      ap directory_text (take_more named i [] below) ∙ flat_map-append row_text (take i named) (row ∷ []) ∙ ap (λ xs. front ++ xs) (append-nil (row_text row)) in
+      let long = ap length more in
+      let parts = length-append front (row_text row) in
+      let named_long = length-map row (λ (bin : BinAt). bin.frame) in
+      omega (arith, at_is)
+
+-- ---- the rows as they are put back
+
+-- the intervals of a level's bins end in reach of a number of 64 bits
+pub interval_within : (s : Numbers) → IsValid s → (level n number place wide low : ℕ) → level ≤ s.levels → n ≤ capacity s → wide ≡ span s level → low ≡ edge s level n → number < s.bins → place ≡ low / wide + number → suc place * wide < 2 ^ 64
+interval_within s valid level n number place wide low last within wide_is low_is few place_is =
+    let events = capacity_to s valid in
+    let under = edge_within s level n in
+    let whole = mul-div-le low wide in
+    let narrow = span_within s level valid.limits (omega (arith, last, valid.limits.levels_to)) in
+    let bins = mul-le (suc number) wide 16 (2 ^ 48) (omega (arith, few, valid.limits.bins_to)) (omega (arith, narrow, wide_is)) in
+    let parts : suc (low / wide + number) * wide ≡ wide * (low / wide) + suc number * wide = grind arith in
+    let here = ap (λ p. suc p * wide) place_is in
+    omega (arith, here, parts, bins, whole, under, events, within, low_is)
+
+-- the bins of as many intervals as a level has bins are the level's
+pub ranges_back : (s : Numbers) (n level wide low high count : ℕ) → 1 ≤ wide → wide ≡ span s level → low ≡ edge s level n → high ≡ edge s (level - 1) n → count ≡ length (ranges s n level) →
+    map (range_at wide low high) (range_with_len (low / wide) count) ≡ ranges s n level
+ranges_back s n level wide low high count positive wide_is low_is high_is count_is =
+    (λ i. map (range_at (wide_is i) (low_is i) (high_is i)) (range_with_len (low_is i / wide_is i) (count_is i)))
+    ∙ sym (ranges_run s n level (omega (arith, positive, wide_is)))
+
+-- a level's named row
+pub named_ranges : (s : Numbers) (n : ℕ) (text : List ℕ) (named : List (List BinAt)) → AreNamed s n text named → (i : ℕ) → i < s.levels → map range_of (get_or named i []) ≡ ranges s n (i + 1)
+named_ranges s n text named is i within =
+    let place : i + 1 - 1 ≡ i = omega arith in
+    ap (λ j. map range_of (get_or named j [])) (sym place) ∙ is.at.each (i + 1) (omega arith) (omega arith)
+
+pub named_count : (s : Numbers) (n : ℕ) (text : List ℕ) (named : List (List BinAt)) → AreNamed s n text named → (i : ℕ) → i < s.levels → length (get_or named i []) ≡ length (ranges s n (i + 1))
+named_count s n text named is i within = sym (length-map (get_or named i []) range_of) ∙ ap length (named_ranges s n text named is i within)
+
+pub named_few : (s : Numbers) (n : ℕ) (text : List ℕ) (named : List (List BinAt)) → AreNamed s n text named → (i : ℕ) → i < s.levels → length (get_or named i []) ≤ s.bins
+named_few s n text named is i within =
+    let place : i + 1 - 1 ≡ i = omega arith in
+    let row = is.are.each (i + 1) (omega arith) (omega arith) in
+    omega (arith, row.few, ap (λ j. length (get_or named j [])) place)
+
+-- the row with a level's positions and the named frames is the named one
+pub row_restored : (s : Numbers) (n : ℕ) (text : List ℕ) (named : List (List BinAt)) → AreNamed s n text named → (i at : ℕ) → i < s.levels → at ≡ length (directory_text (take i named)) → (row : List BinAt) (frames : List ℕ) →
+    map range_of row ≡ ranges s n (i + 1) → map (λ (bin : BinAt). bin.frame) row ≡ frames → frames ≡ slice_range text (at + 1) (at + 1 + slice_index text at) → row ≡ get_or named i []
+row_restored s n text named is i at within at_is row frames ranges_are frames_are lent =
+    row_same row (get_or named i []) (ranges_are ∙ sym (named_ranges s n text named is i within))
+    (frames_are ∙ lent ∙ frames_there text named is.text_is i at (omega (arith, is.at.levels)) at_is)
+
+-- one row more
+pub restored_more : {V : Type 0} (items : V → List BinAt) (named : List (List BinAt)) (rows : List V) (i : ℕ) (new : V) → i < length rows → ((k : ℕ) (d : V) → k < i → items (get_or rows k d) ≡ get_or named k []) → items new ≡ get_or named i [] →
+    (k : ℕ) (d : V) → k < i + 1 → items (get_or (set rows i new) k d) ≡ get_or named k []
+restored_more items named rows i new within done is k d below =
+    elim (cases_lt k i) [
+      | inl earlier ↦ ap items (get_or-set_other rows i k new d (λ same. omega arith)) ∙ done k d earlier
+      | inr last ↦ (
+          let same : i ≡ k = omega arith in
+          subst (λ (n : ℕ). items (get_or (set rows i new) n d) ≡ get_or named n []) same (ap items (get_or-set_same rows i new d within) ∙ is))
+    ]
+
+pub restored_all : {V : Type 0} (items : V → List BinAt) (rows : List V) (named : List (List BinAt)) → length rows ≡ length named → ((k : ℕ) (d : V) → k < length rows → items (get_or rows k d) ≡ get_or named k []) → map items rows ≡ named
+restored_all items [] [] len each = refl
+restored_all items [] (list ∷ named) len each = absurd (omega arith)
+restored_all items (row ∷ rows) [] len each = absurd (omega arith)
+restored_all items (row ∷ rows) (list ∷ named) len each =
+    ap₂ (λ z zs. z ∷ zs) (each 0 row (omega arith)) (restored_all items rows named (omega arith) (λ k d below. each (suc k) d (omega arith)))

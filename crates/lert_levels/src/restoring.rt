@@ -1,6 +1,6 @@
 //! The rows of a directory.
 
-ghost use Rattle.std.specs.Prelude.{◌≡◌, ℕ, suc, ◌+◌, ◌*◌, ◌<◌, ◌≤◌, ◌^◌, length, map, All, vec_capacity};
+ghost use Rattle.std.specs.Prelude.{◌≡◌, ℕ, suc, ◌+◌, ◌*◌, ◌<◌, ◌≤◌, ◌^◌, length, map, All, slice_index, slice_range, vec_capacity};
 ghost use Rattle.lert_spec.specs.Edges.{capacity};
 ghost use Rattle.lert_levels.specs.Named.{AreNamed, IsDirectory};
 ghost use Rattle.lert_levels.specs.Ranges.{range_at, ranges};
@@ -23,11 +23,20 @@ pub fn restore_rows(settings: &Settings, n0: u64, directory: &[u8], rows: &mut [
     let _valid = settings.numbers();
     let mut at = 0;
     for (lower, row) in rows.iter_mut().enumerate() {
-        let count = directory[at] as usize;
-        let frames = &directory[at + 1..at + 1 + count];
+        let frames = frames_at(directory, at);
         restore_row(settings, n0, lower as u32 + 1, frames, row);
-        at += 1 + count;
+        at += 1 + frames.len();
     }
+}
+
+// The frames of the level whose part of a directory begins at this place.
+fn frames_at(directory: &[u8], at: usize) -> &[u8]
+    requires place { at < length directory.now }
+    requires within { at + 1 + slice_index directory.now at ≤ length directory.now }
+    ensures { result.now ≡ slice_range directory.now (at + 1) (at + 1 + slice_index directory.now at) }
+{
+    let count = directory[at] as usize;
+    &directory[at + 1..at + 1 + count]
 }
 
 // Puts the bins of a level after `n0` events into its row, in these frames, oldest first.
@@ -42,6 +51,7 @@ fn restore_row(settings: &Settings, n0: u64, level: u32, frames: &[u8], row: &mu
     ensures frames { map (λ bin. bin.frame) row.new.items ≡ frames.now }
     ensures capacity { vec_capacity row.old ≤ vec_capacity row.new }
 {
+    let _valid = settings.numbers();
     let low = settings.edge(level, n0);
     let high = settings.edge(level - 1, n0);
     let wide = settings.span(level);
@@ -55,7 +65,8 @@ fn restore_row(settings: &Settings, n0: u64, level: u32, frames: &[u8], row: &mu
 
 // The bin of the positions of an aligned interval that lie between two edges.
 fn bin_in(interval: u64, wide: u64, low: u64, high: u64, frame: u8) -> BinAt
-    requires { suc interval * wide < 2 ^ 64 }
+    requires some { 1 ≤ wide }
+    requires last { suc interval * wide < 2 ^ 64 }
     ensures range { range_of result ≡ range_at wide low high interval }
     ensures frame { result.frame ≡ frame }
 {
