@@ -33,7 +33,8 @@ pub fn restore_rows(settings: &Settings, n0: u64, directory: &[u8], rows: &mut [
 fn frames_at(directory: &[u8], at: usize) -> &[u8]
     requires place { at < length directory.now }
     requires within { at + 1 + slice_index directory.now at ≤ length directory.now }
-    ensures { result.now ≡ slice_range directory.now (at + 1) (at + 1 + slice_index directory.now at) }
+    ensures frames { result.now ≡ slice_range directory.now (at + 1) (at + 1 + slice_index directory.now at) }
+    ensures end { at + 1 + length result.now < 2 ^ 63 }
 {
     let count = directory[at] as usize;
     &directory[at + 1..at + 1 + count]

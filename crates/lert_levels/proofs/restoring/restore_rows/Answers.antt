@@ -23,7 +23,7 @@ restore_row-requires-clause-count c =
     let named = c.requires.directory.named in
     let rows = c.requires.directory.rows in
     let i = c.loop-lower.lower in
-    ap length (c.frames_at-frames.ensures
+    ap length (c.frames_at-frames.ensures.frames
     ∙ frames_there c.args.directory.now rows named.text_is i c.loop-lower.at (omega (arith, c.loop-lower-test.true, c.loop-lower.auto.rows, c.requires.levels, named.at.levels)) (c.loop-lower.invariant.place rows named))
     ∙ length-map (get_or rows i []) (λ (bin : BinAt). bin.frame)
     ∙ named_count c.args.settings.now c.args.n0 c.args.directory.now rows named i (omega (arith, c.loop-lower-test.true, c.loop-lower.auto.rows, c.requires.levels))
@@ -33,7 +33,7 @@ restore_row-requires-clause-few c =
     let named = c.requires.directory.named in
     let rows = c.requires.directory.rows in
     let i = c.loop-lower.lower in
-    let long = ap length (c.frames_at-frames.ensures
+    let long = ap length (c.frames_at-frames.ensures.frames
     ∙ frames_there c.args.directory.now rows named.text_is i c.loop-lower.at (omega (arith, c.loop-lower-test.true, c.loop-lower.auto.rows, c.requires.levels, named.at.levels)) (c.loop-lower.invariant.place rows named))
     ∙ length-map (get_or rows i []) (λ (bin : BinAt). bin.frame) in
     omega (arith, long, named_few c.args.settings.now c.args.n0 c.args.directory.now rows named i (omega (arith, c.loop-lower-test.true, c.loop-lower.auto.rows, c.requires.levels)))
@@ -43,7 +43,7 @@ restore_row-requires-clause-room c =
     let named = c.requires.directory.named in
     let rows = c.requires.directory.rows in
     let i = c.loop-lower.lower in
-    let long = ap length (c.frames_at-frames.ensures
+    let long = ap length (c.frames_at-frames.ensures.frames
     ∙ frames_there c.args.directory.now rows named.text_is i c.loop-lower.at (omega (arith, c.loop-lower-test.true, c.loop-lower.auto.rows, c.requires.levels, named.at.levels)) (c.loop-lower.invariant.place rows named))
     ∙ length-map (get_or rows i []) (λ (bin : BinAt). bin.frame) in
     omega (
@@ -52,9 +52,6 @@ restore_row-requires-clause-room c =
       named_few c.args.settings.now c.args.n0 c.args.directory.now rows named i (omega (arith, c.loop-lower-test.true, c.loop-lower.auto.rows, c.requires.levels)),
       c.loop-lower.invariant.roomy i c.index-rows-lower.result (omega (arith, c.loop-lower-test.true, c.loop-lower.auto.rows)),
     )
-
-pub overflow_add-at-in-loop-lower : goal.overflow_add-at-in-loop-lower
-overflow_add-at-in-loop-lower c = ?
 
 pub loop-lower-preserved : goal.loop-lower-preserved
 loop-lower-preserved c =
@@ -65,13 +62,13 @@ loop-lower-preserved c =
       place = λ named is.
           (let at_is = c.loop-lower.invariant.place named is in
           let below : i < length named = omega (arith, within, is.at.levels) in
-          let long = ap length (c.frames_at-frames.ensures ∙ frames_there text named is.text_is i c.loop-lower.at below at_is) in
+          let long = ap length (c.frames_at-frames.ensures.frames ∙ frames_there text named is.text_is i c.loop-lower.at below at_is) in
           let row_long = length-map (get_or named i []) (λ (bin : BinAt). bin.frame) in
           omega (arith, next_place text named is.text_is i c.loop-lower.at below at_is, long, row_long));
       done = λ named is.
           restored_more (λ row. row.items) named c.loop-lower.rows i c.restore_row.new.row (omega (arith, c.loop-lower-test.true, c.loop-lower.auto.rows)) (c.loop-lower.invariant.done named is)
           (row_restored c.args.settings.now c.args.n0 text named is i c.loop-lower.at within (c.loop-lower.invariant.place named is) c.restore_row.new.row.items c.frames_at-frames.result.now
-          c.restore_row.ensures.ranges c.restore_row.ensures.frames c.frames_at-frames.ensures);
+          c.restore_row.ensures.ranges c.restore_row.ensures.frames c.frames_at-frames.ensures.frames);
       roomy = All-set (λ row. c.args.settings.now.bins < vec_capacity row) c.loop-lower.rows i c.restore_row.new.row
           (omega (arith, c.loop-lower.invariant.roomy i c.index-rows-lower.result (omega (arith, c.loop-lower-test.true, c.loop-lower.auto.rows)), c.restore_row.ensures.capacity)) c.loop-lower.invariant.roomy;
     }
