@@ -18,6 +18,7 @@ use Rattle.lert_levels.specs.declared.fault.FlushFault.{FlushFault}
 use Rattle.lert_levels.specs.declared.fault.FlushFault.TheVariants.{Failed, Malformed, OutOfMemory}
 use Rattle.lert_levels.specs.Checked.{pieces_in, RowStands, EachStands, bin_left, bins_left, row_left, rows_left}
 use Rattle.lert_levels.specs.Loading.{width_of, Stands, AllStand}
+use Rattle.lert_levels.specs.OnDisk.{OnDisk}
 use Rattle.lert_levels.specs.Rows.{row_of, IsRow, AreRows}
 
 -- ---- the first place of several
@@ -144,3 +145,15 @@ check_passes (Ok found) left none malformed = tt
 check_passes (Err Failed) left none malformed = inl refl
 check_passes (Err OutOfMemory) left none malformed = inr refl
 check_passes (Err (Malformed spot)) left none malformed = absurd (none-some spot (sym none ∙ malformed spot refl))
+
+-- ---- what a caller sees of the rows
+
+pub lent_rows : {V : Type 0} (items : V → List BinAt) (s : Numbers) (rows lent : List V) → AreRows s (map items rows) → lent ≡ rows → (k : ℕ) → k < length lent → IsRow s (k + 1) (get_or (map items lent) k [])
+lent_rows {V} items s rows lent are lent_is k below =
+    let place : k + 1 - 1 ≡ k = omega arith in
+    subst (λ (rs : List V). IsRow s (k + 1) (get_or (map items rs) k [])) (sym lent_is)
+    (subst (λ j. IsRow s (k + 1) (get_or (map items rows) j [])) place
+    (are.each (k + 1) (omega arith) (omega (arith, are.levels, length-map rows items, ap length lent_is))))
+
+pub lent_seen : {V : Type 0} (items : V → List BinAt) (s : Numbers) (rows lent : List V) (seen : OnDisk) → record { settings = s; rows = map items rows } ≡ seen → lent ≡ rows → record { settings = s; rows = map items lent } ≡ seen
+lent_seen items s rows lent seen is lent_is = (λ i. record { settings = s; rows = map items (lent_is i) }) ∙ is

@@ -4,7 +4,7 @@ use Rattle.std.specs.List.{All, AllPairs, range_with_len}
 use Rattle.std.proofs.lemmas.Bool.{cases_lt, lt-ltb, le-ltb}
 use Rattle.std.proofs.Math.Seq.{drop-cons, drop-append-add, get_or-append_seam}
 use Rattle.std.proofs.lemmas.Grind.{flat_map-append}
-use Rattle.std.proofs.lemmas.List.{append_cancel_left, length-map, take_at, take_more, take-append-drop, get_or-set_same, get_or-set_other}
+use Rattle.std.proofs.lemmas.List.{append_cancel_left, length-map, take_at, take_more, take-append-drop, get_or-set_same, get_or-set_other, get_or_default}
 use Rattle.std.proofs.lemmas.Nat.{mul-le}
 use Rattle.std.proofs.Math.Nat.{mul-le-mul_right, suc-mul, mul_comm, mul-div-le, div-add-mod, mod-lt}
 use Rattle.lert_spec.specs.declared.numbers.Numbers.{Numbers}
@@ -14,8 +14,10 @@ use Rattle.lert_spec.proofs.LimitLaws.{capacity_to, span_within}
 use Rattle.lert_levels.specs.declared.bin_at.BinAt.{BinAt}
 use Rattle.lert_levels.specs.Named.{AreNamed}
 use Rattle.lert_levels.specs.Ranges.{Range, range_at, ranges}
+use Rattle.lert_levels.specs.OnDisk.{AreKept}
 use Rattle.lert_levels.specs.Rows.{range_of, row_of, IsAt, directory_text}
 use Rattle.lert_levels.proofs.DirectoryLaws.{row_text}
+use Rattle.lert_levels.proofs.LevelLaws.{directory_short, rows_few, written_back}
 use Rattle.lert_levels.proofs.RangeLaws.{range_cuts, edge_within}
 
 -- ---- the intervals that hold a level's positions follow one another
@@ -236,3 +238,33 @@ restored_all items [] (list ∷ named) len each = absurd (omega arith)
 restored_all items (row ∷ rows) [] len each = absurd (omega arith)
 restored_all items (row ∷ rows) (list ∷ named) len each =
     ap₂ (λ z zs. z ∷ zs) (each 0 row (omega arith)) (restored_all items rows named (omega arith) (λ k d below. each (suc k) d (omega arith)))
+
+-- what stands between two calls, of a vector whose items were written through a slice
+module _ {V : Type 0} (items : V → List BinAt) (capacity_of : V → ℕ) (s : Numbers) (valid : IsValid s) (rows : List V) (directory : List ℕ) (room streams : ℕ) (kept : AreKept items capacity_of s rows directory room streams)
+    (n : ℕ) (text : List ℕ) (lent new after : List V) (count : ℕ) (lent_is : lent ≡ rows) (count_is : length lent ≡ count) (named : AreNamed s n text (map items new)) (after_is : after ≡ take count (new ++ drop (length new) rows)) where
+  back : after ≡ new
+  back =
+      after_is
+      ∙ written_back count new rows
+      (omega (arith, length-map new items, length-map rows items, named.at.levels, kept.are.levels, ap length lent_is))
+
+  pub restored_few : (k : ℕ) (d : V) → k < length after → length (items (get_or after k d)) < 256
+  restored_few k d below = omega (arith, rows_few items s new after named.are back k d below, valid.limits.bins_to)
+
+  pub restored_room : length (directory_text (map items after)) ≤ room
+  restored_room =
+      let short = directory_short s.bins (map items new)
+      (λ k d below. subst (λ (row : List BinAt). length row ≤ s.bins) (get_or_default (map items new) k [] d below) (named_few s n text (map items new) named k (omega (arith, named.at.levels)))) in
+      let product = ap (λ levels. levels * (1 + s.bins)) named.at.levels in
+      subst (λ (rs : List V). length (directory_text (map items rs)) ≤ room) (sym back) (omega (arith, kept.directory_room))
+
+  pub restored_kept : All (λ row. s.bins < capacity_of row) new → (bytes : List ℕ) (more : ℕ) (lent_after : List V) → lent_after ≡ after → bytes ≡ directory_text (map items lent_after) → room ≤ more → AreKept items capacity_of s after bytes more streams
+  restored_kept roomy bytes more lent_after lent_after_is bytes_is grown =
+      subst (λ (rs : List V). AreKept items capacity_of s rs bytes more streams) (sym back)
+      (record {
+        are = named.are;
+        roomy = roomy;
+        directory_is = bytes_is ∙ ap (λ rs. directory_text (map items rs)) (lent_after_is ∙ back);
+        directory_room = omega (arith, kept.directory_room);
+        merges = kept.merges;
+      })
