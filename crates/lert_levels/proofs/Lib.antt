@@ -22,3 +22,5 @@ pub mod FlushLaws
 pub mod LaterLaws
 pub mod NamedLaws
 pub mod CheckLaws
+pub mod PlacedLaws
+pub mod HeldLaws
