@@ -9,8 +9,11 @@ use Rattle.lert_levels.proofs.restoring.restore_rows.Goals as goal
 pub frames_at-frames-requires-clause-place : goal.frames_at-frames-requires-clause-place
 frames_at-frames-requires-clause-place c =
     let named = c.requires.directory.named in
-    omega (arith, part_within c.args.directory.now c.requires.directory.rows named.text_is c.loop-lower.lower c.loop-lower.at
-    (omega (arith, c.loop-lower-test.true, c.loop-lower.auto.rows, c.requires.levels, named.at.levels)) (c.loop-lower.invariant.place c.requires.directory.rows named))
+    omega (
+      arith,
+      part_within c.args.directory.now c.requires.directory.rows named.text_is c.loop-lower.lower c.loop-lower.at
+          (omega (arith, c.loop-lower-test.true, c.loop-lower.auto.rows, c.requires.levels, named.at.levels)) (c.loop-lower.invariant.place c.requires.directory.rows named),
+    )
 
 pub frames_at-frames-requires-clause-within : goal.frames_at-frames-requires-clause-within
 frames_at-frames-requires-clause-within c =
