@@ -1,7 +1,7 @@
 //! Which frames the flushes write, also behind a refused one, what all levels count together, and what is read back of a
 //! directory and of its frames.
 
-ghost use Rattle.std.specs.Prelude.{◌≡◌, ◌+◌, ◌*◌, ◌≤◌, IfOk, OnOk, OnErr};
+ghost use Rattle.std.specs.Prelude.{◌≡◌, ◌+◌, ◌*◌, ◌^◌, ◌<◌, ◌≤◌, IfOk, OnOk, OnErr};
 ghost use Rattle.lert_levels.specs.Samples.{small as small_numbers, IsReady};
 
 use crate::samples::{Taken, fill, piece, small};
@@ -120,7 +120,18 @@ fn a_scan_counts_the_events_of_all_levels(rt: HostRuntime) -> Result<(), Fail> {
     Ok(())
 }
 
-// The levels after 32 events, restored from their directory alone.
+// The levels after 32 events, and the bay with their frames.
+fn written(alloc: Global, settings: &Settings) -> Result<(Levels<PlainTable>, MemBay), Fail>
+    requires { settings.now ≡ small_numbers }
+    ensures { IfOk result (λ both. both.0.settings ≡ small_numbers) }
+{
+    let (mut zero, mut levels) = begin(alloc, settings)?;
+    let mut bay = MemBay::new(alloc)?;
+    directories(alloc, &mut zero, &mut levels, &mut bay, 6)?;
+    Ok((levels, bay))
+}
+
+// These levels, restored from their directory alone.
 fn restored(alloc: Global, settings: &Settings) -> Result<Levels<PlainTable>, Fail>
     requires { settings.now ≡ small_numbers }
     ensures { IfOk result (λ levels. levels.settings ≡ small_numbers) }
@@ -130,39 +141,51 @@ fn restored(alloc: Global, settings: &Settings) -> Result<Levels<PlainTable>, Fa
     Ok(levels)
 }
 
+// Whether two levels have the same bins, and name the same frames.
+fn are_same(one: &Levels<PlainTable>, other: &Levels<PlainTable>) -> bool
+    requires one { one.now.settings ≡ small_numbers }
+    requires other { other.now.settings ≡ small_numbers }
+{
+    one.bins(1) == other.bins(1)
+        && one.bins(2) == other.bins(2)
+        && one.directory() == other.directory()
+}
+
 #[test]
 fn a_directory_brings_the_bins_back(rt: HostRuntime) -> Result<(), Fail> {
-    let alloc = rt.alloc();
     let settings = small()?;
-    let (mut zero, mut levels) = begin(alloc, &settings)?;
-    let mut bay = MemBay::new(alloc)?;
-    directories(alloc, &mut zero, &mut levels, &mut bay, 6)?;
-    let again = restored(alloc, &settings)?;
-    assert_eq!(rt; again.bins(1), levels.bins(1));
-    assert_eq!(rt; again.bins(2), levels.bins(2));
-    assert_eq!(rt; again.directory(), levels.directory());
+    let (levels, _bay) = written(rt.alloc(), &settings)?;
+    let again = restored(rt.alloc(), &settings)?;
+    assert!(rt; are_same(&again, &levels));
     Ok(())
 }
 
-// The oldest bin of level 1 stands at byte 264, that of level 2 at byte 528.
+// Where a check finds the first frame that leaves its format, once this byte is written.
+fn left_after(
+    levels: &mut Levels<PlainTable>,
+    bay: &mut MemBay,
+    at: u64,
+    byte: u8,
+) -> Result<Option<u64>, Fail>
+    requires { at < 2 ^ 32 }
+{
+    bay.write_at(FRAMES, at, &[byte])?;
+    match levels.check(bay) {
+        Ok(()) => Ok(None),
+        Err(FlushFault::Malformed { at }) => Ok(Some(at)),
+        Err(_) => Err(Fail::new("a call of the check failed")),
+    }
+}
+
+// The oldest bin of level 1 stands at byte 264, and that of level 2 at byte 528.
 #[test]
 fn a_check_stops_at_the_first_broken_byte(rt: HostRuntime) -> Result<(), Fail> {
-    let alloc = rt.alloc();
     let settings = small()?;
-    let (mut zero, mut levels) = begin(alloc, &settings)?;
-    let mut bay = MemBay::new(alloc)?;
-    directories(alloc, &mut zero, &mut levels, &mut bay, 6)?;
-    let mut again = restored(alloc, &settings)?;
-    assert_eq!(rt; again.check(&mut bay), Ok(()));
-    bay.write_at(FRAMES, 528, &[9])?;
-    assert_eq!(rt;
-        again.check(&mut bay),
-        Err(FlushFault::Malformed { at: 528 })
-    );
-    bay.write_at(FRAMES, 284, &[1])?;
-    assert_eq!(rt;
-        again.check(&mut bay),
-        Err(FlushFault::Malformed { at: 284 })
-    );
+    let (_levels, mut bay) = written(rt.alloc(), &settings)?;
+    let mut again = restored(rt.alloc(), &settings)?;
+    let whole = left_after(&mut again, &mut bay, 528, 4)?;
+    let older = left_after(&mut again, &mut bay, 528, 9)?;
+    let younger = left_after(&mut again, &mut bay, 284, 1)?;
+    assert_eq!(rt; [whole, older, younger], [None, Some(528), Some(284)]);
     Ok(())
 }
