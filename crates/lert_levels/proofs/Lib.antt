@@ -20,3 +20,7 @@ pub mod HoldLaws
 pub mod LevelLaws
 pub mod FlushLaws
 pub mod LaterLaws
+pub mod NamedLaws
+pub mod CheckLaws
+pub mod PlacedLaws
+pub mod HeldLaws

@@ -1,9 +1,16 @@
 -- What the tests' flushes begin with: positions up to 32.
-use Rattle.std.proofs.Common.{ℕ, zero, suc, ◌≡◌, ◌+◌, ◌-◌, ◌*◌, ◌≤◌, List, refl, ap, sym, ◌∙◌, subst, arith}
+use Rattle.std.proofs.Common.{ℕ, zero, suc, [], ◌∷◌, get_or, lit≤, ◌<◌, ◌≢◌, ◌≡◌, ◌+◌, ◌-◌, ◌*◌, ◌≤◌, List, refl, ap, sym, ◌∙◌, subst, arith}
 use Rattle.lert_spec.specs.declared.numbers.Numbers.{Numbers}
 use Rattle.lert_spec.specs.Edges.{span}
+use Rattle.lert_spec.specs.Limits.{IsValid}
+use Rattle.lert_spec.proofs.LimitLaws.{IsValid-from_unbroken}
+use Rattle.std.specs.List.{AllPairs}
+use Rattle.std.proofs.lemmas.List.Elements.{All-cons, All-nil}
+use Rattle.std.proofs.lemmas.List.Kept.{AllPairs-cons}
+use Rattle.lert_levels.proofs.PlacedLaws.{directory_of_frames}
 use Rattle.lert_levels.specs.declared.bin_at.BinAt.{BinAt}
 use Rattle.lert_levels.specs.Ranges.{ranges}
+use Rattle.lert_levels.specs.Named.{AreFramesAt, IsDirectory}
 use Rattle.lert_levels.specs.Rows.{IsAt}
 use Rattle.lert_levels.specs.OnDisk.{OnDisk}
 use Rattle.lert_levels.specs.Samples.{small, IsReady}
@@ -44,3 +51,31 @@ ready_next k young disk after new ready few settings at new_settings from to =
       to = to;
       at = subst (λ n. IsAt small n after.rows) (sym before) (at_next k after.rows few (subst (λ (s : Numbers). IsAt s (12 + 4 * k) after.rows) now at));
     }
+
+-- ---- the directory after 32 events
+
+valid : IsValid small
+valid = IsValid-from_unbroken small refl
+
+no_pairs : AllPairs {X = ℕ} (λ one other. one ≢ other) []
+no_pairs i j d before below = absurd (omega arith)
+
+abbrev frames_32 : List (List ℕ)
+frames_32 = (2 ∷ 3 ∷ []) ∷ (0 ∷ []) ∷ []
+
+are_frames : (k : ℕ) → k < 2 → AreFramesAt small 32 (k + 1) (get_or frames_32 k [])
+are_frames zero below = record {
+  counted = refl;
+  known = All-cons (λ frame. frame ≤ 3) 2 (3 ∷ []) (lit≤ tt) (All-cons (λ frame. frame ≤ 3) 3 [] (lit≤ tt) (All-nil (λ frame. frame ≤ 3)));
+  distinct = AllPairs-cons (λ one other. one ≢ other) 2 (3 ∷ []) (All-cons (λ other. 2 ≢ other) 3 [] (λ same. omega arith) (All-nil (λ other. 2 ≢ other)))
+      (AllPairs-cons (λ one other. one ≢ other) 3 [] (All-nil (λ other. 3 ≢ other)) no_pairs);
+}
+are_frames (suc zero) below = record {
+  counted = refl;
+  known = All-cons (λ frame. frame ≤ 3) 0 [] (lit≤ tt) (All-nil (λ frame. frame ≤ 3));
+  distinct = AllPairs-cons (λ one other. one ≢ other) 0 [] (All-nil (λ other. 0 ≢ other)) no_pairs;
+}
+are_frames (suc (suc k)) below = absurd (omega arith)
+
+pub directory_32 : IsDirectory small 32 (2 ∷ 2 ∷ 3 ∷ 1 ∷ 0 ∷ [])
+directory_32 = directory_of_frames small valid 32 (lit≤ tt) frames_32 refl are_frames

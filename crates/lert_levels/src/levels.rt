@@ -1,6 +1,6 @@
 //! The levels on disk.
 
-ghost use Rattle.std.specs.Prelude.{◌≡◌, ◌⊎◌, ℕ, ◌+◌, ◌-◌, ◌<◌, ◌≤◌, List, [], length, map, take, replicate, All, IfOk, IfErr, OnOk, OnErr, MatchResult, IsErrOf, slice_index_or, slice_range, vec_capacity};
+ghost use Rattle.std.specs.Prelude.{◌≡◌, ◌⊎◌, ℕ, ◌+◌, ◌-◌, ◌<◌, ◌≤◌, List, [], Some, None, length, map, take, replicate, All, IfOk, IfErr, OnOk, OnErr, MatchResult, IsErrOf, IsErrAnd, slice_index_or, slice_range, vec_capacity};
 ghost use Rattle.lert_bay.specs.Files.{Files, IfTold};
 ghost use Rattle.lert_frames.specs.Kept.{OnlyRead};
 ghost use Rattle.lert_frames.specs.Place.{tail_limit};
@@ -10,21 +10,25 @@ ghost use Rattle.lert_spec.specs.Bins.{tallied};
 ghost use Rattle.lert_spec.specs.Edges.{edge, depth, lookback, capacity};
 ghost use Rattle.lert_spec.specs.Table.{IsTable};
 ghost use Rattle.lert_levels.specs.declared.bin_at.BinAt.{BinAt};
+ghost use Rattle.lert_levels.specs.Checked.{EachStands, rows_left};
 ghost use Rattle.lert_levels.specs.Flushed.{AllCanStand, AreNew, AreEvents, AreAllEvents, InNamed};
 ghost use Rattle.lert_levels.specs.Gathered.{IsWithin};
 ghost use Rattle.lert_levels.specs.Landing.{KeepsRest};
 ghost use Rattle.lert_levels.specs.Loading.{AllStand, OneBreaks};
 ghost use Rattle.lert_levels.specs.Merged.{IsMade, IsFrames};
+ghost use Rattle.lert_levels.specs.Named.{IsDirectory};
 ghost use Rattle.lert_levels.specs.Parts.{streams_to, parts_at};
-ghost use Rattle.lert_levels.specs.Rows.{row_of, IsAt, IsRow, HoldsBins, moved, directory_text};
+ghost use Rattle.lert_levels.specs.Rows.{row_of, IsAt, IsRow, AreRows, HoldsBins, moved, directory_text};
 
 use crate::bin_at::BinAt;
+use crate::checking::check_rows;
 use crate::directory::lay_directory;
 use crate::fault::FlushFault;
 use crate::gather::{Merger, Part};
 use crate::landing::land;
 use crate::merging::load_levels;
 use crate::parts::parts_of;
+use crate::restoring::restore_rows;
 use crate::rows::move_row;
 use crate::zero::Zero;
 use lert_base::{CountTable, Piece, Settings, Totals};
@@ -36,7 +40,7 @@ use std::marker::{Model, PhantomData};
 /// The levels of a cone on disk, seen as its settings and a row of bins for each level from 1 on. The bins stand in the file
 /// of frames, and level 0 in memory, in tables of type `T`.
 ///
-/// Only `new`, `flush` and `scan` take memory.
+/// Only `new`, `flush`, `scan` and `check` take memory.
 #[derive(Drop)]
 pub struct Levels<T: CountTable> {
     alloc: Global,
@@ -77,6 +81,22 @@ impl<T: CountTable> Levels<T> {
             merger: Merger::new(alloc, (levels + 1) * bins)?,
             tables: PhantomData,
         })
+    }
+
+    /// Puts the bins of the levels after `n0` events in the place of those so far, each in the frame that the directory names:
+    /// for each level from 1 on a byte with the number of its bins, and behind it their frames, oldest first. Such a directory
+    /// leaves no choice of the bins. It takes no memory and reads no frame.
+    pub fn restore(&mut self, n0: u64, directory: &[u8])
+        requires within { n0 ≤ capacity self.old.settings }
+        requires directory { IsDirectory self.old.settings n0 directory.now }
+        ensures settings { self.new.settings ≡ self.old.settings }
+        ensures at { IsAt self.new.settings n0 self.new.rows }
+        ensures rows { AreRows self.new.settings self.new.rows }
+        ensures directory { directory_text self.new.rows ≡ directory.now }
+    {
+        let _valid = self.settings.numbers();
+        restore_rows(&self.settings, n0, directory, &mut self.rows);
+        lay_directory(&self.rows, &mut self.directory);
     }
 
     /// The bins of a level on disk, oldest first.
@@ -172,6 +192,31 @@ impl<T: CountTable> Levels<T> {
         let levels = self.settings.numbers().levels as usize;
         let _made = self.merge(zero, levels, &[], bay, totals)?;
         Ok(())
+    }
+
+    /// Reads each frame that the directory names to its end, the levels ascending and each level's oldest bin first, up to the
+    /// first one that leaves its format or whose counts don't add up to the width of its bin. It writes nothing. It takes the
+    /// memory of one bin at a time.
+    pub fn check<B: Bay>(&mut self, bay: &mut B) -> Result<(), FlushFault>
+        ensures same { self.new ≡ self.old }
+
+        // Where the file is told, each frame stands after Ok, and the first place at which one leaves its format is that of
+        // Malformed. Only a call of the bay or memory may fail beside it.
+        ensures stand { IfTold (B.files bay.old) (λ seen. OnOk result (EachStands self.old.settings (seen 2) self.old.rows)) }
+        ensures whole { IfTold (B.files bay.old) (λ seen. OnOk result (rows_left self.old.settings (seen 2) self.old.rows ≡ None)) }
+        ensures malformed { IfTold (B.files bay.old) (λ seen. (at : ℕ) → IsErrOf result (FlushFault.Malformed at) →
+            rows_left self.old.settings (seen 2) self.old.rows ≡ Some at) }
+        ensures refuses { IfTold (B.files bay.old) (λ seen. (at : ℕ) → rows_left self.old.settings (seen 2) self.old.rows ≡ Some at →
+            IsErrAnd result (λ fault. (fault ≡ FlushFault.Malformed at) ⊎ ((fault ≡ FlushFault.Failed) ⊎ (fault ≡ FlushFault.OutOfMemory)))) }
+        ensures sound { IfTold (B.files bay.old) (λ seen. (held : BinAt → List Piece) →
+            AllStand self.old.settings (seen 2) held self.old.rows →
+            IfErr result (λ fault. (fault ≡ FlushFault.Failed) ⊎ (fault ≡ FlushFault.OutOfMemory))) }
+        ensures only_read { OnlyRead (B.files bay.old) (B.files bay.new) (B.leaves bay.old) (B.leaves bay.new) (B.moment bay.old) (B.moment bay.new) (B.left_since bay.old) (B.left_since bay.new) }
+        ensures never_falls { B.faults bay.old ≤ B.faults bay.new }
+        ensures failed { IsErrOf result FlushFault.Failed → HasRisen (B.faults bay.old) (B.faults bay.new) }
+        ensures mark { B.mark bay.new ≡ B.mark bay.old }
+    {
+        check_rows(self.alloc, &self.settings, &self.rows, bay)
     }
 
     // The rows of the levels from 1 up to `depth`.

@@ -2,6 +2,7 @@
 #![tactic(auto)]
 
 mod bin_at;
+mod checking;
 mod directory;
 mod fault;
 mod gather;
@@ -10,6 +11,7 @@ mod levels;
 mod loading;
 mod merging;
 mod parts;
+mod restoring;
 mod rows;
 #[cfg(test)]
 mod samples;

@@ -21,6 +21,10 @@ pub(crate) const SMALL: Numbers = Numbers {
     packet: 8,
 };
 
+pub(crate) const fn piece(tail: u64, count: u64) -> Piece {
+    Piece { tail, count }
+}
+
 pub(crate) fn small() -> Result<Settings, Fail>
     ensures { IfOk result (λ settings. settings ≡ SMALL) }
 {

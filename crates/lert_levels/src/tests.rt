@@ -1,12 +1,13 @@
-//! Which frames the flushes write, and what all levels count together.
+//! Which frames the flushes write, also behind a refused one, what all levels count together, and what is read back of a
+//! directory and of its frames.
 
-ghost use Rattle.std.specs.Prelude.{◌≡◌, ◌+◌, ◌*◌, ◌≤◌, IfOk, OnOk, OnErr};
+ghost use Rattle.std.specs.Prelude.{◌≡◌, ◌+◌, ◌*◌, ◌^◌, ◌<◌, ◌≤◌, IfOk, OnOk, OnErr};
 ghost use Rattle.lert_levels.specs.Samples.{small as small_numbers, IsReady};
 
-use crate::samples::{Taken, fill, small};
+use crate::samples::{Taken, fill, piece, small};
 use crate::{FlushFault, Levels, Zero};
-use lert_base::{Piece, Settings};
-use lert_bay::MemBay;
+use lert_base::Settings;
+use lert_bay::{Bay, FRAMES, MemBay};
 use lert_plain::PlainTable;
 use std::alloc::Global;
 use std::test::Fail;
@@ -42,39 +43,149 @@ fn flush(
     Ok(())
 }
 
+// So many flushes from position 12 on: the directories behind them, one after another.
+fn directories(
+    alloc: Global,
+    zero: &mut Zero<PlainTable>,
+    levels: &mut Levels<PlainTable>,
+    bay: &mut MemBay,
+    flushes: u64,
+) -> Result<Vec<u8>, Fail>
+    requires ready { IsReady 12 zero.old levels.old }
+    requires few { flushes ≤ 6 }
+    ensures { OnOk result (IsReady (12 + 4 * flushes) zero.new levels.new) }
+{
+    let mut seen = Vec::new(alloc);
+    for k in 0..flushes {
+        flush(alloc, zero, levels, bay, k)?;
+        seen.extend_from_slice(levels.directory())?;
+    }
+    Ok(seen)
+}
+
 #[test]
 fn each_bin_is_written_into_the_lowest_free_frame(rt: HostRuntime) -> Result<(), Fail> {
     let alloc = rt.alloc();
-    let settings = small()?;
-    let (mut zero, mut levels) = begin(alloc, &settings)?;
+    let (mut zero, mut levels) = begin(alloc, &small()?)?;
     let mut bay = MemBay::new(alloc)?;
-    assert_eq!(rt; levels.directory(), [0, 0].as_slice());
+    let seen = directories(alloc, &mut zero, &mut levels, &mut bay, 6)?;
+    assert_eq!(rt;
+        seen.as_slice(),
+        b"\x01\0\0\x01\x01\0\x02\x01\0\0\x02\x01\x02\0\x03\x01\x02\0\0\x02\x02\x03\x01\0".as_slice()
+    );
+    Ok(())
+}
+
+// The directory behind a flush of which a call fails, and behind the same flush once more.
+fn directories_around(alloc: Global, settings: &Settings, call: u64) -> Result<Vec<u8>, Fail>
+    requires { settings.now ≡ small_numbers }
+{
+    let (mut zero, mut levels) = begin(alloc, settings)?;
+    let mut bay = MemBay::new(alloc)?;
+    bay.fail_at(call);
+    let Err(_fault) = flush(alloc, &mut zero, &mut levels, &mut bay, 0) else {
+        return Err(Fail::new("no call of the flush failed"));
+    };
+    let mut seen = Vec::new(alloc);
+    seen.extend_from_slice(levels.directory())?;
     flush(alloc, &mut zero, &mut levels, &mut bay, 0)?;
-    assert_eq!(rt; levels.directory(), [1, 0, 0].as_slice());
-    flush(alloc, &mut zero, &mut levels, &mut bay, 1)?;
-    assert_eq!(rt; levels.directory(), [1, 1, 0].as_slice());
-    flush(alloc, &mut zero, &mut levels, &mut bay, 2)?;
-    assert_eq!(rt; levels.directory(), [2, 1, 0, 0].as_slice());
-    flush(alloc, &mut zero, &mut levels, &mut bay, 3)?;
-    assert_eq!(rt; levels.directory(), [2, 1, 2, 0].as_slice());
-    flush(alloc, &mut zero, &mut levels, &mut bay, 4)?;
-    assert_eq!(rt; levels.directory(), [3, 1, 2, 0, 0].as_slice());
-    flush(alloc, &mut zero, &mut levels, &mut bay, 5)?;
-    assert_eq!(rt; levels.directory(), [2, 2, 3, 1, 0].as_slice());
+    seen.extend_from_slice(levels.directory())?;
+    Ok(seen)
+}
+
+// The first call of the flush stores the bin, the second syncs the file.
+#[test]
+fn a_refused_flush_leaves_the_directory(rt: HostRuntime) -> Result<(), Fail> {
+    let alloc = rt.alloc();
+    let settings = small()?;
+    for call in 1..3 {
+        let seen = directories_around(alloc, &settings, call)?;
+        assert_eq!(rt; seen.as_slice(), b"\0\0\x01\0\0".as_slice());
+    }
     Ok(())
 }
 
 #[test]
 fn a_scan_counts_the_events_of_all_levels(rt: HostRuntime) -> Result<(), Fail> {
     let alloc = rt.alloc();
-    let settings = small()?;
-    let (mut zero, mut levels) = begin(alloc, &settings)?;
+    let (mut zero, mut levels) = begin(alloc, &small()?)?;
     let mut bay = MemBay::new(alloc)?;
-    flush(alloc, &mut zero, &mut levels, &mut bay, 0)?;
-    flush(alloc, &mut zero, &mut levels, &mut bay, 1)?;
+    directories(alloc, &mut zero, &mut levels, &mut bay, 2)?;
     let mut totals = Taken::new(alloc);
     levels.scan(&mut bay, &zero, &mut totals)?;
-    let [one, two, three, four] = [1, 2, 3, 4].map(|tail| Piece { tail, count: 5 });
-    assert_eq!(rt; totals.kept.as_slice(), [one, two, three, four].as_slice());
+    assert_eq!(rt;
+        totals.kept.as_slice(),
+        [piece(1, 5), piece(2, 5), piece(3, 5), piece(4, 5)].as_slice()
+    );
+    Ok(())
+}
+
+// The levels after 32 events, and the bay with their frames.
+fn written(alloc: Global, settings: &Settings) -> Result<(Levels<PlainTable>, MemBay), Fail>
+    requires { settings.now ≡ small_numbers }
+    ensures { IfOk result (λ both. both.0.settings ≡ small_numbers) }
+{
+    let (mut zero, mut levels) = begin(alloc, settings)?;
+    let mut bay = MemBay::new(alloc)?;
+    directories(alloc, &mut zero, &mut levels, &mut bay, 6)?;
+    Ok((levels, bay))
+}
+
+// These levels, restored from their directory alone.
+fn restored(alloc: Global, settings: &Settings) -> Result<Levels<PlainTable>, Fail>
+    requires { settings.now ≡ small_numbers }
+    ensures { IfOk result (λ levels. levels.settings ≡ small_numbers) }
+{
+    let mut levels = Levels::new(alloc, settings)?;
+    levels.restore(32, &[2, 2, 3, 1, 0]);
+    Ok(levels)
+}
+
+// Whether two levels have the same bins, and name the same frames.
+fn are_same(one: &Levels<PlainTable>, other: &Levels<PlainTable>) -> bool
+    requires one { one.now.settings ≡ small_numbers }
+    requires other { other.now.settings ≡ small_numbers }
+{
+    one.bins(1) == other.bins(1)
+        && one.bins(2) == other.bins(2)
+        && one.directory() == other.directory()
+}
+
+#[test]
+fn a_directory_brings_the_bins_back(rt: HostRuntime) -> Result<(), Fail> {
+    let settings = small()?;
+    let (levels, _bay) = written(rt.alloc(), &settings)?;
+    let again = restored(rt.alloc(), &settings)?;
+    assert!(rt; are_same(&again, &levels));
+    Ok(())
+}
+
+// Where a check finds the first frame that leaves its format, once this byte is written.
+fn left_after(
+    levels: &mut Levels<PlainTable>,
+    bay: &mut MemBay,
+    at: u64,
+    byte: u8,
+) -> Result<Option<u64>, Fail>
+    requires { at < 2 ^ 32 }
+{
+    bay.write_at(FRAMES, at, &[byte])?;
+    match levels.check(bay) {
+        Ok(()) => Ok(None),
+        Err(FlushFault::Malformed { at }) => Ok(Some(at)),
+        Err(_) => Err(Fail::new("a call of the check failed")),
+    }
+}
+
+// The oldest bin of level 1 stands at byte 264, and that of level 2 at byte 528.
+#[test]
+fn a_check_stops_at_the_first_broken_byte(rt: HostRuntime) -> Result<(), Fail> {
+    let settings = small()?;
+    let (_levels, mut bay) = written(rt.alloc(), &settings)?;
+    let mut again = restored(rt.alloc(), &settings)?;
+    let whole = left_after(&mut again, &mut bay, 528, 4)?;
+    let older = left_after(&mut again, &mut bay, 528, 9)?;
+    let younger = left_after(&mut again, &mut bay, 284, 1)?;
+    assert_eq!(rt; [whole, older, younger], [None, Some(528), Some(284)]);
     Ok(())
 }

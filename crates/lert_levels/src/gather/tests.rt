@@ -2,14 +2,9 @@
 
 use super::{Merger, Part};
 use crate::Zero;
-use crate::samples::{Taken, fill, small};
-use lert_base::Piece;
+use crate::samples::{Taken, fill, piece, small};
 use lert_plain::PlainTable;
 use std::test::Fail;
-
-const fn piece(tail: u64, count: u64) -> Piece {
-    Piece { tail, count }
-}
 
 #[test]
 fn totals_and_parts_are_sums_of_the_bins(rt: HostRuntime) -> Result<(), Fail> {
