@@ -1,15 +1,9 @@
 -- Since the last flush no bin of an older level changed.
-use Rattle.std.proofs.Common.{ℕ, zero, suc, ◌≡◌, ◌+◌, ◌-◌, ◌≤◌, cond, List, [], ◌∷◌, ◌++◌, length, take, get_or, map, All, refl, ap, sym, ◌∙◌, arith, inl, inr, subst, slice_range}
+use Rattle.std.proofs.Common.{ℕ, zero, suc, ◌≡◌, ◌+◌, ◌-◌, ◌≤◌, cond, List, [], ◌∷◌, ◌++◌, length, take, get_or, refl, ap, sym, ◌∙◌, arith, inl, inr}
 use Rattle.std.proofs.lemmas.Bool.{cases_eq, eq-eqb, ne_eqb}
 use Rattle.std.proofs.lemmas.List.{take_more, length-take, take_all}
-use Rattle.lert_frames.specs.Frame.{HoldsFrame}
-use Rattle.lert_frames.specs.Place.{frame_place}
-use Rattle.lert_levels.specs.declared.bin_at.BinAt.{BinAt}
-use Rattle.lert_levels.specs.Ranges.{filled}
-use Rattle.lert_levels.specs.Rows.{IsAt, HoldsBins, range_of, row_of}
-use Rattle.lert_levels.proofs.RangeLaws.{bins-ranges}
 use Rattle.lert_spec.specs.declared.numbers.Numbers.{Numbers}
-use Rattle.lert_spec.specs.Bins.{Bin, bins, tallied}
+use Rattle.lert_spec.specs.Bins.{bins}
 use Rattle.lert_spec.specs.Edges.{edge}
 use Rattle.lert_spec.specs.Limits.{IsValid}
 use Rattle.lert_spec.proofs.BinLaws.{bins-still}

@@ -1,10 +1,10 @@
 -- A key and the end through the calls that they make: the files stay sound, and go together with memory again.
-use Rattle.std.proofs.Common.{◌≡◌, ◌≢◌, ℕ, suc, ◌+◌, ◌-◌, ◌<◌, ◌≤◌, Bool, true, false, cond, List, [], ◌∷◌, ◌++◌, length, take, drop, get_or, map, Option, Some, refl, sym, ap, ◌∙◌, subst, inl, inr, ◌⊎◌, arith, length-append, append-nil, append_assoc}
+use Rattle.std.proofs.Common.{◌≡◌, ◌≢◌, ℕ, suc, ◌+◌, ◌-◌, ◌<◌, ◌≤◌, Bool, false, cond, List, [], ◌∷◌, ◌++◌, length, take, drop, get_or, map, Option, Some, sym, ap, ◌∙◌, subst, inl, inr, ◌⊎◌, arith, length-append, append_assoc}
 use Rattle.std.proofs.lemmas.Bool.{false≢true, ne_eqb}
 use Rattle.std.proofs.lemmas.List.{take_all, take_more, take-append-drop}
-use Rattle.lert_base.specs.Packet.{Packet, events_of}
+use Rattle.lert_base.specs.Packet.{Packet}
 use Rattle.lert_bay.specs.Files.{Files}
-use Rattle.lert_bay.specs.Settled.{part, Keeps, IsSettled}
+use Rattle.lert_bay.specs.Settled.{Keeps, IsSettled}
 use Rattle.lert_gatelog.specs.Gated.{IsGated, next_gate}
 use Rattle.lert_gatelog.specs.Kept.{InEach, KeepsOthers, KeepsBefore, IsWhollySettled, IsWithOrWithout}
 use Rattle.lert_levels.specs.declared.bin_at.BinAt.{BinAt}
@@ -12,7 +12,7 @@ use Rattle.lert_levels.specs.Flushed.{InNamed}
 use Rattle.lert_levels.specs.Landing.{KeepsRest}
 use Rattle.lert_levels.specs.Rows.{IsAt, AreRows, HoldsBins, directory_text}
 use Rattle.lert_reports.specs.declared.log.LogKind.{LogKind}
-use Rattle.lert_reports.specs.Log.{HasLog, AreRecords, listed_in, log_header, most_record}
+use Rattle.lert_reports.specs.Log.{HasLog, AreRecords, listed_in, most_record}
 use Rattle.lert_reports.specs.LogText.{LogRecord, log_payload, log_payload_of}
 use Rattle.lert_spec.specs.declared.numbers.Numbers.{Numbers}
 use Rattle.lert_spec.specs.declared.report.Report.{Report}
@@ -20,14 +20,14 @@ use Rattle.lert_spec.specs.Edges.{edge, capacity}
 use Rattle.lert_spec.specs.Look.{look, closing}
 use Rattle.lert_spec.proofs.LookLaws.{AreKeys}
 use Rattle.lert_spec.proofs.TailLaws.{AreOfCone}
-use Rattle.lert_cone.specs.Framed.{last_flush, flushed}
+use Rattle.lert_cone.specs.Framed.{last_flush}
 use Rattle.lert_cone.specs.InStep.{IsInStep, IsPartway}
 use Rattle.lert_cone.specs.Listing.{Listing, reports_of}
 use Rattle.lert_cone.specs.Logged.{IsLogOf, next_record}
 use Rattle.lert_cone.specs.Record.{LogPlace, payload_at}
 use Rattle.lert_cone.specs.Sound.{IsJournal, IsSound}
 use Rattle.lert_cone.specs.Tally.{Tallied, IsCounted, IsHeld}
-use Rattle.lert_cone.proofs.LogLaws.{LogsNext, log_between, log_at_flush, log_at_close, payload_is}
+use Rattle.lert_cone.proofs.LogLaws.{LogsNext, log_between, log_at_flush, payload_is}
 use Rattle.lert_cone.proofs.RecordLaws.{payload_is_at}
 use Rattle.lert_cone.proofs.WroteLaws.{leaves_rest, settled_through}
 use Rattle.lert_cone.proofs.StepLaws.{journal_since, log_since, frames_since, sound_of, with_or_without, with_record, header_since}

@@ -1,5 +1,5 @@
 -- Which lists a cone stands for: when it is made, through an append and the keys behind it, and when it is finished.
-use Rattle.std.proofs.Common.{◌≡◌, ℕ, ◌+◌, ◌-◌, ◌<◌, ◌≤◌, true, false, List, [], ◌∷◌, ◌++◌, length, take, map, max, Option, Some, None, All, Result, Ok, Err, OnOk, OnErr, cond, refl, sym, ap, ◌∙◌, subst, inl, inr, arith, length-append, append-nil}
+use Rattle.std.proofs.Common.{◌≡◌, ℕ, ◌+◌, ◌-◌, ◌<◌, ◌≤◌, true, false, List, [], ◌∷◌, ◌++◌, length, Option, Some, None, All, Result, Ok, Err, OnOk, OnErr, cond, refl, sym, ap, ◌∙◌, subst, inl, inr, arith, length-append, append-nil}
 use Rattle.std.specs.Prelude.{replicate}
 use Rattle.std.proofs.lemmas.Bool.{false≢true, cases_lt}
 use Rattle.std.proofs.lemmas.List.{take_at}
@@ -7,9 +7,9 @@ use Rattle.std.proofs.lemmas.List.Elements.{All-append, All-nil, All-cons}
 use Rattle.std.specs.Result.{is_err}
 use Rattle.lert_base.specs.Packet.{Packet, events_of}
 use Rattle.lert_bay.specs.Files.{Files, IfTold, Turns}
-use Rattle.lert_bay.specs.Settled.{part, Keeps, IsSettled}
+use Rattle.lert_bay.specs.Settled.{part}
 use Rattle.lert_gatelog.specs.Gated.{IsClosed, Log, next_gate}
-use Rattle.lert_gatelog.specs.Kept.{InEach, KeepsOthers, KeepsBefore, IsWhollySettled, OthersStay}
+use Rattle.lert_gatelog.specs.Kept.{InEach, KeepsOthers, KeepsBefore, IsWhollySettled}
 use Rattle.lert_io.specs.Fault.{HasRisen, last_count}
 use Rattle.lert_journal.specs.Journal.{HasPackets, HasPacketsOrOneMore}
 use Rattle.lert_journal.specs.Payload.{payload_of, IsJournaled}
@@ -33,14 +33,14 @@ use Rattle.lert_cone.specs.InStep.{IsInStep, IsLogging, IsPartway, AreNew}
 use Rattle.lert_cone.specs.Listing.{Listing, reports_of}
 use Rattle.lert_cone.specs.Record.{LogPlace}
 use Rattle.lert_cone.specs.Room.{room_of}
-use Rattle.lert_cone.specs.Sound.{IsJournal, IsSound, IsSoundAs, IsSoundOver, IsKept, but_last}
+use Rattle.lert_cone.specs.Sound.{IsJournal, IsSoundAs, IsSoundOver, IsKept, but_last}
 use Rattle.lert_cone.specs.Stands.{Standing, StandsFor, IsCone, IsWhole, is_broken, is_finished, is_refusal, broken_by, cone_fault}
-use Rattle.lert_cone.specs.Tally.{Tallied, IsCounted, IsHeld}
-use Rattle.lert_cone.specs.Wrote.{IsShut, IsShutIfTold, Anything}
+use Rattle.lert_cone.specs.Tally.{Tallied, IsCounted}
+use Rattle.lert_cone.specs.Wrote.{IsShutIfTold, Anything}
 use Rattle.lert_cone.proofs.EndStep.{partway_all, late_all}
 use Rattle.lert_cone.proofs.LogLaws.{log_none}
 use Rattle.lert_cone.proofs.SoundLaws.{events_more, counted_more, end_more}
-use Rattle.lert_cone.proofs.StepLaws.{journal_since, log_since, frames_since, sound_of, sound_as}
+use Rattle.lert_cone.proofs.StepLaws.{log_since, frames_since, sound_of, sound_as}
 
 -- ---- what goes together with memory
 

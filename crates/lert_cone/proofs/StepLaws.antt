@@ -1,8 +1,8 @@
 -- The files of a cone between two calls: when they are sound, and what they keep through calls that leave them alone.
-use Rattle.std.proofs.Common.{◌≡◌, ◌≢◌, ℕ, zero, suc, ◌+◌, ◌-◌, ◌^◌, ◌<◌, ◌≤◌, Bool, true, false, cond, List, [], ◌∷◌, ◌++◌, length, take, drop, get_or, map, Option, Some, All, refl, sym, ap, ◌∙◌, subst, inl, inr, ◌⊎◌, arith, length-append, append-nil, slice_range}
-use Rattle.std.specs.Prelude.{slice_index_or, replicate}
-use Rattle.std.proofs.lemmas.Bool.{cases_Bool, cases_eq, cases_lt, eq-eqb, ne_eqb, false≢true}
-use Rattle.std.proofs.lemmas.List.{take-take, take_all, take-append-le, get_or-map, map-append, length-map, length-take}
+use Rattle.std.proofs.Common.{◌≡◌, ℕ, zero, suc, ◌+◌, ◌-◌, ◌^◌, ◌≤◌, Bool, true, false, cond, List, [], ◌∷◌, ◌++◌, length, take, drop, get_or, map, All, sym, ap, ◌∙◌, subst, inl, inr, ◌⊎◌, arith, length-append, slice_range}
+use Rattle.std.specs.Prelude.{slice_index_or}
+use Rattle.std.proofs.lemmas.Bool.{cases_Bool, cases_eq, cases_lt, eq-eqb, ne_eqb}
+use Rattle.std.proofs.lemmas.List.{take-take, take_all, take-append-le, get_or-map, map-append, length-take}
 use Rattle.std.proofs.lemmas.List.Elements.{Contains-get_or}
 use Rattle.lert_base.specs.Packet.{Packet, events_of}
 use Rattle.lert_bay.specs.Files.{Files}
@@ -11,18 +11,17 @@ use Rattle.lert_frames.specs.Frame.{HoldsFrame, frame_text, text_len}
 use Rattle.lert_frames.specs.Place.{frame_place, frame_len}
 use Rattle.lert_frames.proofs.StoreLaws.{length_frame}
 use Rattle.lert_gatelog.specs.Gated.{IsGated, next_gate}
-use Rattle.lert_gatelog.specs.Kept.{InEach, KeepsOthers, KeepsBefore, IsWhollySettled, IsWithOrWithout}
+use Rattle.lert_gatelog.specs.Kept.{InEach, KeepsBefore, IsWithOrWithout}
 use Rattle.lert_gatelog.proofs.GatedLaws.{gated_behind, part_within, records_ascend}
 use Rattle.lert_journal.specs.Payload.{payload_of}
 use Rattle.lert_levels.specs.declared.bin_at.BinAt.{BinAt}
 use Rattle.lert_levels.specs.Flushed.{InNamed}
-use Rattle.lert_levels.specs.Ranges.{Range, filled, ranges}
+use Rattle.lert_levels.specs.Ranges.{filled}
 use Rattle.lert_levels.specs.Rows.{IsAt, AreRows, HoldsBins, range_of, row_of, tallied_in}
 use Rattle.lert_levels.proofs.RangeLaws.{bins-ranges}
 use Rattle.lert_reports.specs.Log.{HasLog, AreRecords, listed_in, last_n0, last_directory, is_closed, log_header, most_record}
 use Rattle.lert_reports.specs.LogText.{LogRecord, log_payload_of}
 use Rattle.lert_spec.specs.declared.numbers.Numbers.{Numbers}
-use Rattle.lert_spec.specs.declared.piece.Piece.{Piece}
 use Rattle.lert_spec.specs.Bins.{Bin, bins, tallied}
 use Rattle.lert_spec.specs.Edges.{edge, span}
 use Rattle.lert_spec.specs.Limits.{IsValid}
@@ -31,8 +30,8 @@ use Rattle.lert_spec.proofs.Tables.{length_le-total}
 use Rattle.lert_spec.proofs.TallyLaws.{IsTable-tallied, total-tallied}
 use Rattle.lert_cone.specs.Framed.{last_flush, flushed}
 use Rattle.lert_cone.specs.History.{most_payload, end_of}
-use Rattle.lert_cone.specs.InStep.{IsInStep, IsPartway}
-use Rattle.lert_cone.specs.Logged.{IsLogOf, frames_of}
+use Rattle.lert_cone.specs.InStep.{IsPartway}
+use Rattle.lert_cone.specs.Logged.{IsLogOf}
 use Rattle.lert_cone.specs.Sound.{IsJournal, IsSound, IsSoundAs, HoldFrames, HoldsDirectory, but_last}
 use Rattle.lert_cone.proofs.FramedLaws.{flushed_bins}
 use Rattle.lert_cone.proofs.LogLaws.{last_flush_within}

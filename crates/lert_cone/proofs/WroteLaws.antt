@@ -1,17 +1,16 @@
 -- Calls in turn that leave a file alone, and a log's gate through them.
-use Rattle.std.proofs.Common.{◌≡◌, ◌≢◌, ℕ, ◌+◌, ◌<◌, ◌≤◌, List, length, get_or, Option, Some, refl, sym, ap, ◌∙◌, subst, inl, inr, arith, zero-add}
+use Rattle.std.proofs.Common.{◌≡◌, ◌≢◌, ℕ, ◌+◌, ◌≤◌, List, length, get_or, Option, Some, refl, sym, ap, ◌∙◌, subst, inl, inr, arith, zero-add}
 use Rattle.std.proofs.lemmas.Bool.{cases_lt}
 use Rattle.std.proofs.lemmas.List.{take_all}
 use Rattle.lert_bay.specs.Files.{Files, IfTold, Turns, Torn}
 use Rattle.lert_bay.specs.Images.{Lasts}
-use Rattle.lert_bay.specs.Settled.{part, Keeps, IsSettled}
+use Rattle.lert_bay.specs.Settled.{part, IsSettled}
 use Rattle.lert_bay.proofs.Lasting.{lasts_none, lasts_on}
 use Rattle.lert_frames.specs.Kept.{OnlyRead}
-use Rattle.lert_gatelog.specs.Gated.{IsClosed}
-use Rattle.lert_gatelog.specs.Kept.{InEach, KeepsOthers, IsWhollySettled, OthersStay}
+use Rattle.lert_gatelog.specs.Kept.{KeepsOthers, IsWhollySettled, OthersStay}
 use Rattle.lert_gatelog.proofs.GatedLaws.{byte_of_part, part_within, closed_behind}
 use Rattle.lert_levels.specs.Landing.{KeepsRest}
-use Rattle.lert_cone.specs.Wrote.{LeavesFile, IsShut, IsShutIfTold}
+use Rattle.lert_cone.specs.Wrote.{LeavesFile, IsShutIfTold}
 use Rattle.lert_cone.proofs.SoundLaws.{turns_back}
 
 -- no call

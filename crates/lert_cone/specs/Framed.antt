@@ -1,11 +1,6 @@
 -- The last flush of a cone.
-use Rattle.std.specs.Prelude.{ℕ, zero, suc, ◌≡◌, ◌≤◌, ◌==◌, List, [], ◌∷◌, length, take, if◌then◌else◌}
-use Rattle.lert_frames.specs.Frame.{HoldsFrame}
-use Rattle.lert_frames.specs.Place.{frame_place}
-use Rattle.lert_levels.specs.declared.bin_at.BinAt.{BinAt}
-use Rattle.lert_levels.specs.Rows.{row_of}
+use Rattle.std.specs.Prelude.{ℕ, zero, suc, ◌==◌, List, length, take, if◌then◌else◌}
 use Rattle.lert_spec.specs.declared.numbers.Numbers.{Numbers}
-use Rattle.lert_spec.specs.Bins.{Bin, bins}
 use Rattle.lert_spec.specs.Edges.{edge}
 
 -- the last flush position that is at most n, or 0 where there is none

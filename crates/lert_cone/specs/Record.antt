@@ -1,5 +1,5 @@
 -- The records that a cone's log gets.
-use Rattle.std.specs.Prelude.{ℕ, ◌≡◌, ◌+◌, ◌*◌, ◌≤◌, List, length, drop}
+use Rattle.std.specs.Prelude.{ℕ, ◌+◌, ◌*◌, List, length, drop}
 use Rattle.lert_spec.specs.declared.report.Report.{Report}
 use Rattle.lert_reports.specs.declared.log.LogKind.{LogKind}
 use Rattle.lert_reports.specs.LogText.{log_payload}

@@ -1,20 +1,16 @@
-use Rattle.std.proofs.Common.{rules, ◌≡◌, ◌≢◌, ℕ, suc, ◌+◌, ◌-◌, ◌*◌, ◌≤◌, ◌<◌, true, false, List, [], ◌∷◌, ◌++◌, length, drop, map, Some, Err, refl, ap, sym, ◌∙◌, subst, inl, inr, arith, length-append, length-drop}
-use Rattle.lert_base.specs.Packet.{Packet}
-use Rattle.lert_bay.specs.Files.{Files, IfTold}
-use Rattle.lert_gatelog.specs.Gated.{IsGated, next_gate}
+use Rattle.std.proofs.Common.{rules, ◌≡◌, ◌≢◌, ℕ, ◌+◌, ◌-◌, ◌≤◌, List, [], ◌∷◌, ◌++◌, length, map, ap, sym, ◌∙◌, subst, inl, inr, arith, length-append}
+use Rattle.lert_gatelog.specs.Gated.{IsGated}
 use Rattle.lert_gatelog.specs.Kept.{InEach, IsWithOrWithout, OthersStay}
 use Rattle.lert_levels.specs.Rows.{directory_text}
 use Rattle.lert_reports.specs.declared.log.LogKind.{LogKind}
-use Rattle.lert_reports.specs.Log.{most_record, listed_in}
+use Rattle.lert_reports.specs.Log.{most_record}
 use Rattle.lert_reports.specs.LogText.{log_payload_of}
 use Rattle.lert_reports.specs.Stored.{Stored}
 use Rattle.lert_spec.specs.declared.report.Report.{Report}
 use Rattle.lert_spec.specs.declared.numbers.Numbers.{Numbers}
 use Rattle.lert_spec.specs.Edges.{edge}
-use Rattle.lert_cone.specs.InStep.{IsInStep, IsPartway, IsLogging}
 use Rattle.lert_cone.specs.Listing.{Listing}
-use Rattle.lert_cone.specs.Record.{LogPlace, payload_at, payload_len}
-use Rattle.lert_cone.specs.Tally.{Tallied}
+use Rattle.lert_cone.specs.Record.{LogPlace, payload_at}
 use Rattle.lert_cone.proofs.RecordLaws.{record_fits, logging_more}
 use Rattle.lert_cone.proofs.SoundLaws.{turns_back}
 use Rattle.lert_cone.proofs.TakeLaws.{handed_on}

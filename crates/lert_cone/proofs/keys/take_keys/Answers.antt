@@ -1,6 +1,5 @@
-use Rattle.std.proofs.Common.{◌≡◌, ◌∙◌, ◌<◌, ◌++◌, ◌∷◌, [], ℕ, List, length, take, get_or, ap, sym, subst, inl, inr, arith, append_assoc, append-nil, refl}
+use Rattle.std.proofs.Common.{◌∙◌, ◌<◌, ◌++◌, ◌∷◌, [], ℕ, List, length, take, get_or, ap, sym, subst, inl, inr, arith, append_assoc, append-nil, refl}
 use Rattle.std.proofs.lemmas.List.{take_more}
-use Rattle.lert_base.specs.Packet.{Packet}
 use Rattle.std.proofs.lemmas.Option.{same_Some}
 use Rattle.lert_bay.specs.Files.{Files}
 use Rattle.lert_cone.specs.InStep.{IsInStep, IsPartway}

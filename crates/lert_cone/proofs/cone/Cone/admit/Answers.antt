@@ -3,7 +3,6 @@ use Rattle.lert_base.specs.declared.entry.Entry.{Entry}
 use Rattle.lert_base.specs.Entries.{packet_of}
 use Rattle.lert_base.specs.Packet.{Packet, events_of}
 use Rattle.std.specs.List.{length_refill}
-use Rattle.lert_bay.specs.Files.{Files}
 use Rattle.lert_bay.proofs.Lasting.{lasts_on}
 use Rattle.lert_gatelog.specs.Gated.{IsClosed, Log, next_gate}
 use Rattle.lert_gatelog.specs.Kept.{KeepsOthers, KeepsBefore, IsWhollySettled, OthersStay}

@@ -1,4 +1,4 @@
-use Rattle.std.proofs.Common.{ap, sym, ◌∙◌}
+use Rattle.std.proofs.Common.{ap}
 use Rattle.lert_gatelog.specs.Gated.{Log}
 use Rattle.lert_cone.proofs.StandLaws.{new_cone, new_stands}
 use Rattle.lert_cone.proofs.cone.Cone.create.Goals as goal

@@ -1,13 +1,12 @@
-use Rattle.std.proofs.Common.{rules, ◌≡◌, ◌∙◌, ◌++◌, Bool, true, Err, refl, length, take, drop, ap, sym, subst, inl}
+use Rattle.std.proofs.Common.{rules, ◌≡◌, ◌∙◌, Err, refl, length, ap, sym, subst, inl}
 use Rattle.std.specs.List.{length_refill}
 use Rattle.lert_base.specs.Packet.{events_of}
-use Rattle.lert_bay.specs.Files.{Files}
 use Rattle.lert_spec.specs.Look.{closing}
 use Rattle.lert_cone.specs.declared.refusal.ConeFault.TheVariants.{Unsound}
 use Rattle.lert_cone.specs.declared.state.ConeState.TheVariants.{Running, Finished}
 use Rattle.lert_cone.specs.InStep.{IsLogging}
 use Rattle.lert_cone.specs.Listing.{Listing}
-use Rattle.lert_cone.specs.Sound.{IsKept, IsSound, IsSoundAs, IsSoundOver}
+use Rattle.lert_cone.specs.Sound.{IsKept, IsSoundAs, IsSoundOver}
 use Rattle.lert_cone.specs.Stands.{Standing, over_of, is_broken, is_finished, broken_by}
 use Rattle.lert_reports.specs.Stored.{Stored}
 use Rattle.lert_cone.proofs.SoundLaws.{turns_back}

@@ -1,5 +1,5 @@
 -- The text that was written is what a log appends for the record; each clause is that of the log's own `append`.
-use Rattle.std.proofs.Common.{rules, ◌≡◌, ◌+◌, ◌≤◌, ℕ, List, [], ◌∷◌, ◌++◌, length, take, drop, ap, sym, subst, ◌∙◌, arith, OnOk}
+use Rattle.std.proofs.Common.{◌≡◌, ◌+◌, ◌≤◌, ℕ, [], ◌∷◌, ◌++◌, length, ap, sym, subst, ◌∙◌, arith}
 use Rattle.lert_gatelog.specs.Gated.{IsClosed, IsGated, Log, next_gate}
 use Rattle.lert_gatelog.specs.Kept.{InEach, IsWithOrWithout}
 use Rattle.lert_cone.specs.Record.{LogPlace, payload_at, payload_len}
