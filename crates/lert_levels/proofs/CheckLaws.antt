@@ -1,13 +1,13 @@
 -- Where a check of the frames stops: at the first bin of the first level that leaves its format.
-use Rattle.std.proofs.Common.{ℕ, ◌≡◌, ◌+◌, ◌-◌, ◌^◌, ◌<◌, ◌≤◌, zero, suc, List, [], ◌∷◌, ◌++◌, length, map, get_or, take, drop, Option, Some, None, refl, ap, ap₂, sym, ◌∙◌, ◌⊎◌, arith, inl, inr, subst, lit<, Result, append-nil, length-take}
+use Rattle.std.proofs.Common.{ℕ, ◌≡◌, ◌+◌, ◌-◌, ◌^◌, ◌<◌, ◌≤◌, suc, List, [], ◌∷◌, ◌++◌, length, map, get_or, take, drop, Option, Some, None, refl, ap, ap₂, sym, ◌∙◌, ◌⊎◌, arith, inl, inr, subst, lit<, Result, append-nil, length-take}
 use Rattle.std.specs.Prelude.{Ok, Err, IfErr, IsErrAnd, OnOk, IsErrOf}
 use Rattle.std.specs.List.{All}
 use Rattle.std.proofs.Math.Nat.{pow-le-pow_right}
 use Rattle.std.proofs.Math.Seq.{drop-cons}
 use Rattle.std.proofs.lemmas.List.{map-append, map_more, append_assoc, take-append-drop, take_more, length-map}
-use Rattle.std.proofs.lemmas.List.Elements.{All-head, All-tail, All-append, All-nil, All-cons}
+use Rattle.std.proofs.lemmas.List.Elements.{All-head, All-tail}
 use Rattle.std.proofs.lemmas.Option.{none-some}
-use Rattle.lert_frames.specs.Frame.{first_of, IsBin, HoldsFrame, frame_left, piece_at, count_at}
+use Rattle.lert_frames.specs.Frame.{first_of, IsBin, HoldsFrame}
 use Rattle.lert_frames.specs.Place.{frame_place, tail_limit}
 use Rattle.lert_frames.proofs.BackLaws.{frame_whole, pieces_are}
 use Rattle.lert_spec.specs.declared.numbers.Numbers.{Numbers}
@@ -16,10 +16,10 @@ use Rattle.lert_spec.proofs.Tables.{length_le-total}
 use Rattle.lert_levels.specs.declared.bin_at.BinAt.{BinAt}
 use Rattle.lert_levels.specs.declared.fault.FlushFault.{FlushFault}
 use Rattle.lert_levels.specs.declared.fault.FlushFault.TheVariants.{Failed, Malformed, OutOfMemory}
-use Rattle.lert_levels.specs.Checked.{pieces_in, RowStands, EachStands, bin_left, bins_left, row_left, rows_left}
+use Rattle.lert_levels.specs.Checked.{pieces_in, bin_left, bins_left, row_left, rows_left}
 use Rattle.lert_levels.specs.Loading.{width_of, Stands, AllStand}
 use Rattle.lert_levels.specs.OnDisk.{OnDisk}
-use Rattle.lert_levels.specs.Rows.{row_of, IsRow, AreRows}
+use Rattle.lert_levels.specs.Rows.{IsRow, AreRows}
 
 -- ---- the first place of several
 

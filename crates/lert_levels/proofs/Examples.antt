@@ -1,11 +1,13 @@
 -- Worked examples of the definitions, computed: bins of 4 events at level 0, three bins a level, a ratio of 2, two levels on
 -- disk, and thirty-two keys.
-use Rattle.std.proofs.Common.{◌≡◌, ℕ, List, [], ◌∷◌, ◌++◌, refl, map}
+use Rattle.std.proofs.Common.{◌≡◌, ℕ, List, [], ◌∷◌, ◌++◌, refl, map, replicate, Some}
 use Rattle.std.specs.List.{range_with_len}
 use Rattle.lert_spec.specs.declared.numbers.Numbers.{Numbers}
 use Rattle.lert_spec.specs.Bins.{bins}
 use Rattle.lert_levels.specs.declared.bin_at.BinAt.{BinAt}
 use Rattle.lert_levels.specs.Ranges.{ranges, filled, young_bins}
+use Rattle.lert_levels.specs.Checked.{level_of, rows_left}
+use Rattle.lert_levels.specs.Named.{frames_text}
 use Rattle.lert_levels.specs.Rows.{moved, directory_text}
 
 abbrev small : Numbers
@@ -66,3 +68,21 @@ goes_on = refl
 
 names_them : directory_text at_32 ≡ 2 ∷ 2 ∷ 3 ∷ 1 ∷ 0 ∷ []
 names_them = refl
+
+-- the same directory by its frames alone
+by_frames : directory_text at_32 ≡ frames_text ((2 ∷ 3 ∷ []) ∷ (0 ∷ []) ∷ [])
+by_frames = refl
+
+-- which level a bin is of, by its end
+of_level_1 : level_of small 32 2 16 ∷ level_of small 32 2 24 ∷ [] ≡ 1 ∷ 1 ∷ []
+of_level_1 = refl
+
+of_level_2 : level_of small 32 2 8 ≡ 2
+of_level_2 = refl
+
+-- a file with no byte is left at its end, and one of zero bytes, which are frames of no pieces, at the first bin of level 1
+no_file : rows_left small [] at_32 ≡ Some 0
+no_file = refl
+
+no_pieces : rows_left small (replicate 1000 0) at_32 ≡ Some 264
+no_pieces = refl

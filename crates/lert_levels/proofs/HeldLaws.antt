@@ -1,32 +1,27 @@
 -- After a check that found each frame whole: what the frames hold, by the bin alone.
-use Rattle.std.proofs.Common.{ℕ, ◌≡◌, ◌+◌, ◌-◌, ◌/◌, ◌<◌, ◌≤◌, zero, suc, cond, ltb, List, [], length, map, get_or, max, ap, sym, ◌∙◌, arith, inl, inr, subst}
+use Rattle.std.proofs.Common.{ℕ, ◌≡◌, ◌+◌, ◌-◌, ◌/◌, ◌<◌, ◌≤◌, zero, suc, cond, List, [], length, map, get_or, ap, sym, ◌∙◌, arith, inl, inr, subst, Result}
+use Rattle.std.specs.Prelude.{Ok, Err, OnOk}
 use Rattle.std.specs.List.{All, range_with_len}
 use Rattle.std.proofs.lemmas.Bool.{cases_lt, lt-ltb, le-ltb}
 use Rattle.std.proofs.lemmas.List.{length-map, get_or-map}
-use Rattle.std.proofs.lemmas.List.FromFn.{length-range_with_len}
 use Rattle.lert_frames.specs.Frame.{IsBin, HoldsFrame}
 use Rattle.lert_frames.specs.Place.{frame_place, tail_limit}
 use Rattle.lert_spec.specs.declared.numbers.Numbers.{Numbers}
-use Rattle.lert_spec.specs.declared.piece.Piece.{Piece}
 use Rattle.lert_spec.specs.Edges.{span, edge}
 use Rattle.lert_spec.proofs.EdgeLaws.{edge_descends_to, span_pos}
 use Rattle.lert_levels.specs.declared.bin_at.BinAt.{BinAt}
-use Rattle.lert_levels.specs.Checked.{pieces_in, EachStands}
+use Rattle.lert_levels.specs.Checked.{pieces_in, level_of, held_after, EachStands}
 use Rattle.lert_levels.specs.Loading.{width_of, AllStand}
 use Rattle.lert_levels.specs.Ranges.{Range, range_at, ranges}
-use Rattle.lert_levels.specs.Rows.{range_of, row_of, IsAt}
+use Rattle.lert_levels.specs.Rows.{range_of, IsAt}
 use Rattle.lert_levels.proofs.NamedLaws.{ranges_run}
 use Rattle.lert_levels.proofs.RangeLaws.{IsCut, cuts_are}
 use Rattle.lert_levels.proofs.RowLaws.{All-ranges}
 
--- the greatest of the levels up to one whose positions after n events may end there
-abbrev pub level_of : Numbers → ℕ → ℕ → ℕ → ℕ
-level_of s n zero to = 0
-level_of s n (suc top) to = cond (ltb (edge s top n) to) (level_of s n top to) (suc top)
-
--- what the frame of a bin of these levels holds
-abbrev pub held_after : Numbers → ℕ → List ℕ → BinAt → List Piece
-held_after s n file bin = pieces_in s file (level_of s n s.levels bin.to) bin
+-- what follows after Ok
+pub on_ok : {T E : Type 0} (result : Result T E) (P Q : Type 0) → (P → Q) → OnOk result P → OnOk result Q
+on_ok (Ok x) P Q turn is = turn is
+on_ok (Err fault) P Q turn is = tt
 
 module _ (s : Numbers) (base : 1 ≤ s.base) (ratio : 1 ≤ s.ratio) (n : ℕ) where
   level_is : (top below to : ℕ) → below < top → edge s (suc below) n < to → to ≤ edge s below n → level_of s n top to ≡ suc below

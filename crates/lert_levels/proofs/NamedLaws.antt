@@ -1,6 +1,6 @@
 -- What a directory names: where the bins of a level lie, and that the frames and the positions say which rows they are.
-use Rattle.std.proofs.Common.{ℕ, ◌≡◌, ◌≢◌, ◌+◌, ◌-◌, ◌*◌, ◌/◌, ◌^◌, ◌<◌, ◌≤◌, zero, suc, cond, ltb, eqb, List, [], ◌∷◌, ◌++◌, length, map, get_or, take, drop, min, max, flat_map, count_by, refl, ap, ap₂, sym, ◌∙◌, arith, inl, inr, subst, set, slice_index, slice_range, append-nil, length-append}
-use Rattle.std.specs.List.{All, AllPairs, range_with_len}
+use Rattle.std.proofs.Common.{ℕ, ◌≡◌, ◌+◌, ◌-◌, ◌*◌, ◌/◌, ◌^◌, ◌<◌, ◌≤◌, zero, suc, cond, List, [], ◌∷◌, ◌++◌, length, map, get_or, take, drop, max, refl, ap, ap₂, sym, ◌∙◌, arith, inl, inr, subst, set, slice_index, slice_range, append-nil, length-append}
+use Rattle.std.specs.List.{All, range_with_len}
 use Rattle.std.proofs.lemmas.Bool.{cases_lt, lt-ltb, le-ltb}
 use Rattle.std.proofs.Math.Seq.{drop-cons, drop-append-add, get_or-append_seam}
 use Rattle.std.proofs.lemmas.Grind.{flat_map-append}
@@ -15,7 +15,7 @@ use Rattle.lert_levels.specs.declared.bin_at.BinAt.{BinAt}
 use Rattle.lert_levels.specs.Named.{AreNamed}
 use Rattle.lert_levels.specs.Ranges.{Range, range_at, ranges}
 use Rattle.lert_levels.specs.OnDisk.{AreKept}
-use Rattle.lert_levels.specs.Rows.{range_of, row_of, IsAt, directory_text}
+use Rattle.lert_levels.specs.Rows.{range_of, IsAt, directory_text}
 use Rattle.lert_levels.proofs.DirectoryLaws.{row_text}
 use Rattle.lert_levels.proofs.LevelLaws.{directory_short, rows_few, written_back}
 use Rattle.lert_levels.proofs.RangeLaws.{range_cuts, edge_within}

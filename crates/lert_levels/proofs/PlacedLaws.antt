@@ -10,9 +10,9 @@ use Rattle.lert_spec.specs.Edges.{span, edge, capacity}
 use Rattle.lert_spec.specs.Limits.{IsValid}
 use Rattle.lert_spec.proofs.LimitLaws.{capacity_to}
 use Rattle.lert_levels.specs.declared.bin_at.BinAt.{BinAt}
-use Rattle.lert_levels.specs.Named.{AreFramesAt, AreNamed, IsDirectory, frames_text}
+use Rattle.lert_levels.specs.Named.{AreFramesAt, IsDirectory, frames_text}
 use Rattle.lert_levels.specs.Ranges.{Range, range_at, ranges}
-use Rattle.lert_levels.specs.Rows.{range_of, row_of, IsAt, IsRow, AreRows, times_named, directory_text}
+use Rattle.lert_levels.specs.Rows.{range_of, row_of, IsRow, times_named, directory_text}
 use Rattle.lert_levels.proofs.DirectoryLaws.{row_text}
 use Rattle.lert_levels.proofs.RangeLaws.{IsCut, cuts_are, edge_within, ranges_few}
 use Rattle.lert_levels.proofs.RowLaws.{All-ranges}

@@ -10,7 +10,7 @@ ghost use Rattle.lert_spec.specs.Bins.{tallied};
 ghost use Rattle.lert_spec.specs.Edges.{edge, depth, lookback, capacity};
 ghost use Rattle.lert_spec.specs.Table.{IsTable};
 ghost use Rattle.lert_levels.specs.declared.bin_at.BinAt.{BinAt};
-ghost use Rattle.lert_levels.specs.Checked.{EachStands, rows_left};
+ghost use Rattle.lert_levels.specs.Checked.{EachStands, held_after, rows_left};
 ghost use Rattle.lert_levels.specs.Flushed.{AllCanStand, AreNew, AreEvents, AreAllEvents, InNamed};
 ghost use Rattle.lert_levels.specs.Gathered.{IsWithin};
 ghost use Rattle.lert_levels.specs.Landing.{KeepsRest};
@@ -200,9 +200,11 @@ impl<T: CountTable> Levels<T> {
     pub fn check<B: Bay>(&mut self, bay: &mut B) -> Result<(), FlushFault>
         ensures same { self.new ≡ self.old }
 
-        // Where the file is told, each frame stands after Ok, and the first place at which one leaves its format is that of
-        // Malformed. Only a call of the bay or memory may fail beside it.
+        // Where the file is told, each frame stands after Ok, so that a flush or a scan of these rows finds none malformed.
+        // Malformed names the first place at which one leaves its format. Only a call of the bay or memory may fail beside it.
         ensures stand { IfTold (B.files bay.old) (λ seen. OnOk result (EachStands self.old.settings (seen 2) self.old.rows)) }
+        ensures held { IfTold (B.files bay.old) (λ seen. (n : ℕ) → IsAt self.old.settings n self.old.rows →
+            OnOk result (AllStand self.old.settings (seen 2) (held_after self.old.settings n (seen 2)) self.old.rows)) }
         ensures whole { IfTold (B.files bay.old) (λ seen. OnOk result (rows_left self.old.settings (seen 2) self.old.rows ≡ None)) }
         ensures malformed { IfTold (B.files bay.old) (λ seen. (at : ℕ) → IsErrOf result (FlushFault.Malformed at) →
             rows_left self.old.settings (seen 2) self.old.rows ≡ Some at) }
@@ -216,6 +218,7 @@ impl<T: CountTable> Levels<T> {
         ensures failed { IsErrOf result FlushFault.Failed → HasRisen (B.faults bay.old) (B.faults bay.new) }
         ensures mark { B.mark bay.new ≡ B.mark bay.old }
     {
+        let _valid = self.settings.numbers();
         check_rows(self.alloc, &self.settings, &self.rows, bay)
     }
 

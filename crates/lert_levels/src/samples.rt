@@ -21,8 +21,13 @@ pub(crate) const SMALL: Numbers = Numbers {
     packet: 8,
 };
 
-pub(crate) const fn piece(tail: u64, count: u64) -> Piece {
-    Piece { tail, count }
+// Whether pieces are these, by tail and count.
+pub(crate) fn are(pieces: &[Piece], pairs: &[(u64, u64)]) -> bool {
+    pieces.len() == pairs.len()
+        && pieces
+            .iter()
+            .zip(pairs)
+            .all(|(piece, pair)| (piece.tail, piece.count) == *pair)
 }
 
 pub(crate) fn small() -> Result<Settings, Fail>

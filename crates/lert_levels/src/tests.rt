@@ -4,7 +4,7 @@
 ghost use Rattle.std.specs.Prelude.{◌≡◌, ◌+◌, ◌*◌, ◌^◌, ◌<◌, ◌≤◌, IfOk, OnOk, OnErr};
 ghost use Rattle.lert_levels.specs.Samples.{small as small_numbers, IsReady};
 
-use crate::samples::{Taken, fill, piece, small};
+use crate::samples::{Taken, are, fill, small};
 use crate::{FlushFault, Levels, Zero};
 use lert_base::Settings;
 use lert_bay::{Bay, FRAMES, MemBay};
@@ -113,10 +113,7 @@ fn a_scan_counts_the_events_of_all_levels(rt: HostRuntime) -> Result<(), Fail> {
     directories(alloc, &mut zero, &mut levels, &mut bay, 2)?;
     let mut totals = Taken::new(alloc);
     levels.scan(&mut bay, &zero, &mut totals)?;
-    assert_eq!(rt;
-        totals.kept.as_slice(),
-        [piece(1, 5), piece(2, 5), piece(3, 5), piece(4, 5)].as_slice()
-    );
+    assert!(rt; are(&totals.kept, &[(1, 5), (2, 5), (3, 5), (4, 5)]));
     Ok(())
 }
 

@@ -1,4 +1,4 @@
-use Rattle.std.proofs.Common.{ℕ, ◌≡◌, ◌≤◌, Some, None, map, take}
+use Rattle.std.proofs.Common.{◌≡◌, ◌≤◌, Some, None, map, take}
 use Rattle.lert_bay.specs.Files.{Files}
 use Rattle.lert_frames.specs.Frame.{first_of}
 use Rattle.lert_frames.specs.Kept.{OnlyRead}

@@ -1,4 +1,4 @@
-use Rattle.std.proofs.Common.{ℕ, ◌≡◌, ◌+◌, ◌/◌, ◌≤◌, length, map, take, vec_capacity}
+use Rattle.std.proofs.Common.{◌≡◌, ◌+◌, ◌/◌, ◌≤◌, length, map, take, vec_capacity}
 use Rattle.std.specs.List.{range_with_len}
 use Rattle.lert_levels.specs.Ranges.{range_at}
 use Rattle.lert_levels.specs.Rows.{range_of}

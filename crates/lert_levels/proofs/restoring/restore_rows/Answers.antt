@@ -1,9 +1,9 @@
-use Rattle.std.proofs.Common.{ℕ, ◌≡◌, ◌+◌, ◌∙◌, ◌<◌, length, map, get_or, [], subst, ap, sym, arith, slice_index, vec_capacity}
+use Rattle.std.proofs.Common.{◌∙◌, ◌<◌, length, get_or, [], subst, ap, sym, arith, vec_capacity}
 use Rattle.std.proofs.lemmas.List.{length-map}
 use Rattle.std.proofs.lemmas.List.Elements.{All-set}
 use Rattle.lert_levels.specs.declared.bin_at.BinAt.{BinAt}
 use Rattle.lert_levels.specs.Named.{AreNamed}
-use Rattle.lert_levels.proofs.NamedLaws.{count_there, part_within, frames_there, next_place, named_count, named_few, row_restored, restored_more, restored_all}
+use Rattle.lert_levels.proofs.NamedLaws.{part_within, frames_there, next_place, named_count, named_few, row_restored, restored_more, restored_all}
 use Rattle.lert_levels.proofs.restoring.restore_rows.Goals as goal
 
 pub frames_at-frames-requires-clause-place : goal.frames_at-frames-requires-clause-place
