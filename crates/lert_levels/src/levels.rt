@@ -377,8 +377,10 @@ impl<T: CountTable> Levels<T> {
     }
 
     /// For each level from 1 on the number of its bins, and behind it the frames in which they stand, oldest first.
+    /// `restore` brings the bins back by it.
     pub fn directory(&self) -> &[u8]
-        ensures { result.now ≡ directory_text self.now.rows }
+        ensures text { result.now ≡ directory_text self.now.rows }
+        ensures restores { (n : ℕ) → IsAt self.now.settings n self.now.rows → IsDirectory self.now.settings n result.now }
     {
         &self.directory
     }

@@ -1,4 +1,7 @@
 //! The levels of a cone: level 0 in memory, the older ones as frames in the file of frames.
+//!
+//! A flush moves bins on to older levels and a scan counts all of them; a directory brings the bins back, and a check reads
+//! their frames.
 #![tactic(auto)]
 
 mod bin_at;

@@ -1,7 +1,7 @@
 //! Which frames the flushes write, also behind a refused one, what all levels count together, and what is read back of a
 //! directory and of its frames.
 
-ghost use Rattle.std.specs.Prelude.{◌≡◌, ◌+◌, ◌*◌, ◌^◌, ◌<◌, ◌≤◌, IfOk, OnOk, OnErr};
+ghost use Rattle.std.specs.Prelude.{◌≡◌, ◌+◌, ◌*◌, ◌≤◌, IfOk, OnOk, OnErr};
 ghost use Rattle.lert_levels.specs.Samples.{small as small_numbers, IsReady};
 
 use crate::samples::{Taken, are, fill, small};
@@ -157,16 +157,8 @@ fn a_directory_brings_the_bins_back(rt: HostRuntime) -> Result<(), Fail> {
     Ok(())
 }
 
-// Where a check finds the first frame that leaves its format, once this byte is written.
-fn left_after(
-    levels: &mut Levels<PlainTable>,
-    bay: &mut MemBay,
-    at: u64,
-    byte: u8,
-) -> Result<Option<u64>, Fail>
-    requires { at < 2 ^ 32 }
-{
-    bay.write_at(FRAMES, at, &[byte])?;
+// Where a check finds the first frame that leaves its format.
+fn left(levels: &mut Levels<PlainTable>, bay: &mut MemBay) -> Result<Option<u64>, Fail> {
     match levels.check(bay) {
         Ok(()) => Ok(None),
         Err(FlushFault::Malformed { at }) => Ok(Some(at)),
@@ -174,15 +166,29 @@ fn left_after(
     }
 }
 
+// The same after each of these bytes is written at its place.
+fn left_after(
+    alloc: Global,
+    levels: &mut Levels<PlainTable>,
+    bay: &mut MemBay,
+    writes: &[(u32, u8)],
+) -> Result<Vec<Option<u64>>, Fail> {
+    let mut places = Vec::new(alloc);
+    for (at, byte) in writes {
+        bay.write_at(FRAMES, u64::from(*at), &[*byte])?;
+        places.push(left(levels, bay)?)?;
+    }
+    Ok(places)
+}
+
 // The oldest bin of level 1 stands at byte 264, and that of level 2 at byte 528.
 #[test]
 fn a_check_stops_at_the_first_broken_byte(rt: HostRuntime) -> Result<(), Fail> {
     let settings = small()?;
     let (_levels, mut bay) = written(rt.alloc(), &settings)?;
-    let mut again = restored(rt.alloc(), &settings)?;
-    let whole = left_after(&mut again, &mut bay, 528, 4)?;
-    let older = left_after(&mut again, &mut bay, 528, 9)?;
-    let younger = left_after(&mut again, &mut bay, 284, 1)?;
-    assert_eq!(rt; [whole, older, younger], [None, Some(528), Some(284)]);
+    let mut levels = restored(rt.alloc(), &settings)?;
+    let writes = [(528, 4), (528, 9), (284, 1)];
+    let places = left_after(rt.alloc(), &mut levels, &mut bay, &writes)?;
+    assert_eq!(rt; places.as_slice(), [None, Some(528), Some(284)].as_slice());
     Ok(())
 }

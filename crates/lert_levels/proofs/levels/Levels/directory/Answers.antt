@@ -1,0 +1,14 @@
+use Rattle.std.proofs.Common.{◌∙◌, ap, sym, subst}
+use Rattle.lert_levels.specs.OnDisk.{OnDisk}
+use Rattle.lert_levels.specs.Rows.{AreRows, directory_text}
+use Rattle.lert_levels.proofs.levels.Levels.directory.Goals as goal
+
+pub returns-clause-restores : goal.returns-clause-restores
+returns-clause-restores g c n at = record {
+  rows = c.args.self.now.rows;
+  named = record {
+    at = at;
+    are = subst (λ (v : OnDisk). AreRows v.settings v.rows) c.self.view_is c.self.invariant.are;
+    text_is = sym (ap (λ (v : OnDisk). directory_text v.rows) c.self.view_is) ∙ sym c.self.invariant.directory_is ∙ sym c.deref.ensures.value;
+  };
+}
