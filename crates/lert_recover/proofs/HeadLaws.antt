@@ -122,12 +122,12 @@ module _ (s : Numbers) (cone : ℕ) (limits : IsInLimits s) (below : cone < 2 ^ 
 
 -- ---- from what was read to the file
 
--- as many bytes as there are room for, or as the file has
-pub read_front : (count : ℕ) (into file : List ℕ) → count ≡ min 32 (length file) → take count into ≡ take count file → take count into ≡ take 32 file
-read_front count into file count_is copied =
-    elim (cases_lt (length file) 32) [
-      | inl short ↦ copied ∙ (take_all count file (omega (arith, count_is, short)) ∙ sym (take_all 32 file (omega (arith, short))))
-      | inr long ↦ copied ∙ ap (λ n. take n file) (let same : count ≡ 32 = omega (arith, count_is, long) in same)
+-- as many bytes as there is room for, or as the file has
+pub read_front : (room count : ℕ) (into file : List ℕ) → count ≡ min room (length file) → take count into ≡ take count file → take count into ≡ take room file
+read_front room count into file count_is copied =
+    elim (cases_lt (length file) room) [
+      | inl short ↦ copied ∙ (take_all count file (omega (arith, count_is, short)) ∙ sym (take_all room file (omega (arith, short))))
+      | inr long ↦ copied ∙ ap (λ n. take n file) (let same : count ≡ room = omega (arith, count_is, long) in same)
     ]
 
 -- a whole header that was read, with a gate behind it: its file begins with it

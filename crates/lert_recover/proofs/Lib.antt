@@ -1,2 +1,3 @@
 pub mod AgreedLaws
+pub mod GateLaws
 pub mod HeadLaws

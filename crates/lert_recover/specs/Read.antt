@@ -1,8 +1,7 @@
 -- What was read of a log, in the words of its records.
-use Rattle.std.specs.Prelude.{◌≡◌, ◌≢◌, ℕ, ◌+◌, ◌≤◌, Bool, true, cond, All, List, fold}
+use Rattle.std.specs.Prelude.{◌≡◌, ◌≢◌, ℕ, ◌+◌, ◌*◌, ◌≤◌, Bool, true, cond, All, List, fold, slice_index}
 use Rattle.std.specs.List.{AllPairs}
 use Rattle.std.proofs.Common.{◌⊎◌}
-use Rattle.std.specs.Prelude.{slice_index}
 use Rattle.lert_gatelog.specs.Gated.{BreaksAt}
 use Rattle.lert_recover.specs.declared.step.Progress.{Progress}
 use Rattle.lert_spec.specs.declared.numbers.Numbers.{Numbers}

@@ -51,14 +51,14 @@ pub fn read_payload<B: Bay>(
         Err(LogFault::Failed) => Err(ReopenFault::Failed),
         Err(LogFault::Malformed { at }) => Err(ReopenFault::Malformed {
             file: LOG,
-            at: first_left(closed, gate, at),
+            at: left_behind(closed, gate, at),
         }),
     }
 }
 
 // Where a record at a gate leaves the format, that does so at a place by itself: behind a closing record at its gate, if the gate is there and open.
-fn first_left(closed: bool, gate: u64, at: u64) -> u64
-    ensures open { closed ≡ false → result ≡ at }
+fn left_behind(closed: bool, gate: u64, at: u64) -> u64
+    ensures alone { closed ≡ false → result ≡ at }
     ensures behind { gate ≤ at → closed ≡ true → result ≡ gate }
     ensures none { at ≤ gate → result ≡ at }
 {
