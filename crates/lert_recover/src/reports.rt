@@ -69,7 +69,10 @@ pub fn first_left<T: CountTable>(
         return start + 16 * number as u64;
     }
     let next = start + 16 * whole;
-    if place == next + 8 && store.has(number_in(payload, next as usize)) {
+    if place != next + 8 {
+        return place;
+    }
+    if store.has(number_in(payload, next as usize)) {
         return next;
     }
     place
