@@ -3,5 +3,6 @@ pub mod GateLaws
 pub mod HeadLaws
 pub mod LeavesLaws
 pub mod LeftLaws
+pub mod RecordsLaws
 pub mod RepeatLaws
 pub mod StartLaws
