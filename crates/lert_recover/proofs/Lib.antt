@@ -6,3 +6,4 @@ pub mod LeftLaws
 pub mod RecordsLaws
 pub mod RepeatLaws
 pub mod StartLaws
+pub mod StepLaws

@@ -56,6 +56,7 @@ pub fn first_left<T: CountTable>(
     ensures first { (cone : ℕ) (records : List LogRecord) → log_left settings.now cone (before_of records) payload.now ≡ Some place →
         store.old.reports ≡ listed_in records → PayloadLeavesAt settings.now cone records payload.now result }
     ensures within { result < 2 ^ 40 }
+    ensures settings { store.new.settings ≡ store.old.settings }
 {
     if place < HEAD_LEN {
         return place;

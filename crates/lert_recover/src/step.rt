@@ -121,6 +121,8 @@ fn take_record<T: CountTable>(
     ensures same { store.new.settings ≡ store.old.settings }
     ensures directory { vec_capacity directory.new ≡ vec_capacity directory.old }
 {
+    // Its clause says that the numbers are valid.
+    let _ = settings.numbers();
     match read_log(settings, cone, &progress.before, payload) {
         Ok(parts) => {
             let count = parts.reports as usize;
