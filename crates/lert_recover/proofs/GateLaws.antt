@@ -4,6 +4,9 @@ use Rattle.std.specs.Prelude.{slice_index}
 use Rattle.std.proofs.lemmas.Bool.{cases_Bool, true≢false}
 use Rattle.std.proofs.lemmas.List.{get_or_past}
 use Rattle.lert_gatelog.specs.Gated.{IsOpen, BreaksAt, No_gate, Cut_length, Cut_payload}
+use Rattle.lert_spec.specs.declared.numbers.Numbers.{Numbers}
+use Rattle.lert_reports.specs.Log.{is_closed, most_record, HasLogUpTo, LogLeavesAt, PayloadLeavesAt, At_gate, In_payload, Behind_closing}
+use Rattle.lert_reports.specs.LogText.{LogRecord}
 use Rattle.lert_recover.specs.declared.fault.ReopenFault.{ReopenFault}
 use Rattle.lert_recover.specs.declared.fault.ReopenFault.TheVariants.{Malformed}
 use Rattle.lert_recover.specs.Read.{GateLeavesAt}
@@ -26,3 +29,18 @@ pub gate_left : (most : ℕ) (closed : Bool) (bytes : List ℕ) (gate at found :
 gate_left most true bytes gate at found breaks alone behind before = behind_closing most bytes gate at found breaks (λ less. behind less refl) before
 gate_left most false bytes gate at found breaks alone behind before =
     inl (subst (BreaksAt most bytes gate) (sym (alone refl)) breaks, λ closed. absurd (true≢false (sym closed)))
+
+pub same_fault : {T U : Type 0} (one other : ReopenFault) → ◌≡◌ {A = Result T ReopenFault} (Err one) (Err other) → ◌≡◌ {A = Result U ReopenFault} (Err one) (Err other)
+same_fault one other is = let same : one ≡ other = cc in ap Err same
+
+-- behind records that keep the rules it is where the log does
+pub gate_leaves : (s : Numbers) (cone most : ℕ) (closed : Bool) (bytes : List ℕ) (records : List LogRecord) (gate at : ℕ) → most ≡ most_record s → closed ≡ is_closed records → HasLogUpTo s cone bytes records gate → GateLeavesAt most closed bytes gate at → LogLeavesAt s cone bytes at
+gate_leaves s cone most closed bytes records gate at most_is closed_is up (inl (breaks, behind)) =
+    At_gate records gate up (record { breaks = subst (λ n. BreaksAt n bytes gate at) most_is breaks; not_behind_closing = λ closing. behind (closed_is ∙ closing) })
+gate_leaves s cone most closed bytes records gate at most_is closed_is up (inr (closing, opened, at_is)) =
+    Behind_closing records gate up (record { closing = sym closed_is ∙ closing; opened = opened; at_is = at_is })
+
+-- and where the payload does that stands there
+pub payload_leaves : (s : Numbers) (cone : ℕ) (bytes : List ℕ) (records : List LogRecord) (gate at place : ℕ) (payload : List ℕ) → HasLogUpTo s cone bytes records gate → IsOpen (most_record s) bytes gate payload → is_closed records ≡ false → PayloadLeavesAt s cone records payload place → at ≡ gate + 5 + place → LogLeavesAt s cone bytes at
+payload_leaves s cone bytes records gate at place payload up stands still_open leaves at_is =
+    In_payload records gate up (record { payload = payload; place = place; stands = stands; still_open = still_open; leaves = leaves; at_is = at_is })
