@@ -1,4 +1,5 @@
 pub mod AgreedLaws
+pub mod CallLaws
 pub mod GateLaws
 pub mod HeadLaws
 pub mod LeavesLaws

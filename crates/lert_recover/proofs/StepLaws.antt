@@ -1,6 +1,6 @@
 -- What was read of a log, with one record more.
 use Rattle.std.proofs.Common.{ℕ, zero, suc, ◌≡◌, ◌≢◌, ◌+◌, ◌-◌, ◌*◌, ◌<◌, ◌≤◌, ◌^◌, Bool, true, false, cond, eqb, List, [], ◌∷◌, ◌++◌, length, map, take, drop, get_or, refl, ap, ap₂, sym, ◌∙◌, subst, arith, inl, inr, append_assoc, length-append}
-use Rattle.std.specs.Prelude.{All, flat_map, fold, slice_index_or}
+use Rattle.std.specs.Prelude.{All, flat_map, fold, replicate, slice_index_or}
 use Rattle.std.specs.List.{AllPairs}
 use Rattle.std.proofs.Math.Nat.{mul-le-mul_left}
 use Rattle.std.proofs.lemmas.Bool.{eq-eqb, eqb-true, true≢false}
@@ -13,6 +13,7 @@ use Rattle.std.proofs.lemmas.List.Sums.{fold_push}
 use Rattle.std.proofs.lemmas.Map.Made.{IsDistinct-from_AllPairs}
 use Rattle.std.proofs.lemmas.Map.Steps.{length-le_from_distinct_below}
 use Rattle.byteorder.specs.Endian.{little_bytes}
+use Rattle.lert_bay.specs.Settled.{part}
 use Rattle.lert_gatelog.specs.Gated.{IsOpen, Records, next_gate}
 use Rattle.lert_spec.specs.declared.numbers.Numbers.{Numbers}
 use Rattle.lert_spec.specs.declared.report.Report.{Report}
@@ -23,10 +24,10 @@ use Rattle.lert_spec.specs.Mix.{cone_of}
 use Rattle.lert_spec.proofs.LimitLaws.{capacity_to}
 use Rattle.lert_reports.specs.declared.log.LogBefore.{LogBefore}
 use Rattle.lert_reports.specs.declared.log.LogKind.{LogKind}
-use Rattle.lert_reports.specs.Log.{is_closed, is_closing, is_flush, flushes_in, last_at, last_directory, last_n0, listed_in, most_record, before_of, AreRecords, HasLogUpTo}
+use Rattle.lert_reports.specs.Log.{is_closed, is_closing, is_flush, flushes_in, last_at, last_directory, last_n0, listed_in, most_record, log_header, before_of, AreRecords, HasLogUpTo}
 use Rattle.lert_reports.specs.LogRules.{AreFrames, KeepsRules}
 use Rattle.lert_reports.specs.LogText.{LogRecord, directory_bytes, log_payload_of, report_bytes}
-use Rattle.lert_reports.proofs.LogLaws.{flushes_in-push, is_closed-push, last_directory-push, last_n0-push, listed_in-push, payloads-push, records_more}
+use Rattle.lert_reports.proofs.LogLaws.{flushes_in-push, is_closed-push, last_directory-push, last_n0-push, listed_in-push, payloads-push, records_more, records_none}
 use Rattle.lert_recover.specs.declared.step.Progress.{Progress}
 use Rattle.lert_recover.specs.Read.{last_first, last_offset, most_directory, steps, HasRead, IsReadOf}
 use Rattle.lert_recover.specs.Repeated.{reports_from, AreNewThere}
@@ -146,6 +147,30 @@ steps_more progress next reports one still_open after =
     one_step LogKind.Flush flushes closed shut = omega (arith, flushes, closed, shut)
     one_step LogKind.Closing flushes closed shut = omega (arith, flushes, closed, shut)
 
+-- ---- no record yet
+
+no_frames : (levels : ℕ) → replicate levels 0 ≡ directory_bytes (replicate levels [])
+no_frames zero = refl
+no_frames (suc levels) = ap (λ bytes. 0 ∷ bytes) (no_frames levels)
+
+pub read_none : (s : Numbers) (cone : ℕ) (progress : Progress) (reports : List Report) (directory : List ℕ) →
+    progress ≡ record { before = record { flushes = 0; n0 = 0; reports = 0; at = 0 }; offset = 32; first = 1; closed = false } → reports ≡ [] → directory ≡ replicate s.levels 0 → HasRead s cone progress reports directory []
+read_none s cone progress reports directory is empty bytes = record {
+  is_read = record {
+    rules = records_none s cone;
+    n0_is = ap (λ (p : Progress). p.before.n0) is;
+    offset_is = ap (λ (p : Progress). p.offset) is;
+    first_is = ap (λ (p : Progress). p.first) is;
+    closed_is = ap (λ (p : Progress). p.closed) is;
+    reports_are = empty;
+    directory_is = bytes ∙ no_frames s.levels;
+  };
+  before_is = ap (λ (p : Progress). p.before) is;
+}
+
+pub up_none : (s : Numbers) (cone : ℕ) (bytes : List ℕ) (gate : ℕ) → part bytes 0 8 ≡ log_header → gate ≡ 8 → HasLogUpTo s cone bytes [] gate
+up_none s cone bytes gate headed gate_is = record { headed = headed; records_stand = gate_is; rules = records_none s cone }
+
 -- ---- what every reading says of the next record
 
 module _ (s : Numbers) (cone : ℕ) (valid : IsValid s) (progress : Progress) (listed : List Report) (directory : List ℕ) (records : List LogRecord) (has : HasRead s cone progress listed directory records) where
@@ -157,6 +182,14 @@ module _ (s : Numbers) (cone : ℕ) (valid : IsValid s) (progress : Progress) (l
 
   pub flushes_few : progress.before.flushes < 2 ^ 32
   flushes_few = omega (arith, ap (λ (before : LogBefore). before.flushes) has.before_is, (together s cone valid records has.is_read.rules).few, capacity_to s valid)
+
+  -- one record for each flush, and the closing one
+  pub steps_few : steps progress ≤ capacity s + 1
+  steps_few = omega (arith, ap (λ (before : LogBefore). before.flushes) has.before_is, (together s cone valid records has.is_read.rules).few, one_bit progress.closed)
+    where
+      one_bit : (closed : Bool) → cond {A = ℕ} closed 1 0 ≤ 1
+      one_bit true = omega arith
+      one_bit false = omega arith
 
 -- ---- the records in the file
 

@@ -1,6 +1,6 @@
 //! The whole log of a cone.
 
-ghost use Rattle.std.specs.Prelude.{◌≡◌, ◌⊎◌, ℕ, ◌≤◌, List, [], length, IfOk, IfErr, MatchResult, IsErrOf, IsErrAnd, vec_capacity, replicate};
+ghost use Rattle.std.specs.Prelude.{◌≡◌, ◌⊎◌, ℕ, ◌<◌, ◌≤◌, ◌^◌, List, [], length, IfOk, IfErr, MatchResult, IsErrOf, IsErrAnd, vec_capacity, replicate};
 ghost use Rattle.lert_bay.specs.Files.{Files, IfTold};
 ghost use Rattle.lert_bay.specs.Images.{KeepsImages, Lasts};
 ghost use Rattle.lert_bay.specs.Settled.{part};
@@ -9,6 +9,7 @@ ghost use Rattle.lert_io.specs.Fault.{HasRisen};
 ghost use Rattle.lert_recover.specs.Read.{IsReadOf, AreReportsUpTo, most_directory};
 ghost use Rattle.lert_reports.specs.Log.{log_header, most_record, HasLog, LogLeavesAt};
 ghost use Rattle.lert_reports.specs.LogText.{LogRecord};
+ghost use Rattle.lert_spec.specs.Limits.{IsValid};
 
 use crate::beginning::{LOG_HEADER_LEN, read_log_header};
 use crate::fault::ReopenFault;
@@ -108,7 +109,7 @@ fn read_records<B: Bay, T: CountTable>(
     let mut log = GateLog::at_gate(LOG, LOG_HEADER_LEN as u64, most_record(settings));
     let mut progress = Progress::new();
     clear_directory(settings, directory);
-    loop {
+    'records: loop {
         if !read_record(
             &mut log,
             bay,
@@ -134,6 +135,7 @@ fn read_records<B: Bay, T: CountTable>(
 fn most_record(settings: &Settings) -> u32
     ensures value { result ≡ most_record settings.now }
     ensures within { result < 2 ^ 27 }
+    ensures valid { IsValid settings.now }
 {
     let numbers = settings.numbers();
     (29 + numbers.levels * (1 + numbers.bins) + 16 * numbers.room) as u32
@@ -145,8 +147,9 @@ fn clear_directory(settings: &Settings, directory: &mut Vec<u8>)
     ensures items { directory.new.items ≡ replicate settings.now.levels 0 }
     ensures directory { vec_capacity directory.new ≡ vec_capacity directory.old }
 {
+    let levels = settings.numbers().levels as usize;
     directory.clear();
-    for _ in 0..settings.numbers().levels {
+    while directory.len() < levels {
         directory.push_reserved(0);
     }
 }
