@@ -243,30 +243,34 @@ module _ (s : Numbers) (cone : ℕ) (before : LogBefore) (payload : List ℕ) wh
         let found = first_among payload (report_fields s cone before payload) (reports_in s payload) 0 place here in
         let good = count_there (count_good none) in
         let n = found.number in
-        let fine : (k : ℕ) → k < n → HasKey k × (start + 16 * k + 16 ≤ length payload) = λ k below. report_fine k (found.fine k (omega arith) below) in
-        (n, record {
-          few = omega (arith, found.high);
-          room = good.1;
-          there = reports_long n good.0 (λ k below. (fine k below).1);
-          keys = λ k below. (fine k below).0;
-          place_is = elim (report_left n place found.here) [
-            | inl at_key ↦ inl at_key
-            | inr at_position ↦ inr (at_position.0, omega (arith, found.high), at_position.1)
-          ];
-        })
+        let fine : (k : ℕ) → k < n → HasKey k × (start + 16 * k + 16 ≤ length payload) = λ k below. report_fine k (found.fine k (omega arith) below) in (
+          n,
+          record {
+            few = omega (arith, found.high);
+            room = good.1;
+            there = reports_long n good.0 (λ k below. (fine k below).1);
+            keys = λ k below. (fine k below).0;
+            place_is = elim (report_left n place found.here) [
+              | inl at_key ↦ inl at_key
+              | inr at_position ↦ inr (at_position.0, omega (arith, found.high), at_position.1)
+            ];
+          },
+        )
 
     at_end : left_at payload (head ++ directory ++ count) ≡ None → left_at payload reports ≡ None → left_at payload (end_field s payload ∷ []) ≡ Some place → (n : ℕ) × ReportsBefore place n
     at_end none whole_reports here =
         let good = count_there (count_good none) in
         let n = reports_in s payload in
-        let fine : (k : ℕ) → k < n → HasKey k × (start + 16 * k + 16 ≤ length payload) = λ k below. report_fine k (each_none payload (report_fields s cone before payload) n 0 whole_reports k (omega arith) (omega (arith, below))) in
-        (n, record {
-          few = omega arith;
-          room = good.1;
-          there = reports_long n good.0 (λ k below. (fine k below).1);
-          keys = λ k below. (fine k below).0;
-          place_is = inl (one_left payload (end_field s payload) place here);
-        })
+        let fine : (k : ℕ) → k < n → HasKey k × (start + 16 * k + 16 ≤ length payload) = λ k below. report_fine k (each_none payload (report_fields s cone before payload) n 0 whole_reports k (omega arith) (omega (arith, below))) in (
+          n,
+          record {
+            few = omega arith;
+            room = good.1;
+            there = reports_long n good.0 (λ k below. (fine k below).1);
+            keys = λ k below. (fine k below).0;
+            place_is = inl (one_left payload (end_field s payload) place here);
+          },
+        )
 
     some_before : (n : ℕ) × ReportsBefore place n
     some_before =

@@ -8,3 +8,4 @@ pub mod RecordsLaws
 pub mod RepeatLaws
 pub mod StartLaws
 pub mod StepLaws
+pub mod WholeLaws
