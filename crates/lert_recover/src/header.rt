@@ -12,6 +12,9 @@ use lert_base::{Kept, Settings};
 use lert_bay::{Bay, JOURNAL};
 use lert_journal::{HEADER_LEN, header_left, read_header};
 
+#[cfg(test)]
+mod tests;
+
 /// Reads the header of the journal. Ok comes exactly where it is that of this cone with these settings and a gate stands
 /// behind it, but where a call of the bay fails. Reads 32 bytes and a length, changes no file and takes no memory.
 pub fn read_journal_header<B: Bay>(

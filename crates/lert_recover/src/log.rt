@@ -19,6 +19,9 @@ use lert_bay::{Bay, LOG};
 use lert_gatelog::GateLog;
 use lert_reports::ReportStore;
 
+#[cfg(test)]
+mod tests;
+
 /// What a log says of the files of its cone.
 #[derive(Clone, Copy, Debug, PartialEq, Eq)]
 pub struct LogEnd {
