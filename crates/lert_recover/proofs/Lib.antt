@@ -1,5 +1,6 @@
 pub mod AgreedLaws
 pub mod CallLaws
+mod Examples
 pub mod GateLaws
 pub mod HeadLaws
 pub mod LeavesLaws

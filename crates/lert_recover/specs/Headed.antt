@@ -32,3 +32,7 @@ abbrev pub IsHeaderFault : Numbers → ℕ → List ℕ → ReopenFault → Type
 IsHeaderFault s cone bytes fault =
     ((at : ℕ) × (fault ≡ Malformed 0 at) × (beginning_left bytes ≡ Some at))
     ⊎ ((kept : Kept) × (fault ≡ OtherSettings kept) × HasOther s cone bytes kept)
+
+-- a place of the journal, or other numbers
+abbrev pub IsOfHeader : ReopenFault → Type 0
+IsOfHeader fault = ((at : ℕ) × (fault ≡ Malformed 0 at)) ⊎ ((kept : Kept) × (fault ≡ OtherSettings kept))

@@ -1,11 +1,11 @@
 //! The header of the journal.
 
-ghost use Rattle.std.specs.Prelude.{◌≡◌, ◌≢◌, ◌⊎◌, ℕ, ◌≤◌, List, Some, length, take, IsTrue, IsFalse, MatchResult, IsErrOf, IsErrAnd};
+ghost use Rattle.std.specs.Prelude.{◌≡◌, ◌≢◌, ◌⊎◌, ℕ, ◌≤◌, List, Some, length, take, IsTrue, IsFalse, IfErr, MatchResult, IsErrOf, IsErrAnd};
 ghost use Rattle.lert_base.specs.declared.kept.Kept.{Kept as KeptOf};
 ghost use Rattle.lert_bay.specs.Files.{Files, IfTold};
 ghost use Rattle.lert_bay.specs.Images.{KeepsImages, Lasts};
 ghost use Rattle.lert_io.specs.Fault.{HasRisen};
-ghost use Rattle.lert_recover.specs.Headed.{beginning_left, IsHeaded, HasOther, IsHeaderFault};
+ghost use Rattle.lert_recover.specs.Headed.{beginning_left, IsHeaded, HasOther, IsHeaderFault, IsOfHeader};
 
 use crate::fault::ReopenFault;
 use lert_base::{Kept, Settings};
@@ -33,6 +33,9 @@ pub fn read_journal_header<B: Bay>(
         IsErrAnd result (λ fault. (fault ≡ ReopenFault.Failed) ⊎ (fault ≡ ReopenFault.Malformed 0 at))) }
     ensures differs { IfTold (B.files bay.old) (λ seen. (kept : KeptOf) → HasOther settings.now cone (seen 0) kept →
         IsErrAnd result (λ fault. (fault ≡ ReopenFault.Failed) ⊎ (fault ≡ ReopenFault.OtherSettings kept))) }
+
+    // Told or not, it is the bay or the journal that is refused.
+    ensures fault { IfErr result (λ fault. (fault ≡ ReopenFault.Failed) ⊎ IsOfHeader fault) }
     ensures seen { B.files bay.new ≡ B.files bay.old }
     ensures images { KeepsImages (B.leaves bay.old) (B.leaves bay.new) }
     ensures moments { (image : Files) → B.left_since bay.new (B.moment bay.old) image → B.leaves bay.old image }
@@ -60,6 +63,7 @@ fn check_header(
     requires { count ≤ 32 }
     ensures told { (file : List ℕ) → end ≡ length file → take count head.now ≡ take 32 file →
         MatchResult result (λ _. IsHeaded settings.now cone file) (IsHeaderFault settings.now cone file) }
+    ensures fault { IfErr result IsOfHeader }
     ensures decided { ¬ IsErrOf result ReopenFault.Failed }
 {
     if let Some(at) = header_left(&head[..count]) {

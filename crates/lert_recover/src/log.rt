@@ -69,6 +69,9 @@ pub fn read_whole_log<B: Bay, T: CountTable>(
         (λ fault. fault ≡ ReopenFault.Failed)) }
     ensures refuses { IfTold (B.files bay.old) (λ seen. (at : ℕ) → LogLeavesAt settings.now cone (seen 1) at →
         IsErrAnd result (λ fault. (fault ≡ ReopenFault.Failed) ⊎ (fault ≡ ReopenFault.Malformed 1 at))) }
+
+    // Told or not, it is the bay or the log that is refused.
+    ensures fault { IfErr result (λ fault. (fault ≡ ReopenFault.Failed) ⊎ ((at : ℕ) × (fault ≡ ReopenFault.Malformed 1 at))) }
     ensures same { store.new.settings ≡ store.old.settings }
     ensures seen { B.files bay.new ≡ B.files bay.old }
     ensures images { KeepsImages (B.leaves bay.old) (B.leaves bay.new) }
