@@ -1,5 +1,5 @@
 -- The beginning of a journal of one cone, of others, and what is read of a log without a record.
-use Rattle.std.proofs.Common.{◌≡◌, ℕ, List, [], ◌∷◌, ◌++◌, take, false, Some, None, refl, ap, arith}
+use Rattle.std.proofs.Common.{◌≡◌, ℕ, List, [], ◌∷◌, ◌++◌, take, false, Some, refl, ap, arith}
 use Rattle.lert_base.specs.declared.kept.Kept.{Kept}
 use Rattle.lert_spec.specs.declared.numbers.Numbers.{Numbers}
 use Rattle.lert_reports.proofs.LogLaws.{records_none}

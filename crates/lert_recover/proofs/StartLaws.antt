@@ -1,6 +1,6 @@
 -- Where the reports of a record begin.
-use Rattle.std.proofs.Common.{ℕ, ◌≡◌, ◌+◌, ◌-◌, ◌*◌, ◌/◌, ◌≤◌, ◌<◌, ◌^◌, arith}
-use Rattle.std.specs.Prelude.{nat_lt, min, max, count_by}
+use Rattle.std.proofs.Common.{ℕ, ◌+◌, ◌-◌, ◌*◌, ◌/◌, ◌≤◌, arith}
+use Rattle.std.specs.Prelude.{nat_lt, min, max}
 use Rattle.std.specs.List.{range_with_len}
 use Rattle.std.proofs.Math.Nat.{div-le_self}
 use Rattle.std.proofs.lemmas.List.FromFn.{length-range_with_len}

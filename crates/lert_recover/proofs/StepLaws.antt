@@ -1,8 +1,7 @@
 -- What was read of a log, with one record more.
-use Rattle.std.proofs.Common.{ℕ, zero, suc, ◌≡◌, ◌≢◌, ◌+◌, ◌-◌, ◌*◌, ◌<◌, ◌≤◌, ◌^◌, Bool, true, false, cond, eqb, List, [], ◌∷◌, ◌++◌, length, map, take, drop, get_or, refl, ap, ap₂, sym, ◌∙◌, subst, arith, inl, inr, append_assoc, length-append}
-use Rattle.std.specs.Prelude.{All, flat_map, fold, replicate, slice_index_or}
+use Rattle.std.proofs.Common.{ℕ, zero, suc, ◌≡◌, ◌≢◌, ◌+◌, ◌*◌, ◌<◌, ◌≤◌, ◌^◌, Bool, true, false, cond, eqb, List, [], ◌∷◌, ◌++◌, length, map, take, drop, get_or, refl, ap, sym, ◌∙◌, subst, arith, append_assoc, length-append}
+use Rattle.std.specs.Prelude.{All, flat_map, replicate, slice_index_or}
 use Rattle.std.specs.List.{AllPairs}
-use Rattle.std.proofs.Math.Nat.{mul-le-mul_left}
 use Rattle.std.proofs.lemmas.Bool.{eq-eqb, eqb-true, true≢false}
 use Rattle.std.proofs.lemmas.Bool.Decides.{Decides-eqb}
 use Rattle.std.proofs.lemmas.List.{append-nil, take_at}
@@ -24,12 +23,12 @@ use Rattle.lert_spec.specs.Mix.{cone_of}
 use Rattle.lert_spec.proofs.LimitLaws.{capacity_to}
 use Rattle.lert_reports.specs.declared.log.LogBefore.{LogBefore}
 use Rattle.lert_reports.specs.declared.log.LogKind.{LogKind}
-use Rattle.lert_reports.specs.Log.{is_closed, is_closing, is_flush, flushes_in, last_at, last_directory, last_n0, listed_in, most_record, log_header, before_of, AreRecords, HasLogUpTo}
+use Rattle.lert_reports.specs.Log.{is_closed, is_closing, is_flush, flushes_in, last_at, last_n0, listed_in, most_record, log_header, before_of, AreRecords, HasLogUpTo}
 use Rattle.lert_reports.specs.LogRules.{AreFrames, KeepsRules}
 use Rattle.lert_reports.specs.LogText.{LogRecord, directory_bytes, log_payload_of, report_bytes}
 use Rattle.lert_reports.proofs.LogLaws.{flushes_in-push, is_closed-push, last_directory-push, last_n0-push, listed_in-push, payloads-push, records_more, records_none}
 use Rattle.lert_recover.specs.declared.step.Progress.{Progress}
-use Rattle.lert_recover.specs.Read.{last_first, last_offset, most_directory, steps, HasRead, IsReadOf}
+use Rattle.lert_recover.specs.Read.{last_first, last_offset, most_directory, steps, HasRead}
 use Rattle.lert_recover.specs.Repeated.{reports_from, AreNewThere}
 use Rattle.lert_recover.proofs.RecordsLaws.{together}
 use Rattle.lert_recover.proofs.RepeatLaws.{listed_more}

@@ -1,5 +1,5 @@
 -- An answer to a whole log that is right says what stands in the file, and what stands there is the answer.
-use Rattle.std.proofs.Common.{ℕ, ◌≡◌, Result, Ok, Err, List, refl, ap, sym, ◌∙◌, subst, inl, inr, ◌⊎◌}
+use Rattle.std.proofs.Common.{ℕ, ◌≡◌, Result, Ok, Err, List, ap, sym, ◌∙◌, subst, inl, inr, ◌⊎◌}
 use Rattle.std.specs.Prelude.{IfOk, IfErr, MatchResult, IsErrOf, IsErrAnd}
 use Rattle.lert_spec.specs.declared.numbers.Numbers.{Numbers}
 use Rattle.lert_spec.specs.declared.report.Report.{Report}

@@ -7,7 +7,6 @@ use Rattle.lert_recover.specs.declared.step.Progress.{Progress}
 use Rattle.lert_spec.specs.declared.numbers.Numbers.{Numbers}
 use Rattle.lert_spec.specs.declared.report.Report.{Report}
 use Rattle.lert_spec.specs.Mix.{cone_of}
-use Rattle.lert_reports.specs.declared.log.LogBefore.{LogBefore}
 use Rattle.lert_reports.specs.Log.{AreRecords, before_of, is_closed, last_directory, last_n0, listed_in}
 use Rattle.lert_reports.specs.LogText.{LogRecord, directory_bytes}
 

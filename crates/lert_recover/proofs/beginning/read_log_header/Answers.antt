@@ -1,4 +1,4 @@
-use Rattle.std.proofs.Common.{◌≡◌, ◌<◌, ◌≤◌, min, length, take, ap, sym, ◌∙◌, arith}
+use Rattle.std.proofs.Common.{◌≡◌, min, length, ap, sym, ◌∙◌, arith}
 use Rattle.lert_reports.specs.Log.{log_header}
 use Rattle.lert_spec.specs.Trace.{agreed}
 use Rattle.lert_recover.proofs.AgreedLaws.{agreed_front, agreed_all}

@@ -1,11 +1,9 @@
-use Rattle.std.proofs.Common.{ℕ, ◌≡◌, Some, Err, List, ap, sym, ◌∙◌, subst}
+use Rattle.std.proofs.Common.{◌≡◌, Some, Err, ap, ◌∙◌, subst}
 use Rattle.std.proofs.lemmas.Result.{err_from_is_err_and}
 use Rattle.lert_bay.specs.Files.{Files}
 use Rattle.lert_bay.specs.Settled.{part}
 use Rattle.lert_spec.specs.Limits.{IsValid}
-use Rattle.lert_reports.specs.Log.{log_header, HasLog, LogLeavesAt, In_header}
-use Rattle.lert_reports.specs.LogText.{LogRecord}
-use Rattle.lert_recover.proofs.GateLaws.{same_fault}
+use Rattle.lert_reports.specs.Log.{log_header, HasLog, In_header}
 use Rattle.lert_recover.proofs.WholeLaws.{header_refuses, left_back, log_refused, up_to, whole_back}
 use Rattle.lert_recover.proofs.log.read_whole_log.Goals as goal
 

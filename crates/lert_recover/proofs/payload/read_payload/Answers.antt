@@ -1,4 +1,4 @@
-use Rattle.std.proofs.Common.{◌≡◌, ◌≤◌, ℕ, Err, take, refl, ap, sym, ◌∙◌, subst, inl, inr, rules}
+use Rattle.std.proofs.Common.{◌≡◌, ◌≤◌, ℕ, Err, take, ap, sym, ◌∙◌, subst, inr}
 use Rattle.lert_gatelog.specs.Gated.{IsOpen, BreaksAt}
 use Rattle.lert_recover.specs.Read.{GateLeavesAt}
 use Rattle.lert_recover.proofs.GateLaws.{same_place, gate_left}

@@ -1,12 +1,11 @@
-use Rattle.std.proofs.Common.{ℕ, ◌≡◌, ◌+◌, ◌-◌, ◌*◌, ◌/◌, ◌≤◌, ◌<◌, ◌++◌, length, ap, ap₂, sym, ◌∙◌, subst, arith, length-append}
+use Rattle.std.proofs.Common.{ℕ, ◌≡◌, ◌+◌, ◌-◌, ◌/◌, ◌≤◌, ◌++◌, ap, ap₂, sym, ◌∙◌, subst, arith}
 use Rattle.std.specs.Prelude.{All}
 use Rattle.lert_spec.specs.declared.numbers.Numbers.{Numbers}
-use Rattle.lert_spec.specs.declared.report.Report.{Report}
 use Rattle.lert_spec.specs.Edges.{capacity}
 use Rattle.lert_spec.specs.Look.{is_listed}
 use Rattle.lert_spec.specs.Mix.{cone_of}
-use Rattle.lert_reports.specs.Log.{before_of, listed_in}
-use Rattle.lert_reports.specs.LogText.{n0_in, number_in, reports_place}
+use Rattle.lert_reports.specs.Log.{before_of}
+use Rattle.lert_reports.specs.LogText.{reports_place}
 use Rattle.lert_recover.specs.Repeated.{reports_from, IsListedThere, AreNewThere}
 use Rattle.lert_recover.proofs.LeftLaws.{long_enough, within_capacity}
 use Rattle.lert_recover.proofs.LeavesLaws.{before_there, behind_new, at_key, among, all_of_cone, key_of_cone, next_key, place_small}

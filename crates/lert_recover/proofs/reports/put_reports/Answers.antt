@@ -1,11 +1,11 @@
-use Rattle.std.proofs.Common.{◌≡◌, ◌+◌, ◌*◌, ◌<◌, ◌++◌, ℕ, List, [], ◌∷◌, length, Bool, false, ap, ap₂, sym, ◌∙◌, subst, arith, length-append}
+use Rattle.std.proofs.Common.{◌≡◌, ◌+◌, ◌*◌, ◌++◌, ℕ, [], ◌∷◌, length, ap, ap₂, sym, ◌∙◌, subst, arith, length-append}
 use Rattle.std.specs.Prelude.{All}
 use Rattle.lert_spec.specs.declared.numbers.Numbers.{Numbers}
 use Rattle.lert_spec.specs.declared.report.Report.{Report}
 use Rattle.lert_spec.specs.Look.{is_listed}
 use Rattle.lert_spec.specs.Mix.{cone_of}
 use Rattle.lert_reports.specs.Stored.{Stored}
-use Rattle.lert_reports.specs.LogText.{number_in, report_in}
+use Rattle.lert_reports.specs.LogText.{number_in}
 use Rattle.lert_recover.specs.Repeated.{reports_from, IsNewThere}
 use Rattle.lert_recover.proofs.RepeatLaws.{length_from, listed_more, new_more, of_one_cone}
 use Rattle.lert_recover.proofs.reports.put_reports.Goals as goal

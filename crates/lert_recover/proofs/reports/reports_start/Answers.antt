@@ -1,6 +1,5 @@
-use Rattle.std.proofs.Common.{◌<◌, ◌≤◌, ◌^◌, arith, subst}
+use Rattle.std.proofs.Common.{◌≤◌, arith, subst}
 use Rattle.lert_spec.specs.Limits.{IsValid}
-use Rattle.lert_spec.specs.Edges.{capacity}
 use Rattle.lert_spec.proofs.LimitLaws.{capacity_to}
 use Rattle.lert_reports.proofs.DirectoryLaws.{level_place-next}
 use Rattle.lert_recover.proofs.StartLaws.{bins_few}

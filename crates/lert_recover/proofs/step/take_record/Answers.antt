@@ -1,4 +1,4 @@
-use Rattle.std.proofs.Common.{ℕ, ◌≡◌, ◌≢◌, ◌+◌, ◌-◌, ◌*◌, ◌≤◌, ◌<◌, ◌++◌, Some, None, List, length, take, drop, ap, sym, ◌∙◌, subst, arith, refl}
+use Rattle.std.proofs.Common.{ℕ, ◌≡◌, ◌≢◌, ◌-◌, ◌++◌, Some, None, length, take, drop, ap, sym, ◌∙◌, subst, arith}
 use Rattle.std.specs.Prelude.{All}
 use Rattle.std.specs.List.{AllPairs}
 use Rattle.std.proofs.lemmas.List.Elements.{All-append}
@@ -7,9 +7,8 @@ use Rattle.lert_spec.specs.declared.numbers.Numbers.{Numbers}
 use Rattle.lert_spec.specs.declared.report.Report.{Report}
 use Rattle.lert_spec.specs.Limits.{IsValid}
 use Rattle.lert_spec.specs.Mix.{cone_of}
-use Rattle.lert_reports.specs.Log.{before_of, listed_in}
 use Rattle.lert_reports.specs.LogRules.{record_in}
-use Rattle.lert_reports.specs.LogText.{directory_bytes, log_left, n0_in, reports_place}
+use Rattle.lert_reports.specs.LogText.{log_left}
 use Rattle.lert_reports.proofs.RecordLaws.{parts_tell}
 use Rattle.lert_recover.specs.Repeated.{reports_from, IsListedThere, AreNewThere}
 use Rattle.lert_recover.proofs.LeavesLaws.{first_again}
