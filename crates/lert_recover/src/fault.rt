@@ -1,0 +1,27 @@
+//! Why a cone isn't reopened.
+
+use lert_base::Kept;
+use lert_io::Failed;
+
+#[derive(Clone, Copy, Debug, PartialEq, Eq)]
+pub enum ReopenFault {
+    /// A call of the bay failed.
+    Failed,
+    /// A file, by its number, first leaves its format at this byte.
+    Malformed { file: u8, at: u64 },
+    /// The journal was written with another number, or by another cone: these, valid or not.
+    OtherSettings { kept: Kept },
+    /// There was no memory. Until bins are read in streams, reading one takes some.
+    OutOfMemory,
+}
+
+impl From<Failed> for ReopenFault {
+    ghost use Rattle.std.specs.Prelude.{◌≡◌};
+    ghost use Rattle.lert_recover.specs.declared.fault.ReopenFault.TheVariants.{Failed as FailedCall};
+
+    ghost from_gives = { λ _ fault. fault ≡ FailedCall };
+
+    fn from(_failed: Failed) -> ReopenFault {
+        ReopenFault::Failed
+    }
+}
