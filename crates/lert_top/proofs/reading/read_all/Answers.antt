@@ -1,4 +1,4 @@
-use Rattle.std.proofs.Common.{[], List, ℕ, ◌∙◌, subst, append-nil}
+use Rattle.std.proofs.Common.{[], List, ℕ, ◌∙◌, refl, subst, append-nil}
 use Rattle.lert_spec.specs.declared.numbers.Numbers.{Numbers}
 use Rattle.lert_spec.specs.Trace.{whole}
 use Rattle.lert_top.specs.Bays.{ArePartWoven, AreWoven, bays_of}

@@ -42,7 +42,7 @@ returns-in_err-print_cone-clause-cut g c = λ told.
     let counted = c.events.ensures.memory (ap is_broken c.cone-cone.ensures.state) in
     let one : Printed = record { events = c.events.result; reports = c.list.result.now; closed = true } in
     let is = is_printed g.B.Bay.files s bays keys number c.cone-cone.result.now c.events.result c.list.result.now c.cone-cone.ensures.listing c.cone-cone.ensures.bay counted
-    (λ seen told. c.list.ensures.reports ∙ (c.reports.ensures.value ∙ (c.cone-cone.ensures.stands.1.whole (ap is_broken c.cone-cone.ensures.state) seen told).reports_are)) in
+    (λ seen told. c.list.ensures.reports ∙ (c.reports.ensures.value ∙ (c.cone-cone.ensures.stands.1.whole (ap is_broken c.cone-cone.ensures.state) seen told).in_step.reports_are)) in
     let all = printed_told g.B.Bay.files s bays keys (number + 1) (here.cones ++ one ∷ []) (printed_push g.B.Bay.files s bays keys number here.cones here.are one is) told within in
     rw p.1
     (IsCut-begins start now (text_of s keys) (cone_texts 0 (printed s keys (number + 1)))
@@ -63,7 +63,7 @@ loop-number-preserved g c =
     let counted = c.events.ensures.memory (ap is_broken c.cone-cone.ensures.state) in
     let one : Printed = record { events = c.events.result; reports = c.list.result.now; closed = true } in
     let is = is_printed g.B.Bay.files s bays keys number c.cone-cone.result.now c.events.result c.list.result.now c.cone-cone.ensures.listing c.cone-cone.ensures.bay counted
-    (λ seen told. c.list.ensures.reports ∙ (c.reports.ensures.value ∙ (c.cone-cone.ensures.stands.1.whole (ap is_broken c.cone-cone.ensures.state) seen told).reports_are)) in
+    (λ seen told. c.list.ensures.reports ∙ (c.reports.ensures.value ∙ (c.cone-cone.ensures.stands.1.whole (ap is_broken c.cone-cone.ensures.state) seen told).in_step.reports_are)) in
     let counts = c.numbers_of-events_here.ensures in
     let listed = ap (λ (reports : List Report). length reports) (c.list.ensures.reports ∙ c.reports.ensures.value) in
     record {
