@@ -154,6 +154,9 @@ impl<T: CountTable> Levels<T> {
             IfErr result (λ fault. (fault ≡ FlushFault.Failed) ⊎ (fault ≡ FlushFault.OutOfMemory))) }
         ensures malformed { IfTold (B.files bay.old) (λ seen. (at : ℕ) → IsErrOf result (FlushFault.Malformed at) →
             OneBreaks self.old.settings (take (depth self.old.settings m) self.old.rows) (seen 2) at) }
+
+        // Then nothing was written.
+        ensures unwritten { (at : ℕ) → IsErrOf result (FlushFault.Malformed at) → B.files bay.new ≡ B.files bay.old }
         ensures never_falls { B.faults bay.old ≤ B.faults bay.new }
         ensures failed { IsErrOf result FlushFault.Failed → HasRisen (B.faults bay.old) (B.faults bay.new) }
         ensures mark { B.mark bay.new ≡ B.mark bay.old }
