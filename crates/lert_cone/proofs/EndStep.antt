@@ -22,11 +22,11 @@ use Rattle.lert_cone.specs.Sound.{IsJournal, IsSound, but_last}
 use Rattle.lert_cone.specs.Tally.{Tallied, IsCounted}
 use Rattle.lert_cone.proofs.KeyStep.{next_payload, journal_beside, frames_beside, log_beside, log_behind}
 use Rattle.lert_cone.proofs.LogLaws.{LogsNext, log_at_close}
-use Rattle.lert_cone.proofs.StepLaws.{sound_of}
+use Rattle.lert_cone.proofs.StepLaws.{sound_of, last_flush_grows}
 
 -- all keys are taken
-pub partway_all : (history : List Packet) (events : List ℕ) → events ≡ events_of history → length (events_of (but_last history)) ≤ length events → IsPartway history events []
-partway_all history events all late = record { rest = []; is = sym all ∙ sym (append-nil events); late = late }
+pub partway_all : (s : Numbers) (history : List Packet) (events : List ℕ) → events ≡ events_of history → length (events_of (but_last history)) ≤ length events → IsPartway s history events []
+partway_all s history events all late = record { rest = []; is = sym all ∙ sym (append-nil events); late = last_flush_grows s (length (events_of (but_last history))) (length events) late }
 
 -- what is known once the levels are scanned, of the bay then, where memory and the files went together before (`t`) and no
 -- record is written yet
@@ -56,8 +56,8 @@ module _ (leaves : Files → Type 0) (seen : Files) (history : List Packet) (t a
   next =
       log_at_close t.listing.settings before.valid t.listing.cone t.listing.events t.rows logged a.due.reports before.fits before.keys before.own before.rows before.are closed_reports few ending.log_of
 
-  partway : IsPartway history t.listing.events []
-  partway = partway_all history t.listing.events ending.all ending.late
+  partway : IsPartway t.listing.settings history t.listing.events []
+  partway = partway_all t.listing.settings history t.listing.events ending.all ending.late
 
   module _ (since : Files → Type 0) (payload : List ℕ) (payload_is : payload ≡ payload_at log LogKind.Closing (length a.listing.events) (directory_text a.rows) a.due.reports)
       (others : KeepsOthers leaves since seen 1) (earlier : KeepsBefore leaves since seen 1 log.gate) where

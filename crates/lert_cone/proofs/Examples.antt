@@ -1,5 +1,5 @@
 -- The definitions, computed on the files that three keys 7 leave.
-use Rattle.std.proofs.Common.{◌≡◌, ℕ, zero, suc, ◌+◌, ◌-◌, ◌^◌, ◌<◌, ◌≤◌, List, [], ◌∷◌, map, take, refl, sym, arith}
+use Rattle.std.proofs.Common.{◌≡◌, ℕ, zero, suc, ◌+◌, ◌-◌, ◌^◌, ◌<◌, ◌≤◌, All, List, [], ◌∷◌, map, take, refl, sym, arith}
 use Rattle.std.specs.Prelude.{slice_index_or}
 use Rattle.std.proofs.lemmas.List.Elements.{All-nil, All-cons}
 use Rattle.lert_base.specs.Packet.{Packet}
@@ -77,6 +77,12 @@ journaled = record {
       (All-cons (λ key. cone_of small key ≡ 0) 7 [] refl (All-nil (λ key. cone_of small key ≡ 0))));
 }
 
+keys_fit : All (λ key. key < 2 ^ 64) sevens.keys
+keys_fit =
+    All-cons (λ key. key < 2 ^ 64) 7 (7 ∷ 7 ∷ []) (omega arith)
+    (All-cons (λ key. key < 2 ^ 64) 7 (7 ∷ []) (omega arith)
+    (All-cons (λ key. key < 2 ^ 64) 7 [] (omega arith) (All-nil (λ key. key < 2 ^ 64))))
+
 -- the closing record behind them
 abbrev ending : LogRecord
 ending = record { kind = LogKind.Closing; n0 = 3; offset = 32; first = 1; directory = [] ∷ [] ∷ []; reports = record { key = 7; at = 3 } ∷ [] }
@@ -148,6 +154,7 @@ sound = record {
         closed = record { within = omega arith; shut = λ one. absurd (omega (arith, one)) };
       };
       journaled = All-cons (IsJournaled small 0) sevens [] journaled (All-nil (IsJournaled small 0));
+      fit = All-cons (λ packet. All (λ key. key < 2 ^ 64) packet.keys) sevens [] keys_fit (All-nil (λ packet. All (λ key. key < 2 ^ 64) packet.keys));
       within = omega arith;
     };
     logged = ending ∷ [];

@@ -30,17 +30,17 @@ use Rattle.lert_cone.specs.Tally.{Tallied, IsCounted, IsHeld}
 use Rattle.lert_cone.proofs.LogLaws.{LogsNext, log_between, log_at_flush, payload_is}
 use Rattle.lert_cone.proofs.RecordLaws.{payload_is_at}
 use Rattle.lert_cone.proofs.WroteLaws.{leaves_rest, settled_through}
-use Rattle.lert_cone.proofs.StepLaws.{journal_since, log_since, frames_since, sound_of, with_or_without, with_record, header_since}
+use Rattle.lert_cone.proofs.StepLaws.{journal_since, log_since, frames_since, sound_of, with_or_without, with_record, header_since, last_flush_grows}
 
 -- a part of the keys is taken
-pub partway_less : (history : List Packet) (events more : List ℕ) → IsPartway history events more → IsPartway history events []
-partway_less history events more partway = record { rest = more ++ partway.rest; is = partway.is; late = partway.late }
+pub partway_less : (s : Numbers) (history : List Packet) (events more : List ℕ) → IsPartway s history events more → IsPartway s history events []
+partway_less s history events more partway = record { rest = more ++ partway.rest; is = partway.is; late = partway.late }
 
-pub partway_more : (history : List Packet) (events : List ℕ) (key : ℕ) → IsPartway history events (key ∷ []) → IsPartway history (events ++ key ∷ []) []
-partway_more history events key partway = record {
+pub partway_more : (s : Numbers) (history : List Packet) (events : List ℕ) (key : ℕ) → IsPartway s history events (key ∷ []) → IsPartway s history (events ++ key ∷ []) []
+partway_more s history events key partway = record {
   rest = partway.rest;
   is = partway.is ∙ sym (append_assoc events (key ∷ []) partway.rest);
-  late = omega (arith, partway.late, length-append events (key ∷ []));
+  late = omega (arith, partway.late, last_flush_grows s (length events) (length (events ++ key ∷ [])) (omega (arith, length-append events (key ∷ []))));
 }
 
 -- the payload that is appended is that of the next record
@@ -66,7 +66,7 @@ module _ (leaves since : Files → Type 0) (seen : Files) (history : List Packet
   frames_here = frames_since leaves since seen t.listing.settings t.listing.events t.rows counted.are read up.frames frames_keep
 
   -- they stay sound
-  pub sound_here : t.listing.closed ≡ false → IsPartway history t.listing.events [] → (image : Files) → since image → IsSound t.listing.settings t.listing.cone history image
+  pub sound_here : t.listing.closed ≡ false → IsPartway t.listing.settings history t.listing.events [] → (image : Files) → since image → IsSound t.listing.settings t.listing.cone history image
   sound_here still partway image may =
       sound_of t.listing.settings t.listing.cone history t.listing.events t.rows t.listing.closed up.logged log.gate counted.valid counted.rows partway
       (λ ended. absurd (false≢true (sym still ∙ ended))) up.log_of image (journal_here image may) (log_here image may) (frames_here image may)
@@ -193,7 +193,7 @@ module _ (leaves : Files → Type 0) (seen : Files) (history : List Packet) (t a
       frames_new image may = to_listing (λ s cone events closed. HoldsBins s events a.rows (image 2)) (taken.frames image may)
 
       -- in each image of each moment of the append
-      pub sound_append : InEach since 1 (IsWithOrWithout (most_record t.listing.settings) 8 (map log_payload_of logged) log.gate payload) → IsPartway history t.listing.events (key ∷ []) →
+      pub sound_append : InEach since 1 (IsWithOrWithout (most_record t.listing.settings) 8 (map log_payload_of logged) log.gate payload) → IsPartway t.listing.settings history t.listing.events (key ∷ []) →
           (image : Files) → since image → IsSound t.listing.settings t.listing.cone history image
       sound_append each partway image may =
           let s = t.listing.settings in
@@ -201,10 +201,10 @@ module _ (leaves : Files → Type 0) (seen : Files) (history : List Packet) (t a
           let journal = journal_beside leaves since seen s cone history logged one log.gate payload taken.read taken.journal taken.journal_settled taken.log_there next.is.rules payload_here others earlier image may in
           let beside = frames_beside leaves since seen s cone history logged one log.gate payload taken.read taken.journal taken.journal_settled taken.log_there next.is.rules payload_here others earlier in
           elim (log_beside leaves since seen s cone history logged one log.gate payload taken.read taken.journal taken.journal_settled taken.log_there next.is.rules payload_here others earlier each image may) [
-            | inl without ↦ sound_of s cone history t.listing.events t.rows false logged log.gate before.valid before.rows (partway_less history t.listing.events (key ∷ []) partway)
+            | inl without ↦ sound_of s cone history t.listing.events t.rows false logged log.gate before.valid before.rows (partway_less t.listing.settings history t.listing.events (key ∷ []) partway)
                 (λ never. absurd (false≢true never)) taken.log_of image journal without (beside t.listing.events t.rows before.are taken.frames_before image may)
             | inr with_it ↦ sound_of s cone history (t.listing.events ++ key ∷ []) a.rows false (logged ++ one ∷ []) (next_gate log.gate payload) before.valid
-                (subst (λ n. IsAt t.listing.settings n a.rows) (sym long) rows_at) (partway_more history t.listing.events key partway)
+                (subst (λ n. IsAt t.listing.settings n a.rows) (sym long) rows_at) (partway_more t.listing.settings history t.listing.events key partway)
                 (λ never. absurd (false≢true never)) next.is image journal with_it (beside (t.listing.events ++ key ∷ []) a.rows rows_are frames_new image may)
           ]
 
@@ -254,8 +254,8 @@ module _ (files_before files_after : Option Files) (leaves leaves_after : Files 
   frames_kept : (from to : ℕ) → InNamed t.listing.settings t.rows from to → IsSettled leaves seen 2 from to → Keeps (since_after first) seen 2 from to
   frames_kept from to named settled = rest.settled seen told 2 from to (inr named) settled
 
-  pub sound_rest : (more : List ℕ) → IsPartway history t.listing.events more → (image : Files) → since_after first image → IsSound t.listing.settings t.listing.cone history image
-  sound_rest more partway = sound_here leaves (since_after first) seen history t log counted up read journal_kept log_kept frames_kept still (partway_less history t.listing.events more partway)
+  pub sound_rest : (more : List ℕ) → IsPartway t.listing.settings history t.listing.events more → (image : Files) → since_after first image → IsSound t.listing.settings t.listing.cone history image
+  sound_rest more partway = sound_here leaves (since_after first) seen history t log counted up read journal_kept log_kept frames_kept still (partway_less t.listing.settings history t.listing.events more partway)
 
   pub taken_of : (a : Tallied) (key : ℕ) → a.listing ≡ record t.listing { events = t.listing.events ++ key ∷ [] } → (after : Files) → files_after ≡ Some after → leaves_after after →
       InEach leaves_after 2 (HoldsBins a.listing.settings a.listing.events a.rows) → a.due.reports ≡ reports_of a.listing → IsTaken leaves_after after history t a log up.logged key
@@ -278,8 +278,8 @@ module _ (files_before files_after : Option Files) (leaves leaves_after : Files 
 -- ---- keys in turn
 
 -- the next of some keys
-pub partway_step : (history : List Packet) (events keys : List ℕ) (i : ℕ) → i < length keys → IsPartway history events keys → IsPartway history (events ++ take i keys) (get_or keys i 0 ∷ [])
-partway_step history events keys i within partway =
+pub partway_step : (s : Numbers) (history : List Packet) (events keys : List ℕ) (i : ℕ) → i < length keys → IsPartway s history events keys → IsPartway s history (events ++ take i keys) (get_or keys i 0 ∷ [])
+partway_step s history events keys i within partway =
     let key = get_or keys i 0 in
     let split : keys ≡ (take i keys ++ key ∷ []) ++ drop (i + 1) keys = sym (take-append-drop (i + 1) keys) ∙ ap (λ front. front ++ drop (i + 1) keys) (take_more keys i 0 within) in
     record {
@@ -288,14 +288,14 @@ partway_step history events keys i within partway =
           ∙ ap (λ ks. events ++ (ks ++ partway.rest)) split
           ∙ ap (λ ks. events ++ ks) (append_assoc (take i keys ++ key ∷ []) (drop (i + 1) keys) partway.rest ∙ append_assoc (take i keys) (key ∷ []) (drop (i + 1) keys ++ partway.rest))
           ∙ sym (append_assoc events (take i keys) (key ∷ (drop (i + 1) keys ++ partway.rest)));
-      late = omega (arith, partway.late, length-append events (take i keys));
+      late = omega (arith, partway.late, last_flush_grows s (length events) (length (events ++ take i keys)) (omega (arith, length-append events (take i keys))));
     }
 
 -- what goes together with memory is sound
 pub sound_now : (leaves : Files → Type 0) (seen : Files) (history : List Packet) (t : Tallied) (log : LogPlace) (more : List ℕ) → IsCounted t → t.listing.closed ≡ false → IsInStep leaves seen history t.listing t.rows t.due.reports log →
-    IsPartway history t.listing.events more → (image : Files) → leaves image → IsSound t.listing.settings t.listing.cone history image
+    IsPartway t.listing.settings history t.listing.events more → (image : Files) → leaves image → IsSound t.listing.settings t.listing.cone history image
 sound_now leaves seen history t log more counted still up partway image may =
-    sound_of t.listing.settings t.listing.cone history t.listing.events t.rows t.listing.closed up.logged log.gate counted.valid counted.rows (partway_less history t.listing.events more partway)
+    sound_of t.listing.settings t.listing.cone history t.listing.events t.rows t.listing.closed up.logged log.gate counted.valid counted.rows (partway_less t.listing.settings history t.listing.events more partway)
     (λ ended. absurd (false≢true (sym still ∙ ended))) up.log_of image (up.journal image may) (up.log_there image may) (up.frames image may)
 
 -- in each image of each moment of a key behind others: either it was left before, or since the key began

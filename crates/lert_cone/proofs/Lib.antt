@@ -1,11 +1,17 @@
+pub mod AdoptLaws
 pub mod DueLaws
 pub mod EndStep
 mod Examples
 pub mod FramedLaws
+pub mod GateLaws
 pub mod KeyLemmas
 pub mod KeyStep
 pub mod LogLaws
 pub mod RecordLaws
+pub mod ReplayLaws
+pub mod ReplayStands
+pub mod ReplayStep
+pub mod RecountLaws
 pub mod RoomLaws
 pub mod SoundLaws
 pub mod StandLaws

@@ -290,6 +290,27 @@ module _ (s : Numbers) (valid : IsValid s) where
       let sums = same_factor s.base (s.bins + a) (s.bins + b) base (mul_comm s.base (s.bins + a) ∙ same ∙ mul_comm (s.bins + b) s.base) in
       omega (arith, sums)
 
+  -- the place of a flush is its own last flush
+  flush_again : (k : ℕ) → last_flush s (next_flush s k) ≡ next_flush s k
+  flush_again k =
+      let behind : next_flush s k - offset s 0 ≡ span s 0 * suc k = omega (arith, place_is k) in
+      let count : steps s 0 (next_flush s k) ≡ suc k = ap (λ n. n / span s 0) behind ∙ mul-div_right (suc k) {m = span s 0} wide in
+      (last_is (next_flush s k)).some k count
+
+  -- records end at a flush position, or at 0, where the last one isn't a closing one
+  pub last_flush_logged : (cone : ℕ) (records : List LogRecord) → AreRecords s cone records → is_closed records ≡ false → last_flush s (last_n0 records) ≡ last_n0 records
+  last_flush_logged cone records rules running = elim (ends records) [
+    | inl empty ↦ (let none : last_n0 records ≡ 0 = ap last_n0 empty in ap (last_flush s) none ∙ sym none)
+    | inr more ↦ (
+        let front = more.front in
+        let last = more.last in
+        let keeps = (last_keeps s cone front last (subst (AreRecords s cone) more.is rules)).0 in
+        let not_closing : is_closing last.kind ≡ false = sym (is_closed-push front last) ∙ ap is_closed (sym more.is) ∙ running in
+        let turn = flush_turn (before_of front) last.kind last.n0 not_closing keeps.in_turn in
+        let n0_is : last_n0 records ≡ next_flush s (flushes_in front) = ap last_n0 more.is ∙ last_n0-push front last ∙ turn.0 in
+        ap (last_flush s) n0_is ∙ flush_again (flushes_in front) ∙ sym n0_is)
+  ]
+
   module _ (cone : ℕ) (events : List ℕ) (rows : List (List BinAt)) (records : List LogRecord) (is : IsLogOf s cone events rows false records) where
     n : ℕ
     n = length events

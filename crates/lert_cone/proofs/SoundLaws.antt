@@ -1,5 +1,5 @@
 -- The files of a cone as their headers leave them, and through an append.
-use Rattle.std.proofs.Common.{◌≡◌, ℕ, ◌+◌, ◌*◌, ◌<◌, ◌≤◌, List, [], ◌∷◌, ◌++◌, length, take, get_or, Option, Some, None, All, refl, sym, ap, ◌∙◌, subst, arith, length-append}
+use Rattle.std.proofs.Common.{◌≡◌, ℕ, ◌+◌, ◌*◌, ◌^◌, ◌<◌, ◌≤◌, List, [], ◌∷◌, ◌++◌, length, take, get_or, Option, Some, None, All, refl, sym, ap, ◌∙◌, subst, arith, length-append}
 use Rattle.std.proofs.Common.{append-nil, suc}
 use Rattle.std.proofs.Math.Seq.{get_or-append_seam}
 use Rattle.std.proofs.lemmas.Grind.{flat_map-append}
@@ -104,6 +104,7 @@ module _ (s : Numbers) (cone : ℕ) (leaves_one leaves since : Files → Type 0)
     headed = (begins (header s cone) (image 0) long (front image may)).0;
     records = record { records = refl; closed = (begins (header s cone) (image 0) long (front image may)).1 };
     journaled = All-nil (IsJournaled s cone);
+    fit = All-nil (λ packet. All (λ key. key < 2 ^ 64) packet.keys);
     within = omega arith;
   }
 

@@ -48,6 +48,7 @@ journal_since since seen s cone history journal keeps image may = record {
   headed = first_same (image 0) (seen 0) (length (seen 0)) 32 (omega (arith, journal.records.closed.within)) (keeps image may) ∙ journal.headed;
   records = gated_behind (most_payload s) 32 (map payload_of history) (end_of history) (length (image 0)) (seen 0) (image 0) journal.records (torn_behind (seen 0) (image 0) (end_of history + 1) (keeps image may));
   journaled = journal.journaled;
+  fit = journal.fit;
   within = journal.within;
 }
 
@@ -110,7 +111,7 @@ to_frames s events file level (bin ∷ row) holds =
     (holds 0 bin (omega arith), to_frames s events file level row (λ k d within. holds (suc k) d (omega (arith, within))))
 
 module _ (s : Numbers) (cone : ℕ) (history : List Packet) (events : List ℕ) (rows : List (List BinAt)) (closed : Bool) (logged : List LogRecord) (gate : ℕ)
-    (valid : IsValid s) (at : IsAt s (length events) rows) (partway : IsPartway history events []) (whole : closed ≡ true → events ≡ events_of history) (log_of : IsLogOf s cone events rows closed logged) where
+    (valid : IsValid s) (at : IsAt s (length events) rows) (partway : IsPartway s history events []) (whole : closed ≡ true → events ≡ events_of history) (log_of : IsLogOf s cone events rows closed logged) where
   -- how many events the last record was written after
   n0_running : closed ≡ false → last_n0 logged ≡ last_flush s (length events)
   n0_running running = log_of.n0_is ∙ ap (λ t. cond t (length events) (last_flush s (length events))) running
@@ -172,8 +173,8 @@ module _ (s : Numbers) (cone : ℕ) (history : List Packet) (events : List ℕ) 
 
   least : last_flush s (length (events_of (but_last history))) ≤ last_n0 logged
   least = elim (cases_Bool closed) [
-    | inl ended ↦ omega (arith, n0_closed ended, partway.late, last_flush_within s (length (events_of (but_last history))))
-    | inr running ↦ omega (arith, n0_running running, last_flush_grows s (length (events_of (but_last history))) (length events) partway.late)
+    | inl ended ↦ omega (arith, n0_closed ended, partway.late, last_flush_within s (length events))
+    | inr running ↦ omega (arith, n0_running running, partway.late)
   ]
 
   pub sound_of : (files : Files) → IsJournal s cone history (files 0) → HasLog s cone (files 1) logged gate → HoldsBins s events rows (files 2) → IsSound s cone history files

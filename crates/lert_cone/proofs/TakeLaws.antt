@@ -1,6 +1,7 @@
 -- A cone with one more key, from what the parts of the step say.
-use Rattle.std.proofs.Common.{ℕ, ◌≡◌, ◌≢◌, ◌-◌, ◌^◌, ◌<◌, ◌≤◌, suc, true, false, cond, List, [], ◌∷◌, ◌++◌, length, Result, Ok, Err, OnOk, ◌⊎◌, inl, inr, refl, ap, ap₂, sym, ◌∙◌, arith, subst, length-append}
-use Rattle.std.specs.Prelude.{MatchResult}
+use Rattle.std.proofs.Common.{ℕ, ◌≡◌, ◌≢◌, ◌+◌, ◌-◌, ◌^◌, ◌<◌, ◌≤◌, suc, true, false, cond, List, [], ◌∷◌, ◌++◌, length, take, Result, Ok, Err, OnOk, ◌⊎◌, inl, inr, refl, ap, ap₂, sym, ◌∙◌, arith, subst, length-append}
+use Rattle.std.specs.Prelude.{MatchResult, IsErrOf}
+use Rattle.std.proofs.lemmas.List.{length-take, get_or-take}
 use Rattle.std.specs.Result.{IsErrAnd}
 use Rattle.lert_bay.specs.Files.{Files}
 use Rattle.lert_spec.specs.declared.numbers.Numbers.{Numbers}
@@ -16,13 +17,14 @@ use Rattle.lert_spec.proofs.TallyLaws.{IsTable-tallied}
 use Rattle.lert_levels.specs.declared.bin_at.BinAt.{BinAt}
 use Rattle.lert_levels.specs.declared.fault.FlushFault.{FlushFault}
 use Rattle.lert_levels.specs.declared.fault.FlushFault.TheVariants.{Failed as FlushFailed, Malformed, OutOfMemory as NoMemory}
+use Rattle.lert_levels.specs.Loading.{RowBreaks, OneBreaks}
 use Rattle.lert_levels.specs.Ranges.{young_bins}
 use Rattle.lert_levels.specs.Rows.{IsAt, AreRows, HoldsBins}
 use Rattle.lert_levels.specs.Young.{Young, with_event}
 use Rattle.lert_cone.specs.declared.tally.TakeFault.{TakeFault}
 use Rattle.lert_cone.specs.declared.tally.TakeFault.TheVariants.{Unsound}
 use Rattle.lert_cone.specs.Due.{Dues, TookFrom, due_reports, started}
-use Rattle.lert_cone.specs.Tally.{Tallied, IsCounted, IsHeld, AreYoung, totals_at, take_fault}
+use Rattle.lert_cone.specs.Tally.{Tallied, IsCounted, IsHeld, AreYoung, Shows, totals_at, take_fault}
 use Rattle.lert_cone.proofs.KeyLemmas.{AreKeys-push, AreOfCone-push}
 use Rattle.lert_cone.proofs.RoomLaws.{look_fits, closing_fits}
 use Rattle.lert_cone.proofs.TallyLaws.{next_from, next_bins, frames_more}
@@ -209,6 +211,37 @@ sound_fault NoMemory fine file at same = cc
 pub err_is : (result : Result (Unit {0}) TakeFault) (fault : FlushFault) → IsErrAnd result (λ taken. taken ≡ take_fault fault) → ((at : ℕ) → fault ≢ Malformed at) → (file at : ℕ) → result ≢ Err (Unsound file at)
 err_is (Ok done) fault is fine file at same = cc
 err_is (Err taken) fault is fine file at same = sound_fault fault fine file at (sym is ∙ (let inner : taken ≡ Unsound file at = cc in inner))
+
+-- what a call that hands on a fault shows, where the fault is of a frame
+pub shows_frame : (result : Result (Unit {0}) TakeFault) (fault : FlushFault) → IsErrAnd result (λ taken. taken ≡ take_fault fault) →
+    (s : Numbers) (rows : List (List BinAt)) (reports : List Report) (frames : List ℕ) → ((at : ℕ) → fault ≡ Malformed at → OneBreaks s rows frames at) →
+    (file at : ℕ) → IsErrOf result (Unsound file at) → Shows s rows reports frames file at
+shows_frame (Ok done) fault is s rows reports frames breaks file at same = absurd is
+shows_frame (Err taken) FlushFailed is s rows reports frames breaks file at same = cc
+shows_frame (Err taken) (Malformed place) is s rows reports frames breaks file at same =
+    let frame : Unsound 2 place ≡ Unsound file at = cc in
+    let number : file ≡ 2 = cc in
+    let place_is : place ≡ at = cc in
+    inl (number, subst (OneBreaks s rows frames) place_is (breaks place refl))
+shows_frame (Err taken) NoMemory is s rows reports frames breaks file at same = cc
+
+-- and what a report shows that finds no room
+pub shows_full : (s : Numbers) (rows : List (List BinAt)) (reports : List Report) (frames : List ℕ) → length reports ≡ s.room →
+    (file at : ℕ) → ◌≡◌ {A = Result (Unit {0}) TakeFault} (Err (Unsound 1 0)) (Err (Unsound file at)) → Shows s rows reports frames file at
+shows_full s rows reports frames filled file at same =
+    let number : file ≡ 1 = cc in
+    let place : at ≡ 0 = cc in
+    inr (number, place, filled)
+
+-- a frame of the first rows is one of all
+pub one_of_first : (s : Numbers) (depth : ℕ) (rows : List (List BinAt)) (file : List ℕ) (at : ℕ) → OneBreaks s (take depth rows) file at → OneBreaks s rows file at
+one_of_first s depth rows file at one =
+    let long = length-take depth rows in
+    record {
+      number = one.number;
+      within = omega (arith, one.within);
+      breaks = subst (λ row. RowBreaks s (one.number + 1) row file at) (get_or-take depth rows one.number [] (omega (arith, one.within))) one.breaks;
+    }
 
 -- a call that hands on a fault as it is
 pub handed_on : (result : Result (Unit {0}) TakeFault) (fault : TakeFault) → IsErrAnd result (λ given. given ≡ fault) → Err fault ≡ result

@@ -32,15 +32,15 @@ module _ (s : Numbers) (valid : IsValid s) where
   ratio : 1 ≤ s.ratio
   ratio = omega (arith, valid.limits.ratio_from)
 
-  wide : 1 ≤ span s 0
+  pub wide : 1 ≤ span s 0
   wide = span_pos s 0 base ratio
 
   -- an edge begins an interval
-  aligned : (n : ℕ) → edge s 0 n % span s 0 ≡ 0
+  pub aligned : (n : ℕ) → edge s 0 n % span s 0 ≡ 0
   aligned n = ap (λ p. p % span s 0) (mul_comm (span s 0) (steps s 0 n)) ∙ mul-mod_left (steps s 0 n) (span s 0)
 
   -- and level 0 has a table for the bin of the next event
-  next_free : (n : ℕ) → suc n ≤ edge s 0 n + s.bins * span s 0
+  pub next_free : (n : ℕ) → suc n ≤ edge s 0 n + s.bins * span s 0
   next_free n =
       let parts = div-add-mod (n - offset s 0) (span s 0) in
       let rest = mod-lt (n - offset s 0) {m = span s 0} wide in

@@ -70,9 +70,11 @@ abbrev pub with_total : Dues → Piece → Dues
 with_total dues piece =
     if dues.is_full then dues else with_report dues (due_key dues.settings dues.cone dues.reports piece)
 
--- what is so of every taker: its settings are valid and those of its store, and its reports are of its cone
-pub record IsTaker (settings : Numbers) (cone : ℕ) (store : Stored) : Type 0 where
+-- what is so of every taker: its settings are valid and those of its store, its reports are of its cone, and a report finds
+-- no room only where they fill it
+pub record IsTaker (settings : Numbers) (cone : ℕ) (store : Stored) (is_full : Bool) : Type 0 where
   pub valid : IsValid settings
   pub named : cone < 2 ^ settings.cone_bits
   pub same : store.settings ≡ settings
   pub own : All (λ report. cone_of settings report.key ≡ cone) store.reports
+  pub full : is_full ≡ true → length store.reports ≡ settings.room

@@ -1,5 +1,5 @@
 -- How a cone's files and its memory go together between two calls of its bay.
-use Rattle.std.specs.Prelude.{◌≡◌, ℕ, ◌+◌, ◌*◌, ◌≤◌, List, [], ◌++◌, length}
+use Rattle.std.specs.Prelude.{◌≡◌, ℕ, ◌+◌, ◌*◌, ◌^◌, ◌≤◌, List, [], ◌++◌, length}
 use Rattle.lert_base.specs.Packet.{Packet, events_of}
 use Rattle.lert_bay.specs.Files.{Files}
 use Rattle.lert_gatelog.specs.Kept.{InEach, IsWhollySettled}
@@ -9,6 +9,7 @@ use Rattle.lert_reports.specs.Log.{HasLog, listed_in, most_record}
 use Rattle.lert_reports.specs.LogText.{LogRecord}
 use Rattle.lert_spec.specs.declared.numbers.Numbers.{Numbers}
 use Rattle.lert_spec.specs.declared.report.Report.{Report}
+use Rattle.lert_cone.specs.Framed.{last_flush}
 use Rattle.lert_cone.specs.Listing.{Listing, reports_of}
 use Rattle.lert_cone.specs.Logged.{IsLogOf}
 use Rattle.lert_cone.specs.Record.{LogPlace}
@@ -29,18 +30,18 @@ pub record IsInStep (leaves : Files → Type 0) (seen : Files) (history : List P
   pub log_settled : IsWhollySettled leaves seen 1
   pub reports_are : reports ≡ reports_of listing
 
--- these keys and then these begin those of the packets, and the first of them reach up to the last packet
-pub record IsPartway (history : List Packet) (events more : List ℕ) : Type 0 where
+-- these keys and then these begin those of the packets, and no flush of an earlier packet than the last one is left
+pub record IsPartway (s : Numbers) (history : List Packet) (events more : List ℕ) : Type 0 where
   pub rest : List ℕ
   pub is : events_of history ≡ events ++ (more ++ rest)
-  pub late : length (events_of (but_last history)) ≤ length events
+  pub late : last_flush s (length (events_of (but_last history))) ≤ last_flush s (length events)
 
 -- what is so of a cone's log before its next record: the records name none but the cone's reports, a key takes a bounded
 -- number of bytes of the log, and the buffer has room for a record
 pub record IsLogging (tally : Tallied) (log : LogPlace) (room : ℕ) : Type 0 where
   pub most : log.most ≡ most_record tally.listing.settings
   pub named : log.named ≤ length tally.due.reports
-  pub near : log.gate ≤ 8 + 134217728 * length tally.listing.events
+  pub near : log.gate ≤ 2 ^ 62 + 134217728 * length tally.listing.events
   pub roomy : log.most + 5 ≤ room
 
 -- the files as they are made: in every image the journal has no packet and the log no record, and both are settled

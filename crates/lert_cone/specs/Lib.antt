@@ -5,6 +5,8 @@ pub mod InStep
 pub mod Listing
 pub mod Logged
 pub mod Record
+pub mod Replay
+pub mod Replays
 pub mod Room
 pub mod Sound
 pub mod Stands

@@ -1,21 +1,47 @@
 -- The memory of a cone before it has a number.
-use Rattle.std.specs.Prelude.{◌≡◌, ℕ, ◌+◌, max, [], replicate}
+use Rattle.std.specs.Prelude.{◌≡◌, ℕ, ◌+◌, ◌*◌, ◌≤◌, ◌^◌, max, [], replicate, All}
+use Rattle.lert_base.specs.Keys.{Keys}
 use Rattle.lert_levels.specs.OnDisk.{OnDisk}
+use Rattle.lert_levels.specs.Rows.{IsAt, AreRows}
 use Rattle.lert_levels.specs.Young.{Young}
 use Rattle.lert_reports.specs.Log.{most_record}
 use Rattle.lert_reports.specs.Stored.{Stored}
 use Rattle.lert_spec.specs.declared.numbers.Numbers.{Numbers}
+use Rattle.lert_spec.specs.Edges.{capacity}
 use Rattle.lert_spec.specs.Limits.{IsValid}
+use Rattle.lert_spec.specs.Mix.{cone_of}
+use Rattle.lert_cone.specs.declared.log_point.LogPoint.{LogPoint}
 use Rattle.lert_cone.specs.History.{most_payload}
 
 -- the bytes of the greatest text that is appended, a packet's or a log record's: its length, its payload and the next gate
 abbrev pub room_of : Numbers → ℕ
 room_of s = max (most_payload s) (most_record s) + 5
 
--- levels and a store that are empty, and a buffer for the greatest text
-pub record IsRoom (s : Numbers) (young : Young) (levels : OnDisk) (stored : Stored) (room : ℕ) : Type 0 where
+-- levels and a store that are empty, a list for as many keys as a packet of a journal has, and a buffer for the greatest text
+pub record IsRoom (s : Numbers) (young : Young) (levels : OnDisk) (stored : Stored) (keys : Keys) (room : ℕ) : Type 0 where
   pub valid : IsValid s
   pub young_is : young ≡ record { settings = s; from = 0; to = 0; bins = [] }
   pub levels_are : levels ≡ record { settings = s; rows = replicate s.levels [] }
   pub stored_is : stored ≡ record { settings = s; reports = [] }
+  pub keys_are : keys ≡ record { keys = []; room = 4 * s.packet }
   pub roomy : room ≡ room_of s
+
+-- the same, but that the levels are those of a cone after n0 events, and the store has reports of it up to there
+pub record IsRestored (s : Numbers) (cone n0 : ℕ) (young : Young) (levels : OnDisk) (stored : Stored) (keys : Keys) (room : ℕ) : Type 0 where
+  pub valid : IsValid s
+  pub young_is : young ≡ record { settings = s; from = 0; to = 0; bins = [] }
+  pub levels_of : levels.settings ≡ s
+  pub at : IsAt s n0 levels.rows
+  pub are : AreRows s levels.rows
+  pub stored_of : stored.settings ≡ s
+  pub own : All (λ report. cone_of s report.key ≡ cone) stored.reports
+  pub placed : All (λ report. (1 ≤ report.at) × (report.at ≤ n0)) stored.reports
+  pub keys_are : keys ≡ record { keys = []; room = 4 * s.packet }
+  pub roomy : room ≡ room_of s
+
+-- what a log may say from which a cone goes on: a place that a cone can have, and the journal from its first packet on
+pub record IsPointOf (s : Numbers) (last : LogPoint) : Type 0 where
+  pub within : last.n0 ≤ capacity s
+  pub offset_is : last.offset ≡ 32
+  pub first_is : last.first ≡ 1
+  pub reach : last.log_end ≤ 2 ^ 62

@@ -1,5 +1,5 @@
 -- What the files of a cone hold for a list of packets, and what a bay keeps of that.
-use Rattle.std.specs.Prelude.{◌≡◌, ℕ, ◌-◌, ◌≤◌, Bool, true, List, [], ◌∷◌, ◌++◌, length, take, All, Option, Some, slice_index_or, if◌then◌else◌}
+use Rattle.std.specs.Prelude.{◌≡◌, ℕ, ◌-◌, ◌^◌, ◌<◌, ◌≤◌, Bool, true, List, [], ◌∷◌, ◌++◌, length, take, All, Option, Some, slice_index_or, if◌then◌else◌}
 use Rattle.std.proofs.Common.{◌⊎◌}
 use Rattle.lert_base.specs.Packet.{Packet, events_of}
 use Rattle.lert_bay.specs.Files.{Files}
@@ -21,12 +21,17 @@ use Rattle.lert_cone.specs.History.{most_payload, end_of}
 
 -- ---- the journal
 
+-- keys of 64 bits
+abbrev pub KeysFit : List Packet → Type 0
+KeysFit history = All (λ packet. All (λ key. key < 2 ^ 64) packet.keys) history
+
 -- the bytes are the journal of a list of packets: the header of the cone, and open records of these packets, each of which
 -- a journal may hold, and which together have no more keys than a cone takes
 pub record IsJournal (s : Numbers) (cone : ℕ) (history : List Packet) (bytes : List ℕ) : Type 0 where
   pub headed : part bytes 0 32 ≡ header s cone
   pub records : HasPackets (most_payload s) bytes 32 history (end_of history)
   pub journaled : All (IsJournaled s cone) history
+  pub fit : KeysFit history
   pub within : length (events_of history) ≤ capacity s
 
 -- all packets but the last

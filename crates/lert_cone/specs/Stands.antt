@@ -1,11 +1,12 @@
 -- What a cone is seen as, and which lists of packets it stands for.
-use Rattle.std.specs.Prelude.{◌≡◌, ℕ, ◌+◌, ◌*◌, ◌<◌, ◌≤◌, Bool, true, false, List, [], ◌∷◌, ◌++◌, length, All, Option, None, option_map}
+use Rattle.std.specs.Prelude.{◌≡◌, ◌≢◌, ℕ, ◌+◌, ◌*◌, ◌^◌, ◌<◌, ◌≤◌, Bool, true, false, List, [], ◌∷◌, ◌++◌, length, All, Option, None, option_map}
 use Rattle.std.specs.declared.snapshot.Snapshot.{Snapshot}
 use Rattle.lert_base.specs.declared.entry.Entry.{Entry}
 use Rattle.lert_base.specs.Entries.{packet_of}
 use Rattle.lert_base.specs.Packet.{Packet, events_of}
 use Rattle.lert_bay.specs.Files.{Files, IfTold}
 use Rattle.lert_gatelog.specs.Gated.{Log}
+use Rattle.lert_gatelog.specs.Kept.{IsWhollySettled}
 use Rattle.lert_io.specs.Fault.{HasRisen}
 use Rattle.lert_levels.specs.declared.bin_at.BinAt.{BinAt}
 use Rattle.lert_spec.specs.declared.numbers.Numbers.{Numbers}
@@ -14,7 +15,8 @@ use Rattle.lert_spec.specs.Edges.{capacity}
 use Rattle.lert_spec.specs.Limits.{IsValid}
 use Rattle.lert_spec.specs.Look.{look}
 use Rattle.lert_cone.specs.declared.state.ConeState.{ConeState}
-use Rattle.lert_cone.specs.declared.state.ConeState.TheVariants.{Running, Finished, BrokenByBay, BrokenByRead, BrokenByMemory}
+use Rattle.lert_cone.specs.declared.state.ConeState.TheVariants.{Running, Finished, BrokenByBay, BrokenByRead, BrokenByMemory, Replaying}
+use Rattle.lert_cone.specs.declared.log_point.LogPoint.{LogPoint}
 use Rattle.lert_cone.specs.declared.acked.Acked.{Acked}
 use Rattle.lert_cone.specs.declared.refusal.ConeFault.{ConeFault}
 use Rattle.lert_cone.specs.declared.refusal.ConeFault.TheVariants.{Closed, Broken, CapacityFull, BayFailed, Unsound, OutOfMemory}
@@ -23,19 +25,20 @@ use Rattle.lert_cone.specs.InStep.{IsInStep, IsLogging}
 use Rattle.lert_cone.specs.Listing.{Listing}
 use Rattle.lert_cone.specs.Record.{LogPlace}
 use Rattle.lert_cone.specs.Room.{room_of}
-use Rattle.lert_cone.specs.Sound.{IsSoundAs, IsSoundOver, IsKept, IsKeptWhole}
-use Rattle.lert_cone.specs.Tally.{Tallied, IsCounted}
+use Rattle.lert_cone.specs.Sound.{IsSound, IsSoundAs, IsSoundOver, IsKept, IsKeptWhole}
+use Rattle.lert_cone.specs.Tally.{Tallied, IsCounted, IsRecounted}
 use Rattle.lert_cone.specs.Wrote.{IsShutIfTold}
 use Rattle.lert_cone.specs.declared.tally.TakeFault.{TakeFault}
 use Rattle.lert_cone.specs.declared.tally.TakeFault.TheVariants.{Failed as TakeFailed, Unsound as TakeUnsound, OutOfMemory as TakeOutOfMemory}
 
--- a call broke off in the middle, and none writes any more
+-- it takes no packet and doesn't end: a call broke off in the middle, and none writes any more, or its packets aren't all read yet
 abbrev pub is_broken : ConeState → Bool
 is_broken Running = false
 is_broken Finished = false
 is_broken BrokenByBay = true
 is_broken (BrokenByRead file at) = true
 is_broken BrokenByMemory = true
+is_broken Replaying = true
 
 abbrev pub is_finished : ConeState → Bool
 is_finished Running = false
@@ -43,6 +46,7 @@ is_finished Finished = true
 is_finished BrokenByBay = false
 is_finished (BrokenByRead file at) = false
 is_finished BrokenByMemory = false
+is_finished Replaying = false
 
 -- a call was refused before its first step
 abbrev pub is_refusal : ConeFault → Bool
@@ -69,7 +73,8 @@ abbrev pub over_of : Option (Snapshot Entry) → Option Packet
 over_of over = option_map (λ kept. packet_of kept.value) over
 
 -- a cone: its bay now and as it was when the cone was made, its keys, the rows of its levels, its reports, how many keys it
--- acknowledged, its state, the packet that a broken call left over, the journal's gate, and its log
+-- acknowledged, its state, the packet that a broken call left over, the journal's gate, its log, and what the log's last
+-- record said when the cone was made
 pub record Standing (B : Type 0) : Type 0 where
   pub bay : B
   pub made : B
@@ -81,12 +86,18 @@ pub record Standing (B : Type 0) : Type 0 where
   pub over : Option Packet
   pub gate : ℕ
   pub log : LogPlace
+  pub last : LogPoint
 
--- what no call changes of a cone: its settings, its number, and its bay as it was when the cone was made
+-- what no call changes of a cone: its settings, its number, its bay as it was when the cone was made, and what the log said then
 pub record IsSameCone {B : Type 0} (old new : Standing B) : Type 0 where
   pub settings : new.listing.settings ≡ old.listing.settings
   pub cone : new.listing.cone ≡ old.listing.cone
   pub made : new.made ≡ old.made
+  pub last : new.last ≡ old.last
+
+-- when the cone was made, its files were sound for a list, where its bay told them
+abbrev pub WasSound : {B : Type 0} → (B → Option Files) → Standing B → Type 0
+WasSound files cone = IfTold (files cone.made) (λ first. (history : List Packet) × IsSound cone.listing.settings cone.listing.cone history first)
 
 -- A cone that isn't broken stands for a list, where its bay tells its files. As a read gives them, and in every image, they
 -- are sound for it, with a closing record exactly where the cone is finished, and with the last record of a running one
@@ -99,28 +110,44 @@ pub record IsWhole (leaves : Files → Type 0) (seen : Files) (listing : Listing
   pub in_step : IsInStep leaves seen history listing rows reports log
 
 -- A cone stands for a list of packets. Each has a key, and together they have as many as the cone acknowledged, which are
--- no more than it takes. Where its bay tells its files, they are sound for the list; of a broken cone for the list or for
--- the list and the packet that was left over. It is broken by its bay only where the bay's count of faults rose since the
--- cone was made, and by a read only where the bay doesn't tell its files.
+-- no more than it takes, and all are read. Where its bay tells its files, they are sound for the list; of a broken cone for
+-- the list or for the list and the packet that was left over. It is broken by its bay only where the bay's count of faults
+-- rose since the cone was made, and by a read only where the bay doesn't tell its files. Where the bay told files that were
+-- sound for no list when the cone was made, nothing is said of them, as of files that aren't told.
 pub record StandsFor {B : Type 0} (files : B → Option Files) (leaves : B → Files → Type 0) (faults : B → ℕ) (cone : Standing B) (history : List Packet) : Type 0 where
   pub some : All (λ packet. 0 < length packet.keys) history
   pub counted : length (events_of history) ≡ cone.events
   pub within : cone.events ≤ capacity cone.listing.settings
   pub valid : IsValid cone.listing.settings
-  pub whole : is_broken cone.state ≡ false → IfTold (files cone.bay) (λ seen. IsWhole (leaves cone.bay) seen cone.listing cone.rows cone.reports cone.gate cone.log history)
-  pub broken : is_broken cone.state ≡ true → IfTold (files cone.bay) (λ seen.
+  pub ready : cone.state ≢ Replaying
+  pub whole : is_broken cone.state ≡ false → WasSound files cone → IfTold (files cone.bay) (λ seen. IsWhole (leaves cone.bay) seen cone.listing cone.rows cone.reports cone.gate cone.log history)
+  pub broken : is_broken cone.state ≡ true → WasSound files cone → IfTold (files cone.bay) (λ seen.
       IsKept (leaves cone.bay) seen (IsSoundOver cone.listing.settings cone.listing.cone history cone.over))
   pub none_over : is_broken cone.state ≡ false → cone.over ≡ None
   pub by_bay : cone.state ≡ BrokenByBay → HasRisen (faults cone.made) (faults cone.bay)
-  pub by_read : (file at : ℕ) → cone.state ≡ BrokenByRead file at → files cone.bay ≡ None
+  pub by_read : (file at : ℕ) → cone.state ≡ BrokenByRead file at → WasSound files cone → files cone.bay ≡ None
 
--- what is so of every cone, of its journal's place and of the room of its buffer. A cone that isn't broken has nothing left
--- over, its counts are those of its keys, and a key takes at most 21 bytes of its journal. The gates of a running one are
--- closed in every image, and the journal and the log are settled
-pub record IsCone {B : Type 0} (files : B → Option Files) (leaves : B → Files → Type 0) (faults : B → ℕ) (cone : Standing B) (tally : Tallied) (journal : Log) (room : ℕ) : Type 0 where
+-- what is so of a cone that replays, of its counts and of the room of its buffer: nothing is left over, its counts are those of
+-- its keys, up to the place of the log's last record as far as level 0 goes, and a key takes at most 21 bytes of its journal.
+-- The journal and the log are settled, and the log's gate is closed in every image
+pub record IsReplaying {B : Type 0} (files : B → Option Files) (leaves : B → Files → Type 0) (cone : Standing B) (tally : Tallied) (room : ℕ) : Type 0 where
+  pub none_over : cone.over ≡ None
+  pub counted : length cone.listing.events ≡ cone.events
+  pub recounted : IsRecounted tally cone.last.n0
+  pub closed : cone.listing.closed ≡ cone.last.closed
+  pub near : cone.gate ≤ 2 ^ 62 + 21 * cone.events
+  pub journal_settled : IfTold (files cone.bay) (λ seen. IsWhollySettled (leaves cone.bay) seen 0)
+  pub logging : IsLogging tally cone.log room
+  pub log_shut : IsShutIfTold (files cone.bay) (leaves cone.bay) 1 cone.log.gate
+
+-- what is so of every cone, of its journal's place and of the rooms of its buffer and of its list of keys. A cone that isn't
+-- broken has nothing left over, its counts are those of its keys, and a key takes at most 21 bytes of its journal. The gates
+-- of a running one are closed in every image, and the journal and the log are settled
+pub record IsCone {B : Type 0} (files : B → Option Files) (leaves : B → Files → Type 0) (faults : B → ℕ) (cone : Standing B) (tally : Tallied) (journal : Log) (room keys_room : ℕ) : Type 0 where
   pub file : journal.file ≡ 0
   pub most : journal.most ≡ most_payload cone.listing.settings
   pub roomy : room ≡ room_of cone.listing.settings
+  pub keys_roomy : keys_room ≡ 4 * cone.listing.settings.packet
   pub within : cone.events ≤ capacity cone.listing.settings
   pub valid : IsValid cone.listing.settings
   pub never_falls : faults cone.made ≤ faults cone.bay
@@ -129,14 +156,15 @@ pub record IsCone {B : Type 0} (files : B → Option Files) (leaves : B → File
   pub counted : is_broken cone.state ≡ false → length cone.listing.events ≡ cone.events
   pub tallied : is_broken cone.state ≡ false → IsCounted tally
   pub closed : is_broken cone.state ≡ false → cone.listing.closed ≡ is_finished cone.state
-  pub near : is_broken cone.state ≡ false → cone.gate ≤ 32 + 21 * cone.events
+  pub near : is_broken cone.state ≡ false → cone.gate ≤ 2 ^ 62 + 21 * cone.events
   pub shut : cone.state ≡ Running → IsShutIfTold (files cone.bay) (leaves cone.bay) 0 cone.gate
   pub logging : cone.state ≡ Running → IsLogging tally cone.log room
   pub log_shut : cone.state ≡ Running → IsShutIfTold (files cone.bay) (leaves cone.bay) 1 cone.log.gate
+  pub replaying : cone.state ≡ Replaying → IsReplaying files leaves cone tally room
 
--- the reply to a packet behind a list: the positions of its first and its last key, and, where the bay tells its files, how
--- many reports stand with it
-pub record Answers (told : Option Files) (s : Numbers) (history : List Packet) (packet : Packet) (acked : Acked) : Type 0 where
+-- the reply of a cone to a packet behind a list: the positions of its first and its last key, and, where its bay tells its
+-- files, how many reports stand with it
+pub record Answers {B : Type 0} (files : B → Option Files) (cone : Standing B) (history : List Packet) (packet : Packet) (acked : Acked) : Type 0 where
   pub from_is : acked.from ≡ length (events_of history) + 1
   pub to_is : acked.to ≡ length (events_of history) + length packet.keys
-  pub reports_are : IfTold told (λ _. acked.reports ≡ length (look s (events_of (history ++ packet ∷ []))))
+  pub reports_are : WasSound files cone → IfTold (files cone.bay) (λ _. acked.reports ≡ length (look cone.listing.settings (events_of (history ++ packet ∷ []))))

@@ -1,8 +1,9 @@
 -- What the counts and reports of a cone are seen as, and what they hold.
-use Rattle.std.specs.Prelude.{ℕ, ◌≡◌, ◌-◌, ◌^◌, ◌<◌, ◌≤◌, ◌==◌, List, [], ◌∷◌, length, slice_range, Option, Some, None, if◌then◌else◌}
+use Rattle.std.specs.Prelude.{ℕ, ◌≡◌, ◌⊎◌, ◌-◌, ◌^◌, ◌<◌, ◌≤◌, ◌==◌, List, [], ◌∷◌, length, slice_range, Option, Some, None, if◌then◌else◌}
 use Rattle.lert_bay.specs.Files.{Files}
 use Rattle.lert_spec.specs.declared.numbers.Numbers.{Numbers}
 use Rattle.lert_spec.specs.declared.piece.Piece.{Piece}
+use Rattle.lert_spec.specs.declared.report.Report.{Report}
 use Rattle.lert_spec.specs.Bins.{Bin, tallied}
 use Rattle.lert_spec.specs.Edges.{edge, depth, lookback, capacity}
 use Rattle.lert_spec.specs.Limits.{IsValid}
@@ -10,6 +11,7 @@ use Rattle.lert_spec.specs.Table.{count_of}
 use Rattle.lert_spec.proofs.LookLaws.{AreKeys}
 use Rattle.lert_spec.proofs.TailLaws.{AreOfCone}
 use Rattle.lert_levels.specs.declared.bin_at.BinAt.{BinAt}
+use Rattle.lert_levels.specs.Loading.{OneBreaks}
 use Rattle.lert_levels.specs.Ranges.{young_bins}
 use Rattle.lert_levels.specs.Rows.{IsAt, AreRows, HoldsBins}
 use Rattle.lert_levels.specs.Young.{Young}
@@ -60,6 +62,29 @@ pub record IsCounted (tally : Tallied) : Type 0 where
   pub due_settings : tally.due.settings ≡ tally.listing.settings
   pub due_cone : tally.due.cone ≡ tally.listing.cone
 
+-- level 0 on the way up to n0 events: above its edge there it has the bins of the keys so far, and before the first key
+-- above that edge it is as it was made
+pub record IsRising (s : Numbers) (n0 : ℕ) (events : List ℕ) (young : Young) : Type 0 where
+  pub made : length events ≤ edge s 0 n0 → young ≡ record { settings = s; from = 0; to = 0; bins = [] }
+  pub from : edge s 0 n0 < length events → young.from ≡ edge s 0 n0
+  pub to : edge s 0 n0 < length events → young.to ≡ length events
+  pub bins : edge s 0 n0 < length events → AreYoung s events (edge s 0 n0) young.bins
+
+-- A cone whose keys come again from the first one on, while its rows are those after n0 events already: up to n0 level 0
+-- alone follows the keys, and from n0 on all is counted. The settings are valid, and the keys are the cone's own.
+pub record IsRecounted (tally : Tallied) (n0 : ℕ) : Type 0 where
+  pub valid : IsValid tally.listing.settings
+  pub fits : length tally.listing.events ≤ capacity tally.listing.settings
+  pub n0_fits : n0 ≤ capacity tally.listing.settings
+  pub keys : AreKeys tally.listing.events
+  pub own : AreOfCone tally.listing.settings tally.listing.cone tally.listing.events
+  pub are : AreRows tally.listing.settings tally.rows
+  pub due_settings : tally.due.settings ≡ tally.listing.settings
+  pub due_cone : tally.due.cone ≡ tally.listing.cone
+  pub rows : length tally.listing.events ≤ n0 → IsAt tally.listing.settings n0 tally.rows
+  pub young : length tally.listing.events < n0 → IsRising tally.listing.settings n0 tally.listing.events tally.young
+  pub behind : n0 ≤ length tally.listing.events → IsCounted tally
+
 -- with these files, where they are told: the named frames hold the older levels, and the reports are those of the definition
 pub record IsHeld (tally : Tallied) (seen : Files) : Type 0 where
   pub frames : HoldsBins tally.listing.settings tally.listing.events tally.rows (seen 2)
@@ -77,3 +102,9 @@ abbrev pub take_fault : FlushFault → TakeFault
 take_fault FlushFailed = Failed
 take_fault (Malformed at) = Unsound 2 at
 take_fault NoMemory = OutOfMemory
+
+-- what shows that files are sound for no list: a frame that the rows name leaves its format at this byte of the file of
+-- frames, or the reports fill their room and one more is due, which the log would have to name
+abbrev pub Shows : Numbers → List (List BinAt) → List Report → List ℕ → ℕ → ℕ → Type 0
+Shows s rows reports frames file at =
+    ((file ≡ 2) × OneBreaks s rows frames at) ⊎ ((file ≡ 1) × (at ≡ 0) × (length reports ≡ s.room))

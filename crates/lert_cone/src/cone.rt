@@ -1,6 +1,6 @@
 //! A cone over its files.
 
-ghost use Rattle.std.specs.Prelude.{◌≡◌, ◌≢◌, ℕ, ◌+◌, ◌<◌, ◌≤◌, ◌^◌, ◌↔◌, ◌++◌, [], ◌∷◌, true, false, List, length, replicate, Some, None, Err, IfOk, IfErr, OnOk, OnErr, IsErrOf};
+ghost use Rattle.std.specs.Prelude.{◌≡◌, ◌≢◌, ℕ, ◌+◌, ◌<◌, ◌≤◌, ◌^◌, ◌↔◌, ◌++◌, [], ◌∷◌, true, false, All, List, length, replicate, Some, None, Err, IfOk, IfErr, OnOk, OnErr, IsErrOf};
 ghost use Rattle.lert_base.specs.Entries.{packet_of};
 ghost use Rattle.lert_base.specs.Packet.{Packet, events_of};
 ghost use Rattle.lert_bay.specs.Files.{Files, IfTold, Turns};
@@ -14,13 +14,16 @@ ghost use Rattle.lert_spec.specs.Look.{look, closing};
 ghost use Rattle.lert_spec.specs.Timely.{IsTimely, IsTimelySoFar};
 ghost use Rattle.lert_cone.specs.History.{most_payload};
 ghost use Rattle.lert_cone.specs.InStep.{AreNew};
+ghost use Rattle.lert_cone.specs.Room.{IsRoom};
 ghost use Rattle.lert_cone.specs.Sound.{AreEmpty, FramesStay, IsSound, IsSoundClosed, IsSoundOver, IsKept};
-ghost use Rattle.lert_cone.specs.Stands.{StandsFor, Answers, IsSameCone, is_broken, is_refusal, broken_by};
+ghost use Rattle.lert_cone.specs.Stands.{StandsFor, WasSound, Answers, IsSameCone, is_broken, is_refusal, broken_by};
+ghost use Rattle.lert_cone.specs.Tally.{Shows};
 ghost use Rattle.lert_cone.specs.Wrote.{Anything};
 
 use crate::acked::Acked;
 use crate::headers::{is_fresh, write_headers};
-use crate::keys::{close, take_keys};
+use crate::keys::{close, keys_of, take_keys};
+use crate::log_point::LogPoint;
 use crate::refusal::{ConeFault, CreateFault, CreateRefused};
 use crate::report_log::ReportLog;
 use crate::room::ConeRoom;
@@ -34,6 +37,7 @@ use lert_reports::ReportStore;
 use std::marker::Model;
 use std::snapshot::Snapshot;
 
+mod replay;
 #[cfg(test)]
 mod tests;
 
@@ -48,6 +52,8 @@ pub struct Cone<B: Bay, T: CountTable> {
     tally: Tally<T>,
     journal: GateLog,
     log: ReportLog,
+    last: LogPoint,
+    entry: Entry,
     buffer: Vec<u8>,
     events: u64,
     state: ConeState,
@@ -71,6 +77,7 @@ impl<B: Bay, T: CountTable> Model for Cone<B, T> {
       over = over_of c.over;
       gate = c.journal.gate;
       log = c.log;
+      last = c.last;
     } };
 
     ghost invariant = { λ c. IsCone B.files B.leaves B.faults (record {
@@ -84,30 +91,35 @@ impl<B: Bay, T: CountTable> Model for Cone<B, T> {
       over = over_of c.over;
       gate = c.journal.gate;
       log = c.log;
-    }) c.tally c.journal (length c.buffer.items) };
+      last = c.last;
+    }) c.tally c.journal (length c.buffer.items) c.entry.keys.room };
 }
 
 impl<B: Bay, T: CountTable> Cone<B, T> {
-    /// A cone without a packet: writes and syncs the headers and the first gates of the journal and the log. Takes no
-    /// memory. A refusal hands the bay and the room back; after `Failed` any bytes may stand in these two files.
+    /// A cone without a packet, over a room as `new` made it: writes and syncs the headers and the first gates of the journal
+    /// and the log. Takes no memory. A refusal hands the bay and the room back; after `Failed` any bytes may stand in these
+    /// two files.
     pub fn create(
         room: ConeRoom<T>,
         cone: u32,
         mut bay: B,
     ) -> Result<Cone<B, T>, CreateRefused<B, T>>
-        requires { cone < 2 ^ room.cone_bits }
+        requires named { cone < 2 ^ room.settings.cone_bits }
+        requires room { IsRoom room.settings room.zero room.levels room.store room.entry.keys (length room.buffer.items) }
         ensures made { IfOk result (λ c. c ≡ record {
           bay = c.bay;
           made = c.bay;
-          listing = record { settings = room; cone = cone; events = []; closed = false };
-          rows = replicate room.levels [];
+          listing = record { settings = room.settings; cone = cone; events = []; closed = false };
+          rows = replicate room.settings.levels [];
           reports = [];
           events = 0;
           state = ConeState.Running;
           over = None;
           gate = 32;
-          log = record { gate = 8; most = most_record room; named = 0 };
+          log = record { gate = 8; most = most_record room.settings; named = 0 };
+          last = record { n0 = 0; offset = 32; first = 1; closed = false; log_end = 8 };
         }) }
+        ensures was_sound { IfOk result (λ c. WasSound B.files c) }
         ensures stands_for { IfOk result (λ c. StandsFor B.files B.leaves B.faults c []) }
         ensures frames { IfOk result (λ c. Turns FramesStay (B.files bay) (B.files c.bay)) }
         ensures never_falls { IfOk result (λ c. B.faults bay ≤ B.faults c.bay) }
@@ -125,15 +137,17 @@ impl<B: Bay, T: CountTable> Cone<B, T> {
             × (B.faults bay ≤ B.faults refused.bay) × (B.mark refused.bay ≡ B.mark bay)) }
         ensures failed { IfErr result (λ refused. refused.fault ≡ CreateFault.Failed → HasRisen (B.faults bay) (B.faults refused.bay)) }
     {
-        match begin(&mut bay, room.settings(), cone) {
+        match begin(&mut bay, &room.settings, cone) {
             Ok((journal, log)) => {
-                let (tally, buffer) = room.into_parts(cone);
+                let (tally, entry, buffer) = room.into_parts(cone);
                 Ok(Cone {
                     made: Snapshot::of(&bay),
                     bay,
                     tally,
                     journal,
+                    last: LogPoint::without_record(log.gate()),
                     log,
+                    entry,
                     buffer,
                     events: 0,
                     state: ConeState::Running,
@@ -153,7 +167,7 @@ impl<B: Bay, T: CountTable> Cone<B, T> {
         ensures stands_for { OnOk result ((h : List Packet) → StandsFor B.files B.leaves B.faults self.old h →
             StandsFor B.files B.leaves B.faults self.new (h ++ packet_of entry.now ∷ [])) }
         ensures answers { IfOk result (λ acked. (h : List Packet) → StandsFor B.files B.leaves B.faults self.old h →
-            Answers (B.files self.old.bay) self.old.listing.settings h (packet_of entry.now) acked) }
+            Answers B.files self.old h (packet_of entry.now) acked) }
         ensures acked { IfOk result (λ acked. acked ≡ record {
           from = self.old.events + 1;
           to = self.old.events + length entry.now.keys.keys;
@@ -195,11 +209,13 @@ impl<B: Bay, T: CountTable> Cone<B, T> {
         ensures bay_failed { IsErrOf result ConeFault.BayFailed →
             (self.new.state ≡ ConeState.BrokenByBay) × HasRisen (B.faults self.old.bay) (B.faults self.new.bay) }
         ensures unsound { (file at : ℕ) → IsErrOf result (ConeFault.Unsound file at) → (self.new.state ≡ ConeState.BrokenByRead file at)
-            × ((h : List Packet) → StandsFor B.files B.leaves B.faults self.old h → B.files self.old.bay ≡ None) }
+            × ((h : List Packet) → StandsFor B.files B.leaves B.faults self.old h → WasSound B.files self.old → B.files self.old.bay ≡ None) }
+        ensures shows { (file at : ℕ) → IsErrOf result (ConeFault.Unsound file at) →
+            IfTold (B.files self.new.bay) (λ seen. Shows self.new.listing.settings self.new.rows self.new.reports (seen 2) file at) }
         ensures out_of_memory { IsErrOf result ConeFault.OutOfMemory → self.new.state ≡ ConeState.BrokenByMemory }
 
         // In each image of each moment of the call the files are sound for the list, or for the list and the packet.
-        ensures each_moment { is_broken self.old.state ≡ false → IfTold (B.files self.old.bay) (λ _. (h : List Packet) →
+        ensures each_moment { is_broken self.old.state ≡ false → WasSound B.files self.old → IfTold (B.files self.old.bay) (λ _. (h : List Packet) →
             StandsFor B.files B.leaves B.faults self.old h → (image : Files) →
             B.left_since self.new.bay (B.moment self.old.bay) image →
             IsSoundOver self.old.listing.settings self.old.listing.cone h (Some (packet_of entry.now)) image) }
@@ -208,6 +224,7 @@ impl<B: Bay, T: CountTable> Cone<B, T> {
         ensures never_falls { B.faults self.old.bay ≤ B.faults self.new.bay }
         ensures mark { B.mark self.new.bay ≡ B.mark self.old.bay }
     {
+        let keys = keys_of(entry);
         let len = entry.keys.len() as u64;
         self.test(len)?;
         if append_entry(&mut self.journal, &mut self.bay, entry, &mut self.buffer).is_err() {
@@ -215,7 +232,6 @@ impl<B: Bay, T: CountTable> Cone<B, T> {
             self.state = ConeState::BrokenByBay;
             return Err(ConeFault::BayFailed);
         }
-        let keys = entry.keys.as_slice();
         if let Err(fault) = take_keys(
             &mut self.tally,
             &mut self.log,
@@ -242,7 +258,7 @@ impl<B: Bay, T: CountTable> Cone<B, T> {
         ensures stands_for { OnOk result ((h : List Packet) → StandsFor B.files B.leaves B.faults self.old h →
             StandsFor B.files B.leaves B.faults self.new h) }
         ensures answers { IfOk result (λ reports. (h : List Packet) → StandsFor B.files B.leaves B.faults self.old h →
-            IfTold (B.files self.old.bay) (λ _. reports ≡ length (closing self.old.listing.settings (events_of h)))) }
+            WasSound B.files self.old → IfTold (B.files self.old.bay) (λ _. reports ≡ length (closing self.old.listing.settings (events_of h)))) }
         ensures reports { IfOk result (λ reports. reports ≡ length self.new.reports) }
         ensures finished { OnOk result (self.new ≡ record self.old {
           bay = self.new.bay;
@@ -273,14 +289,16 @@ impl<B: Bay, T: CountTable> Cone<B, T> {
         ensures bay_failed { IsErrOf result ConeFault.BayFailed →
             (self.new.state ≡ ConeState.BrokenByBay) × HasRisen (B.faults self.old.bay) (B.faults self.new.bay) }
         ensures unsound { (file at : ℕ) → IsErrOf result (ConeFault.Unsound file at) → (self.new.state ≡ ConeState.BrokenByRead file at)
-            × ((h : List Packet) → StandsFor B.files B.leaves B.faults self.old h → B.files self.old.bay ≡ None) }
+            × ((h : List Packet) → StandsFor B.files B.leaves B.faults self.old h → WasSound B.files self.old → B.files self.old.bay ≡ None) }
+        ensures shows { (file at : ℕ) → IsErrOf result (ConeFault.Unsound file at) →
+            IfTold (B.files self.new.bay) (λ seen. Shows self.new.listing.settings self.new.rows self.new.reports (seen 2) file at) }
         ensures out_of_memory { IsErrOf result ConeFault.OutOfMemory → self.new.state ≡ ConeState.BrokenByMemory }
 
         // In each image of each moment of the call the files are sound for the list, and after Ok they are closed.
-        ensures each_moment { is_broken self.old.state ≡ false → IfTold (B.files self.old.bay) (λ _. (h : List Packet) →
+        ensures each_moment { is_broken self.old.state ≡ false → WasSound B.files self.old → IfTold (B.files self.old.bay) (λ _. (h : List Packet) →
             StandsFor B.files B.leaves B.faults self.old h → (image : Files) →
             B.left_since self.new.bay (B.moment self.old.bay) image → IsSound self.old.listing.settings self.old.listing.cone h image) }
-        ensures sound_closed { OnOk result (IfTold (B.files self.new.bay) (λ seen. (h : List Packet) → StandsFor B.files B.leaves B.faults self.old h →
+        ensures sound_closed { OnOk result (WasSound B.files self.old → IfTold (B.files self.new.bay) (λ seen. (h : List Packet) → StandsFor B.files B.leaves B.faults self.old h →
             IsKept (B.leaves self.new.bay) seen (IsSoundClosed self.old.listing.settings self.old.listing.cone h))) }
         ensures seen { Turns Anything (B.files self.old.bay) (B.files self.new.bay) }
         ensures time { Lasts (B.moment self.old.bay) (B.moment self.new.bay) (B.left_since self.old.bay) (B.left_since self.new.bay) }
@@ -306,15 +324,15 @@ impl<B: Bay, T: CountTable> Cone<B, T> {
         ensures value { result.now.reports ≡ self.now.reports }
         ensures settings { is_broken self.now.state ≡ false → result.now.settings ≡ self.now.listing.settings }
         ensures running { self.now.state ≡ ConeState.Running → (h : List Packet) → StandsFor B.files B.leaves B.faults self.now h →
-            IfTold (B.files self.now.bay) (λ _. result.now.reports ≡ look self.now.listing.settings (events_of h)) }
+            WasSound B.files self.now → IfTold (B.files self.now.bay) (λ _. result.now.reports ≡ look self.now.listing.settings (events_of h)) }
         ensures finished { self.now.state ≡ ConeState.Finished → (h : List Packet) → StandsFor B.files B.leaves B.faults self.now h →
-            IfTold (B.files self.now.bay) (λ _. result.now.reports ≡ closing self.now.listing.settings (events_of h)) }
+            WasSound B.files self.now → IfTold (B.files self.now.bay) (λ _. result.now.reports ≡ closing self.now.listing.settings (events_of h)) }
 
         // A key that reaches the threshold stands there, and soon enough. No key stands there twice.
         ensures in_time { self.now.state ≡ ConeState.Finished → (h : List Packet) → StandsFor B.files B.leaves B.faults self.now h →
-            IfTold (B.files self.now.bay) (λ _. IsTimely self.now.listing.settings.threshold self.now.listing.settings.bins (events_of h) result.now.reports) }
+            WasSound B.files self.now → IfTold (B.files self.now.bay) (λ _. IsTimely self.now.listing.settings.threshold self.now.listing.settings.bins (events_of h) result.now.reports) }
         ensures in_time_so_far { self.now.state ≡ ConeState.Running → (h : List Packet) → StandsFor B.files B.leaves B.faults self.now h →
-            IfTold (B.files self.now.bay) (λ _. IsTimelySoFar self.now.listing.settings.threshold self.now.listing.settings.bins (events_of h) result.now.reports) }
+            WasSound B.files self.now → IfTold (B.files self.now.bay) (λ _. IsTimelySoFar self.now.listing.settings.threshold self.now.listing.settings.bins (events_of h) result.now.reports) }
     {
         self.tally.store()
     }
@@ -380,6 +398,7 @@ impl<B: Bay, T: CountTable> Cone<B, T> {
             ConeState::BrokenByBay => Err(ConeFault::Broken),
             ConeState::BrokenByRead { .. } => Err(ConeFault::Broken),
             ConeState::BrokenByMemory => Err(ConeFault::Broken),
+            ConeState::Replaying => Err(ConeFault::Broken),
         }
     }
 }

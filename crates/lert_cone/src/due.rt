@@ -1,6 +1,6 @@
 //! The reports of a cone, as a merge gives its totals.
 
-ghost use Rattle.std.specs.Prelude.{◌≡◌, ◌↔◌, ℕ, ◌-◌, ◌^◌, ◌<◌, List, [], ◌∷◌, ◌++◌, All, false, IsTrue, MatchOption};
+ghost use Rattle.std.specs.Prelude.{◌≡◌, ◌↔◌, ℕ, ◌-◌, ◌^◌, ◌<◌, List, [], ◌∷◌, ◌++◌, All, length, false, IsTrue, MatchOption};
 ghost use Rattle.lert_spec.specs.Limits.{IsValid};
 ghost use Rattle.lert_spec.specs.Mix.{cone_of};
 ghost use Rattle.lert_spec.specs.declared.piece.Piece.{Piece};
@@ -40,22 +40,22 @@ impl<T: CountTable> Model for Due<T> {
       is_full = d.is_full;
     } };
 
-    ghost invariant = { λ d. IsTaker d.settings d.cone d.store };
+    ghost invariant = { λ d. IsTaker d.settings d.cone d.store d.is_full };
 }
 
 impl<T: CountTable> Due<T> {
     ghost use Rattle.lert_cone.specs.Due.{TookFrom, due_key, started, with_total};
 
-    /// The reports of a cone in this store.
+    /// The reports of a cone in this store, with those that it has already.
     pub fn new(settings: &Settings, cone: u32, store: ReportStore<T>) -> Due<T>
         requires named { cone < 2 ^ settings.now.cone_bits }
         requires same { store.settings ≡ settings.now }
-        requires none { store.reports ≡ [] }
+        requires own { All (λ report. cone_of settings.now report.key ≡ cone) store.reports }
         ensures { result ≡ record {
           settings = settings.now;
           cone = cone;
-          reports = [];
-          before = [];
+          reports = store.reports;
+          before = store.reports;
           at = 0;
           is_full = false;
         } }
@@ -98,9 +98,10 @@ impl<T: CountTable> Due<T> {
         &self.store
     }
 
-    /// Whether a report found no room since the totals began.
+    /// Whether a report found no room since the totals began. The reports then fill it.
     pub fn is_full(&self) -> bool
-        ensures { result ≡ self.now.is_full }
+        ensures value { result ≡ self.now.is_full }
+        ensures full { IsTrue result → length self.now.reports ≡ self.now.settings.room }
     {
         self.is_full
     }

@@ -6,6 +6,7 @@ use crate::room::ConeRoom;
 use crate::tally::TakeFault;
 use lert_base::CountTable;
 use lert_bay::Bay;
+use lert_gatelog::LogFault;
 use lert_io::Failed;
 
 /// Why a cone doesn't take a packet, or doesn't finish, in the order of the tests. After the first three all is
@@ -14,7 +15,7 @@ use lert_io::Failed;
 pub enum ConeFault {
     /// It is finished.
     Closed,
-    /// An earlier call broke off in the middle.
+    /// An earlier call broke off in the middle, or its journal isn't read yet.
     Broken,
     /// It has `n` keys, and the `len` of the packet are more than it takes besides.
     CapacityFull { n: u64, len: u64 },
@@ -37,6 +38,48 @@ impl From<TakeFault> for ConeFault {
             TakeFault::Failed => ConeFault::BayFailed,
             TakeFault::Unsound { file, at } => ConeFault::Unsound { file, at },
             TakeFault::OutOfMemory => ConeFault::OutOfMemory,
+        }
+    }
+}
+
+/// Why a cone doesn't take a record of the journal that it replays. It is broken then, and is good for its bay alone.
+#[derive(Clone, Copy, Debug, PartialEq, Eq)]
+pub enum ReplayFault {
+    /// A call of the bay failed.
+    Failed,
+    /// What stands at the gate leaves the format at byte `at` of the journal: as a record of this cone's journal; at the
+    /// gate, where that is closed and the log's last record has more keys, or where the record goes past a closing one; or
+    /// at the record's length, where the cone would have more keys than it takes.
+    Malformed { at: u64 },
+    /// As of a packet that is admitted.
+    Unsound { file: u8, at: u64 },
+    /// There is no memory for what was asked. No clause says when this comes.
+    OutOfMemory,
+}
+
+impl From<TakeFault> for ReplayFault {
+    ghost use Rattle.lert_cone.specs.Replays.{of_take_fault};
+
+    ghost from_gives = { λ fault given. given ≡ of_take_fault fault };
+
+    fn from(fault: TakeFault) -> ReplayFault {
+        match fault {
+            TakeFault::Failed => ReplayFault::Failed,
+            TakeFault::Unsound { file, at } => ReplayFault::Unsound { file, at },
+            TakeFault::OutOfMemory => ReplayFault::OutOfMemory,
+        }
+    }
+}
+
+impl From<LogFault> for ReplayFault {
+    ghost use Rattle.lert_cone.specs.Replays.{of_log_fault};
+
+    ghost from_gives = { λ fault given. given ≡ of_log_fault fault };
+
+    fn from(fault: LogFault) -> ReplayFault {
+        match fault {
+            LogFault::Failed => ReplayFault::Failed,
+            LogFault::Malformed { at } => ReplayFault::Malformed { at },
         }
     }
 }

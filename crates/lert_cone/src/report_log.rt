@@ -9,17 +9,13 @@ ghost use Rattle.lert_io.specs.Fault.{HasCause};
 ghost use Rattle.lert_reports.specs.Log.{most_record};
 ghost use Rattle.lert_cone.specs.Record.{payload_at, payload_len};
 
+use crate::log_point::{FIRST, OFFSET};
 use lert_base::{Report, Settings};
-use lert_bay::Bay;
+use lert_bay::{Bay, LOG};
 use lert_gatelog::GateLog;
 use lert_io::Failed;
 use lert_reports::{LogKind, write_log};
 use std::marker::Model;
-
-// Where a record says that the journal is to be read from: its first record, which holds the first position.
-const OFFSET: u64 = 32;
-
-const FIRST: u64 = 1;
 
 /// The greatest length of a record's payload in a log: 29 bytes, one for each level and each of its bins, and 16 for each
 /// report that there is room for.
@@ -56,6 +52,23 @@ impl ReportLog {
         ensures { result ≡ record { gate = log.gate; most = log.most; named = 0 } }
     {
         ReportLog { log, named: 0 }
+    }
+
+    /// The log at a closed gate, whose records name so many reports. Nothing is read.
+    pub fn at(gate: u64, most: u32, named: usize) -> ReportLog
+        ensures { result ≡ record { gate = gate; most = most; named = named } }
+    {
+        ReportLog {
+            log: GateLog::at_gate(LOG, gate, most),
+            named,
+        }
+    }
+
+    /// The place of the gate that the log stands at.
+    pub fn gate(&self) -> u64
+        ensures { result ≡ self.now.gate }
+    {
+        self.log.gate()
     }
 
     /// Appends a record behind `n0` events: it names the frames of the directory, and the reports behind those that earlier

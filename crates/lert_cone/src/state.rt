@@ -14,4 +14,6 @@ pub enum ConeState {
     BrokenByRead { file: u8, at: u64 },
     /// There was no memory in the middle of a call. It writes no more.
     BrokenByMemory,
+    /// It takes the packets of a journal that is read again, and no others.
+    Replaying,
 }

@@ -1,22 +1,18 @@
 //! The counts and reports of a cone: level 0 in memory, the older levels on its bay.
 
-ghost use Rattle.std.specs.Prelude.{◌≡◌, ◌≢◌, ℕ, ◌+◌, ◌-◌, ◌^◌, ◌<◌, ◌≤◌, true, false, List, [], ◌∷◌, ◌++◌, length, replicate, slice_range, IfOk, OnOk, OnErr, IsErrOf, IsTrue, IsFalse, Err};
+ghost use Rattle.std.specs.Prelude.{◌≡◌, ◌≢◌, ℕ, ◌+◌, ◌-◌, ◌^◌, ◌<◌, ◌≤◌, true, false, List, [], ◌∷◌, ◌++◌, All, length, replicate, IfOk, OnOk, OnErr, IsErrOf, IsTrue, IsFalse, Err};
 ghost use Rattle.lert_bay.specs.Files.{Files, IfTold};
 ghost use Rattle.lert_frames.specs.Kept.{OnlyRead};
 ghost use Rattle.lert_io.specs.Fault.{HasRisen};
-ghost use Rattle.lert_spec.specs.Bins.{tallied};
-ghost use Rattle.lert_spec.specs.Edges.{edge, depth, lookback, capacity};
-ghost use Rattle.lert_spec.specs.Limits.{IsValid};
+ghost use Rattle.lert_spec.specs.Edges.{edge, capacity};
 ghost use Rattle.lert_spec.specs.Mix.{cone_of};
-ghost use Rattle.lert_spec.specs.declared.piece.Piece.{Piece};
 ghost use Rattle.lert_gatelog.specs.Kept.{InEach};
 ghost use Rattle.lert_levels.specs.Flushed.{InNamed};
 ghost use Rattle.lert_levels.specs.Landing.{KeepsRest};
-ghost use Rattle.lert_levels.specs.Rows.{IsAt, AreRows, HoldsBins, moved, directory_text};
-ghost use Rattle.lert_cone.specs.Due.{TookFrom};
-ghost use Rattle.lert_cone.specs.Tally.{AreYoung, totals_at};
+ghost use Rattle.lert_levels.specs.Rows.{IsAt, AreRows, HoldsBins, directory_text};
 
-use crate::due::{Begun, Due, DueSince};
+use crate::due::Due;
+use bringing::{bring, scan_into};
 use lert_base::{CountTable, Settings};
 use lert_bay::{Bay, FRAMES, LOG};
 use lert_io::{Failed, Seen};
@@ -24,6 +20,9 @@ use lert_levels::{FlushFault, Levels, Zero};
 use lert_mixer::tail_of;
 use lert_reports::ReportStore;
 use std::marker::{Brand, Model};
+
+mod bringing;
+mod recounting;
 
 /// Why a key isn't taken, or the end isn't reached. What then stands in memory is of no use.
 #[derive(Clone, Copy, Debug, PartialEq, Eq)]
@@ -98,7 +97,7 @@ impl<T: CountTable> Model for Tally<T> {
 }
 
 impl<T: CountTable> Tally<T> {
-    ghost use Rattle.lert_cone.specs.Tally.{IsCounted, IsHeld};
+    ghost use Rattle.lert_cone.specs.Tally.{IsCounted, IsHeld, IsRecounted, Shows};
 
     /// No key yet.
     pub fn new(
@@ -119,6 +118,31 @@ impl<T: CountTable> Tally<T> {
         ensures held { (seen : Files) → IsHeld result seen }
     {
         let _valid = settings.numbers();
+        Tally::adopted(settings, cone, zero, levels, store, false)
+    }
+
+    /// No key yet, over levels and reports as a log's last record has them. `recount` takes the keys up to that record again.
+    pub fn adopted(
+        settings: &Settings,
+        cone: u32,
+        zero: Zero<T>,
+        levels: Levels<T>,
+        store: ReportStore<T>,
+        closed: bool,
+    ) -> Tally<T>
+        requires named { cone < 2 ^ settings.now.cone_bits }
+        requires zero { zero ≡ record { settings = settings.now; from = 0; to = 0; bins = [] } }
+        requires levels { levels.settings ≡ settings.now }
+        requires are { AreRows settings.now levels.rows }
+        requires store { store.settings ≡ settings.now }
+        requires own { All (λ report. cone_of settings.now report.key ≡ cone) store.reports }
+        ensures listing { result.listing ≡ record { settings = settings.now; cone = cone; events = []; closed = closed } }
+        ensures young { result.young ≡ zero }
+        ensures rows { result.rows ≡ levels.rows }
+        ensures reports { result.due.reports ≡ store.reports }
+        ensures recounted { (n0 : ℕ) → n0 ≤ capacity settings.now → IsAt settings.now n0 levels.rows → IsRecounted result n0 }
+    {
+        let _valid = settings.numbers();
         Tally {
             settings: *settings,
             cone,
@@ -127,7 +151,7 @@ impl<T: CountTable> Tally<T> {
             due: Some(Due::new(settings, cone, store)),
             taken: Seen::new(),
             len: 0,
-            closed: false,
+            closed,
         }
     }
 
@@ -136,6 +160,13 @@ impl<T: CountTable> Tally<T> {
         ensures { result.now ≡ self.now.listing.settings }
     {
         &self.settings
+    }
+
+    /// The number of the cone.
+    pub fn cone(&self) -> u32
+        ensures { result ≡ self.now.listing.cone }
+    {
+        self.cone
     }
 
     /// The reports, in the order of their positions.
@@ -192,6 +223,8 @@ impl<T: CountTable> Tally<T> {
         ensures held { IfTold (B.files bay.old) (λ seen. IsHeld self.old seen →
             OnOk result (IfTold (B.files bay.new) (λ after. IsHeld self.new after))) }
         ensures sound { IfTold (B.files bay.old) (λ seen. IsHeld self.old seen → (file at : ℕ) → result ≢ Err (TakeFault.Unsound file at)) }
+        ensures shows { IfTold (B.files bay.new) (λ seen. (file at : ℕ) → IsErrOf result (TakeFault.Unsound file at) →
+            Shows self.new.listing.settings self.new.rows self.new.due.reports (seen 2) file at) }
         ensures images { IfTold (B.files bay.old) (λ seen. IsHeld self.old seen → InEach (B.leaves bay.old) 2 (HoldsBins self.old.listing.settings self.old.listing.events self.old.rows) →
             OnOk result (IfTold (B.files bay.new) (λ _. InEach (B.leaves bay.new) 2 (HoldsBins self.new.listing.settings self.new.listing.events self.new.rows)))) }
         ensures rest { KeepsRest (InNamed self.old.listing.settings self.old.rows) (B.files bay.old) (B.files bay.new) (B.leaves bay.old) (B.moment bay.old) (B.moment bay.new) (B.left_since bay.old) (B.left_since bay.new) }
@@ -237,6 +270,8 @@ impl<T: CountTable> Tally<T> {
         ensures counted { OnOk result (IsCounted self.new) }
         ensures held { IfTold (B.files bay.old) (λ seen. IsHeld self.old seen → OnOk result (IsHeld self.new seen)) }
         ensures sound { IfTold (B.files bay.old) (λ seen. IsHeld self.old seen → (file at : ℕ) → result ≢ Err (TakeFault.Unsound file at)) }
+        ensures shows { IfTold (B.files bay.new) (λ seen. (file at : ℕ) → IsErrOf result (TakeFault.Unsound file at) →
+            Shows self.new.listing.settings self.new.rows self.new.due.reports (seen 2) file at) }
         ensures only_read { OnlyRead (B.files bay.old) (B.files bay.new) (B.leaves bay.old) (B.leaves bay.new) (B.moment bay.old) (B.moment bay.new) (B.left_since bay.old) (B.left_since bay.new) }
         ensures failed { IsErrOf result TakeFault.Failed → HasRisen (B.faults bay.old) (B.faults bay.new) }
         ensures never_falls { B.faults bay.old ≤ B.faults bay.new }
@@ -256,131 +291,4 @@ impl<T: CountTable> Tally<T> {
         self.closed = true;
         Ok(())
     }
-}
-
-// Flushes the levels at position `m`, with the reports as the taker of the totals.
-fn flush_into<B: Bay, T: CountTable, N: Begun>(
-    levels: &mut Levels<T>,
-    bay: &mut B,
-    zero: &Zero<T>,
-    m: u64,
-    due: Due<T>,
-) -> (Due<T>, Result<(), FlushFault>)
-    requires start { TookFrom N.start due [] }
-    requires first { 1 ≤ m }
-    requires last { m ≤ capacity levels.old.settings }
-    requires flushes { edge levels.old.settings 0 m ≢ edge levels.old.settings 0 (m - 1) }
-    requires settings { zero.now.settings ≡ levels.old.settings }
-    requires from { zero.now.from ≡ edge levels.old.settings 0 (m - 1) }
-    requires to { zero.now.to ≡ m }
-    requires rows { IsAt levels.old.settings (m - 1) levels.old.rows }
-    ensures moved { OnOk result.1 (levels.new ≡ record levels.old { rows = moved levels.old.settings m levels.old.rows }) }
-    ensures refused { OnErr result.1 (levels.new ≡ levels.old) }
-    ensures holds { (events : List ℕ) → length events ≡ m → AreYoung levels.old.settings events zero.now.from zero.now.bins →
-        IfTold (B.files bay.old) (λ seen. HoldsBins levels.old.settings events levels.old.rows (seen 2) →
-        OnOk result.1 (IfTold (B.files bay.new) (λ after. HoldsBins levels.new.settings events levels.new.rows (after 2)))) }
-    ensures totals { (events : List ℕ) → length events ≡ m → AreYoung levels.old.settings events zero.now.from zero.now.bins →
-        IfTold (B.files bay.old) (λ seen. HoldsBins levels.old.settings events levels.old.rows (seen 2) →
-        OnOk result.1 (TookFrom N.start result.0 (tallied levels.old.settings (slice_range events (lookback levels.old.settings m) m)))) }
-    ensures took { OnOk result.1 ((list : List Piece) × TookFrom N.start result.0 list) }
-    ensures sound { (events : List ℕ) → length events ≡ m → AreYoung levels.old.settings events zero.now.from zero.now.bins →
-        IfTold (B.files bay.old) (λ seen. HoldsBins levels.old.settings events levels.old.rows (seen 2) →
-        (at : ℕ) → result.1 ≢ Err (FlushFault.Malformed at)) }
-    ensures durable { OnOk result.1 (IfTold (B.files bay.new) (λ seen. (image : Files) → B.leaves bay.new image → image 2 ≡ seen 2)) }
-    ensures rest { KeepsRest (InNamed levels.old.settings levels.old.rows) (B.files bay.old) (B.files bay.new) (B.leaves bay.old) (B.moment bay.old) (B.moment bay.new) (B.left_since bay.old) (B.left_since bay.new) }
-    ensures failed { IsErrOf result.1 FlushFault.Failed → HasRisen (B.faults bay.old) (B.faults bay.new) }
-    ensures never_falls { B.faults bay.old ≤ B.faults bay.new }
-    ensures mark { B.mark bay.new ≡ B.mark bay.old }
-{
-    let mut taker = DueSince::<T, N>::new(due);
-    let result = levels.flush(bay, zero, m, &mut taker);
-    (taker.into_due(), result)
-}
-
-// Gives the reports the totals that the event at position `m` brings, which level 0 has, its tail being this one. At a
-// flush position the levels are flushed, and the oldest bin of level 0 is dropped.
-fn bring<B: Bay, T: CountTable, N: Begun>(
-    zero: &mut Zero<T>,
-    levels: &mut Levels<T>,
-    bay: &mut B,
-    tail: u64,
-    m: u64,
-    mut due: Due<T>,
-) -> (Due<T>, Result<(), FlushFault>)
-    requires start { TookFrom N.start due [] }
-    requires valid { IsValid levels.old.settings }
-    requires first { 1 ≤ m }
-    requires last { m ≤ capacity levels.old.settings }
-    requires settings { zero.old.settings ≡ levels.old.settings }
-    requires from { zero.old.from ≡ edge levels.old.settings 0 (m - 1) }
-    requires to { zero.old.to ≡ m }
-    requires rows { IsAt levels.old.settings (m - 1) levels.old.rows }
-    ensures young_settings { zero.new.settings ≡ zero.old.settings }
-    ensures settings { levels.new.settings ≡ levels.old.settings }
-    ensures from { OnOk result.1 (zero.new.from ≡ edge levels.old.settings 0 m) }
-    ensures to { OnOk result.1 (zero.new.to ≡ m) }
-    ensures bins { (events : List ℕ) → length events ≡ m → AreYoung levels.old.settings events zero.old.from zero.old.bins →
-        OnOk result.1 (AreYoung levels.old.settings events (edge levels.old.settings 0 m) zero.new.bins) }
-    ensures rows { OnOk result.1 (IsAt levels.old.settings m levels.new.rows) }
-    ensures holds { (events : List ℕ) → length events ≡ m → AreYoung levels.old.settings events zero.old.from zero.old.bins →
-        IfTold (B.files bay.old) (λ seen. HoldsBins levels.old.settings events levels.old.rows (seen 2) →
-        OnOk result.1 (IfTold (B.files bay.new) (λ after. HoldsBins levels.old.settings events levels.new.rows (after 2)))) }
-    ensures totals { (events : List ℕ) → length events ≡ m → AreYoung levels.old.settings events zero.old.from zero.old.bins →
-        IfTold (B.files bay.old) (λ seen. HoldsBins levels.old.settings events levels.old.rows (seen 2) →
-        OnOk result.1 (TookFrom N.start result.0 (totals_at levels.old.settings events m tail))) }
-    ensures took { OnOk result.1 ((list : List Piece) × TookFrom N.start result.0 list) }
-    ensures sound { (events : List ℕ) → length events ≡ m → AreYoung levels.old.settings events zero.old.from zero.old.bins →
-        IfTold (B.files bay.old) (λ seen. HoldsBins levels.old.settings events levels.old.rows (seen 2) →
-        (at : ℕ) → result.1 ≢ Err (FlushFault.Malformed at)) }
-    ensures images { (events : List ℕ) → length events ≡ m → AreYoung levels.old.settings events zero.old.from zero.old.bins →
-        IfTold (B.files bay.old) (λ seen. HoldsBins levels.old.settings events levels.old.rows (seen 2) → InEach (B.leaves bay.old) 2 (HoldsBins levels.old.settings events levels.old.rows) →
-        OnOk result.1 (IfTold (B.files bay.new) (λ _. InEach (B.leaves bay.new) 2 (HoldsBins levels.old.settings events levels.new.rows)))) }
-    ensures are { OnOk result.1 (AreRows levels.old.settings levels.old.rows → AreRows levels.old.settings levels.new.rows) }
-    ensures still { edge levels.old.settings 0 m ≡ edge levels.old.settings 0 (m - 1) → OnOk result.1 (levels.new.rows ≡ levels.old.rows) }
-    ensures rest { KeepsRest (InNamed levels.old.settings levels.old.rows) (B.files bay.old) (B.files bay.new) (B.leaves bay.old) (B.moment bay.old) (B.moment bay.new) (B.left_since bay.old) (B.left_since bay.new) }
-    ensures failed { IsErrOf result.1 FlushFault.Failed → HasRisen (B.faults bay.old) (B.faults bay.new) }
-    ensures never_falls { B.faults bay.old ≤ B.faults bay.new }
-    ensures mark { B.mark bay.new ≡ B.mark bay.old }
-{
-    if zero.settings().depth(m) == 0 {
-        due.total(tail, zero.count(tail));
-        return (due, Ok(()));
-    }
-    let (due, result) = flush_into::<B, T, N>(levels, bay, zero, m, due);
-    match result {
-        Ok(()) => {
-            zero.drop_oldest();
-            (due, Ok(()))
-        }
-        Err(fault) => (due, Err(fault)),
-    }
-}
-
-// Scans all levels, with the reports as the taker of the totals.
-fn scan_into<B: Bay, T: CountTable, N: Begun>(
-    levels: &mut Levels<T>,
-    bay: &mut B,
-    zero: &Zero<T>,
-    due: Due<T>,
-) -> (Due<T>, Result<(), FlushFault>)
-    requires start { TookFrom N.start due [] }
-    requires settings { zero.now.settings ≡ levels.old.settings }
-    ensures stays { levels.new ≡ levels.old }
-    ensures totals { (events : List ℕ) → length events ≤ capacity levels.old.settings → IsAt levels.old.settings (length events) levels.old.rows →
-        zero.now.from ≡ edge levels.old.settings 0 (length events) → zero.now.to ≡ length events → AreYoung levels.old.settings events zero.now.from zero.now.bins →
-        IfTold (B.files bay.old) (λ seen. HoldsBins levels.old.settings events levels.old.rows (seen 2) →
-        OnOk result.1 (TookFrom N.start result.0 (tallied levels.old.settings events))) }
-    ensures took { OnOk result.1 ((list : List Piece) × TookFrom N.start result.0 list) }
-    ensures sound { (events : List ℕ) → length events ≤ capacity levels.old.settings → IsAt levels.old.settings (length events) levels.old.rows →
-        zero.now.from ≡ edge levels.old.settings 0 (length events) → AreYoung levels.old.settings events zero.now.from zero.now.bins →
-        IfTold (B.files bay.old) (λ seen. HoldsBins levels.old.settings events levels.old.rows (seen 2) →
-        (at : ℕ) → result.1 ≢ Err (FlushFault.Malformed at)) }
-    ensures only_read { OnlyRead (B.files bay.old) (B.files bay.new) (B.leaves bay.old) (B.leaves bay.new) (B.moment bay.old) (B.moment bay.new) (B.left_since bay.old) (B.left_since bay.new) }
-    ensures failed { IsErrOf result.1 FlushFault.Failed → HasRisen (B.faults bay.old) (B.faults bay.new) }
-    ensures never_falls { B.faults bay.old ≤ B.faults bay.new }
-    ensures mark { B.mark bay.new ≡ B.mark bay.old }
-{
-    let mut taker = DueSince::<T, N>::new(due);
-    let result = levels.scan(bay, zero, &mut taker);
-    (taker.into_due(), result)
 }

@@ -1,5 +1,5 @@
-//! The program: `lert run --threshold N --cone-bits 0 DIR TRACE`, and `lert run` with all eight
-//! settings.
+//! The program: `lert run --threshold N --cone-bits 0 DIR TRACE`, and `lert run` and `lert recover` with all
+//! eight settings.
 //!
 //! It makes the words, the place and the sink over real files and standard output, makes the top
 //! call, prints the line of a status other than `Done` on standard error, and ends with the status's

@@ -12,11 +12,11 @@ use Rattle.lert_spec.specs.declared.numbers.Numbers.{Numbers}
 use Rattle.lert_spec.specs.Limits.{IsInLimits}
 use Rattle.lert_spec.specs.Trace.{agreed}
 use Rattle.lert_spec.proofs.ByteLaws.{bytes_back}
-use Rattle.lert_journal.specs.Header.{magic, header, number_at, kept_in}
+use Rattle.lert_journal.specs.Header.{magic, header, header_left, number_at, kept_in}
 use Rattle.lert_journal.proofs.HeaderLaws.{reads_back, begins}
 use Rattle.lert_recover.specs.declared.fault.ReopenFault.{ReopenFault}
 use Rattle.lert_recover.specs.declared.fault.ReopenFault.TheVariants.{Failed, Malformed, OtherSettings}
-use Rattle.lert_recover.specs.Headed.{beginning_left, IsHeaded, HasOther, IsHeaderFault}
+use Rattle.lert_recover.specs.Headed.{BeginningLeaves, IsHeaded, HasOther, IsHeaderFault}
 use Rattle.lert_recover.proofs.AgreedLaws.{agreed_whole}
 
 -- ---- the header of what it says
@@ -62,12 +62,12 @@ module _ (bytes : List ℕ) (small : (k : ℕ) → slice_index bytes k < 256) (l
 
 -- ---- files by their first bytes
 
--- a file with a whole header and a gate leaves the format nowhere
-pub whole_beginning : (file : List ℕ) → take 8 file ≡ magic → 32 < length file → beginning_left file ≡ None
-whole_beginning file begun long =
+-- a file with a whole header leaves that nowhere
+pub whole_header : (file : List ℕ) → take 8 file ≡ magic → 32 ≤ length file → header_left file ≡ None
+whole_header file begun long =
     let same : agreed magic file ≡ 8 = agreed_whole magic file begun in
-    ap (λ b. if b then Some (agreed magic file) else (if nat_lt (length file) 33 then Some (length file) else None)) (le-ltb (agreed magic file) 8 (omega (arith, same)))
-    ∙ ap (λ b. if b then Some (length file) else None) (le-ltb (length file) 33 (omega (arith, long)))
+    ap (λ b. if b then Some (agreed magic file) else (if nat_lt (length file) 32 then Some (length file) else None)) (le-ltb (agreed magic file) 8 (omega (arith, same)))
+    ∙ ap (λ b. if b then Some (length file) else None) (le-ltb (length file) 32 (omega (arith, long)))
 
 -- the first eight bytes by the first thirty-two
 first_eight : (file head : List ℕ) → head ≡ take 32 file → take 8 head ≡ magic → take 8 file ≡ magic
@@ -77,22 +77,35 @@ module _ (s : Numbers) (cone : ℕ) (limits : IsInLimits s) (below : cone < 2 ^ 
   headed_says : IsHeaded s cone file → kept_in (take 32 file) ≡ record { cone = cone; numbers = s }
   headed_says headed = ap kept_in headed.headed ∙ reads_back s cone limits below
 
-  headed_whole : IsHeaded s cone file → beginning_left file ≡ None
-  headed_whole headed = whole_beginning file (first_eight file (header s cone) (sym headed.headed) (begins s cone)) headed.gate
+  pub headed_whole : IsHeaded s cone file → (at : ℕ) → BeginningLeaves s cone file at → ⊥
+  headed_whole headed at (inl left) =
+      none-some at (sym (whole_header file (first_eight file (header s cone) (sym headed.headed) (begins s cone)) (omega (arith, headed.gate))) ∙ left)
+  headed_whole headed at (inr (gateless, is)) = absurd (omega (arith, headed.gate, gateless.short))
 
-  headed_or_fault : (fault : ReopenFault) → IsHeaded s cone file → IsHeaderFault s cone file fault → ⊥
-  headed_or_fault fault headed (inl (at, is, left)) = none-some at (sym (headed_whole headed) ∙ left)
+  pub headed_or_fault : (fault : ReopenFault) → IsHeaded s cone file → IsHeaderFault s cone file fault → ⊥
+  headed_or_fault fault headed (inl (at, is, left)) = headed_whole headed at left
   headed_or_fault fault headed (inr (kept, is, other)) = other.other (other.kept_is ∙ headed_says headed)
 
   some_place : (m n : ℕ) → Some m ≡ Some n → m ≡ n
   some_place m n is = cc
 
-  left_fault : (fault : ReopenFault) (at : ℕ) → beginning_left file ≡ Some at → IsHeaderFault s cone file fault → fault ≡ Malformed 0 at
-  left_fault fault at left (inl (other, is, too)) = is ∙ ap (Malformed 0) (some_place other at (sym too ∙ left))
-  left_fault fault at left (inr (kept, is, other)) = absurd (none-some at (sym other.whole ∙ left))
+  -- a beginning is left at one place, and not where it says other numbers
+  pub one_beginning : (m n : ℕ) → BeginningLeaves s cone file m → BeginningLeaves s cone file n → m ≡ n
+  one_beginning m n (inl left) (inl too) = some_place m n (sym left ∙ too)
+  one_beginning m n (inl left) (inr (gateless, is)) = absurd (none-some m (sym gateless.whole ∙ left))
+  one_beginning m n (inr (gateless, is)) (inl left) = absurd (none-some n (sym gateless.whole ∙ left))
+  one_beginning m n (inr (gateless, is)) (inr (other, too)) = is ∙ sym too
+
+  pub other_or_left : (kept : Kept) (at : ℕ) → HasOther s cone file kept → BeginningLeaves s cone file at → ⊥
+  other_or_left kept at has (inl left) = none-some at (sym has.whole ∙ left)
+  other_or_left kept at has (inr (gateless, is)) = has.other (has.kept_is ∙ gateless.own)
+
+  left_fault : (fault : ReopenFault) (at : ℕ) → BeginningLeaves s cone file at → IsHeaderFault s cone file fault → fault ≡ Malformed 0 at
+  left_fault fault at left (inl (other, is, too)) = is ∙ ap (Malformed 0) (one_beginning other at too left)
+  left_fault fault at left (inr (kept, is, other)) = absurd (other_or_left kept at other left)
 
   other_fault : (fault : ReopenFault) (kept : Kept) → HasOther s cone file kept → IsHeaderFault s cone file fault → fault ≡ OtherSettings kept
-  other_fault fault kept has (inl (at, is, left)) = absurd (none-some at (sym has.whole ∙ left))
+  other_fault fault kept has (inl (at, is, left)) = absurd (other_or_left kept at has left)
   other_fault fault kept has (inr (too, is, other)) = is ∙ ap OtherSettings (other.kept_is ∙ sym has.kept_is)
 
   -- ---- what an answer that is right says the other way round
@@ -110,8 +123,8 @@ module _ (s : Numbers) (cone : ℕ) (limits : IsInLimits s) (below : cone < 2 ^ 
     headed_back (Err fault) (inl failed) headed = failed
     headed_back (Err fault) (inr is) headed = absurd (headed_or_fault fault headed is)
 
-    pub left_back : (result : Result T ReopenFault) → Told result → (at : ℕ) → beginning_left file ≡ Some at → IsErrAnd result (λ fault. (fault ≡ Failed) ⊎ (fault ≡ Malformed 0 at))
-    left_back (Ok x) is at left = none-some at (sym (headed_whole is) ∙ left)
+    pub left_back : (result : Result T ReopenFault) → Told result → (at : ℕ) → BeginningLeaves s cone file at → IsErrAnd result (λ fault. (fault ≡ Failed) ⊎ (fault ≡ Malformed 0 at))
+    left_back (Ok x) is at left = headed_whole is at left
     left_back (Err fault) (inl failed) at left = inl failed
     left_back (Err fault) (inr is) at left = inr (left_fault fault at left is)
 
@@ -136,9 +149,18 @@ read_whole count head file long few is whole =
     sym (take_all 32 head (omega (arith, long)))
     ∙ (ap (λ n. take n head) (let same : 32 ≡ count = omega (arith, whole, few, length-take count head) in same) ∙ is)
 
-pub fault_there : (s : Numbers) (cone : ℕ) (head file : List ℕ) (kept : Kept) → head ≡ take 32 file → take 8 head ≡ magic → 32 < length file → kept ≡ kept_in head → kept ≢ record { cone = cone; numbers = s } → IsHeaderFault s cone file (OtherSettings kept)
-fault_there s cone head file kept is begun gate kept_is other =
-    inr (kept, refl, record { whole = whole_beginning file (first_eight file head is begun) gate; kept_is = kept_is ∙ ap kept_in is; other = other })
+-- its file has as many bytes
+pub whole_file : (count : ℕ) (head file : List ℕ) → take count head ≡ take 32 file → 32 ≤ length (take count head) → 32 ≤ length file
+whole_file count head file is whole = omega (arith, whole, ap (λ (xs : List ℕ). length xs) is, length-take 32 file)
+
+pub gateless_there : (s : Numbers) (cone at : ℕ) (head file : List ℕ) (kept : Kept) → head ≡ take 32 file → take 8 head ≡ magic → 32 ≤ length file → at ≡ length file → at ≤ 32 → kept ≡ kept_in head →
+    kept ≡ record { cone = cone; numbers = s } → IsHeaderFault s cone file (Malformed 0 at)
+gateless_there s cone at head file kept is begun long at_is short kept_is own =
+    inl (at, refl, inr (record { whole = whole_header file (first_eight file head is begun) long; own = sym (ap kept_in is) ∙ (sym kept_is ∙ own); short = omega (arith, at_is, short) }, at_is))
+
+pub fault_there : (s : Numbers) (cone : ℕ) (head file : List ℕ) (kept : Kept) → head ≡ take 32 file → take 8 head ≡ magic → 32 ≤ length file → kept ≡ kept_in head → kept ≢ record { cone = cone; numbers = s } → IsHeaderFault s cone file (OtherSettings kept)
+fault_there s cone head file kept is begun long kept_is other =
+    inr (kept, refl, record { whole = whole_header file (first_eight file head is begun) long; kept_is = kept_is ∙ ap kept_in is; other = other })
 
 pub headed_there : (s : Numbers) (cone : ℕ) (head file : List ℕ) (kept : Kept) → ((k : ℕ) → slice_index head k < 256) → length head ≡ 32 → head ≡ take 32 file → take 8 head ≡ magic → 32 < length file → kept ≡ kept_in head → kept ≡ record { cone = cone; numbers = s } → IsHeaded s cone file
 headed_there s cone head file kept small long is begun gate kept_is own =

@@ -2,6 +2,7 @@
 use Rattle.std.proofs.Common.{ℕ, zero, suc, ◌≡◌, ◌≢◌, ◌+◌, ◌*◌, ◌<◌, ◌≤◌, ◌^◌, Bool, true, false, cond, eqb, List, [], ◌∷◌, ◌++◌, length, map, take, drop, get_or, refl, ap, sym, ◌∙◌, subst, arith, append_assoc, length-append}
 use Rattle.std.specs.Prelude.{All, flat_map, replicate, slice_index_or}
 use Rattle.std.specs.List.{AllPairs}
+use Rattle.std.proofs.Math.Nat.{mul-le-mul}
 use Rattle.std.proofs.lemmas.Bool.{eq-eqb, eqb-true, true≢false}
 use Rattle.std.proofs.lemmas.Bool.Decides.{Decides-eqb}
 use Rattle.std.proofs.lemmas.List.{append-nil, take_at}
@@ -71,6 +72,13 @@ directory_fits s cone before one keeps =
     let few = bytes_few one.directory (s.bins + 1) (λ k below. frames_few s (k + 1) one.n0 (slice_index_or one.directory k []) (keeps.frames k (omega (arith, below, keeps.levels)))) in
     omega (arith, few, ap (λ n. n * (1 + (s.bins + 1))) keeps.levels)
 
+-- and finds room
+pub most_directory_fits : (s : Numbers) → IsValid s → most_directory s ≤ 144
+most_directory_fits s valid =
+    let levels : s.levels ≤ 8 = omega (arith, valid.limits.levels_to) in
+    let frames : 2 + s.bins ≤ 18 = omega (arith, valid.limits.bins_to) in
+    mul-le-mul levels frames
+
 -- it stands behind the four fields that begin the payload
 pub directory_there : (one : LogRecord) (payload : List ℕ) (n : ℕ) → payload ≡ log_payload_of one → n ≡ length (directory_bytes one.directory) → take n (drop 25 payload) ≡ directory_bytes one.directory
 directory_there one payload n is n_is =
@@ -82,10 +90,10 @@ directory_there one payload n is n_is =
 
 -- ---- one record more
 
-last_offset-push : (records : List LogRecord) (one : LogRecord) → last_offset (records ++ one ∷ []) ≡ one.offset
+pub last_offset-push : (records : List LogRecord) (one : LogRecord) → last_offset (records ++ one ∷ []) ≡ one.offset
 last_offset-push records one = fold_push (λ (earlier : ℕ) (record_ : LogRecord). record_.offset) 32 records one
 
-last_first-push : (records : List LogRecord) (one : LogRecord) → last_first (records ++ one ∷ []) ≡ one.first
+pub last_first-push : (records : List LogRecord) (one : LogRecord) → last_first (records ++ one ∷ []) ≡ one.first
 last_first-push records one = fold_push (λ (earlier : ℕ) (record_ : LogRecord). record_.first) 1 records one
 
 -- what is said behind a record that was read
@@ -189,6 +197,13 @@ module _ (s : Numbers) (cone : ℕ) (valid : IsValid s) (progress : Progress) (l
       one_bit : (closed : Bool) → cond {A = ℕ} closed 1 0 ≤ 1
       one_bit true = omega arith
       one_bit false = omega arith
+
+  -- so the gate behind them is near
+  pub near : (gate : ℕ) → gate ≤ 8 + steps progress * (5 + most_record s) → most_record s < 2 ^ 27 → gate ≤ 2 ^ 62
+  near gate reach short =
+      let count : steps progress ≤ 4294967296 = omega (arith, steps_few, capacity_to s valid) in
+      let size : 5 + most_record s ≤ 134217733 = omega (arith, short) in
+      omega (arith, reach, mul-le-mul count size)
 
 -- ---- the records in the file
 

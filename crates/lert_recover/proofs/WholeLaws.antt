@@ -9,7 +9,7 @@ use Rattle.lert_reports.specs.LogText.{LogRecord}
 use Rattle.lert_reports.proofs.LogOnce.{one_log, log_or_left, one_left}
 use Rattle.lert_recover.specs.declared.fault.ReopenFault.{ReopenFault}
 use Rattle.lert_recover.specs.declared.fault.ReopenFault.TheVariants.{Failed, Malformed}
-use Rattle.lert_recover.specs.declared.log.LogEnd.{LogEnd}
+use Rattle.lert_cone.specs.declared.log_point.LogPoint.{LogPoint}
 use Rattle.lert_recover.specs.Read.{IsReadOf, AreReportsUpTo}
 use Rattle.lert_recover.proofs.RecordsLaws.{reports_up_to}
 
@@ -41,16 +41,16 @@ module _ (s : Numbers) (cone : ℕ) (valid : IsValid s) (bytes : List ℕ) where
   header_refuses fault at is said leaves = left_there fault at is (said 1) leaves
 
   module _ (reports : List Report) (directory : List ℕ) (Q : List LogRecord → ℕ → Type 0) (log_of : (records : List LogRecord) (end : ℕ) → Q records end → HasLog s cone bytes records end) where
-    abbrev IsRead : LogEnd → List LogRecord → Type 0
+    abbrev IsRead : LogPoint → List LogRecord → Type 0
     IsRead end records = IsReadOf s cone end.n0 end.offset end.first end.closed reports directory records
 
-    abbrev Answers : Result LogEnd ReopenFault → Type 0
+    abbrev Answers : Result LogPoint ReopenFault → Type 0
     Answers result = IfOk result (λ end. (records : List LogRecord) × IsRead end records × Q records end.log_end)
 
-    abbrev Refuses : Result LogEnd ReopenFault → Type 0
+    abbrev Refuses : Result LogPoint ReopenFault → Type 0
     Refuses result = (file at : ℕ) → IsErrOf result (Malformed file at) → LogLeavesAt s cone bytes at
 
-    pub whole_back : (result : Result LogEnd ReopenFault) (records : List LogRecord) (log_end : ℕ) → Answers result → IfErr result IsLogFault → Refuses result → HasLog s cone bytes records log_end →
+    pub whole_back : (result : Result LogPoint ReopenFault) (records : List LogRecord) (log_end : ℕ) → Answers result → IfErr result IsLogFault → Refuses result → HasLog s cone bytes records log_end →
         MatchResult result (λ end. (end.log_end ≡ log_end) × IsRead end records) (λ fault. fault ≡ Failed)
     whole_back (Ok end) records log_end read is said log =
         let same = one_log s cone valid bytes read.0 records end.log_end log_end (log_of read.0 end.log_end read.2) log in
@@ -58,13 +58,13 @@ module _ (s : Numbers) (cone : ℕ) (valid : IsValid s) (bytes : List ℕ) where
     whole_back (Err fault) records log_end read (inl failed) said log = failed
     whole_back (Err fault) records log_end read (inr (at, is)) said log = absurd (log_or_left s cone valid bytes records log_end at log (said 1 at (ap Err is)))
 
-    pub left_back : (result : Result LogEnd ReopenFault) (at : ℕ) → Answers result → IfErr result IsLogFault → Refuses result → LogLeavesAt s cone bytes at →
+    pub left_back : (result : Result LogPoint ReopenFault) (at : ℕ) → Answers result → IfErr result IsLogFault → Refuses result → LogLeavesAt s cone bytes at →
         IsErrAnd result (λ fault. (fault ≡ Failed) ⊎ (fault ≡ Malformed 1 at))
     left_back (Ok end) at read is said leaves = log_or_left s cone valid bytes read.0 end.log_end at (log_of read.0 end.log_end read.2) leaves
     left_back (Err fault) at read is said leaves = left_there fault at is (λ other same. said 1 other (ap Err same)) leaves
 
 -- told or not, the reports that were read
-pub up_to : (s : Numbers) (cone : ℕ) → IsValid s → (reports : List Report) (directory : List ℕ) (Q : List LogRecord → ℕ → Type 0) (result : Result LogEnd ReopenFault) →
+pub up_to : (s : Numbers) (cone : ℕ) → IsValid s → (reports : List Report) (directory : List ℕ) (Q : List LogRecord → ℕ → Type 0) (result : Result LogPoint ReopenFault) →
     IfOk result (λ end. (records : List LogRecord) × IsReadOf s cone end.n0 end.offset end.first end.closed reports directory records × Q records end.log_end) →
     IfOk result (λ end. AreReportsUpTo s cone end.n0 reports)
 up_to s cone valid reports directory Q (Ok end) read =

@@ -1,11 +1,12 @@
 -- What was read of a log, in the words of its records.
-use Rattle.std.specs.Prelude.{◌≡◌, ◌≢◌, ℕ, ◌+◌, ◌*◌, ◌≤◌, Bool, true, cond, All, List, fold, slice_index}
+use Rattle.std.specs.Prelude.{◌≡◌, ◌≢◌, ℕ, ◌+◌, ◌*◌, ◌^◌, ◌≤◌, Bool, true, cond, All, List, fold, slice_index}
 use Rattle.std.specs.List.{AllPairs}
 use Rattle.std.proofs.Common.{◌⊎◌}
 use Rattle.lert_gatelog.specs.Gated.{BreaksAt}
 use Rattle.lert_recover.specs.declared.step.Progress.{Progress}
 use Rattle.lert_spec.specs.declared.numbers.Numbers.{Numbers}
 use Rattle.lert_spec.specs.declared.report.Report.{Report}
+use Rattle.lert_spec.specs.Edges.{edge, capacity}
 use Rattle.lert_spec.specs.Mix.{cone_of}
 use Rattle.lert_reports.specs.Log.{AreRecords, before_of, is_closed, last_directory, last_n0, listed_in}
 use Rattle.lert_reports.specs.LogText.{LogRecord, directory_bytes}
@@ -27,6 +28,15 @@ pub record IsReadOf (s : Numbers) (cone n0 offset first : ℕ) (closed : Bool) (
   pub closed_is : closed ≡ is_closed records
   pub reports_are : reports ≡ listed_in records
   pub directory_is : directory ≡ directory_bytes (last_directory s records)
+
+-- what a log says keeps the rules of its last record, also where it has none: the events are no more than a cone takes, and
+-- the journal is to be read from behind its header, from a position up to the first one of level 0
+pub record IsPoint (s : Numbers) (n0 offset first : ℕ) : Type 0 where
+  pub within : n0 ≤ capacity s
+  pub offset_from : 32 ≤ offset
+  pub offset_to : offset ≤ 2 ^ 46
+  pub first_from : 1 ≤ first
+  pub first_to : first ≤ edge s 0 n0 + 1
 
 -- reports of this cone's keys at the first n positions, no key twice and no position before an earlier one's
 pub record AreReportsUpTo (s : Numbers) (cone n : ℕ) (reports : List Report) : Type 0 where

@@ -1,7 +1,9 @@
 //! Why a cone isn't reopened.
 
 use lert_base::Kept;
+use lert_bay::FRAMES;
 use lert_io::Failed;
+use lert_levels::FlushFault;
 
 #[derive(Clone, Copy, Debug, PartialEq, Eq)]
 pub enum ReopenFault {
@@ -23,5 +25,20 @@ impl From<Failed> for ReopenFault {
 
     fn from(_failed: Failed) -> ReopenFault {
         ReopenFault::Failed
+    }
+}
+
+impl From<FlushFault> for ReopenFault {
+    ghost use Rattle.std.specs.Prelude.{◌≡◌};
+    ghost use Rattle.lert_recover.specs.Opened.{checked_fault};
+
+    ghost from_gives = { λ check fault. fault ≡ checked_fault check };
+
+    fn from(check: FlushFault) -> ReopenFault {
+        match check {
+            FlushFault::Failed => ReopenFault::Failed,
+            FlushFault::Malformed { at } => ReopenFault::Malformed { file: FRAMES, at },
+            FlushFault::OutOfMemory => ReopenFault::OutOfMemory,
+        }
     }
 }

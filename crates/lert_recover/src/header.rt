@@ -5,7 +5,7 @@ ghost use Rattle.lert_base.specs.declared.kept.Kept.{Kept as KeptOf};
 ghost use Rattle.lert_bay.specs.Files.{Files, IfTold};
 ghost use Rattle.lert_bay.specs.Images.{KeepsImages, Lasts};
 ghost use Rattle.lert_io.specs.Fault.{HasRisen};
-ghost use Rattle.lert_recover.specs.Headed.{beginning_left, IsHeaded, HasOther, IsHeaderFault, IsOfHeader};
+ghost use Rattle.lert_recover.specs.Headed.{BeginningLeaves, IsHeaded, HasOther, IsHeaderFault, IsOfHeader};
 
 use crate::fault::ReopenFault;
 use lert_base::{Kept, Settings};
@@ -29,7 +29,7 @@ pub fn read_journal_header<B: Bay>(
     // And what stands there is the answer, but where a call of the bay fails.
     ensures reads_back { IfTold (B.files bay.old) (λ seen. IsHeaded settings.now cone (seen 0) →
         MatchResult result (λ _. Unit {0}) (λ fault. fault ≡ ReopenFault.Failed)) }
-    ensures refuses { IfTold (B.files bay.old) (λ seen. (at : ℕ) → beginning_left (seen 0) ≡ Some at →
+    ensures refuses { IfTold (B.files bay.old) (λ seen. (at : ℕ) → BeginningLeaves settings.now cone (seen 0) at →
         IsErrAnd result (λ fault. (fault ≡ ReopenFault.Failed) ⊎ (fault ≡ ReopenFault.Malformed 0 at))) }
     ensures differs { IfTold (B.files bay.old) (λ seen. (kept : KeptOf) → HasOther settings.now cone (seen 0) kept →
         IsErrAnd result (λ fault. (fault ≡ ReopenFault.Failed) ⊎ (fault ≡ ReopenFault.OtherSettings kept))) }
@@ -69,17 +69,18 @@ fn check_header(
     if let Some(at) = header_left(&head[..count]) {
         return Err(ReopenFault::Malformed { file: JOURNAL, at });
     }
+    let Some(kept) = read_header(head) else {
+        unreachable!()
+    };
+    // Other settings are told of a header alone, too.
+    if !is_own(settings, cone, &kept) {
+        return Err(ReopenFault::OtherSettings { kept });
+    }
     if end <= HEADER_LEN as u64 {
         return Err(ReopenFault::Malformed {
             file: JOURNAL,
             at: end,
         });
-    }
-    let Some(kept) = read_header(head) else {
-        unreachable!()
-    };
-    if !is_own(settings, cone, &kept) {
-        return Err(ReopenFault::OtherSettings { kept });
     }
     Ok(())
 }

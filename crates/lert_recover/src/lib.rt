@@ -1,19 +1,30 @@
-//! The first half of reopening a cone: what its journal's header and its whole log say.
+//! Reopening a cone over the files of a stopped run.
 //!
-//! The one contract is that of `read_whole_log`: Ok comes exactly where the bytes are a log of the cone, a header and records
-//! that keep the rules up to a closed gate, and then the store has the reports of all records in their order; else the answer
-//! names the first place at which the bytes leave the format. `read_journal_header` does the same for the header of the journal,
-//! and tells the numbers that it was written with. Both read alone. The reopening of a cone will stand on them.
+//! `reopen` makes the three files durable, reads the header of the journal, the whole log and the frames that the last record of
+//! the log names, and replays the journal. Files that are sound for a list of packets make a cone that stands for it; else the
+//! answer names the first place at which the files leave their format, the numbers that the journal was written with, or what
+//! shows that the files are sound for no list.
+//!
+//! It stands on `read_files`, which reads what comes before the records of the journal, and this on `read_journal_header` and
+//! `read_whole_log`. These read alone.
 #![tactic(auto)]
 
 mod beginning;
+mod directory;
 mod fault;
 mod header;
 mod log;
+mod opening;
 mod payload;
+mod reopening;
+mod replaying;
 mod reports;
+mod rest;
 mod step;
 
+pub use directory::Directory;
 pub use fault::ReopenFault;
 pub use header::read_journal_header;
-pub use log::{LogEnd, read_whole_log};
+pub use log::read_whole_log;
+pub use opening::read_files;
+pub use reopening::{ReopenRefused, reopen};

@@ -1,71 +1,60 @@
 //! The whole log of a cone.
 
-ghost use Rattle.std.specs.Prelude.{◌≡◌, ◌⊎◌, ℕ, ◌<◌, ◌≤◌, ◌^◌, List, [], length, IfOk, IfErr, MatchResult, IsErrOf, IsErrAnd, vec_capacity, replicate};
+ghost use Rattle.std.specs.Prelude.{◌≡◌, ◌⊎◌, ℕ, ◌<◌, ◌≤◌, ◌^◌, List, [], length, IfOk, IfErr, MatchResult, IsErrOf, IsErrAnd};
 ghost use Rattle.lert_bay.specs.Files.{Files, IfTold};
 ghost use Rattle.lert_bay.specs.Images.{KeepsImages, Lasts};
 ghost use Rattle.lert_bay.specs.Settled.{part};
 ghost use Rattle.lert_frames.specs.Kept.{OnlyRead};
 ghost use Rattle.lert_io.specs.Fault.{HasRisen};
-ghost use Rattle.lert_recover.specs.Read.{IsReadOf, AreReportsUpTo, most_directory};
+ghost use Rattle.lert_levels.specs.Named.{IsDirectory};
+ghost use Rattle.lert_recover.specs.Read.{IsReadOf, IsPoint, AreReportsUpTo};
 ghost use Rattle.lert_reports.specs.Log.{log_header, most_record, HasLog, LogLeavesAt};
 ghost use Rattle.lert_reports.specs.LogText.{LogRecord};
 ghost use Rattle.lert_spec.specs.Limits.{IsValid};
 
 use crate::beginning::{LOG_HEADER_LEN, read_log_header};
+use crate::directory::Directory;
 use crate::fault::ReopenFault;
 use crate::step::{Progress, read_record};
 use lert_base::{CountTable, Settings};
 use lert_bay::{Bay, LOG};
+use lert_cone::LogPoint;
 use lert_gatelog::GateLog;
 use lert_reports::ReportStore;
 
 #[cfg(test)]
 mod tests;
 
-/// What a log says of the files of its cone.
-#[derive(Clone, Copy, Debug, PartialEq, Eq)]
-pub struct LogEnd {
-    /// After how many events the last record was written, 0 where there is none.
-    pub n0: u64,
-    /// The gate in the journal from which it is to be read.
-    pub offset: u64,
-    /// The position of the first key there.
-    pub first: u64,
-    /// Whether the last record is a closing one.
-    pub closed: bool,
-    /// The place of the log's closed gate.
-    pub log_end: u64,
-}
-
 /// Reads the log of a cone from its header to its closed gate. The reports of all records come into the store, which is empty
-/// before, and the directory of the last record takes the place of what is in `directory`, whose room is there before. After
-/// a fault any of these may be in them, and any bytes are in `buffer`. Makes one look-up a report, changes no file and takes
-/// no memory.
+/// before, and the directory of the last record takes the place of what is in `directory`. After a fault any of these may be in
+/// them, and any bytes are in `buffer`. Makes one look-up a report, changes no file and takes no memory.
 pub fn read_whole_log<B: Bay, T: CountTable>(
     bay: &mut B,
     settings: &Settings,
     cone: u32,
     store: &mut ReportStore<T>,
-    directory: &mut Vec<u8>,
+    directory: &mut Directory,
     buffer: &mut [u8],
-) -> Result<LogEnd, ReopenFault>
+) -> Result<LogPoint, ReopenFault>
     requires same { store.old.settings ≡ settings.now }
     requires empty { store.old.reports ≡ [] }
-    requires directory { most_directory settings.now ≤ vec_capacity directory.old }
     requires room { most_record settings.now ≤ length buffer.old }
 
     // Told or not, what was read is that of some records that keep the rules. Where the file is told, they are its log.
     ensures read { IfOk result (λ end. (records : List LogRecord)
-        × IsReadOf settings.now cone end.n0 end.offset end.first end.closed store.new.reports directory.new.items records
+        × IsReadOf settings.now cone end.n0 end.offset end.first end.closed store.new.reports directory.new records
         × IfTold (B.files bay.old) (λ seen. HasLog settings.now cone (seen 1) records end.log_end)) }
     ensures reports { IfOk result (λ end. AreReportsUpTo settings.now cone end.n0 store.new.reports) }
+    ensures point { IfOk result (λ end. IsPoint settings.now end.n0 end.offset end.first) }
+    ensures directory { IfOk result (λ end. IsDirectory settings.now end.n0 directory.new) }
+    ensures reach { IfOk result (λ end. end.log_end ≤ 2 ^ 62) }
     ensures malformed { IfTold (B.files bay.old) (λ seen. (file at : ℕ) → IsErrOf result (ReopenFault.Malformed file at) →
         (file ≡ 1) × LogLeavesAt settings.now cone (seen 1) at) }
 
     // And what stands in the file is the answer, but where a call of the bay fails.
     ensures reads_back { IfTold (B.files bay.old) (λ seen. (records : List LogRecord) (log_end : ℕ) → HasLog settings.now cone (seen 1) records log_end →
         MatchResult result
-        (λ end. (end.log_end ≡ log_end) × IsReadOf settings.now cone end.n0 end.offset end.first end.closed store.new.reports directory.new.items records)
+        (λ end. (end.log_end ≡ log_end) × IsReadOf settings.now cone end.n0 end.offset end.first end.closed store.new.reports directory.new records)
         (λ fault. fault ≡ ReopenFault.Failed)) }
     ensures refuses { IfTold (B.files bay.old) (λ seen. (at : ℕ) → LogLeavesAt settings.now cone (seen 1) at →
         IsErrAnd result (λ fault. (fault ≡ ReopenFault.Failed) ⊎ (fault ≡ ReopenFault.Malformed 1 at))) }
@@ -93,18 +82,18 @@ fn read_records<B: Bay, T: CountTable>(
     settings: &Settings,
     cone: u32,
     store: &mut ReportStore<T>,
-    directory: &mut Vec<u8>,
+    directory: &mut Directory,
     buffer: &mut [u8],
-) -> Result<LogEnd, ReopenFault>
+) -> Result<LogPoint, ReopenFault>
     requires same { store.old.settings ≡ settings.now }
     requires empty { store.old.reports ≡ [] }
-    requires directory { most_directory settings.now ≤ vec_capacity directory.old }
     requires room { most_record settings.now ≤ length buffer.old }
     ensures read { IfOk result (λ end. (records : List LogRecord)
-        × IsReadOf settings.now cone end.n0 end.offset end.first end.closed store.new.reports directory.new.items records
+        × IsReadOf settings.now cone end.n0 end.offset end.first end.closed store.new.reports directory.new records
         × IfTold (B.files bay.old) (λ seen. part (seen 1) 0 8 ≡ log_header → HasLog settings.now cone (seen 1) records end.log_end)) }
     ensures malformed { IfTold (B.files bay.old) (λ seen. part (seen 1) 0 8 ≡ log_header → (file at : ℕ) → IsErrOf result (ReopenFault.Malformed file at) →
         LogLeavesAt settings.now cone (seen 1) at) }
+    ensures reach { IfOk result (λ end. end.log_end ≤ 2 ^ 62) }
     ensures same { store.new.settings ≡ store.old.settings }
     ensures fault { IfErr result (λ fault. (fault ≡ ReopenFault.Failed) ⊎ ((at : ℕ) × (fault ≡ ReopenFault.Malformed 1 at))) }
     ensures only_read { OnlyRead (B.files bay.old) (B.files bay.new) (B.leaves bay.old) (B.leaves bay.new) (B.moment bay.old) (B.moment bay.new) (B.left_since bay.old) (B.left_since bay.new) }
@@ -114,7 +103,7 @@ fn read_records<B: Bay, T: CountTable>(
 {
     let mut log = GateLog::at_gate(LOG, LOG_HEADER_LEN as u64, most_record(settings));
     let mut progress = Progress::new();
-    clear_directory(settings, directory);
+    directory.clear(settings.numbers().levels as usize);
     'records: loop {
         if !read_record(
             &mut log,
@@ -126,7 +115,7 @@ fn read_records<B: Bay, T: CountTable>(
             directory,
             buffer,
         )? {
-            return Ok(LogEnd {
+            return Ok(LogPoint {
                 n0: progress.before.n0,
                 offset: progress.offset,
                 first: progress.first,
@@ -145,17 +134,4 @@ fn most_record(settings: &Settings) -> u32
 {
     let numbers = settings.numbers();
     (29 + numbers.levels * (1 + numbers.bins) + 16 * numbers.room) as u32
-}
-
-// Puts a directory without frames in the place of another.
-fn clear_directory(settings: &Settings, directory: &mut Vec<u8>)
-    requires { most_directory settings.now ≤ vec_capacity directory.old }
-    ensures items { directory.new.items ≡ replicate settings.now.levels 0 }
-    ensures directory { vec_capacity directory.new ≡ vec_capacity directory.old }
-{
-    let levels = settings.numbers().levels as usize;
-    directory.clear();
-    while directory.len() < levels {
-        directory.push_reserved(0);
-    }
 }

@@ -1,14 +1,15 @@
 //! One record of the log more.
 
-ghost use Rattle.std.specs.Prelude.{◌≡◌, ◌⊎◌, ℕ, ◌+◌, ◌*◌, ◌<◌, ◌≤◌, ◌^◌, true, false, List, [], ◌∷◌, ◌++◌, length, IfOk, IfErr, MatchResult, IsTrue, IsFalse, IsErrOf, cond, vec_capacity};
+ghost use Rattle.std.specs.Prelude.{◌≡◌, ◌⊎◌, ℕ, ◌+◌, ◌*◌, ◌<◌, ◌≤◌, ◌^◌, true, false, List, [], ◌∷◌, ◌++◌, length, IfOk, IfErr, MatchResult, IsTrue, IsFalse, IsErrOf, cond};
 ghost use Rattle.lert_bay.specs.Files.{Files, IfTold};
 ghost use Rattle.lert_frames.specs.Kept.{OnlyRead};
 ghost use Rattle.lert_gatelog.specs.Gated.{IsOpen, IsClosed, next_gate};
 ghost use Rattle.lert_io.specs.Fault.{HasRisen};
-ghost use Rattle.lert_recover.specs.Read.{HasRead, most_directory, steps};
+ghost use Rattle.lert_recover.specs.Read.{HasRead, steps};
 ghost use Rattle.lert_reports.specs.Log.{is_closing, is_flush, last_at, most_record, PayloadLeavesAt, HasLogUpTo, LogLeavesAt};
 ghost use Rattle.lert_reports.specs.LogText.{LogRecord, log_payload_of};
 
+use crate::directory::Directory;
 use crate::fault::ReopenFault;
 use crate::payload::read_payload;
 use crate::reports::{first_left, put_reports};
@@ -53,7 +54,7 @@ pub fn read_record<B: Bay, T: CountTable>(
     cone: u32,
     progress: &mut Progress,
     store: &mut ReportStore<T>,
-    directory: &mut Vec<u8>,
+    directory: &mut Directory,
     buffer: &mut [u8],
 ) -> Result<bool, ReopenFault>
     requires file { log.old.file ≡ 1 }
@@ -61,23 +62,21 @@ pub fn read_record<B: Bay, T: CountTable>(
     requires reach { log.old.gate ≤ 2 ^ 62 }
     requires room { most_record settings.now ≤ length buffer.old }
     requires same { store.old.settings ≡ settings.now }
-    requires directory { most_directory settings.now ≤ vec_capacity directory.old }
-    requires read { (records : List LogRecord) × HasRead settings.now cone progress.old store.old.reports directory.old.items records }
-    ensures more { (records : List LogRecord) → HasRead settings.now cone progress.old store.old.reports directory.old.items records →
+    requires read { (records : List LogRecord) × HasRead settings.now cone progress.old store.old.reports directory.old records }
+    ensures more { (records : List LogRecord) → HasRead settings.now cone progress.old store.old.reports directory.old records →
         IfOk result (λ more. IsTrue more → (one : LogRecord)
-        × HasRead settings.now cone progress.new store.new.reports directory.new.items (records ++ one ∷ [])
+        × HasRead settings.now cone progress.new store.new.reports directory.new (records ++ one ∷ [])
         × IfTold (B.files bay.old) (λ seen. HasLogUpTo settings.now cone (seen 1) records log.old.gate → HasLogUpTo settings.now cone (seen 1) (records ++ one ∷ []) log.new.gate)) }
     ensures closed { IfTold (B.files bay.old) (λ seen. IfOk result (λ more. IsFalse more → IsClosed (seen 1) log.old.gate)) }
     ensures malformed { IfTold (B.files bay.old) (λ seen. (records : List LogRecord) →
-        HasRead settings.now cone progress.old store.old.reports directory.old.items records → HasLogUpTo settings.now cone (seen 1) records log.old.gate →
+        HasRead settings.now cone progress.old store.old.reports directory.old records → HasLogUpTo settings.now cone (seen 1) records log.old.gate →
         (file at : ℕ) → IsErrOf result (ReopenFault.Malformed file at) → LogLeavesAt settings.now cone (seen 1) at) }
     ensures waits { IfOk result (λ more. IsFalse more → (log.new ≡ log.old) × (progress.new ≡ progress.old)
-        × (store.new ≡ store.old) × (directory.new.items ≡ directory.old.items)) }
+        × (store.new ≡ store.old) × (directory.new ≡ directory.old)) }
     ensures steps { IfOk result (λ more. IsTrue more → steps progress.new ≡ steps progress.old + 1) }
     ensures forward { IfOk result (λ more. IsTrue more → log.new.gate ≤ log.old.gate + 5 + most_record settings.now) }
     ensures log { IfOk result (λ _. (log.new.file ≡ log.old.file) × (log.new.most ≡ log.old.most)) }
     ensures same { store.new.settings ≡ store.old.settings }
-    ensures directory { vec_capacity directory.new ≡ vec_capacity directory.old }
     ensures fault { IfErr result (λ fault. (fault ≡ ReopenFault.Failed) ⊎ ((at : ℕ) × (fault ≡ ReopenFault.Malformed 1 at))) }
     ensures only_read { OnlyRead (B.files bay.old) (B.files bay.new) (B.leaves bay.old) (B.leaves bay.new) (B.moment bay.old) (B.moment bay.new) (B.left_since bay.old) (B.left_since bay.new) }
     ensures never_falls { B.faults bay.old ≤ B.faults bay.new }
@@ -105,21 +104,19 @@ fn take_record<T: CountTable>(
     payload: &[u8],
     progress: &mut Progress,
     store: &mut ReportStore<T>,
-    directory: &mut Vec<u8>,
+    directory: &mut Directory,
 ) -> Result<(), u64>
     requires same { store.old.settings ≡ settings.now }
     requires short { length payload.now < 2 ^ 32 }
-    requires directory { most_directory settings.now ≤ vec_capacity directory.old }
     requires still_open { progress.old.closed ≡ false }
-    requires read { (records : List LogRecord) × HasRead settings.now cone progress.old store.old.reports directory.old.items records }
-    ensures taken { (records : List LogRecord) → HasRead settings.now cone progress.old store.old.reports directory.old.items records →
+    requires read { (records : List LogRecord) × HasRead settings.now cone progress.old store.old.reports directory.old records }
+    ensures taken { (records : List LogRecord) → HasRead settings.now cone progress.old store.old.reports directory.old records →
         MatchResult result
-        (λ _. (one : LogRecord) × HasRead settings.now cone progress.new store.new.reports directory.new.items (records ++ one ∷ []) × (payload.now ≡ log_payload_of one))
+        (λ _. (one : LogRecord) × HasRead settings.now cone progress.new store.new.reports directory.new (records ++ one ∷ []) × (payload.now ≡ log_payload_of one))
         (λ place. PayloadLeavesAt settings.now cone records payload.now place) }
     ensures steps { IfOk result (λ _. steps progress.new ≡ steps progress.old + 1) }
     ensures within { IfErr result (λ place. place < 2 ^ 40) }
     ensures same { store.new.settings ≡ store.old.settings }
-    ensures directory { vec_capacity directory.new ≡ vec_capacity directory.old }
 {
     // Its clause says that the numbers are valid.
     let _ = settings.numbers();
@@ -129,10 +126,7 @@ fn take_record<T: CountTable>(
             if let Some(number) = put_reports(store, payload, parts.reports_at, count) {
                 return Err((parts.reports_at + 16 * number) as u64);
             }
-            put_directory(
-                &payload[parts.directory_at..parts.reports_at - 4],
-                directory,
-            );
+            directory.replace(&payload[parts.directory_at..parts.reports_at - 4]);
             *progress = after(progress, &parts, store);
             Ok(())
         }
@@ -177,17 +171,5 @@ fn last_at(reports: &[Report]) -> u64
     match reports.last() {
         Some(report) => report.at,
         None => 0,
-    }
-}
-
-// Puts bytes in the place of those of a directory.
-fn put_directory(bytes: &[u8], directory: &mut Vec<u8>)
-    requires { length bytes.now ≤ vec_capacity directory.old }
-    ensures items { directory.new.items ≡ bytes.now }
-    ensures directory { vec_capacity directory.new ≡ vec_capacity directory.old }
-{
-    directory.clear();
-    for byte in bytes {
-        directory.push_reserved(*byte);
     }
 }

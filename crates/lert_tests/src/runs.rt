@@ -1,4 +1,4 @@
-//! Runs over one trace and bays in memory.
+//! Runs over one trace and bays in memory, and recoveries of what they left.
 
 ghost use Rattle.std.specs.Prelude.{◌≡◌, [], IfOk};
 
@@ -13,6 +13,7 @@ use std::test::Fail;
 mod cones;
 mod disks;
 mod faults;
+mod recovery;
 mod reports;
 mod usage;
 
@@ -80,6 +81,40 @@ fn long_form<'a>(numbers: [&'a str; 8]) -> [&'a str; 19] {
         packet,
         "d",
         "a",
+    ]
+}
+
+// The words of `recover`, with its eight numbers.
+fn recover_form<'a>(numbers: [&'a str; 8]) -> [&'a str; 18] {
+    let [
+        threshold,
+        bins,
+        ratio,
+        base,
+        levels,
+        cone_bits,
+        room,
+        packet,
+    ] = numbers;
+    [
+        "recover",
+        "--threshold",
+        threshold,
+        "--bins",
+        bins,
+        "--ratio",
+        ratio,
+        "--base",
+        base,
+        "--levels",
+        levels,
+        "--cone-bits",
+        cone_bits,
+        "--room",
+        room,
+        "--packet",
+        packet,
+        "d",
     ]
 }
 

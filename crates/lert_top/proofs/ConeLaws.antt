@@ -13,7 +13,7 @@ use Rattle.lert_top.specs.Bays.{AreFresh, AreLater, IsLater, bays_of}
 use Rattle.lert_top.specs.Run.{IsUnmade}
 use Rattle.lert_top.specs.Status.{create_status}
 use Rattle.lert_top.specs.declared.status.Status.{Status}
-use Rattle.lert_top.specs.declared.status.Status.TheVariants.{Done, Usage, PlaceFault, TraceFault, BadTrace, TooLong, NotFresh, BayFault, CapacityFull, Malformed, OutFault, OutOfMemory}
+use Rattle.lert_top.specs.declared.status.Status.TheVariants.{Done, Usage, PlaceFault, TraceFault, BadTrace, TooLong, NotFresh, BayFault, CapacityFull, Malformed, OtherSettings, OutFault, OutOfMemory}
 use Rattle.lert_top.proofs.BayLaws.{are_more, bays_of-push, failed_since, later_seam, slice_get-first, slice_get-seam}
 
 -- a fact of each item and its place, with one item more behind the list
@@ -89,5 +89,6 @@ module _ {B : Type 0} (files : B → Option Files) (faults mark : B → ℕ) whe
   unmade_since first then now one two fresh fresh_then (BayFault cone) unmade = failed_since files faults mark first then now cone one two unmade
   unmade_since first then now one two fresh fresh_then (CapacityFull cone n len) unmade = absurd unmade
   unmade_since first then now one two fresh fresh_then (Malformed cone file at) unmade = absurd unmade
+  unmade_since first then now one two fresh fresh_then (OtherSettings cone) unmade = absurd unmade
   unmade_since first then now one two fresh fresh_then OutFault unmade = absurd unmade
   unmade_since first then now one two fresh fresh_then OutOfMemory unmade = tt

@@ -8,7 +8,7 @@ use Rattle.lert_io.specs.Fault.{HasRisen, IsFaultless}
 use Rattle.lert_spec.specs.Trace.{left, whole}
 use Rattle.lert_spec.specs.declared.numbers.Numbers.{Numbers}
 use Rattle.lert_top.specs.declared.status.Status.{Status}
-use Rattle.lert_top.specs.declared.status.Status.TheVariants.{Done, Usage, PlaceFault, TraceFault, BadTrace, TooLong, NotFresh, BayFault, CapacityFull, Malformed, OutFault, OutOfMemory}
+use Rattle.lert_top.specs.declared.status.Status.TheVariants.{Done, Usage, PlaceFault, TraceFault, BadTrace, TooLong, NotFresh, BayFault, CapacityFull, Malformed, OtherSettings, OutFault, OutOfMemory}
 use Rattle.lert_top.specs.Bays.{AreFaultless, AreFresh, AreLater, AreToldFresh, HasFailed, IsStale, IsUntold}
 use Rattle.lert_top.specs.Run.{AllFit, HasRun, HasThem, IsFull, IsOver, IsUnmade, StatusShows, StopShows, ArePartly, is_past_freshness, most_keys}
 use Rattle.lert_top.specs.Word.{word_at}
@@ -25,7 +25,7 @@ pub word_at-slice_get : (words : List (List ℕ)) (number : ℕ) (word : List �
 word_at-slice_get words number word at = sym (get_or_from_slice_get words number word [] at)
 
 -- what rose had no room for a count without a fault
-no_rise : (a b : ℕ) → IsFaultless a b → HasRisen a b → ⊥
+pub no_rise : (a b : ℕ) → IsFaultless a b → HasRisen a b → ⊥
 no_rise a b none rose = absurd (omega (arith, none.same, rose none.below_last))
 
 -- bytes that leave their format aren't well formed
@@ -33,7 +33,7 @@ leaves_or_not : (bytes : List ℕ) (at : ℕ) → left bytes ≡ None → left b
 leaves_or_not bytes at formed leaves = cc
 
 -- no fault of a bay was counted, or one was
-failed_or_not : {B : Type 0} (faults : B → ℕ) (bays later : List B) (cone : ℕ) → AreFaultless faults bays later → HasFailed faults bays later cone → ⊥
+pub failed_or_not : {B : Type 0} (faults : B → ℕ) (bays later : List B) (cone : ℕ) → AreFaultless faults bays later → HasFailed faults bays later cone → ⊥
 failed_or_not faults bays later cone none failed =
     no_rise (faults failed.before) (faults failed.now) (none cone failed.before failed.now failed.was failed.is) failed.rose
 
@@ -78,6 +78,7 @@ module _ {S K B : Type 0} (remaining : S → Option (List ℕ)) (faults : S → 
       (failed_since files bay_faults mark first then now cone one two shows.0, shows.1, shows.2)
   shows_since mark opened back before after first then now stale one two (CapacityFull cone n len) shows = shows
   shows_since mark opened back before after first then now stale one two (Malformed cone file at) shows = (untold_since files bay_faults mark first then cone one shows.0, shows.1, shows.2)
+  shows_since mark opened back before after first then now stale one two (OtherSettings cone) shows = absurd shows
   shows_since mark opened back before after first then now stale one two OutFault shows =
       (shows.0, λ bytes was. let all = shows.1 bytes was in (all.0, all.1, λ told. all.2 (told_later files bay_faults mark first then one told)))
   shows_since mark opened back before after first then now stale one two OutOfMemory shows = shows
@@ -95,6 +96,7 @@ module _ {S K B : Type 0} (remaining : S → Option (List ℕ)) (faults : S → 
   shows_unmade opened back before bays later same (BayFault cone) unmade = (unmade, refl, inl same)
   shows_unmade opened back before bays later same (CapacityFull cone n len) unmade = absurd unmade
   shows_unmade opened back before bays later same (Malformed cone file at) unmade = absurd unmade
+  shows_unmade opened back before bays later same (OtherSettings cone) unmade = absurd unmade
   shows_unmade opened back before bays later same OutFault unmade = absurd unmade
   shows_unmade opened back before bays later same OutOfMemory unmade = (refl, inl same)
 
@@ -112,6 +114,7 @@ module _ {S K B : Type 0} (remaining : S → Option (List ℕ)) (faults : S → 
   shows_stopped opened back before bays later stale parts (BayFault cone) stopped = (stopped, refl, inr parts)
   shows_stopped opened back before bays later stale parts (CapacityFull cone n len) stopped = (stopped.0, stopped.1, refl, parts)
   shows_stopped opened back before bays later stale parts (Malformed cone file at) stopped = (stopped, refl, parts)
+  shows_stopped opened back before bays later stale parts (OtherSettings cone) stopped = absurd stopped
   shows_stopped opened back before bays later stale parts OutFault stopped = absurd stopped
   shows_stopped opened back before bays later stale parts OutOfMemory stopped = (refl, inr parts)
 
@@ -157,6 +160,7 @@ module _ {S K B : Type 0} (remaining : S → Option (List ℕ)) (faults : S → 
     stale_exactly cone bay seen none there told not_empty lower (BayFault other) shows fresh = absurd (failed_or_not bay_faults bays later other none shows.0)
     stale_exactly cone bay seen none there told not_empty lower (CapacityFull other n len) shows fresh = absurd (not_empty (fresh refl cone bay there seen told))
     stale_exactly cone bay seen none there told not_empty lower (Malformed other file at) shows fresh = absurd (not_empty (fresh refl cone bay there seen told))
+    stale_exactly cone bay seen none there told not_empty lower (OtherSettings other) shows fresh = absurd shows
     stale_exactly cone bay seen none there told not_empty lower OutFault shows fresh = absurd (not_empty (fresh refl cone bay there seen told))
     stale_exactly cone bay seen none there told not_empty lower OutOfMemory shows fresh = inr refl
 
@@ -175,6 +179,7 @@ module _ {S K B : Type 0} (remaining : S → Option (List ℕ)) (faults : S → 
       bad_exactly (BayFault cone) shows at leaves fits = absurd (failed_or_not bay_faults bays later cone bays_none shows.0)
       bad_exactly (CapacityFull cone n len) shows at leaves fits = absurd (full_or_not (whole bytes) cone n len shows.0 (shows.1 bytes was) fits)
       bad_exactly (Malformed cone file place) shows at leaves fits = absurd (untold_or_not files bays cone fresh shows.0)
+      bad_exactly (OtherSettings cone) shows at leaves fits = absurd shows
       bad_exactly OutFault shows at leaves fits = absurd (leaves_or_not bytes at (shows.1 bytes was).0.to_end.well_formed leaves)
       bad_exactly OutOfMemory shows at leaves fits = inr refl
 
@@ -190,6 +195,7 @@ module _ {S K B : Type 0} (remaining : S → Option (List ℕ)) (faults : S → 
       full_exactly (BayFault cone) shows formed over named many = absurd (failed_or_not bay_faults bays later cone bays_none shows.0)
       full_exactly (CapacityFull cone n len) shows formed over named many = inl (cone, n, len, refl)
       full_exactly (Malformed cone file place) shows formed over named many = absurd (untold_or_not files bays cone fresh shows.0)
+      full_exactly (OtherSettings cone) shows formed over named many = absurd shows
       full_exactly OutFault shows formed over named many = absurd (over_or_not (whole bytes) over named (shows.1 bytes was).0.fits many)
       full_exactly OutOfMemory shows formed over named many = inr refl
 
@@ -204,6 +210,7 @@ module _ {S K B : Type 0} (remaining : S → Option (List ℕ)) (faults : S → 
       complete (BayFault cone) shows kept formed fits = absurd (failed_or_not bay_faults bays later cone bays_none shows.0)
       complete (CapacityFull cone n len) shows kept formed fits = absurd (full_or_not (whole bytes) cone n len shows.0 (shows.1 bytes was) fits)
       complete (Malformed cone file place) shows kept formed fits = absurd (untold_or_not files bays cone fresh shows.0)
+      complete (OtherSettings cone) shows kept formed fits = absurd shows
       complete OutFault shows kept formed fits = absurd (no_rise (sink_faults before) (sink_faults after) kept shows.0)
       complete OutOfMemory shows kept formed fits = inr refl
 

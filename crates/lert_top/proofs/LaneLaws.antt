@@ -13,7 +13,7 @@ use Rattle.lert_buffers.specs.declared.buffers.Fill.TheVariants.{Low, MustGo, Re
 use Rattle.lert_cone.proofs.SoundLaws.{events_more}
 use Rattle.lert_cone.specs.Listing.{Listing}
 use Rattle.lert_cone.specs.Sound.{IsSound, IsSoundAs, IsSoundOver}
-use Rattle.lert_cone.specs.Stands.{IsSameCone, Standing, StandsFor, is_broken, is_refusal}
+use Rattle.lert_cone.specs.Stands.{IsSameCone, Standing, StandsFor, WasSound, is_broken, is_refusal}
 use Rattle.lert_cone.specs.declared.refusal.ConeFault.{ConeFault}
 use Rattle.lert_cone.specs.declared.refusal.ConeFault.TheVariants as fault
 use Rattle.lert_cone.specs.declared.state.ConeState.TheVariants.{Finished}
@@ -66,11 +66,20 @@ abbrev pub packet_with : List ℕ → Packet
 packet_with keys = record { by = 0; trace = 0; keys = keys }
 
 module _ {B : Type 0} (files : B → Option Files) (leaves : B → Files → Type 0) (faults : B → ℕ) (s : Numbers) where
+  -- the same cone's files were sound as it was made
+  sound_still : (old new : Standing B) → IsSameCone old new → WasSound files old → WasSound files new
+  sound_still old new same sound = λ first told.
+      let was = sound first (ap files (sym same.made) ∙ told) in (
+        was.0,
+        subst (λ n. IsSound new.listing.settings n was.0 first) (sym same.cone)
+            (subst (λ (t : Numbers). IsSound t old.listing.cone was.0 first) (sym same.settings) was.1),
+      )
+
   -- what the files of a cone hold, broken or not
-  partly_of : (number : ℕ) (keys : List ℕ) (standing : Standing B) (history : List Packet) → StandsFor files leaves faults standing history →
+  partly_of : (number : ℕ) (keys : List ℕ) (standing : Standing B) (history : List Packet) → StandsFor files leaves faults standing history → WasSound files standing →
       standing.listing.settings ≡ s → standing.listing.cone ≡ number → IsPartWoven s number 1 (keys ∷ []) history →
       ((over : Packet) → standing.over ≡ Some over → IsPartWoven s number 1 (keys ∷ []) (history ++ over ∷ [])) → IfTold (files standing.bay) (HoldsPart s keys number)
-  partly_of number keys standing history stands settings cone part over_part = λ seen told. by_state seen told (is_broken standing.state) refl
+  partly_of number keys standing history stands was settings cone part over_part = λ seen told. by_state seen told (is_broken standing.state) refl
     where
       of_cone : (h : List Packet) (seen : Files) → IsSound standing.listing.settings standing.listing.cone h seen → IsSound s number h seen
       of_cone h seen sound = subst (λ n. IsSound s n h seen) cone (subst (λ (t : Numbers). IsSound t standing.listing.cone h seen) settings sound)
@@ -80,8 +89,8 @@ module _ {B : Type 0} (files : B → Option Files) (leaves : B → Files → Typ
       by_sound seen (inr more) = record { history = history ++ more.0 ∷ []; woven = over_part more.0 more.1; sound = of_cone (history ++ more.0 ∷ []) seen more.2 }
 
       by_state : (seen : Files) → files standing.bay ≡ Some seen → (b : Bool) → is_broken standing.state ≡ b → HoldsPart s keys number seen
-      by_state seen told false is = record { history = history; woven = part; sound = of_cone history seen (stands.whole is seen told).files.kept.as_read.sound }
-      by_state seen told true is = by_sound seen (stands.broken is seen told).as_read
+      by_state seen told false is = record { history = history; woven = part; sound = of_cone history seen (stands.whole is was seen told).files.kept.as_read.sound }
+      by_state seen told true is = by_sound seen (stands.broken is was seen told).as_read
 
   module _ (from number : ℕ) (finished : Bool) (keys waiting : List ℕ) (cones : List (Standing B))
       (lane : IsLane files leaves faults s from number (part_of s number keys) finished (slice_get cones number) waiting) where
@@ -92,7 +101,7 @@ module _ {B : Type 0} (files : B → Option Files) (leaves : B → Files → Typ
     lane_part = part_woven s number lane.history lane.each lane.cut keys waiting lane.joined
 
     lane_kept : (seen : Files) → files lane.standing.bay ≡ Some seen → IsSoundAs s number finished lane.history seen
-    lane_kept seen told = subst (λ (l : Listing). IsSoundAs l.settings l.cone l.closed lane.history seen) lane.listing_is (lane.stands.whole whole_lane seen told).files.kept.as_read
+    lane_kept seen told = subst (λ (l : Listing). IsSoundAs l.settings l.cone l.closed lane.history seen) lane.listing_is (lane.stands.whole whole_lane lane.sound seen told).files.kept.as_read
 
     lane_sound : (seen : Files) → files lane.standing.bay ≡ Some seen → IsSound s number lane.history seen
     lane_sound seen told = (lane_kept seen told).sound
@@ -160,6 +169,7 @@ module _ {B : Type 0} (files : B → Option Files) (leaves : B → Files → Typ
             history = lane.history;
             cone_is = lane.cone_is;
             stands = lane.stands;
+            sound = lane.sound;
             listing_is = lane.listing_is;
             state_is = lane.state_is;
             each = lane.each;
@@ -189,6 +199,7 @@ module _ {B : Type 0} (files : B → Option Files) (leaves : B → Files → Typ
                   history = lane.history;
                   cone_is = lane.cone_is;
                   stands = lane.stands;
+                  sound = lane.sound;
                   listing_is = lane.listing_is;
                   state_is = lane.state_is;
                   each = lane.each;
@@ -208,6 +219,7 @@ module _ {B : Type 0} (files : B → Option Files) (leaves : B → Files → Typ
                   history = lane.history;
                   cone_is = lane.cone_is;
                   stands = lane.stands;
+                  sound = lane.sound;
                   listing_is = lane.listing_is;
                   state_is = lane.state_is;
                   each = lane.each;
@@ -240,6 +252,9 @@ module _ {B : Type 0} (files : B → Option Files) (leaves : B → Files → Typ
       pub lane_stands : StandsFor files leaves faults old (lanes.each at below).history
       lane_stands = subst (λ (c : Standing B). StandsFor files leaves faults c (lanes.each at below).history) (sym old_is) (lanes.each at below).stands
 
+      pub lane_was_sound : WasSound files old
+      lane_was_sound = subst (WasSound files) (sym old_is) (lanes.each at below).sound
+
       -- a lane over another cone in the place of this one
       abbrev LaneTo : ℕ → Bool → Standing B → List ℕ → Type 0
       LaneTo to b new waiting = IsLane files leaves faults s to at (part_of s at keys) b (slice_get (set cones at new) at) waiting
@@ -257,6 +272,7 @@ module _ {B : Type 0} (files : B → Option Files) (leaves : B → Files → Typ
             history = lane.history;
             cone_is = slice_get-set_other cones at cone new other ∙ lane.cone_is;
             stands = lane.stands;
+            sound = lane.sound;
             listing_is = subst (λ (e : Bool). lane.standing.listing ≡ record { settings = s; cone = cone; events = events_of lane.history; closed = e }) is lane.listing_is;
             state_is = lane.state_is ∙ ap state_of is;
             each = lane.each;
@@ -266,10 +282,10 @@ module _ {B : Type 0} (files : B → Option Files) (leaves : B → Files → Typ
           }
 
       -- a cone is finished
-      pub lanes_close : (new : Standing B) → new.listing ≡ record old.listing { closed = true } → new.state ≡ Finished →
+      pub lanes_close : (new : Standing B) → IsSameCone old new → new.listing ≡ record old.listing { closed = true } → new.state ≡ Finished →
           ((h : List Packet) → StandsFor files leaves faults old h → StandsFor files leaves faults new h) →
           (other : ℕ → Bool) → other at ≡ true → ((cone : ℕ) → cone ≢ at → finished cone ≡ other cone) → AreLanes files leaves faults s from other (set cones at new) rings keys
-      lanes_close new listed state stands other ends same =
+      lanes_close new kept listed state stands other ends same =
           let here = lanes.each at below in
           record {
             valid = lanes.valid;
@@ -283,6 +299,7 @@ module _ {B : Type 0} (files : B → Option Files) (leaves : B → Files → Typ
                     history = here.history;
                     cone_is = slice_get-set_same cones at new inside;
                     stands = stands here.history lane_stands;
+                    sound = sound_still old new kept lane_was_sound;
                     listing_is =
                         listed
                         ∙ (ap (λ (l : Listing). record l { closed = true }) lane_listing
@@ -309,7 +326,7 @@ module _ {B : Type 0} (files : B → Option Files) (leaves : B → Files → Typ
                 let bay_same = bay_is (set cones at new) at new bay (slice_get-set_same cones at new inside) (ap (slice_get (bays_of (set cones at new))) (sym equal) ∙ there) in
                 let none = lane_stands.none_over (ap is_broken lane_state ∙ unbroken (finished at)) in
                 subst (λ c. IfTold (files bay) (HoldsPart s keys c)) (sym equal) (subst (λ b. IfTold (files b) (HoldsPart s keys at)) (sym bay_same)
-                (partly_of at keys new here.history (stands here.history lane_stands)
+                (partly_of at keys new here.history (stands here.history lane_stands) (sound_still old new kept lane_was_sound)
                 (kept.settings ∙ ap (λ (l : Listing). l.settings) lane_listing)
                 (kept.cone ∙ ap (λ (l : Listing). l.cone) lane_listing)
                 (part_woven s at here.history here.each here.cut keys (ring_of rings at) here.joined)
@@ -337,13 +354,13 @@ module _ {B : Type 0} (files : B → Option Files) (leaves : B → Files → Typ
 
       -- why it isn't finished
       pub unfinished_by : (new : Standing B) (refusal : ConeFault) → is_refusal refusal ≡ false → (refusal ≡ fault.BayFailed → HasRisen (faults old.bay) (faults new.bay)) →
-          ((file place : ℕ) → refusal ≡ fault.Unsound file place → (h : List Packet) → StandsFor files leaves faults old h → files old.bay ≡ None) →
+          ((file place : ℕ) → refusal ≡ fault.Unsound file place → (h : List Packet) → StandsFor files leaves faults old h → WasSound files old → files old.bay ≡ None) →
           IsRefused files faults s (bays_of cones) (bays_of (set cones at new)) keys (cone_status at refusal)
       unfinished_by new fault.Closed broke failed unsound = absurd cc
       unfinished_by new fault.Broken broke failed unsound = absurd cc
       unfinished_by new (fault.CapacityFull n len) broke failed unsound = absurd cc
       unfinished_by new fault.BayFailed broke failed unsound = cone_failed new (failed refl)
-      unfinished_by new (fault.Unsound file place) broke failed unsound = cone_untold (unsound file place refl (lanes.each at below).history lane_stands)
+      unfinished_by new (fault.Unsound file place) broke failed unsound = cone_untold (unsound file place refl (lanes.each at below).history lane_stands lane_was_sound)
       unfinished_by new fault.OutOfMemory broke failed unsound = tt
 
       module _ (first : from ≤ at) (some : 1 ≤ length (ring_of rings at)) (few : length (ring_of rings at) ≤ 4 * s.packet) where
@@ -381,11 +398,11 @@ module _ {B : Type 0} (files : B → Option Files) (leaves : B → Files → Typ
             ∙ (events_more (lanes.each at below).history (packet_with ring) ∙ (lanes.each at below).joined)
 
         -- the packet is in the cone
-        pub lanes_hand : (to : ℕ) → from ≤ to → (to ≤ at → length ring ≡ s.packet) → (new : Standing B) →
+        pub lanes_hand : (to : ℕ) → from ≤ to → (to ≤ at → length ring ≡ s.packet) → (new : Standing B) → IsSameCone old new →
             ((h : List Packet) → StandsFor files leaves faults old h → StandsFor files leaves faults new (h ++ packet_with ring ∷ [])) →
             new.listing ≡ record old.listing { events = old.listing.events ++ ring } → new.state ≡ old.state →
             AreLanes files leaves faults s to finished (set cones at new) (with_ring rings at []) keys
-        lanes_hand to grows full new stands listed state =
+        lanes_hand to grows full new kept stands listed state =
             let here = lanes.each at below in
             let packet = packet_with ring in
             let within : at < length rings.rings = omega (arith, below, lanes.rings_number) in
@@ -402,6 +419,7 @@ module _ {B : Type 0} (files : B → Option Files) (leaves : B → Files → Typ
                       history = here.history ++ packet ∷ [];
                       cone_is = slice_get-set_same cones at new inside;
                       stands = stands here.history lane_stands;
+                      sound = sound_still old new kept lane_was_sound;
                       listing_is =
                           listed
                           ∙ (ap (λ (l : Listing). record l { events = l.events ++ ring }) lane_listing
@@ -418,7 +436,7 @@ module _ {B : Type 0} (files : B → Option Files) (leaves : B → Files → Typ
 
         module _ (new : Standing B) (refusal : ConeFault) (stays : (h : List Packet) → StandsFor files leaves faults old h → StandsFor files leaves faults new h)
             (unchanged : is_refusal refusal ≡ true → new ≡ old) (left_over : is_refusal refusal ≡ false → new.over ≡ Some (packet_with ring))
-            (settings : new.listing.settings ≡ old.listing.settings) (number : new.listing.cone ≡ old.listing.cone) where
+            (kept : IsSameCone old new) where
           over_woven : (b : Bool) → is_refusal refusal ≡ b → (over : Packet) → new.over ≡ Some over → IsPartWoven s at 1 (keys ∷ []) ((lanes.each at below).history ++ over ∷ [])
           over_woven true is over there =
               let none = lane_stands.none_over (ap is_broken lane_state ∙ unbroken (finished at)) in
@@ -437,8 +455,8 @@ module _ {B : Type 0} (files : B → Option Files) (leaves : B → Files → Typ
                     let here = lanes.each at below in
                     let bay_same = bay_is (set cones at new) at new bay (slice_get-set_same cones at new inside) (ap (slice_get (bays_of (set cones at new))) (sym equal) ∙ there) in
                     subst (λ c. IfTold (files bay) (HoldsPart s keys c)) (sym equal) (subst (λ b. IfTold (files b) (HoldsPart s keys at)) (sym bay_same)
-                    (partly_of at keys new here.history (stays here.history lane_stands)
-                    (settings ∙ ap (λ (l : Listing). l.settings) lane_listing) (number ∙ ap (λ (l : Listing). l.cone) lane_listing)
+                    (partly_of at keys new here.history (stays here.history lane_stands) (sound_still old new kept lane_was_sound)
+                    (kept.settings ∙ ap (λ (l : Listing). l.settings) lane_listing) (kept.cone ∙ ap (λ (l : Listing). l.cone) lane_listing)
                     (part_woven s at here.history here.each here.cut keys ring here.joined)
                     (over_woven (is_refusal refusal) refl)))
                 | inr differs ↦
@@ -449,7 +467,7 @@ module _ {B : Type 0} (files : B → Option Files) (leaves : B → Files → Typ
           pub refused_by : (status : Status) → status ≡ cone_status at refusal → refusal ≢ fault.Closed → refusal ≢ fault.Broken →
               ((n len : ℕ) → refusal ≡ fault.CapacityFull n len → (n ≡ old.events) × (len ≡ length ring) × (capacity old.listing.settings < n + len)) →
               (refusal ≡ fault.BayFailed → HasRisen (faults old.bay) (faults new.bay)) →
-              ((file place : ℕ) → refusal ≡ fault.Unsound file place → (h : List Packet) → StandsFor files leaves faults old h → files old.bay ≡ None) →
+              ((file place : ℕ) → refusal ≡ fault.Unsound file place → (h : List Packet) → StandsFor files leaves faults old h → WasSound files old → files old.bay ≡ None) →
               IsRefused files faults s (bays_of cones) (bays_of (set cones at new)) keys status
           refused_by status is running unbroken_is full failed unsound =
               subst (IsRefused files faults s (bays_of cones) (bays_of (set cones at new)) keys) (sym is) (by_fault refusal refl)
@@ -477,7 +495,7 @@ module _ {B : Type 0} (files : B → Option Files) (leaves : B → Files → Typ
                     omega (arith, joined, sum, here.stands.counted, counted, why.1),
                   )
               by_fault fault.BayFailed same = cone_failed new (failed same)
-              by_fault (fault.Unsound file place) same = cone_untold (unsound file place same (lanes.each at below).history lane_stands)
+              by_fault (fault.Unsound file place) same = cone_untold (unsound file place same (lanes.each at below).history lane_stands lane_was_sound)
               by_fault fault.OutOfMemory same = tt
 
 -- cones that were just made, with rings that are empty
@@ -497,6 +515,7 @@ lanes_new {B = B} files leaves faults s cones rings valid number made is = recor
         history = [];
         cone_is = there.1;
         stands = new.stands;
+        sound = new.sound;
         listing_is = new.listing_is;
         state_is = new.state_is;
         each = All-nil (IsBrought s 1 1);
@@ -524,6 +543,7 @@ refused_since files faults mark s first then now keys one two (status.NotFresh c
 refused_since files faults mark s first then now keys one two (status.BayFault cone) refused = failed_since files faults mark first then now cone one two refused
 refused_since files faults mark s first then now keys one two (status.CapacityFull cone n len) refused = refused
 refused_since files faults mark s first then now keys one two (status.Malformed cone file at) refused = untold_since files faults mark first then cone one refused
+refused_since files faults mark s first then now keys one two (status.OtherSettings cone) refused = absurd refused
 refused_since files faults mark s first then now keys one two status.OutFault refused = absurd refused
 refused_since files faults mark s first then now keys one two status.OutOfMemory refused = tt
 

@@ -7,7 +7,10 @@ pub mod FreshLaws
 pub mod KeysRead
 pub mod LaneLaws
 pub mod Parsing
+pub mod PrintLaws
 pub mod Printing
+pub mod RecoverEnding
+pub mod RecoverLaws
 pub mod Spelling
 pub mod Stopping
 pub mod WeaveLaws

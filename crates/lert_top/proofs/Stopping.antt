@@ -51,5 +51,6 @@ module _ {S B : Type 0} (remaining : S → Option (List ℕ)) (faults : S → �
   stop_refused (status.BayFault cone) refused = refused
   stop_refused (status.CapacityFull cone n len) refused = (refused.0, λ bytes was. has_more s cone n len keys (whole bytes) (begins bytes was) refused.1)
   stop_refused (status.Malformed cone file at) refused = refused
+  stop_refused (status.OtherSettings cone) refused = absurd refused
   stop_refused status.OutFault refused = absurd refused
   stop_refused status.OutOfMemory refused = tt

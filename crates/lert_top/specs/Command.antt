@@ -1,9 +1,10 @@
--- The command lines of `run`, and the first rule that a line breaks.
+-- The command lines, and the first rule that a line breaks.
 use Rattle.std.specs.Prelude.{ℕ, ◌==◌, Bool, ◌&&◌, List, length, codes, Option, Some, None, if◌then◌else◌}
 use Rattle.lert_spec.specs.declared.numbers.Numbers.{Numbers}
 use Rattle.lert_spec.specs.Limits.{first_broken}
-use Rattle.lert_top.specs.Word.{is_option, option_at, is_word, are_names}
+use Rattle.lert_top.specs.Word.{is_option, option_at, is_word, is_named, are_names}
 use Rattle.lert_top.specs.declared.line.Line.{Line}
+use Rattle.lert_top.specs.declared.line.Task.TheVariants.{Run, Recover}
 
 -- beside the two words of the threshold, these are `run --threshold N --cone-bits 0 DIR TRACE`
 abbrev pub has_short_words : List (List ℕ) → Bool
@@ -55,11 +56,20 @@ has_long_words words = length words == 19 && is_word words 0 (codes "run") && ar
 abbrev pub is_long_form : List (List ℕ) → Bool
 is_long_form words = has_long_words words && are_options words
 
+-- beside the words of the options, these are `recover`, the eight options and DIR
+abbrev pub has_recover_words : List (List ℕ) → Bool
+has_recover_words words = length words == 18 && is_word words 0 (codes "recover") && is_named words 17
+
+-- the words are `recover`, the eight options and DIR
+abbrev pub is_recover_form : List (List ℕ) → Bool
+is_recover_form words = has_recover_words words && are_options words
+
 -- the line that words spell, with the places of its names
 abbrev pub command : List (List ℕ) → Option Line
 command words =
-    if is_short_form words then Some (record { settings = short_settings words; dir = 5; trace = 6 })
-    else (if is_long_form words then Some (record { settings = long_settings words; dir = 17; trace = 18 }) else None)
+    if is_short_form words then Some (record { settings = short_settings words; dir = 5; task = Run 6 })
+    else (if is_long_form words then Some (record { settings = long_settings words; dir = 17; task = Run 18 })
+    else (if is_recover_form words then Some (record { settings = long_settings words; dir = 17; task = Recover }) else None))
 
 abbrev pub usage_of : Option Line → Option ℕ
 usage_of None = Some 0

@@ -1,13 +1,20 @@
--- Cones that were just made.
-use Rattle.std.specs.Prelude.{◌≡◌, ℕ, false, List, [], Option, Some, slice_get}
+-- Cones that were just made, and their memory.
+use Rattle.std.specs.Prelude.{◌≡◌, ℕ, length, false, List, [], Option, Some, slice_get}
 use Rattle.lert_bay.specs.Files.{Files}
-use Rattle.lert_cone.specs.Stands.{Standing, StandsFor}
+use Rattle.lert_cone.specs.declared.room.ConeRoom.{ConeRoom}
+use Rattle.lert_cone.specs.Room.{IsRoom}
+use Rattle.lert_cone.specs.Stands.{Standing, StandsFor, WasSound}
 use Rattle.lert_cone.specs.declared.state.ConeState.TheVariants.{Running}
 use Rattle.lert_spec.specs.declared.numbers.Numbers.{Numbers}
 
--- a cone of a number stands for no packet yet, and may take some
+-- the memory of a cone with these settings, as it is made
+abbrev pub IsNewRoom : {T C : Type 0} → Numbers → ConeRoom T C → Type 0
+IsNewRoom s room = (room.settings ≡ s) × IsRoom room.settings room.zero room.levels room.store room.entry.keys (length room.buffer.items)
+
+-- a cone of a number stands for no packet yet, over files that were sound for none, and may take some
 pub record IsNew {B : Type 0} (files : B → Option Files) (leaves : B → Files → Type 0) (faults : B → ℕ) (s : Numbers) (number : ℕ) (cone : Standing B) : Type 0 where
   pub stands : StandsFor files leaves faults cone []
+  pub sound : WasSound files cone
   pub listing_is : cone.listing ≡ record { settings = s; cone = number; events = []; closed = false }
   pub state_is : cone.state ≡ Running
 

@@ -5,7 +5,7 @@ use Rattle.lert_base.specs.Packet.{Packet, events_of}
 use Rattle.lert_base.specs.Weave.{AreCut, IsBrought}
 use Rattle.lert_bay.specs.Files.{Files}
 use Rattle.lert_buffers.specs.Rings.{Rings, ring_of}
-use Rattle.lert_cone.specs.Stands.{Standing, StandsFor}
+use Rattle.lert_cone.specs.Stands.{Standing, StandsFor, WasSound}
 use Rattle.lert_cone.specs.declared.state.ConeState.{ConeState}
 use Rattle.lert_cone.specs.declared.state.ConeState.TheVariants.{Running, Finished}
 use Rattle.lert_spec.specs.declared.numbers.Numbers.{Numbers}
@@ -20,13 +20,14 @@ state_of finished = if finished then Finished else Running
 abbrev pub AreFull : Numbers → List Packet → Type 0
 AreFull s history = All (λ packet. length packet.keys ≡ s.packet) history
 
--- a cone, which is finished or not, stands for packets whose keys are with those that wait in its ring its part; from a
+-- a cone, which is finished or not, and whose files were sound as it was made, stands for packets whose keys are with those that wait in its ring its part; from a
 -- number of cones on, the rest of the ring is still to come, so that each packet is full
 pub record IsLane {B : Type 0} (files : B → Option Files) (leaves : B → Files → Type 0) (faults : B → ℕ) (s : Numbers) (from number : ℕ) (part : List ℕ) (finished : Bool) (cone : Option (Standing B)) (waiting : List ℕ) : Type 0 where
   pub standing : Standing B
   pub history : List Packet
   pub cone_is : cone ≡ Some standing
   pub stands : StandsFor files leaves faults standing history
+  pub sound : WasSound files standing
   pub listing_is : standing.listing ≡ record { settings = s; cone = number; events = events_of history; closed = finished }
   pub state_is : standing.state ≡ state_of finished
   pub each : All (IsBrought s 1 1) history

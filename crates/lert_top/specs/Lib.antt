@@ -4,6 +4,8 @@ pub mod Command
 pub mod Cones
 pub mod Lanes
 pub mod Page
+pub mod Print
+pub mod Recovered
 pub mod Router
 pub mod Run
 pub mod Shelf

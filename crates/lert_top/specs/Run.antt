@@ -15,7 +15,7 @@ use Rattle.lert_spec.specs.Trace.{left, whole}
 use Rattle.lert_top.specs.Bays.{AreFaultless, AreFresh, ArePartWoven, AreTold, AreToldFresh, AreWoven, HasFailed, HoldsKeys, IfHeld, IsStale, IsUntold}
 use Rattle.lert_top.specs.Page.{IsCut}
 use Rattle.lert_top.specs.declared.status.Status.{Status}
-use Rattle.lert_top.specs.declared.status.Status.TheVariants.{Done, Usage, PlaceFault, TraceFault, BadTrace, TooLong, NotFresh, BayFault, CapacityFull, Malformed, OutFault, OutOfMemory}
+use Rattle.lert_top.specs.declared.status.Status.TheVariants.{Done, Usage, PlaceFault, TraceFault, BadTrace, TooLong, NotFresh, BayFault, CapacityFull, Malformed, OtherSettings, OutFault, OutOfMemory}
 
 -- the most keys that a trace may have, 2^36
 abbrev pub most_keys : ℕ
@@ -98,6 +98,7 @@ IsRefused files faults settings bays later keys (NotFresh cone) = ⊥
 IsRefused files faults settings bays later keys (BayFault cone) = HasFailed faults bays later cone
 IsRefused files faults settings bays later keys (CapacityFull cone n len) = IsFull files settings later cone n len × HasThem settings keys cone n len
 IsRefused files faults settings bays later keys (Malformed cone file at) = IsUntold files bays cone
+IsRefused files faults settings bays later keys (OtherSettings cone) = ⊥
 IsRefused files faults settings bays later keys OutFault = ⊥
 IsRefused files faults settings bays later keys OutOfMemory = ⊤
 
@@ -113,6 +114,7 @@ IsUnmade files faults bays later (NotFresh cone) = IsStale files bays cone
 IsUnmade files faults bays later (BayFault cone) = HasFailed faults bays later cone
 IsUnmade files faults bays later (CapacityFull cone n len) = ⊥
 IsUnmade files faults bays later (Malformed cone file at) = ⊥
+IsUnmade files faults bays later (OtherSettings cone) = ⊥
 IsUnmade files faults bays later OutFault = ⊥
 IsUnmade files faults bays later OutOfMemory = ⊤
 
@@ -128,6 +130,7 @@ is_past_freshness (NotFresh cone) = false
 is_past_freshness (BayFault cone) = false
 is_past_freshness (CapacityFull cone n len) = true
 is_past_freshness (Malformed cone file at) = true
+is_past_freshness (OtherSettings cone) = true
 is_past_freshness OutFault = true
 is_past_freshness OutOfMemory = false
 
@@ -145,6 +148,7 @@ module _ {S B : Type 0} (remaining : S → Option (List ℕ)) (faults : S → �
   StopShows opened now bays later (CapacityFull cone n len) =
       IsFull files settings later cone n len × IfTold (remaining opened) (λ bytes. HasThem settings (whole bytes) cone n len)
   StopShows opened now bays later (Malformed cone file at) = IsUntold files bays cone
+  StopShows opened now bays later (OtherSettings cone) = ⊥
   StopShows opened now bays later OutFault = ⊥
   StopShows opened now bays later OutOfMemory = ⊤
 
@@ -180,6 +184,7 @@ module _ {S K B : Type 0} (remaining : S → Option (List ℕ)) (faults : S → 
       × IfTold (remaining opened) (λ bytes. HasThem settings (whole bytes) cone n len) × (after ≡ before)
       × ArePartly remaining faults files bay_faults settings opened later
   StatusShows stale (Malformed cone file at) = IsUntold files bays cone × (after ≡ before) × ArePartly remaining faults files bay_faults settings opened later
+  StatusShows stale (OtherSettings cone) = ⊥
   -- the trace was read to its end, each journal is a weave, and, where all bays tell their files, a part of the text was
   -- written
   StatusShows stale OutFault = HasRisen (sink_faults before) (sink_faults after) × IfTold (remaining opened) (λ bytes.

@@ -20,6 +20,7 @@ status_number (status.NotFresh cone) = 6
 status_number (status.BayFault cone) = 7
 status_number (status.CapacityFull cone n len) = 8
 status_number (status.Malformed cone file at) = 9
+status_number (status.OtherSettings cone) = 10
 status_number status.OutFault = 11
 status_number status.OutOfMemory = 12
 
@@ -35,6 +36,7 @@ status_fields (status.NotFresh cone) = (cone, 0, 0)
 status_fields (status.BayFault cone) = (cone, 0, 0)
 status_fields (status.CapacityFull cone n len) = (cone, n, len)
 status_fields (status.Malformed cone file at) = (cone, file, at)
+status_fields (status.OtherSettings cone) = (cone, 0, 0)
 status_fields status.OutFault = (0, 0, 0)
 status_fields status.OutOfMemory = (0, 0, 0)
 

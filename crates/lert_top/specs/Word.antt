@@ -35,6 +35,10 @@ abbrev pub is_name : List ℕ → Bool
 is_name [] = false
 is_name (byte ∷ bytes) = not (byte == 45)
 
+-- the word with a number is a name
+abbrev pub is_named : List (List ℕ) → ℕ → Bool
+is_named words number = is_name (word_at words number)
+
 -- the names DIR and TRACE stand at a place of the words
 abbrev pub are_names : List (List ℕ) → ℕ → Bool
-are_names words place = is_name (word_at words place) && is_name (word_at words (place + 1))
+are_names words place = is_named words place && is_named words (place + 1)

@@ -4,7 +4,7 @@ ghost use Rattle.std.specs.Prelude.{◌≡◌, ℕ, ◌+◌, ◌^◌, ◌<◌, �
 ghost use Rattle.std.specs.VecDeque.{deque_capacity, deque_len};
 ghost use Rattle.lert_spec.specs.Limits.{IsValid};
 ghost use Rattle.lert_top.specs.Bays.{AreFresh, AreLater, bays_of};
-ghost use Rattle.lert_top.specs.Cones.{AreNew};
+ghost use Rattle.lert_top.specs.Cones.{AreNew, IsNewRoom};
 ghost use Rattle.lert_top.specs.Run.{IsUnmade};
 ghost use Rattle.lert_top.specs.Status.{create_status};
 
@@ -42,10 +42,10 @@ pub fn make_cones<B: Bay>(
     fill_rooms(settings, rooms, bays, cones)
 }
 
-// The memory of all cones.
-fn make_rooms(alloc: Global, settings: &Settings) -> Result<Vec<ConeRoom<Cqf>>, OutOfMemory>
+/// The memory of all cones. Its only error is want of memory.
+pub fn make_rooms(alloc: Global, settings: &Settings) -> Result<Vec<ConeRoom<Cqf>>, OutOfMemory>
     ensures number { IfOk result (λ rooms. length rooms.items ≡ 2 ^ settings.now.cone_bits) }
-    ensures each { IfOk result (λ rooms. All (λ room. room ≡ settings.now) rooms.items) }
+    ensures each { IfOk result (λ rooms. All (IsNewRoom settings.now) rooms.items) }
 {
     let mut rooms = Vec::with_capacity(alloc, settings.cones() as usize)?;
     for _ in 0..settings.cones() {
@@ -65,7 +65,7 @@ fn fill_rooms<B: Bay>(
     requires room { length bays.old.items ≤ deque_capacity bays.old }
     requires fresh { AreFresh B.files bays.old.items }
     requires rooms_number { length rooms.items ≡ 2 ^ settings.now.cone_bits }
-    requires rooms { All (λ room. room ≡ settings.now) rooms.items }
+    requires rooms { All (IsNewRoom settings.now) rooms.items }
     requires none { cones.items ≡ [] }
     requires cones_room { 2 ^ settings.now.cone_bits ≤ vec_capacity cones }
     ensures new_cones { IfOk result (λ made. AreNew B.files B.leaves B.faults settings.now made.items) }

@@ -3,7 +3,7 @@
 ghost use Rattle.std.specs.Prelude.{◌≡◌, ℕ, ◌+◌, ◌*◌, ◌^◌, ◌<◌, ◌≤◌, true, false, [], ◌∷◌, ◌++◌, length, IfOk, IfErr, IsErrOf, OnErr, OnOk, List, None, Some, replicate, slice_get};
 ghost use Rattle.lert_buffers.specs.Rings.{ring_of, with_ring};
 ghost use Rattle.lert_base.specs.Packet.{Packet};
-ghost use Rattle.lert_cone.specs.Stands.{IsSameCone, StandsFor, is_refusal};
+ghost use Rattle.lert_cone.specs.Stands.{IsSameCone, StandsFor, WasSound, is_refusal};
 ghost use Rattle.lert_cone.specs.declared.state.ConeState.TheVariants.{Finished, Running};
 ghost use Rattle.lert_io.specs.Fault.{HasRisen};
 ghost use Rattle.lert_spec.specs.Limits.{IsValid};
@@ -101,13 +101,6 @@ impl<B: Bay> Router<B> {
         self.close_all()
     }
 
-    /// How many cones there are.
-    pub fn cones(&self) -> u32
-        ensures { result ≡ 2 ^ self.now.settings.cone_bits }
-    {
-        self.settings.cones()
-    }
-
     /// The settings of its cones.
     pub fn settings(&self) -> &Settings
         ensures { result.now ≡ self.now.settings }
@@ -115,21 +108,11 @@ impl<B: Bay> Router<B> {
         &self.settings
     }
 
-    /// A finished cone: it took its part of the keys.
-    pub fn cone(&self, number: u32) -> &Cone<B, Cqf>
-        requires finished { IsFinished B.files B.leaves B.faults self.now }
-        requires named { number < 2 ^ self.now.settings.cone_bits }
-        ensures listing { result.now.listing ≡ record {
-          settings = self.now.settings;
-          cone = number;
-          events = part_of self.now.settings number self.now.keys;
-          closed = true;
-        } }
-        ensures state { result.now.state ≡ Finished }
-        ensures bay { slice_get (bays_of self.now.cones.items) number ≡ Some result.now.bay }
-        ensures stands { (history : List Packet) × StandsFor B.files B.leaves B.faults result.now history }
+    /// The cones, in ascending order.
+    pub fn all(&self) -> &[Cone<B, Cqf>]
+        ensures { result.now ≡ self.now.cones.items }
     {
-        &self.cones[number as usize]
+        self.cones.as_slice()
     }
 
     /// The cones.
@@ -248,7 +231,7 @@ fn close<B: Bay>(cone: &mut Cone<B, Cqf>) -> Result<(), ConeFault>
     ensures over { OnErr result (cone.new.over ≡ cone.old.over) }
     ensures failed { IsErrOf result ConeFault.BayFailed → HasRisen (B.faults cone.old.bay) (B.faults cone.new.bay) }
     ensures unsound { (file at : ℕ) → IsErrOf result (ConeFault.Unsound file at) → (h : List Packet) →
-        StandsFor B.files B.leaves B.faults cone.old h → B.files cone.old.bay ≡ None }
+        StandsFor B.files B.leaves B.faults cone.old h → WasSound B.files cone.old → B.files cone.old.bay ≡ None }
     ensures same_cone { IsSameCone cone.old cone.new }
     ensures later { IsLater B.files B.faults B.mark cone.old.bay cone.new.bay }
     ensures stands { (h : List Packet) → StandsFor B.files B.leaves B.faults cone.old h → StandsFor B.files B.leaves B.faults cone.new h }

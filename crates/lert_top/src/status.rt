@@ -1,4 +1,4 @@
-//! How a run ends.
+//! How a run or a recovery ends.
 
 ghost use Rattle.std.specs.Prelude.{◌≡◌, ◌≢◌, ◌≤◌};
 ghost use Rattle.lert_top.specs.Status.{cone_status, status_fields, status_number, stop_status};
@@ -7,8 +7,8 @@ use lert_cone::ConeFault;
 use lert_io::OutOfMemory;
 use lert_trace::TraceFault;
 
-/// How a run ends. Each status has a number, which is the program's exit status, and each but `Done`
-/// a line.
+/// How a run or a recovery ends. Each status has a number, which is the program's exit status, and each but
+/// `Done` a line.
 #[derive(Clone, Copy, Debug, PartialEq, Eq)]
 pub enum Status {
     /// All was read and printed.
@@ -29,9 +29,11 @@ pub enum Status {
     BayFault { cone: u32 },
     /// A cone has `n` keys, and the `len` of the next packet are more than it takes besides.
     CapacityFull { cone: u32, n: u64, len: u64 },
-    /// A file of this cone, by its number, left its format at the place `at`, though the run itself wrote it.
-    /// It comes only where the cone's bay doesn't tell its files.
+    /// A file of this cone, by its number, left its format at the place `at`. In a run, which wrote it itself, it
+    /// comes only where the cone's bay doesn't tell its files.
     Malformed { cone: u32, file: u8, at: u64 },
+    /// The journal of this cone was written with other settings, or for another cone.
+    OtherSettings { cone: u32 },
     /// A write of the text failed. A part of it may have been written.
     OutFault,
     /// There is no memory.
@@ -63,6 +65,7 @@ impl Status {
                 file: _,
                 at: _,
             } => 9,
+            Status::OtherSettings { cone: _ } => 10,
             Status::OutFault => 11,
             Status::OutOfMemory => 12,
         }
@@ -77,7 +80,9 @@ impl Status {
             Status::TraceFault { trace } => (u64::from(trace), 0, 0),
             Status::BadTrace { trace, at } => (u64::from(trace), at, 0),
             Status::TooLong { trace } => (u64::from(trace), 0, 0),
-            Status::NotFresh { cone } | Status::BayFault { cone } => (u64::from(cone), 0, 0),
+            Status::NotFresh { cone }
+            | Status::BayFault { cone }
+            | Status::OtherSettings { cone } => (u64::from(cone), 0, 0),
             Status::CapacityFull { cone, n, len } => (u64::from(cone), n, len),
             Status::Malformed { cone, file, at } => (u64::from(cone), u64::from(file), at),
             Status::Done | Status::PlaceFault | Status::OutFault | Status::OutOfMemory => (0, 0, 0),

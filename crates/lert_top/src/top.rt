@@ -10,17 +10,19 @@ ghost use Rattle.lert_top.specs.Bays.{AreFresh, AreLater, AreMarked, AreTold, Is
 ghost use Rattle.lert_top.specs.Command.{command, usage};
 ghost use Rattle.lert_top.specs.Cones.{AreNew};
 ghost use Rattle.lert_top.specs.Page.{IsCut};
+ghost use Rattle.lert_top.specs.Recovered.{HasRecovered};
 ghost use Rattle.lert_top.specs.Router.{IsFinished, IsTaking};
 ghost use Rattle.lert_top.specs.Run.{ArePrinted, HasRun, StatusShows, is_past_freshness, most_keys, text_of};
 ghost use Rattle.lert_top.specs.Word.{word_at};
 
 use crate::bays::{find_stale, open_bays, put_back_bays};
 use crate::cones::{bring_back, make_cones};
-use crate::line::Line;
+use crate::line::{Line, Task};
 use crate::page::Page;
 use crate::place::Place;
-use crate::print::{print_cone, print_total};
+use crate::print::print_cones;
 use crate::reading::read_all;
+use crate::recover::recover_to;
 use crate::router::Router;
 use crate::status::Status;
 use lert_base::{Settings, Words};
@@ -32,12 +34,16 @@ use lert_trace::{MOST_KEYS, TraceReader};
 use std::alloc::Global;
 use std::collections::VecDeque;
 
-/// Reports each key that occurs as often as the line's threshold says, soon after it does. It opens the
+/// Does what the line asks for.
+///
+/// `run` reports each key that occurs as often as the line's threshold says, soon after it does. It opens the
 /// line's trace and then the bays of all cones in its directory, looks whether these are empty, writes
 /// their headers, reads the trace to its end into the cones, each packet of which goes to the cone's
 /// journal, prints, and puts all back, in this order, and stops at the first fault; what was opened is put
 /// back in each case. Nothing is written to the sink before the trace was read to its end. What it holds in
 /// memory is the cones, a ring of four packets for each of them, and a page of text.
+///
+/// `recover` opens what runs left, as `recover_to` does.
 pub fn run<P: Place, K: Sink>(alloc: Global, words: &Words, place: &mut P, out: &mut K) -> Status
     requires asked { P.asked place.old ≡ [] }
     requires handed { P.handed_traces place.old ≡ [] }
@@ -46,35 +52,66 @@ pub fn run<P: Place, K: Sink>(alloc: Global, words: &Words, place: &mut P, out: 
     ensures usage { (rule : ℕ) → (result ≡ Status.Usage rule) ↔ (usage words.now ≡ Some rule) }
     ensures at_usage { (rule : ℕ) → usage words.now ≡ Some rule → (place.new ≡ place.old) × (out.new ≡ out.old) }
     // Otherwise the place is asked for the line's trace, then for the bays of the cones, and for nothing else.
-    ensures asked { (line : Line) → command words.now ≡ Some line → usage words.now ≡ None →
-        IsAsked (word_at words.now line.trace) (word_at words.now line.dir) (2 ^ line.settings.cone_bits) (P.asked place.new) result }
+    ensures asked { (line : Line) (trace : ℕ) → command words.now ≡ Some line → line.task ≡ Task.Run trace → usage words.now ≡ None →
+        IsAsked (word_at words.now trace) (word_at words.now line.dir) (2 ^ line.settings.cone_bits) (P.asked place.new) result }
     ensures place_fault { result ≡ Status.PlaceFault → HasRisen (P.faults place.old) (P.faults place.new) × (out.new ≡ out.old) }
     // What was opened is put back, whatever the status, which says what came of it.
     ensures returned { usage words.now ≡ None → AreReturned P.Trace.mark (P.handed_traces place.new) (P.returned_trace place.new)
         × AreReturned P.Bay.mark (P.handed_bays place.new) (P.returned_bay place.new) }
-    ensures ran { (line : Line) → command words.now ≡ Some line → usage words.now ≡ None → result ≢ Status.PlaceFault →
+    ensures ran { (line : Line) (trace : ℕ) → command words.now ≡ Some line → line.task ≡ Task.Run trace → usage words.now ≡ None → result ≢ Status.PlaceFault →
         (opened back : P.Trace) × (backs : List P.Bay) × (P.handed_traces place.new ≡ opened ∷ []) × (P.returned_trace place.new 0 ≡ Some back)
         × ((cone : ℕ) → cone < length backs → P.returned_bay place.new cone ≡ slice_get backs cone)
         × AreLater P.Bay.files P.Bay.faults P.Bay.mark (P.handed_bays place.new) backs
         × HasRun P.Trace.remaining P.Trace.faults K.taken K.faults P.Bay.files P.Bay.faults line.settings
         opened back out.old out.new (P.handed_bays place.new) backs result }
+    // A line of a recovery asks for the bays of the cones alone.
+    ensures asked_again { (line : Line) → command words.now ≡ Some line → line.task ≡ Task.Recover → usage words.now ≡ None →
+        IsAskedForBays (word_at words.now line.dir) (2 ^ line.settings.cone_bits) [] (P.asked place.new) result }
+    ensures recovered { (line : Line) → command words.now ≡ Some line → line.task ≡ Task.Recover → usage words.now ≡ None → result ≢ Status.PlaceFault →
+        (backs : List P.Bay) × ((cone : ℕ) → cone < length backs → P.returned_bay place.new cone ≡ slice_get backs cone)
+        × AreLater P.Bay.files P.Bay.faults P.Bay.mark (P.handed_bays place.new) backs
+        × HasRecovered K.taken K.faults P.Bay.files P.Bay.faults line.settings out.old out.new (P.handed_bays place.new) backs result }
 {
     let line = match Line::read(words) {
         Ok(line) => line,
         Err(usage) => return Status::Usage { rule: usage.rule },
     };
-    let trace = match place.open_trace(words.word(line.trace)) {
+    let dir = words.word(line.dir);
+    match line.task {
+        Task::Run { trace } => run_line(alloc, &line.settings, words.word(trace), dir, place, out),
+        Task::Recover => recover_to(alloc, &line.settings, dir, place, out),
+    }
+}
+
+// Runs over a trace and the bays of cones in a directory, which it opens and puts back.
+fn run_line<P: Place, K: Sink>(
+    alloc: Global,
+    settings: &Settings,
+    trace: &str,
+    dir: &str,
+    place: &mut P,
+    out: &mut K,
+) -> Status
+    requires asked { P.asked place.old ≡ [] }
+    requires handed { P.handed_traces place.old ≡ [] }
+    requires handed_bays { P.handed_bays place.old ≡ [] }
+    ensures asked { IsAsked trace.now dir.now (2 ^ settings.now.cone_bits) (P.asked place.new) result }
+    ensures place_fault { result ≡ Status.PlaceFault → HasRisen (P.faults place.old) (P.faults place.new) × (out.new ≡ out.old) }
+    ensures no_usage { (rule : ℕ) → result ≡ Status.Usage rule → ⊥ }
+    ensures returned { AreReturned P.Trace.mark (P.handed_traces place.new) (P.returned_trace place.new)
+        × AreReturned P.Bay.mark (P.handed_bays place.new) (P.returned_bay place.new) }
+    ensures ran { result ≢ Status.PlaceFault →
+        (opened back : P.Trace) × (backs : List P.Bay) × (P.handed_traces place.new ≡ opened ∷ []) × (P.returned_trace place.new 0 ≡ Some back)
+        × ((cone : ℕ) → cone < length backs → P.returned_bay place.new cone ≡ slice_get backs cone)
+        × AreLater P.Bay.files P.Bay.faults P.Bay.mark (P.handed_bays place.new) backs
+        × HasRun P.Trace.remaining P.Trace.faults K.taken K.faults P.Bay.files P.Bay.faults settings.now
+        opened back out.old out.new (P.handed_bays place.new) backs result }
+{
+    let trace = match place.open_trace(trace) {
         Ok(trace) => trace,
         Err(Failed) => return Status::PlaceFault,
     };
-    let (trace, status) = run_trace(
-        alloc,
-        &line.settings,
-        words.word(line.dir),
-        place,
-        trace,
-        out,
-    );
+    let (trace, status) = run_trace(alloc, settings, dir, place, trace, out);
     place.put_back_trace(0, trace);
     status
 }
@@ -197,45 +234,8 @@ fn report<S: Source, B: Bay, K: Sink>(
     if let Err(status) = read_all(router, reader) {
         return status;
     }
-    match print(&mut page, out, router) {
+    match print_cones(&mut page, out, router.settings(), router.all()) {
         Ok(()) => Status::Done,
         Err(Failed) => Status::OutFault,
     }
-}
-
-// Prints all cones, which are finished, in ascending order, and the totals.
-fn print<B: Bay, K: Sink>(page: &mut Page, out: &mut K, router: &Router<B>) -> Result<(), Failed>
-    requires empty { page.old ≡ [] }
-    requires finished { IsFinished B.files B.leaves B.faults router.now }
-    ensures ok { (text : List ℕ) → K.taken out.old ≡ Some text → OnOk result ((cones : List Printed)
-        × ArePrinted B.files router.now.settings (bays_of router.now.cones.items) router.now.keys (2 ^ router.now.settings.cone_bits) cones
-        × (K.taken out.new ≡ Some (text ++ lines cones))) }
-    ensures cut { AreTold B.files (bays_of router.now.cones.items) → OnErr result (IsCut (K.taken out.old) (K.taken out.new)
-        (text_of router.now.settings router.now.keys)) }
-    ensures cause { HasCause (K.faults out.old) (K.faults out.new) result }
-    ensures mark { K.mark out.new ≡ K.mark out.old }
-{
-    let mut events = 0;
-    let mut reports = 0;
-    for number in 0..router.cones() {
-        let cone = router.cone(number);
-        print_cone(page, out, number, cone.events(), cone.reports().list())?;
-        let (events_here, reports_here) = numbers_of(router.settings(), cone);
-        events += events_here;
-        reports += reports_here;
-    }
-    print_total(page, out, events, reports)
-}
-
-// How many events and reports a finished cone has.
-fn numbers_of<B: Bay>(settings: &Settings, cone: &Cone<B, Cqf>) -> (u64, u64)
-    requires settings { cone.now.listing.settings ≡ settings.now }
-    requires finished { cone.now.state ≡ Finished }
-    ensures events { result.0 ≡ length cone.now.listing.events }
-    ensures reports { result.1 ≡ length cone.now.reports }
-    ensures few_events { result.0 ≤ 4294967295 }
-    ensures few_reports { result.1 ≤ 4294967295 }
-{
-    let _valid = settings.numbers();
-    (cone.events(), cone.reports().len() as u64)
 }

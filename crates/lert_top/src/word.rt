@@ -3,7 +3,7 @@
 ghost use Rattle.std.specs.Prelude.{◌≡◌, ◌+◌, ◌^◌, ◌<◌, length, Some, None, MatchOption, true, false};
 ghost use Rattle.std.specs.Char.{is_ascii_digit};
 ghost use Rattle.std.specs.List.{list_all};
-ghost use Rattle.lert_top.specs.Word.{are_names as names_test, is_name as name_test, is_option, is_word as word_test, number_of, option_at, word_at};
+ghost use Rattle.lert_top.specs.Word.{are_names as names_test, is_named as named_test, is_option, is_word as word_test, number_of, option_at, word_at};
 
 use lert_base::Words;
 
@@ -21,13 +21,13 @@ pub fn are_names(words: &Words, place: usize) -> bool
     requires within { place + 1 < length words.now }
     ensures { result ≡ names_test words.now place }
 {
-    is_name(words, place) && is_name(words, place + 1)
+    is_named(words, place) && is_named(words, place + 1)
 }
 
-// Whether the word with a number can name a directory or a trace.
-fn is_name(words: &Words, number: usize) -> bool
+/// Whether the word with a number can name a directory or a trace.
+pub fn is_named(words: &Words, number: usize) -> bool
     requires { number < length words.now }
-    ensures { result ≡ name_test (word_at words.now number) }
+    ensures { result ≡ named_test words.now number }
 {
     match words.word(number).as_bytes() {
         [] => false,

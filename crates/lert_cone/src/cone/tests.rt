@@ -278,7 +278,7 @@ fn a_cone_is_not_made_where_a_call_fails(rt: HostRuntime) -> Result<(), Fail> {
             return Err(Fail::new("a call failed"));
         };
         assert_eq!(rt; refused.fault, CreateFault::Failed);
-        assert_eq!(rt; refused.room.settings().numbers().packet, 8);
+        assert_eq!(rt; refused.room.settings.numbers().packet, 8);
     }
     Ok(())
 }

@@ -40,9 +40,9 @@ fn settings() -> Result<Settings, Fail>
 // What was read of a log: the answer, the reports, and the directory.
 #[derive(Drop)]
 struct Found {
-    answer: Result<LogEnd, ReopenFault>,
+    answer: Result<LogPoint, ReopenFault>,
     reports: Vec<Report>,
-    directory: Vec<u8>,
+    directory: Directory,
 }
 
 fn read(alloc: Global, bytes: &[u8]) -> Result<Found, Fail> {
@@ -50,7 +50,7 @@ fn read(alloc: Global, bytes: &[u8]) -> Result<Found, Fail> {
     let mut bay = MemBay::new(alloc)?;
     bay.load(LOG, bytes)?;
     let mut store: ReportStore<PlainTable> = ReportStore::new(alloc, &settings)?;
-    let mut directory = Vec::with_capacity(alloc, 10)?;
+    let mut directory = Directory::new();
     let mut buffer = [0; 549];
     let answer = read_whole_log(
         &mut bay,
@@ -72,28 +72,28 @@ fn whole_logs_are_read(rt: HostRuntime) -> Result<(), Fail> {
     let seven = Report { key: 7, at: 3 };
     let first = Report { key: 7, at: 12 };
     let second = Report { key: 8, at: 13 };
-    let begun = LogEnd {
+    let begun = LogPoint {
         n0: 0,
         offset: 32,
         first: 1,
         closed: false,
         log_end: 8,
     };
-    let closed = LogEnd {
+    let closed = LogPoint {
         n0: 3,
         offset: 32,
         first: 1,
         closed: true,
         log_end: 60,
     };
-    let later = LogEnd {
+    let later = LogPoint {
         n0: 13,
         offset: 45,
         first: 2,
         closed: true,
         log_end: 114,
     };
-    let logs: [(&[u8], LogEnd, &[Report], &[u8]); 3] = [
+    let logs: [(&[u8], LogPoint, &[Report], &[u8]); 3] = [
         (b"LERTL\x01\0\0\0\x01", begun, &[], &[0, 0]),
         (&CLOSED, closed, &[seven], &[0, 0]),
         (&TWO_RECORDS, later, &[first, second], &[1, 0, 0]),
@@ -102,7 +102,7 @@ fn whole_logs_are_read(rt: HostRuntime) -> Result<(), Fail> {
         let found = read(rt.alloc(), bytes)?;
         assert_eq!(rt; found.answer, Ok(end));
         assert_eq!(rt; found.reports.as_slice(), reports);
-        assert_eq!(rt; found.directory.as_slice(), directory);
+        assert_eq!(rt; found.directory.bytes(), directory);
     }
     Ok(())
 }

@@ -20,7 +20,7 @@ use Rattle.lert_cone.proofs.keys.close.Goals as goal
 -- the scan is refused
 pub returns-in_err-finish-clause-each_moment : goal.returns-in_err-finish-clause-each_moment
 returns-in_err-finish-clause-each_moment g c = λ seen told history all_taken up image may.
-    sound_now (g.B.Bay.leaves c.args.bay.now) seen history c.args.tally.now c.args.log.now [] c.requires.counted c.requires.still up (partway_all history c.args.tally.now.listing.events all_taken (late_all history c.args.tally.now.listing.events all_taken)) image (c.finish.ensures.only_read.moments image may)
+    sound_now (g.B.Bay.leaves c.args.bay.now) seen history c.args.tally.now c.args.log.now [] c.requires.counted c.requires.still up (partway_all c.args.tally.now.listing.settings history c.args.tally.now.listing.events all_taken (late_all history c.args.tally.now.listing.events all_taken)) image (c.finish.ensures.only_read.moments image may)
 
 pub returns-in_err-finish-clause-sound : goal.returns-in_err-finish-clause-sound
 returns-in_err-finish-clause-sound g c = λ seen told history up file at same.
@@ -60,7 +60,7 @@ returns-in_err-append-clause-each_moment g c = λ seen told history all_taken up
     let each : InEach ((g.B.Bay.left_since c.append.new.bay) (g.B.Bay.moment c.finish.new.bay)) 1 (IsWithOrWithout (most_record c.args.tally.now.listing.settings) 8 (map log_payload_of up.logged) c.args.log.now.gate payload) =
     λ earlier left. subst (λ (m : ℕ). IsWithOrWithout m 8 (map log_payload_of up.logged) c.args.log.now.gate payload (earlier 1)) c.requires.logging.most (c.append.ensures.each_moment seen (c.finish.ensures.only_read.seen ∙ told) 8 (map log_payload_of up.logged) all earlier left) in
     elim (c.append.ensures.time.known (g.B.Bay.moment c.args.bay.now) image c.finish.ensures.only_read.time.later may) [
-      | inl past ↦ sound_now (g.B.Bay.leaves c.args.bay.now) seen history c.args.tally.now c.args.log.now [] c.requires.counted c.requires.still up (partway_all history c.args.tally.now.listing.events all_taken (late_all history c.args.tally.now.listing.events all_taken)) image (c.finish.ensures.only_read.moments image past)
+      | inl past ↦ sound_now (g.B.Bay.leaves c.args.bay.now) seen history c.args.tally.now c.args.log.now [] c.requires.counted c.requires.still up (partway_all c.args.tally.now.listing.settings history c.args.tally.now.listing.events all_taken (late_all history c.args.tally.now.listing.events all_taken)) image (c.finish.ensures.only_read.moments image past)
       | inr here ↦ sound_close (g.B.Bay.leaves c.finish.new.bay) seen history c.args.tally.now c.finish.new.self c.args.log.now up.logged c.requires.counted ending few ((g.B.Bay.left_since c.append.new.bay) (g.B.Bay.moment c.finish.new.bay)) payload payload_is (c.append.ensures.others seen (c.finish.ensures.only_read.seen ∙ told)) (c.append.ensures.before seen (c.finish.ensures.only_read.seen ∙ told)) each image here
     ])
 
@@ -102,7 +102,7 @@ returns-clause-each_moment g c = λ seen told history all_taken up image may.
     let each : InEach ((g.B.Bay.left_since c.append.new.bay) (g.B.Bay.moment c.finish.new.bay)) 1 (IsWithOrWithout (most_record c.args.tally.now.listing.settings) 8 (map log_payload_of up.logged) c.args.log.now.gate payload) =
     λ earlier left. subst (λ (m : ℕ). IsWithOrWithout m 8 (map log_payload_of up.logged) c.args.log.now.gate payload (earlier 1)) c.requires.logging.most (c.append.ensures.each_moment seen (c.finish.ensures.only_read.seen ∙ told) 8 (map log_payload_of up.logged) all earlier left) in
     elim (c.append.ensures.time.known (g.B.Bay.moment c.args.bay.now) image c.finish.ensures.only_read.time.later may) [
-      | inl past ↦ sound_now (g.B.Bay.leaves c.args.bay.now) seen history c.args.tally.now c.args.log.now [] c.requires.counted c.requires.still up (partway_all history c.args.tally.now.listing.events all_taken (late_all history c.args.tally.now.listing.events all_taken)) image (c.finish.ensures.only_read.moments image past)
+      | inl past ↦ sound_now (g.B.Bay.leaves c.args.bay.now) seen history c.args.tally.now c.args.log.now [] c.requires.counted c.requires.still up (partway_all c.args.tally.now.listing.settings history c.args.tally.now.listing.events all_taken (late_all history c.args.tally.now.listing.events all_taken)) image (c.finish.ensures.only_read.moments image past)
       | inr here ↦ sound_close (g.B.Bay.leaves c.finish.new.bay) seen history c.args.tally.now c.finish.new.self c.args.log.now up.logged c.requires.counted ending few ((g.B.Bay.left_since c.append.new.bay) (g.B.Bay.moment c.finish.new.bay)) payload payload_is (c.append.ensures.others seen (c.finish.ensures.only_read.seen ∙ told)) (c.append.ensures.before seen (c.finish.ensures.only_read.seen ∙ told)) each image here
     ])
 

@@ -16,7 +16,7 @@ returns-in_err-take_key-clause-each_moment g c = λ seen told history partway up
     elim (c.take_key.ensures.journal.time.known (g.B.Bay.moment c.args.bay.now) image c.loop-key.invariant.journal.time.later may) [
       | inl past ↦ c.loop-key.invariant.each_moment seen told history partway up image past
       | inr here ↦ sound_behind c.loop-key.tally.listing c.args.tally.now.listing history image (ap (λ (l : Listing). l.settings) c.loop-key.invariant.taken) (ap (λ (l : Listing). l.cone) c.loop-key.invariant.taken)
-          (c.take_key.ensures.each_moment mid.0 mid.1 history (subst (λ (keys : List ℕ). IsPartway history keys (get_or c.args.keys.now c.loop-key.key-index 0 ∷ [])) (sym (ap (λ (l : Listing). l.events) c.loop-key.invariant.taken)) (partway_step history c.args.tally.now.listing.events c.args.keys.now c.loop-key.key-index c.loop-key-test.true partway)) here_up image here)
+          (c.take_key.ensures.each_moment mid.0 mid.1 history (subst (λ (l : Listing). IsPartway l.settings history l.events (get_or c.args.keys.now c.loop-key.key-index 0 ∷ [])) (sym c.loop-key.invariant.taken) (partway_step c.args.tally.now.listing.settings history c.args.tally.now.listing.events c.args.keys.now c.loop-key.key-index c.loop-key-test.true partway)) here_up image here)
     ])
 
 pub returns-in_err-take_key-clause-sound : goal.returns-in_err-take_key-clause-sound
@@ -61,17 +61,21 @@ loop-key-preserved g c =
       log_shut = c.in_ok-take_key.ensures.log_shut;
       in_step = λ seen told history partway up.
           let mid = c.loop-key.invariant.journal.seen.told seen told in
-          c.in_ok-take_key.ensures.in_step mid.0 mid.1 history (subst (λ (keys : List ℕ). IsPartway history keys (get_or c.args.keys.now c.loop-key.key-index 0 ∷ [])) (sym (ap (λ (l : Listing). l.events) c.loop-key.invariant.taken)) (partway_step history c.args.tally.now.listing.events c.args.keys.now c.loop-key.key-index c.loop-key-test.true partway)) (c.loop-key.invariant.in_step seen told history partway up mid.0 mid.1);
+          c.in_ok-take_key.ensures.in_step mid.0 mid.1 history (subst (λ (l : Listing). IsPartway l.settings history l.events (get_or c.args.keys.now c.loop-key.key-index 0 ∷ [])) (sym c.loop-key.invariant.taken) (partway_step c.args.tally.now.listing.settings history c.args.tally.now.listing.events c.args.keys.now c.loop-key.key-index c.loop-key-test.true partway)) (c.loop-key.invariant.in_step seen told history partway up mid.0 mid.1);
       each_moment = λ seen told history partway up image may.
           (let mid = c.loop-key.invariant.journal.seen.told seen told in
           let here_up = c.loop-key.invariant.in_step seen told history partway up mid.0 mid.1 in
           elim (c.take_key.ensures.journal.time.known (g.B.Bay.moment c.args.bay.now) image c.loop-key.invariant.journal.time.later may) [
             | inl past ↦ c.loop-key.invariant.each_moment seen told history partway up image past
             | inr here ↦ sound_behind c.loop-key.tally.listing c.args.tally.now.listing history image (ap (λ (l : Listing). l.settings) c.loop-key.invariant.taken) (ap (λ (l : Listing). l.cone) c.loop-key.invariant.taken)
-                (c.take_key.ensures.each_moment mid.0 mid.1 history (subst (λ (keys : List ℕ). IsPartway history keys (get_or c.args.keys.now c.loop-key.key-index 0 ∷ [])) (sym (ap (λ (l : Listing). l.events) c.loop-key.invariant.taken)) (partway_step history c.args.tally.now.listing.events c.args.keys.now c.loop-key.key-index c.loop-key-test.true partway)) here_up image here)
+                (c.take_key.ensures.each_moment mid.0 mid.1 history (subst (λ (l : Listing). IsPartway l.settings history l.events (get_or c.args.keys.now c.loop-key.key-index 0 ∷ [])) (sym c.loop-key.invariant.taken) (partway_step c.args.tally.now.listing.settings history c.args.tally.now.listing.events c.args.keys.now c.loop-key.key-index c.loop-key-test.true partway)) here_up image here)
           ]);
       journal = (leaves_on 0 (g.B.Bay.files c.args.bay.now) (g.B.Bay.files c.loop-key.bay) (g.B.Bay.files c.take_key.new.bay) (g.B.Bay.leaves c.args.bay.now) (g.B.Bay.leaves c.loop-key.bay) (g.B.Bay.leaves c.take_key.new.bay) (g.B.Bay.moment c.args.bay.now) (g.B.Bay.moment c.loop-key.bay) (g.B.Bay.moment c.take_key.new.bay) (g.B.Bay.left_since c.args.bay.now) (g.B.Bay.left_since c.loop-key.bay) (g.B.Bay.left_since c.take_key.new.bay) c.loop-key.invariant.journal c.take_key.ensures.journal (g.met.B.Bay.since_earlier c.take_key.new.bay));
       most = c.take_key.ensures.most ∙ c.loop-key.invariant.most;
       never_falls = omega (arith, c.loop-key.invariant.never_falls, c.take_key.ensures.never_falls);
       mark = c.take_key.ensures.mark ∙ c.loop-key.invariant.mark;
     }
+
+pub returns-in_err-take_key-clause-shows : goal.returns-in_err-take_key-clause-shows
+returns-in_err-take_key-clause-shows g c = λ seen told file at same.
+    c.take_key.ensures.shows seen told file at (c.in_err-take_key.was ∙ handed_on c.from_residual.result c.in_err-take_key.field-0.0 c.from_residual.ensures.1 ∙ same)

@@ -14,10 +14,10 @@ invariant-loop-key g l = record {
   counted : IsCounted l.tally;
   logging : IsLogging l.tally l.log (length l.buffer);
   log_shut : IsShutIfTold (g.B.Bay.files l.bay) (g.B.Bay.leaves l.bay) 1 l.log.gate;
-  in_step : IfTold (g.B.Bay.files l.fn.bay) (λ seen. (history : List Packet) → IsPartway history l.fn.tally.listing.events l.fn.keys →
+  in_step : IfTold (g.B.Bay.files l.fn.bay) (λ seen. (history : List Packet) → IsPartway l.fn.tally.listing.settings history l.fn.tally.listing.events l.fn.keys →
       IsInStep (g.B.Bay.leaves l.fn.bay) seen history l.fn.tally.listing l.fn.tally.rows l.fn.tally.due.reports l.fn.log →
       IfTold (g.B.Bay.files l.bay) (λ after. IsInStep (g.B.Bay.leaves l.bay) after history l.tally.listing l.tally.rows l.tally.due.reports l.log));
-  each_moment : IfTold (g.B.Bay.files l.fn.bay) (λ seen. (history : List Packet) → IsPartway history l.fn.tally.listing.events l.fn.keys →
+  each_moment : IfTold (g.B.Bay.files l.fn.bay) (λ seen. (history : List Packet) → IsPartway l.fn.tally.listing.settings history l.fn.tally.listing.events l.fn.keys →
       IsInStep (g.B.Bay.leaves l.fn.bay) seen history l.fn.tally.listing l.fn.tally.rows l.fn.tally.due.reports l.fn.log →
       (image : Files) → g.B.Bay.left_since l.bay (g.B.Bay.moment l.fn.bay) image → IsSound l.fn.tally.listing.settings l.fn.tally.listing.cone history image);
   journal : LeavesFile 0 (g.B.Bay.files l.fn.bay) (g.B.Bay.files l.bay) (g.B.Bay.leaves l.fn.bay) (g.B.Bay.leaves l.bay) (g.B.Bay.moment l.fn.bay) (g.B.Bay.moment l.bay) (g.B.Bay.left_since l.fn.bay) (g.B.Bay.left_since l.bay);

@@ -1,26 +1,24 @@
-use Rattle.std.proofs.Common.{◌+◌, ◌-◌, ◌*◌, ◌<◌, ◌≤◌, [], ◌∷◌, ◌++◌, ap, ◌∙◌, arith, rules, refl}
-use Rattle.std.proofs.Math.Nat.{mul-le-mul}
+use Rattle.std.proofs.Common.{◌+◌, ◌-◌, ◌*◌, ◌<◌, [], ◌∷◌, ◌++◌, ap, ◌∙◌, arith, replicate, rules, refl}
 use Rattle.std.proofs.lemmas.Result.{err_from_is_err_and}
 use Rattle.lert_gatelog.specs.Gated.{Log}
+use Rattle.lert_spec.specs.declared.numbers.Numbers.{Numbers}
 use Rattle.lert_spec.specs.Edges.{capacity}
-use Rattle.lert_spec.proofs.LimitLaws.{capacity_to}
 use Rattle.lert_reports.specs.Log.{most_record}
 use Rattle.lert_recover.specs.Read.{steps}
 use Rattle.lert_recover.proofs.CallLaws.{only_read_on}
 use Rattle.lert_recover.proofs.GateLaws.{same_fault}
-use Rattle.lert_recover.proofs.StepLaws.{read_none, up_none, steps_few}
+use Rattle.lert_recover.proofs.StepLaws.{near, read_none, up_none, steps_few}
 use Rattle.lert_recover.proofs.log.read_records.Goals as goal
 
 pub records-init : goal.records-init
 records-init g c = record {
   records = [];
-  has = read_none c.args.settings.now c.args.cone c.new-progress.result c.args.store.now.reports c.clear_directory.new.directory.items c.new-progress.ensures c.requires.empty c.clear_directory.ensures.items;
+  has = read_none c.args.settings.now c.args.cone c.new-progress.result c.args.store.now.reports c.clear.new.self c.new-progress.ensures c.requires.empty (c.clear.ensures ∙ ap (λ (n : Numbers). replicate n.levels 0) c.numbers.ensures.value);
   up = λ seen told headed. up_none c.args.settings.now c.args.cone (seen 1) c.at_gate-log.result.gate headed (ap (λ (log : Log). log.gate) c.at_gate-log.ensures);
   file = ap (λ (log : Log). log.file) c.at_gate-log.ensures;
   most = ap (λ (log : Log). log.most) c.at_gate-log.ensures ∙ c.most_record.ensures.value;
   reach = omega (arith, ap (λ (log : Log). log.gate) c.at_gate-log.ensures);
   same = refl;
-  directory = search rules;
   only_read = search rules;
   never_falls = omega arith;
   mark = refl;
@@ -28,12 +26,17 @@ records-init g c = record {
 
 pub read_record-requires-clause-reach : goal.read_record-requires-clause-reach
 read_record-requires-clause-reach g c =
-    let s = c.args.settings.now in
     let now = c.records.invariant in
-    let few = steps_few s c.args.cone c.most_record.ensures.valid c.records.progress c.records.store.reports c.records.directory.items now.records now.has in
-    let count : steps c.records.progress ≤ 4294967296 = omega (arith, few, capacity_to s c.most_record.ensures.valid) in
-    let size : 5 + most_record s ≤ 134217733 = omega (arith, c.most_record.ensures.within, c.most_record.ensures.value) in
-    omega (arith, now.reach, mul-le-mul count size)
+    near c.args.settings.now c.args.cone c.most_record.ensures.valid c.records.progress c.records.store.reports c.records.directory now.records now.has
+    c.records.log.gate now.reach (omega (arith, c.most_record.ensures.within, c.most_record.ensures.value))
+
+pub returns-then-not-branch-clause-reach : goal.returns-then-not-branch-clause-reach
+returns-then-not-branch-clause-reach g c =
+    let now = c.records.invariant in
+    let waits = c.in_ok-read_record.ensures.waits c.if-not-branch.true in
+    let here = near c.args.settings.now c.args.cone c.most_record.ensures.valid c.records.progress c.records.store.reports c.records.directory now.records now.has
+    c.records.log.gate now.reach (omega (arith, c.most_record.ensures.within, c.most_record.ensures.value)) in
+    omega (arith, here, ap (λ (log : Log). log.gate) waits.0, c.gate.ensures.value)
 
 pub returns-in_err-read_record-clause-malformed : goal.returns-in_err-read_record-clause-malformed
 returns-in_err-read_record-clause-malformed g c seen told headed file at =
@@ -46,7 +49,7 @@ pub records-smaller : goal.records-smaller
 records-smaller g c =
     let s = c.args.settings.now in
     let now = c.records.invariant in
-    let few = steps_few s c.args.cone c.most_record.ensures.valid c.records.progress c.records.store.reports c.records.directory.items now.records now.has in
+    let few = steps_few s c.args.cone c.most_record.ensures.valid c.records.progress c.records.store.reports c.records.directory now.records now.has in
     let one_more = c.in_ok-read_record.ensures.steps c.if-not-branch.false in
     let falls : capacity s + 2 - steps c.read_record.new.progress < capacity s + 2 - steps c.records.progress = omega (arith, few, one_more) in
     falls
@@ -66,7 +69,6 @@ records-preserved g c =
       most = read.log.1 ∙ now.most;
       reach = omega (arith, now.reach, read.forward c.if-not-branch.false, one_more);
       same = read.same ∙ now.same;
-      directory = read.directory ∙ now.directory;
       only_read = only_read_on (g.B.Bay.files c.args.bay.now) (g.B.Bay.files c.records.bay) (g.B.Bay.files c.read_record.new.bay) (g.B.Bay.leaves c.args.bay.now) (g.B.Bay.leaves c.records.bay) (g.B.Bay.leaves c.read_record.new.bay) (g.B.Bay.moment c.args.bay.now) (g.B.Bay.moment c.records.bay) (g.B.Bay.moment c.read_record.new.bay) (g.B.Bay.left_since c.args.bay.now) (g.B.Bay.left_since c.records.bay) (g.B.Bay.left_since c.read_record.new.bay) now.only_read read.only_read (g.met.B.Bay.since_earlier c.read_record.new.bay);
       never_falls = omega (arith, now.never_falls, read.never_falls);
       mark = read.mark ∙ now.mark;

@@ -1,4 +1,4 @@
-use Rattle.std.proofs.Common.{◌≡◌, ◌+◌, ◌-◌, ◌*◌, ◌≤◌, Some, List, vec_capacity}
+use Rattle.std.proofs.Common.{◌≡◌, ◌+◌, ◌-◌, ◌*◌, ◌≤◌, Some, List}
 use Rattle.lert_bay.specs.Files.{Files}
 use Rattle.lert_bay.specs.Settled.{part}
 use Rattle.lert_frames.specs.Kept.{OnlyRead}
@@ -12,13 +12,12 @@ use Rattle.lert_recover.proofs.log.read_records.Given as goal
 abbrev pub invariant-records : goal.invariant-records
 invariant-records g l = record {
   records : List LogRecord;
-  has : HasRead l.settings l.cone l.progress l.store.reports l.directory.items records;
+  has : HasRead l.settings l.cone l.progress l.store.reports l.directory records;
   up : (seen : Files) → g.B.Bay.files l.fn.bay ≡ Some seen → part (seen 1) 0 8 ≡ log_header → HasLogUpTo l.settings l.cone (seen 1) records l.log.gate;
   file : l.log.file ≡ 1;
   most : l.log.most ≡ most_record l.settings;
   reach : l.log.gate ≤ 8 + steps l.progress * (5 + most_record l.settings);
   same : l.store.settings ≡ l.fn.store.settings;
-  directory : vec_capacity l.directory ≡ vec_capacity l.fn.directory;
   only_read : OnlyRead (g.B.Bay.files l.fn.bay) (g.B.Bay.files l.bay) (g.B.Bay.leaves l.fn.bay) (g.B.Bay.leaves l.bay) (g.B.Bay.moment l.fn.bay) (g.B.Bay.moment l.bay) (g.B.Bay.left_since l.fn.bay) (g.B.Bay.left_since l.bay);
   never_falls : g.B.Faulty.faults l.fn.bay ≤ g.B.Faulty.faults l.bay;
   mark : g.B.Faulty.mark l.bay ≡ g.B.Faulty.mark l.fn.bay;

@@ -13,7 +13,7 @@ use Rattle.lert_reports.proofs.RecordLaws.{parts_tell}
 use Rattle.lert_recover.specs.Repeated.{reports_from, IsListedThere, AreNewThere}
 use Rattle.lert_recover.proofs.LeavesLaws.{first_again}
 use Rattle.lert_recover.proofs.RepeatLaws.{length_from}
-use Rattle.lert_recover.proofs.StepLaws.{all_new, counted, directory_fits, directory_there, flushes_few, listed_of_cone, read_more, IsAfter}
+use Rattle.lert_recover.proofs.StepLaws.{all_new, counted, directory_fits, directory_there, flushes_few, listed_of_cone, most_directory_fits, read_more, IsAfter}
 use Rattle.lert_recover.proofs.step.take_record.Goals as goal
 
 pub put_reports-requires-clause-room : goal.put_reports-requires-clause-room
@@ -22,7 +22,7 @@ put_reports-requires-clause-room g c =
     let valid = subst IsValid c.numbers.ensures.value c.numbers.ensures.valid in
     let keeps = c.in-Ok.ensures.found.0 in
     let read = c.requires.read in
-    omega (arith, keeps.room, length_from c.args.payload.now c.in-Ok.parts.reports_at c.in-Ok.parts.reports, counted s c.args.cone valid c.args.progress.now c.args.store.now.reports c.args.directory.now.items read.0 read.1, ap (λ (n : Numbers). n.room) c.requires.same)
+    omega (arith, keeps.room, length_from c.args.payload.now c.in-Ok.parts.reports_at c.in-Ok.parts.reports, counted s c.args.cone valid c.args.progress.now c.args.store.now.reports c.args.directory.now read.0 read.1, ap (λ (n : Numbers). n.room) c.requires.same)
 
 pub put_reports-requires-clause-of_cone : goal.put_reports-requires-clause-of_cone
 put_reports-requires-clause-of_cone g c =
@@ -33,7 +33,7 @@ put_reports-requires-clause-of_cone g c =
     let read = c.requires.read in
     let reports = reports_from c.args.payload.now c.in-Ok.parts.reports_at c.in-Ok.parts.reports in
     let listed = c.args.store.now.reports in
-    let before = listed_of_cone s cone valid c.args.progress.now listed c.args.directory.now.items read.0 read.1 in (
+    let before = listed_of_cone s cone valid c.args.progress.now listed c.args.directory.now read.0 read.1 in (
       cone,
       subst (λ (numbers : Numbers). All (λ report. cone_of numbers report.key ≡ cone) (listed ++ reports)) (sym c.requires.same)
           (All-append (λ (report : Report). cone_of s report.key ≡ cone) listed reports before keeps.reports.of_cone),
@@ -54,8 +54,8 @@ returns-in-Some-clause-taken g c records has =
     (subst (λ listed. IsListedThere listed payload parts.reports_at c.in-Some.number) has.is_read.reports_are found.1)
     (subst (λ listed. AreNewThere listed payload parts.reports_at c.in-Some.number) has.is_read.reports_are found.2)
 
-pub put_directory-requires : goal.put_directory-requires
-put_directory-requires g c =
+pub replace-requires : goal.replace-requires
+replace-requires g c =
     let s = c.args.settings.now in
     let payload = c.args.payload.now in
     let parts = c.in-Ok.parts in
@@ -68,24 +68,25 @@ put_directory-requires g c =
     let tell = parts_tell s c.args.cone before one payload parts valid keeps is are in
     let there = directory_there one payload (parts.reports_at - 4 - 25) is (omega (arith, tell.place_is)) in
     let bytes = ap (λ at. take (parts.reports_at - 4 - at) (drop at payload)) are.directory_is ∙ there in
-    omega (arith, ap (length {A = ℕ}) bytes, directory_fits s c.args.cone before one keeps, c.requires.directory)
+    let short = most_directory_fits s valid in
+    omega (arith, ap (length {A = ℕ}) bytes, directory_fits s c.args.cone before one keeps, short)
 
 pub after-requires : goal.after-requires
 after-requires g c =
     let valid = subst IsValid c.numbers.ensures.value c.numbers.ensures.valid in
     let read = c.requires.read in
-    flushes_few c.args.settings.now c.args.cone valid c.args.progress.now c.args.store.now.reports c.args.directory.now.items read.0 read.1
+    flushes_few c.args.settings.now c.args.cone valid c.args.progress.now c.args.store.now.reports c.args.directory.now read.0 read.1
 
 pub first_left-requires-clause-left : goal.first_left-requires-clause-left
 first_left-requires-clause-left g c =
     let valid = subst IsValid c.numbers.ensures.value c.numbers.ensures.valid in
     let read = c.requires.read in
-    let count = counted c.args.settings.now c.args.cone valid c.args.progress.now c.args.store.now.reports c.args.directory.now.items read.0 read.1 in (
+    let count = counted c.args.settings.now c.args.cone valid c.args.progress.now c.args.store.now.reports c.args.directory.now read.0 read.1 in (
       c.args.cone,
       c.args.progress.now.before,
       c.in-Err.ensures.exact,
       omega (arith, count),
-      listed_of_cone c.args.settings.now c.args.cone valid c.args.progress.now c.args.store.now.reports c.args.directory.now.items read.0 read.1,
+      listed_of_cone c.args.settings.now c.args.cone valid c.args.progress.now c.args.store.now.reports c.args.directory.now read.0 read.1,
     )
 
 pub returns-in_default-clause-taken : goal.returns-in_default-clause-taken
@@ -113,7 +114,7 @@ returns-in_default-clause-taken g c records has =
       closed_is = c.after.ensures.closed;
     } in (
       one,
-      read_more s c.args.cone progress c.after.result listed c.put_reports.new.store.reports c.args.directory.now.items c.put_directory.new.directory.items records one has c.requires.still_open keeps once later found.0 (c.put_directory.ensures.items ∙ bytes),
+      read_more s c.args.cone progress c.after.result listed c.put_reports.new.store.reports c.args.directory.now c.replace.new.self records one has c.requires.still_open keeps once later found.0 (c.replace.ensures ∙ bytes),
       is,
     )
 

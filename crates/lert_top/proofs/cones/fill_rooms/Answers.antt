@@ -3,7 +3,7 @@ use Rattle.std.proofs.lemmas.List.Elements.{All-pop}
 use Rattle.lert_cone.specs.Stands.{Standing}
 use Rattle.lert_spec.specs.declared.numbers.Numbers.{Numbers}
 use Rattle.lert_top.specs.Bays.{AreLater, bays_of}
-use Rattle.lert_top.specs.Cones.{IsNew}
+use Rattle.lert_top.specs.Cones.{IsNew, IsNewRoom}
 use Rattle.lert_top.specs.Run.{IsUnmade}
 use Rattle.lert_top.specs.Status.{create_status}
 use Rattle.lert_top.proofs.ConeLaws.{back_later, call_later, each-push, made_later, unmade_by}
@@ -58,7 +58,7 @@ loop-number-preserved g c =
     let later = subst (λ xs. AreLater g.B.Bay.files g.B.Faulty.faults g.B.Faulty.mark bays (bays_of cones ++ xs)) items here.later in
     let one = call_later g.B.Bay.files g.B.Faulty.faults g.B.Faulty.mark bay cone.bay c.in-Ok.ensures.mark c.in-Ok.ensures.never_falls c.in-Ok.ensures.frames in
     let pushed = c.push_reserved.ensures.items in
-    let popped = All-pop (λ r. r ≡ s) c.loop-number.rooms.items c.pop.new.self.items (Some room) c.in-Some.ensures.items here.rooms in
+    let popped = All-pop (IsNewRoom s) c.loop-number.rooms.items c.pop.new.self.items (Some room) c.in-Some.ensures.items here.rooms in
     let number = ap length pushed ∙ length-append cones (cone ∷ []) in
     let fewer = ap length c.in-Some.ensures.items ∙ length-append c.pop.new.self.items (room ∷ []) in
     record {
@@ -72,9 +72,10 @@ loop-number-preserved g c =
           each-push (IsNew g.B.Bay.files g.B.Bay.leaves g.B.Faulty.faults s) cones cone here.new_cones
           (record {
             stands = c.in-Ok.ensures.stands_for;
+            sound = c.in-Ok.ensures.was_sound;
             listing_is =
                 ap (λ (x : Standing g.row.B.Denot). x.listing) c.in-Ok.ensures.made
-                ∙ (ap (λ (n : Numbers). record { settings = n; cone = c.loop-number.number; events = []; closed = false }) popped.1
+                ∙ (ap (λ (n : Numbers). record { settings = n; cone = c.loop-number.number; events = []; closed = false }) popped.1.0
                 ∙ ap (λ (n : ℕ). record { settings = s; cone = n; events = []; closed = false }) (sym here.number));
             state_is = ap (λ (x : Standing g.row.B.Denot). x.state) c.in-Ok.ensures.made;
           })

@@ -2,7 +2,7 @@ use Rattle.std.proofs.Common.{◌≡◌, ◌+◌, ◌^◌, ◌≤◌, List, ◌+
 use Rattle.std.specs.Prelude.{All, vec_capacity}
 use Rattle.std.specs.VecDeque.{deque_capacity}
 use Rattle.lert_top.specs.Bays.{AreLater, bays_of}
-use Rattle.lert_top.specs.Cones.{AreNew}
+use Rattle.lert_top.specs.Cones.{AreNew, IsNewRoom}
 use Rattle.lert_top.proofs.cones.fill_rooms.Given as goal
 
 -- a cone over each bay so far
@@ -10,7 +10,7 @@ abbrev pub invariant-loop-number : goal.invariant-loop-number
 invariant-loop-number g l = record {
   number : length l.cones.items ≡ l.number;
   rooms_left : length l.rooms.items + l.number ≡ 2 ^ l.settings.cone_bits;
-  rooms : All (λ room. room ≡ l.settings) l.rooms.items;
+  rooms : All (IsNewRoom l.settings) l.rooms.items;
   split : (front : List g.row.B.Denot) × (length front ≡ length l.cones.items) × (front ++ l.bays.items ≡ l.fn.bays.items);
   later : AreLater g.B.Bay.files g.B.Faulty.faults g.B.Faulty.mark l.fn.bays.items (bays_of l.cones.items ++ l.bays.items);
   new_cones : AreNew g.B.Bay.files g.B.Bay.leaves g.B.Faulty.faults l.settings l.cones.items;

@@ -1,5 +1,6 @@
-use Rattle.std.proofs.Common.{◌≡◌, ◌+◌, ◌∷◌, [], length, ap, ◌∙◌, length-append}
+use Rattle.std.proofs.Common.{◌+◌, ◌∷◌, [], length, ap, ◌∙◌, length-append}
 use Rattle.std.proofs.lemmas.List.Elements.{All-push, All-same}
+use Rattle.lert_top.specs.Cones.{IsNewRoom}
 use Rattle.lert_top.proofs.cones.make_rooms.Goals as goal
 
 pub loop-preserved : goal.loop-preserved
@@ -9,5 +10,5 @@ loop-preserved c =
     let items = c.in_ok-push.ensures.items in
     record {
       number = ap length items ∙ (length-append c.loop.rooms.items (room ∷ []) ∙ ap (λ n. n + 1) here.number);
-      each = All-same (λ r. r ≡ c.args.settings.now) c.push.new.self.items _ items (All-push (λ r. r ≡ c.args.settings.now) c.loop.rooms.items room here.each c.in_ok-new.ensures);
+      each = All-same (IsNewRoom c.args.settings.now) c.push.new.self.items _ items (All-push (IsNewRoom c.args.settings.now) c.loop.rooms.items room here.each (c.in_ok-new.ensures.settings, c.in_ok-new.ensures.room));
     }

@@ -1,69 +1,71 @@
-use Rattle.std.proofs.Common.{◌++◌, ◌∷◌, ◌^◌, true, false, [], List, length, refl, ap, sym, ◌∙◌, subst, inl, inr}
-use Rattle.lert_io.proofs.Rising.{risen_since}
-use Rattle.lert_io.specs.Fault.{HasRisen}
-use Rattle.lert_top.specs.declared.opening.Wanted.TheVariants.{Trace}
-use Rattle.lert_top.specs.Asked.{trace_asked}
-use Rattle.lert_top.specs.Bays.{AreLater}
+use Rattle.std.proofs.Common.{◌≡◌, ◌^◌, ◌∷◌, [], List, ℕ, true, refl, ap, sym, ◌∙◌, subst, inl, inr}
+use Rattle.lert_spec.specs.declared.numbers.Numbers.{Numbers}
+use Rattle.lert_top.specs.declared.line.Line.{Line}
+use Rattle.lert_top.specs.declared.line.Task.{Task}
+use Rattle.lert_top.specs.declared.line.Task.TheVariants.{Run, Recover}
+use Rattle.lert_top.specs.Asked.{IsAsked, IsAskedForBays}
+use Rattle.lert_top.specs.Recovered.{HasRecovered}
 use Rattle.lert_top.specs.Run.{HasRun}
 use Rattle.lert_top.specs.Word.{word_at}
-use Rattle.lert_top.proofs.AskedLaws.{asked_along, none_returned, one_returned, returned_along}
+use Rattle.lert_top.proofs.AskedLaws.{none_returned}
 use Rattle.lert_top.proofs.Ending.{some_is, word_at-slice_get}
+use Rattle.lert_top.proofs.Spelling.{places_of}
 use Rattle.lert_top.proofs.top.run.Goals as goal
 
-pub returns-in-Err-open_trace-clause-asked : goal.returns-in-Err-open_trace-clause-asked
-returns-in-Err-open_trace-clause-asked g c = λ line spelled sound.
+-- a line that runs names one trace, and a line that recovers none
+one_trace : (t : Task) (here there : ℕ) → t ≡ Run here → t ≡ Run there → here ≡ there
+one_trace t here there is other = let same : Run here ≡ Run there = sym is ∙ other in cc
+
+no_trace : (t : Task) (trace : ℕ) → t ≡ Run trace → t ≡ Recover → ⊥
+no_trace t trace is other = let clash : Run trace ≡ Recover = sym is ∙ other in cc
+
+pub word-dir-requires : goal.word-dir-requires
+word-dir-requires g c = (places_of c.args.words.now c.in-Ok.line c.in-Ok.ensures.line).dir
+
+pub word-requires : goal.word-requires
+word-requires g c = (places_of c.args.words.now c.in-Ok.line c.in-Ok.ensures.line).trace c.in-Run.trace c.in-Run.is
+
+pub returns-in-Run-clause-asked : goal.returns-in-Run-clause-asked
+returns-in-Run-clause-asked g c = λ line trace spelled task sound.
+    let words = c.args.words.now in
     let same = some_is (sym c.in-Ok.ensures.line ∙ spelled) in
-    let name = word_at-slice_get c.args.words.now c.in-Ok.line.trace c.word.result.now c.word.ensures ∙ ap (λ l. word_at c.args.words.now l.trace) same in
-    inl (record {
-      asked_is = c.in-Err-open_trace.ensures.asked ∙ (ap (λ xs. xs ++ record { wanted = Trace c.word.result.now; opened = false } ∷ []) c.requires.asked ∙ ap (λ n. trace_asked n false ∷ []) name);
-      status_is = refl;
-    })
+    let at = one_trace line.task c.in-Run.trace trace (sym (ap (λ (l : Line). l.task) same) ∙ c.in-Run.is) task in
+    let name = word_at-slice_get words c.in-Run.trace c.word.result.now c.word.ensures ∙ ap (word_at words) at in
+    let dir = word_at-slice_get words c.in-Ok.line.dir c.word-dir.result.now c.word-dir.ensures ∙ ap (λ (l : Line). word_at words l.dir) same in
+    subst (λ (n : List ℕ). IsAsked n (word_at words line.dir) (2 ^ line.settings.cone_bits) (g.P.Place.asked c.run_line.new.place) c.run_line.result) name
+    (subst (λ (d : List ℕ). IsAsked c.word.result.now d (2 ^ line.settings.cone_bits) (g.P.Place.asked c.run_line.new.place) c.run_line.result) dir
+    (subst (λ (l : Line). IsAsked c.word.result.now c.word-dir.result.now (2 ^ l.settings.cone_bits) (g.P.Place.asked c.run_line.new.place) c.run_line.result) same c.run_line.ensures.asked))
 
-pub returns-in-Err-open_trace-clause-returned : goal.returns-in-Err-open_trace-clause-returned
-returns-in-Err-open_trace-clause-returned g c = λ sound. (
-  none_returned g.P.Trace.Faulty.mark _ _ (c.in-Err-open_trace.ensures.refused ∙ c.requires.handed),
-  none_returned g.P.Bay.Faulty.mark _ _ (c.open_trace.ensures.bays ∙ c.requires.handed_bays),
-)
-
-pub returns-clause-asked : goal.returns-clause-asked
-returns-clause-asked g c = λ line spelled sound.
+pub returns-in-Run-clause-ran : goal.returns-in-Run-clause-ran
+returns-in-Run-clause-ran g c = λ line trace spelled task sound differs.
     let same = some_is (sym c.in-Ok.ensures.line ∙ spelled) in
-    let name = word_at-slice_get c.args.words.now c.in-Ok.line.trace c.word.result.now c.word.ensures ∙ ap (λ l. word_at c.args.words.now l.trace) same in
-    let dir = word_at-slice_get c.args.words.now c.in-Ok.line.dir c.word-2.result.now c.word-2.ensures ∙ ap (λ l. word_at c.args.words.now l.dir) same in
-    let before = c.in-Ok-open_trace.ensures.asked
-    ∙ (ap (λ xs. xs ++ record { wanted = Trace c.word.result.now; opened = true } ∷ []) c.requires.asked ∙ ap (λ n. trace_asked n true ∷ []) name) in
-    inr (asked_along c.word-2.result.now (word_at c.args.words.now line.dir) (2 ^ c.in-Ok.line.settings.cone_bits) (2 ^ line.settings.cone_bits) _ (trace_asked (word_at c.args.words.now line.trace) true ∷ [])
-    _ _ c.run_trace-trace.result.1 dir (ap (λ l. 2 ^ l.settings.cone_bits) same) before (sym c.put_back_trace.ensures.asked) c.run_trace-trace.ensures.asked)
-
-pub returns-clause-place_fault : goal.returns-clause-place_fault
-returns-clause-place_fault g c = λ is.
-    let failed = c.run_trace-trace.ensures.place_fault is in
-    let rose = risen_since (g.P.Faulty.faults c.args.place.now) (g.P.Faulty.faults c.open_trace.new.self) (g.P.Faulty.faults c.run_trace-trace.new.place) c.open_trace.ensures.cause.never_falls
-    c.run_trace-trace.ensures.never_falls failed.0 in
-    (subst (HasRisen (g.P.Faulty.faults c.args.place.now)) (sym c.put_back_trace.ensures.faults) rose, failed.1)
-
-pub returns-clause-returned : goal.returns-clause-returned
-returns-clause-returned g c = λ sound. (
-  one_returned g.P.Trace.Faulty.mark c.in-Ok-open_trace.trace c.run_trace-trace.result.0 _ _
-      (c.put_back_trace.ensures.traces ∙ (c.run_trace-trace.ensures.traces ∙ (c.in-Ok-open_trace.ensures.handed ∙ ap (λ xs. xs ++ c.in-Ok-open_trace.trace ∷ []) c.requires.handed)))
-      c.put_back_trace.ensures.returned (c.run_trace-trace.ensures.mark ∙ (c.in-Ok-open_trace.ensures.number ∙ ap length c.requires.handed)),
-  returned_along g.P.Bay.Faulty.mark _ _ _ _ c.put_back_trace.ensures.bays c.put_back_trace.ensures.returned_bays c.run_trace-trace.ensures.returned,
-)
-
-pub returns-clause-ran : goal.returns-clause-ran
-returns-clause-ran g c = λ line spelled sound differs.
-    let same = some_is (sym c.in-Ok.ensures.line ∙ spelled) in
-    let ran = c.run_trace-trace.ensures.ran differs in
-    let trace = c.in-Ok-open_trace.trace in
-    let back = c.run_trace-trace.result.0 in
-    let handed = c.put_back_trace.ensures.bays in (
-      trace,
-      back,
+    let ran = c.run_line.ensures.ran differs in (
       ran.0,
-      c.put_back_trace.ensures.traces ∙ (c.run_trace-trace.ensures.traces ∙ (c.in-Ok-open_trace.ensures.handed ∙ ap (λ xs. xs ++ trace ∷ []) c.requires.handed)),
-      c.put_back_trace.ensures.returned,
-      λ cone below. c.put_back_trace.ensures.returned_bays cone ∙ ran.1 cone below,
-      subst (λ (xs : List g.row.P-Bay.Denot). AreLater g.P.Bay.Bay.files g.P.Bay.Faulty.faults g.P.Bay.Faulty.mark xs ran.0) (sym handed) ran.2,
-      subst (λ (xs : List g.row.P-Bay.Denot). HasRun {S = g.row.P-Trace.Denot} {K = g.row.K.Denot} {B = g.row.P-Bay.Denot} g.P.Trace.Source.remaining g.P.Trace.Faulty.faults g.K.Sink.taken g.K.Faulty.faults g.P.Bay.Bay.files g.P.Bay.Faulty.faults line.settings trace back c.args.out.now c.run_trace-trace.new.out xs ran.0 c.run_trace-trace.result.1) (sym handed)
-          (subst (λ l. HasRun {S = g.row.P-Trace.Denot} {K = g.row.K.Denot} {B = g.row.P-Bay.Denot} g.P.Trace.Source.remaining g.P.Trace.Faulty.faults g.K.Sink.taken g.K.Faulty.faults g.P.Bay.Bay.files g.P.Bay.Faulty.faults l.settings trace back c.args.out.now c.run_trace-trace.new.out (g.P.Place.handed_bays c.run_trace-trace.new.place) ran.0 c.run_trace-trace.result.1) same ran.3),
+      ran.1,
+      ran.2,
+      ran.3,
+      ran.4,
+      ran.5,
+      ran.6,
+      subst (λ (l : Line). HasRun {S = g.row.P-Trace.Denot} {K = g.row.K.Denot} {B = g.row.P-Bay.Denot} g.P.Trace.Source.remaining g.P.Trace.Faulty.faults g.K.Sink.taken g.K.Faulty.faults g.P.Bay.Bay.files g.P.Bay.Faulty.faults l.settings ran.0 ran.1 c.args.out.now c.run_line.new.out (g.P.Place.handed_bays c.run_line.new.place) ran.2 c.run_line.result) same ran.7,
+    )
+
+pub returns-in-Recover-clause-asked_again : goal.returns-in-Recover-clause-asked_again
+returns-in-Recover-clause-asked_again g c = λ line spelled task sound.
+    let words = c.args.words.now in
+    let same = some_is (sym c.in-Ok.ensures.line ∙ spelled) in
+    let dir = word_at-slice_get words c.in-Ok.line.dir c.word-dir.result.now c.word-dir.ensures ∙ ap (λ (l : Line). word_at words l.dir) same in
+    let asked = c.recover_to.ensures.asked in
+    subst (λ xs. IsAskedForBays (word_at words line.dir) (2 ^ line.settings.cone_bits) xs (g.P.Place.asked c.recover_to.new.place) c.recover_to.result) c.requires.asked
+    (subst (λ (d : List ℕ). IsAskedForBays d (2 ^ line.settings.cone_bits) (g.P.Place.asked c.args.place.now) (g.P.Place.asked c.recover_to.new.place) c.recover_to.result) dir
+    (subst (λ (l : Line). IsAskedForBays c.word-dir.result.now (2 ^ l.settings.cone_bits) (g.P.Place.asked c.args.place.now) (g.P.Place.asked c.recover_to.new.place) c.recover_to.result) same asked))
+
+pub returns-in-Recover-clause-recovered : goal.returns-in-Recover-clause-recovered
+returns-in-Recover-clause-recovered g c = λ line spelled task sound differs.
+    let same = some_is (sym c.in-Ok.ensures.line ∙ spelled) in
+    let recovered = c.recover_to.ensures.recovered differs in (
+      recovered.0,
+      recovered.1,
+      recovered.2,
+      subst (λ (l : Line). HasRecovered {K = g.row.K.Denot} {B = g.row.P-Bay.Denot} g.K.Sink.taken g.K.Faulty.faults g.P.Bay.Bay.files g.P.Bay.Faulty.faults l.settings c.args.out.now c.recover_to.new.out (g.P.Place.handed_bays c.recover_to.new.place) recovered.0 c.recover_to.result) same recovered.3,
     )

@@ -1,12 +1,13 @@
 use Rattle.std.proofs.Common.{◌≡◌, ℕ, ◌+◌, ◌<◌, List, ◌∷◌, ◌++◌, [], suc, false, length, ap, sym, ◌∙◌, subst, arith, Option, Err}
 use Rattle.lert_gatelog.specs.Kept.{InEach}
+use Rattle.lert_levels.specs.Loading.{OneBreaks}
 use Rattle.lert_levels.specs.Rows.{AreRows, HoldsBins}
 use Rattle.lert_spec.specs.declared.numbers.Numbers.{Numbers}
 use Rattle.lert_spec.specs.Edges.{capacity}
 use Rattle.lert_spec.specs.Mix.{cone_of}
 use Rattle.lert_cone.specs.Due.{Dues, started}
 use Rattle.lert_cone.specs.Tally.{Tallied, IsCounted, IsHeld, due_in}
-use Rattle.lert_cone.proofs.TakeLaws.{rows_before, young_now, frames_now, all_long, counted_next, held_next, never_full, err_is}
+use Rattle.lert_cone.proofs.TakeLaws.{rows_before, young_now, frames_now, all_long, counted_next, held_next, never_full, err_is, shows_frame, shows_full}
 use Rattle.lert_cone.proofs.TallyLaws.{frames_more}
 use Rattle.lert_cone.proofs.tally.Tally.take.Goals as goal
 
@@ -45,7 +46,7 @@ returns-then-is_full-clause-sound g c = λ seen told is_held file at same.
     let frames = frames_now t c.self.inside.levels.settings c.self.invariant.levels_settings c.self.invariant.valid c.self.invariant.named c.self.invariant.young_settings counted fits c.args.key c.tail_of-tail.result (c.self.inside.len + 1) c.tail_of-tail.ensures.value m_is c.add.new.self c.add.ensures seen held in
     let long = all_long t c.self.inside.levels.settings c.self.invariant.levels_settings c.self.invariant.valid c.self.invariant.named c.self.invariant.young_settings counted fits c.args.key c.tail_of-tail.result (c.self.inside.len + 1) c.tail_of-tail.ensures.value m_is c.add.new.self c.add.ensures in
     let took = rw c.in_ok-result.was at (c.bring-due.ensures.totals (c.self.inside.taken ++ c.args.key ∷ []) long young seen told frames) in
-    never_full t c.self.inside.levels.settings c.self.invariant.levels_settings c.self.invariant.valid c.self.invariant.named c.self.invariant.young_settings counted fits c.args.key c.tail_of-tail.result (c.self.inside.len + 1) c.tail_of-tail.ensures.value m_is c.add.new.self c.add.ensures c.ranges.key.fits own c.begin.new.self c.bring-due.result.0 start_is still seen held took (sym c.is_full-is_full.ensures ∙ c.if-is_full.true)
+    never_full t c.self.inside.levels.settings c.self.invariant.levels_settings c.self.invariant.valid c.self.invariant.named c.self.invariant.young_settings counted fits c.args.key c.tail_of-tail.result (c.self.inside.len + 1) c.tail_of-tail.ensures.value m_is c.add.new.self c.add.ensures c.ranges.key.fits own c.begin.new.self c.bring-due.result.0 start_is still seen held took (sym c.is_full-is_full.ensures.value ∙ c.if-is_full.true)
 
 pub returns-clause-counted : goal.returns-clause-counted
 returns-clause-counted g c =
@@ -81,7 +82,7 @@ returns-clause-held g c = λ seen told is_held after told_after.
     let long = all_long t c.self.inside.levels.settings c.self.invariant.levels_settings c.self.invariant.valid c.self.invariant.named c.self.invariant.young_settings counted fits c.args.key c.tail_of-tail.result (c.self.inside.len + 1) c.tail_of-tail.ensures.value m_is c.add.new.self c.add.ensures in
     let took = rw c.in_ok-result.was at (c.bring-due.ensures.totals (c.self.inside.taken ++ c.args.key ∷ []) long young seen told frames) in
     let stay = rw c.in_ok-result.was at (c.bring-due.ensures.holds (c.self.inside.taken ++ c.args.key ∷ []) long young seen told frames) in
-    held_next t c.self.inside.levels.settings c.self.invariant.levels_settings c.self.invariant.valid c.self.invariant.named c.self.invariant.young_settings counted fits c.args.key c.tail_of-tail.result (c.self.inside.len + 1) c.tail_of-tail.ensures.value m_is c.add.new.self c.add.ensures c.ranges.key.fits own c.begin.new.self c.bring-due.result.0 start_is still seen held took c.bring-due.new.zero c.bring-due.new.levels.rows (record { listing = record { settings = c.self.inside.settings; cone = c.self.inside.cone; events = c.push.new.self; closed = c.self.inside.closed }; young = c.bring-due.new.zero; rows = c.bring-due.new.levels.rows; due = c.bring-due.result.0 }) after (ap (λ (keys : List ℕ). record { listing = record { settings = c.self.inside.settings; cone = c.self.inside.cone; events = keys; closed = c.self.inside.closed }; young = c.bring-due.new.zero; rows = c.bring-due.new.levels.rows; due = c.bring-due.result.0 }) c.push.ensures) (sym c.is_full-is_full.ensures ∙ c.if-is_full.false) (stay after told_after)
+    held_next t c.self.inside.levels.settings c.self.invariant.levels_settings c.self.invariant.valid c.self.invariant.named c.self.invariant.young_settings counted fits c.args.key c.tail_of-tail.result (c.self.inside.len + 1) c.tail_of-tail.ensures.value m_is c.add.new.self c.add.ensures c.ranges.key.fits own c.begin.new.self c.bring-due.result.0 start_is still seen held took c.bring-due.new.zero c.bring-due.new.levels.rows (record { listing = record { settings = c.self.inside.settings; cone = c.self.inside.cone; events = c.push.new.self; closed = c.self.inside.closed }; young = c.bring-due.new.zero; rows = c.bring-due.new.levels.rows; due = c.bring-due.result.0 }) after (ap (λ (keys : List ℕ). record { listing = record { settings = c.self.inside.settings; cone = c.self.inside.cone; events = keys; closed = c.self.inside.closed }; young = c.bring-due.new.zero; rows = c.bring-due.new.levels.rows; due = c.bring-due.result.0 }) c.push.ensures) (sym c.is_full-is_full.ensures.value ∙ c.if-is_full.false) (stay after told_after)
 
 pub returns-clause-images : goal.returns-clause-images
 returns-clause-images g c = λ seen told is_held each after told_after.
@@ -102,3 +103,22 @@ returns-clause-images g c = λ seen told is_held each after told_after.
     let stay = rw c.in_ok-result.was at (c.bring-due.ensures.images (c.self.inside.taken ++ c.args.key ∷ []) long young seen told frames each_now) in
     subst (λ (keys : List ℕ). InEach (g.B.Bay.leaves c.bring-due.new.bay) 2 (HoldsBins c.self.inside.settings keys c.bring-due.new.levels.rows)) (sym c.push.ensures)
     (subst (λ (v : Numbers). InEach (g.B.Bay.leaves c.bring-due.new.bay) 2 (HoldsBins v (c.self.inside.taken ++ c.args.key ∷ []) c.bring-due.new.levels.rows)) c.self.invariant.levels_settings (stay after told_after))
+
+pub returns-in_err-result-clause-shows : goal.returns-in_err-result-clause-shows
+returns-in_err-result-clause-shows g c = λ seen told file at same.
+    shows_frame c.from_residual.result c.in_err-result.field-0.0 c.from_residual.ensures.1 c.self.inside.settings c.bring-due.new.levels.rows c.bring-due.result.0.reports (seen 2)
+    (λ place is.
+    let refused = c.in_err-result.was ∙ ap Err is in
+    let before = sym (c.bring-due.ensures.unwritten place refused) ∙ told in
+    subst (λ (v : Numbers). OneBreaks v c.bring-due.new.levels.rows (seen 2) place) (c.bring-due.ensures.settings ∙ c.self.invariant.levels_settings) (c.bring-due.ensures.malformed seen before place refused))
+    file at same
+
+pub returns-then-is_full-clause-shows : goal.returns-then-is_full-clause-shows
+returns-then-is_full-clause-shows g c = λ seen told file at same.
+    let t : Tallied = record { listing = record { settings = c.self.inside.settings; cone = c.self.inside.cone; events = c.self.inside.taken; closed = c.self.inside.closed }; young = c.self.inside.zero; rows = c.self.inside.levels.rows; due = due_in c.self.inside.due } in
+    let counted : IsCounted t = subst (λ (v : Tallied). IsCounted v) (sym c.self.view_is) c.requires.counted in
+    let start_is : c.begin.new.self ≡ started (due_in c.self.inside.due) (c.self.inside.len + 1) = c.begin.ensures.begun ∙ ap (λ (d : Option Dues). started (due_in d) (c.self.inside.len + 1)) (sym c.in-Some.is ∙ c.take.ensures.value) in
+    let took = rw c.in_ok-result.was at c.bring-due.ensures.took in
+    let settings_are = took.1.settings_are ∙ ap (λ (d : Dues). d.settings) start_is ∙ counted.due_settings in
+    shows_full c.self.inside.settings c.bring-due.new.levels.rows c.bring-due.result.0.reports (seen 2)
+    (c.is_full-is_full.ensures.full c.if-is_full.true ∙ ap (λ (s : Numbers). s.room) settings_are) file at same

@@ -77,7 +77,7 @@ loop-cone-preserved g c =
       keys = here.keys;
       rings = here.rings;
       lanes = lanes_close g.B.Bay.files g.B.Bay.leaves g.B.Faulty.faults router.settings _ (λ cone. ltb cone at) router.cones.items router.rings router.keys here.lanes at below old found new
-          c.in_default.ensures.listing c.in_default.ensures.state c.close.ensures.stands (λ cone. ltb cone (at + 1)) (lt-ltb at (at + 1) (omega arith))
+          c.close.ensures.same_cone c.in_default.ensures.listing c.in_default.ensures.state c.close.ensures.stands (λ cone. ltb cone (at + 1)) (lt-ltb at (at + 1) (omega arith))
           (λ cone differs.
           elim (cases_lt cone at) [
             | inl lower ↦ lt-ltb cone at lower ∙ sym (lt-ltb cone (at + 1) (omega (arith, lower)))

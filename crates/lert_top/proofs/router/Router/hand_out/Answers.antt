@@ -44,7 +44,7 @@ returns-in-Ok-clause-taking g c = λ from to open_is first grows full.
     record {
       lanes = subst (λ (rings : Rings). AreLanes g.B.Bay.files g.B.Bay.leaves g.B.Faulty.faults router.settings to open_cones (set router.cones.items at new) rings router.keys) (sym c.take.ensures.rings)
           (lanes_hand g.B.Bay.files g.B.Bay.leaves g.B.Faulty.faults router.settings from open_cones router.cones.items router.rings router.keys open_is.lanes at c.requires.named old found
-          first c.requires.some c.requires.few to grows full new
+          first c.requires.some c.requires.few to grows full new c.admit-admitted.ensures.same_cone
           (λ h stood. subst (λ (p : Packet). StandsFor g.B.Bay.files g.B.Bay.leaves g.B.Faulty.faults new (h ++ p ∷ [])) packet_is (c.in-Ok.ensures.stands_for h stood))
           (ap (λ (s : Standing g.row.B.Denot). s.listing) c.in-Ok.ensures.taken ∙ ap (λ (keys : List ℕ). record old.listing { events = old.listing.events ++ keys }) keys_are)
           (ap (λ (s : Standing g.row.B.Denot). s.state) c.in-Ok.ensures.taken));
@@ -93,7 +93,7 @@ returns-in-Ok-clause-partly g c =
     let keys_are = ap (λ (e : Entry). e.keys.keys) c.take.ensures.entry in
     lanes_partly g.B.Bay.files g.B.Bay.leaves g.B.Faulty.faults router.settings (at + 1) open_cones (set router.cones.items at new) _ router.keys
     (lanes_hand g.B.Bay.files g.B.Bay.leaves g.B.Faulty.faults router.settings from open_cones router.cones.items router.rings router.keys open_is.lanes at c.requires.named old found
-    c.requires.taking.1 c.requires.some c.requires.few (at + 1) (omega (arith, c.requires.taking.1)) (λ above. absurd (omega (arith, above))) new
+    c.requires.taking.1 c.requires.some c.requires.few (at + 1) (omega (arith, c.requires.taking.1)) (λ above. absurd (omega (arith, above))) new c.admit-admitted.ensures.same_cone
     (λ h stood. subst (λ (p : Packet). StandsFor g.B.Bay.files g.B.Bay.leaves g.B.Faulty.faults new (h ++ p ∷ [])) packet_is (c.in-Ok.ensures.stands_for h stood))
     (ap (λ (s : Standing g.row.B.Denot). s.listing) c.in-Ok.ensures.taken ∙ ap (λ (keys : List ℕ). record old.listing { events = old.listing.events ++ keys }) keys_are)
     (ap (λ (s : Standing g.row.B.Denot). s.state) c.in-Ok.ensures.taken))
@@ -112,7 +112,7 @@ returns-in-Err-clause-partly g c =
     partly_refused g.B.Bay.files g.B.Bay.leaves g.B.Faulty.faults router.settings c.requires.taking.0 open_cones router.cones.items router.rings router.keys open_is.lanes at c.requires.named old found
     c.requires.taking.1 c.requires.some c.requires.few new c.in-Err.fault c.in-Err.ensures.stays c.in-Err.ensures.unchanged
     (λ is. ap (λ (s : Standing g.row.B.Denot). s.over) (c.in-Err.ensures.broke is) ∙ ap Some packet_is)
-    c.admit-admitted.ensures.same_cone.settings c.admit-admitted.ensures.same_cone.cone
+    c.admit-admitted.ensures.same_cone
 
 pub returns-in-Err-clause-refused : goal.returns-in-Err-clause-refused
 returns-in-Err-clause-refused g c =
@@ -130,7 +130,7 @@ returns-in-Err-clause-refused g c =
     refused_by g.B.Bay.files g.B.Bay.leaves g.B.Faulty.faults router.settings c.requires.taking.0 open_cones router.cones.items router.rings router.keys open_is.lanes at c.requires.named old found
     c.requires.taking.1 c.requires.some c.requires.few new c.in-Err.fault c.in-Err.ensures.stays c.in-Err.ensures.unchanged
     (λ is. ap (λ (s : Standing g.row.B.Denot). s.over) (c.in-Err.ensures.broke is) ∙ ap Some packet_is)
-    c.admit-admitted.ensures.same_cone.settings c.admit-admitted.ensures.same_cone.cone
+    c.admit-admitted.ensures.same_cone
     c.of_cone.result c.of_cone.ensures
     (λ same. let there = c.in-Err.ensures.closed.0 (ap Err same) in cc)
     (λ same. let there = c.in-Err.ensures.broken.0 (ap Err same) in let state_broken = ap is_broken state in cc)

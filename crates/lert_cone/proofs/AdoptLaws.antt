@@ -1,0 +1,171 @@
+-- What sound files and what was read of their log make of a cone that goes through the journal anew.
+use Rattle.std.proofs.Common.{◌≡◌, ℕ, ◌-◌, ◌≤◌, Bool, true, false, cond, List, [], ◌∷◌, length, take, get_or, map, max, All, refl, sym, ap, ◌∙◌, subst, inl, inr, arith}
+use Rattle.std.specs.Prelude.{slice_index_or}
+use Rattle.std.proofs.lemmas.Bool.{cases_Bool}
+use Rattle.std.proofs.lemmas.List.{get_or-map, length-take-le, take_all}
+use Rattle.std.proofs.lemmas.List.Elements.{All-nil, All-cons}
+use Rattle.lert_base.specs.Packet.{Packet, events_of}
+use Rattle.lert_bay.specs.Files.{Files}
+use Rattle.lert_bay.specs.Settled.{IsSettled}
+use Rattle.lert_frames.specs.Frame.{HoldsFrame}
+use Rattle.lert_frames.specs.Place.{frame_place}
+use Rattle.lert_gatelog.specs.Kept.{InEach, IsWhollySettled}
+use Rattle.lert_levels.specs.declared.bin_at.BinAt.{BinAt}
+use Rattle.lert_levels.specs.Flushed.{InNamed}
+use Rattle.lert_levels.specs.Ranges.{filled}
+use Rattle.lert_levels.specs.Rows.{IsAt, AreRows, HoldsBins, range_of, row_of, tallied_in}
+use Rattle.lert_levels.proofs.RangeLaws.{bins-ranges}
+use Rattle.lert_reports.specs.Log.{HasLog, listed_in, last_n0, last_directory, is_closed, most_record}
+use Rattle.lert_reports.specs.LogText.{LogRecord}
+use Rattle.lert_reports.proofs.LogOnce.{one_log}
+use Rattle.lert_spec.specs.declared.numbers.Numbers.{Numbers}
+use Rattle.lert_spec.specs.declared.report.Report.{Report}
+use Rattle.lert_spec.specs.Bins.{Bin, bins}
+use Rattle.lert_spec.specs.Limits.{IsValid}
+use Rattle.lert_spec.specs.Look.{look, closing}
+use Rattle.lert_cone.specs.Framed.{last_flush, flushed}
+use Rattle.lert_cone.specs.InStep.{IsInStep}
+use Rattle.lert_cone.specs.Logged.{IsLogOf, frames_of}
+use Rattle.lert_cone.specs.Replay.{IsLastOf, IsOnWay}
+use Rattle.lert_cone.specs.Sound.{IsSound, HoldFrames, HoldsDirectory}
+use Rattle.lert_cone.proofs.LogLaws.{last_flush_logged}
+use Rattle.lert_cone.proofs.StepLaws.{journal_since, log_since, frames_since}
+
+-- ---- frames
+
+-- what the frames of a row hold, from what those of its directory do
+from_frames : (s : Numbers) (events file : List ℕ) (level : ℕ) (row : List BinAt) → HoldFrames s level file (map (λ bin. bin.frame) row) (map (filled s events) (map range_of row)) →
+    All (λ bin. HoldsFrame (frame_place s level bin.frame) file (tallied_in s events bin)) row
+from_frames s events file level [] holds = All-nil (λ (bin : BinAt). HoldsFrame (frame_place s level bin.frame) file (tallied_in s events bin))
+from_frames s events file level (bin ∷ row) holds =
+    All-cons (λ (b : BinAt). HoldsFrame (frame_place s level b.frame) file (tallied_in s events b)) bin row holds.0 (from_frames s events file level row holds.1)
+
+-- the frames of a directory are those of the rows that it was read into
+pub bins_there : (s : Numbers) (events : List ℕ) (rows : List (List BinAt)) (directory : List (List ℕ)) (file : List ℕ) → IsAt s (length events) rows → directory ≡ frames_of rows → HoldsDirectory s events directory file → HoldsBins s events rows file
+bins_there s events rows directory file at named holds level first last =
+    let row = row_of rows level in
+    let frames_are : slice_index_or directory (level - 1) [] ≡ map (λ (bin : BinAt). bin.frame) row =
+    ap (λ (d : List (List ℕ)). get_or d (level - 1) []) named ∙ get_or-map (λ (r : List BinAt). map (λ (bin : BinAt). bin.frame) r) rows (level - 1) [] [] (omega (arith, at.levels, first, last)) in
+    let bins_are : bins s events level ≡ map (filled s events) (map range_of row) =
+    bins-ranges s events level ∙ ap (map (filled s events)) (sym (at.each level first last)) in
+    from_frames s events file level row
+    (subst (λ (bs : List Bin). HoldFrames s level file (map (λ (bin : BinAt). bin.frame) row) bs) bins_are
+    (subst (λ (frames : List ℕ). HoldFrames s level file frames (bins s events level)) frames_are (holds.each level first last)))
+
+-- frames that are settled hold in each image what they hold as a read gives them
+pub frames_settled : (leaves : Files → Type 0) (seen : Files) (s : Numbers) (events : List ℕ) (rows : List (List BinAt)) → AreRows s rows → HoldsBins s events rows (seen 2) →
+    ((from to : ℕ) → InNamed s rows from to → to ≤ length (seen 2) → IsSettled leaves seen 2 from to) → InEach leaves 2 (HoldsBins s events rows)
+frames_settled leaves seen s events rows are holds settled =
+    frames_since (λ image. image ≡ seen) leaves seen s events rows are refl
+    (λ image is. subst (λ (files : Files). HoldsBins s events rows (files 2)) (sym is) holds)
+    (λ from to named here. (settled from to named here.within).same)
+
+-- ---- a cone that is adopted
+
+module _ (leaves : Files → Type 0) (seen : Files) (s : Numbers) (cone : ℕ) (history : List Packet) (rows : List (List BinAt)) (reports : List Report) (records : List LogRecord) (log_end n0 : ℕ) (closed : Bool)
+    (valid : IsValid s) (at : IsAt s n0 rows) (are : AreRows s rows) (log : HasLog s cone (seen 1) records log_end) (last : IsLastOf s n0 closed rows reports records)
+    (journal_settled : IsWhollySettled leaves seen 0) (log_settled : IsWhollySettled leaves seen 1) (named_settled : (from to : ℕ) → InNamed s rows from to → to ≤ length (seen 2) → IsSettled leaves seen 2 from to)
+    (sound : IsSound s cone history seen) where
+  -- the records that were read are those for which the files are sound
+  same : records ≡ sound.logged
+  same = (one_log s cone valid (seen 1) records sound.logged log_end sound.log_end log sound.log).0
+
+  n0_is : n0 ≡ last_n0 sound.logged
+  n0_is = last.n0_is ∙ ap last_n0 same
+
+  closed_is : closed ≡ is_closed sound.logged
+  closed_is = last.closed_is ∙ ap is_closed same
+
+  most : n0 ≤ length (events_of history)
+  most = omega (arith, n0_is, sound.n0_most)
+
+  behind : closed ≡ true → n0 ≡ length (events_of history)
+  behind ended = n0_is ∙ sound.closed_behind (sym closed_is ∙ ended)
+
+  long : length (take n0 (events_of history)) ≡ n0
+  long = length-take-le n0 (events_of history) most
+
+  all_first : closed ≡ true → take n0 (events_of history) ≡ events_of history
+  all_first ended = take_all n0 (events_of history) (omega (arith, behind ended))
+
+  -- a record of a flush stands at a flush position
+  flush : closed ≡ false → last_flush s (length (take n0 (events_of history))) ≡ n0
+  flush running =
+      ap (last_flush s) (long ∙ last.n0_is)
+      ∙ (last_flush_logged s valid cone records log.rules (sym last.closed_is ∙ running)
+      ∙ sym last.n0_is)
+
+  flushed_first : closed ≡ false → flushed s (take n0 (events_of history)) ≡ take n0 (events_of history)
+  flushed_first running = take_all (last_flush s (length (take n0 (events_of history)))) (take n0 (events_of history)) (omega (arith, long, flush running))
+
+  n0_there : last_n0 records ≡ cond closed (length (take n0 (events_of history))) (last_flush s (length (take n0 (events_of history))))
+  n0_there = elim (cases_Bool closed) [
+    | inl ended ↦ sym last.n0_is ∙ (sym long ∙ sym (ap (λ t. cond t (length (take n0 (events_of history))) (last_flush s (length (take n0 (events_of history))))) ended))
+    | inr running ↦ sym last.n0_is ∙ (sym (flush running) ∙ sym (ap (λ t. cond t (length (take n0 (events_of history))) (last_flush s (length (take n0 (events_of history))))) running))
+  ]
+
+  -- the reports of the records are those of the first n0 events
+  listed : listed_in records ≡ cond closed (closing s (take n0 (events_of history))) (look s (take n0 (events_of history)))
+  listed =
+      ap listed_in same
+      ∙ (sound.reports_are
+      ∙ (ap (λ t. cond t (closing s (events_of history)) (look s (take (last_n0 sound.logged) (events_of history)))) (sym closed_is)
+      ∙ elim (cases_Bool closed) [
+        | inl ended ↦
+            ap (λ t. cond t (closing s (events_of history)) (look s (take (last_n0 sound.logged) (events_of history)))) ended
+            ∙ (ap (closing s) (sym (all_first ended))
+            ∙ sym (ap (λ t. cond t (closing s (take n0 (events_of history))) (look s (take n0 (events_of history)))) ended))
+        | inr running ↦
+            ap (λ t. cond t (closing s (events_of history)) (look s (take (last_n0 sound.logged) (events_of history)))) running
+            ∙ (ap (λ n. look s (take n (events_of history))) (sym n0_is)
+            ∙ sym (ap (λ t. cond t (closing s (take n0 (events_of history))) (look s (take n0 (events_of history)))) running))
+      ]))
+
+  listed_there : listed_in records ≡ cond closed (closing s (take n0 (events_of history))) (look s (flushed s (take n0 (events_of history))))
+  listed_there =
+      listed
+      ∙ elim (cases_Bool closed) [
+        | inl ended ↦
+            ap (λ t. cond t (closing s (take n0 (events_of history))) (look s (take n0 (events_of history)))) ended
+            ∙ sym (ap (λ t. cond t (closing s (take n0 (events_of history))) (look s (flushed s (take n0 (events_of history))))) ended)
+        | inr running ↦ ap (λ keys. cond closed (closing s (take n0 (events_of history))) (look s keys)) (sym (flushed_first running))
+      ]
+
+  log_of : IsLogOf s cone (take n0 (events_of history)) rows closed records
+  log_of = record {
+    rules = log.rules;
+    closed_is = sym last.closed_is;
+    n0_is = n0_there;
+    directory_is = last.directory_is;
+    reports_are = listed_there;
+  }
+
+  held : HoldsBins s (take n0 (events_of history)) rows (seen 2)
+  held =
+      bins_there s (take n0 (events_of history)) rows (last_directory s sound.logged) (seen 2) (subst (λ n. IsAt s n rows) (sym long) at)
+      (ap (last_directory s) (sym same) ∙ last.directory_is)
+      (subst (λ n. HoldsDirectory s (take n (events_of history)) (last_directory s sound.logged) (seen 2)) (sym n0_is) sound.frames)
+
+  in_step : IsInStep leaves seen history (record { settings = s; cone = cone; events = take n0 (events_of history); closed = closed }) rows reports (record { gate = log_end; most = most_record s; named = length reports })
+  in_step = record {
+    logged = records;
+    log_of = log_of;
+    named_is = ap length last.reports_are;
+    journal = journal_since leaves seen s cone history sound.journal journal_settled.same;
+    log_there = log_since leaves seen s cone records log_end log log_settled.same;
+    frames = frames_settled leaves seen s (take n0 (events_of history)) rows are held named_settled;
+    journal_settled = journal_settled;
+    log_settled = log_settled;
+    reports_are = last.reports_are ∙ listed;
+  }
+
+  -- no key is read yet
+  pub adopted : IsOnWay leaves seen history (record { settings = s; cone = cone; events = []; closed = closed }) rows reports (record { gate = log_end; most = most_record s; named = length reports }) n0
+  adopted =
+      let none : n0 ≡ max n0 (length {A = ℕ} []) = omega arith in
+      record {
+        n0_most = most;
+        n0_least = omega (arith, n0_is, sound.n0_least);
+        closed_behind = behind;
+        in_step = subst (λ n. IsInStep leaves seen history (record { settings = s; cone = cone; events = take n (events_of history); closed = closed }) rows reports (record { gate = log_end; most = most_record s; named = length reports })) none in_step;
+      }

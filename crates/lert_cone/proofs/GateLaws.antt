@@ -1,0 +1,197 @@
+-- What stands at the gates of a journal that is read anew: the packets of its history in turn, and nothing else.
+use Rattle.std.proofs.Common.{◌≡◌, ℕ, ◌+◌, ◌<◌, ◌≤◌, ◌^◌, Bool, true, false, List, [], ◌∷◌, ◌++◌, length, take, drop, map, All, refl, sym, ap, ◌∙◌, subst, inl, inr, ◌⊎◌, arith, length-append, append-nil, append_assoc}
+use Rattle.std.proofs.Math.Seq.{get_or-append_seam}
+use Rattle.std.proofs.lemmas.Bool.{false≢true}
+use Rattle.std.proofs.lemmas.Grind.{flat_map-append}
+use Rattle.std.proofs.lemmas.List.{take-append-drop}
+use Rattle.lert_base.specs.Packet.{Packet, events_of}
+use Rattle.lert_gatelog.specs.Gated.{IsOpen, IsClosed, Records, next_gate}
+use Rattle.lert_gatelog.proofs.Deciding.{one_payload, open_or_closed}
+use Rattle.lert_journal.specs.Journal.{HoldsPacket, LeavesAt}
+use Rattle.lert_journal.specs.Payload.{payload_of, packet_in, IsJournaled}
+use Rattle.lert_journal.proofs.OneAnswer.{packet_or_left, closed_or_left, one_place_left}
+use Rattle.lert_journal.proofs.PayloadBack.{packet_back}
+use Rattle.lert_spec.specs.declared.numbers.Numbers.{Numbers}
+use Rattle.lert_cone.specs.History.{most_payload, end_of}
+use Rattle.lert_cone.specs.Replay.{IsPast, IsNext, MayFollow, ReplayLeavesAt, In_record, Too_few, Past_the_end, Too_many}
+use Rattle.lert_cone.specs.Sound.{IsJournal, KeysFit}
+use Rattle.lert_cone.proofs.SoundLaws.{events_more, end_more}
+
+-- ---- from packet to packet
+
+-- no packet is read yet
+pub past_none : (history : List Packet) → IsPast history [] [] 32
+past_none history = record { rest = history; is = refl; keys = refl; gate_is = refl }
+
+-- one packet more
+pub past_more : (history done : List Packet) (events : List ℕ) (gate : ℕ) (packet : Packet) → IsPast history done events gate → IsNext history done packet →
+    IsPast history (done ++ packet ∷ []) (events ++ packet.keys) (next_gate gate (payload_of packet))
+past_more history done events gate packet past next = record {
+  rest = next.rest;
+  is = next.is ∙ sym (append_assoc done (packet ∷ []) next.rest);
+  keys = ap (λ keys. keys ++ packet.keys) past.keys ∙ sym (events_more done packet);
+  gate_is = ap (λ g. next_gate g (payload_of packet)) past.gate_is ∙ end_more done packet;
+}
+
+-- the keys so far begin those of the history
+pub keys_past : (history done : List Packet) (events : List ℕ) (gate : ℕ) (past : IsPast history done events gate) → events_of history ≡ events ++ events_of past.rest
+keys_past history done events gate past =
+    ap events_of past.is
+    ∙ (flat_map-append (λ (p : Packet). p.keys) done past.rest
+    ∙ ap (λ keys. keys ++ events_of past.rest) (sym past.keys))
+
+-- and behind them come those of the next packet
+pub keys_next : (history done : List Packet) (events : List ℕ) (gate : ℕ) (packet : Packet) → IsPast history done events gate → (next : IsNext history done packet) →
+    events_of history ≡ events ++ (packet.keys ++ events_of next.rest)
+keys_next history done events gate packet past next =
+    ap events_of next.is
+    ∙ (flat_map-append (λ (p : Packet). p.keys) done (packet ∷ next.rest)
+    ∙ ap (λ keys. keys ++ (packet.keys ++ events_of next.rest)) (sym past.keys))
+
+-- the first of them are taken, the others are still to come
+pub keys_cut : (history : List Packet) (events keys rest : List ℕ) (count : ℕ) → events_of history ≡ events ++ (keys ++ rest) → events_of history ≡ (events ++ take count keys) ++ (drop count keys ++ rest)
+keys_cut history events keys rest count is =
+    is
+    ∙ (ap (λ ks. events ++ (ks ++ rest)) (sym (take-append-drop count keys))
+    ∙ (ap (λ ks. events ++ ks) (append_assoc (take count keys) (drop count keys) rest)
+    ∙ sym (append_assoc events (take count keys) (drop count keys ++ rest))))
+
+-- one packet stands at a gate
+pub one_packet : (s : Numbers) (cone : ℕ) (bytes : List ℕ) (gate : ℕ) (one other : Packet) → HoldsPacket s cone (most_payload s) bytes gate one → HoldsPacket s cone (most_payload s) bytes gate other → one ≡ other
+one_packet s cone bytes gate one other holds too =
+    sym (packet_back one (omega (arith, holds.journaled.by_most)) (omega (arith, holds.journaled.trace_most)) holds.fits)
+    ∙ (ap packet_in (one_payload (most_payload s) bytes gate (payload_of one) (payload_of other) holds.stands too.stands)
+    ∙ packet_back other (omega (arith, too.journaled.by_most)) (omega (arith, too.journaled.trace_most)) too.fits)
+
+-- ---- only one of these stands at a gate
+
+-- a packet that may stand there, or a place at which the format is left
+pub packet_or_leaves : (s : Numbers) (cone n0 : ℕ) (closed : Bool) (n : ℕ) (bytes : List ℕ) (gate at : ℕ) (packet : Packet) → HoldsPacket s cone (most_payload s) bytes gate packet → MayFollow s n0 closed n packet →
+    ReplayLeavesAt s cone n0 closed n bytes gate at → ⊥
+packet_or_leaves s cone n0 closed n bytes gate at packet holds may (In_record leaves) = packet_or_left s cone (most_payload s) bytes gate at packet holds leaves
+packet_or_leaves s cone n0 closed n bytes gate at packet holds may (Too_few shut few at_is) = open_or_closed (most_payload s) bytes gate (payload_of packet) holds.stands shut
+packet_or_leaves s cone n0 closed n bytes gate at packet holds may (Past_the_end other there ended goes at_is) =
+    absurd (omega (arith, goes, ap (λ (p : Packet). length p.keys) (one_packet s cone bytes gate packet other holds there), may.before_closing ended))
+packet_or_leaves s cone n0 closed n bytes gate at packet holds may (Too_many other there running many at_is) =
+    absurd (omega (arith, many, ap (λ (p : Packet). length p.keys) (one_packet s cone bytes gate packet other holds there), may.within))
+
+-- a closed gate behind enough events, or a place
+pub closed_or_leaves : (s : Numbers) (cone n0 : ℕ) (closed : Bool) (n : ℕ) (bytes : List ℕ) (gate at : ℕ) → IsClosed bytes gate → n0 ≤ n → ReplayLeavesAt s cone n0 closed n bytes gate at → ⊥
+closed_or_leaves s cone n0 closed n bytes gate at shut enough (In_record leaves) = closed_or_left s cone (most_payload s) bytes gate at shut leaves
+closed_or_leaves s cone n0 closed n bytes gate at shut enough (Too_few too few at_is) = absurd (omega (arith, few, enough))
+closed_or_leaves s cone n0 closed n bytes gate at shut enough (Past_the_end packet there ended goes at_is) = open_or_closed (most_payload s) bytes gate (payload_of packet) there.stands shut
+closed_or_leaves s cone n0 closed n bytes gate at shut enough (Too_many packet there running many at_is) = open_or_closed (most_payload s) bytes gate (payload_of packet) there.stands shut
+
+-- a packet that may not, or a closed gate behind too few events, has no other place
+held_place : (s : Numbers) (cone n0 : ℕ) (closed : Bool) (n : ℕ) (bytes : List ℕ) (gate at : ℕ) (packet : Packet) → HoldsPacket s cone (most_payload s) bytes gate packet → ReplayLeavesAt s cone n0 closed n bytes gate at →
+    ((closed ≡ true) × (at ≡ gate)) ⊎ ((closed ≡ false) × (at ≡ gate + 1))
+held_place s cone n0 closed n bytes gate at packet holds (In_record leaves) = absurd (packet_or_left s cone (most_payload s) bytes gate at packet holds leaves)
+held_place s cone n0 closed n bytes gate at packet holds (Too_few shut few at_is) = absurd (open_or_closed (most_payload s) bytes gate (payload_of packet) holds.stands shut)
+held_place s cone n0 closed n bytes gate at packet holds (Past_the_end other there ended goes at_is) = inl (ended, at_is)
+held_place s cone n0 closed n bytes gate at packet holds (Too_many other there running many at_is) = inr (running, at_is)
+
+shut_place : (s : Numbers) (cone n0 : ℕ) (closed : Bool) (n : ℕ) (bytes : List ℕ) (gate at : ℕ) → IsClosed bytes gate → ReplayLeavesAt s cone n0 closed n bytes gate at → at ≡ gate
+shut_place s cone n0 closed n bytes gate at shut (In_record leaves) = absurd (closed_or_left s cone (most_payload s) bytes gate at shut leaves)
+shut_place s cone n0 closed n bytes gate at shut (Too_few too few at_is) = at_is
+shut_place s cone n0 closed n bytes gate at shut (Past_the_end packet there ended goes at_is) = absurd (open_or_closed (most_payload s) bytes gate (payload_of packet) there.stands shut)
+shut_place s cone n0 closed n bytes gate at shut (Too_many packet there running many at_is) = absurd (open_or_closed (most_payload s) bytes gate (payload_of packet) there.stands shut)
+
+left_place : (s : Numbers) (cone n0 : ℕ) (closed : Bool) (n : ℕ) (bytes : List ℕ) (gate at other : ℕ) → LeavesAt s cone (most_payload s) bytes gate at → ReplayLeavesAt s cone n0 closed n bytes gate other → at ≡ other
+left_place s cone n0 closed n bytes gate at other left (In_record leaves) = one_place_left s cone (most_payload s) bytes gate at other left leaves
+left_place s cone n0 closed n bytes gate at other left (Too_few shut few at_is) = absurd (closed_or_left s cone (most_payload s) bytes gate at shut left)
+left_place s cone n0 closed n bytes gate at other left (Past_the_end packet there ended goes at_is) = absurd (packet_or_left s cone (most_payload s) bytes gate at packet there left)
+left_place s cone n0 closed n bytes gate at other left (Too_many packet there running many at_is) = absurd (packet_or_left s cone (most_payload s) bytes gate at packet there left)
+
+-- one place is the first
+pub one_replay_place : (s : Numbers) (cone n0 : ℕ) (closed : Bool) (n : ℕ) (bytes : List ℕ) (gate at other : ℕ) → ReplayLeavesAt s cone n0 closed n bytes gate at → ReplayLeavesAt s cone n0 closed n bytes gate other → at ≡ other
+one_replay_place s cone n0 closed n bytes gate at other (In_record leaves) too = left_place s cone n0 closed n bytes gate at other leaves too
+one_replay_place s cone n0 closed n bytes gate at other (Too_few shut few at_is) too = at_is ∙ sym (shut_place s cone n0 closed n bytes gate other shut too)
+one_replay_place s cone n0 closed n bytes gate at other (Past_the_end packet holds ended goes at_is) too = elim (held_place s cone n0 closed n bytes gate other packet holds too) [
+  | inl same ↦ at_is ∙ sym same.1
+  | inr differs ↦ absurd (false≢true (sym differs.0 ∙ ended))
+]
+one_replay_place s cone n0 closed n bytes gate at other (Too_many packet holds running many at_is) too = elim (held_place s cone n0 closed n bytes gate other packet holds too) [
+  | inl differs ↦ absurd (false≢true (sym running ∙ differs.0))
+  | inr same ↦ at_is ∙ sym same.1
+]
+
+-- ---- the packets of a history
+
+-- the packets behind some others stand from the gate behind those on
+from_gate : (most : ℕ) (bytes : List ℕ) (front done rest : List Packet) (end : ℕ) → Records most bytes (end_of front) (map payload_of (done ++ rest)) end → Records most bytes (end_of (front ++ done)) (map payload_of rest) end
+from_gate most bytes front [] rest end there = subst (λ (h : List Packet). Records most bytes (end_of h) (map payload_of rest) end) (sym (append-nil front)) there
+from_gate most bytes front (packet ∷ done) rest end there =
+    subst (λ (h : List Packet). Records most bytes (end_of h) (map payload_of rest) end) (append_assoc front (packet ∷ []) done)
+    (from_gate most bytes (front ++ packet ∷ []) done rest end (subst (λ (gate : ℕ). Records most bytes gate (map payload_of (done ++ rest)) end) (end_more front packet) there.1))
+
+-- what holds of each holds of the one behind some
+at_seam : (P : Packet → Type 0) (done rest : List Packet) (packet : Packet) → All P (done ++ packet ∷ rest) → P packet
+at_seam P done rest packet all =
+    subst P (get_or-append_seam done packet rest packet) (all (length done) packet (omega (arith, length-append done (packet ∷ rest))))
+
+-- the next packet of a history stands there, or they were all read and the gate is closed
+abbrev pub NextOrEnd : Numbers → ℕ → List ℕ → List Packet → List Packet → ℕ → Type 0
+NextOrEnd s cone bytes history done gate =
+    ((done ≡ history) × IsClosed bytes gate) ⊎ ((packet : Packet) × IsNext history done packet × HoldsPacket s cone (most_payload s) bytes gate packet)
+
+module _ (s : Numbers) (cone : ℕ) (bytes : List ℕ) (history done : List Packet) (events : List ℕ) (gate : ℕ) (journal : IsJournal s cone history bytes) (past : IsPast history done events gate) where
+  next_by : (rest : List Packet) → history ≡ done ++ rest → NextOrEnd s cone bytes history done gate
+  next_by [] is =
+      let all : done ≡ history = sym (is ∙ append-nil done) in
+      inl (all, subst (IsClosed bytes) (sym (past.gate_is ∙ ap end_of all)) journal.records.closed)
+  next_by (packet ∷ rest) is =
+      let there : Records (most_payload s) bytes (end_of []) (map payload_of (done ++ packet ∷ rest)) (end_of history) =
+      subst (λ (h : List Packet). Records (most_payload s) bytes 32 (map payload_of h) (end_of history)) is journal.records.records in
+      inr (
+        packet,
+        record { rest = rest; is = is },
+        record {
+          stands = subst (λ (g : ℕ). IsOpen (most_payload s) bytes g (payload_of packet)) (sym past.gate_is) (from_gate (most_payload s) bytes [] done (packet ∷ rest) (end_of history) there).0;
+          journaled = at_seam (IsJournaled s cone) done rest packet (subst (All (IsJournaled s cone)) is journal.journaled);
+          fits = at_seam (λ (p : Packet). All (λ key. key < 2 ^ 64) p.keys) done rest packet (subst KeysFit is journal.fit);
+        },
+      )
+
+  pub next_or_end : NextOrEnd s cone bytes history done gate
+  next_or_end = next_by past.rest past.is
+
+  -- a packet that stands there is the next one
+  pub is_next : (packet : Packet) → HoldsPacket s cone (most_payload s) bytes gate packet → IsNext history done packet
+  is_next packet holds = elim next_or_end [
+    | inl ended ↦ absurd (open_or_closed (most_payload s) bytes gate (payload_of packet) holds.stands ended.1)
+    | inr there ↦ subst (IsNext history done) (one_packet s cone bytes gate there.0 packet there.2 holds) there.1
+  ]
+
+  -- the keys with its own are no more than those of the history, so it may stand there
+  pub next_within : (packet : Packet) → HoldsPacket s cone (most_payload s) bytes gate packet → length events + length packet.keys ≤ length (events_of history)
+  next_within packet holds =
+      let next = is_next packet holds in
+      omega (
+        arith,
+        ap length (keys_next history done events gate packet past next),
+        length-append events (packet.keys ++ events_of next.rest),
+        length-append packet.keys (events_of next.rest),
+      )
+
+  pub next_follows : (n0 : ℕ) (closed : Bool) → (closed ≡ true → n0 ≡ length (events_of history)) → (packet : Packet) → HoldsPacket s cone (most_payload s) bytes gate packet → MayFollow s n0 closed (length events) packet
+  next_follows n0 closed behind packet holds = record {
+    within = omega (arith, journal.within, next_within packet holds);
+    before_closing = λ ended. omega (arith, behind ended, next_within packet holds);
+  }
+
+  -- a closed gate stands behind all packets
+  pub ends_there : IsClosed bytes gate → done ≡ history
+  ends_there closed = elim next_or_end [
+    | inl ended ↦ ended.0
+    | inr there ↦ absurd (open_or_closed (most_payload s) bytes gate (payload_of there.0) there.2.stands closed)
+  ]
+
+  pub all_there : IsClosed bytes gate → length events ≡ length (events_of history)
+  all_there closed = ap length (past.keys ∙ ap events_of (ends_there closed))
+
+  -- nothing there leaves the format
+  pub never_leaves : (n0 : ℕ) (closed : Bool) (at : ℕ) → n0 ≤ length (events_of history) → (closed ≡ true → n0 ≡ length (events_of history)) → ReplayLeavesAt s cone n0 closed (length events) bytes gate at → ⊥
+  never_leaves n0 closed at most behind leaves = elim next_or_end [
+    | inl ended ↦ closed_or_leaves s cone n0 closed (length events) bytes gate at ended.1 (omega (arith, most, all_there ended.1)) leaves
+    | inr there ↦ packet_or_leaves s cone n0 closed (length events) bytes gate at there.0 there.2 (next_follows n0 closed behind there.0 there.2) leaves
+  ]

@@ -1,0 +1,205 @@
+-- What a cone keeps on its way through its journal: up to n0 events the files go together with memory as after n0 events, and
+-- from then on as after the keys so far.
+use Rattle.std.proofs.Common.{◌≡◌, ℕ, zero, suc, ◌+◌, ◌-◌, ◌<◌, ◌≤◌, true, false, cond, List, [], ◌++◌, length, take, drop, min, max, refl, sym, ap, ◌∙◌, subst, inl, inr, arith, length-append, length-take, length-drop, append-nil, append_assoc}
+use Rattle.std.proofs.lemmas.Bool.{cases_eq, cases_Bool, eq-eqb, ne_eqb}
+use Rattle.std.proofs.lemmas.List.{take_at, take_all, take-append-drop, length-take-le}
+use Rattle.lert_base.specs.Packet.{Packet, events_of}
+use Rattle.lert_bay.specs.Files.{Files}
+use Rattle.lert_levels.specs.declared.bin_at.BinAt.{BinAt}
+use Rattle.lert_levels.specs.Rows.{IsAt}
+use Rattle.lert_spec.specs.declared.numbers.Numbers.{Numbers}
+use Rattle.lert_spec.specs.declared.report.Report.{Report}
+use Rattle.lert_spec.specs.Edges.{edge}
+use Rattle.lert_spec.specs.Limits.{IsValid}
+use Rattle.lert_cone.specs.Framed.{last_flush}
+use Rattle.lert_cone.specs.InStep.{IsInStep, IsPartway}
+use Rattle.lert_cone.specs.Listing.{Listing}
+use Rattle.lert_cone.specs.Record.{LogPlace}
+use Rattle.lert_cone.specs.Replay.{IsOnWay, IsPast, IsNext, MayFollow, ReplayLeavesAt}
+use Rattle.lert_cone.specs.Sound.{IsJournal, IsSound, but_last}
+use Rattle.lert_cone.specs.Stands.{IsWhole}
+use Rattle.lert_cone.specs.Tally.{Tallied, IsCounted}
+use Rattle.lert_cone.proofs.GateLaws.{keys_next, keys_cut, never_leaves}
+use Rattle.lert_cone.proofs.LogLaws.{last_flush_grows}
+use Rattle.lert_cone.proofs.StandLaws.{whole_of}
+use Rattle.lert_cone.proofs.StepLaws.{sound_of}
+
+-- a flush position is its own last one
+last_flush_again : (s : Numbers) (n : ℕ) → last_flush s (last_flush s n) ≡ last_flush s n
+last_flush_again s zero = refl
+last_flush_again s (suc n) =
+    elim (cases_eq (edge s 0 (suc n)) (edge s 0 n)) [
+      | inl stays ↦ (
+          let is : last_flush s (suc n) ≡ last_flush s n = ap (λ t. cond t (last_flush s n) (suc n)) (eq-eqb (edge s 0 (suc n)) (edge s 0 n) stays) in
+          ap (last_flush s) is ∙ (last_flush_again s n ∙ sym is))
+      | inr moves ↦ ap (last_flush s) (ap (λ t. cond t (last_flush s n) (suc n)) (ne_eqb (edge s 0 (suc n)) (edge s 0 n) moves))
+    ]
+
+-- a flush position that isn't behind n0 is among those up to any later place
+late_at : (s : Numbers) (n0 before n : ℕ) → last_flush s before ≤ n0 → n0 ≤ n → last_flush s before ≤ last_flush s n
+late_at s n0 before n least enough = omega (arith, last_flush_again s before, last_flush_grows s (last_flush s before) n (omega (arith, least, enough)))
+
+module _ (leaves : Files → Type 0) (seen : Files) (history : List Packet) (listing : Listing) (rows : List (List BinAt)) (reports : List Report) (log : LogPlace) (n0 : ℕ)
+    (on_way : IsOnWay leaves seen history listing rows reports log n0) where
+  -- up to n0 events go by without a change
+  pub on_way_counted : (later : Listing) (keys : List ℕ) (count : ℕ) → later ≡ record listing { events = listing.events ++ take count keys } → count ≤ n0 - length listing.events → IsOnWay leaves seen history later rows reports log n0
+  on_way_counted later keys count is early =
+      let long : length (listing.events ++ take count keys) ≡ length listing.events + length (take count keys) = length-append listing.events (take count keys) in
+      let same : max n0 (length listing.events) ≡ max n0 (length (listing.events ++ take count keys)) = omega (arith, early, long, length-take count keys) in
+      let there : IsOnWay leaves seen history (record listing { events = listing.events ++ take count keys }) rows reports log n0 =
+      record {
+        n0_most = on_way.n0_most;
+        n0_least = on_way.n0_least;
+        closed_behind = on_way.closed_behind;
+        in_step = subst (λ n. IsInStep leaves seen history (record listing { events = take n (events_of history) }) rows reports log) same on_way.in_step;
+      } in
+      subst (λ (l : Listing). IsOnWay leaves seen history l rows reports log n0) (sym is) there
+
+  -- calls that read alone change nothing
+  pub on_way_read : (leaves_after : Files → Type 0) → ((image : Files) → leaves_after image → leaves image) → IsOnWay leaves_after seen history listing rows reports log n0
+  on_way_read leaves_after fewer =
+      let step = on_way.in_step in
+      record {
+        n0_most = on_way.n0_most;
+        n0_least = on_way.n0_least;
+        closed_behind = on_way.closed_behind;
+        in_step = record {
+          logged = step.logged;
+          log_of = step.log_of;
+          named_is = step.named_is;
+          journal = λ image may. step.journal image (fewer image may);
+          log_there = λ image may. step.log_there image (fewer image may);
+          frames = λ image may. step.frames image (fewer image may);
+          journal_settled = record { within = step.journal_settled.within; same = λ image may. step.journal_settled.same image (fewer image may) };
+          log_settled = record { within = step.log_settled.within; same = λ image may. step.log_settled.same image (fewer image may) };
+          reports_are = step.reports_are;
+        };
+      }
+
+  -- from n0 on files and memory go together as after the keys so far
+  pub in_step_behind : (rest : List ℕ) → events_of history ≡ listing.events ++ rest → n0 ≤ length listing.events → IsInStep leaves seen history listing rows reports log
+  in_step_behind rest is enough =
+      let n_is : max n0 (length listing.events) ≡ length listing.events = omega (arith, enough) in
+      let same : take (max n0 (length listing.events)) (events_of history) ≡ listing.events =
+      ap (λ n. take n (events_of history)) n_is ∙ (ap (take (length listing.events)) is ∙ take_at listing.events rest (length listing.events) refl) in
+      subst (λ (events : List ℕ). IsInStep leaves seen history (record listing { events = events }) rows reports log) same on_way.in_step
+
+  -- the next keys are still to come
+  pub partway_behind : (keys rest : List ℕ) → events_of history ≡ listing.events ++ (keys ++ rest) → n0 ≤ length listing.events → IsPartway listing.settings history listing.events keys
+  partway_behind keys rest is enough = record { rest = rest; is = is; late = late_at listing.settings n0 (length (events_of (but_last history))) (length listing.events) on_way.n0_least enough }
+
+  -- in every image the files are sound for the history, before n0 events are there as behind them
+  pub sound_on_way : IsValid listing.settings → IsAt listing.settings (max n0 (length listing.events)) rows → length listing.events ≤ length (events_of history) → (image : Files) → leaves image →
+      IsSound listing.settings listing.cone history image
+  sound_on_way valid at within image may =
+      let s = listing.settings in
+      let long : length (take (max n0 (length listing.events)) (events_of history)) ≡ max n0 (length listing.events) =
+      length-take-le (max n0 (length listing.events)) (events_of history) (omega (arith, within, on_way.n0_most)) in
+      let partway : IsPartway s history (take (max n0 (length listing.events)) (events_of history)) [] =
+      record {
+        rest = drop (max n0 (length listing.events)) (events_of history);
+        is = sym (take-append-drop (max n0 (length listing.events)) (events_of history));
+        late = late_at s n0 (length (events_of (but_last history))) (length (take (max n0 (length listing.events)) (events_of history))) on_way.n0_least (omega (arith, long));
+      } in
+      let whole : listing.closed ≡ true → take (max n0 (length listing.events)) (events_of history) ≡ events_of history =
+      λ ended. take_all (max n0 (length listing.events)) (events_of history) (omega (arith, on_way.closed_behind ended)) in
+      sound_of s listing.cone history (take (max n0 (length listing.events)) (events_of history)) rows listing.closed on_way.in_step.logged log.gate valid (subst (λ n. IsAt s n rows) (sym long) at) partway whole on_way.in_step.log_of image
+      (on_way.in_step.journal image may) (on_way.in_step.log_there image may) (on_way.in_step.frames image may)
+
+  -- where files and memory go together after more keys, by calls that may have written, the cone is on its way
+  pub on_way_behind : (leaves_after : Files → Type 0) (seen_after : Files) (later : Listing) (rows_after : List (List BinAt)) (reports_after : List Report) (log_after : LogPlace) (events rest : List ℕ) →
+      later ≡ record listing { events = events } → events_of history ≡ events ++ rest → n0 ≤ length events → IsInStep leaves_after seen_after history later rows_after reports_after log_after →
+      IsOnWay leaves_after seen_after history later rows_after reports_after log_after n0
+  on_way_behind leaves_after seen_after later rows_after reports_after log_after events rest is begins enough step =
+      let n_is : max n0 (length events) ≡ length events = omega (arith, enough) in
+      let same : events ≡ take (max n0 (length events)) (events_of history) =
+      sym (ap (λ n. take n (events_of history)) n_is ∙ (ap (take (length events)) begins ∙ take_at events rest (length events) refl)) in
+      let here : IsInStep leaves_after seen_after history (record listing { events = events }) rows_after reports_after log_after =
+      subst (λ (l : Listing). IsInStep leaves_after seen_after history l rows_after reports_after log_after) is step in
+      subst (λ (l : Listing). IsOnWay leaves_after seen_after history l rows_after reports_after log_after n0) (sym is)
+      (record {
+        n0_most = on_way.n0_most;
+        n0_least = on_way.n0_least;
+        closed_behind = on_way.closed_behind;
+        in_step = subst (λ (keys : List ℕ). IsInStep leaves_after seen_after history (record listing { events = keys }) rows_after reports_after log_after) same here;
+      })
+
+  -- the journal is that of the history
+  pub journal_on_way : leaves seen → IsJournal listing.settings listing.cone history (seen 0)
+  journal_on_way read = on_way.in_step.journal seen read
+
+  -- nothing at the gate leaves the format
+  pub never_on_way : leaves seen → (done : List Packet) (gate at : ℕ) → IsPast history done listing.events gate → ReplayLeavesAt listing.settings listing.cone n0 listing.closed (length listing.events) (seen 0) gate at → ⊥
+  never_on_way read done gate at past =
+      never_leaves listing.settings listing.cone (seen 0) history done listing.events gate (journal_on_way read) past n0 listing.closed at on_way.n0_most on_way.closed_behind
+
+-- ---- a packet that is cut at n0
+
+module _ (leaves : Files → Type 0) (seen : Files) (history done : List Packet) (listing later : Listing) (rows : List (List BinAt)) (reports : List Report) (log : LogPlace) (n0 gate : ℕ) (packet : Packet) (count : ℕ)
+    (on_way : IsOnWay leaves seen history listing rows reports log n0) (past : IsPast history done listing.events gate) (next : IsNext history done packet)
+    (count_is : count ≡ min (n0 - length listing.events) (length packet.keys)) (later_is : later ≡ record listing { events = listing.events ++ take count packet.keys }) where
+  -- its first keys are counted
+  pub cut_on_way : IsOnWay leaves seen history later rows reports log n0
+  cut_on_way = on_way_counted leaves seen history listing rows reports log n0 on_way later packet.keys count later_is (omega (arith, count_is))
+
+  events_are : later.events ≡ listing.events ++ take count packet.keys
+  events_are = ap (λ (l : Listing). l.events) later_is
+
+  -- the others are still to come
+  ahead : events_of history ≡ later.events ++ (drop count packet.keys ++ events_of next.rest)
+  ahead =
+      keys_cut history listing.events packet.keys (events_of next.rest) count (keys_next history done listing.events gate packet past next)
+      ∙ ap (λ events. events ++ (drop count packet.keys ++ events_of next.rest)) (sym events_are)
+
+  -- with them the cone has all keys of the packet
+  pub cut_all : later.events ++ drop count packet.keys ≡ listing.events ++ packet.keys
+  cut_all =
+      ap (λ events. events ++ drop count packet.keys) events_are
+      ∙ (append_assoc listing.events (take count packet.keys) (drop count packet.keys)
+      ∙ ap (λ keys. listing.events ++ keys) (take-append-drop count packet.keys))
+
+  -- where some are left, n0 events are there, so files and memory go together, and the last record isn't a closing one
+  module _ (some : 0 < length (drop count packet.keys)) where
+    enough : n0 ≤ length later.events
+    enough =
+        omega (
+          arith,
+          count_is,
+          some,
+          ap length events_are,
+          length-append listing.events (take count packet.keys),
+          length-take count packet.keys,
+          length-drop count packet.keys,
+        )
+
+    pub cut_in_step : IsInStep leaves seen history later rows reports log
+    cut_in_step = in_step_behind leaves seen history later rows reports log n0 cut_on_way (drop count packet.keys ++ events_of next.rest) ahead enough
+
+    pub cut_partway : IsPartway later.settings history later.events (drop count packet.keys)
+    cut_partway = partway_behind leaves seen history later rows reports log n0 cut_on_way (drop count packet.keys) (events_of next.rest) ahead enough
+
+    pub cut_running : (s : Numbers) → MayFollow s n0 listing.closed (length listing.events) packet → listing.closed ≡ false
+    cut_running s may = elim (cases_Bool listing.closed) [
+      | inl ended ↦ absurd (omega (arith, count_is, some, may.before_closing ended, length-drop count packet.keys))
+      | inr running ↦ running
+    ]
+
+    -- once they are taken the cone is on its way behind them
+    pub cut_taken : (leaves_after : Files → Type 0) (seen_after : Files) (last : Listing) (rows_after : List (List BinAt)) (reports_after : List Report) (log_after : LogPlace) →
+        last ≡ record later { events = later.events ++ drop count packet.keys } → IsInStep leaves_after seen_after history last rows_after reports_after log_after →
+        IsOnWay leaves_after seen_after history last rows_after reports_after log_after n0
+    cut_taken leaves_after seen_after last rows_after reports_after log_after is step =
+        on_way_behind leaves seen history later rows reports log n0 cut_on_way leaves_after seen_after last rows_after reports_after log_after
+        (later.events ++ drop count packet.keys) (events_of next.rest) is
+        (ahead ∙ sym (append_assoc later.events (drop count packet.keys) (events_of next.rest)))
+        (omega (arith, enough, length-append later.events (drop count packet.keys))) step
+
+-- ---- the end of the way
+
+-- behind all packets a cone with its counts is whole
+pub whole_on_way : (leaves : Files → Type 0) (seen : Files) (history : List Packet) (t : Tallied) (gate : ℕ) (log : LogPlace) (n0 : ℕ) → IsCounted t → IsOnWay leaves seen history t.listing t.rows t.due.reports log n0 →
+    IsPast history history t.listing.events gate → n0 ≤ length t.listing.events → leaves seen → IsWhole leaves seen t.listing t.rows t.due.reports gate log history
+whole_on_way leaves seen history t gate log n0 counted on_way past enough read =
+    whole_of leaves seen history t gate log counted
+    (in_step_behind leaves seen history t.listing t.rows t.due.reports log n0 on_way [] (sym past.keys ∙ sym (append-nil t.listing.events)) enough)
+    read past.keys past.gate_is

@@ -1,0 +1,254 @@
+-- A cone that is given the packets of its journal again: what is so of it, what the record at a gate makes of it, and which
+-- lists it stands for at the end.
+use Rattle.std.proofs.Common.{◌≡◌, ℕ, ◌+◌, ◌*◌, ◌^◌, ◌<◌, ◌≤◌, Bool, true, false, cond, List, [], ◌∷◌, ◌++◌, length, Option, Some, None, All, refl, sym, ap, ◌∙◌, subst, inl, inr, ◌⊎◌, arith}
+use Rattle.std.proofs.lemmas.Bool.{false≢true, cases_Bool}
+use Rattle.lert_base.specs.Packet.{Packet, events_of}
+use Rattle.lert_bay.specs.Files.{Files, IfTold}
+use Rattle.lert_bay.specs.Images.{KeepsImages}
+use Rattle.lert_gatelog.specs.declared.fault.LogFault.{LogFault}
+use Rattle.lert_gatelog.specs.declared.fault.LogFault.TheVariants.{Failed as LogFailed, Malformed as LogMalformed}
+use Rattle.lert_gatelog.specs.Gated.{IsClosed, Log, next_gate}
+use Rattle.lert_gatelog.specs.Kept.{IsWhollySettled}
+use Rattle.lert_gatelog.proofs.GatedLaws.{byte_of_part, part_within, closed_behind}
+use Rattle.lert_journal.specs.Journal.{HoldsPacket}
+use Rattle.lert_journal.specs.Payload.{payload_of}
+use Rattle.lert_journal.proofs.PayloadLaws.{length_payload}
+use Rattle.lert_levels.specs.declared.bin_at.BinAt.{BinAt}
+use Rattle.lert_reports.specs.Log.{most_record}
+use Rattle.lert_spec.specs.declared.numbers.Numbers.{Numbers}
+use Rattle.lert_spec.specs.declared.report.Report.{Report}
+use Rattle.lert_spec.specs.Edges.{capacity}
+use Rattle.lert_spec.specs.Limits.{IsValid}
+use Rattle.lert_cone.specs.declared.log_point.LogPoint.{LogPoint}
+use Rattle.lert_cone.specs.declared.refusal.ReplayFault.{ReplayFault}
+use Rattle.lert_cone.specs.declared.refusal.ReplayFault.TheVariants.{Failed, Unsound, OutOfMemory}
+use Rattle.lert_cone.specs.declared.state.ConeState.{ConeState}
+use Rattle.lert_cone.specs.declared.state.ConeState.TheVariants.{Running, Finished, BrokenByBay, Replaying}
+use Rattle.lert_cone.specs.declared.tally.TakeFault.{TakeFault}
+use Rattle.lert_cone.specs.declared.tally.TakeFault.TheVariants.{Failed as TakeFailed, Unsound as TakeUnsound, OutOfMemory as TakeOutOfMemory}
+use Rattle.lert_cone.specs.History.{most_payload}
+use Rattle.lert_cone.specs.InStep.{IsLogging}
+use Rattle.lert_cone.specs.Listing.{Listing}
+use Rattle.lert_cone.specs.Record.{LogPlace}
+use Rattle.lert_cone.specs.Replay.{IsOnWay, IsPast, IsNext, ReplayLeavesAt}
+use Rattle.lert_cone.specs.Replays.{Replays, IsThere, WhyRefused, LeavesBehind, of_take_fault, of_log_fault}
+use Rattle.lert_cone.specs.Room.{room_of}
+use Rattle.lert_cone.specs.Stands.{Standing, StandsFor, IsCone, IsReplaying, WasSound, is_broken, is_finished}
+use Rattle.lert_cone.specs.Tally.{Tallied, IsRecounted}
+use Rattle.lert_cone.specs.Wrote.{IsShutIfTold, LeavesFile}
+use Rattle.lert_cone.proofs.GateLaws.{is_next, past_none, past_more}
+use Rattle.lert_cone.proofs.ReplayLaws.{journal_on_way, whole_on_way}
+use Rattle.lert_cone.proofs.ReplayStep.{told_once}
+use Rattle.lert_cone.proofs.SoundLaws.{turns_back}
+use Rattle.lert_cone.proofs.WroteLaws.{settled_through, torn_behind}
+
+-- ---- calls that read alone
+
+-- a file stays wholly settled
+pub read_settled : (file : ℕ) (before after : Option Files) (leaves leaves_after : Files → Type 0) → after ≡ before → KeepsImages leaves leaves_after → IfTold before (λ seen. IsWhollySettled leaves seen file) → IfTold after (λ seen. IsWhollySettled leaves_after seen file)
+read_settled file before after leaves leaves_after same images settled seen told =
+    let was = settled seen (sym same ∙ told) in
+    record { within = was.within; same = λ image may. was.same image ((images image).0 may) }
+
+-- and a gate in it closed
+pub read_shut : (file gate : ℕ) (before after : Option Files) (leaves leaves_after : Files → Type 0) → after ≡ before → KeepsImages leaves leaves_after → IsShutIfTold before leaves file gate → IsShutIfTold after leaves_after file gate
+read_shut file gate before after leaves leaves_after same images shut seen told =
+    let was = shut seen (sym same ∙ told) in
+    record {
+      settled = record { within = was.settled.within; same = λ image may. was.settled.same image ((images image).0 may) };
+      closed = λ image may. was.closed image ((images image).0 may);
+    }
+
+-- a gate that is closed as the file reads is closed in every image, where the file is settled
+pub shut_there : (file gate : ℕ) (told : Option Files) (leaves : Files → Type 0) → IfTold told (λ seen. IsWhollySettled leaves seen file) → IfTold told (λ seen. IsClosed (seen file) gate) → IsShutIfTold told leaves file gate
+shut_there file gate told leaves settled closed seen is = record {
+  settled = settled seen is;
+  closed = λ image may. closed_behind gate (length (image file)) (seen file) (image file) (closed seen is) (torn_behind (seen file) (image file) (gate + 1) ((settled seen is).same image may));
+}
+
+-- ---- the next packet
+
+-- a packet that stands at the gate behind those that were read is the next one
+pub next_there : (leaves : Files → Type 0) (seen : Files) (history done : List Packet) (listing : Listing) (rows : List (List BinAt)) (reports : List Report) (log : LogPlace) (n0 gate : ℕ) (packet : Packet) →
+    IsOnWay leaves seen history listing rows reports log n0 → leaves seen → IsPast history done listing.events gate → HoldsPacket listing.settings listing.cone (most_payload listing.settings) (seen 0) gate packet → IsNext history done packet
+next_there leaves seen history done listing rows reports log n0 gate packet on_way read past holds =
+    is_next listing.settings listing.cone (seen 0) history done listing.events gate (journal_on_way leaves seen history listing rows reports log n0 on_way read) past packet holds
+
+-- ---- why a record isn't taken
+
+module _ {B : Type 0} (cone : Standing B) (bytes : List ℕ) (gate : ℕ) where
+  pub refused_keys : (fault : TakeFault) → IsThere cone bytes gate → WhyRefused cone bytes gate (of_take_fault fault)
+  refused_keys TakeFailed there = tt
+  refused_keys (TakeUnsound file at) there = there
+  refused_keys TakeOutOfMemory there = there
+
+  pub refused_record : (fault : LogFault) → ((at : ℕ) → fault ≡ LogMalformed at → LeavesBehind cone bytes gate at) → WhyRefused cone bytes gate (of_log_fault fault)
+  refused_record LogFailed leaves = tt
+  refused_record (LogMalformed at) leaves = leaves at refl
+
+pub only_by_bay : (fault : TakeFault) → ((file at : ℕ) → fault ≡ TakeUnsound file at → ⊥) → (of_take_fault fault ≡ Failed) ⊎ (of_take_fault fault ≡ OutOfMemory)
+only_by_bay TakeFailed never = inl refl
+only_by_bay (TakeUnsound file at) never = absurd (never file at refl)
+only_by_bay TakeOutOfMemory never = inr refl
+
+pub unsound_keys : (fault : TakeFault) (file at : ℕ) → of_take_fault fault ≡ Unsound file at → fault ≡ TakeUnsound file at
+unsound_keys TakeFailed file at same = absurd (let never : ⊥ = cc in never)
+unsound_keys (TakeUnsound other place) file at same = (let is : TakeUnsound other place ≡ TakeUnsound file at = cc in is)
+unsound_keys TakeOutOfMemory file at same = absurd (let never : ⊥ = cc in never)
+
+pub never_unsound : (fault : LogFault) (file at : ℕ) → of_log_fault fault ≡ Unsound file at → ⊥
+never_unsound LogFailed file at same = (let never : ⊥ = cc in never)
+never_unsound (LogMalformed place) file at same = (let never : ⊥ = cc in never)
+
+pub only_failed : (fault : LogFault) → ((at : ℕ) → fault ≡ LogMalformed at → ⊥) → of_log_fault fault ≡ Failed
+only_failed LogFailed never = refl
+only_failed (LogMalformed at) never = absurd (never at refl)
+
+-- ---- a cone that replays
+
+-- the state behind the last packet
+ends_whole : (closed : Bool) → is_broken (cond closed Finished Running) ≡ false
+ends_whole true = refl
+ends_whole false = refl
+
+ends_finished : (closed : Bool) → is_finished (cond closed Finished Running) ≡ closed
+ends_finished true = refl
+ends_finished false = refl
+
+module _ {B : Type 0} (files : B → Option Files) (leaves : B → Files → Type 0) (faults : B → ℕ) where
+  pub replaying_cone : (cone : Standing B) (tally : Tallied) (journal : Log) (room keys_room : ℕ) → cone.state ≡ Replaying → journal.file ≡ 0 → journal.most ≡ most_payload cone.listing.settings
+      → room ≡ room_of cone.listing.settings → keys_room ≡ 4 * cone.listing.settings.packet → cone.events ≤ capacity cone.listing.settings → IsValid cone.listing.settings → faults cone.made ≤ faults cone.bay
+      → IsReplaying files leaves cone tally room → IsCone files leaves faults cone tally journal room keys_room
+  replaying_cone cone tally journal room keys_room state_is file most roomy keys_roomy within valid falls replaying = record {
+    file = file;
+    most = most;
+    roomy = roomy;
+    keys_roomy = keys_roomy;
+    within = within;
+    valid = valid;
+    never_falls = falls;
+    by_bay = λ never. absurd (let other : ⊥ = cc in other);
+    none_over = λ still. absurd (false≢true (sym still ∙ ap is_broken state_is));
+    counted = λ still. absurd (false≢true (sym still ∙ ap is_broken state_is));
+    tallied = λ still. absurd (false≢true (sym still ∙ ap is_broken state_is));
+    closed = λ still. absurd (false≢true (sym still ∙ ap is_broken state_is));
+    near = λ still. absurd (false≢true (sym still ∙ ap is_broken state_is));
+    shut = λ never. absurd (false≢true (sym (ap is_broken never) ∙ ap is_broken state_is));
+    logging = λ never. absurd (false≢true (sym (ap is_broken never) ∙ ap is_broken state_is));
+    log_shut = λ never. absurd (false≢true (sym (ap is_broken never) ∙ ap is_broken state_is));
+    replaying = λ _. replaying;
+  }
+
+  -- as it is adopted
+  pub adopted_cone : (bay made : B) (s : Numbers) (cone : ℕ) (tally : Tallied) (journal : Log) (log : LogPlace) (last : LogPoint) (room keys_room : ℕ) → IsValid s
+      → tally.listing ≡ record { settings = s; cone = cone; events = []; closed = last.closed } → IsRecounted tally last.n0 → journal ≡ record { file = 0; gate = last.offset; most = most_payload s } → last.offset ≡ 32 → last.log_end ≤ 2 ^ 62
+      → log ≡ record { gate = last.log_end; most = most_record s; named = length tally.due.reports } → room ≡ room_of s → keys_room ≡ 4 * s.packet → made ≡ bay
+      → IfTold (files bay) (λ seen. IsWhollySettled (leaves bay) seen 0) → IsShutIfTold (files bay) (leaves bay) 1 last.log_end
+      → IsCone files leaves faults (record { bay = bay; made = made; listing = tally.listing; rows = tally.rows; reports = tally.due.reports; events = 0; state = Replaying; over = None; gate = journal.gate; log = log; last = last }) tally journal room keys_room
+  adopted_cone bay made s cone tally journal log last room keys_room valid is recounted journal_is offset_is reach log_is room_is keys_room_is made_is settled shut =
+      replaying_cone
+      (record { bay = bay; made = made; listing = tally.listing; rows = tally.rows; reports = tally.due.reports; events = 0; state = Replaying; over = None; gate = journal.gate; log = log; last = last }) tally journal room keys_room
+      refl (ap (λ (j : Log). j.file) journal_is) (ap (λ (j : Log). j.most) journal_is ∙ ap (λ (l : Listing). most_payload l.settings) (sym is))
+      (room_is ∙ ap (λ (l : Listing). room_of l.settings) (sym is)) (keys_room_is ∙ ap (λ (l : Listing). 4 * l.settings.packet) (sym is)) (omega arith)
+      (subst (λ (l : Listing). IsValid l.settings) (sym is) valid) (omega (arith, ap faults made_is))
+      (record {
+        none_over = refl;
+        counted = ap (λ (l : Listing). length l.events) is;
+        recounted = recounted;
+        closed = ap (λ (l : Listing). l.closed) is;
+        near = omega (arith, ap (λ (j : Log). j.gate) journal_is, offset_is);
+        journal_settled = settled;
+        logging = record {
+          most = ap (λ (l : LogPlace). l.most) log_is ∙ ap (λ (l : Listing). most_record l.settings) (sym is);
+          named = omega (arith, ap (λ (l : LogPlace). l.named) log_is);
+          near = omega (arith, ap (λ (l : LogPlace). l.gate) log_is, reach);
+          roomy = omega (arith, ap (λ (l : LogPlace). l.most) log_is, room_is);
+        };
+        log_shut = subst (λ gate. IsShutIfTold (files bay) (leaves bay) 1 gate) (sym (ap (λ (l : LogPlace). l.gate) log_is)) shut;
+      })
+
+  -- behind its last packet
+  pub ready_cone : (bay made : B) (tally : Tallied) (events room keys_room : ℕ) (journal journal_after : Log) (log : LogPlace) (last : LogPoint) (over : Option Packet) (state state_after : ConeState) (end : ℕ)
+      → state ≡ Replaying → state_after ≡ cond last.closed Finished Running → last.n0 ≤ length tally.listing.events → journal.gate ≡ end → journal_after ≡ record { file = 0; gate = end; most = most_payload tally.listing.settings }
+      → IsShutIfTold (files bay) (leaves bay) 0 end
+      → IsCone files leaves faults (record { bay = bay; made = made; listing = tally.listing; rows = tally.rows; reports = tally.due.reports; events = events; state = state; over = over; gate = journal.gate; log = log; last = last }) tally journal room keys_room
+      → IsCone files leaves faults (record { bay = bay; made = made; listing = tally.listing; rows = tally.rows; reports = tally.due.reports; events = events; state = state_after; over = over; gate = journal_after.gate; log = log; last = last }) tally journal_after room keys_room
+  ready_cone bay made tally events room keys_room journal journal_after log last over state state_after end is_replaying after_is enough gate_is journal_is shut cone =
+      let was = cone.replaying is_replaying in
+      let whole : is_broken state_after ≡ false = ap is_broken after_is ∙ ends_whole last.closed in
+      record {
+        file = ap (λ (j : Log). j.file) journal_is;
+        most = ap (λ (j : Log). j.most) journal_is;
+        roomy = cone.roomy;
+        keys_roomy = cone.keys_roomy;
+        within = cone.within;
+        valid = cone.valid;
+        never_falls = cone.never_falls;
+        by_bay = λ never. absurd (false≢true (sym whole ∙ ap is_broken never));
+        none_over = λ _. was.none_over;
+        counted = λ _. was.counted;
+        tallied = λ _. was.recounted.behind enough;
+        closed = λ _. was.closed ∙ sym (ap is_finished after_is ∙ ends_finished last.closed);
+        near = λ _. omega (arith, was.near, gate_is, ap (λ (j : Log). j.gate) journal_is);
+        shut = λ _. subst (λ gate. IsShutIfTold (files bay) (leaves bay) 0 gate) (sym (ap (λ (j : Log). j.gate) journal_is)) shut;
+        logging = λ _. was.logging;
+        log_shut = λ _. was.log_shut;
+        replaying = λ never. absurd (false≢true (sym whole ∙ ap is_broken never));
+      }
+
+  pub ready_stands : (bay made : B) (tally : Tallied) (events gate gate_after : ℕ) (log : LogPlace) (last : LogPoint) (over : Option Packet) (state state_after : ConeState) (history : List Packet)
+      → state_after ≡ cond last.closed Finished Running → gate_after ≡ gate → IsRecounted tally last.n0 → last.n0 ≤ length tally.listing.events → over ≡ None → IsValid tally.listing.settings → events ≤ capacity tally.listing.settings
+      → All (λ packet. 0 < length packet.keys) history → length (events_of history) ≡ events → IfTold (files bay) (leaves bay)
+      → (WasSound files (record { bay = bay; made = made; listing = tally.listing; rows = tally.rows; reports = tally.due.reports; events = events; state = state; over = over; gate = gate; log = log; last = last })
+      → IfTold (files bay) (λ _. Replays files leaves (record { bay = bay; made = made; listing = tally.listing; rows = tally.rows; reports = tally.due.reports; events = events; state = state; over = over; gate = gate; log = log; last = last }) history history))
+      → StandsFor files leaves faults (record { bay = bay; made = made; listing = tally.listing; rows = tally.rows; reports = tally.due.reports; events = events; state = state_after; over = over; gate = gate_after; log = log; last = last }) history
+  ready_stands bay made tally events gate gate_after log last over state state_after history after_is gate_is recounted enough none_over valid within some counted read replays =
+      let whole : is_broken state_after ≡ false = ap is_broken after_is ∙ ends_whole last.closed in
+      record {
+        some = some;
+        counted = counted;
+        within = within;
+        valid = valid;
+        ready = λ never. absurd (false≢true (sym whole ∙ ap is_broken never));
+        whole = λ _ sound seen told.
+            let all = replays sound seen told in
+            whole_on_way (leaves bay) seen history tally gate_after log last.n0 (recounted.behind enough) (all.on_way seen told)
+            (subst (λ g. IsPast history history tally.listing.events g) (sym gate_is) all.past) enough (read seen told);
+        broken = λ never. absurd (false≢true (sym whole ∙ never));
+        none_over = λ _. none_over;
+        by_bay = λ never. absurd (false≢true (sym whole ∙ ap is_broken never));
+        by_read = λ file at never. absurd (false≢true (sym whole ∙ ap is_broken never));
+      }
+
+  -- what it is adopted with is on the way
+  pub adopted_replays : (bay made : B) (s : Numbers) (cone gate : ℕ) (tally : Tallied) (log : LogPlace) (last : LogPoint) (rows : List (List BinAt)) (reports : List Report) (history : List Packet) (seen : Files)
+      → tally.listing ≡ record { settings = s; cone = cone; events = []; closed = last.closed } → tally.rows ≡ rows → tally.due.reports ≡ reports → gate ≡ 32 → log ≡ record { gate = last.log_end; most = most_record s; named = length reports }
+      → files bay ≡ Some seen → IsOnWay (leaves bay) seen history (record { settings = s; cone = cone; events = []; closed = last.closed }) rows reports (record { gate = last.log_end; most = most_record s; named = length reports }) last.n0
+      → Replays files leaves (record { bay = bay; made = made; listing = tally.listing; rows = tally.rows; reports = tally.due.reports; events = 0; state = Replaying; over = None; gate = gate; log = log; last = last }) history []
+  adopted_replays bay made s cone gate tally log last rows reports history seen is rows_are reports_are gate_is log_is told on_way = record {
+    state_is = refl;
+    past = subst (λ (l : Listing). IsPast history [] l.events gate) (sym is) (subst (λ g. IsPast history [] [] g) (sym gate_is) (past_none history));
+    on_way = λ after told_after.
+        subst (λ (f : Files). IsOnWay (leaves bay) f history tally.listing tally.rows tally.due.reports log last.n0) (told_once (files bay) seen after told told_after)
+        (subst (λ (l : Listing). IsOnWay (leaves bay) seen history l tally.rows tally.due.reports log last.n0) (sym is)
+        (subst (λ (rs : List (List BinAt)). IsOnWay (leaves bay) seen history (record { settings = s; cone = cone; events = []; closed = last.closed }) rs tally.due.reports log last.n0) (sym rows_are)
+        (subst (λ (rs : List Report). IsOnWay (leaves bay) seen history (record { settings = s; cone = cone; events = []; closed = last.closed }) rows rs log last.n0) (sym reports_are)
+        (subst (λ (l : LogPlace). IsOnWay (leaves bay) seen history (record { settings = s; cone = cone; events = []; closed = last.closed }) rows reports l last.n0) (sym log_is) on_way))));
+  }
+
+-- ---- through the calls of a record's keys
+
+-- a file stays wholly settled through calls that leave it alone
+pub settled_then : (file : ℕ) (before after : Option Files) (leaves_before leaves_after : Files → Type 0) (first last : ℕ) (since_before since_after : ℕ → Files → Type 0) →
+    LeavesFile file before after leaves_before leaves_after first last since_before since_after → IfTold before (λ seen. IsWhollySettled leaves_before seen file) → IfTold after (λ seen. IsWhollySettled leaves_after seen file)
+settled_then file before after leaves_before leaves_after first last since_before since_after left settled seen told =
+    let back = turns_back (λ old later. later file ≡ old file) before after left.seen seen told in
+    settled_through file before after leaves_before leaves_after first last since_before since_after left back.0 back.1 (settled back.0 back.1) seen told
+
+-- the gate behind a packet lies as far on as its keys need
+pub near_then : (gate gate_after events events_after : ℕ) (packet : Packet) → gate ≤ 2 ^ 62 → gate_after ≡ next_gate gate (payload_of packet) → 0 < length packet.keys → events_after ≡ events + length packet.keys → gate_after ≤ 2 ^ 62 + 21 * events_after
+near_then gate gate_after events events_after packet reach is some events_is = omega (arith, reach, is, length_payload packet, some, events_is)
+
+-- a place at which the format is left, said of the listing's state
+pub leaves_listing : (s : Numbers) (cone n0 n gate at : ℕ) (closed other : Bool) (bytes : List ℕ) → closed ≡ other → ReplayLeavesAt s cone n0 other n bytes gate at → ReplayLeavesAt s cone n0 closed n bytes gate at
+leaves_listing s cone n0 n gate at closed other bytes same leaves = subst (λ (b : Bool). ReplayLeavesAt s cone n0 b n bytes gate at) (sym same) leaves

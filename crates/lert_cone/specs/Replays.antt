@@ -1,0 +1,109 @@
+-- A cone that is given the packets of its journal again, and what the record at a gate makes of it.
+use Rattle.std.specs.Prelude.{◌≡◌, ◌⊎◌, ℕ, ◌+◌, ◌≤◌, List, [], ◌∷◌, ◌++◌, length, Option, Some, None, Result, Ok, Err}
+use Rattle.lert_base.specs.Packet.{Packet}
+use Rattle.lert_bay.specs.Files.{Files, IfTold}
+use Rattle.lert_bay.specs.Images.{KeepsImages}
+use Rattle.lert_gatelog.specs.declared.fault.LogFault.{LogFault}
+use Rattle.lert_gatelog.specs.declared.fault.LogFault.TheVariants.{Failed as LogFailed, Malformed as LogMalformed}
+use Rattle.lert_gatelog.specs.Gated.{IsClosed, next_gate}
+use Rattle.lert_journal.specs.Journal.{HoldsPacket}
+use Rattle.lert_journal.specs.Payload.{IsJournaled, payload_of}
+use Rattle.lert_levels.specs.declared.bin_at.BinAt.{BinAt}
+use Rattle.lert_spec.specs.declared.report.Report.{Report}
+use Rattle.lert_cone.specs.declared.refusal.ReplayFault.{ReplayFault}
+use Rattle.lert_cone.specs.declared.refusal.ReplayFault.TheVariants.{Failed, Malformed, Unsound, OutOfMemory}
+use Rattle.lert_cone.specs.declared.state.ConeState.{ConeState}
+use Rattle.lert_cone.specs.declared.state.ConeState.TheVariants.{BrokenByBay, BrokenByRead, BrokenByMemory, Replaying}
+use Rattle.lert_cone.specs.declared.tally.TakeFault.{TakeFault}
+use Rattle.lert_cone.specs.declared.tally.TakeFault.TheVariants.{Failed as TakeFailed, Unsound as TakeUnsound, OutOfMemory as TakeOutOfMemory}
+use Rattle.lert_cone.specs.History.{most_payload}
+use Rattle.lert_cone.specs.Record.{LogPlace}
+use Rattle.lert_cone.specs.Replay.{IsOnWay, IsPast, MayFollow, ReplayLeavesAt}
+use Rattle.lert_cone.specs.Stands.{Standing}
+use Rattle.lert_cone.specs.Wrote.{IsShutIfTold}
+
+-- the cone took the first packets of its journal, which is that of a history, and where its bay tells its files, these and
+-- its memory are on their way through it
+pub record Replays {B : Type 0} (files : B → Option Files) (leaves : B → Files → Type 0) (cone : Standing B) (history done : List Packet) : Type 0 where
+  pub state_is : cone.state ≡ Replaying
+  pub past : IsPast history done cone.listing.events cone.gate
+  pub on_way : IfTold (files cone.bay) (λ seen. IsOnWay (leaves cone.bay) seen history cone.listing cone.rows cone.reports cone.log cone.last.n0)
+
+-- a packet that this cone's journal may hold stands in a file at a gate
+abbrev pub HoldsNext : {B : Type 0} → Standing B → List ℕ → ℕ → Packet → Type 0
+HoldsNext cone bytes gate packet = HoldsPacket cone.listing.settings cone.listing.cone (most_payload cone.listing.settings) bytes gate packet
+
+-- and may stand behind the keys that the cone has
+abbrev pub MayTake : {B : Type 0} → Standing B → Packet → Type 0
+MayTake cone packet = MayFollow cone.listing.settings cone.last.n0 cone.last.closed (length cone.listing.events) packet
+
+-- the place at which what stands at a gate leaves the format, behind the keys that the cone has
+abbrev pub LeavesBehind : {B : Type 0} → Standing B → List ℕ → ℕ → ℕ → Type 0
+LeavesBehind cone bytes gate at = ReplayLeavesAt cone.listing.settings cone.listing.cone cone.last.n0 cone.last.closed (length cone.listing.events) bytes gate at
+
+-- a cone with the keys of a packet more, and what that makes of the rest
+abbrev pub with_packet : {B : Type 0} → Standing B → Packet → ℕ → B → List (List BinAt) → List Report → LogPlace → Standing B
+with_packet cone packet gate bay rows reports log = record cone {
+  bay = bay;
+  listing = record cone.listing { events = cone.listing.events ++ packet.keys };
+  rows = rows;
+  reports = reports;
+  events = cone.events + length packet.keys;
+  gate = gate;
+  log = log;
+}
+
+-- a packet was taken that stands at a gate, where the files are told
+pub record HasTaken {B : Type 0} (files : B → Option Files) (old new : Standing B) (gate next : ℕ) : Type 0 where
+  pub packet : Packet
+  pub stands : IfTold (files old.bay) (λ seen. HoldsNext old (seen 0) gate packet)
+  pub journaled : IsJournaled old.listing.settings old.listing.cone packet
+  pub follows : MayTake old packet
+  pub next_is : next ≡ next_gate gate (payload_of packet)
+  pub is : new ≡ with_packet old packet next new.bay new.rows new.reports new.log
+
+-- a closed gate was found, where the files are told, behind enough keys, and nothing else changed
+pub record HasEnded {B : Type 0} (files : B → Option Files) (leaves : B → Files → Type 0) (old new : Standing B) (gate : ℕ) : Type 0 where
+  pub enough : old.last.n0 ≤ length old.listing.events
+  pub stands : IfTold (files old.bay) (λ seen. IsClosed (seen 0) gate)
+  pub shut : IsShutIfTold (files new.bay) (leaves new.bay) 0 gate
+  pub seen : files new.bay ≡ files old.bay
+  pub images : KeepsImages (leaves old.bay) (leaves new.bay)
+  pub is : new ≡ record old { bay = new.bay; gate = gate }
+
+-- a packet stands at a gate that the cone may take
+pub record IsThere {B : Type 0} (cone : Standing B) (bytes : List ℕ) (gate : ℕ) : Type 0 where
+  pub packet : Packet
+  pub stands : HoldsNext cone bytes gate packet
+  pub follows : MayTake cone packet
+
+-- what stands at a gate of told files where a record isn't taken: a place at which the format is left; or a packet, of which
+-- the keys weren't all taken
+abbrev pub WhyRefused : {B : Type 0} → Standing B → List ℕ → ℕ → ReplayFault → Type 0
+WhyRefused cone bytes gate Failed = Unit {0}
+WhyRefused cone bytes gate (Malformed at) = LeavesBehind cone bytes gate at
+WhyRefused cone bytes gate (Unsound file at) = IsThere cone bytes gate
+WhyRefused cone bytes gate OutOfMemory = IsThere cone bytes gate
+
+-- what becomes of a cone on its way through the journal of a history, of which it took the first packets: it took one more, or
+-- all are taken; or a call of its bay failed, or there was no memory
+abbrev pub GoesOn : {B : Type 0} → (B → Option Files) → (B → Files → Type 0) → Standing B → List Packet → List Packet → Result (Option ℕ) ReplayFault → Type 0
+GoesOn files leaves new history done (Ok (Some next)) = (packet : Packet) × Replays files leaves new history (done ++ packet ∷ [])
+GoesOn files leaves new history done (Ok None) = (done ≡ history) × Replays files leaves new history done
+GoesOn files leaves new history done (Err fault) = (fault ≡ Failed) ⊎ (fault ≡ OutOfMemory)
+
+-- why a record isn't taken, and the state that this leaves
+abbrev pub of_take_fault : TakeFault → ReplayFault
+of_take_fault TakeFailed = Failed
+of_take_fault (TakeUnsound file at) = Unsound file at
+of_take_fault TakeOutOfMemory = OutOfMemory
+
+abbrev pub of_log_fault : LogFault → ReplayFault
+of_log_fault LogFailed = Failed
+of_log_fault (LogMalformed at) = Malformed at
+
+abbrev pub broken_after : ReplayFault → ConeState
+broken_after Failed = BrokenByBay
+broken_after (Malformed at) = BrokenByRead 0 at
+broken_after (Unsound file at) = BrokenByRead file at
+broken_after OutOfMemory = BrokenByMemory

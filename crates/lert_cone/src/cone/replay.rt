@@ -1,0 +1,205 @@
+//! A cone that is given the packets of its journal again.
+
+ghost use Rattle.std.specs.Prelude.{◌≡◌, ◌⊎◌, ℕ, ◌+◌, ◌<◌, ◌≤◌, ◌^◌, if◌then◌else◌, List, [], ◌∷◌, ◌++◌, length, All, None, IfErr, IfNone, IfOk, IfSome, IsErrOf, OnErr};
+ghost use Rattle.lert_base.specs.Packet.{Packet, events_of};
+ghost use Rattle.lert_bay.specs.Files.{Files, IfTold};
+ghost use Rattle.lert_bay.specs.Settled.{IsSettled};
+ghost use Rattle.lert_gatelog.specs.Kept.{IsWhollySettled};
+ghost use Rattle.lert_io.specs.Fault.{HasRisen};
+ghost use Rattle.lert_levels.specs.Flushed.{InNamed};
+ghost use Rattle.lert_reports.specs.Log.{HasLog, most_record};
+ghost use Rattle.lert_reports.specs.LogText.{LogRecord};
+ghost use Rattle.lert_cone.specs.Replay.{IsLastOf};
+ghost use Rattle.lert_cone.specs.Replays.{HasEnded, HasTaken, LeavesBehind, GoesOn, Replays, WhyRefused, broken_after};
+ghost use Rattle.lert_cone.specs.Room.{IsPointOf, IsRestored};
+ghost use Rattle.lert_cone.specs.Sound.{IsSound};
+ghost use Rattle.lert_cone.specs.Stands.{IsSameCone, StandsFor, WasSound};
+ghost use Rattle.lert_cone.specs.Tally.{Shows};
+ghost use Rattle.lert_cone.specs.Wrote.{IsShutIfTold, LeavesFile};
+
+use crate::cone::{Cone, broken_by};
+use crate::headers::greatest_payload;
+use crate::keys::{keys_of, replay_keys};
+use crate::log_point::LogPoint;
+use crate::records::read_record;
+use crate::refusal::ReplayFault;
+use crate::report_log::{ReportLog, greatest_record};
+use crate::room::ConeRoom;
+use crate::state::ConeState;
+use crate::tally::Tally;
+use lert_base::CountTable;
+use lert_bay::{Bay, JOURNAL};
+use lert_gatelog::GateLog;
+use std::snapshot::Snapshot;
+
+impl<B: Bay, T: CountTable> Cone<B, T> {
+    /// A cone over the files of a stopped run, from whose log the room has the levels and the reports. It has no key yet: it is
+    /// to be given the records of its journal one by one, from `last.offset` on, by `replay`, and then `ready`. Makes no call
+    /// of the bay and takes no memory.
+    pub fn adopt(room: ConeRoom<T>, cone: u32, bay: B, last: LogPoint) -> Cone<B, T>
+        requires named { cone < 2 ^ room.settings.cone_bits }
+        requires point { IsPointOf room.settings last }
+        requires room { IsRestored room.settings cone last.n0 room.zero room.levels room.store room.entry.keys (length room.buffer.items) }
+
+        // Where the bay tells its files, the log is settled and its gate closed in every image, and the journal and the frames
+        // that the log's last record names are settled.
+        requires log_shut { IsShutIfTold (B.files bay) (B.leaves bay) 1 last.log_end }
+        requires journal { IfTold (B.files bay) (λ seen. IsWhollySettled (B.leaves bay) seen 0) }
+        requires frames { IfTold (B.files bay) (λ seen. (from to : ℕ) → InNamed room.settings room.levels.rows from to → to ≤ length (seen 2) → IsSettled (B.leaves bay) seen 2 from to) }
+        ensures made { result ≡ record {
+          bay = bay;
+          made = bay;
+          listing = record { settings = room.settings; cone = cone; events = []; closed = last.closed };
+          rows = room.levels.rows;
+          reports = room.store.reports;
+          events = 0;
+          state = ConeState.Replaying;
+          over = None;
+          gate = 32;
+          log = record { gate = last.log_end; most = most_record room.settings; named = length room.store.reports };
+          last = last;
+        } }
+
+        // Where these files are sound for a list, and the point and the room say what their log does, the cone is on its way
+        // through that list's journal.
+        ensures replays { IfTold (B.files bay) (λ seen. (records : List LogRecord) → HasLog room.settings cone (seen 1) records last.log_end →
+            IsLastOf room.settings last.n0 last.closed room.levels.rows room.store.reports records →
+            (h : List Packet) → IsSound room.settings cone h seen → Replays B.files B.leaves result h []) }
+    {
+        let ConeRoom {
+            settings,
+            zero,
+            levels,
+            store,
+            entry,
+            buffer,
+        } = room;
+        let journal = GateLog::at_gate(JOURNAL, last.offset, greatest_payload(&settings));
+        let log = ReportLog::at(last.log_end, greatest_record(&settings), store.len());
+        let tally = Tally::adopted(&settings, cone, zero, levels, store, last.closed);
+        Cone {
+            made: Snapshot::of(&bay),
+            bay,
+            tally,
+            journal,
+            log,
+            last,
+            entry,
+            buffer,
+            events: 0,
+            state: ConeState::Replaying,
+            over: None,
+        }
+    }
+
+    /// Takes the packet whose record stands at this gate of the journal, and answers the next gate. None comes exactly at a
+    /// closed gate with as many keys before it as the log's last record has. The keys up to that record's place are only counted
+    /// again, and the others are taken as those of a packet that is admitted, with the calls of the bay that they cost there;
+    /// nothing is written to the journal. After a refusal the cone is broken, and is good for its bay alone.
+    pub fn replay(&mut self, gate: u64) -> Result<Option<u64>, ReplayFault>
+        requires replaying { self.old.state ≡ ConeState.Replaying }
+        requires reach { gate ≤ 2 ^ 62 }
+        ensures taken { IfOk result (λ found. IfSome found (λ next. HasTaken B.files self.old self.new gate next)) }
+        ensures forward { IfOk result (λ found. IfSome found (λ next. (gate < next) × (next ≤ gate + 65536))) }
+        ensures ended { IfOk result (λ found. IfNone found (HasEnded B.files B.leaves self.old self.new gate)) }
+        ensures refused { IfErr result (λ fault. IfTold (B.files self.old.bay) (λ seen. WhyRefused self.old (seen 0) gate fault)) }
+        ensures broke { IfErr result (λ fault. self.new ≡ record self.old {
+          bay = self.new.bay;
+          listing = record self.old.listing { events = self.new.listing.events };
+          rows = self.new.rows;
+          reports = self.new.reports;
+          state = broken_after fault;
+          gate = self.new.gate;
+          log = self.new.log;
+        }) }
+
+        // A cone on its way through a list's journal goes on by its next packet. At its end it took all. Only a call of the bay,
+        // or memory, may keep it from that.
+        ensures replays { IfTold (B.files self.old.bay) (λ _. (h done : List Packet) → Replays B.files B.leaves self.old h done → gate ≡ self.old.gate →
+            GoesOn B.files B.leaves self.new h done result) }
+
+        // Why it refuses where neither the format is left nor a list's journal goes on.
+        ensures unsound { (file at : ℕ) → IsErrOf result (ReplayFault.Unsound file at) →
+            IfTold (B.files self.new.bay) (λ seen. Shows self.new.listing.settings self.new.rows self.new.reports (seen 2) file at) }
+        ensures failed { IsErrOf result ReplayFault.Failed → HasRisen (B.faults self.old.bay) (B.faults self.new.bay) }
+        ensures same_cone { IsSameCone self.old self.new }
+        ensures journal { LeavesFile 0 (B.files self.old.bay) (B.files self.new.bay) (B.leaves self.old.bay) (B.leaves self.new.bay) (B.moment self.old.bay) (B.moment self.new.bay) (B.left_since self.old.bay) (B.left_since self.new.bay) }
+        ensures never_falls { B.faults self.old.bay ≤ B.faults self.new.bay }
+        ensures mark { B.mark self.new.bay ≡ B.mark self.old.bay }
+    {
+        let most = greatest_payload(self.tally.settings());
+        self.journal = GateLog::at_gate(JOURNAL, gate, most);
+        match read_record(
+            &mut self.journal,
+            &mut self.bay,
+            &self.tally,
+            &self.last,
+            &mut self.entry,
+            &mut self.buffer,
+        ) {
+            Ok(true) => {
+                if let Err(fault) = replay_keys(
+                    &mut self.tally,
+                    &mut self.log,
+                    &mut self.bay,
+                    self.last.n0,
+                    keys_of(&self.entry),
+                    &mut self.buffer,
+                ) {
+                    self.state = broken_by(fault);
+                    return Err(ReplayFault::from(fault));
+                }
+                self.events = self.tally.len();
+                Ok(Some(self.journal.gate()))
+            }
+            Ok(false) => Ok(None),
+            Err(fault) => {
+                let fault = ReplayFault::from(fault);
+                self.state = broken_after(fault);
+                Err(fault)
+            }
+        }
+    }
+
+    /// Ends the replay at the journal's closed gate, at which `replay` answered None. The cone is Finished where the log's last
+    /// record is a closing one, and runs on else.
+    pub fn ready(&mut self, end: u64)
+        requires replaying { self.old.state ≡ ConeState.Replaying }
+        requires passed { self.old.last.n0 ≤ length self.old.listing.events }
+        requires gate { self.old.gate ≡ end }
+        requires shut { IsShutIfTold (B.files self.old.bay) (B.leaves self.old.bay) 0 end }
+        ensures value { self.new ≡ record self.old { state = (if self.old.last.closed then ConeState.Finished else ConeState.Running) } }
+
+        // It stands for a list whose keys it has as many of, where it took its packets, if the files were sound for one.
+        ensures stands_for { (h : List Packet) → All (λ packet. 0 < length packet.keys) h → length (events_of h) ≡ self.old.events →
+            (WasSound B.files self.old → IfTold (B.files self.old.bay) (λ _. Replays B.files B.leaves self.old h h)) →
+            StandsFor B.files B.leaves B.faults self.new h }
+    {
+        let most = greatest_payload(self.tally.settings());
+        self.journal = GateLog::at_gate(JOURNAL, end, most);
+        self.state = state_behind(self.last.closed);
+    }
+}
+
+// The state of a cone whose packets are all taken.
+fn state_behind(closed: bool) -> ConeState
+    ensures { result ≡ (if closed then ConeState.Finished else ConeState.Running) }
+{
+    if closed {
+        ConeState::Finished
+    } else {
+        ConeState::Running
+    }
+}
+
+// The state that a refusal leaves.
+fn broken_after(fault: ReplayFault) -> ConeState
+    ensures { result ≡ broken_after fault }
+{
+    match fault {
+        ReplayFault::Failed => ConeState::BrokenByBay,
+        ReplayFault::Malformed { at } => ConeState::BrokenByRead { file: JOURNAL, at },
+        ReplayFault::Unsound { file, at } => ConeState::BrokenByRead { file, at },
+        ReplayFault::OutOfMemory => ConeState::BrokenByMemory,
+    }
+}

@@ -1,0 +1,92 @@
+//! The records of a journal that is read again.
+
+ghost use Rattle.std.specs.Prelude.{◌≡◌, ℕ, ◌+◌, ◌*◌, ◌<◌, ◌≤◌, ◌^◌, length, IfOk, IsErrOf, IsFalse, IsTrue};
+ghost use Rattle.lert_base.specs.Entries.{packet_of};
+ghost use Rattle.lert_bay.specs.Files.{Files, IfTold};
+ghost use Rattle.lert_bay.specs.Images.{KeepsImages, Lasts};
+ghost use Rattle.lert_gatelog.specs.Gated.{IsClosed, next_gate};
+ghost use Rattle.lert_io.specs.Fault.{HasRisen};
+ghost use Rattle.lert_journal.specs.Journal.{HoldsPacket};
+ghost use Rattle.lert_journal.specs.Payload.{IsJournaled, payload_of};
+ghost use Rattle.lert_spec.specs.Edges.{capacity};
+ghost use Rattle.lert_cone.specs.History.{most_payload};
+ghost use Rattle.lert_cone.specs.Replay.{MayFollow, ReplayLeavesAt};
+
+use crate::keys::keys_of;
+use crate::log_point::LogPoint;
+use crate::tally::Tally;
+use lert_base::{CountTable, Entry};
+use lert_bay::Bay;
+use lert_gatelog::{GateLog, LogFault};
+use lert_journal::read_entry;
+
+/// Reads the packet at the journal's gate into the entry, and moves the journal on behind it, where the packet may stand behind
+/// the keys so far. False comes exactly at a closed gate behind as many keys as the log's last record has, and then the journal
+/// and the entry are as they were. After a refusal nothing is said of these two. It changes no file and takes no memory.
+pub fn read_record<B: Bay, T: CountTable>(
+    journal: &mut GateLog,
+    bay: &mut B,
+    tally: &Tally<T>,
+    last: &LogPoint,
+    entry: &mut Entry,
+    buffer: &mut [u8],
+) -> Result<bool, LogFault>
+    requires file { journal.old.file ≡ 0 }
+    requires most { journal.old.most ≡ most_payload tally.now.listing.settings }
+    requires entry { 4 * tally.now.listing.settings.packet ≤ entry.old.keys.room }
+    requires room { journal.old.most ≤ length buffer.old }
+    requires reach { journal.old.gate ≤ 2 ^ 62 }
+    requires place { last.now.n0 ≤ capacity tally.now.listing.settings }
+    requires fits { length tally.now.listing.events ≤ capacity tally.now.listing.settings }
+
+    // Where the file is told, the answer is what stands here.
+    ensures found { IfTold (B.files bay.old) (λ seen. IfOk result (λ found. IsTrue found →
+        HoldsPacket tally.now.listing.settings tally.now.listing.cone (most_payload tally.now.listing.settings) (seen 0) journal.old.gate (packet_of entry.new))) }
+    ensures closed { IfTold (B.files bay.old) (λ seen. IfOk result (λ found. IsFalse found → IsClosed (seen 0) journal.old.gate)) }
+    ensures malformed { IfTold (B.files bay.old) (λ seen. (at : ℕ) → IsErrOf result (LogFault.Malformed at) →
+        ReplayLeavesAt tally.now.listing.settings tally.now.listing.cone last.now.n0 last.now.closed (length tally.now.listing.events) (seen 0) journal.old.gate at) }
+
+    // Told or not, the packet is one that this cone's journal may hold here, and the end stands behind enough keys.
+    ensures journaled { IfOk result (λ found. IsTrue found → IsJournaled tally.now.listing.settings tally.now.listing.cone (packet_of entry.new)) }
+    ensures follows { IfOk result (λ found. IsTrue found →
+        MayFollow tally.now.listing.settings last.now.n0 last.now.closed (length tally.now.listing.events) (packet_of entry.new)) }
+    ensures enough { IfOk result (λ found. IsFalse found → last.now.n0 ≤ length tally.now.listing.events) }
+    ensures moved { IfOk result (λ found. IsTrue found →
+        journal.new ≡ record journal.old { gate = next_gate journal.old.gate (payload_of (packet_of entry.new)) }) }
+    ensures forward { IfOk result (λ found. IsTrue found →
+        (journal.old.gate < journal.new.gate) × (journal.new.gate ≤ journal.old.gate + 13 + 32 * tally.now.listing.settings.packet)) }
+    ensures waits { IfOk result (λ found. IsFalse found → (journal.new ≡ journal.old) × (entry.new ≡ entry.old)) }
+    ensures file { journal.new.file ≡ journal.old.file }
+    ensures most { journal.new.most ≡ journal.old.most }
+    ensures room { entry.new.keys.room ≡ entry.old.keys.room }
+    ensures seen { B.files bay.new ≡ B.files bay.old }
+    ensures images { KeepsImages (B.leaves bay.old) (B.leaves bay.new) }
+    ensures moments { (image : Files) → B.left_since bay.new (B.moment bay.old) image → B.leaves bay.old image }
+    ensures time { Lasts (B.moment bay.old) (B.moment bay.new) (B.left_since bay.old) (B.left_since bay.new) }
+    ensures never_falls { B.faults bay.old ≤ B.faults bay.new }
+    ensures failed { IsErrOf result LogFault.Failed → HasRisen (B.faults bay.old) (B.faults bay.new) }
+    ensures mark { B.mark bay.new ≡ B.mark bay.old }
+{
+    let settings = tally.settings();
+    let capacity = settings.capacity();
+    let n = tally.len();
+    let gate = journal.gate();
+    let is_packet = read_entry(journal, bay, settings, tally.cone(), entry, buffer)?;
+    if !is_packet {
+        if n < last.n0 {
+            return Err(LogFault::Malformed { at: gate });
+        }
+        return Ok(false);
+    }
+    let len = keys_of(entry).len() as u64;
+    if last.closed {
+        if last.n0 < n + len {
+            return Err(LogFault::Malformed { at: gate });
+        }
+        return Ok(true);
+    }
+    if capacity < n + len {
+        return Err(LogFault::Malformed { at: gate + 1 });
+    }
+    Ok(true)
+}

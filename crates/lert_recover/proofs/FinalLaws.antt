@@ -1,0 +1,192 @@
+-- A cone is reopened over files that are in their format to their end; else there is one first place, or another header. What
+-- is right of an answer is right the other way round.
+use Rattle.std.proofs.Common.{ℕ, ◌≡◌, ◌<◌, ◌^◌, Bool, Option, Some, Result, Ok, Err, List, length, ap, sym, ◌∙◌, subst, inl, inr, ◌⊎◌}
+use Rattle.std.specs.Prelude.{All, MatchResult, IfErr, IfOk, IsErrAnd}
+use Rattle.std.proofs.lemmas.Option.{same_Some}
+use Rattle.lert_base.specs.declared.kept.Kept.{Kept}
+use Rattle.lert_base.specs.Packet.{Packet, events_of}
+use Rattle.lert_bay.specs.Files.{Files}
+use Rattle.lert_cone.specs.History.{most_payload, end_of}
+use Rattle.lert_cone.specs.Sound.{IsSound, IsJournal}
+use Rattle.lert_journal.proofs.OneAnswer.{one_history}
+use Rattle.lert_levels.specs.declared.bin_at.BinAt.{BinAt}
+use Rattle.lert_reports.specs.Log.{is_closed, last_n0}
+use Rattle.lert_reports.specs.LogText.{LogRecord}
+use Rattle.lert_reports.proofs.LogOnce.{one_log}
+use Rattle.lert_spec.specs.declared.numbers.Numbers.{Numbers}
+use Rattle.lert_spec.specs.Limits.{IsValid}
+use Rattle.lert_recover.specs.declared.fault.ReopenFault.{ReopenFault}
+use Rattle.lert_recover.specs.declared.fault.ReopenFault.TheVariants.{Failed, Malformed, OtherSettings, OutOfMemory}
+use Rattle.lert_recover.specs.Headed.{HasOther}
+use Rattle.lert_recover.specs.Opened.{AreOpened}
+use Rattle.lert_recover.specs.Replayed.{AreInFormat, FirstLeaves, Before_records, In_records, JournalEnds, JournalLeavesAt}
+use Rattle.lert_recover.specs.Reopened.{IsReopened, IsReopenRefused, Of_call, Of_memory, Of_place, Of_header, Of_sight, IsSeenUnsound}
+use Rattle.lert_recover.proofs.OpenedLaws.{IsOutside, left_or_other, no_other, one_header, one_place, opened_or_left}
+use Rattle.lert_recover.proofs.ReplayedLaws.{ends_from_start, ends_here, ends_or_leaves, journal_of, one_journal_place}
+
+module _ (s : Numbers) (cone : ℕ) (valid : IsValid s) (below : cone < 2 ^ 32) (seen : Files) where
+  -- ---- the records of one log
+
+  same_records : (records others : List LogRecord) (log_end other_end : ℕ) (rows other_rows : List (List BinAt)) → AreOpened s cone seen records log_end rows → AreOpened s cone seen others other_end other_rows → records ≡ others
+  same_records records others log_end other_end rows other_rows opened too = (one_log s cone valid (seen 1) records others log_end other_end opened.log too.log).0
+
+  leaves_of : (records others : List LogRecord) (at : ℕ) → records ≡ others → JournalLeavesAt s cone (last_n0 records) (is_closed records) (seen 0) 0 32 at → JournalLeavesAt s cone (last_n0 others) (is_closed others) (seen 0) 0 32 at
+  leaves_of records others at same leaves = subst (λ (rs : List LogRecord). JournalLeavesAt s cone (last_n0 rs) (is_closed rs) (seen 0) 0 32 at) same leaves
+
+  -- ---- one of the three, and one place
+
+  module _ (closed : Bool) (events : List ℕ) (gate : ℕ) (reopened : IsReopened s cone seen closed events gate) where
+    ends : JournalEnds s cone (last_n0 reopened.records) (is_closed reopened.records) (seen 0) 0 32
+    ends =
+        ends_from_start s cone (last_n0 reopened.records) (is_closed reopened.records) (seen 0) gate events reopened.replayed
+        (ends_here s cone (last_n0 reopened.records) (is_closed reopened.records) (seen 0) gate (length events) reopened.shut reopened.enough)
+
+    -- the packets of the journal
+    pub reopened_journal : (h : List Packet) × IsJournal s cone h (seen 0) × (events ≡ events_of h)
+    reopened_journal = (
+      reopened.replayed.packets,
+      journal_of s cone (last_n0 reopened.records) (is_closed reopened.records) (seen 0) gate events reopened.opened.headed reopened.shut reopened.replayed,
+      reopened.replayed.events_are,
+    )
+
+    -- are those of a list for which the files are sound
+    pub reopened_events : (history : List Packet) → IsSound s cone history seen → events ≡ events_of history
+    reopened_events history sound =
+        let own = reopened_journal.1 in
+        let same = one_history s cone (most_payload s) (seen 0) 32 reopened_journal.0 history (end_of reopened_journal.0) (end_of history)
+        own.journaled sound.journal.journaled own.fit sound.journal.fit own.records sound.journal.records in
+        reopened_journal.2 ∙ ap events_of same.0
+
+    pub reopened_closed : (history : List Packet) (sound : IsSound s cone history seen) → closed ≡ is_closed sound.logged
+    reopened_closed history sound =
+        reopened.closed_is ∙ ap is_closed (one_log s cone valid (seen 1) reopened.records sound.logged reopened.log_end sound.log_end reopened.opened.log sound.log).0
+
+  -- files that are in their format to their end
+  pub whole_or_left : (file at : ℕ) → AreInFormat s cone seen → FirstLeaves s cone seen file at → ⊥
+  whole_or_left file at whole (Before_records leaves) = opened_or_left s cone valid below seen whole.records whole.log_end whole.rows file at whole.opened leaves
+  whole_or_left file at whole (In_records records log_end rows opened file_is leaves) =
+      ends_or_leaves s cone (last_n0 whole.records) (is_closed whole.records) (seen 0) 0 32 at whole.journal
+      (leaves_of records whole.records at (same_records records whole.records log_end whole.log_end rows whole.rows opened whole.opened) leaves)
+
+  pub reopened_or_left : (closed : Bool) (events : List ℕ) (gate : ℕ) → IsReopened s cone seen closed events gate → (file at : ℕ) → FirstLeaves s cone seen file at → ⊥
+  reopened_or_left closed events gate reopened file at leaves =
+      whole_or_left file at (record { records = reopened.records; log_end = reopened.log_end; rows = reopened.rows; opened = reopened.opened; journal = ends closed events gate reopened }) leaves
+
+  first_or_other : (file at : ℕ) (kept : Kept) → FirstLeaves s cone seen file at → HasOther s cone (seen 0) kept → ⊥
+  first_or_other file at kept (Before_records leaves) has = left_or_other s cone valid below seen file at kept leaves has
+  first_or_other file at kept (In_records records log_end rows opened file_is leaves) has = no_other s cone valid below seen opened.headed kept has
+
+  pub one_first : (file at other_file other : ℕ) → FirstLeaves s cone seen file at → FirstLeaves s cone seen other_file other → (file ≡ other_file) × (at ≡ other)
+  one_first file at other_file other (Before_records leaves) (Before_records too) = one_place s cone valid below seen file at other_file other leaves too
+  one_first file at other_file other (Before_records leaves) (In_records records log_end rows opened file_is too) = absurd (opened_or_left s cone valid below seen records log_end rows file at opened leaves)
+  one_first file at other_file other (In_records records log_end rows opened file_is leaves) (Before_records too) = absurd (opened_or_left s cone valid below seen records log_end rows other_file other opened too)
+  one_first file at other_file other (In_records records log_end rows opened file_is leaves) (In_records others other_end other_rows opened_too other_is too) = (
+    file_is ∙ sym other_is,
+    one_journal_place s cone (last_n0 others) (is_closed others) (seen 0) 0 32 at other
+        (leaves_of records others at (same_records records others log_end other_end rows other_rows opened opened_too) leaves) too,
+  )
+
+  -- ---- why it isn't
+
+  failed_or_place : (file at : ℕ) → Failed ≡ Malformed file at → ⊥
+  failed_or_place file at is = cc
+
+  memory_or_place : (file at : ℕ) → OutOfMemory ≡ Malformed file at → ⊥
+  memory_or_place file at is = cc
+
+  header_or_place : (kept : Kept) (file at : ℕ) → OtherSettings kept ≡ Malformed file at → ⊥
+  header_or_place kept file at is = cc
+
+  failed_or_header : (kept : Kept) → Failed ≡ OtherSettings kept → ⊥
+  failed_or_header kept is = cc
+
+  memory_or_header : (kept : Kept) → OutOfMemory ≡ OtherSettings kept → ⊥
+  memory_or_header kept is = cc
+
+  header_of : (kept other : Kept) → OtherSettings kept ≡ OtherSettings other → kept ≡ other
+  header_of kept other is = cc
+
+  place_of : (P : ℕ → ℕ → Type 0) (file at other_file other : ℕ) → Malformed file at ≡ Malformed other_file other → P file at → P other_file other
+  place_of P file at other_file other is p =
+      let file_is : file ≡ other_file = cc in
+      let at_is : at ≡ other = cc in
+      subst (λ a. P other_file a) at_is (subst (λ f. P f at) file_is p)
+
+  module _ (after : Option Files) where
+    pub by_place : (fault : ReopenFault) (file at : ℕ) → fault ≡ Malformed file at → IsReopenRefused s cone seen after fault → FirstLeaves s cone seen file at ⊎ IsSeenUnsound s cone seen after file at
+    by_place fault file at is (Of_call failed) = absurd (failed_or_place file at (sym failed ∙ is))
+    by_place fault file at is (Of_memory short) = absurd (memory_or_place file at (sym short ∙ is))
+    by_place fault file at is (Of_place other_file other same leaves) = inl (place_of (FirstLeaves s cone seen) other_file other file at (sym same ∙ is) leaves)
+    by_place fault file at is (Of_header kept same has) = absurd (header_or_place kept file at (sym same ∙ is))
+    by_place fault file at is (Of_sight other_file other same unsound) = inr (place_of (IsSeenUnsound s cone seen after) other_file other file at (sym same ∙ is) unsound)
+
+    pub by_header : (fault : ReopenFault) (kept : Kept) → fault ≡ OtherSettings kept → IsReopenRefused s cone seen after fault → HasOther s cone (seen 0) kept
+    by_header fault kept is (Of_call failed) = absurd (failed_or_header kept (sym failed ∙ is))
+    by_header fault kept is (Of_memory short) = absurd (memory_or_header kept (sym short ∙ is))
+    by_header fault kept is (Of_place file at same leaves) = absurd (header_or_place kept file at (sym is ∙ same))
+    by_header fault kept is (Of_header other same has) = subst (HasOther s cone (seen 0)) (header_of other kept (sym same ∙ is)) has
+    by_header fault kept is (Of_sight file at same unsound) = absurd (header_or_place kept file at (sym is ∙ same))
+
+    -- an answer where the files leave their format there
+    abbrev pub Refuses : ReopenFault → ℕ → ℕ → Type 0
+    Refuses fault file at = IsOutside fault ⊎ (fault ≡ Malformed file at)
+
+    pub left_there : (fault : ReopenFault) (file at : ℕ) → IsReopenRefused s cone seen after fault → FirstLeaves s cone seen file at → Refuses fault file at
+    left_there fault file at (Of_call is) leaves = inl (inl is)
+    left_there fault file at (Of_memory is) leaves = inl (inr is)
+    left_there fault file at (Of_place other_file other is too) leaves =
+        let same = one_first other_file other file at too leaves in
+        inr (is ∙ (λ i. Malformed (same.0 i) (same.1 i)))
+    left_there fault file at (Of_header kept is has) leaves = absurd (first_or_other file at kept leaves has)
+    left_there fault file at (Of_sight other place is unsound) leaves = absurd (whole_or_left file at unsound.whole leaves)
+
+    pub other_there : (fault : ReopenFault) (kept : Kept) → IsReopenRefused s cone seen after fault → HasOther s cone (seen 0) kept → IsOutside fault ⊎ (fault ≡ OtherSettings kept)
+    other_there fault kept (Of_call is) has = inl (inl is)
+    other_there fault kept (Of_memory is) has = inl (inr is)
+    other_there fault kept (Of_place file at is leaves) has = absurd (first_or_other file at kept leaves has)
+    other_there fault kept (Of_header other is too) has = inr (is ∙ ap OtherSettings (one_header s cone valid below seen other kept too has))
+    other_there fault kept (Of_sight file at is unsound) has = absurd (no_other s cone valid below seen unsound.whole.opened.headed kept has)
+
+  -- ---- what an answer says that is right
+
+  module _ {K E : Type 0} (closed_in : K → Bool) (events_in : K → List ℕ) (gate_in : K → ℕ) (fault_in : E → ReopenFault) (after_in : E → Option Files) where
+    abbrev pub Told : Result K E → Type 0
+    Told result = MatchResult result (λ now. IsReopened s cone seen (closed_in now) (events_in now) (gate_in now)) (λ refused. IsReopenRefused s cone seen (after_in refused) (fault_in refused))
+
+    pub journal_told : (result : Result K E) → Told result → IfOk result (λ now. (h : List Packet) × IsJournal s cone h (seen 0) × (events_in now ≡ events_of h))
+    journal_told (Ok now) told = reopened_journal (closed_in now) (events_in now) (gate_in now) told
+    journal_told (Err refused) told = tt
+
+    pub malformed_told : (result : Result K E) → Told result → IfErr result (λ refused. (file at : ℕ) → fault_in refused ≡ Malformed file at → FirstLeaves s cone seen file at ⊎ IsSeenUnsound s cone seen (after_in refused) file at)
+    malformed_told (Ok now) told = tt
+    malformed_told (Err refused) told = λ file at is. by_place (after_in refused) (fault_in refused) file at is told
+
+    pub other_told : (result : Result K E) → Told result → IfErr result (λ refused. (kept : Kept) → fault_in refused ≡ OtherSettings kept → HasOther s cone (seen 0) kept)
+    other_told (Ok now) told = tt
+    other_told (Err refused) told = λ kept is. by_header (after_in refused) (fault_in refused) kept is told
+
+    pub refuses_told : (result : Result K E) → Told result → (file at : ℕ) → FirstLeaves s cone seen file at → IsErrAnd result (λ refused. Refuses (after_in refused) (fault_in refused) file at)
+    refuses_told (Ok now) told file at leaves = reopened_or_left (closed_in now) (events_in now) (gate_in now) told file at leaves
+    refuses_told (Err refused) told file at leaves = left_there (after_in refused) (fault_in refused) file at told leaves
+
+    pub differs_told : (result : Result K E) → Told result → (kept : Kept) → HasOther s cone (seen 0) kept → IsErrAnd result (λ refused. IsOutside (fault_in refused) ⊎ (fault_in refused ≡ OtherSettings kept))
+    differs_told (Ok now) told kept has = no_other s cone valid below seen told.opened.headed kept has
+    differs_told (Err refused) told kept has = other_there (after_in refused) (fault_in refused) kept told has
+
+    -- of files that are sound for a list
+    module _ (told_in : Option Files) (told_is : told_in ≡ Some seen) (counts : K → ℕ) (stands_in : K → List Packet → Type 0) (finishes : K → Bool → Type 0)
+        (history : List Packet) (sound : IsSound s cone history seen) where
+      some_keys : All (λ packet. 0 < length packet.keys) history
+      some_keys k d within = (sound.journal.journaled k d within).some
+
+      pub sound_told : (result : Result K E) → Told result → IfErr result (λ refused. (h : List Packet) → IsSound s cone h seen → IsOutside (fault_in refused)) →
+          IfOk result (λ now. (h : List Packet) → All (λ packet. 0 < length packet.keys) h → length (events_of h) ≡ counts now →
+          ((now_seen : Files) → told_in ≡ Some now_seen → (other : List Packet) → IsSound s cone other now_seen → IsSound s cone h now_seen) → stands_in now h) →
+          IfOk result (λ now. counts now ≡ length (events_in now)) → IfOk result (λ now. finishes now (closed_in now)) →
+          MatchResult result (λ now. stands_in now history × finishes now (is_closed sound.logged)) (λ refused. IsOutside (fault_in refused))
+      sound_told (Ok now) told fails stands counted finished = (
+        stands history some_keys (ap length (sym (reopened_events (closed_in now) (events_in now) (gate_in now) told history sound)) ∙ sym counted)
+            (λ now_seen now_told other is. subst (IsSound s cone history) (same_Some seen now_seen (sym told_is ∙ now_told)) sound),
+        subst (finishes now) (reopened_closed (closed_in now) (events_in now) (gate_in now) told history sound) finished,
+      )
+      sound_told (Err refused) told fails stands counted finished = fails history sound

@@ -1,0 +1,195 @@
+-- What a cone that is made over files has of them, and why one isn't.
+use Rattle.std.proofs.Common.{ℕ, suc, ◌≡◌, ◌≤◌, Bool, Option, Result, Ok, Err, List, [], ◌∷◌, ◌++◌, length, map, take, drop, refl, ap, ap₂, sym, ◌∙◌, subst, arith, inl, inr, ◌⊎◌}
+use Rattle.std.specs.Prelude.{MatchResult, IfErr, IfOk}
+use Rattle.std.proofs.lemmas.List.{append_cancel_left, length-map, length-replicate, length-take-le, take_all, take_at}
+use Rattle.lert_base.specs.declared.kept.Kept.{Kept}
+use Rattle.lert_base.specs.Packet.{Packet, events_of}
+use Rattle.lert_bay.specs.Files.{Files}
+use Rattle.lert_bay.specs.Settled.{part, IsSettled}
+use Rattle.lert_cone.specs.Logged.{frames_of}
+use Rattle.lert_cone.specs.Replay.{IsLastOf}
+use Rattle.lert_cone.specs.Sound.{IsSound}
+use Rattle.lert_cone.specs.Wrote.{IsShut}
+use Rattle.lert_cone.proofs.AdoptLaws.{bins_there}
+use Rattle.lert_gatelog.specs.Gated.{IsClosed}
+use Rattle.lert_levels.specs.declared.bin_at.BinAt.{BinAt}
+use Rattle.lert_levels.specs.Loading.{AllStand}
+use Rattle.lert_levels.specs.Named.{IsDirectory}
+use Rattle.lert_levels.specs.Rows.{directory_text, tallied_in, IsAt}
+use Rattle.lert_levels.proofs.CheckLaws.{all_whole}
+use Rattle.lert_levels.proofs.HoldLaws.{rows_stand}
+use Rattle.lert_reports.specs.Log.{is_closed, last_directory, last_n0, AreRecords}
+use Rattle.lert_reports.specs.LogText.{LogRecord, directory_bytes}
+use Rattle.lert_reports.proofs.LogLaws.{last_directory-push}
+use Rattle.lert_spec.specs.declared.numbers.Numbers.{Numbers}
+use Rattle.lert_spec.specs.declared.report.Report.{Report}
+use Rattle.lert_spec.specs.Limits.{IsValid}
+use Rattle.lert_recover.specs.declared.fault.ReopenFault.{ReopenFault}
+use Rattle.lert_recover.specs.declared.fault.ReopenFault.TheVariants.{Failed, Malformed, OtherSettings, OutOfMemory}
+use Rattle.lert_recover.specs.Headed.{HasOther, IsHeaded}
+use Rattle.lert_recover.specs.Opened.{AreLastRows, AreOpened, IsAsRead, LeaveAt}
+use Rattle.lert_recover.specs.Read.{IsReadOf}
+use Rattle.lert_recover.specs.Replayed.{Before_records, In_records, HasReplayed, JournalEnds, JournalLeavesAt}
+use Rattle.lert_recover.specs.Reopened.{IsReopened, IsReopenRefused, Of_call, Of_memory, Of_place, Of_header, Of_sight, IsStopped, At_call, At_memory, At_place, At_sight}
+use Rattle.lert_recover.proofs.PointLaws.{directed}
+use Rattle.lert_recover.proofs.RecordsLaws.{walk}
+
+-- ---- every image is what a read gives
+
+module _ (leaves : Files → Type 0) (seen : Files) (durable : (image : Files) → leaves image → IsAsRead seen image) where
+  pub journal_settled : IsSettled leaves seen 0 0 (length (seen 0))
+  journal_settled = record { within = omega arith; same = λ image may. ap (λ bytes. part bytes 0 (length (seen 0))) (durable image may).journal }
+
+  pub log_shut : (gate : ℕ) → IsClosed (seen 1) gate → IsShut leaves seen 1 gate
+  log_shut gate shut = record {
+    settled = record { within = omega arith; same = λ image may. ap (λ bytes. part bytes 0 (length (seen 1))) (durable image may).log };
+    closed = λ image may. subst (λ bytes. IsClosed bytes gate) (sym (durable image may).log) shut;
+  }
+
+  pub frames_settled : (from to : ℕ) → to ≤ length (seen 2) → IsSettled leaves seen 2 from to
+  frames_settled from to within = record { within = within; same = λ image may. ap (λ bytes. part bytes from to) (durable image may).frames }
+
+-- ---- the frames of the log's last record
+
+split_same : (a b c d : List ℕ) → length a ≡ length c → a ++ b ≡ c ++ d → (a ≡ c) × (b ≡ d)
+split_same a b c d len is =
+    let front : a ≡ c = sym (take_at a b (length a) refl) ∙ ap (take (length a)) is ∙ take_at c d (length a) (sym len) in
+    (front, append_cancel_left c b d (ap (λ xs. xs ++ b) (sym front) ∙ is))
+
+-- the bytes of a directory say it, where the number of its levels is known
+bytes_same : (xs ys : List (List ℕ)) → length xs ≡ length ys → directory_bytes xs ≡ directory_bytes ys → xs ≡ ys
+bytes_same [] [] len is = refl
+bytes_same [] (y ∷ ys) len is = absurd (omega arith)
+bytes_same (x ∷ xs) [] len is = absurd (omega arith)
+bytes_same (x ∷ xs) (y ∷ ys) len is =
+    let long : length x ≡ length y = cc in
+    let parts = split_same (length x ∷ x) (directory_bytes xs) (length y ∷ y) (directory_bytes ys) (ap suc long) is in
+    ap₂ (λ z zs. z ∷ zs) (ap (drop 1) parts.0) (bytes_same xs ys (omega arith) parts.1)
+
+text_is : (rows : List (List BinAt)) → directory_text rows ≡ directory_bytes (frames_of rows)
+text_is [] = refl
+text_is (row ∷ rows) = ap₂ (λ n rest. (n ∷ map (λ (bin : BinAt). bin.frame) row) ++ rest) (sym (length-map row (λ (bin : BinAt). bin.frame))) (text_is rows)
+
+many_frames : (s : Numbers) (cone : ℕ) (records : List LogRecord) → AreRecords s cone records → length (last_directory s records) ≡ s.levels
+many_frames s cone records are =
+    walk s cone (λ rs. length (last_directory s rs) ≡ s.levels)
+    (λ front one keeps still_open before. ap length (last_directory-push s front one) ∙ keeps.levels)
+    (length-replicate {A = List ℕ} s.levels []) records are
+
+module _ (s : Numbers) (cone : ℕ) where
+  -- rows that a log names have its frames
+  pub frames_named : (records : List LogRecord) (rows : List (List BinAt)) → AreRecords s cone records → AreLastRows s records rows → last_directory s records ≡ frames_of rows
+  frames_named records rows are named =
+      bytes_same (last_directory s records) (frames_of rows)
+      (many_frames s cone records are ∙ sym named.at.levels ∙ sym (length-map rows (λ row. map (λ (bin : BinAt). bin.frame) row)))
+      (sym named.text_is ∙ text_is rows)
+
+  pub last_of : (n0 offset first : ℕ) (closed : Bool) (reports : List Report) (rows : List (List BinAt)) (records : List LogRecord) → IsReadOf s cone n0 offset first closed reports (directory_text rows) records → AreLastRows s records rows →
+      IsLastOf s n0 closed rows reports records
+  last_of n0 offset first closed reports rows records read named = record {
+    n0_is = read.n0_is;
+    closed_is = read.closed_is;
+    directory_is = frames_named records rows read.rules named;
+    reports_are = read.reports_are;
+  }
+
+  -- ---- files that are sound for a list are in their format up to the journal's records
+
+  pub sound_headed : (seen : Files) (history : List Packet) → IsSound s cone history seen → IsHeaded s cone (seen 0)
+  sound_headed seen history sound = record { headed = sound.journal.headed; gate = omega (arith, sound.journal.records.closed.within) }
+
+  pub record SoundRows (seen : Files) (history : List Packet) (sound : IsSound s cone history seen) : Type 0 where
+    pub rows : List (List BinAt)
+    pub opened : AreOpened s cone seen sound.logged sound.log_end rows
+
+  pub sound_opened : IsValid s → (seen : Files) (history : List Packet) (sound : IsSound s cone history seen) → SoundRows seen history sound
+  sound_opened valid seen history sound =
+      let records = sound.logged in
+      let directory : IsDirectory s (last_n0 records) (directory_bytes (last_directory s records)) = directed s valid cone records sound.log.rules in
+      let rows = directory.rows in
+      let named = directory.named in
+      let n0 = last_n0 records in
+      let events = take n0 (events_of history) in
+      let long : length events ≡ n0 = length-take-le n0 (events_of history) sound.n0_most in
+      let holds = bins_there s events rows (last_directory s records) (seen 2) (subst (λ n. IsAt s n rows) (sym long) named.at) (frames_named records rows sound.log.rules named) sound.frames in
+      let stand = rows_stand s events n0 rows (seen 2) named.at named.are (omega (arith, long)) holds s.levels (omega arith) in
+      record {
+        rows = rows;
+        opened = record {
+          headed = sound_headed seen history sound;
+          log = sound.log;
+          named = named;
+          frames = all_whole s rows (seen 2) (tallied_in s events) named.are
+              (subst (λ (rs : List (List BinAt)). AllStand s (seen 2) (tallied_in s events) rs) (take_all s.levels rows (omega (arith, named.at.levels))) stand);
+        };
+      }
+
+-- ---- why a cone isn't made
+
+module _ (s : Numbers) (cone : ℕ) (seen : Files) (after : Option Files) where
+  pub refused_before : (fault : ReopenFault) → ((file at : ℕ) → fault ≡ Malformed file at → LeaveAt s cone seen file at) → ((kept : Kept) → fault ≡ OtherSettings kept → HasOther s cone (seen 0) kept) → IsReopenRefused s cone seen after fault
+  refused_before Failed place other = Of_call refl
+  refused_before OutOfMemory place other = Of_memory refl
+  refused_before (Malformed file at) place other = Of_place file at refl (Before_records (place file at refl))
+  refused_before (OtherSettings kept) place other = Of_header kept refl (other kept refl)
+
+  -- by the journal, behind files that are in their format before its records
+  pub refused_behind : (records : List LogRecord) (log_end : ℕ) (rows : List (List BinAt)) (n0 : ℕ) (closed : Bool) (fault : ReopenFault) → AreOpened s cone seen records log_end rows → n0 ≡ last_n0 records → closed ≡ is_closed records →
+      ((history : List Packet) → IsSound s cone history seen → (fault ≡ Failed) ⊎ (fault ≡ OutOfMemory)) → IsStopped s cone n0 closed (seen 0) after fault → IsReopenRefused s cone seen after fault
+  refused_behind records log_end rows n0 closed fault opened n0_is closed_is fails (At_call is) = Of_call is
+  refused_behind records log_end rows n0 closed fault opened n0_is closed_is fails (At_memory is) = Of_memory is
+  refused_behind records log_end rows n0 closed fault opened n0_is closed_is fails (At_place at is leaves) =
+      Of_place 0 at is
+      (In_records records log_end rows opened refl
+      (subst (λ (c : Bool). JournalLeavesAt s cone (last_n0 records) c (seen 0) 0 32 at) closed_is (subst (λ n. JournalLeavesAt s cone n closed (seen 0) 0 32 at) n0_is leaves)))
+  refused_behind records log_end rows n0 closed fault opened n0_is closed_is fails (At_sight file at is ends shown) =
+      Of_sight file at is
+      (record {
+        whole = record { records = records; log_end = log_end; rows = rows; opened = opened; journal = subst (λ (c : Bool). JournalEnds s cone (last_n0 records) c (seen 0) 0 32) closed_is (subst (λ n. JournalEnds s cone n closed (seen 0) 0 32) n0_is ends) };
+        none = λ history sound. neither file at (sym is) (fails history sound);
+        shown = shown;
+      })
+    where
+      failed_or_place : (file at : ℕ) → Malformed file at ≡ Failed → ⊥
+      failed_or_place file at is = cc
+
+      memory_or_place : (file at : ℕ) → Malformed file at ≡ OutOfMemory → ⊥
+      memory_or_place file at is = cc
+
+      neither : (file at : ℕ) → Malformed file at ≡ fault → (fault ≡ Failed) ⊎ (fault ≡ OutOfMemory) → ⊥
+      neither file at is (inl failed) = failed_or_place file at (is ∙ failed)
+      neither file at is (inr short) = memory_or_place file at (is ∙ short)
+
+-- ---- an answer behind files that are in their format before the records of the journal
+
+pub ok_on : {K E : Type 0} (P Q : K → Type 0) (result : Result K E) → ((now : K) → P now → Q now) → IfOk result P → IfOk result Q
+ok_on P Q (Ok now) more is = more now is
+ok_on P Q (Err refused) more is = tt
+
+pub fails_on : {K E L : Type 0} (R S : L → Type 0) (O : E → Type 0) (result : Result K E) → ((h : L) → S h → R h) → IfErr result (λ refused. (h : L) → R h → O refused) → IfErr result (λ refused. (h : L) → S h → O refused)
+fails_on R S O (Ok now) more fails = tt
+fails_on R S O (Err refused) more fails = λ h is. fails h (more h is)
+
+pub stands_on : {K E L : Type 0} (A : L → Type 0) (C : L → K → Type 0) (R S : L → Type 0) (T : K → L → Type 0) (result : Result K E) → ((h : L) → S h → R h) → IfOk result (λ now. (h : L) → A h → C h now → R h → T now h) → IfOk result (λ now. (h : L) → A h → C h now → S h → T now h)
+stands_on A C R S T (Ok now) more stands = λ h some count is. stands h some count (more h is)
+stands_on A C R S T (Err refused) more stands = tt
+
+module _ {K E : Type 0} (closed_in : K → Bool) (events_in : K → List ℕ) (gate_in : K → ℕ) (fault_in : E → ReopenFault) (after_in : E → Option Files) where
+  pub reopened_of : (s : Numbers) (cone : ℕ) (seen : Files) (records : List LogRecord) (log_end : ℕ) (rows : List (List BinAt)) (n0 : ℕ) (closed : Bool) → AreOpened s cone seen records log_end rows → n0 ≡ last_n0 records → closed ≡ is_closed records →
+      (result : Result K E) →
+      MatchResult result (λ now. HasReplayed s cone n0 closed (seen 0) (gate_in now) (events_in now) × IsClosed (seen 0) (gate_in now)) (λ refused. IsStopped s cone n0 closed (seen 0) (after_in refused) (fault_in refused)) →
+      IfOk result (λ now. n0 ≤ length (events_in now)) → IfOk result (λ now. closed_in now ≡ closed) →
+      IfErr result (λ refused. (history : List Packet) → IsSound s cone history seen → (fault_in refused ≡ Failed) ⊎ (fault_in refused ≡ OutOfMemory)) →
+      MatchResult result (λ now. IsReopened s cone seen (closed_in now) (events_in now) (gate_in now)) (λ refused. IsReopenRefused s cone seen (after_in refused) (fault_in refused))
+  reopened_of s cone seen records log_end rows n0 closed opened n0_is closed_is (Ok now) told enough same fails = record {
+    records = records;
+    log_end = log_end;
+    rows = rows;
+    opened = opened;
+    closed_is = same ∙ closed_is;
+    replayed = subst (λ (c : Bool). HasReplayed s cone (last_n0 records) c (seen 0) (gate_in now) (events_in now)) closed_is (subst (λ (n : ℕ). HasReplayed s cone n closed (seen 0) (gate_in now) (events_in now)) n0_is told.0);
+    shut = told.1;
+    enough = subst (λ (n : ℕ). n ≤ length (events_in now)) n0_is enough;
+  }
+  reopened_of s cone seen records log_end rows n0 closed opened n0_is closed_is (Err refused) told enough same fails =
+      refused_behind s cone seen (after_in refused) records log_end rows n0 closed (fault_in refused) opened n0_is closed_is fails told

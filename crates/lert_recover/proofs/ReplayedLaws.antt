@@ -1,0 +1,184 @@
+-- What stands in a journal behind its header is one of two: packets up to a closed gate, or packets and a place at which the
+-- format is left; and there is one such place.
+use Rattle.std.proofs.Common.{ℕ, ◌≡◌, ◌+◌, ◌<◌, ◌≤◌, ◌^◌, Bool, List, [], ◌∷◌, ◌++◌, length, map, refl, ap, sym, ◌∙◌, subst, arith, inl, inr, ◌⊎◌, length-append, append-nil, append_assoc}
+use Rattle.std.specs.Prelude.{All}
+use Rattle.std.proofs.lemmas.List.Elements.{All-cons, All-nil}
+use Rattle.lert_base.specs.Packet.{Packet, events_of}
+use Rattle.lert_cone.specs.History.{most_payload, end_of}
+use Rattle.lert_cone.specs.Replay.{MayFollow, ReplayLeavesAt}
+use Rattle.lert_cone.specs.Sound.{IsJournal, KeysFit}
+use Rattle.lert_cone.proofs.GateLaws.{closed_or_leaves, one_packet, one_replay_place, packet_or_leaves}
+use Rattle.lert_cone.proofs.SoundLaws.{end_more, events_more}
+use Rattle.lert_gatelog.specs.Gated.{IsClosed, Records, next_gate}
+use Rattle.lert_gatelog.proofs.Deciding.{open_or_closed}
+use Rattle.lert_journal.specs.Journal.{HoldsPacket, HasPackets}
+use Rattle.lert_journal.specs.Payload.{payload_of, IsJournaled}
+use Rattle.lert_spec.specs.declared.numbers.Numbers.{Numbers}
+use Rattle.lert_spec.specs.Edges.{capacity}
+use Rattle.lert_recover.specs.Headed.{IsHeaded}
+use Rattle.lert_recover.specs.Replayed.{AreReplayed, HasReplayed, JournalEnds, JournalLeavesAt}
+
+module _ (s : Numbers) (cone n0 : ℕ) (closed : Bool) (bytes : List ℕ) where
+  abbrev Stand : ℕ → ℕ → List Packet → ℕ → Type 0
+  Stand n gate packets end = AreReplayed s cone n0 closed bytes n gate packets end
+
+  abbrev Holds : ℕ → Packet → Type 0
+  Holds gate packet = HoldsPacket s cone (most_payload s) bytes gate packet
+
+  abbrev Leaves : ℕ → ℕ → ℕ → Type 0
+  Leaves n gate at = JournalLeavesAt s cone n0 closed bytes n gate at
+
+  abbrev Here : ℕ → ℕ → ℕ → Type 0
+  Here n gate at = ReplayLeavesAt s cone n0 closed n bytes gate at
+
+  -- ---- by the first packet
+
+  counts : (n : ℕ) (packet : Packet) (rest : List Packet) → n + length packet.keys + length (events_of rest) ≡ n + length (events_of (packet ∷ rest))
+  counts n packet rest = omega (arith, length-append packet.keys (events_of rest))
+
+  -- at the gate itself
+  pub here : (n gate at : ℕ) → Here n gate at → Leaves n gate at
+  here n gate at leaves = record { packets = []; end = gate; stand = refl; leaves = subst (λ m. Here m gate at) (let same : n ≡ n + 0 = omega arith in same) leaves }
+
+  -- behind a packet
+  pub later : (n gate at : ℕ) (packet : Packet) → Holds gate packet → MayFollow s n0 closed n packet → Leaves (n + length packet.keys) (next_gate gate (payload_of packet)) at → Leaves n gate at
+  later n gate at packet holds may rest = record {
+    packets = packet ∷ rest.packets;
+    end = rest.end;
+    stand = (holds, may, rest.stand);
+    leaves = subst (λ m. Here m rest.end at) (counts n packet rest.packets) rest.leaves;
+  }
+
+  abbrev Behind : ℕ → ℕ → ℕ → Type 0
+  Behind n gate at = (packet : Packet) × Holds gate packet × MayFollow s n0 closed n packet × Leaves (n + length packet.keys) (next_gate gate (payload_of packet)) at
+
+  first_of : (n gate at : ℕ) (packets : List Packet) (end : ℕ) → Stand n gate packets end → Here (n + length (events_of packets)) end at → Here n gate at ⊎ Behind n gate at
+  first_of n gate at [] end stand leaves = inl (subst (λ g. Here n g at) stand (subst (λ m. Here m end at) (let same : n + 0 ≡ n = omega arith in same) leaves))
+  first_of n gate at (packet ∷ rest) end stand leaves =
+      inr (packet, stand.0, stand.1, record { packets = rest; end = end; stand = stand.2; leaves = subst (λ m. Here m end at) (sym (counts n packet rest)) leaves })
+
+  by_first : (n gate at : ℕ) → Leaves n gate at → Here n gate at ⊎ Behind n gate at
+  by_first n gate at leaves = first_of n gate at leaves.packets leaves.end leaves.stand leaves.leaves
+
+  -- ---- behind some packets
+
+  pub leaves_behind : (packets : List Packet) (n gate end at : ℕ) → Stand n gate packets end → Leaves (n + length (events_of packets)) end at → Leaves n gate at
+  leaves_behind [] n gate end at stand leaves = subst (λ g. Leaves n g at) stand (subst (λ m. Leaves m end at) (let same : n + 0 ≡ n = omega arith in same) leaves)
+  leaves_behind (packet ∷ rest) n gate end at stand leaves =
+      later n gate at packet stand.0 stand.1
+      (leaves_behind rest (n + length packet.keys) (next_gate gate (payload_of packet)) end at stand.2 (subst (λ m. Leaves m end at) (sym (counts n packet rest)) leaves))
+
+  pub leaves_past : (packets : List Packet) (n gate end at : ℕ) → Stand n gate packets end → Leaves n gate at → Leaves (n + length (events_of packets)) end at
+  leaves_past [] n gate end at stand leaves = subst (λ g. Leaves (n + 0) g at) (sym stand) (subst (λ m. Leaves m gate at) (let same : n ≡ n + 0 = omega arith in same) leaves)
+  leaves_past (packet ∷ rest) n gate end at stand leaves = elim (by_first n gate at leaves) [
+    | inl now ↦ absurd (packet_or_leaves s cone n0 closed n bytes gate at packet stand.0 stand.1 now)
+    | inr behind ↦ (
+        let same = one_packet s cone bytes gate behind.0 packet behind.1 stand.0 in
+        let there = subst (λ (p : Packet). Leaves (n + length p.keys) (next_gate gate (payload_of p)) at) same behind.3 in
+        subst (λ m. Leaves m end at) (counts n packet rest)
+        (leaves_past rest (n + length packet.keys) (next_gate gate (payload_of packet)) end at stand.2 there))
+  ]
+
+  -- ---- one place, or a closed gate
+
+  shut_here : (n gate at : ℕ) → IsClosed bytes gate → n0 ≤ n → Leaves n gate at → ⊥
+  shut_here n gate at shut enough leaves = elim (by_first n gate at leaves) [
+    | inl now ↦ closed_or_leaves s cone n0 closed n bytes gate at shut enough now
+    | inr behind ↦ open_or_closed (most_payload s) bytes gate (payload_of behind.0) behind.1.stands shut
+  ]
+
+  pub ends_or_leaves : (n gate at : ℕ) → JournalEnds s cone n0 closed bytes n gate → Leaves n gate at → ⊥
+  ends_or_leaves n gate at ends leaves =
+      shut_here (n + length (events_of ends.packets)) ends.end at ends.shut ends.enough (leaves_past ends.packets n gate ends.end at ends.stand leaves)
+
+  one_from : (packets : List Packet) (n gate end at other : ℕ) → Stand n gate packets end → Here (n + length (events_of packets)) end at → Leaves n gate other → at ≡ other
+  one_from packets n gate end at other stand now leaves = elim (by_first (n + length (events_of packets)) end other (leaves_past packets n gate end other stand leaves)) [
+    | inl too ↦ one_replay_place s cone n0 closed (n + length (events_of packets)) bytes end at other now too
+    | inr behind ↦ absurd (packet_or_leaves s cone n0 closed (n + length (events_of packets)) bytes end at behind.0 behind.1 behind.2 now)
+  ]
+
+  pub one_journal_place : (n gate at other : ℕ) → Leaves n gate at → Leaves n gate other → at ≡ other
+  one_journal_place n gate at other leaves too = one_from leaves.packets n gate leaves.end at other leaves.stand leaves.leaves too
+
+  -- an end behind some packets is one from the start on
+  pub ends_behind : (packets : List Packet) (n gate end : ℕ) → Stand n gate packets end → JournalEnds s cone n0 closed bytes (n + length (events_of packets)) end → JournalEnds s cone n0 closed bytes n gate
+  ends_behind [] n gate end stand ends = subst (λ g. JournalEnds s cone n0 closed bytes n g) stand (subst (λ m. JournalEnds s cone n0 closed bytes m end) (let same : n + 0 ≡ n = omega arith in same) ends)
+  ends_behind (packet ∷ rest) n gate end stand ends =
+      let further = ends_behind rest (n + length packet.keys) (next_gate gate (payload_of packet)) end stand.2 (subst (λ m. JournalEnds s cone n0 closed bytes m end) (sym (counts n packet rest)) ends) in
+      record {
+        packets = packet ∷ further.packets;
+        end = further.end;
+        stand = (stand.0, stand.1, further.stand);
+        shut = further.shut;
+        enough = omega (arith, further.enough, counts n packet further.packets);
+      }
+
+  -- ---- one packet more
+
+  more : (packets : List Packet) (n gate end : ℕ) (packet : Packet) → Stand n gate packets end → Holds end packet → MayFollow s n0 closed (n + length (events_of packets)) packet →
+      Stand n gate (packets ++ packet ∷ []) (next_gate end (payload_of packet))
+  more [] n gate end packet stand holds may =
+      (subst (λ g. Holds g packet) stand holds, subst (λ m. MayFollow s n0 closed m packet) (let same : n + 0 ≡ n = omega arith in same) may, ap (λ g. next_gate g (payload_of packet)) stand)
+  more (first ∷ rest) n gate end packet stand holds may =
+      (stand.0, stand.1, more rest (n + length first.keys) (next_gate gate (payload_of first)) end packet stand.2 holds (subst (λ m. MayFollow s n0 closed m packet) (sym (counts n first rest)) may))
+
+  pub replayed_none : HasReplayed s cone n0 closed bytes 32 []
+  replayed_none = record { packets = []; stand = refl; events_are = refl }
+
+  pub replayed_more : (gate : ℕ) (events : List ℕ) (packet : Packet) → HasReplayed s cone n0 closed bytes gate events → Holds gate packet → MayFollow s n0 closed (length events) packet →
+      HasReplayed s cone n0 closed bytes (next_gate gate (payload_of packet)) (events ++ packet.keys)
+  replayed_more gate events packet has holds may = record {
+    packets = has.packets ++ packet ∷ [];
+    stand = more has.packets 0 32 gate packet has.stand holds (subst (λ m. MayFollow s n0 closed m packet) (ap length has.events_are ∙ (let same : length (events_of has.packets) ≡ 0 + length (events_of has.packets) = omega arith in same)) may);
+    events_are = ap (λ keys. keys ++ packet.keys) has.events_are ∙ sym (events_more has.packets packet);
+  }
+
+  -- what was replayed is the beginning of the journal
+  pub leaves_from_start : (gate : ℕ) (events : List ℕ) (at : ℕ) → HasReplayed s cone n0 closed bytes gate events → Leaves (length events) gate at → Leaves 0 32 at
+  leaves_from_start gate events at has leaves =
+      leaves_behind has.packets 0 32 gate at has.stand
+      (subst (λ m. Leaves m gate at) (ap length has.events_are ∙ (let same : length (events_of has.packets) ≡ 0 + length (events_of has.packets) = omega arith in same)) leaves)
+
+  pub ends_from_start : (gate : ℕ) (events : List ℕ) → HasReplayed s cone n0 closed bytes gate events → JournalEnds s cone n0 closed bytes (length events) gate → JournalEnds s cone n0 closed bytes 0 32
+  ends_from_start gate events has ends =
+      ends_behind has.packets 0 32 gate has.stand
+      (subst (λ m. JournalEnds s cone n0 closed bytes m gate) (ap length has.events_are ∙ (let same : length (events_of has.packets) ≡ 0 + length (events_of has.packets) = omega arith in same)) ends)
+
+  pub ends_here : (gate : ℕ) (n : ℕ) → IsClosed bytes gate → n0 ≤ n → JournalEnds s cone n0 closed bytes n gate
+  ends_here gate n shut enough = record { packets = []; end = gate; stand = refl; shut = shut; enough = omega (arith, enough) }
+
+  -- ---- the packets are those of the journal
+
+  records_of : (packets : List Packet) (n gate end : ℕ) → Stand n gate packets end → Records (most_payload s) bytes gate (map payload_of packets) end
+  records_of [] n gate end stand = stand
+  records_of (packet ∷ rest) n gate end stand = (stand.0.stands, records_of rest (n + length packet.keys) (next_gate gate (payload_of packet)) end stand.2)
+
+  journaled_of : (packets : List Packet) (n gate end : ℕ) → Stand n gate packets end → All (IsJournaled s cone) packets
+  journaled_of [] n gate end stand = All-nil (IsJournaled s cone)
+  journaled_of (packet ∷ rest) n gate end stand = All-cons (IsJournaled s cone) packet rest stand.0.journaled (journaled_of rest (n + length packet.keys) (next_gate gate (payload_of packet)) end stand.2)
+
+  fit_of : (packets : List Packet) (n gate end : ℕ) → Stand n gate packets end → KeysFit packets
+  fit_of [] n gate end stand = All-nil (λ (packet : Packet). All (λ key. key < 2 ^ 64) packet.keys)
+  fit_of (packet ∷ rest) n gate end stand = All-cons (λ (p : Packet). All (λ key. key < 2 ^ 64) p.keys) packet rest stand.0.fits (fit_of rest (n + length packet.keys) (next_gate gate (payload_of packet)) end stand.2)
+
+  within_of : (packets : List Packet) (n gate end : ℕ) → n ≤ capacity s → Stand n gate packets end → n + length (events_of packets) ≤ capacity s
+  within_of [] n gate end start stand = omega (arith, start)
+  within_of (packet ∷ rest) n gate end start stand =
+      omega (arith, counts n packet rest, within_of rest (n + length packet.keys) (next_gate gate (payload_of packet)) end stand.1.within stand.2)
+
+  end_is : (front packets : List Packet) (n gate end : ℕ) → gate ≡ end_of front → Stand n gate packets end → end ≡ end_of (front ++ packets)
+  end_is front [] n gate end start stand = stand ∙ start ∙ ap end_of (sym (append-nil front))
+  end_is front (packet ∷ rest) n gate end start stand =
+      end_is (front ++ packet ∷ []) rest (n + length packet.keys) (next_gate gate (payload_of packet)) end (ap (λ g. next_gate g (payload_of packet)) start ∙ end_more front packet) stand.2
+      ∙ ap end_of (append_assoc front (packet ∷ []) rest)
+
+  pub journal_of : (gate : ℕ) (events : List ℕ) → IsHeaded s cone bytes → IsClosed bytes gate → (has : HasReplayed s cone n0 closed bytes gate events) → IsJournal s cone has.packets bytes
+  journal_of gate events headed shut has =
+      let end = end_is [] has.packets 0 32 gate refl has.stand in
+      record {
+        headed = headed.headed;
+        records = subst (λ e. HasPackets (most_payload s) bytes 32 has.packets e) end (record { records = records_of has.packets 0 32 gate has.stand; closed = shut });
+        journaled = journaled_of has.packets 0 32 gate has.stand;
+        fit = fit_of has.packets 0 32 gate has.stand;
+        within = omega (arith, within_of has.packets 0 32 gate (omega arith) has.stand);
+      }

@@ -1,0 +1,87 @@
+-- A cone that replays one packet more, or stops.
+use Rattle.std.proofs.Common.{ℕ, ◌≡◌, Some, Option, List, ◌++◌, length, refl, ap, sym, ◌∙◌, subst}
+use Rattle.lert_base.specs.Packet.{Packet}
+use Rattle.lert_bay.specs.Files.{Files}
+use Rattle.lert_cone.specs.declared.log_point.LogPoint.{LogPoint}
+use Rattle.lert_cone.specs.History.{most_payload}
+use Rattle.lert_cone.specs.Listing.{Listing}
+use Rattle.lert_cone.specs.Replay.{MayFollow, ReplayLeavesAt}
+use Rattle.lert_cone.specs.Stands.{IsSameCone, Standing}
+use Rattle.lert_gatelog.specs.Gated.{IsClosed, next_gate}
+use Rattle.lert_journal.specs.Journal.{HoldsPacket}
+use Rattle.lert_journal.specs.Payload.{payload_of}
+use Rattle.lert_spec.specs.declared.numbers.Numbers.{Numbers}
+use Rattle.lert_recover.specs.Replayed.{HasReplayed, IsJournalSame}
+use Rattle.lert_recover.proofs.ReplayedLaws.{replayed_more}
+
+-- the journal through several calls
+pub journal_none : (files : Option Files) → IsJournalSame files files
+journal_none files = record { told = λ old told. (old, told, refl); untold = λ none. none }
+
+pub journal_on : (first middle last : Option Files) → IsJournalSame first middle → IsJournalSame middle last → IsJournalSame first last
+journal_on first middle last one two = record {
+  told = λ old told.
+      let came = one.told old told in
+      let went = two.told came.0 came.1 in
+      (went.0, went.1, went.2 ∙ came.2);
+  untold = λ none. two.untold (one.untold none);
+}
+
+module _ {B : Type 0} (files : B → Option Files) (start old new : Standing B) where
+  pub same_on : IsSameCone start old → IsSameCone old new → IsSameCone start new
+  same_on one two = record {
+    settings = two.settings ∙ one.settings;
+    cone = two.cone ∙ one.cone;
+    made = two.made ∙ one.made;
+    last = two.last ∙ one.last;
+  }
+
+  module _ (seen : Files) (told : files start.bay ≡ Some seen) (same : IsSameCone start old) (journal : IsJournalSame (files start.bay) (files old.bay)) (gate : ℕ) where
+    abbrev Read : ℕ → List ℕ → Type 0
+    Read end events = HasReplayed start.listing.settings start.listing.cone start.last.n0 start.last.closed (seen 0) end events
+
+    -- what a call took
+    abbrev pub Takes : Files → ℕ → Type 0
+    Takes now next =
+        (packet : Packet)
+        × HoldsPacket old.listing.settings old.listing.cone (most_payload old.listing.settings) (now 0) gate packet
+        × MayFollow old.listing.settings old.last.n0 old.last.closed (length old.listing.events) packet
+        × (next ≡ next_gate gate (payload_of packet))
+        × (new.listing ≡ record old.listing { events = old.listing.events ++ packet.keys })
+
+    pub read_on : (next : ℕ) → Read gate old.listing.events → ((now : Files) → files old.bay ≡ Some now → Takes now next) → Read next new.listing.events
+    read_on next has taken =
+        let there = journal.told seen told in
+        let now = there.0 in
+        let took = taken now there.1 in
+        let packet = took.0 in
+        let s = start.listing.settings in
+        let own : HoldsPacket s start.listing.cone (most_payload s) (seen 0) gate packet =
+        subst (λ (bytes : List ℕ). HoldsPacket s start.listing.cone (most_payload s) bytes gate packet) there.2
+        (subst (λ (cone : ℕ). HoldsPacket s cone (most_payload s) (now 0) gate packet) same.cone
+        (subst (λ (t : Numbers). HoldsPacket t old.listing.cone (most_payload t) (now 0) gate packet) same.settings took.1)) in
+        let may : MayFollow s start.last.n0 start.last.closed (length old.listing.events) packet =
+        subst (λ (last : LogPoint). MayFollow s last.n0 last.closed (length old.listing.events) packet) same.last
+        (subst (λ (t : Numbers). MayFollow t old.last.n0 old.last.closed (length old.listing.events) packet) same.settings took.2) in
+        subst (Read next) (sym (ap (λ (l : Listing). l.events) took.4))
+        (subst (λ (g : ℕ). Read g (old.listing.events ++ packet.keys)) (sym took.3)
+        (replayed_more s start.listing.cone start.last.n0 start.last.closed (seen 0) gate old.listing.events packet has own may))
+
+    -- where a call found the format left
+    pub left_on : (at n : ℕ) → n ≡ length old.listing.events → ((now : Files) → files old.bay ≡ Some now → ReplayLeavesAt old.listing.settings old.listing.cone old.last.n0 old.last.closed (length old.listing.events) (now 0) gate at) →
+        ReplayLeavesAt start.listing.settings start.listing.cone start.last.n0 start.last.closed n (seen 0) gate at
+    left_on at n n_is left =
+        let there = journal.told seen told in
+        let now = there.0 in
+        let s = start.listing.settings in
+        subst (λ (m : ℕ). ReplayLeavesAt s start.listing.cone start.last.n0 start.last.closed m (seen 0) gate at) (sym n_is)
+        (subst (λ (bytes : List ℕ). ReplayLeavesAt s start.listing.cone start.last.n0 start.last.closed (length old.listing.events) bytes gate at) there.2
+        (subst (λ (last : LogPoint). ReplayLeavesAt s start.listing.cone last.n0 last.closed (length old.listing.events) (now 0) gate at) same.last
+        (subst (λ (cone : ℕ). ReplayLeavesAt s cone old.last.n0 old.last.closed (length old.listing.events) (now 0) gate at) same.cone
+        (subst (λ (t : Numbers). ReplayLeavesAt t old.listing.cone old.last.n0 old.last.closed (length old.listing.events) (now 0) gate at) same.settings (left now there.1)))))
+
+    -- and where it found a closed gate
+    pub shut_on : ((now : Files) → files old.bay ≡ Some now → IsClosed (now 0) gate) → IsClosed (seen 0) gate
+    shut_on shut =
+        let there = journal.told seen told in
+        subst (λ (bytes : List ℕ). IsClosed bytes gate) there.2 (shut there.0 there.1)

@@ -1,0 +1,60 @@
+-- Why a replay stopped, and what was so of a cone when it was made.
+use Rattle.std.proofs.Common.{ℕ, ◌≡◌, Bool, Option, List, length, refl, ap, ◌∙◌, subst, inl, inr, ◌⊎◌}
+use Rattle.lert_bay.specs.Files.{Files}
+use Rattle.lert_cone.specs.declared.refusal.ReplayFault.{ReplayFault}
+use Rattle.lert_cone.specs.declared.refusal.ReplayFault.TheVariants.{Failed as ReplayFailed, Malformed as ReplayMalformed, Unsound as ReplayUnsound, OutOfMemory as ReplayOutOfMemory}
+use Rattle.lert_cone.specs.Replay.{ReplayLeavesAt}
+use Rattle.lert_cone.specs.Sound.{IsSound}
+use Rattle.lert_cone.specs.Stands.{IsSameCone, Standing, WasSound}
+use Rattle.lert_spec.specs.declared.numbers.Numbers.{Numbers}
+use Rattle.lert_recover.specs.declared.fault.ReopenFault.{ReopenFault}
+use Rattle.lert_recover.specs.declared.fault.ReopenFault.TheVariants.{Failed, OutOfMemory}
+use Rattle.lert_recover.specs.Replayed.{HasReplayed, IsOutsideReplay, JournalEnds, JournalLeavesAt}
+use Rattle.lert_recover.specs.Reopened.{IsShownOn, IsStopped, IsWhy, At_call, At_memory, At_place, At_sight}
+use Rattle.lert_recover.proofs.ReplayedLaws.{ends_from_start, here, leaves_from_start}
+
+-- a replay that stopped at a gate behind what it had replayed
+module _ (s : Numbers) (cone n0 : ℕ) (closed : Bool) (bytes : List ℕ) (gate n : ℕ) (events : List ℕ) (has : HasReplayed s cone n0 closed bytes gate events) (n_is : n ≡ length events) where
+  start_leaves : (at : ℕ) → JournalLeavesAt s cone n0 closed bytes n gate at → JournalLeavesAt s cone n0 closed bytes 0 32 at
+  start_leaves at leaves = leaves_from_start s cone n0 closed bytes gate events at has (subst (λ (m : ℕ). JournalLeavesAt s cone n0 closed bytes m gate at) n_is leaves)
+
+  start_ends : JournalEnds s cone n0 closed bytes n gate → JournalEnds s cone n0 closed bytes 0 32
+  start_ends ends = ends_from_start s cone n0 closed bytes gate events has (subst (λ (m : ℕ). JournalEnds s cone n0 closed bytes m gate) n_is ends)
+
+  pub stopped_of : (after : Option Files) (fault : ReopenFault) (replay : ReplayFault) → IsWhy s cone n0 closed bytes n gate replay fault → ((at : ℕ) → replay ≡ ReplayMalformed at → ReplayLeavesAt s cone n0 closed n bytes gate at) → ((file at : ℕ) → replay ≡ ReplayUnsound file at → IsShownOn s after file at) →
+      IsStopped s cone n0 closed bytes after fault
+  stopped_of after fault ReplayFailed why left shown = At_call why
+  stopped_of after fault ReplayOutOfMemory why left shown = At_memory why
+  stopped_of after fault (ReplayMalformed at) why left shown = At_place at why (start_leaves at (here s cone n0 closed bytes n gate at (left at refl)))
+  stopped_of after fault (ReplayUnsound file at) (inl failed) left shown = At_call failed
+  stopped_of after fault (ReplayUnsound file at) (inr (inl (is, ends))) left shown = At_sight file at is (start_ends ends) (shown file at refl)
+  stopped_of after fault (ReplayUnsound file at) (inr (inr (place, is, leaves))) left shown = At_place place is (start_leaves place leaves)
+
+failed_or_unsound : (file at : ℕ) → ReplayUnsound file at ≡ ReplayFailed → ⊥
+failed_or_unsound file at is = cc
+
+memory_or_unsound : (file at : ℕ) → ReplayUnsound file at ≡ ReplayOutOfMemory → ⊥
+memory_or_unsound file at is = cc
+
+failed_or_malformed : (at : ℕ) → ReplayMalformed at ≡ ReplayFailed → ⊥
+failed_or_malformed at is = cc
+
+memory_or_malformed : (at : ℕ) → ReplayMalformed at ≡ ReplayOutOfMemory → ⊥
+memory_or_malformed at is = cc
+
+pub outside_of : (s : Numbers) (cone n0 : ℕ) (closed : Bool) (bytes : List ℕ) (n gate : ℕ) (fault : ReopenFault) (replay : ReplayFault) → IsWhy s cone n0 closed bytes n gate replay fault → IsOutsideReplay replay → (fault ≡ Failed) ⊎ (fault ≡ OutOfMemory)
+outside_of s cone n0 closed bytes n gate fault ReplayFailed why outside = inl why
+outside_of s cone n0 closed bytes n gate fault ReplayOutOfMemory why outside = inr why
+outside_of s cone n0 closed bytes n gate fault (ReplayMalformed at) why (inl failed) = absurd (failed_or_malformed at failed)
+outside_of s cone n0 closed bytes n gate fault (ReplayMalformed at) why (inr short) = absurd (memory_or_malformed at short)
+outside_of s cone n0 closed bytes n gate fault (ReplayUnsound file at) why (inl failed) = absurd (failed_or_unsound file at failed)
+outside_of s cone n0 closed bytes n gate fault (ReplayUnsound file at) why (inr short) = absurd (memory_or_unsound file at short)
+
+-- what was so when the cone was made
+pub was_before : {B : Type 0} (files : B → Option Files) (start now : Standing B) → IsSameCone start now → WasSound files now → WasSound files start
+was_before files start now same was first told =
+    let sound = was first (ap files same.made ∙ told) in (
+      sound.0,
+      subst (λ (s : Numbers). IsSound s start.listing.cone sound.0 first) same.settings
+          (subst (λ (cone : ℕ). IsSound now.listing.settings cone sound.0 first) same.cone sound.1),
+    )

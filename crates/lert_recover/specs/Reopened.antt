@@ -1,0 +1,72 @@
+-- What a cone that is reopened says of its files, and why one isn't.
+use Rattle.std.specs.Prelude.{◌≡◌, ℕ, ◌≤◌, Bool, List, length, Option}
+use Rattle.std.proofs.Common.{◌⊎◌}
+use Rattle.lert_base.specs.declared.kept.Kept.{Kept}
+use Rattle.lert_base.specs.Packet.{Packet}
+use Rattle.lert_bay.specs.Files.{Files, IfTold}
+use Rattle.lert_cone.specs.declared.refusal.ReplayFault.{ReplayFault}
+use Rattle.lert_cone.specs.declared.refusal.ReplayFault.TheVariants.{Failed as ReplayFailed, Malformed as ReplayMalformed, Unsound as ReplayUnsound, OutOfMemory as ReplayOutOfMemory}
+use Rattle.lert_cone.specs.Tally.{Shows}
+use Rattle.lert_cone.specs.Sound.{IsSound}
+use Rattle.lert_gatelog.specs.Gated.{IsClosed}
+use Rattle.lert_levels.specs.declared.bin_at.BinAt.{BinAt}
+use Rattle.lert_recover.specs.declared.fault.ReopenFault.{ReopenFault}
+use Rattle.lert_recover.specs.declared.fault.ReopenFault.TheVariants.{Failed, Malformed, OtherSettings, OutOfMemory}
+use Rattle.lert_recover.specs.Headed.{HasOther}
+use Rattle.lert_recover.specs.Opened.{AreOpened}
+use Rattle.lert_recover.specs.Replayed.{AreInFormat, FirstLeaves, HasReplayed, JournalEnds, JournalLeavesAt}
+use Rattle.lert_reports.specs.Log.{is_closed, last_n0}
+use Rattle.lert_reports.specs.LogText.{LogRecord}
+use Rattle.lert_spec.specs.declared.numbers.Numbers.{Numbers}
+use Rattle.lert_spec.specs.declared.report.Report.{Report}
+
+-- all of the files is in its format, and these are the keys of the journal's packets, up to its closed gate
+pub record IsReopened (s : Numbers) (cone : ℕ) (seen : Files) (closed : Bool) (events : List ℕ) (gate : ℕ) : Type 0 where
+  pub records : List LogRecord
+  pub log_end : ℕ
+  pub rows : List (List BinAt)
+  pub opened : AreOpened s cone seen records log_end rows
+  pub closed_is : closed ≡ is_closed records
+  pub replayed : HasReplayed s cone (last_n0 records) (is_closed records) (seen 0) gate events
+  pub shut : IsClosed (seen 0) gate
+  pub enough : last_n0 records ≤ length events
+
+-- what shows it on the bay that is handed back, where it is told: a frame of some rows that breaks its text or its sum at this
+-- place, or, as place 0 of the log, a store that has all the reports that it takes
+abbrev pub IsShownOn : Numbers → Option Files → ℕ → ℕ → Type 0
+IsShownOn s told file at = IfTold told (λ now. (rows : List (List BinAt)) × (reports : List Report) × Shows s rows reports (now 2) file at)
+
+-- files that are in their format to their end, and sound for no list, as the bay that is handed back shows at this place
+pub record IsSeenUnsound (s : Numbers) (cone : ℕ) (seen : Files) (after : Option Files) (file at : ℕ) : Type 0 where
+  pub whole : AreInFormat s cone seen
+  pub none : (history : List Packet) → IsSound s cone history seen → ⊥
+  pub shown : IsShownOn s after file at
+
+-- why a cone isn't reopened: a call or memory failed, or what stands in its files, which leave their format first at a place,
+-- or begin with other numbers, or are sound for no list
+pub data IsReopenRefused (s : Numbers) (cone : ℕ) (seen : Files) (after : Option Files) (fault : ReopenFault) : Type 0 where
+  Of_call : fault ≡ Failed → IsReopenRefused s cone seen after fault
+  Of_memory : fault ≡ OutOfMemory → IsReopenRefused s cone seen after fault
+  Of_place : (file at : ℕ) → fault ≡ Malformed file at → FirstLeaves s cone seen file at → IsReopenRefused s cone seen after fault
+  Of_header : (kept : Kept) → fault ≡ OtherSettings kept → HasOther s cone (seen 0) kept → IsReopenRefused s cone seen after fault
+  Of_sight : (file at : ℕ) → fault ≡ Malformed file at → IsSeenUnsound s cone seen after file at → IsReopenRefused s cone seen after fault
+
+-- ---- the journal alone
+
+-- why a replay stopped
+pub data IsStopped (s : Numbers) (cone n0 : ℕ) (closed : Bool) (bytes : List ℕ) (after : Option Files) (fault : ReopenFault) : Type 0 where
+  At_call : fault ≡ Failed → IsStopped s cone n0 closed bytes after fault
+  At_memory : fault ≡ OutOfMemory → IsStopped s cone n0 closed bytes after fault
+  At_place : (at : ℕ) → fault ≡ Malformed 0 at → JournalLeavesAt s cone n0 closed bytes 0 32 at → IsStopped s cone n0 closed bytes after fault
+  At_sight : (file at : ℕ) → fault ≡ Malformed file at → JournalEnds s cone n0 closed bytes 0 32 → IsShownOn s after file at → IsStopped s cone n0 closed bytes after fault
+
+-- what a fault of a replay is that stopped at a gate, behind n events: what shows that the files are sound for no list is told
+-- only where the rest of the journal is in its format
+abbrev pub IsWhy : Numbers → ℕ → ℕ → Bool → List ℕ → ℕ → ℕ → ReplayFault → ReopenFault → Type 0
+IsWhy s cone n0 closed bytes n gate ReplayFailed fault = fault ≡ Failed
+IsWhy s cone n0 closed bytes n gate (ReplayMalformed at) fault = fault ≡ Malformed 0 at
+IsWhy s cone n0 closed bytes n gate ReplayOutOfMemory fault = fault ≡ OutOfMemory
+IsWhy s cone n0 closed bytes n gate (ReplayUnsound file at) fault =
+    (fault ≡ Failed)
+    ⊎ (((fault ≡ Malformed file at) × JournalEnds s cone n0 closed bytes n gate)
+    ⊎ ((place : ℕ) × (fault ≡ Malformed 0 place) × JournalLeavesAt s cone n0 closed bytes n gate place))

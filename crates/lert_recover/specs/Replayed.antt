@@ -1,0 +1,72 @@
+-- The packets of a journal as they are replayed, and where the files of a cone first leave their format.
+use Rattle.std.specs.Prelude.{◌≡◌, ℕ, ◌+◌, ◌≤◌, Bool, List, [], ◌∷◌, length, Option}
+use Rattle.std.proofs.Common.{◌⊎◌}
+use Rattle.lert_base.specs.Packet.{Packet, events_of}
+use Rattle.lert_bay.specs.Files.{Files, Turns}
+use Rattle.lert_cone.specs.declared.refusal.ReplayFault.{ReplayFault}
+use Rattle.lert_cone.specs.declared.refusal.ReplayFault.TheVariants.{Failed, OutOfMemory}
+use Rattle.lert_cone.specs.History.{most_payload}
+use Rattle.lert_cone.specs.Replay.{MayFollow, ReplayLeavesAt}
+use Rattle.lert_gatelog.specs.Gated.{IsClosed, next_gate}
+use Rattle.lert_journal.specs.Journal.{HoldsPacket}
+use Rattle.lert_journal.specs.Payload.{payload_of}
+use Rattle.lert_levels.specs.declared.bin_at.BinAt.{BinAt}
+use Rattle.lert_recover.specs.Opened.{AreOpened, LeaveAt}
+use Rattle.lert_reports.specs.Log.{is_closed, last_n0}
+use Rattle.lert_reports.specs.LogText.{LogRecord}
+use Rattle.lert_spec.specs.declared.numbers.Numbers.{Numbers}
+
+-- these packets stand one behind the other from a gate on up to another, and each may follow the events before it, of which
+-- n are before the first
+abbrev pub AreReplayed : Numbers → ℕ → ℕ → Bool → List ℕ → ℕ → ℕ → List Packet → ℕ → Type 0
+AreReplayed s cone n0 closed bytes n gate [] end = end ≡ gate
+AreReplayed s cone n0 closed bytes n gate (packet ∷ rest) end =
+    HoldsPacket s cone (most_payload s) bytes gate packet
+    × MayFollow s n0 closed n packet
+    × AreReplayed s cone n0 closed bytes (n + length packet.keys) (next_gate gate (payload_of packet)) rest end
+
+-- some packets so stand from a gate on, and behind them the format is left at this place
+pub record JournalLeavesAt (s : Numbers) (cone n0 : ℕ) (closed : Bool) (bytes : List ℕ) (n gate at : ℕ) : Type 0 where
+  pub packets : List Packet
+  pub end : ℕ
+  pub stand : AreReplayed s cone n0 closed bytes n gate packets end
+  pub leaves : ReplayLeavesAt s cone n0 closed (n + length (events_of packets)) bytes end at
+
+-- some packets so stand from a gate on, and behind them a closed gate, with as many events as the log says at least
+pub record JournalEnds (s : Numbers) (cone n0 : ℕ) (closed : Bool) (bytes : List ℕ) (n gate : ℕ) : Type 0 where
+  pub packets : List Packet
+  pub end : ℕ
+  pub stand : AreReplayed s cone n0 closed bytes n gate packets end
+  pub shut : IsClosed bytes end
+  pub enough : n0 ≤ n + length (events_of packets)
+
+-- packets that begin a journal so stand up to a gate, and these are their keys
+pub record HasReplayed (s : Numbers) (cone n0 : ℕ) (closed : Bool) (bytes : List ℕ) (gate : ℕ) (events : List ℕ) : Type 0 where
+  pub packets : List Packet
+  pub stand : AreReplayed s cone n0 closed bytes 0 32 packets gate
+  pub events_are : events ≡ events_of packets
+
+-- The files of a cone first leave their format at this place, in the order in which they are read: before the records of the
+-- journal, or, behind what is in its format, at one of these.
+pub data FirstLeaves (s : Numbers) (cone : ℕ) (seen : Files) (file at : ℕ) : Type 0 where
+  Before_records : LeaveAt s cone seen file at → FirstLeaves s cone seen file at
+  In_records : (records : List LogRecord) (log_end : ℕ) (rows : List (List BinAt)) → AreOpened s cone seen records log_end rows → file ≡ 0 →
+      JournalLeavesAt s cone (last_n0 records) (is_closed records) (seen 0) 0 32 at → FirstLeaves s cone seen file at
+
+-- they are in it to their end
+pub record AreInFormat (s : Numbers) (cone : ℕ) (seen : Files) : Type 0 where
+  pub records : List LogRecord
+  pub log_end : ℕ
+  pub rows : List (List BinAt)
+  pub opened : AreOpened s cone seen records log_end rows
+  pub journal : JournalEnds s cone (last_n0 records) (is_closed records) (seen 0) 0 32
+
+-- ---- while packets are replayed
+
+-- the journal reads as before
+abbrev pub IsJournalSame : Option Files → Option Files → Type 0
+IsJournalSame before after = Turns (λ old new. new 0 ≡ old 0) before after
+
+-- a call or memory failed
+abbrev pub IsOutsideReplay : ReplayFault → Type 0
+IsOutsideReplay fault = (fault ≡ Failed) ⊎ (fault ≡ OutOfMemory)

@@ -1,0 +1,13 @@
+-- What is printed of cones.
+use Rattle.std.specs.Prelude.{◌≡◌, ℕ, false, List, Some, slice_get}
+use Rattle.lert_cone.specs.Stands.{Standing, is_broken, is_finished}
+use Rattle.lert_spec.specs.declared.numbers.Numbers.{Numbers}
+use Rattle.lert_spec.specs.Lines.{Printed}
+
+-- the events and reports of a cone, which is closed where it is finished
+abbrev pub printed_as : {B : Type 0} → Standing B → Printed
+printed_as cone = record { events = cone.events; reports = cone.reports; closed = is_finished cone.state }
+
+-- the cones have these settings, and none is broken
+abbrev pub ArePrintable : {B : Type 0} → Numbers → List (Standing B) → Type 0
+ArePrintable {B = B} s cones = (number : ℕ) (cone : Standing B) → slice_get cones number ≡ Some cone → (is_broken cone.state ≡ false) × (cone.listing.settings ≡ s)
