@@ -9,12 +9,14 @@ from __future__ import annotations
 import struct
 from bisect import bisect_right
 from collections import Counter, defaultdict
+from functools import cache, cached_property
 from pathlib import Path
-from typing import Callable, Iterator, NamedTuple, TypeVar
+from typing import Callable, Iterator, NamedTuple, Sequence, TypeVar
 
 from formats import (
     HEADER_LEN,
     LOG_MAGIC,
+    OPEN,
     Header,
     Left,
     Packet,
@@ -59,6 +61,7 @@ class Levels(NamedTuple):
     def span(self, level: int) -> int:
         return self.base * self.ratio**level
 
+    @cache
     def offset(self, level: int) -> int:
         return (self.bins - 1) * sum(self.span(one) for one in range(level + 1))
 
@@ -73,12 +76,13 @@ class Levels(NamedTuple):
     def lookback(self, at: int) -> int:
         return self.edge(self.depth(at), at - 1)
 
-    def is_flush(self, at: int) -> bool:
-        return self.edge(0, at) != self.edge(0, at - 1)
+    def flushes(self, events: int) -> range:
+        """The flush positions up to a number of events: those at which the edge of level 0 moves."""
+        return range(self.bins * self.base, events + 1, self.base)
 
     def last_flush(self, events: int) -> int:
-        first = self.bins * self.base
-        return 0 if events < first else events - (events - first) % self.base
+        flushes = self.flushes(events)
+        return flushes[-1] if flushes else 0
 
     def capacity(self, header: Header) -> int:
         return min(self.offset(self.levels) + self.span(self.levels) - 1, header.threshold * header.room)
@@ -104,6 +108,7 @@ class Report(NamedTuple):
 
 
 class Record(NamedTuple):
+    gate: int
     kind: int
     n0: int
     offset: int
@@ -116,31 +121,34 @@ def look(levels: Levels, threshold: int, events: list[int]) -> list[Report]:
     """At each position the keys not listed that occur `threshold` times in the window that it looks back to."""
     reports: list[Report] = []
     places: dict[int, list[int]] = defaultdict(list)
-    # A key that is due somewhere occurs that often in all: only these are looked at.
+    # A key that is due somewhere occurs that often in all: only these are looked at, until they are listed.
+    heavy = {key for key, count in Counter(events).items() if count >= threshold}
     waiting: set[int] = set()
-    listed: set[int] = set()
+    flushes = levels.flushes(len(events))
     for at, key in enumerate(events, 1):
-        places[key].append(at)
-        if len(places[key]) >= threshold and key not in listed:
-            waiting.add(key)
-        asked = sorted(waiting, key=mixed) if levels.is_flush(at) else [key] if key in waiting else []
+        if key in heavy:
+            places[key].append(at)
+            if len(places[key]) >= threshold:
+                waiting.add(key)
+        asked = sorted(waiting, key=mixed) if at in flushes else [key] if key in waiting else []
         start = levels.lookback(at) if asked else 0
         for one in asked:
             if len(places[one]) - bisect_right(places[one], start) >= threshold:
                 reports.append(Report(one, at))
-                listed.add(one)
+                heavy.remove(one)
                 waiting.remove(one)
     return reports
 
 
-def closing(levels: Levels, threshold: int, events: list[int]) -> list[Report]:
-    reports = look(levels, threshold, events)
-    listed = {report.key for report in reports}
-    rest = [key for key, count in Counter(events).items() if count >= threshold and key not in listed]
-    return reports + [Report(key, len(events)) for key in sorted(rest, key=mixed)]
+def left_over(threshold: int, events: list[int], looked: list[Report]) -> list[Report]:
+    """What closing adds at the last position: the keys not listed that occur `threshold` times in all events."""
+    listed = {report.key for report in looked}
+    due = [key for key, count in Counter(events).items() if count >= threshold and key not in listed]
+    return [Report(key, len(events)) for key in sorted(due, key=mixed)]
 
 
-MADE = {"look": look, "closing": closing}
+# The reports that are made while the events come, and those that stand once the cone is closed.
+MADE = LOOK, CLOSED = "look", "closing"
 
 
 class Fields:
@@ -186,11 +194,13 @@ class Log:
         begins_with(data, LOG_MAGIC)
         most = 29 + self.levels.levels * (1 + self.levels.bins) + 16 * self.header.room
         for at, payload in payloads(data, len(LOG_MAGIC), most):
-            if self.closed:
-                raise Left(at - 1)
-            self.take(Fields(payload, at + 4))
+            self.take(at - 1, Fields(payload, at + 4))
+            behind = at + 4 + len(payload)
+            # Nothing stands behind a closing record, whatever its length would be.
+            if self.closed and data[behind : behind + 1] == bytes([OPEN]):
+                raise Left(behind)
 
-    def take(self, fields: Fields) -> None:
+    def take(self, gate: int, fields: Fields) -> None:
         kind = fields.ruled(1, FLUSH, CLOSING)
         n0 = fields.number(8)
         due = (self.levels.bins + self.flushes) * self.levels.base
@@ -204,7 +214,7 @@ class Log:
             raise Left(fields.place + fields.at)
         self.n0, self.directory, self.closed = n0, directory, kind == CLOSING
         self.flushes += kind == FLUSH
-        self.records.append(Record(kind, n0, offset, first, directory, reports))
+        self.records.append(Record(gate, kind, n0, offset, first, directory, reports))
 
     def frames(self, fields: Fields, level: int, n0: int) -> list[int]:
         count = len(list(self.levels.ranges(level, n0)))
@@ -255,14 +265,19 @@ def pieces_at(data: bytes, place: int, tails: int, width: int) -> list[tuple[int
     return pieces
 
 
+def files_of(journal: Path) -> list[bytes]:
+    """The three files of the cone with this journal."""
+    return [journal.with_suffix(suffix).read_bytes() for suffix in SUFFIXES]
+
+
 class Cone:
     """The files of a cone, read in the order in which they are opened again: the header of the journal, the log, the
     frames that its last record names, and the packets of the journal."""
 
-    def __init__(self, journal: Path) -> None:
-        self.files = [journal.with_suffix(suffix).read_bytes() for suffix in SUFFIXES]
-        self.header = in_file(JOURNAL, header_of, self.files[JOURNAL])
-        header = self.header
+    def __init__(self, files: Sequence[bytes], due: Header | None = None) -> None:
+        """The three files in their order, and the header that is due in the journal, where it is known."""
+        self.files = files
+        self.header = header = in_file(JOURNAL, lambda data: header_of(data, due), files[JOURNAL])
         self.levels = Levels(header.base, header.ratio, header.bins, header.levels)
         self.log = Log(header, self.levels)
         self.packets: list[tuple[int, Packet]] = []
@@ -286,33 +301,39 @@ class Cone:
         end = HEADER_LEN
         for gate, packet in packets(data):
             events = len(self.events) + len(packet.keys)
-            if events > capacity:
-                raise Left(gate + 1)
             if self.log.closed and events > n0:
                 raise Left(gate)
+            if events > capacity:
+                raise Left(gate + 1)
             self.packets.append((gate, packet))
             self.events += packet.keys
             end = gate + 13 + 8 * len(packet.keys)
         if len(self.events) < n0:
             raise Left(end)
 
+    @cached_property
+    def looked(self) -> list[Report]:
+        return look(self.levels, self.header.threshold, self.events)
+
     def reports(self, made: str) -> list[Report]:
-        return MADE[made](self.levels, self.header.threshold, self.events)
+        return self.looked + (left_over(self.header.threshold, self.events, self.looked) if made == CLOSED else [])
 
     def check(self) -> None:
-        """The files, which keep their formats, are sound for the packets of the journal."""
+        """The files, which keep their formats, are sound for the packets of the journal. Which record of the journal
+        the log's records name is no part of that."""
         n0, events = self.log.n0, len(self.events)
         before_last = events - len(self.packets[-1][1].keys) if self.packets else 0
         if n0 < self.levels.last_flush(before_last):
             raise Unsound(f"the log speaks of {n0} events, and a flush was due behind them")
-        self.check_places()
         bits = 64 - self.header.cone_bits
         for low, high, pieces in self.frames:
-            counts = Counter(mixed(key) % (1 << bits) for key in self.events[low:high])
-            if pieces != sorted(counts.items()):
+            # No two keys of a cone have the same tail.
+            counts = Counter(self.events[low:high])
+            if pieces != sorted((mixed(key) % (1 << bits), times) for key, times in counts.items()):
                 raise Unsound(f"the frame of the positions above {low} up to {high} doesn't hold their counts")
-        made = MADE["closing" if self.log.closed else "look"]
-        if self.log.reports != made(self.levels, self.header.threshold, self.events[:n0]):
+        # What is listed at a position doesn't depend on the events behind it.
+        made = self.reports(CLOSED) if self.log.closed else [report for report in self.looked if report.at <= n0]
+        if self.log.reports != made:
             raise Unsound(f"the log's reports aren't those of {n0} events")
 
     def check_places(self) -> None:

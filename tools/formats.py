@@ -40,6 +40,10 @@ class Header(NamedTuple):
     cone: int
 
 
+class OtherSettings(Exception):
+    """The journal begins with the header of another cone or of other settings."""
+
+
 class Packet(NamedTuple):
     by: int
     trace: int
@@ -47,13 +51,19 @@ class Packet(NamedTuple):
 
 
 def mixed(key: int) -> int:
-    for factor in (0xFF51AFD7ED558CCD, 0xC4CEB9FE1A85EC53):
-        key = ((key ^ (key >> 33)) * factor) & WORD
+    key = (key ^ (key >> 33)) * 0xFF51AFD7ED558CCD & WORD
+    key = (key ^ (key >> 33)) * 0xC4CEB9FE1A85EC53 & WORD
     return key ^ (key >> 33)
 
 
 def cone_of(cone_bits: int, key: int) -> int:
     return mixed(key) >> (64 - cone_bits)
+
+
+def generated_key(seed: int, event: int) -> int:
+    """The key of an event, counted from 1. Half of them are of a thousand keys, and half of keys that come once."""
+    value = mixed((seed + event) & WORD)
+    return value if value % 2 else (value >> 32) % 1000
 
 
 def begins_with(data: bytes, magic: bytes) -> None:
@@ -62,12 +72,18 @@ def begins_with(data: bytes, magic: bytes) -> None:
             raise Left(at)
 
 
-def header_of(data: bytes) -> Header:
+def header_of(data: bytes, due: Header | None = None) -> Header:
+    """The header of a journal; where one is due, any other is refused."""
     begins_with(data, JOURNAL_MAGIC)
-    # Behind it stands the first gate.
-    if len(data) <= HEADER_LEN:
+    if len(data) < HEADER_LEN:
         raise Left(len(data))
-    return Header(*struct.unpack_from("<4I4BI", data, 8))
+    header = Header(*struct.unpack_from("<4I4BI", data, 8))
+    if due not in (None, header):
+        raise OtherSettings()
+    # Behind it stands the first gate.
+    if len(data) == HEADER_LEN:
+        raise Left(HEADER_LEN)
+    return header
 
 
 def payloads(data: bytes, first: int, most: int) -> Iterator[tuple[int, bytes]]:

@@ -1,0 +1,196 @@
+"""What `recover` has to answer over the files of cones, by their formats and the definitions alone, and what it does.
+
+It knows nothing of the program but its words and its lines. All files are kept in memory.
+"""
+
+from __future__ import annotations
+
+import re
+import subprocess
+from functools import lru_cache
+from pathlib import Path
+from typing import Iterable, Iterator, NamedTuple, Sequence
+
+from cones import CLOSED, JOURNAL, LOOK, SUFFIXES, Broken, Cone, Report, Unsound
+from formats import TRACE_MAGIC, Header, OtherSettings
+
+DONE, CAPACITY_FULL, MALFORMED, OTHER_SETTINGS = 0, 8, 9, 10
+# In place of the status of a program that doesn't end.
+HANGS = 999
+SECONDS = 10
+
+# The files of a directory by their names, and the three of a cone.
+Folder = dict[str, bytes]
+Files = tuple[bytes, ...]
+
+
+class Settings(NamedTuple):
+    threshold: int
+    bins: int
+    ratio: int
+    base: int
+    levels: int
+    cone_bits: int
+    room: int
+    packet: int
+
+    def words(self) -> list[str]:
+        pairs = ((f"--{name.replace('_', '-')}", str(number)) for name, number in self._asdict().items())
+        return [word for pair in pairs for word in pair]
+
+    def cones(self) -> range:
+        return range(1 << self.cone_bits)
+
+    def header(self, cone: int) -> Header:
+        return Header(cone=cone, **self._asdict())
+
+
+def file_name(cone: int, file: int) -> str:
+    return f"cone-{cone:03}{SUFFIXES[file]}"
+
+
+def folder_at(path: Path) -> Folder:
+    return {file.name: file.read_bytes() for file in path.iterdir()} if path.exists() else {}
+
+
+def files_in(folder: Folder, cone: int) -> Files:
+    """The files of a cone. One that isn't there is empty: the program makes it so."""
+    return tuple(folder.get(file_name(cone, file), b"") for file in range(len(SUFFIXES)))
+
+
+def write_trace(path: Path, keys: Iterable[int]) -> None:
+    path.write_bytes(TRACE_MAGIC + b"".join(key.to_bytes(8, "little") for key in keys))
+
+
+# --- what a program answers
+
+
+class Answer(NamedTuple):
+    status: int
+    out: str
+    err: str
+
+    def __str__(self) -> str:
+        return f"status {self.status}, {self.out!r}, {self.err!r}"
+
+
+def asked(program: Path, words: Sequence[str | Path], seconds: float = SECONDS) -> Answer:
+    try:
+        done = subprocess.run([program, *words], stdin=subprocess.DEVNULL, capture_output=True, timeout=seconds)
+    except subprocess.TimeoutExpired:
+        return Answer(HANGS, "", "")
+    return Answer(done.returncode, done.stdout.decode(errors="replace"), done.stderr.decode(errors="replace"))
+
+
+def recovered(program: Path, settings: Settings, folder: Path, seconds: float = SECONDS) -> Answer:
+    return asked(program, ["recover", *settings.words(), folder], seconds)
+
+
+# --- what is due
+
+
+class Refused(NamedTuple):
+    """A cone that can't be opened again: the status and its line."""
+
+    status: int
+    line: str
+
+
+class Opened(NamedTuple):
+    """A cone that is opened again. Files that are sound for no packets have no reports that are due."""
+
+    cone: int
+    events: int
+    closed: bool
+    reports: tuple[Report, ...] | None
+
+
+Due = Refused | Opened
+
+
+def refused(cone: int, broken: Broken) -> Refused:
+    return Refused(MALFORMED, f"lert: cone {cone} file {broken.file} malformed at {broken.at}\n")
+
+
+@lru_cache(maxsize=64)
+def due_of(files: Files, header: Header) -> Due:
+    """What is due of the cone with these files, where this is the header of its journal."""
+    try:
+        cone = Cone(files, header)
+        cone.read()
+    except Broken as broken:
+        return refused(header.cone, broken)
+    except OtherSettings:
+        return Refused(OTHER_SETTINGS, f"lert: cone {header.cone} has other settings\n")
+    closed = cone.log.closed
+    try:
+        cone.check()
+    except Unsound:
+        return Opened(header.cone, len(cone.events), closed, None)
+    return Opened(header.cone, len(cone.events), closed, tuple(cone.reports(CLOSED if closed else LOOK)))
+
+
+def dues_of(folder: Folder, settings: Settings) -> list[Due]:
+    return [due_of(files_in(folder, cone), settings.header(cone)) for cone in settings.cones()]
+
+
+def is_sound(due: Due) -> bool:
+    return isinstance(due, Opened) and due.reports is not None
+
+
+# --- whether the one is the other
+
+
+class Form(Answer):
+    """An answer that may be given. Its texts are patterns, in which the program's own letters mean themselves."""
+
+    def fits(self, answer: Answer) -> bool:
+        same = answer.status == self.status
+        return same and bool(re.fullmatch(self.out, answer.out) and re.fullmatch(self.err, answer.err))
+
+
+def lines_of(due: Opened) -> str:
+    mark = "closed" if due.closed else "open"
+    if due.reports is None:
+        return rf"cone {due.cone} events {due.events} reports \d+ {mark}\n(\d+ \d+\n)*"
+    reports = "".join(f"{report.key} {report.at}\n" for report in due.reports)
+    return f"cone {due.cone} events {due.events} reports {len(due.reports)} {mark}\n{reports}"
+
+
+def text_of(opened: list[Opened]) -> str:
+    """The text due of all cones, as a pattern."""
+    numbers = [None if due.reports is None else len(due.reports) for due in opened]
+    total = r"\d+" if None in numbers else sum(numbers)
+    events = sum(due.events for due in opened)
+    return "".join(map(lines_of, opened)) + f"total events {events} reports {total}\n"
+
+
+def forms(dues: Iterable[Due]) -> Iterator[Form]:
+    """The answers that may be given: cones are opened in their order, and the first refusal decides. Where files are
+    sound for no packets, the cone may be opened or be refused for its log or for a frame."""
+    opened: list[Opened] = []
+    for due in dues:
+        if isinstance(due, Refused):
+            yield Form(due.status, "", due.line)
+            return
+        if due.reports is None:
+            yield Form(MALFORMED, "", rf"lert: cone {due.cone} file (1 malformed at 0|2 malformed at \d+)\n")
+        opened.append(due)
+    yield Form(DONE, text_of(opened), "")
+
+
+def fits(answer: Answer, dues: Iterable[Due]) -> bool:
+    return any(form.fits(answer) for form in forms(dues))
+
+
+def faults(answer: Answer, before: Folder, after: Folder, settings: Settings) -> Iterator[str]:
+    """What is wrong with an answer over the files before it, and with those behind it. No journal may be changed, and
+    where the files of a cone were sound, they have to be so for the same events, with the same reports."""
+    dues = dues_of(before, settings)
+    if not fits(answer, dues):
+        yield f"answered {answer}; due is {' or '.join(map(str, forms(dues)))}"
+    for cone, (due, behind) in enumerate(zip(dues, dues_of(after, settings))):
+        if files_in(before, cone)[JOURNAL] != files_in(after, cone)[JOURNAL]:
+            yield f"the journal of cone {cone} was changed"
+        elif is_sound(due) and behind != due:
+            yield f"the files of cone {cone} were those of {due}, and are those of {behind}"
