@@ -22,7 +22,8 @@ use Rattle.lert_cone.specs.Sound.{IsJournal, IsSound, but_last}
 use Rattle.lert_cone.specs.Tally.{Tallied, IsCounted}
 use Rattle.lert_cone.proofs.KeyStep.{next_payload, journal_beside, frames_beside, log_beside, log_behind}
 use Rattle.lert_cone.proofs.LogLaws.{LogsNext, log_at_close}
-use Rattle.lert_cone.proofs.StepLaws.{sound_of, last_flush_grows}
+use Rattle.lert_cone.proofs.LogLaws.{last_flush_grows}
+use Rattle.lert_cone.proofs.StepLaws.{sound_of}
 
 -- all keys are taken
 pub partway_all : (s : Numbers) (history : List Packet) (events : List ℕ) → events ≡ events_of history → length (events_of (but_last history)) ≤ length events → IsPartway s history events []

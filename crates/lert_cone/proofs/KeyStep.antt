@@ -27,10 +27,10 @@ use Rattle.lert_cone.specs.Logged.{IsLogOf, next_record}
 use Rattle.lert_cone.specs.Record.{LogPlace, payload_at}
 use Rattle.lert_cone.specs.Sound.{IsJournal, IsSound}
 use Rattle.lert_cone.specs.Tally.{Tallied, IsCounted, IsHeld}
-use Rattle.lert_cone.proofs.LogLaws.{LogsNext, log_between, log_at_flush, payload_is}
+use Rattle.lert_cone.proofs.LogLaws.{LogsNext, last_flush_grows, log_between, log_at_flush, payload_is}
 use Rattle.lert_cone.proofs.RecordLaws.{payload_is_at}
 use Rattle.lert_cone.proofs.WroteLaws.{leaves_rest, settled_through}
-use Rattle.lert_cone.proofs.StepLaws.{journal_since, log_since, frames_since, sound_of, with_or_without, with_record, header_since, last_flush_grows}
+use Rattle.lert_cone.proofs.StepLaws.{journal_since, log_since, frames_since, sound_of, with_or_without, with_record, header_since}
 
 -- a part of the keys is taken
 pub partway_less : (s : Numbers) (history : List Packet) (events more : List ℕ) → IsPartway s history events more → IsPartway s history events []

@@ -18,5 +18,6 @@ pub mod StandLaws
 pub mod StepLaws
 pub mod TakeLaws
 pub mod TallyLaws
+pub mod TimeLaws
 pub mod TotalLaws
 pub mod WroteLaws

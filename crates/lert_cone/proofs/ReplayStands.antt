@@ -1,7 +1,7 @@
 -- A cone that is given the packets of its journal again: what is so of it, what the record at a gate makes of it, and which
 -- lists it stands for at the end.
-use Rattle.std.proofs.Common.{◌≡◌, ℕ, ◌+◌, ◌*◌, ◌^◌, ◌<◌, ◌≤◌, Bool, true, false, cond, List, [], ◌∷◌, ◌++◌, length, Option, Some, None, All, refl, sym, ap, ◌∙◌, subst, inl, inr, ◌⊎◌, arith}
-use Rattle.std.proofs.lemmas.Bool.{false≢true, cases_Bool}
+use Rattle.std.proofs.Common.{◌≡◌, ℕ, ◌+◌, ◌*◌, ◌^◌, ◌<◌, ◌≤◌, Bool, true, false, cond, List, [], length, Option, Some, None, All, refl, sym, ap, ◌∙◌, subst, inl, inr, ◌⊎◌, arith}
+use Rattle.std.proofs.lemmas.Bool.{false≢true}
 use Rattle.lert_base.specs.Packet.{Packet, events_of}
 use Rattle.lert_bay.specs.Files.{Files, IfTold}
 use Rattle.lert_bay.specs.Images.{KeepsImages}
@@ -9,7 +9,7 @@ use Rattle.lert_gatelog.specs.declared.fault.LogFault.{LogFault}
 use Rattle.lert_gatelog.specs.declared.fault.LogFault.TheVariants.{Failed as LogFailed, Malformed as LogMalformed}
 use Rattle.lert_gatelog.specs.Gated.{IsClosed, Log, next_gate}
 use Rattle.lert_gatelog.specs.Kept.{IsWhollySettled}
-use Rattle.lert_gatelog.proofs.GatedLaws.{byte_of_part, part_within, closed_behind}
+use Rattle.lert_gatelog.proofs.GatedLaws.{closed_behind}
 use Rattle.lert_journal.specs.Journal.{HoldsPacket}
 use Rattle.lert_journal.specs.Payload.{payload_of}
 use Rattle.lert_journal.proofs.PayloadLaws.{length_payload}
@@ -20,14 +20,12 @@ use Rattle.lert_spec.specs.declared.report.Report.{Report}
 use Rattle.lert_spec.specs.Edges.{capacity}
 use Rattle.lert_spec.specs.Limits.{IsValid}
 use Rattle.lert_cone.specs.declared.log_point.LogPoint.{LogPoint}
-use Rattle.lert_cone.specs.declared.refusal.ReplayFault.{ReplayFault}
 use Rattle.lert_cone.specs.declared.refusal.ReplayFault.TheVariants.{Failed, Unsound, OutOfMemory}
 use Rattle.lert_cone.specs.declared.state.ConeState.{ConeState}
-use Rattle.lert_cone.specs.declared.state.ConeState.TheVariants.{Running, Finished, BrokenByBay, Replaying}
+use Rattle.lert_cone.specs.declared.state.ConeState.TheVariants.{Running, Finished, Replaying}
 use Rattle.lert_cone.specs.declared.tally.TakeFault.{TakeFault}
 use Rattle.lert_cone.specs.declared.tally.TakeFault.TheVariants.{Failed as TakeFailed, Unsound as TakeUnsound, OutOfMemory as TakeOutOfMemory}
 use Rattle.lert_cone.specs.History.{most_payload}
-use Rattle.lert_cone.specs.InStep.{IsLogging}
 use Rattle.lert_cone.specs.Listing.{Listing}
 use Rattle.lert_cone.specs.Record.{LogPlace}
 use Rattle.lert_cone.specs.Replay.{IsOnWay, IsPast, IsNext, ReplayLeavesAt}
@@ -36,7 +34,7 @@ use Rattle.lert_cone.specs.Room.{room_of}
 use Rattle.lert_cone.specs.Stands.{Standing, StandsFor, IsCone, IsReplaying, WasSound, is_broken, is_finished}
 use Rattle.lert_cone.specs.Tally.{Tallied, IsRecounted}
 use Rattle.lert_cone.specs.Wrote.{IsShutIfTold, LeavesFile}
-use Rattle.lert_cone.proofs.GateLaws.{is_next, past_none, past_more}
+use Rattle.lert_cone.proofs.GateLaws.{is_next, past_none}
 use Rattle.lert_cone.proofs.ReplayLaws.{journal_on_way, whole_on_way}
 use Rattle.lert_cone.proofs.ReplayStep.{told_once}
 use Rattle.lert_cone.proofs.SoundLaws.{turns_back}

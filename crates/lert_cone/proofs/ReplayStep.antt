@@ -1,10 +1,9 @@
 -- Keys of a journal that is read again: the first of them are counted again, and the others are taken.
-use Rattle.std.proofs.Common.{◌≡◌, ℕ, ◌+◌, ◌-◌, ◌<◌, ◌≤◌, List, ◌++◌, length, take, drop, min, Option, Some, sym, ap, ◌∙◌, subst, arith, append_assoc, length-append, length-take, length-drop}
+use Rattle.std.proofs.Common.{◌≡◌, ℕ, ◌-◌, ◌<◌, ◌≤◌, List, ◌++◌, length, take, drop, min, Option, Some, sym, ap, ◌∙◌, subst, arith, append_assoc, length-append, length-take, length-drop}
 use Rattle.std.proofs.lemmas.Option.{same_Some}
 use Rattle.lert_base.specs.Packet.{Packet, events_of}
 use Rattle.lert_bay.specs.Files.{Files}
 use Rattle.lert_levels.specs.declared.bin_at.BinAt.{BinAt}
-use Rattle.lert_spec.specs.declared.report.Report.{Report}
 use Rattle.lert_cone.specs.Due.{Dues}
 use Rattle.lert_cone.specs.InStep.{IsInStep, IsPartway}
 use Rattle.lert_cone.specs.Listing.{Listing}

@@ -1,7 +1,7 @@
 -- Which lists a cone stands for: when it is made, through an append and the keys behind it, and when it is finished.
 use Rattle.std.proofs.Common.{◌≡◌, ◌≢◌, ℕ, ◌+◌, ◌-◌, ◌*◌, ◌^◌, ◌<◌, ◌≤◌, true, false, List, [], ◌∷◌, ◌++◌, length, Option, Some, None, All, Result, Ok, Err, OnOk, OnErr, cond, refl, sym, ap, ◌∙◌, subst, inl, inr, arith, length-append, append-nil}
 use Rattle.std.specs.Prelude.{replicate}
-use Rattle.std.proofs.lemmas.Bool.{false≢true, cases_lt}
+use Rattle.std.proofs.lemmas.Bool.{false≢true}
 use Rattle.std.proofs.lemmas.List.{take_at}
 use Rattle.std.proofs.lemmas.List.Elements.{All-append, All-nil, All-cons}
 use Rattle.std.specs.Result.{is_err}
@@ -10,7 +10,7 @@ use Rattle.lert_bay.specs.Files.{Files, IfTold, Turns}
 use Rattle.lert_bay.specs.Settled.{part}
 use Rattle.lert_gatelog.specs.Gated.{IsClosed, Log, next_gate}
 use Rattle.lert_gatelog.specs.Kept.{InEach, KeepsOthers, KeepsBefore, IsWhollySettled}
-use Rattle.lert_io.specs.Fault.{HasRisen, last_count}
+use Rattle.lert_io.specs.Fault.{HasRisen}
 use Rattle.lert_journal.specs.Journal.{HasPackets, HasPacketsOrOneMore}
 use Rattle.lert_journal.specs.Payload.{payload_of, IsJournaled}
 use Rattle.lert_journal.proofs.PayloadLaws.{length_payload}
@@ -170,13 +170,6 @@ module _ (leaves since : Files → Type 0) (seen : Files) (t : Tallied) (log : L
 pub when_ok : {T E X : Type 0} (result : Result T E) → is_err result ≡ false → OnOk result X → X
 when_ok (Ok _) answered holds = holds
 when_ok (Err _) answered holds = absurd (false≢true (sym answered))
-
--- a count that rose in a call rose since an earlier moment
-pub risen_since : (first before now : ℕ) → first ≤ before → before ≤ now → HasRisen before now → HasRisen first now
-risen_since first before now early later rose below = elim (cases_lt before last_count) [
-  | inl under ↦ omega (arith, early, rose under)
-  | inr over ↦ omega (arith, below, over, later)
-]
 
 pub when_err : {T E X : Type 0} (result : Result T E) → is_err result ≡ true → OnErr result X → X
 when_err (Ok _) refused holds = absurd (false≢true refused)

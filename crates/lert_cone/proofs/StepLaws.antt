@@ -1,7 +1,7 @@
 -- The files of a cone between two calls: when they are sound, and what they keep through calls that leave them alone.
-use Rattle.std.proofs.Common.{◌≡◌, ℕ, zero, suc, ◌+◌, ◌-◌, ◌^◌, ◌≤◌, Bool, true, false, cond, List, [], ◌∷◌, ◌++◌, length, take, drop, get_or, map, All, sym, ap, ◌∙◌, subst, inl, inr, ◌⊎◌, arith, length-append, slice_range}
+use Rattle.std.proofs.Common.{◌≡◌, ℕ, suc, ◌+◌, ◌-◌, ◌^◌, ◌≤◌, Bool, true, false, cond, List, [], ◌∷◌, ◌++◌, length, take, drop, get_or, map, All, sym, ap, ◌∙◌, subst, inl, inr, ◌⊎◌, arith, length-append, slice_range}
 use Rattle.std.specs.Prelude.{slice_index_or}
-use Rattle.std.proofs.lemmas.Bool.{cases_Bool, cases_eq, cases_lt, eq-eqb, ne_eqb}
+use Rattle.std.proofs.lemmas.Bool.{cases_Bool}
 use Rattle.std.proofs.lemmas.List.{take-take, take_all, take-append-le, get_or-map, map-append, length-take}
 use Rattle.std.proofs.lemmas.List.Elements.{Contains-get_or}
 use Rattle.lert_base.specs.Packet.{Packet, events_of}
@@ -23,7 +23,7 @@ use Rattle.lert_reports.specs.Log.{HasLog, AreRecords, listed_in, last_n0, last_
 use Rattle.lert_reports.specs.LogText.{LogRecord, log_payload_of}
 use Rattle.lert_spec.specs.declared.numbers.Numbers.{Numbers}
 use Rattle.lert_spec.specs.Bins.{Bin, bins, tallied}
-use Rattle.lert_spec.specs.Edges.{edge, span}
+use Rattle.lert_spec.specs.Edges.{span}
 use Rattle.lert_spec.specs.Limits.{IsValid}
 use Rattle.lert_spec.specs.Look.{look, closing}
 use Rattle.lert_spec.proofs.Tables.{length_le-total}
@@ -88,20 +88,6 @@ frames_since leaves since seen s events rows are read holds keeps image may leve
     ∙ here
 
 -- ---- when they are sound
-
--- a later event is no earlier flush
-pub last_flush_grows : (s : Numbers) (a b : ℕ) → a ≤ b → last_flush s a ≤ last_flush s b
-last_flush_grows s a zero less = omega (arith, last_flush_within s a, less)
-last_flush_grows s a (suc b) less =
-    elim (cases_lt a (suc b)) [
-      | inr same ↦ (let is : a ≡ suc b = omega (arith, less, same) in omega (arith, ap (last_flush s) is))
-      | inl below ↦ (
-          let rest = last_flush_grows s a b (omega (arith, below)) in
-          elim (cases_eq (edge s 0 (suc b)) (edge s 0 b)) [
-            | inl stays ↦ (let is : last_flush s (suc b) ≡ last_flush s b = ap (λ t. cond t (last_flush s b) (suc b)) (eq-eqb (edge s 0 (suc b)) (edge s 0 b) stays) in omega (arith, is, rest))
-            | inr moves ↦ (let is : last_flush s (suc b) ≡ suc b = ap (λ t. cond t (last_flush s b) (suc b)) (ne_eqb (edge s 0 (suc b)) (edge s 0 b) moves) in omega (arith, is, last_flush_within s a, less))
-          ])
-    ]
 
 -- a level's frames, from what its row's bins say
 to_frames : (s : Numbers) (events file : List ℕ) (level : ℕ) (row : List BinAt) → All (λ bin. HoldsFrame (frame_place s level bin.frame) file (tallied_in s events bin)) row →

@@ -183,6 +183,11 @@ impl<B: Bay, T: CountTable> Cone<B, T> {
           log = self.new.log;
         }) }
 
+        // After Ok each key that has reached the threshold is reported soon enough, or may still wait, and none stands there twice.
+        ensures in_time_so_far { OnOk result ((h : List Packet) → StandsFor B.files B.leaves B.faults self.old h → WasSound B.files self.old →
+            IfTold (B.files self.old.bay) (λ _. IsTimelySoFar self.old.listing.settings.threshold self.old.listing.settings.bins
+            (events_of (h ++ packet_of entry.now ∷ [])) self.new.reports)) }
+
         // A refusal leaves the lists, and the first three leave all.
         ensures stays { OnErr result ((h : List Packet) → StandsFor B.files B.leaves B.faults self.old h →
             StandsFor B.files B.leaves B.faults self.new h) }
@@ -267,6 +272,11 @@ impl<B: Bay, T: CountTable> Cone<B, T> {
           state = ConeState.Finished;
           log = self.new.log;
         }) }
+
+        // After Ok each key that has reached the threshold stands among the reports, and soon enough. No key stands there twice.
+        ensures in_time { OnOk result ((h : List Packet) → StandsFor B.files B.leaves B.faults self.old h → WasSound B.files self.old →
+            IfTold (B.files self.old.bay) (λ _. IsTimely self.old.listing.settings.threshold self.old.listing.settings.bins
+            (events_of h) self.new.reports)) }
 
         // A refusal leaves the list, and the first two leave all.
         ensures stays { OnErr result ((h : List Packet) → StandsFor B.files B.leaves B.faults self.old h →

@@ -27,5 +27,6 @@ pub use cone::Cone;
 pub use headers::is_fresh;
 pub use log_point::LogPoint;
 pub use refusal::{ConeFault, CreateFault, CreateRefused, ReplayFault};
+pub use report_log::greatest_record;
 pub use room::ConeRoom;
 pub use state::ConeState;

@@ -7,6 +7,7 @@ ghost use Rattle.lert_gatelog.specs.Gated.{IsClosed, IsGated, next_gate};
 ghost use Rattle.lert_gatelog.specs.Kept.{InEach, KeepsOthers, KeepsBefore, IsWhollySettled, IsWithOrWithout, OthersStay};
 ghost use Rattle.lert_io.specs.Fault.{HasCause};
 ghost use Rattle.lert_reports.specs.Log.{most_record};
+ghost use Rattle.lert_spec.specs.Limits.{IsValid};
 ghost use Rattle.lert_cone.specs.Record.{payload_at, payload_len};
 
 use crate::log_point::{FIRST, OFFSET};
@@ -22,6 +23,7 @@ use std::marker::Model;
 pub fn greatest_record(settings: &Settings) -> u32
     ensures value { result ≡ most_record settings.now }
     ensures most { result ≤ 67109029 }
+    ensures valid { IsValid settings.now }
 {
     let numbers = settings.numbers();
     29 + numbers.levels as u32 * (1 + numbers.bins as u32) + 16 * numbers.room as u32

@@ -1,6 +1,6 @@
 -- What the first bytes of a journal say: that it is a cone's own, that it was written with other numbers, or where they
 -- leave the format.
-use Rattle.std.specs.Prelude.{◌≡◌, ◌≢◌, ℕ, ◌<◌, List, length, take, nat_lt, Option, Some, None, if◌then◌else◌}
+use Rattle.std.specs.Prelude.{◌≡◌, ◌≢◌, ℕ, ◌<◌, List, length, take, Some, None}
 use Rattle.std.proofs.Common.{◌⊎◌}
 use Rattle.lert_base.specs.declared.kept.Kept.{Kept}
 use Rattle.lert_journal.specs.Header.{header, header_left, kept_in}

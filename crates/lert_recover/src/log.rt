@@ -10,7 +10,6 @@ ghost use Rattle.lert_levels.specs.Named.{IsDirectory};
 ghost use Rattle.lert_recover.specs.Read.{IsReadOf, IsPoint, AreReportsUpTo};
 ghost use Rattle.lert_reports.specs.Log.{log_header, most_record, HasLog, LogLeavesAt};
 ghost use Rattle.lert_reports.specs.LogText.{LogRecord};
-ghost use Rattle.lert_spec.specs.Limits.{IsValid};
 
 use crate::beginning::{LOG_HEADER_LEN, read_log_header};
 use crate::directory::Directory;
@@ -18,7 +17,7 @@ use crate::fault::ReopenFault;
 use crate::step::{Progress, read_record};
 use lert_base::{CountTable, Settings};
 use lert_bay::{Bay, LOG};
-use lert_cone::LogPoint;
+use lert_cone::{LogPoint, greatest_record};
 use lert_gatelog::GateLog;
 use lert_reports::ReportStore;
 
@@ -101,7 +100,7 @@ fn read_records<B: Bay, T: CountTable>(
     ensures failed { IsErrOf result ReopenFault.Failed → HasRisen (B.faults bay.old) (B.faults bay.new) }
     ensures mark { B.mark bay.new ≡ B.mark bay.old }
 {
-    let mut log = GateLog::at_gate(LOG, LOG_HEADER_LEN as u64, most_record(settings));
+    let mut log = GateLog::at_gate(LOG, LOG_HEADER_LEN as u64, greatest_record(settings));
     let mut progress = Progress::new();
     directory.clear(settings.numbers().levels as usize);
     'records: loop {
@@ -124,14 +123,4 @@ fn read_records<B: Bay, T: CountTable>(
             });
         }
     }
-}
-
-// The greatest payload of a record.
-fn most_record(settings: &Settings) -> u32
-    ensures value { result ≡ most_record settings.now }
-    ensures within { result < 2 ^ 27 }
-    ensures valid { IsValid settings.now }
-{
-    let numbers = settings.numbers();
-    (29 + numbers.levels * (1 + numbers.bins) + 16 * numbers.room) as u32
 }

@@ -1,4 +1,4 @@
-use Rattle.std.proofs.Common.{◌≡◌, ◌∙◌, ◌+◌, ◌-◌, ◌<◌, ◌≤◌, ◌++◌, ℕ, List, All, length, take, drop, min, ap, sym, subst, arith, rules, length-append}
+use Rattle.std.proofs.Common.{◌≡◌, ◌∙◌, ◌-◌, ◌<◌, ◌++◌, ℕ, List, All, length, drop, min, ap, sym, subst, arith, rules, length-append}
 use Rattle.std.proofs.lemmas.List.Elements.{All-drop}
 use Rattle.lert_bay.specs.Files.{Files}
 use Rattle.lert_spec.specs.Mix.{cone_of}

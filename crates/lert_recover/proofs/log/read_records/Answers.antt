@@ -16,7 +16,7 @@ records-init g c = record {
   has = read_none c.args.settings.now c.args.cone c.new-progress.result c.args.store.now.reports c.clear.new.self c.new-progress.ensures c.requires.empty (c.clear.ensures ∙ ap (λ (n : Numbers). replicate n.levels 0) c.numbers.ensures.value);
   up = λ seen told headed. up_none c.args.settings.now c.args.cone (seen 1) c.at_gate-log.result.gate headed (ap (λ (log : Log). log.gate) c.at_gate-log.ensures);
   file = ap (λ (log : Log). log.file) c.at_gate-log.ensures;
-  most = ap (λ (log : Log). log.most) c.at_gate-log.ensures ∙ c.most_record.ensures.value;
+  most = ap (λ (log : Log). log.most) c.at_gate-log.ensures ∙ c.greatest_record.ensures.value;
   reach = omega (arith, ap (λ (log : Log). log.gate) c.at_gate-log.ensures);
   same = refl;
   only_read = search rules;
@@ -27,15 +27,15 @@ records-init g c = record {
 pub read_record-requires-clause-reach : goal.read_record-requires-clause-reach
 read_record-requires-clause-reach g c =
     let now = c.records.invariant in
-    near c.args.settings.now c.args.cone c.most_record.ensures.valid c.records.progress c.records.store.reports c.records.directory now.records now.has
-    c.records.log.gate now.reach (omega (arith, c.most_record.ensures.within, c.most_record.ensures.value))
+    near c.args.settings.now c.args.cone c.greatest_record.ensures.valid c.records.progress c.records.store.reports c.records.directory now.records now.has
+    c.records.log.gate now.reach (omega (arith, c.greatest_record.ensures.most, c.greatest_record.ensures.value))
 
 pub returns-then-not-branch-clause-reach : goal.returns-then-not-branch-clause-reach
 returns-then-not-branch-clause-reach g c =
     let now = c.records.invariant in
     let waits = c.in_ok-read_record.ensures.waits c.if-not-branch.true in
-    let here = near c.args.settings.now c.args.cone c.most_record.ensures.valid c.records.progress c.records.store.reports c.records.directory now.records now.has
-    c.records.log.gate now.reach (omega (arith, c.most_record.ensures.within, c.most_record.ensures.value)) in
+    let here = near c.args.settings.now c.args.cone c.greatest_record.ensures.valid c.records.progress c.records.store.reports c.records.directory now.records now.has
+    c.records.log.gate now.reach (omega (arith, c.greatest_record.ensures.most, c.greatest_record.ensures.value)) in
     omega (arith, here, ap (λ (log : Log). log.gate) waits.0, c.gate.ensures.value)
 
 pub returns-in_err-read_record-clause-malformed : goal.returns-in_err-read_record-clause-malformed
@@ -49,7 +49,7 @@ pub records-smaller : goal.records-smaller
 records-smaller g c =
     let s = c.args.settings.now in
     let now = c.records.invariant in
-    let few = steps_few s c.args.cone c.most_record.ensures.valid c.records.progress c.records.store.reports c.records.directory now.records now.has in
+    let few = steps_few s c.args.cone c.greatest_record.ensures.valid c.records.progress c.records.store.reports c.records.directory now.records now.has in
     let one_more = c.in_ok-read_record.ensures.steps c.if-not-branch.false in
     let falls : capacity s + 2 - steps c.read_record.new.progress < capacity s + 2 - steps c.records.progress = omega (arith, few, one_more) in
     falls

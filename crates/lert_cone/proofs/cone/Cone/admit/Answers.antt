@@ -8,17 +8,21 @@ use Rattle.lert_gatelog.specs.Gated.{IsClosed, Log, next_gate}
 use Rattle.lert_gatelog.specs.Kept.{KeepsOthers, KeepsBefore, IsWhollySettled, OthersStay}
 use Rattle.lert_journal.specs.Payload.{IsJournaled, payload_of}
 use Rattle.lert_spec.specs.Edges.{capacity}
+use Rattle.lert_spec.specs.declared.numbers.Numbers.{Numbers}
 use Rattle.lert_spec.specs.Look.{look}
+use Rattle.lert_spec.specs.Timely.{IsTimelySoFar}
 use Rattle.lert_cone.specs.declared.refusal.ConeFault.TheVariants.{Unsound}
 use Rattle.lert_cone.specs.declared.state.ConeState.TheVariants.{Running}
 use Rattle.lert_cone.specs.InStep.{IsLogging, IsPartway}
 use Rattle.lert_cone.specs.Listing.{Listing}
 use Rattle.lert_cone.specs.Sound.{IsKept, IsSoundOver}
-use Rattle.lert_cone.specs.Stands.{Standing, over_of, is_broken, is_finished, broken_by}
+use Rattle.lert_cone.specs.Stands.{Standing, WasSound, over_of, is_broken, is_finished, broken_by}
 use Rattle.lert_cone.specs.Wrote.{IsShutIfTold}
 use Rattle.lert_reports.specs.Stored.{Stored}
-use Rattle.lert_cone.proofs.StandLaws.{sound_appending, up_appended, records_there, each_there, partway_packet, whole_of, stands_broken, broken_cone, more_cone, stands_whole, some_more, keys_more, kept_since, any_turn, turns_on, turned_none, reports_running, untold, is_broken_by, not_replaying_by, by_bay_of, by_read_of, unsound_of, when_ok, when_err, risen_since, appended_there}
+use Rattle.lert_io.proofs.Rising.{risen_since}
+use Rattle.lert_cone.proofs.StandLaws.{sound_appending, up_appended, records_there, each_there, partway_packet, whole_of, stands_broken, broken_cone, more_cone, stands_whole, some_more, keys_more, kept_since, any_turn, turns_on, turned_none, reports_running, untold, is_broken_by, not_replaying_by, by_bay_of, by_read_of, unsound_of, when_ok, when_err, appended_there}
 use Rattle.lert_cone.proofs.SoundLaws.{turns_back, counted_more, end_more}
+use Rattle.lert_cone.proofs.TimeLaws.{timely_so_far}
 use Rattle.lert_cone.proofs.WroteLaws.{leaves_others, settled_through, shut_through}
 use Rattle.lert_cone.proofs.cone.Cone.admit.Goals as goal
 
@@ -364,3 +368,13 @@ returns-in-Err-clause-shows g c = λ file at same.
     let answer : c.from.result ≡ Unsound file at = cc in
     let fault_is = unsound_of c.in-Err.fault file at (sym c.from.ensures ∙ answer) in
     λ seen told. c.take_keys.ensures.shows seen told file at (c.in-Err.is ∙ ap Err fault_is)
+
+pub returns-clause-in_time_so_far : goal.returns-clause-in_time_so_far
+returns-clause-in_time_so_far g c = λ h stands sound seen told.
+    let ok = subst (λ (v : Standing g.row.B.Denot). (v.state ≡ Running) × (v.events + c.len-len.result ≤ capacity v.listing.settings)) (sym c.self.view_is) c.in_ok-test.ensures.ok in
+    let still = c.self.invariant.closed (ap is_broken ok.0) ∙ ap is_finished ok.0 in
+    let new_is = returns-clause-taken g c in
+    let after = (returns-clause-seen g c).told seen told in
+    subst (λ (settings : Numbers). IsTimelySoFar settings.threshold settings.bins (events_of (h ++ (packet_of c.args.entry.now) ∷ [])) c.take_keys.new.tally.due.reports) (ap (λ (v : Standing g.row.B.Denot). v.listing.settings) new_is)
+    (timely_so_far g.B.Bay.files g.B.Bay.leaves g.B.Faulty.faults _ (h ++ (packet_of c.args.entry.now) ∷ []) (ap is_broken ok.0) (ap (λ (l : Listing). l.closed) c.take_keys.ensures.listing ∙ still)
+    (returns-clause-stands_for g c h stands) (subst (λ (v : Standing g.row.B.Denot). WasSound g.B.Bay.files v) (sym new_is) sound) after.0 after.1)

@@ -1,9 +1,8 @@
-use Rattle.std.proofs.Common.{◌≡◌, ◌∙◌, List, length, ap, subst, sym}
+use Rattle.std.proofs.Common.{◌≡◌, ◌∙◌, length, ap, sym}
 use Rattle.lert_base.specs.Keys.{Keys}
 use Rattle.lert_gatelog.specs.Gated.{Log}
 use Rattle.lert_reports.specs.Log.{most_record}
 use Rattle.lert_spec.specs.declared.report.Report.{Report}
-use Rattle.lert_cone.specs.Record.{LogPlace}
 use Rattle.lert_cone.proofs.AdoptLaws.{adopted}
 use Rattle.lert_cone.proofs.ReplayStands.{adopted_cone, adopted_replays}
 use Rattle.lert_cone.proofs.cone.Cone.adopt.Goals as goal

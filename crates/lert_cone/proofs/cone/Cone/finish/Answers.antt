@@ -1,16 +1,21 @@
-use Rattle.std.proofs.Common.{rules, ◌≡◌, ◌∙◌, Err, refl, length, ap, sym, subst, inl}
+use Rattle.std.proofs.Common.{rules, ◌≡◌, ◌∙◌, List, Err, refl, length, ap, sym, subst, inl}
 use Rattle.std.specs.List.{length_refill}
-use Rattle.lert_base.specs.Packet.{events_of}
+use Rattle.lert_base.specs.Packet.{Packet, events_of}
+use Rattle.lert_bay.specs.Files.{IfTold}
+use Rattle.lert_spec.specs.declared.numbers.Numbers.{Numbers}
 use Rattle.lert_spec.specs.Look.{closing}
+use Rattle.lert_spec.specs.Timely.{IsTimely}
 use Rattle.lert_cone.specs.declared.refusal.ConeFault.TheVariants.{Unsound}
 use Rattle.lert_cone.specs.declared.state.ConeState.TheVariants.{Running, Finished}
 use Rattle.lert_cone.specs.InStep.{IsLogging}
 use Rattle.lert_cone.specs.Listing.{Listing}
-use Rattle.lert_cone.specs.Sound.{IsKept, IsSoundAs, IsSoundOver}
-use Rattle.lert_cone.specs.Stands.{Standing, over_of, is_broken, is_finished, broken_by}
+use Rattle.lert_cone.specs.Sound.{IsKept, IsSound, IsSoundAs, IsSoundOver}
+use Rattle.lert_cone.specs.Stands.{Standing, WasSound, over_of, is_broken, is_finished, broken_by}
 use Rattle.lert_reports.specs.Stored.{Stored}
 use Rattle.lert_cone.proofs.SoundLaws.{turns_back}
-use Rattle.lert_cone.proofs.StandLaws.{whole_of, stands_whole, stands_broken, ended_cone, broken_cone, any_turn, kept_since, reports_finished, turned_none, untold, risen_since, is_broken_by, not_replaying_by, by_bay_of, by_read_of, unsound_of}
+use Rattle.lert_io.proofs.Rising.{risen_since}
+use Rattle.lert_cone.proofs.StandLaws.{whole_of, stands_whole, stands_broken, ended_cone, broken_cone, any_turn, kept_since, reports_finished, turned_none, untold, is_broken_by, not_replaying_by, by_bay_of, by_read_of, unsound_of}
+use Rattle.lert_cone.proofs.TimeLaws.{timely}
 use Rattle.lert_cone.proofs.cone.Cone.finish.Goals as goal
 
 pub close-requires-clause-still : goal.close-requires-clause-still
@@ -134,3 +139,12 @@ returns-in-Err-clause-shows g c = λ file at same.
     let answer : c.from.result ≡ Unsound file at = cc in
     let fault_is = unsound_of c.in-Err.fault file at (sym c.from.ensures ∙ answer) in
     λ seen told. c.close.ensures.shows seen told file at (c.in-Err.is ∙ ap Err fault_is)
+
+pub returns-clause-in_time : goal.returns-clause-in_time
+returns-clause-in_time g c = λ h stands sound seen told.
+    let is = (c.close.ensures.listing ∙ ap (λ closed. record { settings = c.self.inside.tally.listing.settings; cone = c.self.inside.tally.listing.cone; events = c.self.inside.tally.listing.events; closed = closed }) c.in_default.ensures.closed) in
+    let was : WasSound g.B.Bay.files (record { bay = c.self.inside.bay; made = c.self.inside.made.value; listing = c.self.inside.tally.listing; rows = c.self.inside.tally.rows; reports = c.self.inside.tally.due.reports; events = c.self.inside.events; state = c.self.inside.state; over = over_of c.self.inside.over; gate = c.self.inside.journal.gate; log = c.self.inside.log; last = c.self.inside.last }) = subst (λ (v : Standing g.row.B.Denot). WasSound g.B.Bay.files v) (sym c.self.view_is) sound in
+    let after = (returns-clause-seen g c).told seen told in
+    subst (λ (settings : Numbers). IsTimely settings.threshold settings.bins (events_of h) c.close.new.tally.due.reports) (ap (λ (l : Listing). l.settings) is ∙ ap (λ (v : Standing g.row.B.Denot). v.listing.settings) c.self.view_is)
+    (timely g.B.Bay.files g.B.Bay.leaves g.B.Faulty.faults _ h refl (ap (λ (l : Listing). l.closed) is) (returns-clause-stands_for g c h stands)
+    (subst (λ (l : Listing). IfTold (g.B.Bay.files c.self.inside.made.value) (λ first. (history : List Packet) × IsSound l.settings l.cone history first)) (sym is) was) after.0 after.1)

@@ -1,7 +1,7 @@
-use Rattle.std.proofs.Common.{rules, ◌≡◌, ◌∙◌, ℕ, ◌+◌, ◌*◌, ◌<◌, ◌≤◌, ◌++◌, ◌∷◌, [], Bool, List, length, take, drop, Some, Err, IsTrue, IsFalse, refl, sym, ap, subst, inl, ◌⊎◌, arith, length-append}
+use Rattle.std.proofs.Common.{rules, ◌≡◌, ◌∙◌, ℕ, ◌+◌, ◌*◌, ◌++◌, ◌∷◌, [], List, length, take, drop, Some, Err, IsTrue, IsFalse, refl, sym, ap, subst, inl, ◌⊎◌, arith, length-append}
 use Rattle.std.specs.List.{length_refill}
 use Rattle.lert_base.specs.Entries.{packet_of}
-use Rattle.lert_base.specs.Packet.{Packet, events_of}
+use Rattle.lert_base.specs.Packet.{events_of}
 use Rattle.lert_bay.specs.Files.{Files}
 use Rattle.lert_gatelog.specs.Gated.{IsClosed, Log, next_gate}
 use Rattle.lert_journal.specs.Journal.{HoldsPacket}
@@ -14,14 +14,15 @@ use Rattle.lert_cone.specs.History.{most_payload}
 use Rattle.lert_cone.specs.InStep.{IsLogging}
 use Rattle.lert_cone.specs.Listing.{Listing}
 use Rattle.lert_cone.specs.Replay.{IsOnWay, IsPast, ReplayLeavesAt}
-use Rattle.lert_cone.specs.Replays.{WhyRefused, of_log_fault}
+use Rattle.lert_cone.specs.Replays.{WhyRefused}
 use Rattle.lert_cone.specs.Room.{room_of}
-use Rattle.lert_cone.specs.Stands.{Standing, broken_by, is_broken, over_of}
+use Rattle.lert_cone.specs.Stands.{Standing, is_broken, over_of}
 use Rattle.lert_cone.proofs.GateLaws.{keys_next, past_more, ends_there}
 use Rattle.lert_cone.proofs.ReplayLaws.{journal_on_way, never_on_way, on_way_read}
 use Rattle.lert_cone.proofs.ReplayStands.{leaves_listing, near_then, never_unsound, next_there, unsound_keys, only_by_bay, only_failed, read_settled, read_shut, refused_keys, refused_record, replaying_cone, settled_then, shut_there}
 use Rattle.lert_cone.proofs.ReplayStep.{told_once}
-use Rattle.lert_cone.proofs.StandLaws.{broken_cone, by_bay_of, is_broken_by, not_replaying_by, risen_since}
+use Rattle.lert_io.proofs.Rising.{risen_since}
+use Rattle.lert_cone.proofs.StandLaws.{broken_cone, by_bay_of, is_broken_by, not_replaying_by}
 use Rattle.lert_cone.proofs.WroteLaws.{leaves_on, leaves_read}
 use Rattle.lert_cone.proofs.cone.Cone.replay.Goals as goal
 
