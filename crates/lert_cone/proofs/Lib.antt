@@ -14,6 +14,7 @@ pub mod ReplayStep
 pub mod RecountLaws
 pub mod RoomLaws
 pub mod SoundLaws
+pub mod SomeLaws
 pub mod StandLaws
 pub mod StepLaws
 pub mod TakeLaws

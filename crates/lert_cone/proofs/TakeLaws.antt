@@ -24,9 +24,11 @@ use Rattle.lert_levels.specs.Young.{Young, with_event}
 use Rattle.lert_cone.specs.declared.tally.TakeFault.{TakeFault}
 use Rattle.lert_cone.specs.declared.tally.TakeFault.TheVariants.{Unsound}
 use Rattle.lert_cone.specs.Due.{Dues, TookFrom, due_reports, started}
+use Rattle.lert_cone.specs.Framed.{HoldsSome}
 use Rattle.lert_cone.specs.Tally.{Tallied, IsCounted, IsHeld, AreYoung, Shows, totals_at, take_fault}
 use Rattle.lert_cone.proofs.KeyLemmas.{AreKeys-push, AreOfCone-push}
 use Rattle.lert_cone.proofs.RoomLaws.{look_fits, closing_fits}
+use Rattle.lert_cone.proofs.SomeLaws.{with_key, with_key_len, with_key_young, with_key_holds, with_key_some}
 use Rattle.lert_cone.proofs.TallyLaws.{next_from, next_bins, frames_more}
 use Rattle.lert_cone.proofs.TotalLaws.{closing_is, totals_table, look_is}
 
@@ -66,9 +68,11 @@ module _ (t : Tallied) (ls : Numbers) (levels_are : ls ≡ t.listing.settings) (
   added_here : young ≡ with_event t.young tail (suc (length t.listing.events))
   added_here = added ∙ ap (with_event t.young tail) m_is
 
+  from_now : young.from ≡ edge t.listing.settings 0 (length t.listing.events)
+  from_now = ap (λ (y : Young). y.from) added_here ∙ next_from t.listing.settings valid t.young t.listing.events key young_settings counted.from counted.to counted.bins.is fits tail
+
   pub young_now : AreYoung ls all young.from young.bins
   young_now =
-      let from_now = ap (λ (y : Young). y.from) added_here ∙ next_from t.listing.settings valid t.young t.listing.events key young_settings counted.from counted.to counted.bins.is fits tail in
       record {
         is = ap (λ (y : Young). y.bins) added_here
             ∙ next_bins t.listing.settings valid t.young t.listing.events key young_settings counted.from counted.to counted.bins.is fits tail tail_is
@@ -79,6 +83,33 @@ module _ (t : Tallied) (ls : Numbers) (levels_are : ls ≡ t.listing.settings) (
   frames_now seen held =
       subst (λ (v : Numbers). HoldsBins v all t.rows (seen 2)) (sym levels_are)
       (frames_more t.listing.settings valid t.listing.events (key ∷ []) t.rows (seen 2) counted.rows held.frames)
+
+  -- where the frames hold the bins of some events, whatever these are, level 0 has those of the same ones with the cone's newest
+  -- behind them
+  module _ (file : List ℕ) (some : HoldsSome t.listing.settings (length t.listing.events) t.rows file) where
+    abbrev pub others : List ℕ
+    others = with_key t.listing.settings valid t.listing.events key t.rows file counted.rows some
+
+    pub others_long : length others ≡ m
+    others_long = with_key_len t.listing.settings valid t.listing.events key t.rows file counted.rows some ∙ sym m_is
+
+    pub others_young : AreYoung ls others young.from young.bins
+    others_young = record {
+      is = young_now.is
+          ∙ ap₂ (λ (v : Numbers) (p : ℕ). young_bins v all p) levels_are from_now
+          ∙ sym (with_key_young t.listing.settings valid t.listing.events key t.rows file counted.rows some)
+          ∙ ap₂ (λ (v : Numbers) (p : ℕ). young_bins v others p) (sym levels_are) (sym from_now);
+    }
+
+    pub others_frames : HoldsBins ls others t.rows file
+    others_frames = subst (λ (v : Numbers). HoldsBins v others t.rows file) (sym levels_are) (with_key_holds t.listing.settings valid t.listing.events key t.rows file counted.rows some)
+
+    pub others_next : (rows : List (List BinAt)) (after : List ℕ) → IsAt ls m rows → HoldsBins ls others rows after → HoldsSome t.listing.settings (length all) rows after
+    others_next rows after at holds =
+        subst (λ n. HoldsSome t.listing.settings n rows after) (sym m_is ∙ sym all_long)
+        (with_key_some t.listing.settings valid t.listing.events key t.rows file counted.rows some rows after
+        (subst (λ n. IsAt t.listing.settings n rows) m_is (subst (λ (v : Numbers). IsAt v m rows) levels_are at))
+        (subst (λ (v : Numbers). HoldsBins v others rows after) levels_are holds))
 
   module _ (below : key < 2 ^ 64) (own : cone_of t.listing.settings key ≡ t.listing.cone) (start due : Dues) (start_is : start ≡ started t.due m) where
     start_settings : start.settings ≡ t.listing.settings

@@ -1,5 +1,7 @@
--- The last flush of a cone.
-use Rattle.std.specs.Prelude.{ℕ, zero, suc, ◌==◌, List, length, take, if◌then◌else◌}
+-- The last flush of a cone, and what its frames hold whatever the journal has.
+use Rattle.std.specs.Prelude.{◌≡◌, ℕ, zero, suc, ◌==◌, List, length, take, if◌then◌else◌}
+use Rattle.lert_levels.specs.declared.bin_at.BinAt.{BinAt}
+use Rattle.lert_levels.specs.Rows.{HoldsBins}
 use Rattle.lert_spec.specs.declared.numbers.Numbers.{Numbers}
 use Rattle.lert_spec.specs.Edges.{edge}
 
@@ -11,3 +13,10 @@ last_flush s (suc n) = if edge s 0 (suc n) == edge s 0 n then last_flush s n els
 -- the events up to the last flush
 abbrev pub flushed : Numbers → List ℕ → List ℕ
 flushed s events = take (last_flush s (length events)) events
+
+-- the frames that the rows name hold the bins of some events, as many as the older levels have after n events, whatever
+-- events these are
+pub record HoldsSome (s : Numbers) (n : ℕ) (rows : List (List BinAt)) (file : List ℕ) : Type 0 where
+  pub events : List ℕ
+  pub len : length events ≡ edge s 0 n
+  pub holds : HoldsBins s events rows file

@@ -1,12 +1,13 @@
 //! The keys of a packet and the end of a cone, each with the record that the log gets behind it.
 
-ghost use Rattle.std.specs.Prelude.{◌≡◌, ◌≢◌, ℕ, ◌+◌, ◌^◌, ◌≤◌, ◌<◌, true, false, List, [], ◌∷◌, ◌++◌, length, All, OnOk, OnErr, IsErrOf, Err};
+ghost use Rattle.std.specs.Prelude.{◌≡◌, ◌≢◌, ℕ, ◌+◌, ◌^◌, max, ◌≤◌, ◌<◌, true, false, List, [], ◌∷◌, ◌++◌, length, All, OnOk, OnErr, IsErrOf, Err};
 ghost use Rattle.lert_base.specs.Packet.{Packet, events_of};
 ghost use Rattle.lert_bay.specs.Files.{Files, IfTold, Turns};
 ghost use Rattle.lert_bay.specs.Images.{Lasts};
 ghost use Rattle.lert_io.specs.Fault.{HasRisen};
 ghost use Rattle.lert_spec.specs.Edges.{capacity};
 ghost use Rattle.lert_spec.specs.Mix.{cone_of};
+ghost use Rattle.lert_cone.specs.Framed.{HoldsSome};
 ghost use Rattle.lert_cone.specs.InStep.{IsInStep, IsLogging, IsPartway};
 ghost use Rattle.lert_cone.specs.Sound.{IsSound};
 ghost use Rattle.lert_cone.specs.Replay.{IsOnWay};
@@ -59,6 +60,12 @@ pub fn take_keys<B: Bay, T: CountTable>(
     ensures sound { IfTold (B.files bay.old) (λ seen. (history : List Packet) → IsPartway tally.old.listing.settings history tally.old.listing.events keys.now →
         IsInStep (B.leaves bay.old) seen history tally.old.listing tally.old.rows tally.old.due.reports log.old →
         (file at : ℕ) → result ≢ Err (TakeFault.Unsound file at)) }
+
+    // Where the frames hold the bins of some events, whatever these are, they do so again, and none is found malformed.
+    ensures framed { IfTold (B.files bay.old) (λ seen. HoldsSome tally.old.listing.settings (length tally.old.listing.events) tally.old.rows (seen 2) →
+        OnOk result (IfTold (B.files bay.new) (λ after. HoldsSome tally.new.listing.settings (length tally.new.listing.events) tally.new.rows (after 2)))) }
+    ensures whole { IfTold (B.files bay.old) (λ seen. HoldsSome tally.old.listing.settings (length tally.old.listing.events) tally.old.rows (seen 2) →
+        (at : ℕ) → result ≢ Err (TakeFault.Unsound 2 at)) }
     ensures shows { IfTold (B.files bay.new) (λ seen. (file at : ℕ) → IsErrOf result (TakeFault.Unsound file at) →
         Shows tally.new.listing.settings tally.new.rows tally.new.due.reports (seen 2) file at) }
     ensures journal { LeavesFile 0 (B.files bay.old) (B.files bay.new) (B.leaves bay.old) (B.leaves bay.new) (B.moment bay.old) (B.moment bay.new) (B.left_since bay.old) (B.left_since bay.new) }
@@ -101,6 +108,10 @@ fn take_key<B: Bay, T: CountTable>(
     ensures sound { IfTold (B.files bay.old) (λ seen. (history : List Packet) →
         IsInStep (B.leaves bay.old) seen history tally.old.listing tally.old.rows tally.old.due.reports log.old →
         (file at : ℕ) → result ≢ Err (TakeFault.Unsound file at)) }
+    ensures framed { IfTold (B.files bay.old) (λ seen. HoldsSome tally.old.listing.settings (length tally.old.listing.events) tally.old.rows (seen 2) →
+        OnOk result (IfTold (B.files bay.new) (λ after. HoldsSome tally.new.listing.settings (length tally.new.listing.events) tally.new.rows (after 2)))) }
+    ensures whole { IfTold (B.files bay.old) (λ seen. HoldsSome tally.old.listing.settings (length tally.old.listing.events) tally.old.rows (seen 2) →
+        (at : ℕ) → result ≢ Err (TakeFault.Unsound 2 at)) }
     ensures shows { IfTold (B.files bay.new) (λ seen. (file at : ℕ) → IsErrOf result (TakeFault.Unsound file at) →
         Shows tally.new.listing.settings tally.new.rows tally.new.due.reports (seen 2) file at) }
     ensures journal { LeavesFile 0 (B.files bay.old) (B.files bay.new) (B.leaves bay.old) (B.leaves bay.new) (B.moment bay.old) (B.moment bay.new) (B.left_since bay.old) (B.left_since bay.new) }
@@ -149,6 +160,11 @@ pub fn replay_keys<B: Bay, T: CountTable>(
     ensures sound { IfTold (B.files bay.old) (λ seen. (history : List Packet) (rest : List ℕ) → events_of history ≡ tally.old.listing.events ++ (keys.now ++ rest) →
         IsOnWay (B.leaves bay.old) seen history tally.old.listing tally.old.rows tally.old.due.reports log.old n0 →
         (file at : ℕ) → result ≢ Err (TakeFault.Unsound file at)) }
+    // Where the frames hold the bins of some events, whatever these are, they do so again, and none is found malformed.
+    ensures framed { IfTold (B.files bay.old) (λ seen. HoldsSome tally.old.listing.settings (max n0 (length tally.old.listing.events)) tally.old.rows (seen 2) →
+        OnOk result (IfTold (B.files bay.new) (λ after. HoldsSome tally.new.listing.settings (max n0 (length tally.new.listing.events)) tally.new.rows (after 2)))) }
+    ensures whole { IfTold (B.files bay.old) (λ seen. HoldsSome tally.old.listing.settings (max n0 (length tally.old.listing.events)) tally.old.rows (seen 2) →
+        (at : ℕ) → result ≢ Err (TakeFault.Unsound 2 at)) }
     ensures shows { IfTold (B.files bay.new) (λ seen. (file at : ℕ) → IsErrOf result (TakeFault.Unsound file at) →
         Shows tally.new.listing.settings tally.new.rows tally.new.due.reports (seen 2) file at) }
     ensures journal { LeavesFile 0 (B.files bay.old) (B.files bay.new) (B.leaves bay.old) (B.leaves bay.new) (B.moment bay.old) (B.moment bay.new) (B.left_since bay.old) (B.left_since bay.new) }

@@ -10,6 +10,7 @@ ghost use Rattle.lert_gatelog.specs.Kept.{InEach};
 ghost use Rattle.lert_levels.specs.Flushed.{InNamed};
 ghost use Rattle.lert_levels.specs.Landing.{KeepsRest};
 ghost use Rattle.lert_levels.specs.Rows.{IsAt, AreRows, HoldsBins, directory_text};
+ghost use Rattle.lert_cone.specs.Framed.{HoldsSome};
 
 use crate::due::Due;
 use bringing::{bring, scan_into};
@@ -225,6 +226,11 @@ impl<T: CountTable> Tally<T> {
         ensures sound { IfTold (B.files bay.old) (λ seen. IsHeld self.old seen → (file at : ℕ) → result ≢ Err (TakeFault.Unsound file at)) }
         ensures shows { IfTold (B.files bay.new) (λ seen. (file at : ℕ) → IsErrOf result (TakeFault.Unsound file at) →
             Shows self.new.listing.settings self.new.rows self.new.due.reports (seen 2) file at) }
+        // Where the frames hold the bins of some events, whatever these are, they do so again, and none is found malformed.
+        ensures framed { IfTold (B.files bay.old) (λ seen. HoldsSome self.old.listing.settings (length self.old.listing.events) self.old.rows (seen 2) →
+            OnOk result (IfTold (B.files bay.new) (λ after. HoldsSome self.new.listing.settings (length self.new.listing.events) self.new.rows (after 2)))) }
+        ensures whole { IfTold (B.files bay.old) (λ seen. HoldsSome self.old.listing.settings (length self.old.listing.events) self.old.rows (seen 2) →
+            (at : ℕ) → result ≢ Err (TakeFault.Unsound 2 at)) }
         ensures images { IfTold (B.files bay.old) (λ seen. IsHeld self.old seen → InEach (B.leaves bay.old) 2 (HoldsBins self.old.listing.settings self.old.listing.events self.old.rows) →
             OnOk result (IfTold (B.files bay.new) (λ _. InEach (B.leaves bay.new) 2 (HoldsBins self.new.listing.settings self.new.listing.events self.new.rows)))) }
         ensures rest { KeepsRest (InNamed self.old.listing.settings self.old.rows) (B.files bay.old) (B.files bay.new) (B.leaves bay.old) (B.moment bay.old) (B.moment bay.new) (B.left_since bay.old) (B.left_since bay.new) }

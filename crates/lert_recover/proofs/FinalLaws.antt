@@ -20,7 +20,7 @@ use Rattle.lert_recover.specs.declared.fault.ReopenFault.TheVariants.{Failed, Ma
 use Rattle.lert_recover.specs.Headed.{HasOther}
 use Rattle.lert_recover.specs.Opened.{AreOpened}
 use Rattle.lert_recover.specs.Replayed.{AreInFormat, FirstLeaves, Before_records, In_records, JournalEnds, JournalLeavesAt}
-use Rattle.lert_recover.specs.Reopened.{IsReopened, IsReopenRefused, Of_call, Of_memory, Of_place, Of_header, Of_sight, IsSeenUnsound}
+use Rattle.lert_recover.specs.Reopened.{IsReopened, IsReopenRefused, Of_call, Of_memory, Of_place, Of_header, Of_sight, IsUnsoundAt}
 use Rattle.lert_recover.proofs.OpenedLaws.{IsOutside, left_or_other, no_other, one_header, one_place, opened_or_left}
 use Rattle.lert_recover.proofs.ReplayedLaws.{ends_from_start, ends_here, ends_or_leaves, journal_of, one_journal_place}
 
@@ -112,66 +112,65 @@ module _ (s : Numbers) (cone : ℕ) (valid : IsValid s) (below : cone < 2 ^ 32) 
       let at_is : at ≡ other = cc in
       subst (λ a. P other_file a) at_is (subst (λ f. P f at) file_is p)
 
-  module _ (after : Option Files) where
-    pub by_place : (fault : ReopenFault) (file at : ℕ) → fault ≡ Malformed file at → IsReopenRefused s cone seen after fault → FirstLeaves s cone seen file at ⊎ IsSeenUnsound s cone seen after file at
-    by_place fault file at is (Of_call failed) = absurd (failed_or_place file at (sym failed ∙ is))
-    by_place fault file at is (Of_memory short) = absurd (memory_or_place file at (sym short ∙ is))
-    by_place fault file at is (Of_place other_file other same leaves) = inl (place_of (FirstLeaves s cone seen) other_file other file at (sym same ∙ is) leaves)
-    by_place fault file at is (Of_header kept same has) = absurd (header_or_place kept file at (sym same ∙ is))
-    by_place fault file at is (Of_sight other_file other same unsound) = inr (place_of (IsSeenUnsound s cone seen after) other_file other file at (sym same ∙ is) unsound)
+  pub by_place : (fault : ReopenFault) (file at : ℕ) → fault ≡ Malformed file at → IsReopenRefused s cone seen fault → FirstLeaves s cone seen file at ⊎ IsUnsoundAt s cone seen file at
+  by_place fault file at is (Of_call failed) = absurd (failed_or_place file at (sym failed ∙ is))
+  by_place fault file at is (Of_memory short) = absurd (memory_or_place file at (sym short ∙ is))
+  by_place fault file at is (Of_place other_file other same leaves) = inl (place_of (FirstLeaves s cone seen) other_file other file at (sym same ∙ is) leaves)
+  by_place fault file at is (Of_header kept same has) = absurd (header_or_place kept file at (sym same ∙ is))
+  by_place fault file at is (Of_sight other_file other same unsound) = inr (place_of (IsUnsoundAt s cone seen) other_file other file at (sym same ∙ is) unsound)
 
-    pub by_header : (fault : ReopenFault) (kept : Kept) → fault ≡ OtherSettings kept → IsReopenRefused s cone seen after fault → HasOther s cone (seen 0) kept
-    by_header fault kept is (Of_call failed) = absurd (failed_or_header kept (sym failed ∙ is))
-    by_header fault kept is (Of_memory short) = absurd (memory_or_header kept (sym short ∙ is))
-    by_header fault kept is (Of_place file at same leaves) = absurd (header_or_place kept file at (sym is ∙ same))
-    by_header fault kept is (Of_header other same has) = subst (HasOther s cone (seen 0)) (header_of other kept (sym same ∙ is)) has
-    by_header fault kept is (Of_sight file at same unsound) = absurd (header_or_place kept file at (sym is ∙ same))
+  pub by_header : (fault : ReopenFault) (kept : Kept) → fault ≡ OtherSettings kept → IsReopenRefused s cone seen fault → HasOther s cone (seen 0) kept
+  by_header fault kept is (Of_call failed) = absurd (failed_or_header kept (sym failed ∙ is))
+  by_header fault kept is (Of_memory short) = absurd (memory_or_header kept (sym short ∙ is))
+  by_header fault kept is (Of_place file at same leaves) = absurd (header_or_place kept file at (sym is ∙ same))
+  by_header fault kept is (Of_header other same has) = subst (HasOther s cone (seen 0)) (header_of other kept (sym same ∙ is)) has
+  by_header fault kept is (Of_sight file at same unsound) = absurd (header_or_place kept file at (sym is ∙ same))
 
-    -- an answer where the files leave their format there
-    abbrev pub Refuses : ReopenFault → ℕ → ℕ → Type 0
-    Refuses fault file at = IsOutside fault ⊎ (fault ≡ Malformed file at)
+  -- an answer where the files leave their format there
+  abbrev pub Refuses : ReopenFault → ℕ → ℕ → Type 0
+  Refuses fault file at = IsOutside fault ⊎ (fault ≡ Malformed file at)
 
-    pub left_there : (fault : ReopenFault) (file at : ℕ) → IsReopenRefused s cone seen after fault → FirstLeaves s cone seen file at → Refuses fault file at
-    left_there fault file at (Of_call is) leaves = inl (inl is)
-    left_there fault file at (Of_memory is) leaves = inl (inr is)
-    left_there fault file at (Of_place other_file other is too) leaves =
-        let same = one_first other_file other file at too leaves in
-        inr (is ∙ (λ i. Malformed (same.0 i) (same.1 i)))
-    left_there fault file at (Of_header kept is has) leaves = absurd (first_or_other file at kept leaves has)
-    left_there fault file at (Of_sight other place is unsound) leaves = absurd (whole_or_left file at unsound.whole leaves)
+  pub left_there : (fault : ReopenFault) (file at : ℕ) → IsReopenRefused s cone seen fault → FirstLeaves s cone seen file at → Refuses fault file at
+  left_there fault file at (Of_call is) leaves = inl (inl is)
+  left_there fault file at (Of_memory is) leaves = inl (inr is)
+  left_there fault file at (Of_place other_file other is too) leaves =
+      let same = one_first other_file other file at too leaves in
+      inr (is ∙ (λ i. Malformed (same.0 i) (same.1 i)))
+  left_there fault file at (Of_header kept is has) leaves = absurd (first_or_other file at kept leaves has)
+  left_there fault file at (Of_sight other place is unsound) leaves = absurd (whole_or_left file at unsound.whole leaves)
 
-    pub other_there : (fault : ReopenFault) (kept : Kept) → IsReopenRefused s cone seen after fault → HasOther s cone (seen 0) kept → IsOutside fault ⊎ (fault ≡ OtherSettings kept)
-    other_there fault kept (Of_call is) has = inl (inl is)
-    other_there fault kept (Of_memory is) has = inl (inr is)
-    other_there fault kept (Of_place file at is leaves) has = absurd (first_or_other file at kept leaves has)
-    other_there fault kept (Of_header other is too) has = inr (is ∙ ap OtherSettings (one_header s cone valid below seen other kept too has))
-    other_there fault kept (Of_sight file at is unsound) has = absurd (no_other s cone valid below seen unsound.whole.opened.headed kept has)
+  pub other_there : (fault : ReopenFault) (kept : Kept) → IsReopenRefused s cone seen fault → HasOther s cone (seen 0) kept → IsOutside fault ⊎ (fault ≡ OtherSettings kept)
+  other_there fault kept (Of_call is) has = inl (inl is)
+  other_there fault kept (Of_memory is) has = inl (inr is)
+  other_there fault kept (Of_place file at is leaves) has = absurd (first_or_other file at kept leaves has)
+  other_there fault kept (Of_header other is too) has = inr (is ∙ ap OtherSettings (one_header s cone valid below seen other kept too has))
+  other_there fault kept (Of_sight file at is unsound) has = absurd (no_other s cone valid below seen unsound.whole.opened.headed kept has)
 
   -- ---- what an answer says that is right
 
-  module _ {K E : Type 0} (closed_in : K → Bool) (events_in : K → List ℕ) (gate_in : K → ℕ) (fault_in : E → ReopenFault) (after_in : E → Option Files) where
+  module _ {K E : Type 0} (closed_in : K → Bool) (events_in : K → List ℕ) (gate_in : K → ℕ) (fault_in : E → ReopenFault) where
     abbrev pub Told : Result K E → Type 0
-    Told result = MatchResult result (λ now. IsReopened s cone seen (closed_in now) (events_in now) (gate_in now)) (λ refused. IsReopenRefused s cone seen (after_in refused) (fault_in refused))
+    Told result = MatchResult result (λ now. IsReopened s cone seen (closed_in now) (events_in now) (gate_in now)) (λ refused. IsReopenRefused s cone seen (fault_in refused))
 
     pub journal_told : (result : Result K E) → Told result → IfOk result (λ now. (h : List Packet) × IsJournal s cone h (seen 0) × (events_in now ≡ events_of h))
     journal_told (Ok now) told = reopened_journal (closed_in now) (events_in now) (gate_in now) told
     journal_told (Err refused) told = tt
 
-    pub malformed_told : (result : Result K E) → Told result → IfErr result (λ refused. (file at : ℕ) → fault_in refused ≡ Malformed file at → FirstLeaves s cone seen file at ⊎ IsSeenUnsound s cone seen (after_in refused) file at)
+    pub malformed_told : (result : Result K E) → Told result → IfErr result (λ refused. (file at : ℕ) → fault_in refused ≡ Malformed file at → FirstLeaves s cone seen file at ⊎ IsUnsoundAt s cone seen file at)
     malformed_told (Ok now) told = tt
-    malformed_told (Err refused) told = λ file at is. by_place (after_in refused) (fault_in refused) file at is told
+    malformed_told (Err refused) told = λ file at is. by_place (fault_in refused) file at is told
 
     pub other_told : (result : Result K E) → Told result → IfErr result (λ refused. (kept : Kept) → fault_in refused ≡ OtherSettings kept → HasOther s cone (seen 0) kept)
     other_told (Ok now) told = tt
-    other_told (Err refused) told = λ kept is. by_header (after_in refused) (fault_in refused) kept is told
+    other_told (Err refused) told = λ kept is. by_header (fault_in refused) kept is told
 
-    pub refuses_told : (result : Result K E) → Told result → (file at : ℕ) → FirstLeaves s cone seen file at → IsErrAnd result (λ refused. Refuses (after_in refused) (fault_in refused) file at)
+    pub refuses_told : (result : Result K E) → Told result → (file at : ℕ) → FirstLeaves s cone seen file at → IsErrAnd result (λ refused. Refuses (fault_in refused) file at)
     refuses_told (Ok now) told file at leaves = reopened_or_left (closed_in now) (events_in now) (gate_in now) told file at leaves
-    refuses_told (Err refused) told file at leaves = left_there (after_in refused) (fault_in refused) file at told leaves
+    refuses_told (Err refused) told file at leaves = left_there (fault_in refused) file at told leaves
 
     pub differs_told : (result : Result K E) → Told result → (kept : Kept) → HasOther s cone (seen 0) kept → IsErrAnd result (λ refused. IsOutside (fault_in refused) ⊎ (fault_in refused ≡ OtherSettings kept))
     differs_told (Ok now) told kept has = no_other s cone valid below seen told.opened.headed kept has
-    differs_told (Err refused) told kept has = other_there (after_in refused) (fault_in refused) kept told has
+    differs_told (Err refused) told kept has = other_there (fault_in refused) kept told has
 
     -- of files that are sound for a list
     module _ (told_in : Option Files) (told_is : told_in ≡ Some seen) (counts : K → ℕ) (stands_in : K → List Packet → Type 0) (finishes : K → Bool → Type 0)

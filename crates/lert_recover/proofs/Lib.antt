@@ -15,6 +15,7 @@ pub mod RepeatLaws
 pub mod ReplayedLaws
 pub mod ReplayingLaws
 pub mod RestLaws
+pub mod SomeEvents
 pub mod StartLaws
 pub mod StepLaws
 pub mod StopLaws

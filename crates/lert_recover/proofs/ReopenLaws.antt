@@ -1,5 +1,5 @@
 -- What a cone that is made over files has of them, and why one isn't.
-use Rattle.std.proofs.Common.{ℕ, suc, ◌≡◌, ◌≤◌, Bool, Option, Result, Ok, Err, List, [], ◌∷◌, ◌++◌, length, map, take, drop, refl, ap, ap₂, sym, ◌∙◌, subst, arith, inl, inr, ◌⊎◌}
+use Rattle.std.proofs.Common.{ℕ, suc, ◌≡◌, ◌≤◌, Bool, Result, Ok, Err, List, [], ◌∷◌, ◌++◌, length, map, take, drop, refl, ap, ap₂, sym, ◌∙◌, subst, arith, inl, inr, ◌⊎◌}
 use Rattle.std.specs.Prelude.{MatchResult, IfErr, IfOk}
 use Rattle.std.proofs.lemmas.List.{append_cancel_left, length-map, length-replicate, length-take-le, take_all, take_at}
 use Rattle.lert_base.specs.declared.kept.Kept.{Kept}
@@ -126,8 +126,8 @@ module _ (s : Numbers) (cone : ℕ) where
 
 -- ---- why a cone isn't made
 
-module _ (s : Numbers) (cone : ℕ) (seen : Files) (after : Option Files) where
-  pub refused_before : (fault : ReopenFault) → ((file at : ℕ) → fault ≡ Malformed file at → LeaveAt s cone seen file at) → ((kept : Kept) → fault ≡ OtherSettings kept → HasOther s cone (seen 0) kept) → IsReopenRefused s cone seen after fault
+module _ (s : Numbers) (cone : ℕ) (seen : Files) where
+  pub refused_before : (fault : ReopenFault) → ((file at : ℕ) → fault ≡ Malformed file at → LeaveAt s cone seen file at) → ((kept : Kept) → fault ≡ OtherSettings kept → HasOther s cone (seen 0) kept) → IsReopenRefused s cone seen fault
   refused_before Failed place other = Of_call refl
   refused_before OutOfMemory place other = Of_memory refl
   refused_before (Malformed file at) place other = Of_place file at refl (Before_records (place file at refl))
@@ -135,19 +135,20 @@ module _ (s : Numbers) (cone : ℕ) (seen : Files) (after : Option Files) where
 
   -- by the journal, behind files that are in their format before its records
   pub refused_behind : (records : List LogRecord) (log_end : ℕ) (rows : List (List BinAt)) (n0 : ℕ) (closed : Bool) (fault : ReopenFault) → AreOpened s cone seen records log_end rows → n0 ≡ last_n0 records → closed ≡ is_closed records →
-      ((history : List Packet) → IsSound s cone history seen → (fault ≡ Failed) ⊎ (fault ≡ OutOfMemory)) → IsStopped s cone n0 closed (seen 0) after fault → IsReopenRefused s cone seen after fault
+      ((history : List Packet) → IsSound s cone history seen → (fault ≡ Failed) ⊎ (fault ≡ OutOfMemory)) → IsStopped s cone n0 closed (seen 0) fault → IsReopenRefused s cone seen fault
   refused_behind records log_end rows n0 closed fault opened n0_is closed_is fails (At_call is) = Of_call is
   refused_behind records log_end rows n0 closed fault opened n0_is closed_is fails (At_memory is) = Of_memory is
   refused_behind records log_end rows n0 closed fault opened n0_is closed_is fails (At_place at is leaves) =
       Of_place 0 at is
       (In_records records log_end rows opened refl
       (subst (λ (c : Bool). JournalLeavesAt s cone (last_n0 records) c (seen 0) 0 32 at) closed_is (subst (λ n. JournalLeavesAt s cone n closed (seen 0) 0 32 at) n0_is leaves)))
-  refused_behind records log_end rows n0 closed fault opened n0_is closed_is fails (At_sight file at is ends shown) =
+  refused_behind records log_end rows n0 closed fault opened n0_is closed_is fails (At_sight file at is ends file_is at_is) =
       Of_sight file at is
       (record {
         whole = record { records = records; log_end = log_end; rows = rows; opened = opened; journal = subst (λ (c : Bool). JournalEnds s cone (last_n0 records) c (seen 0) 0 32) closed_is (subst (λ n. JournalEnds s cone n closed (seen 0) 0 32) n0_is ends) };
         none = λ history sound. neither file at (sym is) (fails history sound);
-        shown = shown;
+        file_is = file_is;
+        at_is = at_is;
       })
     where
       failed_or_place : (file at : ℕ) → Malformed file at ≡ Failed → ⊥
@@ -174,13 +175,13 @@ pub stands_on : {K E L : Type 0} (A : L → Type 0) (C : L → K → Type 0) (R 
 stands_on A C R S T (Ok now) more stands = λ h some count is. stands h some count (more h is)
 stands_on A C R S T (Err refused) more stands = tt
 
-module _ {K E : Type 0} (closed_in : K → Bool) (events_in : K → List ℕ) (gate_in : K → ℕ) (fault_in : E → ReopenFault) (after_in : E → Option Files) where
+module _ {K E : Type 0} (closed_in : K → Bool) (events_in : K → List ℕ) (gate_in : K → ℕ) (fault_in : E → ReopenFault) where
   pub reopened_of : (s : Numbers) (cone : ℕ) (seen : Files) (records : List LogRecord) (log_end : ℕ) (rows : List (List BinAt)) (n0 : ℕ) (closed : Bool) → AreOpened s cone seen records log_end rows → n0 ≡ last_n0 records → closed ≡ is_closed records →
       (result : Result K E) →
-      MatchResult result (λ now. HasReplayed s cone n0 closed (seen 0) (gate_in now) (events_in now) × IsClosed (seen 0) (gate_in now)) (λ refused. IsStopped s cone n0 closed (seen 0) (after_in refused) (fault_in refused)) →
+      MatchResult result (λ now. HasReplayed s cone n0 closed (seen 0) (gate_in now) (events_in now) × IsClosed (seen 0) (gate_in now)) (λ refused. IsStopped s cone n0 closed (seen 0) (fault_in refused)) →
       IfOk result (λ now. n0 ≤ length (events_in now)) → IfOk result (λ now. closed_in now ≡ closed) →
       IfErr result (λ refused. (history : List Packet) → IsSound s cone history seen → (fault_in refused ≡ Failed) ⊎ (fault_in refused ≡ OutOfMemory)) →
-      MatchResult result (λ now. IsReopened s cone seen (closed_in now) (events_in now) (gate_in now)) (λ refused. IsReopenRefused s cone seen (after_in refused) (fault_in refused))
+      MatchResult result (λ now. IsReopened s cone seen (closed_in now) (events_in now) (gate_in now)) (λ refused. IsReopenRefused s cone seen (fault_in refused))
   reopened_of s cone seen records log_end rows n0 closed opened n0_is closed_is (Ok now) told enough same fails = record {
     records = records;
     log_end = log_end;
@@ -192,4 +193,4 @@ module _ {K E : Type 0} (closed_in : K → Bool) (events_in : K → List ℕ) (g
     enough = subst (λ (n : ℕ). n ≤ length (events_in now)) n0_is enough;
   }
   reopened_of s cone seen records log_end rows n0 closed opened n0_is closed_is (Err refused) told enough same fails =
-      refused_behind s cone seen (after_in refused) records log_end rows n0 closed (fault_in refused) opened n0_is closed_is fails told
+      refused_behind s cone seen records log_end rows n0 closed (fault_in refused) opened n0_is closed_is fails told

@@ -6,11 +6,14 @@ use Rattle.lert_cone.specs.declared.refusal.ReplayFault.TheVariants.{Failed as R
 use Rattle.lert_cone.specs.Replay.{ReplayLeavesAt}
 use Rattle.lert_cone.specs.Sound.{IsSound}
 use Rattle.lert_cone.specs.Stands.{IsSameCone, Standing, WasSound}
+use Rattle.lert_cone.specs.Tally.{Shows}
+use Rattle.lert_levels.specs.declared.bin_at.BinAt.{BinAt}
 use Rattle.lert_spec.specs.declared.numbers.Numbers.{Numbers}
+use Rattle.lert_spec.specs.declared.report.Report.{Report}
 use Rattle.lert_recover.specs.declared.fault.ReopenFault.{ReopenFault}
 use Rattle.lert_recover.specs.declared.fault.ReopenFault.TheVariants.{Failed, OutOfMemory}
 use Rattle.lert_recover.specs.Replayed.{HasReplayed, IsOutsideReplay, JournalEnds, JournalLeavesAt}
-use Rattle.lert_recover.specs.Reopened.{IsShownOn, IsStopped, IsWhy, At_call, At_memory, At_place, At_sight}
+use Rattle.lert_recover.specs.Reopened.{IsStopped, IsWhy, At_call, At_memory, At_place, At_sight}
 use Rattle.lert_recover.proofs.ReplayedLaws.{ends_from_start, here, leaves_from_start}
 
 -- a replay that stopped at a gate behind what it had replayed
@@ -21,14 +24,14 @@ module _ (s : Numbers) (cone n0 : ℕ) (closed : Bool) (bytes : List ℕ) (gate 
   start_ends : JournalEnds s cone n0 closed bytes n gate → JournalEnds s cone n0 closed bytes 0 32
   start_ends ends = ends_from_start s cone n0 closed bytes gate events has (subst (λ (m : ℕ). JournalEnds s cone n0 closed bytes m gate) n_is ends)
 
-  pub stopped_of : (after : Option Files) (fault : ReopenFault) (replay : ReplayFault) → IsWhy s cone n0 closed bytes n gate replay fault → ((at : ℕ) → replay ≡ ReplayMalformed at → ReplayLeavesAt s cone n0 closed n bytes gate at) → ((file at : ℕ) → replay ≡ ReplayUnsound file at → IsShownOn s after file at) →
-      IsStopped s cone n0 closed bytes after fault
-  stopped_of after fault ReplayFailed why left shown = At_call why
-  stopped_of after fault ReplayOutOfMemory why left shown = At_memory why
-  stopped_of after fault (ReplayMalformed at) why left shown = At_place at why (start_leaves at (here s cone n0 closed bytes n gate at (left at refl)))
-  stopped_of after fault (ReplayUnsound file at) (inl failed) left shown = At_call failed
-  stopped_of after fault (ReplayUnsound file at) (inr (inl (is, ends))) left shown = At_sight file at is (start_ends ends) (shown file at refl)
-  stopped_of after fault (ReplayUnsound file at) (inr (inr (place, is, leaves))) left shown = At_place place is (start_leaves place leaves)
+  pub stopped_of : (fault : ReopenFault) (replay : ReplayFault) → IsWhy s cone n0 closed bytes n gate replay fault → ((at : ℕ) → replay ≡ ReplayMalformed at → ReplayLeavesAt s cone n0 closed n bytes gate at) → ((file at : ℕ) → replay ≡ ReplayUnsound file at → (file ≡ 1) × (at ≡ 0)) →
+      IsStopped s cone n0 closed bytes fault
+  stopped_of fault ReplayFailed why left shown = At_call why
+  stopped_of fault ReplayOutOfMemory why left shown = At_memory why
+  stopped_of fault (ReplayMalformed at) why left shown = At_place at why (start_leaves at (here s cone n0 closed bytes n gate at (left at refl)))
+  stopped_of fault (ReplayUnsound file at) (inl failed) left shown = At_call failed
+  stopped_of fault (ReplayUnsound file at) (inr (inl (is, ends))) left shown = (let where_ = shown file at refl in At_sight file at is (start_ends ends) where_.0 where_.1)
+  stopped_of fault (ReplayUnsound file at) (inr (inr (place, is, leaves))) left shown = At_place place is (start_leaves place leaves)
 
 failed_or_unsound : (file at : ℕ) → ReplayUnsound file at ≡ ReplayFailed → ⊥
 failed_or_unsound file at is = cc
@@ -58,3 +61,8 @@ was_before files start now same was first told =
       subst (λ (s : Numbers). IsSound s start.listing.cone sound.0 first) same.settings
           (subst (λ (cone : ℕ). IsSound now.listing.settings cone sound.0 first) same.cone sound.1),
     )
+
+-- where no frame shows that files are sound for no list, the store is full
+pub full_alone : (s : Numbers) (rows : List (List BinAt)) (reports : List Report) (frames : List ℕ) (file at : ℕ) → Shows s rows reports frames file at → (file ≡ 2 → ⊥) → (file ≡ 1) × (at ≡ 0)
+full_alone s rows reports frames file at (inl broken) never = absurd (never broken.0)
+full_alone s rows reports frames file at (inr full) never = (full.0, full.1)

@@ -1,12 +1,11 @@
 -- What a cone that is reopened says of its files, and why one isn't.
-use Rattle.std.specs.Prelude.{◌≡◌, ℕ, ◌≤◌, Bool, List, length, Option}
+use Rattle.std.specs.Prelude.{◌≡◌, ℕ, ◌≤◌, Bool, List, length}
 use Rattle.std.proofs.Common.{◌⊎◌}
 use Rattle.lert_base.specs.declared.kept.Kept.{Kept}
 use Rattle.lert_base.specs.Packet.{Packet}
-use Rattle.lert_bay.specs.Files.{Files, IfTold}
+use Rattle.lert_bay.specs.Files.{Files}
 use Rattle.lert_cone.specs.declared.refusal.ReplayFault.{ReplayFault}
 use Rattle.lert_cone.specs.declared.refusal.ReplayFault.TheVariants.{Failed as ReplayFailed, Malformed as ReplayMalformed, Unsound as ReplayUnsound, OutOfMemory as ReplayOutOfMemory}
-use Rattle.lert_cone.specs.Tally.{Shows}
 use Rattle.lert_cone.specs.Sound.{IsSound}
 use Rattle.lert_gatelog.specs.Gated.{IsClosed}
 use Rattle.lert_levels.specs.declared.bin_at.BinAt.{BinAt}
@@ -18,7 +17,6 @@ use Rattle.lert_recover.specs.Replayed.{AreInFormat, FirstLeaves, HasReplayed, J
 use Rattle.lert_reports.specs.Log.{is_closed, last_n0}
 use Rattle.lert_reports.specs.LogText.{LogRecord}
 use Rattle.lert_spec.specs.declared.numbers.Numbers.{Numbers}
-use Rattle.lert_spec.specs.declared.report.Report.{Report}
 
 -- all of the files is in its format, and these are the keys of the journal's packets, up to its closed gate
 pub record IsReopened (s : Numbers) (cone : ℕ) (seen : Files) (closed : Bool) (events : List ℕ) (gate : ℕ) : Type 0 where
@@ -31,36 +29,33 @@ pub record IsReopened (s : Numbers) (cone : ℕ) (seen : Files) (closed : Bool) 
   pub shut : IsClosed (seen 0) gate
   pub enough : last_n0 records ≤ length events
 
--- what shows it on the bay that is handed back, where it is told: a frame of some rows that breaks its text or its sum at this
--- place, or, as place 0 of the log, a store that has all the reports that it takes
-abbrev pub IsShownOn : Numbers → Option Files → ℕ → ℕ → Type 0
-IsShownOn s told file at = IfTold told (λ now. (rows : List (List BinAt)) × (reports : List Report) × Shows s rows reports (now 2) file at)
-
--- files that are in their format to their end, and sound for no list, as the bay that is handed back shows at this place
-pub record IsSeenUnsound (s : Numbers) (cone : ℕ) (seen : Files) (after : Option Files) (file at : ℕ) : Type 0 where
+-- Files that are in their format to their end, and sound for no list. The one place that is told of them is the start of the
+-- log: the store has all the reports that it takes, and one more is due.
+pub record IsUnsoundAt (s : Numbers) (cone : ℕ) (seen : Files) (file at : ℕ) : Type 0 where
   pub whole : AreInFormat s cone seen
   pub none : (history : List Packet) → IsSound s cone history seen → ⊥
-  pub shown : IsShownOn s after file at
+  pub file_is : file ≡ 1
+  pub at_is : at ≡ 0
 
 -- why a cone isn't reopened: a call or memory failed, or what stands in its files, which leave their format first at a place,
 -- or begin with other numbers, or are sound for no list
-pub data IsReopenRefused (s : Numbers) (cone : ℕ) (seen : Files) (after : Option Files) (fault : ReopenFault) : Type 0 where
-  Of_call : fault ≡ Failed → IsReopenRefused s cone seen after fault
-  Of_memory : fault ≡ OutOfMemory → IsReopenRefused s cone seen after fault
-  Of_place : (file at : ℕ) → fault ≡ Malformed file at → FirstLeaves s cone seen file at → IsReopenRefused s cone seen after fault
-  Of_header : (kept : Kept) → fault ≡ OtherSettings kept → HasOther s cone (seen 0) kept → IsReopenRefused s cone seen after fault
-  Of_sight : (file at : ℕ) → fault ≡ Malformed file at → IsSeenUnsound s cone seen after file at → IsReopenRefused s cone seen after fault
+pub data IsReopenRefused (s : Numbers) (cone : ℕ) (seen : Files) (fault : ReopenFault) : Type 0 where
+  Of_call : fault ≡ Failed → IsReopenRefused s cone seen fault
+  Of_memory : fault ≡ OutOfMemory → IsReopenRefused s cone seen fault
+  Of_place : (file at : ℕ) → fault ≡ Malformed file at → FirstLeaves s cone seen file at → IsReopenRefused s cone seen fault
+  Of_header : (kept : Kept) → fault ≡ OtherSettings kept → HasOther s cone (seen 0) kept → IsReopenRefused s cone seen fault
+  Of_sight : (file at : ℕ) → fault ≡ Malformed file at → IsUnsoundAt s cone seen file at → IsReopenRefused s cone seen fault
 
 -- ---- the journal alone
 
 -- why a replay stopped
-pub data IsStopped (s : Numbers) (cone n0 : ℕ) (closed : Bool) (bytes : List ℕ) (after : Option Files) (fault : ReopenFault) : Type 0 where
-  At_call : fault ≡ Failed → IsStopped s cone n0 closed bytes after fault
-  At_memory : fault ≡ OutOfMemory → IsStopped s cone n0 closed bytes after fault
-  At_place : (at : ℕ) → fault ≡ Malformed 0 at → JournalLeavesAt s cone n0 closed bytes 0 32 at → IsStopped s cone n0 closed bytes after fault
-  At_sight : (file at : ℕ) → fault ≡ Malformed file at → JournalEnds s cone n0 closed bytes 0 32 → IsShownOn s after file at → IsStopped s cone n0 closed bytes after fault
+pub data IsStopped (s : Numbers) (cone n0 : ℕ) (closed : Bool) (bytes : List ℕ) (fault : ReopenFault) : Type 0 where
+  At_call : fault ≡ Failed → IsStopped s cone n0 closed bytes fault
+  At_memory : fault ≡ OutOfMemory → IsStopped s cone n0 closed bytes fault
+  At_place : (at : ℕ) → fault ≡ Malformed 0 at → JournalLeavesAt s cone n0 closed bytes 0 32 at → IsStopped s cone n0 closed bytes fault
+  At_sight : (file at : ℕ) → fault ≡ Malformed file at → JournalEnds s cone n0 closed bytes 0 32 → file ≡ 1 → at ≡ 0 → IsStopped s cone n0 closed bytes fault
 
--- what a fault of a replay is that stopped at a gate, behind n events: what shows that the files are sound for no list is told
+-- what a fault of a replay is that stopped at a gate, behind n events: that the files are sound for no list is told
 -- only where the rest of the journal is in its format
 abbrev pub IsWhy : Numbers → ℕ → ℕ → Bool → List ℕ → ℕ → ℕ → ReplayFault → ReopenFault → Type 0
 IsWhy s cone n0 closed bytes n gate ReplayFailed fault = fault ≡ Failed

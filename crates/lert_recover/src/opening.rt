@@ -5,6 +5,7 @@ ghost use Rattle.lert_base.specs.declared.kept.Kept.{Kept as KeptOf};
 ghost use Rattle.lert_bay.specs.Files.{Files, IfTold};
 ghost use Rattle.lert_io.specs.Fault.{HasRisen, HasCause};
 ghost use Rattle.lert_levels.specs.declared.bin_at.BinAt.{BinAt};
+ghost use Rattle.lert_levels.specs.Checked.{EachStands};
 ghost use Rattle.lert_levels.specs.Rows.{IsAt, AreRows, directory_text};
 ghost use Rattle.lert_recover.specs.Headed.{HasOther};
 ghost use Rattle.lert_recover.specs.Opened.{AreOpened, IsAsRead, IsRefused, LeaveAt, WritesNothing};
@@ -52,6 +53,7 @@ pub fn read_files<B: Bay, T: CountTable>(
     ensures opened { IfTold (B.files bay.old) (λ seen. IfOk result (λ end. (records : List LogRecord)
         × IsReadOf settings.now cone end.n0 end.offset end.first end.closed store.new.reports (directory_text levels.new.rows) records
         × AreOpened settings.now cone seen records end.log_end levels.new.rows)) }
+    ensures stand { IfTold (B.files bay.old) (λ seen. OnOk result (EachStands settings.now (seen 2) levels.new.rows)) }
     ensures durable { IfTold (B.files bay.old) (λ seen. OnOk result ((image : Files) → B.leaves bay.new image → IsAsRead seen image)) }
     ensures malformed { IfTold (B.files bay.old) (λ seen. (file at : ℕ) → IsErrOf result (ReopenFault.Malformed file at) →
         LeaveAt settings.now cone seen file at) }
@@ -103,6 +105,7 @@ fn read_in_order<B: Bay, T: CountTable>(
         × IsReadOf settings.now cone end.n0 end.offset end.first end.closed store.new.reports (directory_text levels.new.rows) records
         × AreOpened settings.now cone seen records end.log_end levels.new.rows)
         (IsRefused settings.now cone seen)) }
+    ensures stand { IfTold (B.files bay.old) (λ seen. OnOk result (EachStands settings.now (seen 2) levels.new.rows)) }
     ensures durable { IfTold (B.files bay.old) (λ seen. OnOk result ((image : Files) → B.leaves bay.new image → IsAsRead seen image)) }
     ensures same { (levels.new.settings ≡ levels.old.settings) × (store.new.settings ≡ store.old.settings) }
     ensures quiet { WritesNothing (B.files bay.old) (B.files bay.new) (B.leaves bay.old) (B.leaves bay.new) (B.moment bay.old) (B.moment bay.new) (B.left_since bay.old) (B.left_since bay.new) }

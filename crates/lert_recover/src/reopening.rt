@@ -4,6 +4,7 @@ ghost use Rattle.std.specs.Prelude.{◌≡◌, ◌⊎◌, ℕ, ◌<◌, ◌≤�
 ghost use Rattle.lert_base.specs.declared.kept.Kept.{Kept as KeptOf};
 ghost use Rattle.lert_base.specs.Packet.{Packet, events_of};
 ghost use Rattle.lert_bay.specs.Files.{Files, IfTold};
+ghost use Rattle.lert_cone.specs.Framed.{HoldsSome};
 ghost use Rattle.lert_cone.specs.Replays.{Replays};
 ghost use Rattle.lert_cone.specs.Room.{IsRoom};
 ghost use Rattle.lert_cone.specs.Sound.{IsSound, IsJournal};
@@ -11,7 +12,7 @@ ghost use Rattle.lert_cone.specs.Stands.{IsSameCone, StandsFor, WasSound};
 ghost use Rattle.lert_gatelog.specs.Gated.{IsClosed};
 ghost use Rattle.lert_io.specs.Fault.{HasRisen};
 ghost use Rattle.lert_recover.specs.Headed.{HasOther};
-ghost use Rattle.lert_recover.specs.Reopened.{IsReopened, IsReopenRefused, IsSeenUnsound, IsStopped};
+ghost use Rattle.lert_recover.specs.Reopened.{IsReopened, IsReopenRefused, IsStopped, IsUnsoundAt};
 ghost use Rattle.lert_recover.specs.Replayed.{FirstLeaves, HasReplayed, IsJournalSame};
 ghost use Rattle.lert_reports.specs.Log.{is_closed};
 ghost use Rattle.lert_spec.specs.Edges.{capacity};
@@ -41,9 +42,9 @@ pub struct ReopenRefused<B: Bay> {
 /// the run didn't come to.
 ///
 /// A refusal hands the bay back, and lets the room go. Reads all of the journal and the log once, each named frame once, and what
-/// a flush reads. Takes the memory of the bins that it reads and makes. Where a frame or the store shows while the journal is
-/// replayed that the files are sound for no list, the rest of the journal is read too, and the first place at which it leaves its
-/// format comes before that.
+/// a flush reads. Takes the memory of the bins that it reads and makes. Where the store shows while the journal is replayed that
+/// the files are sound for no list, the rest of the journal is read too, and the first place at which it leaves its format comes
+/// before that.
 pub fn reopen<B: Bay, T: CountTable>(
     room: ConeRoom<T>,
     cone: u32,
@@ -67,9 +68,10 @@ pub fn reopen<B: Bay, T: CountTable>(
     // Where the files are told, its keys are those of the journal, whatever the log says.
     ensures journal { IfTold (B.files bay) (λ seen. IfOk result (λ now. (h : List Packet) × IsJournal room.settings cone h (seen 0) × (now.listing.events ≡ events_of h))) }
 
-    // A place is the first one at which they leave their format, or one that shows that they are sound for no list.
+    // A place is the first one at which they leave their format. Files that leave it nowhere and are sound for no list are refused
+    // for their log alone, at its start, where one report more would be due than the store takes.
     ensures malformed { IfTold (B.files bay) (λ seen. IfErr result (λ refused. (file at : ℕ) → refused.fault ≡ ReopenFault.Malformed file at →
-        FirstLeaves room.settings cone seen file at ⊎ IsSeenUnsound room.settings cone seen (B.files refused.bay) file at)) }
+        FirstLeaves room.settings cone seen file at ⊎ IsUnsoundAt room.settings cone seen file at)) }
     ensures other { IfTold (B.files bay) (λ seen. IfErr result (λ refused. (kept : KeptOf) → refused.fault ≡ ReopenFault.OtherSettings kept →
         HasOther room.settings cone (seen 0) kept)) }
 
@@ -101,7 +103,7 @@ fn reopen_in_order<B: Bay, T: CountTable>(
     requires room { IsRoom room.settings room.zero room.levels room.store room.entry.keys (length room.buffer.items) }
     ensures told { IfTold (B.files bay) (λ seen. MatchResult result
         (λ now. IsReopened room.settings cone seen now.listing.closed now.listing.events now.gate)
-        (λ refused. IsReopenRefused room.settings cone seen (B.files refused.bay) refused.fault)) }
+        (λ refused. IsReopenRefused room.settings cone seen refused.fault)) }
     ensures fails { IfTold (B.files bay) (λ seen. IfErr result (λ refused. (h : List Packet) → IsSound room.settings cone h seen →
         (refused.fault ≡ ReopenFault.Failed) ⊎ (refused.fault ≡ ReopenFault.OutOfMemory))) }
     ensures stands { IfOk result (λ now. (h : List Packet) → All (λ packet. 0 < length packet.keys) h → length (events_of h) ≡ now.events →
@@ -150,9 +152,9 @@ fn replay_journal<B: Bay, T: CountTable>(
     requires replaying { cone.state ≡ ConeState.Replaying }
     requires valid { IsValid cone.listing.settings }
     requires begun { (cone.gate ≡ 32) × (cone.listing.events ≡ []) × (cone.events ≡ 0) }
-    ensures told { IfTold (B.files cone.bay) (λ seen. MatchResult result
+    ensures told { IfTold (B.files cone.bay) (λ seen. HoldsSome cone.listing.settings cone.last.n0 cone.rows (seen 2) → MatchResult result
         (λ now. HasReplayed cone.listing.settings cone.listing.cone cone.last.n0 cone.last.closed (seen 0) now.gate now.listing.events × IsClosed (seen 0) now.gate)
-        (λ refused. IsStopped cone.listing.settings cone.listing.cone cone.last.n0 cone.last.closed (seen 0) (B.files refused.bay) refused.fault)) }
+        (λ refused. IsStopped cone.listing.settings cone.listing.cone cone.last.n0 cone.last.closed (seen 0) refused.fault)) }
     ensures fails { IfTold (B.files cone.bay) (λ _. IfErr result (λ refused. (h : List Packet) → Replays B.files B.leaves cone h [] →
         (refused.fault ≡ ReopenFault.Failed) ⊎ (refused.fault ≡ ReopenFault.OutOfMemory))) }
     ensures stands { IfOk result (λ now. (h : List Packet) → All (λ packet. 0 < length packet.keys) h → length (events_of h) ≡ now.events →

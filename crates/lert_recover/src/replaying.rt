@@ -3,9 +3,9 @@
 ghost use Rattle.std.specs.Prelude.{◌≡◌, ℕ, ◌+◌, ◌*◌, ◌≤◌, [], List, length, MatchResult, OnOk, IfOk, IfErr};
 ghost use Rattle.lert_base.specs.Packet.{Packet};
 ghost use Rattle.lert_bay.specs.Files.{Files, IfTold, Turns};
+ghost use Rattle.lert_cone.specs.Framed.{HoldsSome};
 ghost use Rattle.lert_cone.specs.Replay.{ReplayLeavesAt};
 ghost use Rattle.lert_cone.specs.Replays.{Replays};
-ghost use Rattle.lert_cone.specs.Tally.{Shows};
 ghost use Rattle.lert_cone.specs.Stands.{IsSameCone};
 ghost use Rattle.lert_cone.specs.Wrote.{IsShutIfTold};
 ghost use Rattle.lert_gatelog.specs.Gated.{IsClosed};
@@ -44,8 +44,11 @@ pub fn replay_all<B: Bay, T: CountTable>(cone: &mut Cone<B, T>) -> Result<u64, S
         × (stop.events ≡ length events)
         × ((at : ℕ) → stop.fault ≡ ReplayFault.Malformed at →
         ReplayLeavesAt cone.old.listing.settings cone.old.listing.cone cone.old.last.n0 cone.old.last.closed stop.events (seen 0) stop.gate at))) }
-    ensures shown { IfTold (B.files cone.new.bay) (λ seen. IfErr result (λ stop. (file at : ℕ) → stop.fault ≡ ReplayFault.Unsound file at →
-        Shows cone.new.listing.settings cone.new.rows cone.new.reports (seen 2) file at)) }
+
+    // Where the frames hold the bins of some events, whatever these are, only a full store may show that the files are sound for
+    // no list.
+    ensures full { IfTold (B.files cone.old.bay) (λ seen. HoldsSome cone.old.listing.settings cone.old.last.n0 cone.old.rows (seen 2) →
+        IfErr result (λ stop. (file at : ℕ) → stop.fault ≡ ReplayFault.Unsound file at → (file ≡ 1) × (at ≡ 0))) }
 
     // A cone on its way through the packets of a list is then behind all of them.
     ensures replays { IfTold (B.files cone.old.bay) (λ _. (h : List Packet) → Replays B.files B.leaves cone.old h [] →

@@ -15,7 +15,7 @@ use Rattle.lert_io.specs.Fault.{HasRisen, IsFaultless}
 use Rattle.lert_recover.specs.declared.fault.ReopenFault.{ReopenFault}
 use Rattle.lert_recover.specs.declared.fault.ReopenFault.TheVariants as fault
 use Rattle.lert_recover.specs.Headed.{HasOther}
-use Rattle.lert_recover.specs.Reopened.{IsSeenUnsound}
+use Rattle.lert_recover.specs.Reopened.{IsUnsoundAt}
 use Rattle.lert_recover.specs.Replayed.{FirstLeaves}
 use Rattle.lert_reports.specs.Log.{is_closed}
 use Rattle.lert_spec.specs.declared.numbers.Numbers.{Numbers}
@@ -25,7 +25,7 @@ use Rattle.lert_spec.specs.Look.{closing, look}
 use Rattle.lert_top.specs.Bays.{AreFaultless, AreLater, HasFailed, IfHeld, bays_of}
 use Rattle.lert_top.specs.Lanes.{state_of}
 use Rattle.lert_top.specs.Print.{ArePrintable, printed_as}
-use Rattle.lert_top.specs.Recovered.{AreOpenOver, AreRecovered, AreSoundBelow, HasRecovered, IsOpenOver, IsOther, IsRecovered, IsShownAt, IsSpoiled, IsUnopened, LowerAreFormed, NoneIsSound, RecoveryShows, printed_for, reopen_status}
+use Rattle.lert_top.specs.Recovered.{AreOpenOver, AreRecovered, AreSoundBelow, HasRecovered, IsOpenOver, IsOther, IsRecovered, IsSpoiled, IsUnopened, LowerAreFormed, NoneIsSound, RecoveryShows, printed_for, reopen_status}
 use Rattle.lert_top.specs.declared.status.Status.{Status}
 use Rattle.lert_top.specs.declared.status.Status.TheVariants.{Done, Usage, PlaceFault, TraceFault, BadTrace, TooLong, NotFresh, BayFault, CapacityFull, Malformed, OtherSettings, OutFault, OutOfMemory}
 use Rattle.lert_top.proofs.BayLaws.{bay_at, bay_is, slice_get-seam, slice_get-some}
@@ -47,9 +47,9 @@ end_is : (closed : Bool) → is_finished (state_of closed) ≡ closed
 end_is true = refl
 end_is false = refl
 
--- what a cone that isn't reopened says of its files and of the bay that is handed back
-pub record WasRefused {B : Type 0} (files : B → Option Files) (s : Numbers) (cone : ℕ) (bay back : B) (refusal : ReopenFault) : Type 0 where
-  pub malformed : IfTold (files bay) (λ seen. (file at : ℕ) → refusal ≡ fault.Malformed file at → FirstLeaves s cone seen file at ⊎ IsSeenUnsound s cone seen (files back) file at)
+-- what a cone that isn't reopened says of its files
+pub record WasRefused {B : Type 0} (files : B → Option Files) (s : Numbers) (cone : ℕ) (bay : B) (refusal : ReopenFault) : Type 0 where
+  pub malformed : IfTold (files bay) (λ seen. (file at : ℕ) → refusal ≡ fault.Malformed file at → FirstLeaves s cone seen file at ⊎ IsUnsoundAt s cone seen file at)
   pub other_is : IfTold (files bay) (λ seen. (kept : Kept) → refusal ≡ fault.OtherSettings kept → HasOther s cone (seen 0) kept)
   pub refuses : IfTold (files bay) (λ seen. (file at : ℕ) → FirstLeaves s cone seen file at →
       ((refusal ≡ fault.Failed) ⊎ (refusal ≡ fault.OutOfMemory)) ⊎ (refusal ≡ fault.Malformed file at))
@@ -95,15 +95,12 @@ module _ {B : Type 0} (files : B → Option Files) (leaves : B → Files → Typ
         let opened = open_so_far other cone.0 cone.1 held found in
         (opened.formed seen told, opened.own seen told)
 
-    module _ (back : B) (refusal : ReopenFault) (why : WasRefused files s (length cones) bay back refusal) (failed : refusal ≡ fault.Failed → HasRisen (faults bay) (faults back)) where
+    module _ (back : B) (refusal : ReopenFault) (why : WasRefused files s (length cones) bay refusal) (failed : refusal ≡ fault.Failed → HasRisen (faults bay) (faults back)) where
       abbrev later : List B
       later = bays_of cones ++ back ∷ rest
 
       back_there : slice_get later (length cones) ≡ Some back
       back_there = ap (slice_get later) (sym (length-map cones (λ (c : Standing B). c.bay))) ∙ slice_get-seam (bays_of cones) back rest
-
-      shown_at : (seen : Files) (file at : ℕ) → IsSeenUnsound s (length cones) seen (files back) file at → IsShownAt files s later (length cones) seen file at
-      shown_at seen file at shown = λ other found. subst (λ b. IsSeenUnsound s (length cones) seen (files b) file at) (same_Some back other (sym back_there ∙ found)) shown
 
       of_bay : (P : Files → Type 0) → IfTold (files bay) P → IfHeld files bays (length cones) P
       of_bay P holds = λ other found. subst (λ b. IfTold (files b) P) (same_Some bay other (sym there ∙ found)) holds
@@ -113,10 +110,7 @@ module _ {B : Type 0} (files : B → Option Files) (leaves : B → Files → Typ
       unopened_as (fault.Malformed file at) is = (
         record {
           named = slice_get_within bays (length cones) bay there;
-          told = of_bay _ (λ seen told. elim (why.malformed seen told file at is) [
-            | inl leaves_there ↦ inl leaves_there
-            | inr shown ↦ inr (shown_at seen file at shown)
-          ]);
+          told = of_bay _ (λ seen told. why.malformed seen told file at is);
           first = of_bay _ (λ seen told other place leaves_there. elim (why.refuses seen told other place leaves_there) [
             | inl outside ↦ elim outside [
               | inl failed_is ↦ absurd (let clash = sym is ∙ failed_is in cc)

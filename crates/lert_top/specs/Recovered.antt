@@ -10,7 +10,7 @@ use Rattle.lert_io.specs.Reading as reading
 use Rattle.lert_recover.specs.declared.fault.ReopenFault.{ReopenFault}
 use Rattle.lert_recover.specs.declared.fault.ReopenFault.TheVariants as fault
 use Rattle.lert_recover.specs.Headed.{HasOther}
-use Rattle.lert_recover.specs.Reopened.{IsSeenUnsound}
+use Rattle.lert_recover.specs.Reopened.{IsUnsoundAt}
 use Rattle.lert_recover.specs.Replayed.{FirstLeaves}
 use Rattle.lert_reports.specs.Log.{is_closed}
 use Rattle.lert_spec.specs.declared.numbers.Numbers.{Numbers}
@@ -68,15 +68,11 @@ AreOpenOver {B = B} files leaves faults s bays cones = (number : ℕ) (cone : St
 abbrev pub NoneIsSound : Numbers → ℕ → Files → Type 0
 NoneIsSound s cone seen = (history : List Packet) → IsSound s cone history seen → ⊥
 
--- the bay of a cone that is put back shows at this place that its files are sound for no list
-abbrev pub IsShownAt : {B : Type 0} → (B → Option Files) → Numbers → List B → ℕ → Files → ℕ → ℕ → Type 0
-IsShownAt {B = B} files s later cone seen file at = (back : B) → slice_get later cone ≡ Some back → IsSeenUnsound s cone seen (files back) file at
-
--- The files of a cone are sound for no list. They first leave their format at this place, or, where they leave it nowhere, the bay
--- that is put back shows it there. They don't begin with other numbers.
-pub record IsSpoiled {B : Type 0} (files : B → Option Files) (s : Numbers) (bays later : List B) (cone file at : ℕ) : Type 0 where
+-- The files of a cone are sound for no list. They first leave their format at this place, or, where they leave it nowhere, it is the
+-- start of the log. They don't begin with other numbers.
+pub record IsSpoiled {B : Type 0} (files : B → Option Files) (s : Numbers) (bays : List B) (cone file at : ℕ) : Type 0 where
   pub named : cone < length bays
-  pub told : IfHeld files bays cone (λ seen. FirstLeaves s cone seen file at ⊎ IsShownAt files s later cone seen file at)
+  pub told : IfHeld files bays cone (λ seen. FirstLeaves s cone seen file at ⊎ IsUnsoundAt s cone seen file at)
   pub first : IfHeld files bays cone (λ seen. (other place : ℕ) → FirstLeaves s cone seen other place → (file ≡ other) × (at ≡ place))
   pub unsound : IfHeld files bays cone (NoneIsSound s cone)
   pub own : IfHeld files bays cone (λ seen. (kept : Kept) → HasOther s cone (seen 0) kept → ⊥)
@@ -111,7 +107,7 @@ IsUnopened files faults s bays later (TooLong trace) = ⊥
 IsUnopened files faults s bays later (NotFresh cone) = ⊥
 IsUnopened files faults s bays later (BayFault cone) = HasFailed faults bays later cone
 IsUnopened files faults s bays later (CapacityFull cone n len) = ⊥
-IsUnopened files faults s bays later (Malformed cone file at) = IsSpoiled files s bays later cone file at × LowerAreFormed files s bays cone
+IsUnopened files faults s bays later (Malformed cone file at) = IsSpoiled files s bays cone file at × LowerAreFormed files s bays cone
 IsUnopened files faults s bays later (OtherSettings cone) = IsOther files s bays cone × LowerAreFormed files s bays cone
 IsUnopened files faults s bays later OutFault = ⊥
 IsUnopened files faults s bays later OutOfMemory = ⊤
@@ -137,7 +133,7 @@ module _ {K B : Type 0} (taken : K → Option (List ℕ)) (sink_faults : K → �
   RecoveryShows (NotFresh cone) = ⊥
   RecoveryShows (BayFault cone) = HasFailed bay_faults bays later cone × (after ≡ before)
   RecoveryShows (CapacityFull cone n len) = ⊥
-  RecoveryShows (Malformed cone file at) = (IsSpoiled files s bays later cone file at × LowerAreFormed files s bays cone) × (after ≡ before)
+  RecoveryShows (Malformed cone file at) = (IsSpoiled files s bays cone file at × LowerAreFormed files s bays cone) × (after ≡ before)
   RecoveryShows (OtherSettings cone) = (IsOther files s bays cone × LowerAreFormed files s bays cone) × (after ≡ before)
   RecoveryShows OutFault = HasRisen (sink_faults before) (sink_faults after) × LowerAreFormed files s bays (length bays)
       × ((cones : List Printed) × AreRecovered files s bays later cones × IsCut (taken before) (taken after) (lines cones))

@@ -1,6 +1,6 @@
 //! A cone that is given the packets of its journal again.
 
-ghost use Rattle.std.specs.Prelude.{◌≡◌, ◌⊎◌, ℕ, ◌+◌, ◌<◌, ◌≤◌, ◌^◌, if◌then◌else◌, List, [], ◌∷◌, ◌++◌, length, All, None, IfErr, IfNone, IfOk, IfSome, IsErrOf, OnErr};
+ghost use Rattle.std.specs.Prelude.{◌≡◌, ◌≢◌, ◌⊎◌, ℕ, ◌+◌, ◌<◌, ◌≤◌, ◌^◌, if◌then◌else◌, max, List, [], ◌∷◌, ◌++◌, length, All, None, Err, IfErr, IfNone, IfOk, IfSome, IsErrOf, OnErr, OnOk};
 ghost use Rattle.lert_base.specs.Packet.{Packet, events_of};
 ghost use Rattle.lert_bay.specs.Files.{Files, IfTold};
 ghost use Rattle.lert_bay.specs.Settled.{IsSettled};
@@ -9,6 +9,7 @@ ghost use Rattle.lert_io.specs.Fault.{HasRisen};
 ghost use Rattle.lert_levels.specs.Flushed.{InNamed};
 ghost use Rattle.lert_reports.specs.Log.{HasLog, most_record};
 ghost use Rattle.lert_reports.specs.LogText.{LogRecord};
+ghost use Rattle.lert_cone.specs.Framed.{HoldsSome};
 ghost use Rattle.lert_cone.specs.Replay.{IsLastOf};
 ghost use Rattle.lert_cone.specs.Replays.{HasEnded, HasTaken, LeavesBehind, GoesOn, Replays, WhyRefused, broken_after};
 ghost use Rattle.lert_cone.specs.Room.{IsPointOf, IsRestored};
@@ -117,6 +118,12 @@ impl<B: Bay, T: CountTable> Cone<B, T> {
         // or memory, may keep it from that.
         ensures replays { IfTold (B.files self.old.bay) (λ _. (h done : List Packet) → Replays B.files B.leaves self.old h done → gate ≡ self.old.gate →
             GoesOn B.files B.leaves self.new h done result) }
+
+        // Where the frames hold the bins of some events, whatever these are, they do so again, and none is found malformed.
+        ensures framed { IfTold (B.files self.old.bay) (λ seen. HoldsSome self.old.listing.settings (max self.old.last.n0 (length self.old.listing.events)) self.old.rows (seen 2) →
+            OnOk result (IfTold (B.files self.new.bay) (λ after. HoldsSome self.new.listing.settings (max self.new.last.n0 (length self.new.listing.events)) self.new.rows (after 2)))) }
+        ensures whole { IfTold (B.files self.old.bay) (λ seen. HoldsSome self.old.listing.settings (max self.old.last.n0 (length self.old.listing.events)) self.old.rows (seen 2) →
+            (at : ℕ) → result ≢ Err (ReplayFault.Unsound 2 at)) }
 
         // Why it refuses where neither the format is left nor a list's journal goes on.
         ensures unsound { (file at : ℕ) → IsErrOf result (ReplayFault.Unsound file at) →

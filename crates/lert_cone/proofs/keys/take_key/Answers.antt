@@ -9,6 +9,7 @@ use Rattle.lert_reports.specs.Stored.{Stored}
 use Rattle.lert_spec.specs.declared.report.Report.{Report}
 use Rattle.lert_spec.specs.declared.numbers.Numbers.{Numbers}
 use Rattle.lert_spec.specs.Edges.{edge}
+use Rattle.lert_cone.specs.Framed.{HoldsSome}
 use Rattle.lert_cone.specs.Listing.{Listing}
 use Rattle.lert_cone.specs.Record.{LogPlace, payload_at}
 use Rattle.lert_cone.proofs.RecordLaws.{record_fits, logging_more}
@@ -152,3 +153,14 @@ returns-clause-each_moment g c = λ seen told history partway up image may.
 
 pub returns-clause-journal : goal.returns-clause-journal
 returns-clause-journal g c = (leaves_on 0 (g.B.Bay.files c.args.bay.now) (g.B.Bay.files c.take.new.bay) (g.B.Bay.files c.append.new.bay) (g.B.Bay.leaves c.args.bay.now) (g.B.Bay.leaves c.take.new.bay) (g.B.Bay.leaves c.append.new.bay) (g.B.Bay.moment c.args.bay.now) (g.B.Bay.moment c.take.new.bay) (g.B.Bay.moment c.append.new.bay) (g.B.Bay.left_since c.args.bay.now) (g.B.Bay.left_since c.take.new.bay) (g.B.Bay.left_since c.append.new.bay) (leaves_rest _ 0 (λ same. absurd (omega (arith, same))) (g.B.Bay.files c.args.bay.now) (g.B.Bay.files c.take.new.bay) (g.B.Bay.leaves c.args.bay.now) (g.B.Bay.leaves c.take.new.bay) (g.B.Bay.moment c.args.bay.now) (g.B.Bay.moment c.take.new.bay) (g.B.Bay.left_since c.args.bay.now) (g.B.Bay.left_since c.take.new.bay) c.take.ensures.rest (λ image may. g.met.B.Bay.since_earlier c.take.new.bay (g.B.Bay.moment c.args.bay.now) (g.B.Bay.moment c.take.new.bay) image c.take.ensures.rest.time.later (g.met.B.Bay.since_now c.take.new.bay image may))) (leaves_others 1 0 (λ same. absurd (omega (arith, same))) (g.B.Bay.files c.take.new.bay) (g.B.Bay.files c.append.new.bay) (g.B.Bay.leaves c.take.new.bay) (g.B.Bay.leaves c.append.new.bay) (g.B.Bay.moment c.take.new.bay) (g.B.Bay.moment c.append.new.bay) (g.B.Bay.left_since c.take.new.bay) (g.B.Bay.left_since c.append.new.bay) c.append.ensures.seen c.append.ensures.others c.append.ensures.time (λ image may. g.met.B.Bay.since_earlier c.append.new.bay (g.B.Bay.moment c.take.new.bay) (g.B.Bay.moment c.append.new.bay) image c.append.ensures.time.later (g.met.B.Bay.since_now c.append.new.bay image may))) (g.met.B.Bay.since_earlier c.append.new.bay))
+
+-- the frames, whatever events they hold
+pub returns-in_err-take-clause-whole : goal.returns-in_err-take-clause-whole
+returns-in_err-take-clause-whole g c = λ seen told some at same.
+    c.take.ensures.whole seen told some at (c.in_err-take.was ∙ handed_on c.from_residual.result c.in_err-take.field-0.0 c.from_residual.ensures.1 ∙ same)
+
+pub returns-clause-framed : goal.returns-clause-framed
+returns-clause-framed g c = λ seen told some after told_after.
+    let was = turns_back (OthersStay 1) (g.B.Bay.files c.take.new.bay) (g.B.Bay.files c.append.new.bay) c.append.ensures.seen after told_after in
+    subst (λ (bytes : List ℕ). HoldsSome c.take.new.self.listing.settings (length c.take.new.self.listing.events) c.take.new.self.rows bytes) (sym (was.2 2 (λ same. absurd (omega (arith, same)))))
+    (c.in_ok-take.ensures.framed seen told some was.0 was.1)

@@ -2,6 +2,7 @@ use Rattle.std.proofs.Common.{◌∙◌, ◌<◌, ◌++◌, ◌∷◌, [], ℕ, 
 use Rattle.std.proofs.lemmas.List.{take_more}
 use Rattle.std.proofs.lemmas.Option.{same_Some}
 use Rattle.lert_bay.specs.Files.{Files}
+use Rattle.lert_cone.specs.Framed.{HoldsSome}
 use Rattle.lert_cone.specs.InStep.{IsInStep, IsPartway}
 use Rattle.lert_cone.specs.Listing.{Listing}
 use Rattle.lert_cone.proofs.KeyStep.{partway_step, sound_now, sound_behind}
@@ -38,6 +39,8 @@ loop-key-init g c = record {
       subst (λ (files : Files). IsInStep (g.B.Bay.leaves c.args.bay.now) files history c.args.tally.now.listing c.args.tally.now.rows c.args.tally.now.due.reports c.args.log.now) (same_Some seen after (sym told ∙ told_after)) up;
   each_moment = λ seen told history partway up image may.
       sound_now (g.B.Bay.leaves c.args.bay.now) seen history c.args.tally.now c.args.log.now c.args.keys.now c.requires.counted c.requires.still up partway image (g.met.B.Bay.only_now c.args.bay.now image may);
+  framed = λ seen told some after told_after.
+      subst (λ (files : Files). HoldsSome c.args.tally.now.listing.settings (length c.args.tally.now.listing.events) c.args.tally.now.rows (files 2)) (same_Some seen after (sym told ∙ told_after)) some;
   journal = leaves_none 0 (g.B.Bay.files c.args.bay.now) (g.B.Bay.leaves c.args.bay.now) (g.B.Bay.moment c.args.bay.now) (g.B.Bay.left_since c.args.bay.now) (g.met.B.Bay.only_now c.args.bay.now) (g.met.B.Bay.since_now c.args.bay.now);
   most = refl;
   never_falls = omega arith;
@@ -70,6 +73,9 @@ loop-key-preserved g c =
             | inr here ↦ sound_behind c.loop-key.tally.listing c.args.tally.now.listing history image (ap (λ (l : Listing). l.settings) c.loop-key.invariant.taken) (ap (λ (l : Listing). l.cone) c.loop-key.invariant.taken)
                 (c.take_key.ensures.each_moment mid.0 mid.1 history (subst (λ (l : Listing). IsPartway l.settings history l.events (get_or c.args.keys.now c.loop-key.key-index 0 ∷ [])) (sym c.loop-key.invariant.taken) (partway_step c.args.tally.now.listing.settings history c.args.tally.now.listing.events c.args.keys.now c.loop-key.key-index c.loop-key-test.true partway)) here_up image here)
           ]);
+      framed = λ seen told some.
+          (let mid = c.loop-key.invariant.journal.seen.told seen told in
+          c.in_ok-take_key.ensures.framed mid.0 mid.1 (c.loop-key.invariant.framed seen told some mid.0 mid.1));
       journal = (leaves_on 0 (g.B.Bay.files c.args.bay.now) (g.B.Bay.files c.loop-key.bay) (g.B.Bay.files c.take_key.new.bay) (g.B.Bay.leaves c.args.bay.now) (g.B.Bay.leaves c.loop-key.bay) (g.B.Bay.leaves c.take_key.new.bay) (g.B.Bay.moment c.args.bay.now) (g.B.Bay.moment c.loop-key.bay) (g.B.Bay.moment c.take_key.new.bay) (g.B.Bay.left_since c.args.bay.now) (g.B.Bay.left_since c.loop-key.bay) (g.B.Bay.left_since c.take_key.new.bay) c.loop-key.invariant.journal c.take_key.ensures.journal (g.met.B.Bay.since_earlier c.take_key.new.bay));
       most = c.take_key.ensures.most ∙ c.loop-key.invariant.most;
       never_falls = omega (arith, c.loop-key.invariant.never_falls, c.take_key.ensures.never_falls);
@@ -79,3 +85,9 @@ loop-key-preserved g c =
 pub returns-in_err-take_key-clause-shows : goal.returns-in_err-take_key-clause-shows
 returns-in_err-take_key-clause-shows g c = λ seen told file at same.
     c.take_key.ensures.shows seen told file at (c.in_err-take_key.was ∙ handed_on c.from_residual.result c.in_err-take_key.field-0.0 c.from_residual.ensures.1 ∙ same)
+
+pub returns-in_err-take_key-clause-whole : goal.returns-in_err-take_key-clause-whole
+returns-in_err-take_key-clause-whole g c = λ seen told some at same.
+    (let mid = c.loop-key.invariant.journal.seen.told seen told in
+    c.take_key.ensures.whole mid.0 mid.1 (c.loop-key.invariant.framed seen told some mid.0 mid.1) at
+    (c.in_err-take_key.was ∙ handed_on c.from_residual.result c.in_err-take_key.field-0.0 c.from_residual.ensures.1 ∙ same))

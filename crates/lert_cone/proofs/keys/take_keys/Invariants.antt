@@ -1,6 +1,7 @@
 use Rattle.std.proofs.Common.{◌≡◌, ◌++◌, ◌≤◌, List, take, length}
 use Rattle.lert_base.specs.Packet.{Packet}
 use Rattle.lert_bay.specs.Files.{Files, IfTold}
+use Rattle.lert_cone.specs.Framed.{HoldsSome}
 use Rattle.lert_cone.specs.InStep.{IsInStep, IsLogging, IsPartway}
 use Rattle.lert_cone.specs.Sound.{IsSound}
 use Rattle.lert_cone.specs.Tally.{IsCounted}
@@ -20,6 +21,8 @@ invariant-loop-key g l = record {
   each_moment : IfTold (g.B.Bay.files l.fn.bay) (λ seen. (history : List Packet) → IsPartway l.fn.tally.listing.settings history l.fn.tally.listing.events l.fn.keys →
       IsInStep (g.B.Bay.leaves l.fn.bay) seen history l.fn.tally.listing l.fn.tally.rows l.fn.tally.due.reports l.fn.log →
       (image : Files) → g.B.Bay.left_since l.bay (g.B.Bay.moment l.fn.bay) image → IsSound l.fn.tally.listing.settings l.fn.tally.listing.cone history image);
+  framed : IfTold (g.B.Bay.files l.fn.bay) (λ seen. HoldsSome l.fn.tally.listing.settings (length l.fn.tally.listing.events) l.fn.tally.rows (seen 2) →
+      IfTold (g.B.Bay.files l.bay) (λ after. HoldsSome l.tally.listing.settings (length l.tally.listing.events) l.tally.rows (after 2)));
   journal : LeavesFile 0 (g.B.Bay.files l.fn.bay) (g.B.Bay.files l.bay) (g.B.Bay.leaves l.fn.bay) (g.B.Bay.leaves l.bay) (g.B.Bay.moment l.fn.bay) (g.B.Bay.moment l.bay) (g.B.Bay.left_since l.fn.bay) (g.B.Bay.left_since l.bay);
   most : l.log.most ≡ l.fn.log.most;
   never_falls : g.B.Faulty.faults l.fn.bay ≤ g.B.Faulty.faults l.bay;

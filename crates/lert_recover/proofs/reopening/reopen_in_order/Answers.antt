@@ -4,6 +4,7 @@ use Rattle.lert_base.specs.Packet.{Packet, events_of}
 use Rattle.lert_bay.specs.Files.{Files}
 use Rattle.lert_gatelog.specs.Gated.{IsClosed}
 use Rattle.lert_cone.specs.declared.state.ConeState.TheVariants.{Finished, Running}
+use Rattle.lert_cone.specs.Framed.{HoldsSome}
 use Rattle.lert_cone.specs.Replays.{Replays}
 use Rattle.lert_cone.specs.Sound.{IsSound}
 use Rattle.lert_cone.specs.Stands.{Standing, StandsFor, WasSound}
@@ -12,6 +13,7 @@ use Rattle.lert_recover.specs.declared.reopening.ReopenRefused.{ReopenRefused}
 use Rattle.lert_recover.specs.Replayed.{HasReplayed}
 use Rattle.lert_recover.specs.Reopened.{IsStopped}
 use Rattle.lert_recover.proofs.ReopenLaws.{fails_on, frames_settled, journal_settled, last_of, log_shut, ok_on, refused_before, reopened_of, sound_opened, stands_on}
+use Rattle.lert_recover.proofs.SomeEvents.{some_events}
 use Rattle.lert_recover.proofs.reopening.reopen_in_order.Goals as goal
 
 -- ---- what a cone asks of the files
@@ -34,7 +36,7 @@ adopt-begun-requires-clause-frames g c seen told from to named =
 
 pub returns-in-Err-clause-told : goal.returns-in-Err-clause-told
 returns-in-Err-clause-told g c seen told =
-    refused_before c.args.room.settings c.args.cone seen (g.B.Bay.files c.read_files.new.bay) c.in-Err.fault
+    refused_before c.args.room.settings c.args.cone seen c.in-Err.fault
     (λ file at is. c.in-Err.ensures.malformed seen told file at (ap Err is))
     (λ kept is. c.in-Err.ensures.other seen told kept (ap Err is))
 
@@ -68,17 +70,17 @@ returns-in-Ok-clause-told g c seen told =
     let after = c.read_files.ensures.quiet.seen ∙ told in
     let opened = c.in-Ok.ensures.opened seen told in
     let result = c.replay_journal.result in
-    let journal = subst (λ (k : Standing g.row.B.Denot). (now : Files) → files k.bay ≡ Some now → MatchResult result
+    let journal = subst (λ (k : Standing g.row.B.Denot). (now : Files) → files k.bay ≡ Some now → HoldsSome k.listing.settings k.last.n0 k.rows (now 2) → MatchResult result
     (λ (cone : Standing g.row.B.Denot). HasReplayed k.listing.settings k.listing.cone k.last.n0 k.last.closed (now 0) cone.gate cone.listing.events × IsClosed (now 0) cone.gate)
-    (λ (refused : ReopenRefused g.row.B.Denot). IsStopped k.listing.settings k.listing.cone k.last.n0 k.last.closed (now 0) (files refused.bay) refused.fault)) c.adopt-begun.ensures.made c.replay_journal.ensures.told in
+    (λ (refused : ReopenRefused g.row.B.Denot). IsStopped k.listing.settings k.listing.cone k.last.n0 k.last.closed (now 0) refused.fault)) c.adopt-begun.ensures.made c.replay_journal.ensures.told in
     let passed = subst (λ (k : Standing g.row.B.Denot). IfOk result (λ (cone : Standing g.row.B.Denot). k.last.n0 ≤ length cone.listing.events)) c.adopt-begun.ensures.made c.replay_journal.ensures.passed in
     let closed = subst (λ (k : Standing g.row.B.Denot). IfOk result (λ (cone : Standing g.row.B.Denot). cone.listing.closed ≡ k.listing.closed)) c.adopt-begun.ensures.made
     (ok_on (λ (cone : Standing g.row.B.Denot). (cone.listing.closed ≡ c.adopt-begun.result.listing.closed) × (cone.state ≡ if c.adopt-begun.result.last.closed then Finished else Running)) (λ (cone : Standing g.row.B.Denot). cone.listing.closed ≡ c.adopt-begun.result.listing.closed)
     result (λ cone both. both.0) c.replay_journal.ensures.state) in
     reopened_of (λ (cone : Standing g.row.B.Denot). cone.listing.closed) (λ (cone : Standing g.row.B.Denot). cone.listing.events) (λ (cone : Standing g.row.B.Denot). cone.gate)
-    (λ (refused : ReopenRefused g.row.B.Denot). refused.fault) (λ (refused : ReopenRefused g.row.B.Denot). files refused.bay)
+    (λ (refused : ReopenRefused g.row.B.Denot). refused.fault)
     s c.args.cone seen opened.0 c.in-Ok.end.log_end c.read_files.new.levels.rows c.in-Ok.end.n0 c.in-Ok.end.closed opened.2 opened.1.n0_is opened.1.closed_is result
-    (journal seen after) passed closed (returns-in-Ok-clause-fails g c seen told)
+    (journal seen after (some_events s c.requires.room.valid c.in-Ok.end.n0 c.in-Ok.ensures.point.within c.read_files.new.levels.rows c.in-Ok.ensures.at (seen 2) (c.in-Ok.ensures.stand seen told))) passed closed (returns-in-Ok-clause-fails g c seen told)
 
 pub returns-in-Ok-clause-stands : goal.returns-in-Ok-clause-stands
 returns-in-Ok-clause-stands g c =

@@ -1,7 +1,6 @@
 use Rattle.std.proofs.Common.{◌≡◌, ℕ, List, ap, sym, ◌∙◌, subst}
 use Rattle.lert_spec.specs.declared.numbers.Numbers.{Numbers}
 use Rattle.lert_cone.specs.declared.log_point.LogPoint.{LogPoint}
-use Rattle.lert_cone.specs.Tally.{Shows}
 use Rattle.lert_cone.specs.Stands.{Standing}
 use Rattle.lert_cone.proofs.SoundLaws.{turns_back}
 use Rattle.lert_recover.specs.Reopened.{IsWhy}
@@ -21,7 +20,7 @@ returns-in-Ok-clause-stands g c h some count begun =
     c.in-Ok.ensures.replays back.0 back.1 h (begun (was_before files start end c.replay_all.ensures.same_cone was) back.0 back.1))
 
 pub returns-in-Err-clause-told : goal.returns-in-Err-clause-told
-returns-in-Err-clause-told g c seen told =
+returns-in-Err-clause-told g c seen told some =
     let files = g.B.Bay.files in
     let start = c.args.cone in
     let end = c.replay_all.new.cone in
@@ -35,13 +34,8 @@ returns-in-Err-clause-told g c seen told =
     (subst (λ (cone : ℕ). IsWhy c.args.settings.now cone start.last.n0 start.last.closed (seen 0) stop.events stop.gate stop.fault fault) (sym c.requires.own.1)
     (subst (λ (last : LogPoint). IsWhy c.args.settings.now c.args.number last.n0 last.closed (seen 0) stop.events stop.gate stop.fault fault) (sym c.requires.own.2)
     (subst (λ (bytes : List ℕ). IsWhy c.args.settings.now c.args.number c.args.last.now.n0 c.args.last.now.closed bytes stop.events stop.gate stop.fault fault) there.2 found))) in
-    stopped_of start.listing.settings start.listing.cone start.last.n0 start.last.closed (seen 0) stop.gate stop.events stopped.0 stopped.1 stopped.2 (files c.why_stopped-fault.new.bay) fault stop.fault why stopped.3
-    (λ file at is now told_now. (
-      end.rows,
-      end.reports,
-      subst (λ (s : Numbers). Shows s end.rows end.reports (now 2) file at) c.replay_all.ensures.same_cone.settings
-          (c.in-Err.ensures.shown now (sym (c.why_stopped-fault.ensures.only_read.seen ∙ ap files c.into_bay-bay.ensures) ∙ told_now) file at is),
-    ))
+    stopped_of start.listing.settings start.listing.cone start.last.n0 start.last.closed (seen 0) stop.gate stop.events stopped.0 stopped.1 stopped.2 fault stop.fault why stopped.3
+    (λ file at is. c.in-Err.ensures.full seen told some file at is)
 
 pub returns-in-Err-clause-fails : goal.returns-in-Err-clause-fails
 returns-in-Err-clause-fails g c seen told h begun =
@@ -50,7 +44,7 @@ returns-in-Err-clause-fails g c seen told h begun =
     outside_of c.args.settings.now c.args.number c.args.last.now.n0 c.args.last.now.closed (there.0 0) c.in-Err.stop.events c.in-Err.stop.gate c.why_stopped-fault.result c.in-Err.stop.fault found (c.in-Err.ensures.replays seen told h begun)
 
 pub returns-in-Ok-clause-told : goal.returns-in-Ok-clause-told
-returns-in-Ok-clause-told g c seen told =
+returns-in-Ok-clause-told g c seen told some =
     let start = c.args.cone in
     let read = c.in-Ok.ensures.told seen told in
     let events_are = ap (λ (k : Standing g.row.B.Denot). k.listing.events) c.ready.ensures.value in

@@ -1,9 +1,11 @@
 use Rattle.std.proofs.Common.{◌≡◌, ◌+◌, ◌≤◌, [], ◌∷◌, ◌++◌, length, ap, sym, ◌∙◌, subst, arith, length-append, Err}
 use Rattle.lert_spec.specs.declared.numbers.Numbers.{Numbers}
 use Rattle.lert_spec.specs.Edges.{capacity}
+use Rattle.lert_cone.specs.declared.refusal.ReplayFault.TheVariants.{Unsound}
 use Rattle.lert_cone.specs.Replays.{Replays, WhyRefused}
 use Rattle.lert_cone.specs.Stands.{Standing}
 use Rattle.lert_recover.proofs.ReplayingLaws.{journal_on, left_on, read_on, same_on}
+use Rattle.lert_recover.proofs.StopLaws.{full_alone}
 use Rattle.lert_recover.proofs.replaying.replay_all.Goals as goal
 
 pub packets-preserved : goal.packets-preserved
@@ -33,6 +35,9 @@ packets-preserved g c =
           let there = now.journal.told seen told in
           let step = rw c.in-Ok-Some.field-0-is at (c.in-Ok-Some.ensures.replays there.0 there.1 h done.0 done.1 (sym now.gate_is)) in
           (done.0 ++ step.0 ∷ [], step.1);
+      framed = λ seen told some.
+          let there = now.journal.told seen told in
+          c.in-Ok-Some.ensures.framed there.0 there.1 (now.framed seen told some there.0 there.1);
       journal = journal_on (files start.bay) (files old.bay) (files new.bay) now.journal c.replay.ensures.journal.seen;
       never_falls = omega (arith, now.never_falls, c.replay.ensures.never_falls);
       mark = c.replay.ensures.mark ∙ now.mark;
@@ -57,8 +62,13 @@ returns-in-Err-clause-told g c seen told =
           (λ there told_there. subst (WhyRefused c.packets.cone (there 0) c.packets.gate) is (c.in-Err.ensures.refused there told_there)),
     )
 
-pub returns-in-Err-clause-shown : goal.returns-in-Err-clause-shown
-returns-in-Err-clause-shown g c seen told file at is = c.in-Err.ensures.unsound file at (ap Err is) seen told
+pub returns-in-Err-clause-full : goal.returns-in-Err-clause-full
+returns-in-Err-clause-full g c seen told some file at is =
+    let now = c.packets.invariant in
+    let there = now.journal.told seen told in
+    let after = c.replay.ensures.journal.seen.told there.0 there.1 in
+    full_alone c.replay.new.self.listing.settings c.replay.new.self.rows c.replay.new.self.reports (after.0 2) file at (c.in-Err.ensures.unsound file at (ap Err is) after.0 after.1)
+    (λ same. c.in-Err.ensures.whole there.0 there.1 (now.framed seen told some there.0 there.1) at (ap Err is ∙ ap (λ f. Err (Unsound f at)) same))
 
 pub returns-in-Err-clause-replays : goal.returns-in-Err-clause-replays
 returns-in-Err-clause-replays g c seen told h begun =

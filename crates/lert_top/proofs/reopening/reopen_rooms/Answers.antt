@@ -41,15 +41,15 @@ returns-in-Err-clause-unopened g c =
     let there = bay_there g.B.Bay.files g.B.Faulty.faults g.B.Faulty.mark bays front bay rest cones split here.split.1 later in
     let is = c.bring_back.ensures.bays ∙ ap (λ xs. bays_of cones ++ xs) c.push_front_reserved.ensures.items in
     let popped = All-pop (IsNewRoom s) c.loop-number.rooms.items c.pop.new.self.items (Some c.in-Some.room) c.in-Some.ensures.items here.rooms in
-    let why : WasRefused g.B.Bay.files c.in-Some.room.settings c.loop-number.number bay back fault = record {
+    let why : WasRefused g.B.Bay.files c.in-Some.room.settings c.loop-number.number bay fault = record {
       malformed = c.in-Err.ensures.malformed;
       other_is = c.in-Err.ensures.other;
       refuses = c.in-Err.ensures.refuses;
       differs = c.in-Err.ensures.differs;
       opens = c.in-Err.ensures.sound_opens;
     } in
-    let why_here = subst (λ (n : Numbers). WasRefused g.B.Bay.files n (length cones) bay back fault) popped.1.0
-    (subst (λ (n : ℕ). WasRefused g.B.Bay.files c.in-Some.room.settings n bay back fault) (sym here.number) why) in
+    let why_here = subst (λ (n : Numbers). WasRefused g.B.Bay.files n (length cones) bay fault) popped.1.0
+    (subst (λ (n : ℕ). WasRefused g.B.Bay.files c.in-Some.room.settings n bay fault) (sym here.number) why) in
     let unopened = unopened_by g.B.Bay.files g.B.Bay.leaves g.B.Faulty.faults g.B.Faulty.mark s bays front bay rest cones there here.open_cones back fault why_here c.in-Err.ensures.failed in
     subst (IsUnopened g.B.Bay.files g.B.Faulty.faults s bays c.bring_back.new.bays.items) (sym c.status_of.ensures)
     (subst (λ xs. IsUnopened g.B.Bay.files g.B.Faulty.faults s bays xs (reopen_status c.loop-number.number fault)) (sym is)

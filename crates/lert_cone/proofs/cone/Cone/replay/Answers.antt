@@ -1,4 +1,4 @@
-use Rattle.std.proofs.Common.{rules, ◌≡◌, ◌∙◌, ℕ, ◌+◌, ◌*◌, ◌++◌, ◌∷◌, [], List, length, take, drop, Some, Err, IsTrue, IsFalse, refl, sym, ap, subst, inl, ◌⊎◌, arith, length-append}
+use Rattle.std.proofs.Common.{rules, ◌≡◌, ◌∙◌, ℕ, ◌+◌, ◌*◌, ◌++◌, ◌∷◌, [], List, length, take, drop, max, Some, Err, IsTrue, IsFalse, refl, sym, ap, subst, inl, ◌⊎◌, arith, length-append}
 use Rattle.std.specs.List.{length_refill}
 use Rattle.lert_base.specs.Entries.{packet_of}
 use Rattle.lert_base.specs.Packet.{events_of}
@@ -10,6 +10,7 @@ use Rattle.lert_spec.specs.declared.numbers.Numbers.{Numbers}
 use Rattle.lert_cone.specs.declared.refusal.ReplayFault.{ReplayFault}
 use Rattle.lert_cone.specs.declared.refusal.ReplayFault.TheVariants.{Failed, OutOfMemory, Unsound}
 use Rattle.lert_cone.specs.declared.state.ConeState.TheVariants.{Replaying}
+use Rattle.lert_cone.specs.Framed.{HoldsSome}
 use Rattle.lert_cone.specs.History.{most_payload}
 use Rattle.lert_cone.specs.InStep.{IsLogging}
 use Rattle.lert_cone.specs.Listing.{Listing}
@@ -263,3 +264,23 @@ pub returns-in-Err-clause-unsound : goal.returns-in-Err-clause-unsound
 returns-in-Err-clause-unsound g c = λ file at same.
     let answer : c.from-fault.result ≡ Unsound file at = cc in
     absurd (never_unsound c.in-Err.fault file at (sym c.from-fault.ensures ∙ answer))
+
+-- the frames, whatever events they hold
+pub returns-in-Err-replay_keys-clause-whole : goal.returns-in-Err-replay_keys-clause-whole
+returns-in-Err-replay_keys-clause-whole g c = rw (← c.self.view_is) (λ seen told some at same.
+    let answer : c.from.result ≡ Unsound 2 at = cc in
+    let fault_is = unsound_keys c.in-Err-replay_keys.fault 2 at (sym c.from.ensures ∙ answer) in
+    c.replay_keys.ensures.whole seen (c.read_record.ensures.seen ∙ told) some at (c.in-Err-replay_keys.is ∙ ap Err fault_is))
+
+pub returns-in-Err-clause-whole : goal.returns-in-Err-clause-whole
+returns-in-Err-clause-whole g c = λ seen told some at same.
+    (let answer : c.from-fault.result ≡ Unsound 2 at = cc in
+    never_unsound c.in-Err.fault 2 at (sym c.from-fault.ensures ∙ answer))
+
+pub returns-in_default-clause-framed : goal.returns-in_default-clause-framed
+returns-in_default-clause-framed g c = rw (← c.self.view_is) (λ seen told some. c.in_default.ensures.framed seen (c.read_record.ensures.seen ∙ told) some)
+
+pub returns-in-Ok-false-clause-framed : goal.returns-in-Ok-false-clause-framed
+returns-in-Ok-false-clause-framed g c = rw (← c.self.view_is) (λ seen told some after told_after.
+    subst (λ (files : Files). HoldsSome c.self.inside.tally.listing.settings (max c.self.inside.last.n0 (length c.self.inside.tally.listing.events)) c.self.inside.tally.rows (files 2))
+    (told_once (g.B.Bay.files c.self.inside.bay) seen after told (sym c.read_record.ensures.seen ∙ told_after)) some)

@@ -6,8 +6,9 @@ use Rattle.lert_spec.specs.declared.numbers.Numbers.{Numbers}
 use Rattle.lert_spec.specs.Edges.{capacity}
 use Rattle.lert_spec.specs.Mix.{cone_of}
 use Rattle.lert_cone.specs.Due.{Dues, started}
+use Rattle.lert_cone.specs.Framed.{HoldsSome}
 use Rattle.lert_cone.specs.Tally.{Tallied, IsCounted, IsHeld, due_in}
-use Rattle.lert_cone.proofs.TakeLaws.{rows_before, young_now, frames_now, all_long, counted_next, held_next, never_full, err_is, shows_frame, shows_full}
+use Rattle.lert_cone.proofs.TakeLaws.{rows_before, young_now, frames_now, others, others_long, others_young, others_frames, others_next, all_long, counted_next, held_next, never_full, err_is, shows_frame, shows_full}
 use Rattle.lert_cone.proofs.TallyLaws.{frames_more}
 use Rattle.lert_cone.proofs.tally.Tally.take.Goals as goal
 
@@ -122,3 +123,25 @@ returns-then-is_full-clause-shows g c = λ seen told file at same.
     let settings_are = took.1.settings_are ∙ ap (λ (d : Dues). d.settings) start_is ∙ counted.due_settings in
     shows_full c.self.inside.settings c.bring-due.new.levels.rows c.bring-due.result.0.reports (seen 2)
     (c.is_full-is_full.ensures.full c.if-is_full.true ∙ ap (λ (s : Numbers). s.room) settings_are) file at same
+
+-- the frames, whatever events they hold
+pub returns-in_err-result-clause-whole : goal.returns-in_err-result-clause-whole
+returns-in_err-result-clause-whole g c = λ seen told is_some at same.
+    let t : Tallied = record { listing = record { settings = c.self.inside.settings; cone = c.self.inside.cone; events = c.self.inside.taken; closed = c.self.inside.closed }; young = c.self.inside.zero; rows = c.self.inside.levels.rows; due = due_in c.self.inside.due } in
+    let counted : IsCounted t = subst (λ (v : Tallied). IsCounted v) (sym c.self.view_is) c.requires.counted in
+    let fits : length c.self.inside.taken < capacity c.self.inside.settings = subst (λ (v : Tallied). length v.listing.events < capacity v.listing.settings) (sym c.self.view_is) c.requires.fits in
+    let m_is : c.self.inside.len + 1 ≡ suc (length c.self.inside.taken) = omega (arith, c.self.invariant.len_is) in
+    let some : HoldsSome t.listing.settings (length t.listing.events) t.rows (seen 2) = subst (λ (v : Tallied). HoldsSome v.listing.settings (length v.listing.events) v.rows (seen 2)) (sym c.self.view_is) is_some in
+    let fine = c.bring-due.ensures.sound (others t c.self.inside.levels.settings c.self.invariant.levels_settings c.self.invariant.valid c.self.invariant.named c.self.invariant.young_settings counted fits c.args.key c.tail_of-tail.result (c.self.inside.len + 1) c.tail_of-tail.ensures.value m_is c.add.new.self c.add.ensures (seen 2) some) (others_long t c.self.inside.levels.settings c.self.invariant.levels_settings c.self.invariant.valid c.self.invariant.named c.self.invariant.young_settings counted fits c.args.key c.tail_of-tail.result (c.self.inside.len + 1) c.tail_of-tail.ensures.value m_is c.add.new.self c.add.ensures (seen 2) some) (others_young t c.self.inside.levels.settings c.self.invariant.levels_settings c.self.invariant.valid c.self.invariant.named c.self.invariant.young_settings counted fits c.args.key c.tail_of-tail.result (c.self.inside.len + 1) c.tail_of-tail.ensures.value m_is c.add.new.self c.add.ensures (seen 2) some) seen told (others_frames t c.self.inside.levels.settings c.self.invariant.levels_settings c.self.invariant.valid c.self.invariant.named c.self.invariant.young_settings counted fits c.args.key c.tail_of-tail.result (c.self.inside.len + 1) c.tail_of-tail.ensures.value m_is c.add.new.self c.add.ensures (seen 2) some) in
+    err_is c.from_residual.result c.in_err-result.field-0.0 c.from_residual.ensures.1 (λ place is. fine place (c.in_err-result.was ∙ ap Err is)) 2 at same
+
+pub returns-clause-framed : goal.returns-clause-framed
+returns-clause-framed g c = λ seen told is_some after told_after.
+    let t : Tallied = record { listing = record { settings = c.self.inside.settings; cone = c.self.inside.cone; events = c.self.inside.taken; closed = c.self.inside.closed }; young = c.self.inside.zero; rows = c.self.inside.levels.rows; due = due_in c.self.inside.due } in
+    let counted : IsCounted t = subst (λ (v : Tallied). IsCounted v) (sym c.self.view_is) c.requires.counted in
+    let fits : length c.self.inside.taken < capacity c.self.inside.settings = subst (λ (v : Tallied). length v.listing.events < capacity v.listing.settings) (sym c.self.view_is) c.requires.fits in
+    let m_is : c.self.inside.len + 1 ≡ suc (length c.self.inside.taken) = omega (arith, c.self.invariant.len_is) in
+    let some : HoldsSome t.listing.settings (length t.listing.events) t.rows (seen 2) = subst (λ (v : Tallied). HoldsSome v.listing.settings (length v.listing.events) v.rows (seen 2)) (sym c.self.view_is) is_some in
+    let stay = rw c.in_ok-result.was at (c.bring-due.ensures.holds (others t c.self.inside.levels.settings c.self.invariant.levels_settings c.self.invariant.valid c.self.invariant.named c.self.invariant.young_settings counted fits c.args.key c.tail_of-tail.result (c.self.inside.len + 1) c.tail_of-tail.ensures.value m_is c.add.new.self c.add.ensures (seen 2) some) (others_long t c.self.inside.levels.settings c.self.invariant.levels_settings c.self.invariant.valid c.self.invariant.named c.self.invariant.young_settings counted fits c.args.key c.tail_of-tail.result (c.self.inside.len + 1) c.tail_of-tail.ensures.value m_is c.add.new.self c.add.ensures (seen 2) some) (others_young t c.self.inside.levels.settings c.self.invariant.levels_settings c.self.invariant.valid c.self.invariant.named c.self.invariant.young_settings counted fits c.args.key c.tail_of-tail.result (c.self.inside.len + 1) c.tail_of-tail.ensures.value m_is c.add.new.self c.add.ensures (seen 2) some) seen told (others_frames t c.self.inside.levels.settings c.self.invariant.levels_settings c.self.invariant.valid c.self.invariant.named c.self.invariant.young_settings counted fits c.args.key c.tail_of-tail.result (c.self.inside.len + 1) c.tail_of-tail.ensures.value m_is c.add.new.self c.add.ensures (seen 2) some)) in
+    let rows = rw c.in_ok-result.was at c.bring-due.ensures.rows in
+    subst (λ (events : List ℕ). HoldsSome c.self.inside.settings (length events) c.bring-due.new.levels.rows (after 2)) (sym c.push.ensures) (others_next t c.self.inside.levels.settings c.self.invariant.levels_settings c.self.invariant.valid c.self.invariant.named c.self.invariant.young_settings counted fits c.args.key c.tail_of-tail.result (c.self.inside.len + 1) c.tail_of-tail.ensures.value m_is c.add.new.self c.add.ensures (seen 2) some c.bring-due.new.levels.rows (after 2) rows (stay after told_after))
