@@ -2,8 +2,8 @@
 //!
 //! `reopen` makes the three files durable, reads the header of the journal, the whole log and the frames that the last record of
 //! the log names, and replays the journal. Files that are sound for a list of packets make a cone that stands for it; else the
-//! answer names the first place at which the files leave their format, the numbers that the journal was written with, or what
-//! shows that the files are sound for no list.
+//! answer names the first place at which the files leave their format, the numbers that the journal was written with, or the
+//! start of the log, where the files are in their format and sound for no list.
 //!
 //! It stands on `read_files`, which reads what comes before the records of the journal, and this on `read_journal_header` and
 //! `read_whole_log`. These read alone.
