@@ -143,6 +143,24 @@ fn reports_of_a_flush_and_of_keys_behind_it_are_recovered(rt: HostRuntime) -> Re
 }
 
 #[test]
+fn the_last_records_name_the_frames_of_the_bins(rt: HostRuntime) -> Result<(), Fail> {
+    let alloc = rt.alloc();
+    let trace = trace_with(alloc, 32, &[])?;
+    let text = "cone 0 events 32 reports 0 closed\ntotal events 32 reports 0\n";
+    let left = left_by_run(&rt, SMALL, trace.as_slice(), 0, Status::Done, text)?;
+    let bay = bay_of(alloc, &left)?;
+    // The record of the flush at 32 and the closing one: both stand behind 32 keys, where level 1 has its bins in its frames 2
+    // and 3, and level 2 has one in its frame 0. The gates of both are open, and the one behind them is closed.
+    let records = [
+        1, 34, 0, 0, 0, 1, 32, 0, 0, 0, 0, 0, 0, 0, 32, 0, 0, 0, 0, 0, 0, 0, 1, 0, 0, 0, 0, 0, 0,
+        0, 2, 2, 3, 1, 0, 0, 0, 0, 0, 1, 34, 0, 0, 0, 2, 32, 0, 0, 0, 0, 0, 0, 0, 32, 0, 0, 0, 0,
+        0, 0, 0, 1, 0, 0, 0, 0, 0, 0, 0, 2, 2, 3, 1, 0, 0, 0, 0, 0, 0,
+    ];
+    assert!(rt; bay.bytes(LOG).ends_with(&records));
+    Ok(())
+}
+
+#[test]
 fn files_of_other_settings_are_refused(rt: HostRuntime) -> Result<(), Fail> {
     let numbers = ["4", "3", "2", "4", "2", "0", "32", "8"];
     let bay = sevens(&rt, 0)?;
