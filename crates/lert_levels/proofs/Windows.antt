@@ -54,7 +54,7 @@ total-window s events from to within =
     omega (arith, total-tallied s (slice_range events from to), length-take (to - from) (drop from events), length-drop from events)
 
 -- a number moved up to a lower edge and down to an upper one
-abbrev clamp : ℕ → ℕ → ℕ → ℕ
+abbrev pub clamp : ℕ → ℕ → ℕ → ℕ
 clamp low high n = min high (max low n)
 
 -- the cut intervals cover the window between the edges
@@ -97,7 +97,7 @@ cuts_whole s events tail wide low high n ordered covers =
     ∙ ap₂ (λ a b. counted s events tail a b) (let start : clamp low high (0 * wide) ≡ low = omega arith in start) (let end : clamp low high ((0 + n) * wide) ≡ high = omega arith in end)
 
 -- how many intervals reach a position
-reaches : (n wide high : ℕ) → 1 ≤ wide → high ≤ n → high ≤ suc (n / wide) * wide
+pub reaches : (n wide high : ℕ) → 1 ≤ wide → high ≤ n → high ≤ suc (n / wide) * wide
 reaches n wide high positive within =
     let parts = div-add-mod n wide in
     let rest = mod-lt n {m = wide} positive in

@@ -9,7 +9,7 @@ use Rattle.lert_spec.specs.Edges.{capacity}
 use Rattle.lert_spec.specs.Mix.{cone_of}
 use Rattle.lert_reports.specs.declared.log.LogBefore.{LogBefore}
 use Rattle.lert_reports.specs.LogText.{Field, is_broken, left_at, log_left, number_in, n0_in, next_flush, kind_field, n0_field, offset_field, first_field, head_fields, bin_count, level_place, frame_field, level_fields, directory_fields, reports_place, reports_in, at_before, key_field, at_field, count_field, report_fields, all_report_fields, end_field}
-use Rattle.lert_reports.proofs.DirectoryLaws.{level_place-next}
+use Rattle.lert_reports.proofs.DirectoryLaws.{level_place-next, later_place}
 use Rattle.lert_reports.proofs.FieldLaws.{broken, kept, whole, none_left, stops, goes_on, parted, first_kept, keeps_rule, each_none, in_first}
 
 pub some_place : (m n : ℕ) → Some m ≡ Some n → m ≡ n
@@ -87,13 +87,6 @@ module _ (payload : List ℕ) where
       ]
 
 -- ---- the fields of a record
-
-later_place : (s : Numbers) (n0 level n : ℕ) → 1 ≤ level → level_place s n0 level ≤ level_place s n0 (level + n)
-later_place s n0 level zero some = omega (arith, ap (level_place s n0) (let same : level + 0 ≡ level = omega arith in same))
-later_place s n0 level (suc n) some =
-    let next = level_place-next s n0 (level + n) (omega (arith, some)) in
-    let last = ap (level_place s n0) (let same : level + n + 1 ≡ level + suc n = omega arith in same) in
-    omega (arith, later_place s n0 level n some, next, last)
 
 -- an older level, or the reports, stand behind a level's frames
 behind_level : (s : Numbers) (n0 level : ℕ) → 1 ≤ level → level < 1 + s.levels → level_place s n0 level + 1 + bin_count s level n0 ≤ reports_place s n0

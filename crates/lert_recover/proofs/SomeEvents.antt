@@ -1,7 +1,7 @@
 -- Frames in the format hold the bins of some events: keys with the counts of each bin, put together in the order of positions.
-use Rattle.std.proofs.Common.{ℕ, ◌≡◌, ◌+◌, ◌-◌, ◌*◌, ◌/◌, ◌%◌, ◌^◌, ◌<◌, ◌≤◌, zero, suc, cond, eqb, List, [], ◌∷◌, ◌++◌, length, map, get_or, take, drop, min, max, replicate, refl, ap, ap₂, sym, ◌∙◌, arith, lit<, inl, inr, subst, flat_map, slice_range, append_assoc}
+use Rattle.std.proofs.Common.{ℕ, ◌≡◌, ◌+◌, ◌-◌, ◌*◌, ◌/◌, ◌%◌, ◌^◌, ◌<◌, ◌≤◌, zero, suc, cond, eqb, List, [], ◌∷◌, ◌++◌, length, map, get_or, take, drop, replicate, refl, ap, ap₂, sym, ◌∙◌, arith, lit<, inl, inr, subst, flat_map, slice_range, append_assoc}
 use Rattle.std.specs.List.{All}
-use Rattle.std.proofs.Math.Nat.{mul-le-mul_right, suc-mul, div-add-mod, mod-lt, mul_comm, mod-eq_of_lt, pow-le-pow_right}
+use Rattle.std.proofs.Math.Nat.{mul-le-mul_right, mod-eq_of_lt, pow-le-pow_right}
 use Rattle.std.proofs.Math.Seq.{take-append_seam, drop-append_seam}
 use Rattle.std.proofs.lemmas.Bool.{cases_lt, cases_eq, lt-ltb, le-ltb, eq-eqb, ne_eqb}
 use Rattle.std.proofs.lemmas.List.{map-append, length-append}
@@ -27,6 +27,7 @@ use Rattle.lert_levels.specs.Ranges.{Range, range_at, ranges}
 use Rattle.lert_levels.specs.Rows.{range_of, IsAt, tallied_in}
 use Rattle.lert_levels.proofs.HeldLaws.{all_stand}
 use Rattle.lert_levels.proofs.RangeLaws.{range_cuts, edge_within, oldest_edge}
+use Rattle.lert_levels.proofs.Windows.{clamp, reaches}
 use Rattle.lert_cone.specs.Framed.{HoldsSome}
 
 -- ---- keys with given counts
@@ -82,10 +83,6 @@ gapless-append : (from mid to : ℕ) (first second : List Range) → IsGapless f
 gapless-append from mid to [] second before behind = subst (λ n. IsGapless n second to) (sym before) behind
 gapless-append from mid to (range ∷ first) second before behind = (before.0, before.1, gapless-append range.to mid to first second before.2 behind)
 
--- a number moved up to a lower edge and down to an upper one
-abbrev clamp : ℕ → ℕ → ℕ → ℕ
-clamp low high n = min high (max low n)
-
 -- the cut intervals have no gap
 cuts_gapless : (wide low high first n : ℕ) → low ≤ high → IsGapless (clamp low high (first * wide)) (range_cuts wide low high first n) (clamp low high ((first + n) * wide))
 cuts_gapless wide low high first zero ordered = ap (λ k. clamp low high (k * wide)) (let same : first ≡ first + 0 = omega arith in same)
@@ -110,15 +107,6 @@ cuts_gapless wide low high first (suc n) ordered =
           subst (λ t. IsGapless (clamp low high (first * wide)) (cond t (range ∷ others) others) last) (sym (le-ltb range.from range.to none))
           (subst (λ k. IsGapless k others last) same rest))
     ]
-
--- how many intervals reach a position
-reaches : (n wide high : ℕ) → 1 ≤ wide → high ≤ n → high ≤ suc (n / wide) * wide
-reaches n wide high positive within =
-    let parts = div-add-mod n wide in
-    let rest = mod-lt n {m = wide} positive in
-    let next = suc-mul (n / wide) wide in
-    let turned = mul_comm (n / wide) wide in
-    omega arith
 
 -- nor have those of a level, between the edges around it
 ranges_gapless : (s : Numbers) → 1 ≤ s.base → 1 ≤ s.ratio → (n below : ℕ) → IsGapless (edge s (suc below) n) (ranges s n (suc below)) (edge s below n)

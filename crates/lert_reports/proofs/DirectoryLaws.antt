@@ -37,7 +37,7 @@ level_place-next s n0 level some =
     omega (arith, more, here, length_is)
 
 -- an older level stands further behind
-later_place : (s : Numbers) (n0 level n : ℕ) → 1 ≤ level → level_place s n0 level ≤ level_place s n0 (level + n)
+pub later_place : (s : Numbers) (n0 level n : ℕ) → 1 ≤ level → level_place s n0 level ≤ level_place s n0 (level + n)
 later_place s n0 level zero some = omega (arith, ap (level_place s n0) (let same : level + 0 ≡ level = omega arith in same))
 later_place s n0 level (suc n) some =
     let next = level_place-next s n0 (level + n) (omega (arith, some)) in
