@@ -1,0 +1,179 @@
+//! What a stop at any call of a cone's life leaves, and what it is opened again as.
+
+ghost use Rattle.std.specs.Prelude.{◌≡◌, ◌*◌, ◌<◌, ◌≤◌, length, IfOk};
+ghost use Rattle.lert_base.specs.Entries.{packet_of};
+ghost use Rattle.lert_journal.specs.Payload.{IsJournaled};
+
+use lert_base::{Entry, KeyList, Numbers, Report, Settings};
+use lert_bay::MemBay;
+use lert_cone::{Cone, ConeRoom, ConeState};
+use lert_mixer::cone_of;
+use lert_plain::PlainTable;
+use lert_recover::reopen;
+use std::alloc::{AllocError, Global};
+use std::process::Abort;
+use std::test::Fail;
+
+const SMALL: Numbers = Numbers {
+    threshold: 3,
+    bins: 3,
+    ratio: 2,
+    base: 4,
+    levels: 2,
+    cone_bits: 0,
+    room: 32,
+    packet: 8,
+};
+
+// How many keys a packet has here.
+const PACKET: usize = 8;
+
+// A number above that of the calls of each run here.
+const MOST_CALLS: u64 = 1_000;
+
+// A cone that was stopped: how many packets it took before, and whether it was finished.
+#[derive(Drop)]
+struct Left {
+    bay: MemBay,
+    packets: usize,
+    finished: bool,
+}
+
+fn settings() -> Result<Settings, Fail>
+    ensures { IfOk result (λ settings. settings ≡ SMALL) }
+{
+    let settings = Settings::new(SMALL);
+    Ok(settings.ok().ok_or("the numbers are settings")?)
+}
+
+// The packet of these keys, all of the only cone.
+fn packet(rt: &impl Abort, alloc: Global, keys: &[u64]) -> Result<Entry, Fail>
+    requires some { 0 < length keys.now }
+    requires few { length keys.now ≤ 8 }
+    ensures { IfOk result (λ entry. IsJournaled SMALL 0 (packet_of entry)) }
+{
+    let settings = settings()?;
+    let mut list = KeyList::with_room(alloc, keys.len())?;
+    for key in keys {
+        assert_eq!(rt; cone_of(&settings, *key), 0);
+        list.push(*key);
+    }
+    Ok(Entry::new(0, 0, list))
+}
+
+// Gives the packets from one on to the only cone, until it refuses one, and answers how many it has then.
+fn give(
+    rt: &impl Abort,
+    alloc: Global,
+    cone: &mut Cone<MemBay, PlainTable>,
+    keys: &[u64],
+    first: usize,
+) -> Result<usize, Fail>
+    requires settings { cone.old.listing.settings ≡ SMALL }
+    requires cone { cone.old.listing.cone ≡ 0 }
+{
+    for at in first..keys.len() / PACKET {
+        let packet = packet(rt, alloc, &keys[PACKET * at..PACKET * (at + 1)])?;
+        if cone.admit(&packet).is_err() {
+            return Ok(at);
+        }
+    }
+    Ok(keys.len() / PACKET)
+}
+
+// A cone over empty files whose bay stops at a call, or none, where that keeps it from being made.
+fn stopped(rt: &impl Abort, alloc: Global, keys: &[u64], call: u64) -> Result<Option<Left>, Fail> {
+    let mut bay = MemBay::new(alloc)?;
+    bay.stop_at(call);
+    let room = ConeRoom::new(alloc, &settings()?)?;
+    let Ok(mut cone) = Cone::create(room, 0, bay) else {
+        return Ok(None);
+    };
+    let packets = give(rt, alloc, &mut cone, keys, 0)?;
+    let finished = cone.finish().is_ok();
+    Ok(Some(Left {
+        bay: cone.into_bay(),
+        packets,
+        finished,
+    }))
+}
+
+// Opens what a crash leaves, which has the packets that were taken or one more, and goes on to the end.
+fn go_on(
+    rt: &impl Abort,
+    alloc: Global,
+    keys: &[u64],
+    image: MemBay,
+    taken: usize,
+    reports: &[Report],
+) -> Result<(), Fail> {
+    let room = ConeRoom::new(alloc, &settings()?)?;
+    let Ok(mut cone) = reopen(room, 0, image) else {
+        return Err(Fail::new("what a crash leaves is sound"));
+    };
+    let packets = cone.events() as usize / PACKET;
+    assert_eq!(rt; cone.events() as usize % PACKET, 0);
+    assert!(rt; taken <= packets);
+    assert!(rt; packets - taken <= 1);
+    if cone.state() == ConeState::Running {
+        assert_eq!(rt;
+            give(rt, alloc, &mut cone, keys, packets)?,
+            keys.len() / PACKET
+        );
+        assert!(rt; cone.finish().is_ok());
+    }
+    assert_eq!(rt; cone.state(), ConeState::Finished);
+    assert_eq!(rt; cone.events() as usize, keys.len());
+    assert_eq!(rt; cone.reports().list(), reports);
+    Ok(())
+}
+
+// Keys 1 to `last` of which those at these positions are 7, and each other is a key of its own.
+fn sevens_at(alloc: Global, last: u64, places: &[u64]) -> Result<Vec<u64>, AllocError>
+    requires { last < 1000 }
+{
+    let mut keys = Vec::new(alloc);
+    for m in 1..last + 1 {
+        keys.push(if places.contains(&m) { 7 } else { 1_000 + m })?;
+    }
+    Ok(keys)
+}
+
+// Stops a run over these keys at each of its calls, and goes on with each of four images. Answers the number of the first
+// call behind its last one.
+fn stop_at_each_call(
+    rt: &impl Abort,
+    alloc: Global,
+    keys: &[u64],
+    reports: &[Report],
+) -> Result<u64, Fail> {
+    for call in 1..MOST_CALLS {
+        for pick in 0..4 {
+            let Some(left) = stopped(rt, alloc, keys, call)? else {
+                break;
+            };
+            if left.finished {
+                return Ok(call);
+            }
+            let image = left.bay.crashed(pick)?;
+            go_on(rt, alloc, keys, image, left.packets, reports)?;
+        }
+    }
+    Err(Fail::new("no run met no stop"))
+}
+
+#[test]
+fn a_stop_at_any_call_loses_no_packet_that_was_taken(rt: HostRuntime) -> Result<(), Fail> {
+    let rows: [(u64, &[u64], &[Report]); 2] = [
+        (32, &[], &[]),
+        (16, &[1, 2, 13], &[Report { key: 7, at: 16 }]),
+    ];
+    for (last, places, reports) in rows {
+        assert!(rt; last < 1_000);
+        let keys = sevens_at(rt.alloc(), last, places)?;
+        let calls = stop_at_each_call(&rt, rt.alloc(), &keys, reports)?;
+        // A packet alone makes four.
+        assert!(rt; calls > 4 * last / 8);
+    }
+    Ok(())
+}
