@@ -12,9 +12,6 @@ use std::marker::Model;
 
 mod levels;
 mod rules;
-#[cfg(test)]
-mod tests;
-
 /// Eight numbers that keep all rules, with the span and the offset of each level computed once.
 ///
 /// No call takes memory. `edge`, `depth` and `lookback` make one division a level at most.

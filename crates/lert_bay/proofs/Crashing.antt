@@ -7,9 +7,11 @@ use Rattle.lert_bay.specs.Since.{IsTornSince}
 use Rattle.lert_bay.specs.Memory.{FileState, untouched, durable, file_of, seen_of, MayLeave, MayLeaveAll}
 use Rattle.lert_bay.proofs.Steps.{only_durable}
 
--- what a crash makes of a file by a pick: an image, with nothing pending, and by pick 0 the bytes of the last sync
+-- what a crash makes of a file by a pick: an image, with nothing pending, by pick 0 the bytes of the last sync and by pick 1
+-- those that a read gives
 pub record IsLeft (pick : ℕ) (old new : FileState) : Type 0 where
   pub lost : pick ≡ 0 → new.now ≡ old.synced
+  pub as_read : pick ≡ 1 → new.now ≡ old.now
   pub torn : IsTornSince old.synced old.written new.now
   pub at_rest : new ≡ durable new.now
 
@@ -23,14 +25,14 @@ pub left_none : (pick : ℕ) (files : List FileState) → LeftBelow pick 0 files
 left_none pick files = record { long = refl; left = λ number none. absurd (omega (arith, none)); rest = λ number from. refl }
 
 pub left_one : (pick index : ℕ) (old new : List FileState) (found file : FileState) → LeftBelow pick index old new → index < length new
-    → (pick ≡ 0 → file.now ≡ (slice_index_or new index found).synced)
+    → (pick ≡ 0 → file.now ≡ (slice_index_or new index found).synced) → (pick ≡ 1 → file.now ≡ (slice_index_or new index found).now)
     → IsTornSince (slice_index_or new index found).synced (slice_index_or new index found).written file.now → file ≡ durable file.now
     → LeftBelow pick (index + 1) old (slice_set new index file)
-left_one pick index old new found file below within lost torn at_rest =
+left_one pick index old new found file below within lost as_read torn at_rest =
     let was : slice_index_or new index found ≡ file_of old index = get_or_default new index found untouched within ∙ below.rest index (omega arith) in
     let here : file_of (slice_set new index file) index ≡ file = get_or-set_same new index file untouched within in
     let other : (number : ℕ) → number ≢ index → file_of (slice_set new index file) number ≡ file_of new number = λ number apart. get_or-set_other new index number file untouched apart in
-    let one : IsLeft pick (file_of old index) file = record { lost = λ picked. lost picked ∙ ap (λ f. f.synced) was; torn = subst (λ (f : FileState). IsTornSince f.synced f.written file.now) was torn; at_rest = at_rest } in
+    let one : IsLeft pick (file_of old index) file = record { lost = λ picked. lost picked ∙ ap (λ f. f.synced) was; as_read = λ picked. as_read picked ∙ ap (λ f. f.now) was; torn = subst (λ (f : FileState). IsTornSince f.synced f.written file.now) was torn; at_rest = at_rest } in
     record {
       long = length-set new index file ∙ below.long;
       left = λ number under. elim (cases_eq number index) [
@@ -72,4 +74,11 @@ left_lost pick old new all picked number = elim (cases_lt number (length old)) [
   | inr past ↦
       let none : file_of old number ≡ untouched = untouched_past old number past in
       ap (λ f. f.now) (all.rest number past) ∙ (ap (λ f. f.now) none ∙ ap (λ f. f.synced) (sym none))
+]
+
+-- by pick 1 those that a read gives
+pub left_as_read : (pick : ℕ) (old new : List FileState) → LeftBelow pick (length old) old new → pick ≡ 1 → (number : ℕ) → seen_of new number ≡ seen_of old number
+left_as_read pick old new all picked number = elim (cases_lt number (length old)) [
+  | inl within ↦ (all.left number within).as_read picked
+  | inr past ↦ ap (λ f. f.now) (all.rest number past)
 ]

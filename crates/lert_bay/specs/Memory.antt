@@ -1,7 +1,8 @@
 -- What a bay in memory is seen as, and the meanings that it gives to the members of `Bay`.
-use Rattle.std.specs.Prelude.{◌≡◌, ℕ, ◌-◌, ◌<◌, ◌≤◌, List, [], ◌∷◌, ◌++◌, length, slice_index_or, slice_set, Some, None, option_map, IsSomeAnd}
+use Rattle.std.specs.Prelude.{◌≡◌, ℕ, ◌+◌, ◌-◌, ◌<◌, ◌≤◌, min, Result, OnOk, OnErr, List, [], ◌∷◌, ◌++◌, length, slice_index_or, slice_set, Some, None, option_map, IsSomeAnd}
 use Rattle.std.proofs.Common.{◌⊎◌, inl, inr, ap, arith}
 use Rattle.lert_bay.specs.Files.{Files}
+use Rattle.lert_bay.specs.Images.{Elapses}
 use Rattle.lert_bay.specs.Since.{IsTornSince}
 use Rattle.lert_bay.specs.declared.extent.Extent.{Extent}
 use Rattle.lert_bay.specs.declared.plan.Plan.{Plan}
@@ -71,6 +72,18 @@ pub record Rewrites (number at count : ℕ) (step : List ℕ → List ℕ → Ty
   pub as_read : IsTornSince (file_of old.files number).synced (file_of old.files number).written (file_of old.files number).now
   pub synced : file.synced ≡ (file_of old.files number).synced
   pub written : file.written ≡ (file_of old.files number).written ++ record { at = at; count = count } ∷ []
+
+-- what each call changes beside the files: it takes the next number of the plan and a moment, and a failed one is counted
+pub record IsCounted {T E : Type 0} (old new : Disk) (result : Result T E) : Type 0 where
+  pub plan : new.plan ≡ ticked old.plan
+  pub past : new.past ≡ old.past ++ old.files ∷ []
+  pub mark : new.mark ≡ old.mark
+  pub ok : OnOk result (new.faults ≡ old.faults)
+  pub err : OnErr result (new.faults ≡ min (old.faults + 1) 18446744073709551615)
+
+-- a call takes a moment, of which the images are those from before or those after it
+abbrev pub TakesTime : Disk → Disk → Type 0
+TakesTime old new = Elapses (length old.past) (length new.past) (LeftSince old) (LeftSince new) (MayLeaveAll new.files)
 
 -- a bay as a read gives it is one of its images
 pub as_read : (disk : Disk) (seen : Files) → Some (seen_of disk.files) ≡ Some seen → MayLeaveAll disk.files seen

@@ -3,11 +3,13 @@
 //! The one contract is that of the trait `Bay`: what each call makes of the files as a read gives
 //! them, and of the images that a crash may leave, exactly. Everything that LERT promises about a
 //! machine that stops rests on it: gated records, frames, cones and recovery are generic over it.
-//! `MemBay` is a bay in memory that tells everything and can crash, for tests and generated traces.
+//! `MemBay` is a bay in memory that tells everything and can crash, for tests and generated traces; `fields` lays
+//! numbers and bytes into a buffer that is to be written.
 #![tactic(auto)]
 
 mod bay;
 mod extent;
+pub mod fields;
 mod laws;
 mod mem_bay;
 mod mem_file;

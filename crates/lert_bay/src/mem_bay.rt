@@ -12,9 +12,6 @@ use lert_io::{Failed, Faulty, OutOfMemory};
 use std::alloc::Global;
 use std::marker::Model;
 
-#[cfg(test)]
-mod tests;
-
 /// Three files in memory. It tells them, and what a crash at each moment since its making might have
 /// left of them.
 #[derive(Drop)]
@@ -139,6 +136,7 @@ impl MemBay {
     pub fn crashed(mut self, pick: u64) -> Result<MemBay, OutOfMemory>
         ensures image { IfOk result (λ bay. MayLeaveAll self.files (seen_of bay.files)) }
         ensures lost { pick ≡ 0 → IfOk result (λ bay. (number : ℕ) → seen_of bay.files number ≡ (file_of self.files number).synced) }
+        ensures as_read { pick ≡ 1 → IfOk result (λ bay. (number : ℕ) → seen_of bay.files number ≡ seen_of self.files number) }
         ensures durable { IfOk result (λ bay. (image : Files) → MayLeaveAll bay.files image → image ≡ seen_of bay.files) }
         ensures rest { IfOk result (λ bay. bay ≡ record {
           files = bay.files;
@@ -220,7 +218,9 @@ impl Faulty for MemBay {
 
 impl Bay for MemBay {
     ghost use Rattle.std.specs.Prelude.{Some, length};
-    ghost use Rattle.lert_bay.specs.Memory.{seen_of, MayLeaveAll, LeftSince, as_read, only_now, since_earlier};
+    ghost use Rattle.lert_bay.specs.Files.{IfTold, Turns, Changes, Torn, LeftByFailure, CopiesFrom};
+    ghost use Rattle.lert_bay.specs.Images.{KeepsImages, Follow, Settles};
+    ghost use Rattle.lert_bay.specs.Memory.{IsCounted, Strikes, TakesTime, seen_of, MayLeaveAll, LeftSince, as_read, only_now, since_earlier};
     ghost use Rattle.std.proofs.Common.{inl};
 
     ghost files = { λ b. Some (seen_of b.files) };
@@ -239,17 +239,49 @@ impl Bay for MemBay {
 
     ghost since_earlier = { since_earlier };
 
-    fn len(&mut self, file: u8) -> Result<u64, Failed> {
+    /// Fails exactly where the plan says so.
+    fn len(&mut self, file: u8) -> Result<u64, Failed>
+        requires { file < 3 }
+        ensures fails { IsErr result ↔ Strikes self.old.plan }
+        ensures counted { IsCounted self.old self.new result }
+        ensures told { IfTold (Some (seen_of self.old.files)) (λ seen. IfOk result (λ count. count ≡ length (seen file))) }
+        ensures seen { Some (seen_of self.new.files) ≡ Some (seen_of self.old.files) }
+        ensures images { KeepsImages (MayLeaveAll self.old.files) (MayLeaveAll self.new.files) }
+        ensures time { TakesTime self.old self.new }
+        ensures cause { HasCause self.old.faults self.new.faults result }
+    {
         self.begin()?;
         Ok(self.bytes(file).len() as u64)
     }
 
-    fn read_at(&mut self, file: u8, at: u64, into: &mut [u8]) -> Result<usize, Failed> {
+    /// Fails exactly where the plan says so.
+    fn read_at(&mut self, file: u8, at: u64, into: &mut [u8]) -> Result<usize, Failed>
+        requires { file < 3 }
+        ensures fails { IsErr result ↔ Strikes self.old.plan }
+        ensures counted { IsCounted self.old self.new result }
+        ensures within { IfOk result (λ count. count ≤ length into.new) }
+        ensures told { IfTold (Some (seen_of self.old.files)) (λ seen. IfOk result (λ count. CopiesFrom at count into.new (seen file))) }
+        ensures seen { Some (seen_of self.new.files) ≡ Some (seen_of self.old.files) }
+        ensures images { KeepsImages (MayLeaveAll self.old.files) (MayLeaveAll self.new.files) }
+        ensures time { TakesTime self.old self.new }
+        ensures cause { HasCause self.old.faults self.new.faults result }
+    {
         self.begin()?;
         Ok(self.files[file as usize].read(at, into))
     }
 
-    fn write_at(&mut self, file: u8, at: u64, bytes: &[u8]) -> Result<(), Failed> {
+    /// Fails where the plan says so, and else only where no memory was found.
+    fn write_at(&mut self, file: u8, at: u64, bytes: &[u8]) -> Result<(), Failed>
+        requires file { file < 3 }
+        requires reach { at + length bytes.now < 2 ^ 63 }
+        ensures fails { Strikes self.old.plan → IsErr result }
+        ensures counted { IsCounted self.old self.new result }
+        ensures written { OnOk result (Turns (Changes (Holds at bytes.now) file) (Some (seen_of self.old.files)) (Some (seen_of self.new.files))) }
+        ensures failed { OnErr result (Turns (Changes (LeftByFailure at (length bytes.now)) file) (Some (seen_of self.old.files)) (Some (seen_of self.new.files))) }
+        ensures images { Follow (Changes (Torn at (length bytes.now)) file) (MayLeaveAll self.old.files) (MayLeaveAll self.new.files) }
+        ensures time { TakesTime self.old self.new }
+        ensures cause { HasCause self.old.faults self.new.faults result }
+    {
         if self.begin().is_err() {
             let _ = self.write_part(file, at, bytes, bytes.len() / 2);
             return Err(Failed);
@@ -260,7 +292,17 @@ impl Bay for MemBay {
         }
     }
 
-    fn sync(&mut self, file: u8) -> Result<(), Failed> {
+    /// Fails exactly where the plan says so.
+    fn sync(&mut self, file: u8) -> Result<(), Failed>
+        requires { file < 3 }
+        ensures fails { IsErr result ↔ Strikes self.old.plan }
+        ensures counted { IsCounted self.old self.new result }
+        ensures seen { Some (seen_of self.new.files) ≡ Some (seen_of self.old.files) }
+        ensures durable { IfTold (Some (seen_of self.old.files)) (λ seen. OnOk result (Settles file (seen file) (MayLeaveAll self.old.files) (MayLeaveAll self.new.files))) }
+        ensures failed { OnErr result (KeepsImages (MayLeaveAll self.old.files) (MayLeaveAll self.new.files)) }
+        ensures time { TakesTime self.old self.new }
+        ensures cause { HasCause self.old.faults self.new.faults result }
+    {
         self.begin()?;
         self.settle(file);
         Ok(())

@@ -134,6 +134,7 @@ impl MemFile {
     pub fn crash(&mut self, pick: u64)
         ensures image { IsTornSince self.old.synced self.old.written self.new.now }
         ensures lost { pick ≡ 0 → self.new.now ≡ self.old.synced }
+        ensures as_read { pick ≡ 1 → self.new.now ≡ self.old.now }
         ensures durable { self.new ≡ durable self.new.now }
     {
         take_back(&mut self.bytes, &self.unsynced, pick);

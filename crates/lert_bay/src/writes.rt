@@ -67,6 +67,7 @@ pub fn take_back(bytes: &mut [u8], writes: &[Overwrite], pick: u64)
     ensures length { length bytes.new ≡ length bytes.old }
     ensures elsewhere { (place : ℕ) → All (λ write. IsOutside write.at (length write.old.items) place) writes.now → slice_index bytes.new place ≡ slice_index bytes.old place }
     ensures lost { pick ≡ 0 → (place : ℕ) → place < length bytes.old → slice_index bytes.new place ≡ before_all writes.now place (slice_index bytes.old place) }
+    ensures whole { pick ≡ 1 → bytes.new ≡ bytes.old }
 {
     for index in (0..writes.len()).rev() {
         restore(bytes, &writes[index], fate_of(pick, index));
@@ -79,6 +80,7 @@ pub fn length_left(pick: u64, least: usize, greatest: usize) -> usize
     ensures least { least ≤ result }
     ensures greatest { result ≤ greatest }
     ensures lost { pick ≡ 0 → result ≡ least }
+    ensures whole { pick ≡ 1 → result ≡ greatest }
 {
     match pick % 4 {
         0 => least,
@@ -89,11 +91,18 @@ pub fn length_left(pick: u64, least: usize, greatest: usize) -> usize
 
 // Picks below 4 give all writes one fate.
 fn fate_of(pick: u64, index: usize) -> Fate
-    ensures { pick ≡ 0 → result ≡ Fate.Lost }
+    ensures lost { pick ≡ 0 → result ≡ Fate.Lost }
+    ensures whole { pick ≡ 1 → result ≡ Fate.Whole }
 {
-    if pick == 0 {
-        return Fate::Lost;
+    match pick {
+        0 => Fate::Lost,
+        1 => Fate::Whole,
+        _ => mixed_fate(pick, index),
     }
+}
+
+// The fate of a write by a pick that gives them several.
+fn mixed_fate(pick: u64, index: usize) -> Fate {
     let turns = 2 + 2 * (index % 31) as u32;
     match (pick ^ (pick >> turns)) % 4 {
         0 => Fate::Lost,
@@ -108,6 +117,7 @@ fn lost_part(fate: Fate, count: usize) -> (usize, usize)
     ensures ordered { result.0 ≤ result.1 }
     ensures within { result.1 ≤ count }
     ensures lost { fate ≡ Fate.Lost → (result.0 ≡ 0) × (result.1 ≡ count) }
+    ensures whole { fate ≡ Fate.Whole → result.0 ≡ result.1 }
 {
     match fate {
         Fate::Lost => (0, count),
@@ -122,6 +132,7 @@ fn restore(bytes: &mut [u8], write: &Overwrite, fate: Fate)
     ensures length { length bytes.new ≡ length bytes.old }
     ensures elsewhere { (place : ℕ) → IsOutside write.now.at (length write.now.old.items) place → slice_index bytes.new place ≡ slice_index bytes.old place }
     ensures lost { fate ≡ Fate.Lost → (place : ℕ) → place < length bytes.old → slice_index bytes.new place ≡ before_all (write.now ∷ []) place (slice_index bytes.old place) }
+    ensures whole { fate ≡ Fate.Whole → bytes.new ≡ bytes.old }
 {
     let (from, to) = lost_part(fate, write.old.len());
     let start = write.at + from;

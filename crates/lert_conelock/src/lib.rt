@@ -29,8 +29,6 @@ mod pass;
 mod plays;
 mod rule;
 mod steps;
-#[cfg(test)]
-mod tests;
 mod turn;
 mod view;
 

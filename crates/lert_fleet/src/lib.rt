@@ -9,8 +9,6 @@
 mod fleet;
 mod pass;
 mod rows;
-#[cfg(test)]
-mod tests;
 
 pub use fleet::Fleet;
 pub use lert_conelock::Turn;

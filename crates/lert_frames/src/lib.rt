@@ -12,9 +12,6 @@ mod loading;
 mod place;
 mod read;
 mod storing;
-#[cfg(test)]
-mod tests;
-
 pub use bin::LoadedBin;
 pub use fault::LoadFault;
 pub use loading::load;

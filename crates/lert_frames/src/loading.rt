@@ -10,7 +10,7 @@ ghost use Rattle.lert_spec.specs.declared.piece.Piece.{Piece};
 ghost use Rattle.lert_spec.specs.Edges.{span};
 ghost use Rattle.lert_spec.specs.Table.{AreGiven};
 ghost use Rattle.lert_frames.specs.Frame.{HoldsFrame, IsBin, count_at, head_left, frame_left, piece_place};
-ghost use Rattle.lert_frames.specs.Kept.{OnlyRead};
+ghost use Rattle.lert_bay.specs.Kept.{OnlyRead};
 ghost use Rattle.lert_frames.specs.Place.{frame_place, tail_limit};
 ghost use Rattle.lert_frames.specs.Reading.{AreRead, BreaksFirst};
 

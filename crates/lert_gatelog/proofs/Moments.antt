@@ -1,8 +1,9 @@
 -- What each image of each moment of a call comes from.
-use Rattle.std.proofs.Common.{◌≡◌, ℕ, ◌≤◌, List, Option, Some, Result, Ok, Err, OnOk, OnErr, length, sym, ◌∙◌, subst, inl, inr, arith}
+use Rattle.std.proofs.Common.{◌≡◌, ℕ, ◌+◌, ◌≤◌, List, [], ◌∷◌, Option, Some, Result, Ok, Err, OnOk, OnErr, length, sym, ◌∙◌, subst, inl, inr, arith}
 use Rattle.std.proofs.lemmas.List.{take_all}
 use Rattle.lert_bay.specs.Files.{Files, Changes, Turns, Torn, Holds, LeftByFailure}
 use Rattle.lert_bay.specs.Images.{ComesByWrite, Elapses, Follow, Settles, KeepsImages}
+use Rattle.lert_gatelog.specs.Kept.{IsAppended}
 use Rattle.lert_bay.proofs.Tearing.{comes_same, left_by_part}
 
 -- through the write
@@ -43,4 +44,20 @@ pub held_is_left : (file at : ℕ) (bytes : List ℕ) (old new : Files) → Chan
 held_is_left file at bytes old new held = record {
   here = left_by_part at (length bytes) bytes (old file) (new file) (omega arith) (subst (λ (piece : List ℕ). Holds at piece (old file) (new file)) (sym (take_all (length bytes) bytes (omega arith))) held.here);
   others = held.others;
+}
+
+-- two writes into one file, the text behind a gate and then the gate
+pub turns_appended : (file gate : ℕ) (text : List ℕ) (first second third : Option Files) → Turns (Changes (Holds (gate + 1) text) file) first second → Turns (Changes (Holds gate (1 ∷ [])) file) second third → Turns (Changes (IsAppended gate text) file) first third
+turns_appended file gate text first second third laid opened = record {
+  told = λ old told.
+      let between = laid.told old told in
+      let new = opened.told between.0 between.1 in (
+        new.0,
+        new.1,
+        record {
+          here = record { between = between.0 file; laid = between.2.here; opened = new.2.here };
+          others = λ other apart. new.2.others other apart ∙ between.2.others other apart;
+        },
+      );
+  untold = λ none. opened.untold (laid.untold none);
 }

@@ -1,7 +1,7 @@
 -- What the calls of a log keep of a bay.
-use Rattle.std.specs.Prelude.{◌≡◌, ◌≢◌, ℕ, ◌≤◌, List, [], ◌∷◌, ◌++◌, length}
+use Rattle.std.specs.Prelude.{◌≡◌, ◌≢◌, ℕ, ◌+◌, ◌≤◌, List, [], ◌∷◌, ◌++◌, length}
 use Rattle.std.proofs.Common.{◌⊎◌}
-use Rattle.lert_bay.specs.Files.{Files}
+use Rattle.lert_bay.specs.Files.{Files, Holds}
 use Rattle.lert_bay.specs.Settled.{Keeps, IsSettled}
 use Rattle.lert_gatelog.specs.Gated.{IsGated, next_gate}
 
@@ -28,3 +28,9 @@ IsWithOrWithout most first payloads gate payload bytes = IsGated most bytes firs
 -- the other files stay as a read gives them
 abbrev pub OthersStay : ℕ → Files → Files → Type 0
 OthersStay file old new = (other : ℕ) → other ≢ file → new other ≡ old other
+
+-- a file that has this text behind a gate, which is open then: the text is put there first, and the gate's byte over it behind
+pub record IsAppended (gate : ℕ) (text old new : List ℕ) : Type 0 where
+  pub between : List ℕ
+  pub laid : Holds (gate + 1) text old between
+  pub opened : Holds gate (1 ∷ []) between new

@@ -1,2 +1,3 @@
 pub mod Gated
 pub mod Kept
+pub mod Looked

@@ -2,10 +2,12 @@
 
 ghost use Rattle.std.specs.Prelude.{◌≡◌, ◌≢◌, ℕ, ◌+◌, ◌<◌, ◌≤◌, ◌^◌, List, [], ◌∷◌, ◌++◌, Some, None, Ok, length, take, IfOk, IfSome, IfNone, MatchOption, OnOk, OnErr, IsErrOf};
 ghost use Rattle.lert_io.specs.Fault.{HasCause, HasRisen};
-ghost use Rattle.lert_bay.specs.Files.{Files, IfTold, Turns};
+ghost use Rattle.lert_bay.specs.Files.{Files, IfTold, Turns, Changes, CopiesFrom};
 ghost use Rattle.lert_bay.specs.Images.{KeepsImages, Lasts};
+ghost use Rattle.lert_bay.specs.Kept.{OnlyRead};
+ghost use Rattle.lert_gatelog.specs.Looked.{Looked};
 ghost use Rattle.lert_gatelog.specs.Gated.{body, appendix, next_gate, IsOpen, IsClosed, BreaksAt, IsGated, IsAppendix, IsAnnounced};
-ghost use Rattle.lert_gatelog.specs.Kept.{InEach, KeepsOthers, KeepsBefore, IsWhollySettled, IsWithOrWithout, OthersStay};
+ghost use Rattle.lert_gatelog.specs.Kept.{InEach, KeepsOthers, KeepsBefore, IsWhollySettled, IsWithOrWithout, OthersStay, IsAppended};
 
 use crate::durable::write_durably;
 use crate::fault::LogFault;
@@ -109,6 +111,9 @@ impl GateLog {
             OnOk result (InEach (B.leaves bay.new) self.old.file (λ bytes. IsGated self.old.most bytes first (payloads ++ payload ∷ []) self.new.gate))) }
         ensures closed { IfTold (B.files bay.old) (λ _. OnOk result (InEach (B.leaves bay.new) self.old.file (λ bytes. IsClosed bytes self.new.gate))) }
         ensures settled { OnOk result (IfTold (B.files bay.new) (λ seen. IsWhollySettled (B.leaves bay.new) seen self.old.file)) }
+
+        // After Ok the file is the one from before with the text behind the gate and the gate open, byte for byte.
+        ensures written { OnOk result (Turns (Changes (IsAppended self.old.gate text.now) self.old.file) (B.files bay.old) (B.files bay.new)) }
         ensures before { IfTold (B.files bay.old) (λ seen. KeepsBefore (B.leaves bay.old) (B.left_since bay.new (B.moment bay.old)) seen self.old.file self.old.gate) }
         ensures others { IfTold (B.files bay.old) (λ seen. KeepsOthers (B.leaves bay.old) (B.left_since bay.new (B.moment bay.old)) seen self.old.file) }
         ensures seen { Turns (OthersStay self.old.file) (B.files bay.old) (B.files bay.new) }
@@ -164,26 +169,25 @@ impl GateLog {
     fn look<B: Bay>(&self, bay: &mut B, end: u64) -> Result<Option<usize>, LogFault>
         requires reach { self.now.gate ≤ 2 ^ 62 }
         requires end { IfTold (B.files bay.old) (λ seen. end ≡ length (seen self.now.file)) }
-        ensures announced { IfTold (B.files bay.old) (λ seen. IfOk result (λ found. IfSome found (λ count.
-            IsAnnounced self.now.most (seen self.now.file) self.now.gate count))) }
-        ensures closed { IfTold (B.files bay.old) (λ seen. IfOk result (λ found. IfNone found
-            (IsClosed (seen self.now.file) self.now.gate))) }
-        ensures malformed { IfTold (B.files bay.old) (λ seen. (at : ℕ) → IsErrOf result (LogFault.Malformed at) →
-            BreaksAt self.now.most (seen self.now.file) self.now.gate at) }
+        ensures looked { IfTold (B.files bay.old) (λ seen. Looked self.now.most (seen self.now.file) self.now.gate result) }
         ensures counted { IfOk result (λ found. IfSome found (λ count. (0 < count) × (count ≤ self.now.most))) }
-        ensures seen { B.files bay.new ≡ B.files bay.old }
-        ensures images { KeepsImages (B.leaves bay.old) (B.leaves bay.new) }
-        ensures moments { (image : Files) → B.left_since bay.new (B.moment bay.old) image → B.leaves bay.old image }
-        ensures time { Lasts (B.moment bay.old) (B.moment bay.new) (B.left_since bay.old) (B.left_since bay.new) }
+        ensures only_read { OnlyRead (B.files bay.old) (B.files bay.new) (B.leaves bay.old) (B.leaves bay.new) (B.moment bay.old) (B.moment bay.new) (B.left_since bay.old) (B.left_since bay.new) }
         ensures never_falls { B.faults bay.old ≤ B.faults bay.new }
         ensures failed { IsErrOf result LogFault.Failed → HasRisen (B.faults bay.old) (B.faults bay.new) }
         ensures mark { B.mark bay.new ≡ B.mark bay.old }
     {
-        if end <= self.gate {
-            return Err(LogFault::Malformed { at: end });
-        }
         let mut head = [0; 5];
         let read = bay.read_at(self.file, self.gate, &mut head)?;
+        self.announced(end, &head, read)
+    }
+
+    // What the bytes at a gate say, of which the file of `end` bytes has the first `read`.
+    fn announced(&self, end: u64, head: &[u8; 5], read: usize) -> Result<Option<usize>, LogFault>
+        requires { self.now.gate ≤ 2 ^ 62 }
+        ensures looked { (bytes : List ℕ) → end ≡ length bytes → CopiesFrom self.now.gate read head.now bytes → Looked self.now.most bytes self.now.gate result }
+        ensures counted { IfOk result (λ found. IfSome found (λ count. (0 < count) × (count ≤ self.now.most))) }
+        ensures never_failed { ¬ IsErrOf result LogFault.Failed }
+    {
         if read == 0 {
             return Err(LogFault::Malformed { at: end });
         }

@@ -1,6 +1,6 @@
 //! A sink in memory with a bounded room, whose calls fail where a list says so.
 
-ghost use Rattle.std.specs.Prelude.{◌≡◌, ◌↔◌, ◌+◌, ◌-◌, ◌<◌, ◌≤◌, ◌++◌, ◌⊎◌, [], min, length, take, IfOk, OnErr, IsErr, Contains};
+ghost use Rattle.std.specs.Prelude.{◌≡◌, ◌↔◌, ℕ, ◌+◌, ◌-◌, ◌<◌, ◌≤◌, List, ◌++◌, ◌⊎◌, [], Some, min, length, take, IfOk, OnErr, IsErr, Contains};
 ghost use Rattle.lert_io.specs.Fault.{HasCause};
 
 use crate::call_list::CallList;
@@ -53,10 +53,26 @@ impl MemSink {
     {
         self.bytes.as_slice()
     }
+}
 
-    /// One call of `write`. It fails exactly where its number is listed or the sink is full, and else
-    /// takes as many bytes as it has room for.
-    pub fn fill(&mut self, bytes: &[u8]) -> Result<usize, Failed>
+impl Faulty for MemSink {
+    ghost faults = { λ s. s.faults };
+
+    ghost mark = { λ _. 0 };
+}
+
+impl Sink for MemSink {
+    ghost use Rattle.std.specs.Prelude.{Some};
+
+    ghost taken = { λ s. Some s.taken };
+
+    /// Fails exactly where the number of the call is listed or the sink is full, and else takes as many
+    /// bytes as it has room for.
+    fn write(&mut self, bytes: &[u8]) -> Result<usize, Failed>
+        requires { 0 < length bytes.now }
+        ensures some { IfOk result (λ count. 0 < count) }
+        ensures told { (before : List ℕ) → Some self.old.taken ≡ Some before → IfOk result (λ count. Some self.new.taken ≡ Some (before ++ take count bytes.now)) }
+        ensures refused { OnErr result (self.new.taken ≡ self.old.taken) }
         ensures number { self.new.calls ≡ min (self.old.calls + 1) 18446744073709551615 }
         ensures fails { IsErr result ↔ (Contains self.old.fails self.new.calls ⊎ (self.old.room ≤ length self.old.taken)) }
         ensures count { IfOk result (λ count. count ≡ min (length bytes.now) (self.old.room - length self.old.taken)) }
@@ -77,21 +93,5 @@ impl MemSink {
         let count = bytes.len().min(left);
         self.bytes.extend_from_slice(&bytes[..count]).unwrap();
         Ok(count)
-    }
-}
-
-impl Faulty for MemSink {
-    ghost faults = { λ s. s.faults };
-
-    ghost mark = { λ _. 0 };
-}
-
-impl Sink for MemSink {
-    ghost use Rattle.std.specs.Prelude.{Some};
-
-    ghost taken = { λ s. Some s.taken };
-
-    fn write(&mut self, bytes: &[u8]) -> Result<usize, Failed> {
-        self.fill(bytes)
     }
 }

@@ -1,7 +1,8 @@
 //! A source in memory, whose calls fail where a list says so.
 
-ghost use Rattle.std.specs.Prelude.{◌≡◌, ◌↔◌, ◌+◌, min, length, take, drop, IfOk, OnErr, IsErr, Contains};
+ghost use Rattle.std.specs.Prelude.{◌≡◌, ◌↔◌, ℕ, ◌+◌, ◌<◌, ◌≤◌, List, Some, min, length, take, drop, IfOk, OnErr, IsErr, Contains};
 ghost use Rattle.lert_io.specs.Fault.{HasCause};
+ghost use Rattle.lert_io.specs.Reading.{HandsOut};
 
 use crate::call_list::CallList;
 use crate::copy::copy_front;
@@ -69,30 +70,6 @@ impl MemSource {
             mark: self.mark,
         })
     }
-
-    /// One call of `read`. It fails exactly where its number is listed, and else hands out as many
-    /// bytes as `into` has room for.
-    pub fn feed(&mut self, into: &mut [u8]) -> Result<usize, Failed>
-        ensures number { self.new.calls ≡ min (self.old.calls + 1) 18446744073709551615 }
-        ensures fails { IsErr result ↔ Contains self.old.fails self.new.calls }
-        ensures fed { IfOk result (λ count. count ≡ min (length self.old.left) (length into.new)) }
-        ensures copied { IfOk result (λ count. take count into.new ≡ take count self.old.left) }
-        ensures rest { IfOk result (λ count. self.new ≡ record self.old { left = drop count self.old.left; calls = self.new.calls }) }
-        ensures failed { OnErr result (self.new ≡ record self.old {
-          calls = self.new.calls;
-          faults = min (self.old.faults + 1) 18446744073709551615;
-        }) }
-        ensures cause { HasCause self.old.faults self.new.faults result }
-    {
-        self.calls = self.calls.saturating_add(1);
-        if self.fails.contains(self.calls) {
-            self.faults = self.faults.saturating_add(1);
-            return Err(Failed);
-        }
-        let count = copy_front(&self.bytes[self.at..], into);
-        self.at += count;
-        Ok(count)
-    }
 }
 
 impl Faulty for MemSource {
@@ -106,7 +83,32 @@ impl Source for MemSource {
 
     ghost remaining = { λ s. Some s.left };
 
-    fn read(&mut self, into: &mut [u8]) -> Result<usize, Failed> {
-        self.feed(into)
+    /// Fails exactly where the number of the call is listed, and else hands out as many bytes as `into`
+    /// has room for.
+    fn read(&mut self, into: &mut [u8]) -> Result<usize, Failed>
+        requires { 0 < length into.old }
+        ensures within { IfOk result (λ count. count ≤ length into.new) }
+        ensures told { (bytes : List ℕ) → Some self.old.left ≡ Some bytes → IfOk result (λ count. HandsOut count into.new bytes (Some self.new.left)) }
+        ensures refused { OnErr result (self.new.left ≡ self.old.left) }
+        ensures number { self.new.calls ≡ min (self.old.calls + 1) 18446744073709551615 }
+        ensures fails { IsErr result ↔ Contains self.old.fails self.new.calls }
+        ensures fed { IfOk result (λ count. count ≡ min (length self.old.left) (length into.new)) }
+        ensures copied { IfOk result (λ count. take count into.new ≡ take count self.old.left) }
+        ensures rest { IfOk result (λ count. self.new ≡ record self.old { left = drop count self.old.left; calls = self.new.calls }) }
+        ensures failed { OnErr result (self.new ≡ record self.old {
+          calls = self.new.calls;
+          faults = min (self.old.faults + 1) 18446744073709551615;
+        }) }
+        ensures cause { HasCause self.old.faults self.new.faults result }
+        ensures mark { self.new.mark ≡ self.old.mark }
+    {
+        self.calls = self.calls.saturating_add(1);
+        if self.fails.contains(self.calls) {
+            self.faults = self.faults.saturating_add(1);
+            return Err(Failed);
+        }
+        let count = copy_front(&self.bytes[self.at..], into);
+        self.at += count;
+        Ok(count)
     }
 }

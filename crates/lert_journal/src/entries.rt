@@ -15,7 +15,7 @@ ghost use Rattle.lert_journal.specs.Journal.{HasPackets, HasPacketsOrOneMore, Ho
 use crate::payload::{fill, place_left};
 use lert_base::{Entry, Settings};
 use lert_bay::Bay;
-use lert_gatelog::lay::{put, put_key, put_number};
+use lert_bay::fields::{put, put_u32, put_u64};
 use lert_gatelog::{GateLog, LogFault};
 use lert_io::Failed;
 
@@ -141,9 +141,9 @@ fn write_text(entry: &Entry, into: &mut [u8]) -> usize
 {
     let keys = entry.keys.as_slice();
     let payload_len = 8 + 8 * keys.len();
-    put_number(into, 0, payload_len as u32);
-    put_number(into, 4, entry.by);
-    put_number(into, 8, entry.trace);
+    put_u32(into, 0, payload_len as u32);
+    put_u32(into, 4, entry.by);
+    put_u32(into, 8, entry.trace);
     put_keys(into, keys);
     put(into, 4 + payload_len, &[0]);
     payload_len + 5
@@ -156,7 +156,7 @@ fn put_keys(into: &mut [u8], keys: &[u64])
 {
     let mut place = 12;
     for key in keys {
-        put_key(into, place, *key);
+        put_u64(into, place, *key);
         place += 8;
     }
 }

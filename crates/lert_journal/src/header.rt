@@ -2,11 +2,11 @@
 
 ghost use Rattle.std.specs.Prelude.{◌≡◌, ◌≢◌, ℕ, ◌+◌, ◌≤◌, List, length, take, MatchOption, IfNone};
 ghost use Rattle.lert_journal.specs.Header.{magic, header, header_left, number_at, kept_in};
-ghost use Rattle.lert_spec.specs.Trace.{agreed};
 
 use byteorder::{ByteOrder, LittleEndian};
 use lert_base::{Kept, Numbers, Settings};
-use lert_gatelog::lay::{put, put_number};
+use lert_bay::fields::{put, put_u32};
+use lert_spec::agreed;
 
 #[cfg(test)]
 mod tests;
@@ -24,10 +24,10 @@ pub fn write_header(settings: &Settings, cone: u32, into: &mut [u8; HEADER_LEN])
 {
     let numbers = settings.numbers();
     put(into, 0, &MAGIC);
-    put_number(into, 8, numbers.threshold as u32);
-    put_number(into, 12, numbers.room as u32);
-    put_number(into, 16, numbers.base as u32);
-    put_number(into, 20, numbers.packet as u32);
+    put_u32(into, 8, numbers.threshold as u32);
+    put_u32(into, 12, numbers.room as u32);
+    put_u32(into, 16, numbers.base as u32);
+    put_u32(into, 20, numbers.packet as u32);
     let small = [
         numbers.bins as u8,
         numbers.ratio as u8,
@@ -35,7 +35,7 @@ pub fn write_header(settings: &Settings, cone: u32, into: &mut [u8; HEADER_LEN])
         numbers.cone_bits as u8,
     ];
     put(into, 24, &small);
-    put_number(into, 28, cone);
+    put_u32(into, 28, cone);
 }
 
 /// The cone and the numbers in a header as they stand there, valid or not. None comes exactly where the
@@ -77,17 +77,6 @@ pub fn header_left(bytes: &[u8]) -> Option<u64>
         return Some(bytes.len() as u64);
     }
     None
-}
-
-// How many bytes two texts have in common, from the front on.
-fn agreed(text: &[u8], bytes: &[u8]) -> usize
-    ensures { result ≡ agreed text.now bytes.now }
-{
-    let mut same = 0;
-    while same < text.len() && same < bytes.len() && text[same] == bytes[same] {
-        same += 1;
-    }
-    same
 }
 
 // The number in the four bytes from a place on.

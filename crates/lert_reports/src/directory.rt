@@ -6,9 +6,6 @@ ghost use Rattle.lert_spec.specs.Edges.{capacity};
 
 use lert_base::Settings;
 
-#[cfg(test)]
-mod tests;
-
 /// How many bins a level from 1 on has after `n` events, which is how many frames a record of the log names for it. At
 /// most three divisions.
 pub fn bins(settings: &Settings, level: u32, n: u64) -> u64

@@ -3,8 +3,7 @@
 //! The one contract is that a `ReportStore` is its list of reports, and that `has` answers whether a key is in it without
 //! a search of the list. Any `CountTable` serves it for the tails of the listed keys. `write_log` writes the text of a
 //! record of the log, and `read_log` reads its payload: what was written by the rules comes back, and anything else is
-//! left at the first place that breaks one. `frames_of` and `report_at` give what stands in a payload that was read, and
-//! `bins` answers how many frames a record names for a level.
+//! left at the first place that breaks one. `bins` answers how many frames a record names for a level.
 #![tactic(auto)]
 
 mod directory;
@@ -12,5 +11,5 @@ mod log;
 mod store;
 
 pub use directory::bins;
-pub use log::{LogBefore, LogKind, LogParts, frames_of, read_log, report_at, write_log};
+pub use log::{LogBefore, LogKind, LogParts, read_log, write_log};
 pub use store::ReportStore;

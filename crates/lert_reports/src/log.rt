@@ -4,16 +4,11 @@ ghost use Rattle.std.specs.Prelude.{◌≡◌, ℕ, ◌+◌, ◌*◌, ◌<◌, �
 ghost use Rattle.lert_gatelog.specs.Gated.{appendix};
 ghost use Rattle.lert_reports.specs.LogText.{kind_number, log_payload, report_bytes};
 
-pub use contents::{frames_of, report_at};
 use lert_base::Report;
-use lert_gatelog::lay::{put, put_key, put_number};
+use lert_bay::fields::{put, put_u32, put_u64};
 pub use read::read_log;
 
-mod contents;
 mod read;
-#[cfg(test)]
-mod tests;
-
 /// What a record of a log is.
 #[derive(Clone, Copy, Debug, PartialEq, Eq)]
 pub enum LogKind {
@@ -65,13 +60,13 @@ pub fn write_log(
 {
     let reports_at = 29 + directory.len();
     let payload_len = reports_at + 16 * reports.len();
-    put_number(into, 0, payload_len as u32);
+    put_u32(into, 0, payload_len as u32);
     put(into, 4, &[number_of(kind)]);
-    put_key(into, 5, n0);
-    put_key(into, 13, offset);
-    put_key(into, 21, first);
+    put_u64(into, 5, n0);
+    put_u64(into, 13, offset);
+    put_u64(into, 21, first);
     put(into, 29, directory);
-    put_number(into, reports_at, reports.len() as u32);
+    put_u32(into, reports_at, reports.len() as u32);
     put_reports(into, reports_at + 4, reports);
     put(into, payload_len + 4, &[0]);
     payload_len + 5
@@ -104,6 +99,6 @@ fn put_report(into: &mut [u8], place: usize, report: &Report)
     requires { place + 16 ≤ length into.old }
     ensures { take (place + 16) into.new ≡ take place into.old ++ report_bytes report.now }
 {
-    put_key(into, place, report.key);
-    put_key(into, place + 8, report.at);
+    put_u64(into, place, report.key);
+    put_u64(into, place + 8, report.at);
 }

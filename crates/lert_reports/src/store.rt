@@ -10,9 +10,6 @@ use lert_mixer::tail_of;
 use std::alloc::Global;
 use std::marker::Model;
 
-#[cfg(test)]
-mod tests;
-
 /// The reports of one cone in the order in which they were put, seen as its settings and that list.
 ///
 /// Only `new` takes memory: 16 bytes a report of the room, and a table with as many events.

@@ -1,4 +1,3 @@
-pub mod AtOnce
 pub mod Bins
 pub mod Counts
 pub mod Edges

@@ -1,22 +1,17 @@
-//! The definitions that LERT's contracts cite, over plain lists of keys, positions and bytes.
+//! The definitions that LERT's contracts cite, over plain lists of keys, positions and bytes, and their laws.
 //!
-//! Nothing here knows a table, a level in memory, a file or a thread. Beside each definition of
-//! `specs/` stands a plain slow program whose contract is that definition, so that it can be tried on
-//! worked examples. Every other crate's contracts are stated with these words.
+//! Nothing here knows a table, a level in memory, a file or a thread. The one contract is that of
+//! `reports_come_in_time`: the reports that the definition makes keep the time bound. `lert_reference` has a plain slow
+//! program beside the definitions. Every other crate's contracts are stated with these words.
 #![tactic(auto)]
 
-pub mod at_once;
-pub mod counts;
-pub mod edges;
-pub mod lines;
+mod common;
+pub mod laws;
 mod numbers;
-pub mod parts;
 mod piece;
 mod report;
-pub mod reports;
-pub mod timely;
-pub mod traces;
 
+pub use common::agreed;
 pub use numbers::Numbers;
 pub use piece::Piece;
 pub use report::Report;

@@ -36,14 +36,3 @@ pub fn read_header<S: Source>(window: &mut Window<S>) -> Result<(), TraceFault>
     let _ = window.take_number();
     Ok(())
 }
-
-/// How many bytes two texts have in common, from the front on.
-pub fn agreed_len(text: &[u8], bytes: &[u8]) -> usize
-    ensures { result ≡ agreed text.now bytes.now }
-{
-    let mut same = 0;
-    while same < text.len() && same < bytes.len() && text[same] == bytes[same] {
-        same += 1;
-    }
-    same
-}

@@ -6,9 +6,9 @@ ghost use Rattle.lert_io.specs.Fault.{HasCause};
 ghost use Rattle.lert_spec.specs.Trace.{agreed};
 ghost use Rattle.lert_trace.specs.Window.{StillAhead, IsAtEnd};
 
-use crate::header::agreed_len;
 use byteorder::{ByteOrder, LittleEndian};
 use lert_io::{Failed, Source};
+use lert_spec::agreed;
 use std::marker::Model;
 
 /// How many bytes a window holds at most: those of 512 keys.
@@ -62,7 +62,7 @@ impl<S: Source> Window<S> {
     pub fn agreed(&self, text: &[u8]) -> usize
         ensures { result ≡ agreed text.now self.now.pending }
     {
-        agreed_len(text, &self.block[self.start..self.end])
+        agreed(text, &self.block[self.start..self.end])
     }
 
     /// Takes the eight bytes in front, as the number whose lowest byte comes first.

@@ -341,7 +341,7 @@ fn read_report(
         (λ at. left_at payload.now (key_field settings.now cone payload.now place ∷ at_field payload.now place earlier ∷ []) ≡ Some at) }
 {
     read_key(settings, cone, place, payload)?;
-    let at = read_at(n0, earlier, place, payload)?;
+    let at = read_position(n0, earlier, place, payload)?;
     Ok(at)
 }
 
@@ -358,7 +358,7 @@ fn read_key(settings: &Settings, cone: u32, place: usize, payload: &[u8]) -> Res
     }
 }
 
-fn read_at(n0: u64, earlier: u64, place: usize, payload: &[u8]) -> Result<u64, u64>
+fn read_position(n0: u64, earlier: u64, place: usize, payload: &[u8]) -> Result<u64, u64>
     requires n0 { n0 ≡ n0_in payload.now }
     requires long { place + 8 ≤ length payload.now }
     ensures { MatchResult result

@@ -8,3 +8,4 @@ invariant-loop-index l =
     (length l.bytes ≡ length l.fn.bytes)
     × ((place : ℕ) → All (λ write. IsOutside write.at (length write.old.items) place) l.writes → slice_index l.bytes place ≡ slice_index l.fn.bytes place)
     × (l.pick ≡ 0 → (place : ℕ) → place < length l.fn.bytes → slice_index l.bytes place ≡ before_all (drop l.index l.writes) place (slice_index l.fn.bytes place))
+    × (l.pick ≡ 1 → l.bytes ≡ l.fn.bytes)

@@ -1,7 +1,7 @@
 use Rattle.std.proofs.Common.{◌≡◌, ◌+◌, ◌-◌, ◌≤◌, Some, length}
 use Rattle.lert_bay.specs.Files.{Files}
 use Rattle.lert_spec.specs.Table.{AreGiven}
-use Rattle.lert_frames.specs.Kept.{OnlyRead}
+use Rattle.lert_bay.specs.Kept.{OnlyRead}
 use Rattle.lert_frames.specs.Reading.{AreRead}
 use Rattle.lert_frames.proofs.loading.read_pieces.Given as goal
 

@@ -7,8 +7,8 @@ use Rattle.lert_journal.proofs.header.write_header.Goals as goal
 
 pub returns-clause-text : goal.returns-clause-text
 returns-clause-text c =
-    laid 8 12 16 20 24 28 32 _ _ _ _ _ _ _ c.put.new.into c.put_number.new.into c.put_number-2.new.into c.put_number-3.new.into c.put_number-4.new.into c.put-2.new.into c.put_number-5.new.into
-    c.put.ensures c.put_number.ensures c.put_number-2.ensures c.put_number-3.ensures c.put_number-4.ensures c.put-2.ensures c.put_number-5.ensures (search rules)
+    laid 8 12 16 20 24 28 32 _ _ _ _ _ _ _ c.put.new.into c.put_u32.new.into c.put_u32-2.new.into c.put_u32-3.new.into c.put_u32-4.new.into c.put-2.new.into c.put_u32-5.new.into
+    c.put.ensures c.put_u32.ensures c.put_u32-2.ensures c.put_u32-3.ensures c.put_u32-4.ensures c.put-2.ensures c.put_u32-5.ensures (search rules)
     ∙ ap (λ s. header s c.args.cone) c.numbers-numbers.ensures.value
 
 pub returns-clause-reads_back : goal.returns-clause-reads_back

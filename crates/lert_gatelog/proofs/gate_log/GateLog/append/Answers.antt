@@ -3,6 +3,7 @@ use Rattle.lert_gatelog.specs.Gated.{IsGated, IsClosed, next_gate}
 use Rattle.lert_gatelog.specs.Kept.{InEach}
 use Rattle.lert_gatelog.proofs.GatedLaws.{length_appendix}
 use Rattle.lert_gatelog.proofs.Appending.{gated_first, gated_always, gated_last, closed_last, keeps_one, keeps_both, before_one, before_both, wholly_settled, IsBehind}
+use Rattle.lert_gatelog.proofs.Moments.{turns_appended}
 use Rattle.lert_gatelog.proofs.gate_log.GateLog.append.Goals as goal
 
 -- the first write or its sync fails
@@ -168,3 +169,7 @@ returns-clause-closed g c = rw (← c.self.view_is) (λ seen told.
 
 pub returns-clause-settled : goal.returns-clause-settled
 returns-clause-settled g c = rw (← c.self.view_is) (λ seen told. wholly_settled (g.B.Bay.leaves c.write_durably-2.new.bay) seen c.self.inside.file (c.in_ok-write_durably-2.ensures.durable seen told))
+
+pub returns-clause-written : goal.returns-clause-written
+returns-clause-written g c = rw (← c.self.view_is)
+    (turns_appended c.self.inside.file c.self.inside.gate c.args.text.now (g.B.Bay.files c.args.bay.now) (g.B.Bay.files c.write_durably.new.bay) (g.B.Bay.files c.write_durably-2.new.bay) c.in_ok-write_durably.ensures.written c.in_ok-write_durably-2.ensures.written)

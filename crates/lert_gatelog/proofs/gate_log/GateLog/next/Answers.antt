@@ -7,8 +7,8 @@ use Rattle.lert_gatelog.proofs.gate_log.GateLog.next.Goals as goal
 pub returns-clause-opened : goal.returns-clause-opened
 returns-clause-opened g c = rw (← c.self.view_is) (λ seen told.
     let told_then = c.len.ensures.seen ∙ told in
-    let told_later = c.look.ensures.seen ∙ told_then in
-    let said = rw (c.in-Some.is, ← c.self.view_is) at (c.in_ok-count.ensures.announced seen told_then) in
+    let told_later = c.look.ensures.only_read.seen ∙ told_then in
+    let said = rw (c.in-Some.is, ← c.self.view_is) at ((c.in_ok-count.ensures.looked seen told_then).announced) in
     let bounds = rw (c.in-Some.is, ← c.self.view_is) at c.in_ok-count.ensures.counted in
     let most_is : c.self.inside.most ≡ c.args.self.now.most = ap (λ log. log.most) c.self.view_is in
     let long : length c.read_at.new.into ≡ c.in-Some.count = c.read_at.auto.into ∙ length-take-le c.in-Some.count c.args.into.now (omega (arith, bounds.1, c.requires.room, most_is)) in
@@ -18,13 +18,13 @@ returns-clause-opened g c = rw (← c.self.view_is) (λ seen told.
 pub returns-in_err-count-clause-malformed : goal.returns-in_err-count-clause-malformed
 returns-in_err-count-clause-malformed g c seen told at =
     let p = err_from_is_err_and c.from_residual-in_err-count.result c.from_residual-in_err-count.ensures.1 in
-    rw (p.1, p.2) (c.in_err-count.ensures.malformed seen (c.len.ensures.seen ∙ told) at)
+    rw (p.1, p.2) ((c.in_err-count.ensures.looked seen (c.len.ensures.seen ∙ told)).malformed at)
 
 pub returns-then-branch-count-clause-malformed : goal.returns-then-branch-count-clause-malformed
 returns-then-branch-count-clause-malformed g c = rw (← c.self.view_is) (λ seen told at is.
     let told_then = c.len.ensures.seen ∙ told in
-    let told_later = c.look.ensures.seen ∙ told_then in
-    let said = rw (c.in-Some.is, ← c.self.view_is) at (c.in_ok-count.ensures.announced seen told_then) in
+    let told_later = c.look.ensures.only_read.seen ∙ told_then in
+    let said = rw (c.in-Some.is, ← c.self.view_is) at ((c.in_ok-count.ensures.looked seen told_then).announced) in
     let bounds = rw (c.in-Some.is, ← c.self.view_is) at c.in_ok-count.ensures.counted in
     let most_is : c.self.inside.most ≡ c.args.self.now.most = ap (λ log. log.most) c.self.view_is in
     let long : length c.read_at.new.into ≡ c.in-Some.count = c.read_at.auto.into ∙ length-take-le c.in-Some.count c.args.into.now (omega (arith, bounds.1, c.requires.room, most_is)) in

@@ -1,0 +1,134 @@
+//! Reports as their definitions say them: at each position the window that it looks back to is counted for every key.
+//!
+//! The time spent grows with the square of the number of events, times that of the keys.
+
+ghost use Rattle.std.specs.Prelude.{◌≡◌, ℕ, ◌+◌, ◌-◌, ◌<◌, ◌≤◌, length, insert, IfOk, IfSome, MatchOption};
+ghost use Rattle.lert_spec.specs.Counts.{count};
+ghost use Rattle.lert_spec.specs.Edges.{capacity, lookback};
+ghost use Rattle.lert_spec.specs.Limits.{IsValid};
+ghost use Rattle.lert_spec.specs.Look.{insert_mixed, mixed_order, is_listed, is_due, with_due, look, closing};
+ghost use Rattle.lert_spec.specs.Mix.{mix, folded, scaled};
+ghost use Rattle.lert_spec.specs.Timely.{IsTimely, IsTimelySoFar};
+
+use crate::edges::lookback;
+use lert_spec::{Numbers, Report};
+use std::alloc::{AllocError, Global};
+
+// The mixed value of a key.
+pub(crate) fn mixed(key: u64) -> u64
+    ensures { result ≡ mix key }
+{
+    let key = (key ^ (key >> 33)).wrapping_mul(0xff51_afd7_ed55_8ccd);
+    let key = (key ^ (key >> 33)).wrapping_mul(0xc4ce_b9fe_1a85_ec53);
+    key ^ (key >> 33)
+}
+
+// Where a key belongs among keys in the order of their mixed values, none where it is among them.
+fn mixed_place(keys: &[u64], key: u64) -> Option<usize>
+    ensures within { IfSome result (λ place. place ≤ length keys.now) }
+    ensures value { MatchOption result
+        (insert_mixed key keys.now ≡ keys.now)
+        (λ place. insert_mixed key keys.now ≡ insert keys.now place key) }
+{
+    for (place, other) in keys.iter().enumerate() {
+        if mixed(key) < mixed(*other) {
+            return Some(place);
+        }
+        if key == *other {
+            return None;
+        }
+    }
+    Some(keys.len())
+}
+
+// The keys that occur, each once, in the order of their mixed values.
+fn mixed_order(alloc: Global, events: &[u64]) -> Result<Vec<u64>, AllocError>
+    ensures { IfOk result (λ keys. keys.items ≡ mixed_order events.now) }
+{
+    let mut keys = Vec::new(alloc);
+    let mut left = events.len();
+    while left > 0 {
+        left -= 1;
+        if let Some(place) = mixed_place(&keys, events[left]) {
+            keys.insert(place, events[left])?;
+        }
+    }
+    Ok(keys)
+}
+
+// How often a key occurs at the positions above `from`, up to `to`.
+fn count(key: u64, events: &[u64], from: usize, to: usize) -> u64
+    requires order { from ≤ to }
+    requires within { to ≤ length events.now }
+    ensures { result ≡ count key events.now from to }
+{
+    events[from..to]
+        .iter()
+        .filter(|event| **event == key)
+        .count() as u64
+}
+
+// A key is among those reported.
+fn is_listed(key: u64, reports: &[Report]) -> bool
+    ensures { result ≡ is_listed key reports.now }
+{
+    reports.iter().any(|report| report.key == key)
+}
+
+// Puts a report behind the others for each key that isn't reported and occurs often enough in a window.
+fn add_due(
+    reports: &mut Vec<Report>,
+    keys: &[u64],
+    threshold: u64,
+    events: &[u64],
+    from: usize,
+    to: usize,
+) -> Result<(), AllocError>
+    requires keys { keys.now ≡ mixed_order events.now }
+    requires order { from ≤ to }
+    requires within { to ≤ length events.now }
+    ensures { IfOk result (λ _. reports.new.items ≡ with_due threshold events.now from to reports.old.items) }
+{
+    let before = reports.len();
+    for key in keys {
+        let listed = is_listed(*key, &reports[..before]);
+        if threshold <= count(*key, events, from, to) && !listed {
+            reports.push(Report {
+                key: *key,
+                at: to as u64,
+            })?;
+        }
+    }
+    Ok(())
+}
+
+/// The reports that are made of a cone's events while they come: every key whose bound has passed is among them.
+pub fn look(alloc: Global, s: &Numbers, events: &[u64]) -> Result<Vec<Report>, AllocError>
+    requires valid { IsValid s.now }
+    requires fits { length events.now ≤ capacity s.now }
+    ensures value { IfOk result (λ reports. reports.items ≡ look s.now events.now) }
+    ensures in_time { IfOk result (λ reports.
+        IsTimelySoFar s.now.threshold s.now.bins events.now reports.items) }
+{
+    let keys = mixed_order(alloc, events)?;
+    let mut reports = Vec::new(alloc);
+    for m in 1..events.len() + 1 {
+        let from = lookback(s, m as u64) as usize;
+        add_due(&mut reports, &keys, s.threshold, events, from, m)?;
+    }
+    Ok(reports)
+}
+
+/// The reports of a closed cone: the keys that reach the threshold, each once and in time.
+pub fn closing(alloc: Global, s: &Numbers, events: &[u64]) -> Result<Vec<Report>, AllocError>
+    requires valid { IsValid s.now }
+    requires fits { length events.now ≤ capacity s.now }
+    ensures value { IfOk result (λ reports. reports.items ≡ closing s.now events.now) }
+    ensures in_time { IfOk result (λ reports.
+        IsTimely s.now.threshold s.now.bins events.now reports.items) }
+{
+    let keys = mixed_order(alloc, events)?;
+    let mut reports = look(alloc, s, events)?;
+    add_due(&mut reports, &keys, s.threshold, events, 0, events.len())?;
+    Ok(reports)
+}

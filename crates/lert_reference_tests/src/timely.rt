@@ -1,0 +1,64 @@
+use lert_reference::timely::{is_timely, is_timely_so_far};
+use lert_spec::Report;
+use std::alloc::{AllocError, Global};
+use std::test::Fail;
+
+// Key 7 reaches three at position 13, twelve behind its first, and key 8 at position 14, eleven behind its first.
+const EVENTS: [u64; 20] = [
+    7, 7, 8, 8, 105, 106, 107, 108, 109, 110, 111, 112, 7, 8, 115, 116, 117, 118, 119, 120,
+];
+
+fn reports_of(alloc: Global, pairs: &[(u64, u64)]) -> Result<Vec<Report>, AllocError> {
+    let mut reports = Vec::new(alloc);
+    for (key, at) in pairs {
+        reports.push(Report { key: *key, at: *at })?;
+    }
+    Ok(reports)
+}
+
+// With three bins a report may be late by half of what its key took to reach the threshold.
+#[test]
+fn reports_are_tried_with_threshold_three_and_three_bins(rt: HostRuntime) -> Result<(), Fail> {
+    let rows: [(usize, &[(u64, u64)], bool, bool); 20] = [
+        // Nothing is due.
+        (0, &[], true, true),
+        (12, &[], true, true),
+        // Both keys at once, late, and late by exactly the bound.
+        (20, &[(7, 13), (8, 14)], true, true),
+        (20, &[(8, 15), (7, 16)], true, true),
+        (20, &[(7, 19), (8, 19)], true, true),
+        // Late by one too many.
+        (20, &[(8, 19), (7, 20)], false, false),
+        (20, &[(7, 16), (8, 20)], false, false),
+        // Early, and behind the last event.
+        (20, &[(7, 12), (8, 14)], false, false),
+        (14, &[(7, 13), (8, 15)], false, false),
+        // In the wrong order, and listed twice.
+        (20, &[(7, 16), (8, 15)], false, false),
+        (20, &[(7, 16), (7, 16), (8, 19)], false, false),
+        // Of a key that occurs too seldom, and of one that doesn't occur.
+        (20, &[(7, 16), (8, 19), (105, 20)], false, false),
+        (20, &[(7, 16), (8, 19), (9, 20)], false, false),
+        // Missing, where the bound hasn't passed.
+        (13, &[], false, true),
+        (18, &[], false, true),
+        (19, &[(7, 19)], false, true),
+        // Missing, where it has.
+        (19, &[], false, false),
+        (20, &[(7, 19)], false, false),
+        (20, &[(8, 19)], false, false),
+        (20, &[], false, false),
+    ];
+    for (len, pairs, timely, so_far) in rows {
+        assert!(rt; len <= 20);
+        let reports = reports_of(rt.alloc(), pairs)?;
+        let events = &EVENTS[..len];
+        assert_eq!(rt; is_timely(3, 3, events, &reports), timely, "{reports:?}");
+        assert_eq!(rt;
+            is_timely_so_far(3, 3, events, &reports),
+            so_far,
+            "{reports:?}"
+        );
+    }
+    Ok(())
+}

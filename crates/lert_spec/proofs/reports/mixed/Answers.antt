@@ -1,7 +1,0 @@
-use Rattle.std.proofs.Common.{refl}
-use Rattle.lert_spec.specs.Mix.{mix}
-use Rattle.lert_spec.proofs.reports.mixed.Goals as goal
-
-pub returns : goal.returns
-unfolding mix
-returns c = refl
