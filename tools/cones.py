@@ -6,6 +6,7 @@ some seconds.
 
 from __future__ import annotations
 
+import re
 import struct
 from bisect import bisect_right
 from collections import Counter, defaultdict
@@ -30,6 +31,7 @@ from formats import (
 
 SUFFIXES = (".journal", ".log", ".frames")
 JOURNAL, LOG, FRAMES = range(3)
+NAME = re.compile(r"cone-[0-9]{3}")
 FLUSH, CLOSING = 1, 2
 MOST_OFFSET = 1 << 46
 MOST_COUNT = 1 << 47
@@ -265,9 +267,21 @@ def pieces_at(data: bytes, place: int, tails: int, width: int) -> list[tuple[int
     return pieces
 
 
-def files_of(journal: Path) -> list[bytes]:
-    """The three files of the cone with this journal."""
-    return [journal.with_suffix(suffix).read_bytes() for suffix in SUFFIXES]
+def cones_in(folder: Path) -> list[Path]:
+    """The cones of a directory, by their files without suffix, where at least one of the three is there."""
+    names = {path.name for path in folder.iterdir()}
+    found = {name.removesuffix(suffix) for name in names for suffix in SUFFIXES if name.endswith(suffix)}
+    return [folder / name for name in sorted(found) if NAME.fullmatch(name)]
+
+
+def number_of(cone: Path) -> int:
+    """The number that a cone's files are named by."""
+    return int(cone.name.removeprefix("cone-"))
+
+
+def files_of(cone: Path) -> list[bytes]:
+    """The three files of a cone."""
+    return [cone.with_suffix(suffix).read_bytes() for suffix in SUFFIXES]
 
 
 class Cone:

@@ -40,6 +40,13 @@ class Header(NamedTuple):
     cone: int
 
 
+class BadNumbers(Exception):
+    """The header of a journal has numbers that no settings have, or a cone that they haven't got."""
+
+    def __init__(self, rule: int) -> None:
+        super().__init__(f"the header's numbers break rule {rule} of the settings" if rule else "the header's numbers have no such cone")
+
+
 class OtherSettings(Exception):
     """The journal begins with the header of another cone or of other settings."""
 
@@ -72,14 +79,39 @@ def begins_with(data: bytes, magic: bytes) -> None:
             raise Left(at)
 
 
+def keeps_rules(header: Header) -> None:
+    """Refuses numbers that break a rule of the settings, by the first one that they break."""
+    cones = 1 << min(header.cone_bits, 9)
+    spans = [header.base * header.ratio**level for level in range(min(header.levels, 8) + 1)]
+    rules = (
+        1 <= header.threshold,
+        2 <= header.bins <= 16,
+        2 <= header.ratio <= 16,
+        4 <= header.base <= 65_536,
+        1 <= header.levels <= 8,
+        header.cone_bits <= 8,
+        1 <= header.room <= 4_194_304,
+        1 <= header.packet <= 1_024,
+        cones * header.bins * header.base <= 1 << 24,
+        cones * header.room <= 1 << 24,
+        (header.bins - 1) * sum(spans) + spans[-1] <= 1 << 32,
+    )
+    for number, kept in enumerate(rules, 1):
+        if not kept:
+            raise BadNumbers(number)
+    if header.cone >= cones:
+        raise BadNumbers(0)
+
+
 def header_of(data: bytes, due: Header | None = None) -> Header:
-    """The header of a journal; where one is due, any other is refused."""
+    """The header of a journal; where one is due, any other is refused, and else one that no settings have."""
     begins_with(data, JOURNAL_MAGIC)
     if len(data) < HEADER_LEN:
         raise Left(len(data))
     header = Header(*struct.unpack_from("<4I4BI", data, 8))
     if due not in (None, header):
         raise OtherSettings()
+    keeps_rules(header)
     # Behind it stands the first gate.
     if len(data) == HEADER_LEN:
         raise Left(HEADER_LEN)

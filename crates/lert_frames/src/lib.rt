@@ -12,6 +12,7 @@ mod loading;
 mod place;
 mod read;
 mod storing;
+
 pub use bin::LoadedBin;
 pub use fault::LoadFault;
 pub use loading::load;

@@ -66,7 +66,9 @@ fn a_thread_that_waits_for_the_lock_is_woken(rt: HostRuntime) -> Result<(), Fail
     let replies = join_mut(
         &rt,
         &mut || lock.act(&rt, &mut first, &mine),
-        &mut || {
+        &mut ||
+            requires { BelongsTo second lock × (theirs.by ≡ second.lo) }
+        {
             flags.await_inside();
             flags.answer();
             lock.act(&rt, &mut second, &theirs)
@@ -141,7 +143,9 @@ fn a_thread_that_waits_for_a_cone_is_woken(rt: HostRuntime) -> Result<(), Fail> 
     let replies = join_mut(
         &rt,
         &mut || fleet.admit(&rt, &mut first, 0, &mine),
-        &mut || {
+        &mut ||
+            requires { (length fleet ≡ 2) × IsPassOf second fleet × (theirs.by ≡ second.lo) }
+        {
             flags.await_inside();
             flags.answer();
             fleet.admit(&rt, &mut second, 0, &theirs)
