@@ -127,7 +127,7 @@ check_kept() {
         'the program in dist is not the one that was made\n' '' fault_of_kept small
     rm -rf small
     gives 'the program in dist' 0 '' '' fault_of_kept "$top"
-    if ! grep -qx "kit $(rt version 2>&1)" "$kept.made"; then
+    if ! grep -qx "kit $(rt version 2>&1)" "$kept.made" 2>"$work/err"; then
         echo 'skipped: the kit that the program in dist was made with is not here'
     elif ! grep -qx "sources $("$top/tools/digest")" "$built.made" 2>"$work/err"; then
         echo 'skipped: these sources are not built here, so the program in dist is compared with nothing'

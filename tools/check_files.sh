@@ -100,6 +100,24 @@ check_sound() {
     rm -rf files
 }
 
+# --- tools/measure
+
+# A command that ends with status 3, and below it one with the words of a check of the tests of lert_io.
+measured() {
+    "$top/tools/measure" -- bash -c \
+        '(exec -a rattle bash -c "sleep 1; true" rattle check --crate-name lert_io src/lib.rt --test); exit 3' >"$work/tables"
+    local status=$?
+    sed -n 's/^\(| `lert_[a-z]*` |\).*/\1/p; s/.*\(Status [0-9]*\).*/\1/p' "$work/tables"
+    return $status
+}
+
+check_measure() {
+    has python3 || return
+    gives 'measures what a command does' 3 'Status 3\n| `lert_io` |\n' '' measured
+    gives 'measures no crate that is not there' 1 '' 'measure: crates.txt has no lert_nowhere\n' \
+        "$top/tools/measure" --functions lert_nowhere
+}
+
 # --- README.md and docs
 
 references() { "$top/tools/references" "$@"; }
