@@ -2,6 +2,10 @@
 
 # --- ./lert in a small repository, with stubs for the kit and the programs
 
+small_told='lert: running dist/lert-x86_64-linux-gnu, which stub-kit proved and built from these sources\n'
+small_builds='lert: proving and building: crate 1 of 2, 0 minutes so far\n'
+small_none='rt: no proof\nlert: there is no program to run: lert_low is not proved and built\n'
+
 # A program that says the word, and answers as the proved one where it is asked for nothing.
 stub() {
     printf '#!/bin/sh\n[ $# -eq 0 ] || { echo %s; exit; }\necho "lert: usage rule 0" >&2\nexit 1\n' "$1" >"$2"
@@ -15,14 +19,23 @@ rt_builds() {
         "$work/small/bin/program" >small/bin/answer
 }
 
+# Or what the gate does, which leaves the program.
+rt_passes() {
+    printf '[ $1 = ci ] && mkdir -p "%s" && cp bin/program "%s"/lert_program\n' \
+        "$work/small/crates/lert_program/out" "$work/small/crates/lert_program/out" >small/bin/answer
+}
+
 small_lert() { PATH=$work/small/bin:$PATH small/lert "$@"; }
+small_gate() { PATH=$work/small/bin:$PATH small/.ci/run; }
+small_release() { PATH=$work/small/bin:$PATH small/tools/release; }
 small_digest() { PATH=$work/small/bin:$PATH small/tools/digest "$@"; }
 note_made() { small_digest --made "$1" >"$1.made"; }
 
 make_small() {
     local crate
     rm -rf small && mkdir -p small/bin small/dist small/tools
-    cp "$top/lert" small/ && cp "$top"/tools/{digest,program,build,crates.py} small/tools/
+    cp "$top/lert" "$top/.ci/run" small/ && cp "$top"/tools/{digest,program,build,release,crates.py} small/tools/
+    mkdir small/.ci && mv small/run small/.ci/
     printf 'lert_program: lert_low byteorder # it\nlert_apart:\nlert_low may_wait=1:\n' >small/crates.txt
     for crate in lert_low lert_program lert_apart; do
         mkdir -p small/crates/$crate/src small/crates/$crate/must-fail
@@ -66,34 +79,49 @@ differs() {
 }
 
 check_choice() {
-    local told='lert: running dist/lert-x86_64-linux-gnu, which stub-kit proved and built from these sources\n'
-    local builds='lert: proving and building: crate 1 of 2, 0 minutes so far\n'
-    local none='rt: no proof\nlert: there is no program to run: lert_low is not proved and built\n'
     local kept=small/dist/lert-x86_64-linux-gnu out=small/crates/lert_program/out
     make_small
-    gives 'the kept program' 0 'kept\n' "$told" small_lert run
+    gives 'the kept program' 0 'kept\n' "$small_told" small_lert run
     gives 'the kept program, told once' 0 'kept\n' '' small_lert run
     rm -rf "$out" && : >"$out"
     gives 'the kept program, where it cannot be noted' 0 'kept\n' '' small_lert run
     rm -f "$out"
     has python3 || return
     echo >>small/crates/lert_low/src/lib.rt
-    gives 'no kept program of other sources' 126 '' "$builds$none" small_lert run
+    gives 'no kept program of other sources' 126 '' "$small_builds$small_none" small_lert run
     make_small && echo >>"$kept"
-    gives 'no kept program of other bytes' 126 '' "$builds$none" small_lert run
+    gives 'no kept program of other bytes' 126 '' "$small_builds$small_none" small_lert run
     make_small && printf '#!/nowhere\n' >"$kept" && note_made "$kept"
     gives 'no kept program that does not run here' 126 '' \
-        "lert: dist/lert-x86_64-linux-gnu doesn't run on this machine\n$builds$none" small_lert run
+        "lert: dist/lert-x86_64-linux-gnu doesn't run on this machine\n$small_builds$small_none" small_lert run
     rt_builds
     gives 'what is built in its place' 0 'built\n' \
-        "lert: dist/lert-x86_64-linux-gnu doesn't run on this machine\n$builds" small_lert run
+        "lert: dist/lert-x86_64-linux-gnu doesn't run on this machine\n$small_builds" small_lert run
     stub kept "$kept" && note_made "$kept" && rt_fails
     gives 'what was built before what is kept' 0 'built\n' '' small_lert run
     stub other "$out/lert_program"
-    gives 'nothing else that was built' 0 'kept\n' "$told" small_lert run
+    gives 'nothing else that was built' 0 'kept\n' "$small_told" small_lert run
     rm "$kept"
-    gives 'a build that fails' 126 '' "$builds$none" small_lert run
+    gives 'a build that fails' 126 '' "$small_builds$small_none" small_lert run
     gives 'the program after it' 1 '' '' test -e "$out/lert_program"
+    rm -rf small
+}
+
+check_gate() {
+    local kept=small/dist/lert-x86_64-linux-gnu
+    make_small
+    gives 'a gate that fails' 1 'rt: no proof\n' '' small_gate
+    gives 'the program behind it' 0 'kept\n' "$small_told" small_lert run
+    rt_passes
+    gives 'a gate that passes' 0 '' '' small_gate
+    gives 'the program of the gate' 0 'built\n' '' small_lert run
+    has python3 || return
+    cp "$kept" before && rt_fails && echo >>small/crates/lert_low/src/lib.rt
+    gives 'a release that fails' 1 '' "$small_builds${small_none}release: dist/ is as it was\n" small_release
+    gives 'the kept program behind it' 0 '' '' cmp before "$kept"
+    rt_builds
+    gives 'a release' 0 "$(small_digest --made small/bin/program)\n" "$small_builds" small_release
+    gives 'the kept program that it leaves' 0 '' '' fault_of_kept small
     rm -rf small
 }
 
