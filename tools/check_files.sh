@@ -1,0 +1,135 @@
+# Checks the tools that read and write files, and that the documents name what is there. tools/check reads it.
+
+# --- tools/keys
+
+keys() { "$top/tools/keys" "$@"; }
+# The bytes of a file in sixteen digits for each eight of them.
+eights() { od -An -v -tx1 "$1" | tr -d ' \n' | sed 's/.\{16\}/&\n/g'; }
+pack_bytes() { keys pack "$@" packed && eights packed; }
+round_trip() { keys pack packed && keys unpack packed; }
+
+# A report in which each line's hash stands at 12, labelled, without the hashes.
+labelled() {
+    keys pack --hash --names names packed &&
+        keys unpack packed | sed 's/$/ 12/' | keys label --names names | cut -d' ' -f2-
+}
+
+# What a refusal leaves: the trace of before, and no file beside it.
+left_by_refusal() {
+    local status
+    rm -rf kept && mkdir kept && echo 7 | keys pack kept/trace || return
+    keys pack kept/trace
+    status=$?
+    keys unpack kept/trace && ls kept
+    return $status
+}
+
+check_keys() {
+    local line refusal='keys: line 2 is no decimal number below 2^64\n'
+    has python3 od || return
+    gives 'packs numbers' 0 '4c45525401000000\n6401000000000000\nffffffffffffffff\n' '' \
+        pack_bytes < <(printf '356\n18446744073709551615\n')
+    gives 'packs nothing' 0 '4c45525401000000\n' '' pack_bytes </dev/null
+    gives 'unpacks what it packed' 0 '7\n0\n7\n18446744073709551615\n' '' \
+        round_trip < <(printf '007\n0\n7\n18446744073709551615')
+    gives 'labels what it hashed' 0 '12 the\n12 a\n12 the\n12 \n12 %%\xff\n' '' \
+        labelled < <(printf 'the\na\nthe\n\n%%\xff\n')
+    for line in -1 '' 18446744073709551616 '7 ' 0x7 7.0 000000000000000000007 '7\r' '٧'; do
+        gives "packs no line '$line'" 1 '7\ntrace\n' "$refusal" \
+            left_by_refusal < <(printf "8\n$line\n9\n")
+    done
+    has b2sum || return
+    gives 'hashes as b2sum' 0 "4c45525401000000\n$(printf the | b2sum -l 64 | cut -d' ' -f1)\n" '' \
+        pack_bytes --hash < <(echo the)
+}
+
+check_unpacking() {
+    has python3 || return
+    local left='keys: the trace leaves its format at byte'
+    gives 'unpacks no empty file' 1 '' "$left 0\n" keys unpack empty
+    gives 'unpacks no cut header' 1 '' "$left 7\n" keys unpack cut_header
+    gives 'unpacks no other header' 1 '' "$left 3\n" keys unpack other_header
+    gives 'unpacks no cut key' 1 '7\n' "$left 16\n" keys unpack cut_key
+}
+
+# --- tools/journal
+
+journal() { "$top/tools/journal" "$@"; }
+
+# The journal of one packet of three keys 7, as docs/FORMATS.md has it, and what it leaves the format by.
+check_journal() {
+    local head='LERTJ\1\0\0\3\0\0\0\40\0\0\0\4\0\0\0\10\0\0\0\3\2\2\0\0\0\0\0'
+    local key='\7\0\0\0\0\0\0\0' left='journal: the file leaves its format at byte'
+    has python3 || return
+    printf "$head"'\1\40\0\0\0\0\0\0\0\0\0\0\0'"$key$key$key"'\0' >packet
+    head -c 69 packet >no_gate
+    head -c 40 packet >cut_packet
+    printf "$head"'\1\7\0\0\0\0\0\0\0\0\0\0\0' >no_packet
+    printf "$head"'\1\20\0\0\0\100\0\0\0\0\0\0\0'"$key"'\0' >another_worker
+    gives 'reads a packet' 0 '0 0 3\n' '' journal packet
+    gives 'reads its keys' 0 '7\n7\n7\n' '' journal --keys packet
+    gives 'reads no empty file' 1 '' "$left 0\n" journal empty
+    gives 'reads no trace' 1 '' "$left 4\n" journal no_key
+    gives 'reads a packet without a gate behind it' 1 '0 0 3\n' "$left 69\n" journal no_gate
+    gives 'reads no cut packet' 1 '' "$left 40\n" journal cut_packet
+    gives 'reads no packet without keys' 1 '' "$left 33\n" journal no_packet
+    gives 'reads no packet of worker 64' 1 '' "$left 37\n" journal another_worker
+}
+
+# --- tools/sound
+
+sound() { "$top/tools/sound" "$@"; }
+
+# The files of a cone that was closed behind three keys 7, as docs/FORMATS.md has them, and what makes them unsound.
+check_sound() {
+    local key='\7\0\0\0\0\0\0\0' three='\3\0\0\0\0\0\0\0' head='LERTL\1\0\0\1\57\0\0\0' wrong='sound: cone-000:'
+    local from='\40\0\0\0\0\0\0\0\1\0\0\0\0\0\0\0\0\0\1\0\0\0'
+    has python3 || return
+    mkdir files && cp packet files/cone-000.journal && : >files/cone-000.frames
+    printf "$head"'\2'"$three$from$key$three"'\0' >files/cone-000.log
+    gives 'files of three keys' 0 'cone 0 events 3 n0 3 reports 1 closed\n' '' sound files
+    gives 'the reports of three keys' 0 '7 3\n' '' sound --reports look files
+    printf "$head"'\2\2\0\0\0\0\0\0\0'"$from$key"'\2\0\0\0\0\0\0\0\0' >files/cone-000.log
+    gives 'a log closed too early' 1 '' "$wrong file 0 is broken at byte 32\n" sound files
+    printf "$head"'\2'"$three$from$key"'\4\0\0\0\0\0\0\0\0' >files/cone-000.log
+    gives 'a report behind the events' 1 '' "$wrong file 1 is broken at byte 52\n" sound files
+    printf "$head"'\1'"$three$from$key$three"'\0' >files/cone-000.log
+    gives 'a flush out of turn' 1 '' "$wrong file 1 is broken at byte 14\n" sound files
+    printf "$head"'\2'"$three$from$key$three"'\1\0' >files/cone-000.log
+    gives 'a record behind a closing one' 1 '' "$wrong file 1 is broken at byte 60\n" sound files
+    rm -rf files
+}
+
+# --- tools/measure
+
+# A command that ends with status 3, and below it one with the words of a check of the tests of lert_io.
+measured() {
+    "$top/tools/measure" -- bash -c \
+        '(exec -a rattle bash -c "sleep 1; true" rattle check --crate-name lert_io src/lib.rt --test); exit 3' >"$work/tables"
+    local status=$?
+    sed -n 's/^\(| `lert_[a-z]*` |\).*/\1/p; s/.*\(Status [0-9]*\).*/\1/p' "$work/tables"
+    return $status
+}
+
+check_measure() {
+    has python3 || return
+    gives 'measures what a command does' 3 'Status 3\n| `lert_io` |\n' '' measured
+    gives 'measures no crate that is not there' 1 '' 'measure: crates.txt has no lert_nowhere\n' \
+        "$top/tools/measure" --functions lert_nowhere
+}
+
+# --- README.md and docs
+
+references() { "$top/tools/references" "$@"; }
+
+check_documents() {
+    local name
+    has python3 || return
+    # The last one is made of this process's number, so that no file here has it.
+    for name in tools/kees lert_nowhere stale_$$; do
+        printf '`tools/keys`,\n`%s`\n' "$name" >stale.md
+        gives "finds $name" 1 "stale.md, line 2: $name isn't there\n" '' references stale.md
+    done
+    gives 'names in README.md and docs' 0 '' '' references
+}
+
