@@ -24,6 +24,16 @@ left_by_refusal() {
     return $status
 }
 
+# The same where the names can't be written: their place is a directory.
+left_without_names() {
+    local status
+    rm -rf kept && mkdir -p kept/names && echo 7 | keys pack kept/trace || return
+    keys pack --hash --names kept/names kept/trace
+    status=$?
+    keys unpack kept/trace && ls kept
+    return $status
+}
+
 check_keys() {
     local line refusal='keys: line 2 is no decimal number below 2^64\n'
     has python3 od || return
@@ -38,6 +48,8 @@ check_keys() {
         gives "packs no line '$line'" 1 '7\ntrace\n' "$refusal" \
             left_by_refusal < <(printf "8\n$line\n9\n")
     done
+    gives 'leaves the trace where its names have no place' 2 '7\nnames\ntrace\n' \
+        "keys: [Errno 21] Is a directory: 'kept/names'\n" left_without_names < <(echo the)
     has b2sum || return
     gives 'hashes as b2sum' 0 "4c45525401000000\n$(printf the | b2sum -l 64 | cut -d' ' -f1)\n" '' \
         pack_bytes --hash < <(echo the)
@@ -97,7 +109,16 @@ check_sound() {
     gives 'a flush out of turn' 1 '' "$wrong file 1 is broken at byte 14\n" sound files
     printf "$head"'\2'"$three$from$key$three"'\1\0' >files/cone-000.log
     gives 'a record behind a closing one' 1 '' "$wrong file 1 is broken at byte 60\n" sound files
-    rm -rf files
+    printf "$head"'\2'"$three$from$key$three"'\0' >files/cone-000.log
+    cp -r files other_cone && (cd other_cone && for name in *; do mv "$name" "cone-001.${name#*.}"; done)
+    gives 'files named by another number' 1 '' 'sound: cone-001: the header is that of cone 0\n' sound other_cone
+    cp -r files no_settings && printf '\377' | dd of=no_settings/cone-000.journal bs=1 seek=27 conv=notrunc status=none
+    gives 'numbers that no settings have' 1 '' "$wrong the header's numbers break rule 6 of the settings\n" sound no_settings
+    rm files/cone-000.journal
+    gives 'a log without a journal' 2 '' \
+        "sound: [Errno 2] No such file or directory: 'files/cone-000.journal'\n" sound files
+    gives 'no directory' 2 '' "sound: [Errno 2] No such file or directory: 'nowhere'\n" sound nowhere
+    rm -rf files other_cone no_settings
 }
 
 # --- tools/measure

@@ -211,10 +211,6 @@ check_recovery() {
     local program
     program=$("$top/tools/program")
     rm -rf d
-    if [ "$(recover_run 2>&1)" = 'lert: usage rule 0' ]; then
-        echo 'skipped: the program has no recover'
-        return
-    fi
     check_recovered
     has python3 || return
     gives 'recovery of damaged files' 0 '' '' passes "$top/tools/damage" "$program" --changes 500
