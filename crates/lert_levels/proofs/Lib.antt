@@ -9,7 +9,6 @@ mod LoadLaws
 mod MergeExamples
 mod GatherLaws
 pub mod MergedLaws
-mod SampleLaws
 mod YoungLaws
 pub mod ReadLaws
 pub mod LandLaws

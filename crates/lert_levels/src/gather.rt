@@ -12,9 +12,6 @@ use lert_merge::{Heads, Merge};
 use std::alloc::Global;
 use std::marker::Model;
 
-#[cfg(test)]
-mod tests;
-
 /// Which streams of a merge go into one bin: a level's oldest bin and, where both lie in one interval of the next older
 /// level, that level's newest one.
 #[derive(Clone, Copy, Debug, PartialEq, Eq)]

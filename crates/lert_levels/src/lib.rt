@@ -16,10 +16,6 @@ mod merging;
 mod parts;
 mod restoring;
 mod rows;
-#[cfg(test)]
-mod samples;
-#[cfg(test)]
-mod tests;
 mod zero;
 
 pub use bin_at::BinAt;

@@ -13,9 +13,6 @@ use lert_io::OutOfMemory;
 use std::alloc::Global;
 use std::marker::Model;
 
-#[cfg(test)]
-mod tests;
-
 /// The events of the newest positions of a cone, in bins of the base: seen as its settings, the last position before the
 /// oldest bin, the last position in the newest one, and the bins, oldest first.
 ///

@@ -2,9 +2,9 @@
 
 ghost use Rattle.std.specs.Prelude.{◌≡◌, ◌+◌, ◌%◌, ◌^◌, ◌<◌, ◌≤◌, All, [], length, IfOk};
 
-use crate::Zero;
 use lert_base::{Numbers, Piece, Settings, Totals};
 use lert_io::Seen;
+use lert_levels::Zero;
 use lert_plain::PlainTable;
 use std::alloc::Global;
 use std::test::Fail;

@@ -2,8 +2,8 @@
 
 ghost use Rattle.std.specs.Prelude.{◌≡◌};
 
-use super::Zero;
 use crate::samples::{SMALL, fill, small};
+use lert_levels::Zero;
 use lert_plain::PlainTable;
 use std::test::Fail;
 

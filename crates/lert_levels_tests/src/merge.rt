@@ -1,6 +1,8 @@
-use crate::{Heads, Merge};
+//! A merge of two streams of two pieces.
+
 use lert_base::{Piece, PieceFault, Pieces};
 use lert_io::Faulty;
+use lert_merge::{Heads, Merge};
 use std::test::Fail;
 
 // A context that counts its faults.
@@ -25,7 +27,7 @@ struct Two {
 
 impl Pieces<Counting> for Two {
     ghost use Rattle.std.specs.Prelude.{take};
-    ghost use Rattle.lert_merge.specs.TwoStreams.{pieces_of, left_of, in_order as two_in_order};
+    ghost use Rattle.lert_levels_tests.specs.TwoStreams.{pieces_of, left_of, in_order as two_in_order};
 
     ghost to_come = { λ s _. left_of s.fails s.second s.given };
 

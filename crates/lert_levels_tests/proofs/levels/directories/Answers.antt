@@ -1,6 +1,6 @@
 use Rattle.std.proofs.Common.{ℕ, ◌+◌, ◌*◌, ◌≡◌, subst, arith}
-use Rattle.lert_levels.specs.Samples.{IsReady}
-use Rattle.lert_levels.proofs.tests.directories.Goals as goal
+use Rattle.lert_levels_tests.specs.Samples.{IsReady}
+use Rattle.lert_levels_tests.proofs.levels.directories.Goals as goal
 
 pub loop-k-preserved : goal.loop-k-preserved
 loop-k-preserved c =

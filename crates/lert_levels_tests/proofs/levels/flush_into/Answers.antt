@@ -1,8 +1,8 @@
 use Rattle.std.proofs.Common.{ap, arith, ◌∙◌}
 use Rattle.lert_levels.specs.OnDisk.{OnDisk}
 use Rattle.lert_levels.specs.Young.{Young}
-use Rattle.lert_levels.proofs.SampleLaws.{ready_next}
-use Rattle.lert_levels.proofs.tests.flush.Goals as goal
+use Rattle.lert_levels_tests.proofs.SampleLaws.{ready_next}
+use Rattle.lert_levels_tests.proofs.levels.flush_into.Goals as goal
 
 pub returns-clause-ok : goal.returns-clause-ok
 returns-clause-ok c =

@@ -1,5 +1,5 @@
 -- What the tests' flushes begin with: positions up to 32.
-use Rattle.std.proofs.Common.{ℕ, zero, suc, [], ◌∷◌, get_or, lit≤, ◌<◌, ◌≢◌, ◌≡◌, ◌+◌, ◌-◌, ◌*◌, ◌≤◌, List, refl, ap, sym, ◌∙◌, subst, arith}
+use Rattle.std.proofs.Common.{ℕ, zero, suc, [], ◌∷◌, get_or, lit≤, ◌<◌, ◌≢◌, ◌≡◌, ◌+◌, ◌-◌, ◌*◌, ◌≤◌, List, map, replicate, refl, ap, sym, ◌∙◌, subst, arith}
 use Rattle.lert_spec.specs.declared.numbers.Numbers.{Numbers}
 use Rattle.lert_spec.specs.Edges.{span}
 use Rattle.lert_spec.specs.Limits.{IsValid}
@@ -11,9 +11,9 @@ use Rattle.lert_levels.proofs.PlacedLaws.{directory_of_frames}
 use Rattle.lert_levels.specs.declared.bin_at.BinAt.{BinAt}
 use Rattle.lert_levels.specs.Ranges.{ranges}
 use Rattle.lert_levels.specs.Named.{AreFramesAt, IsDirectory}
-use Rattle.lert_levels.specs.Rows.{IsAt}
+use Rattle.lert_levels.specs.Rows.{IsAt, range_of, row_of}
 use Rattle.lert_levels.specs.OnDisk.{OnDisk}
-use Rattle.lert_levels.specs.Samples.{small, IsReady}
+use Rattle.lert_levels_tests.specs.Samples.{small, IsFilledTo, IsReady}
 use Rattle.lert_levels.specs.Young.{Young}
 
 -- no bin moves between two flush positions
@@ -45,11 +45,32 @@ ready_next k young disk after new ready few settings at new_settings from to =
     let now = settings ∙ ready.disk_settings in
     let before : 16 + 4 * k - 1 ≡ 15 + 4 * k = omega arith in
     record {
-      young_settings = new_settings;
+      filled = record {
+        settings = new_settings;
+        from = (let wide = ap (λ (s : Numbers). span s 0) ready.filled.settings in let four : span small 0 ≡ 4 = refl in omega (arith, ready.filled.from));
+        to = to;
+      };
       disk_settings = now;
-      from = (let wide = ap (λ (s : Numbers). span s 0) ready.young_settings in let four : span small 0 ≡ 4 = refl in omega (arith, ready.from));
-      to = to;
       at = subst (λ n. IsAt small n after.rows) (sym before) (at_next k after.rows few (subst (λ (s : Numbers). IsAt s (12 + 4 * k) after.rows) now at));
+    }
+
+-- no bin is on disk before the first one
+none_at : (level : ℕ) → 1 ≤ level → level ≤ 2 → map range_of (row_of (replicate 2 []) level) ≡ ranges small 11 level
+none_at zero first last = absurd (omega arith)
+none_at (suc zero) first last = refl
+none_at (suc (suc zero)) first last = refl
+none_at (suc (suc (suc level))) first last = absurd (omega arith)
+
+abbrev pub fresh_disk : Numbers → OnDisk
+fresh_disk s = record { settings = s; rows = replicate s.levels [] }
+
+pub ready_first : (young : Young) (disk : OnDisk) → IsFilledTo 12 young → disk ≡ fresh_disk young.settings → IsReady 12 young disk
+ready_first young disk filled empty =
+    let is : disk ≡ fresh_disk small = empty ∙ ap fresh_disk filled.settings in
+    record {
+      filled = filled;
+      disk_settings = ap (λ (d : OnDisk). d.settings) is;
+      at = subst (λ (d : OnDisk). IsAt small 11 d.rows) (sym is) (record { levels = refl; each = none_at });
     }
 
 -- ---- the directory after 32 events
