@@ -1,5 +1,7 @@
 //! A merge of two streams of two pieces.
 
+ghost use Rattle.std.specs.Prelude.{◌≡◌, length};
+
 use lert_base::{Piece, PieceFault, Pieces};
 use lert_io::Faulty;
 use lert_merge::{Heads, Merge};
@@ -76,21 +78,40 @@ fn stream(second: bool, fails: bool) -> Two {
     }
 }
 
+// Whether the next piece of a merge of two streams is this one, with these shares.
+fn is_next(
+    merge: &mut Merge<Counting, Two>,
+    ctx: &mut Counting,
+    piece: Piece,
+    shares: (u64, u64),
+) -> bool
+    requires { length merge.old.streams ≡ 2 }
+    ensures { length merge.new.streams ≡ 2 }
+{
+    merge.next(ctx) == Ok(Some(piece)) && (merge.share(0), merge.share(1)) == shares
+}
+
+// Whether a merge of both streams gives their pieces, and then none.
+fn gives_all(merge: &mut Merge<Counting, Two>) -> bool
+    requires { length merge.old.streams ≡ 2 }
+    ensures { length merge.new.streams ≡ 2 }
+{
+    let mut ctx = Counting { faults: 0 };
+    let first = is_next(merge, &mut ctx, Piece { tail: 1, count: 5 }, (2, 3));
+    let second = is_next(merge, &mut ctx, Piece { tail: 4, count: 1 }, (0, 1));
+    let third = is_next(merge, &mut ctx, Piece { tail: 5, count: 1 }, (1, 0));
+    first && second && third && merge.next(&mut ctx) == Ok(None)
+}
+
 #[test]
 fn pieces_come_with_their_sums_and_shares(rt: HostRuntime) -> Result<(), Fail> {
     let streams = vec![in rt.alloc(); stream(false, false), stream(true, false)]?;
     assert_eq!(rt; streams.len(), 2);
     let heads = Heads::new(rt.alloc(), 2)?;
-    let mut ctx = Counting { faults: 0 };
     let mut merge = Merge::new(streams, heads);
-    let rows = [(1, 5, 2, 3), (4, 1, 0, 1), (5, 1, 1, 0)];
-    for (tail, count, first, second) in rows {
-        assert_eq!(rt; merge.next(&mut ctx), Ok(Some(Piece { tail, count })));
-        assert_eq!(rt; merge.share(0), first);
-        assert_eq!(rt; merge.share(1), second);
-    }
-    assert_eq!(rt; merge.next(&mut ctx), Ok(None));
+    let gives = gives_all(&mut merge);
     let (streams, _heads) = merge.into_parts();
+    assert!(rt; gives);
     assert_eq!(rt; streams.len(), 2);
     Ok(())
 }
