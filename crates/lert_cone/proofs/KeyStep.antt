@@ -7,10 +7,10 @@ use Rattle.lert_bay.specs.Files.{Files}
 use Rattle.lert_bay.specs.Settled.{Keeps, IsSettled}
 use Rattle.lert_gatelog.specs.Gated.{IsGated, next_gate}
 use Rattle.lert_gatelog.specs.Kept.{InEach, KeepsOthers, KeepsBefore, IsWhollySettled, IsWithOrWithout}
-use Rattle.lert_levels.specs.declared.bin_at.BinAt.{BinAt}
+use Rattle.lert_rows.specs.declared.bin_at.BinAt.{BinAt}
 use Rattle.lert_levels.specs.Flushed.{InNamed}
-use Rattle.lert_levels.specs.Landing.{KeepsRest}
-use Rattle.lert_levels.specs.Rows.{IsAt, AreRows, HoldsBins, directory_text}
+use Rattle.lert_rows.specs.Landing.{KeepsRest}
+use Rattle.lert_rows.specs.Rows.{IsAt, AreRows, HoldsBins, directory_text}
 use Rattle.lert_reports.specs.declared.log.LogKind.{LogKind}
 use Rattle.lert_reports.specs.Log.{HasLog, AreRecords, listed_in, most_record}
 use Rattle.lert_reports.specs.LogText.{LogRecord, log_payload, log_payload_of}

@@ -13,10 +13,10 @@ use Rattle.std.proofs.lemmas.List.Concat.{length-flat_map}
 use Rattle.std.proofs.lemmas.List.Folds.{flat_map-map}
 use Rattle.std.proofs.lemmas.List.Sums.{length-filter, sum_by-cons, sum_by-le}
 use Rattle.std.proofs.lemmas.Nat.{mul-le}
-use Rattle.lert_levels.specs.declared.bin_at.BinAt.{BinAt}
-use Rattle.lert_levels.specs.Ranges.{Range, range_at, ranges}
-use Rattle.lert_levels.specs.Rows.{directory_text, range_of, row_of, IsAt, IsRow, AreRows}
-use Rattle.lert_levels.proofs.RangeLaws.{ranges_few}
+use Rattle.lert_rows.specs.declared.bin_at.BinAt.{BinAt}
+use Rattle.lert_rows.specs.Ranges.{Range, range_at, ranges}
+use Rattle.lert_rows.specs.Rows.{directory_text, range_of, row_of, IsAt, IsRow, AreRows}
+use Rattle.lert_rows.proofs.RangeLaws.{ranges_few}
 use Rattle.lert_reports.specs.declared.log.LogBefore.{LogBefore}
 use Rattle.lert_reports.specs.declared.log.LogKind.{LogKind}
 use Rattle.lert_reports.specs.Log.{most_record, is_flush, is_closing, AreRecords, is_closed, last_n0, last_at, listed_in, before_of, flushes_in}

@@ -6,9 +6,9 @@ use Rattle.std.proofs.lemmas.Nat.{mul-le}
 use Rattle.byteorder.specs.Endian.{little_bytes}
 use Rattle.lert_gatelog.specs.Gated.{appendix, IsAppendix}
 use Rattle.lert_gatelog.proofs.GatedLaws.{length_appendix}
-use Rattle.lert_levels.specs.declared.bin_at.BinAt.{BinAt}
-use Rattle.lert_levels.specs.Rows.{AreRows, row_of, directory_text}
-use Rattle.lert_levels.proofs.LevelLaws.{directory_short}
+use Rattle.lert_rows.specs.declared.bin_at.BinAt.{BinAt}
+use Rattle.lert_rows.specs.Rows.{AreRows, row_of, directory_text}
+use Rattle.lert_rows.proofs.MoveLaws.{directory_short}
 use Rattle.lert_reports.specs.declared.log.LogKind.{LogKind}
 use Rattle.lert_reports.specs.LogText.{log_payload, kind_number, report_bytes}
 use Rattle.lert_reports.specs.Log.{most_record}

@@ -14,8 +14,8 @@ use Rattle.lert_io.specs.Fault.{HasRisen}
 use Rattle.lert_journal.specs.Journal.{HasPackets, HasPacketsOrOneMore}
 use Rattle.lert_journal.specs.Payload.{payload_of, IsJournaled}
 use Rattle.lert_journal.proofs.PayloadLaws.{length_payload}
-use Rattle.lert_levels.specs.declared.bin_at.BinAt.{BinAt}
-use Rattle.lert_levels.specs.Rows.{HoldsBins}
+use Rattle.lert_rows.specs.declared.bin_at.BinAt.{BinAt}
+use Rattle.lert_rows.specs.Rows.{HoldsBins}
 use Rattle.lert_levels.proofs.LaterLaws.{HoldsBins-none}
 use Rattle.lert_reports.specs.Log.{HasLog, most_record}
 use Rattle.lert_spec.specs.declared.numbers.Numbers.{Numbers}

@@ -10,13 +10,13 @@ use Rattle.lert_spec.specs.Limits.{IsValid}
 use Rattle.lert_spec.specs.Table.{count_of}
 use Rattle.lert_spec.proofs.LookLaws.{AreKeys}
 use Rattle.lert_spec.proofs.TailLaws.{AreOfCone}
-use Rattle.lert_levels.specs.declared.bin_at.BinAt.{BinAt}
-use Rattle.lert_levels.specs.Loading.{OneBreaks}
-use Rattle.lert_levels.specs.Ranges.{young_bins}
-use Rattle.lert_levels.specs.Rows.{IsAt, AreRows, HoldsBins}
-use Rattle.lert_levels.specs.Young.{Young}
-use Rattle.lert_levels.specs.declared.fault.FlushFault.{FlushFault}
-use Rattle.lert_levels.specs.declared.fault.FlushFault.TheVariants.{Failed as FlushFailed, Malformed, OutOfMemory as NoMemory}
+use Rattle.lert_rows.specs.declared.bin_at.BinAt.{BinAt}
+use Rattle.lert_rows.specs.Loading.{OneBreaks}
+use Rattle.lert_rows.specs.Ranges.{young_bins}
+use Rattle.lert_rows.specs.Rows.{IsAt, AreRows, HoldsBins}
+use Rattle.lert_rows.specs.Young.{Young}
+use Rattle.lert_rows.specs.declared.fault.FlushFault.{FlushFault}
+use Rattle.lert_rows.specs.declared.fault.FlushFault.TheVariants.{Failed as FlushFailed, Malformed, OutOfMemory as NoMemory}
 use Rattle.lert_cone.specs.declared.tally.TakeFault.{TakeFault}
 use Rattle.lert_cone.specs.declared.tally.TakeFault.TheVariants.{Failed, Unsound, OutOfMemory}
 use Rattle.lert_cone.specs.Due.{Dues, unbegun}

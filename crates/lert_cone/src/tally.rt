@@ -8,8 +8,8 @@ ghost use Rattle.lert_spec.specs.Edges.{edge, capacity};
 ghost use Rattle.lert_spec.specs.Mix.{cone_of};
 ghost use Rattle.lert_gatelog.specs.Kept.{InEach};
 ghost use Rattle.lert_levels.specs.Flushed.{InNamed};
-ghost use Rattle.lert_levels.specs.Landing.{KeepsRest};
-ghost use Rattle.lert_levels.specs.Rows.{IsAt, AreRows, HoldsBins, directory_text};
+ghost use Rattle.lert_rows.specs.Landing.{KeepsRest};
+ghost use Rattle.lert_rows.specs.Rows.{IsAt, AreRows, HoldsBins, directory_text};
 ghost use Rattle.lert_cone.specs.Framed.{HoldsSome};
 
 use crate::due::Due;

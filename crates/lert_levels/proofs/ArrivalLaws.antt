@@ -17,20 +17,19 @@ use Rattle.lert_spec.specs.Table.{count_of, total, IsTable}
 use Rattle.lert_spec.proofs.EdgeLaws.{steps, moves_by_one, deepest_within}
 use Rattle.lert_spec.proofs.TallyLaws.{IsTable-tallied}
 use Rattle.lert_merge.specs.Merging.{count_in}
-use Rattle.lert_levels.specs.declared.bin_at.BinAt.{BinAt}
+use Rattle.lert_rows.specs.declared.bin_at.BinAt.{BinAt}
 use Rattle.lert_levels.specs.Gathered.{merged, list_at, newest_in, part_table, IsWithin}
-use Rattle.lert_levels.specs.Landing.{CanStand}
-use Rattle.lert_levels.specs.Loading.{AreBins, width_of, widths_in, held_in}
+use Rattle.lert_rows.specs.Landing.{CanStand}
+use Rattle.lert_rows.specs.Loading.{AreBins, width_of, widths_in, held_in}
 use Rattle.lert_levels.specs.Merged.{streams_of, widths_of}
 use Rattle.lert_levels.specs.Parts.{streams_to, oldest_stream, part_at, parts_at}
-use Rattle.lert_levels.specs.Ranges.{Range, ranges, filled, young_bins}
-use Rattle.lert_levels.specs.Rows.{range_of, row_of, IsAt, newest, begins, arrived, tallied_in}
-use Rattle.lert_levels.proofs.HoldLaws.{row_among}
+use Rattle.lert_rows.specs.Ranges.{Range, ranges, filled, young_bins}
+use Rattle.lert_rows.specs.Rows.{range_of, row_of, IsAt, newest, begins, arrived, tallied_in}
 use Rattle.lert_levels.proofs.MergedLaws.{AreTables, IsTable-merged, count_of-merged, total-merged, AreGiven-merged}
 use Rattle.lert_levels.proofs.PartLaws.{streams_more, stream_at}
-use Rattle.lert_levels.proofs.RangeLaws.{range_cuts, oldest_is, oldest_young, depth_moves}
-use Rattle.lert_levels.proofs.RowLaws.{Arrives, arrives}
-use Rattle.lert_levels.proofs.Windows.{counted, counted-join, window_table, young-ranges}
+use Rattle.lert_rows.proofs.RangeLaws.{range_cuts, oldest_is, oldest_young, depth_moves}
+use Rattle.lert_rows.proofs.RowLaws.{row_among, Arrives, arrives}
+use Rattle.lert_rows.proofs.Windows.{counted, counted-join, window_table, young-ranges}
 
 abbrev nothing : BinAt
 nothing = record { from = 0; to = 0; frame = 0 }

@@ -13,17 +13,17 @@ use Rattle.lert_spec.specs.Limits.{IsValid}
 use Rattle.lert_spec.specs.Table.{IsTable}
 use Rattle.lert_spec.proofs.EdgeLaws.{deepest_within}
 use Rattle.lert_merge.specs.Merging.{count_in}
-use Rattle.lert_levels.specs.declared.bin_at.BinAt.{BinAt}
+use Rattle.lert_rows.specs.declared.bin_at.BinAt.{BinAt}
 use Rattle.lert_levels.specs.declared.gather.Part.{Part}
 use Rattle.lert_levels.specs.Flushed.{AllCanStand, AreNew, AreEvents, AreAllEvents}
 use Rattle.lert_levels.specs.Gathered.{merged, part_table, IsWithin}
-use Rattle.lert_levels.specs.Landing.{CanStand}
+use Rattle.lert_rows.specs.Landing.{CanStand}
 use Rattle.lert_levels.specs.Merged.{IsMade, streams_of, widths_of}
 use Rattle.lert_levels.specs.Parts.{part_at, parts_at}
-use Rattle.lert_levels.specs.Ranges.{young_bins}
-use Rattle.lert_levels.specs.Rows.{IsAt, AreRows, tallied_in}
+use Rattle.lert_rows.specs.Ranges.{young_bins}
+use Rattle.lert_rows.specs.Rows.{IsAt, AreRows, tallied_in}
 use Rattle.lert_levels.proofs.ArrivalLaws.{tables_from_bins, part_fits, part_holds, part_within}
-use Rattle.lert_levels.proofs.CoverLaws.{flush_totals, scan_totals}
+use Rattle.lert_rows.proofs.CoverLaws.{flush_totals, scan_totals}
 use Rattle.lert_levels.proofs.HoldLaws.{rows_stand}
 use Rattle.lert_levels.proofs.MergeLaws.{lists_count}
 use Rattle.lert_levels.proofs.MergedLaws.{IsTable-merged, count_of-merged}

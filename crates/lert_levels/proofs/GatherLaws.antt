@@ -16,7 +16,8 @@ use Rattle.lert_spec.specs.Table.{count_of, AscendsFrom, IsTable}
 use Rattle.lert_spec.proofs.Tables.{count_of-below}
 use Rattle.lert_spec.proofs.TallyLaws.{count_of-cons_same, count_of-cons_other}
 use Rattle.lert_levels.specs.declared.gather.Part.{Part}
-use Rattle.lert_levels.specs.Gathered.{lists_of, newest_in, lists_in, newest_share, share_in, part_table, bound_after, merged, IsWithin, AreLeft, IsLeftOf}
+use Rattle.lert_levels.specs.Gathered.{newest_in, lists_in, newest_share, share_in, part_table, bound_after, merged, IsWithin, AreLeft, IsLeftOf}
+use Rattle.lert_rows.specs.Loading.{lists_of}
 use Rattle.lert_levels.proofs.MergedLaws.{AreTables, merged_is}
 
 -- what is to come of a bin in memory

@@ -16,21 +16,17 @@ use Rattle.lert_spec.specs.Bins.{tallied}
 use Rattle.lert_spec.specs.Edges.{span, edge, depth}
 use Rattle.lert_spec.proofs.Tables.{length_le-total, count_le-total}
 use Rattle.lert_spec.proofs.TallyLaws.{IsTable-tallied, total-tallied}
-use Rattle.lert_levels.specs.declared.bin_at.BinAt.{BinAt}
+use Rattle.lert_rows.specs.declared.bin_at.BinAt.{BinAt}
 use Rattle.lert_levels.specs.Flushed.{AreNew, InNamed}
-use Rattle.lert_levels.specs.Landing.{LeavesRest, landing_frame, AreApart, AreLanded}
-use Rattle.lert_levels.specs.Loading.{Stands, AllStand}
-use Rattle.lert_levels.specs.Rows.{row_of, IsAt, IsRow, AreRows, HoldsBins, times_named, kept, arrived, moved, tallied_in}
-use Rattle.lert_levels.proofs.LandLaws.{holds_stays, landing_within}
-use Rattle.lert_levels.proofs.RangeLaws.{IsCut, cuts_are, edge_within}
-use Rattle.lert_levels.proofs.RowLaws.{All-ranges, All-kept, row_of-moved, lowest_is_free}
-use Rattle.lert_levels.proofs.Windows.{total-window}
+use Rattle.lert_rows.specs.Landing.{LeavesRest, landing_frame, AreApart, AreLanded}
+use Rattle.lert_rows.specs.Loading.{Stands, AllStand}
+use Rattle.lert_rows.specs.Rows.{row_of, IsAt, IsRow, AreRows, HoldsBins, times_named, kept, arrived, moved, tallied_in}
+use Rattle.lert_rows.proofs.LandLaws.{holds_stays, landing_within}
+use Rattle.lert_rows.proofs.RangeLaws.{IsCut, cuts_are, edge_within}
+use Rattle.lert_rows.proofs.RowLaws.{row_among, All-ranges, All-kept, row_of-moved, lowest_is_free}
+use Rattle.lert_rows.proofs.Windows.{total-window}
 
 -- ---- what is read
-
--- a level's row among the first ones
-pub row_among : (rows : List (List BinAt)) (d k : ℕ) → k < d → row_of rows (k + 1) ≡ get_or (take d rows) k []
-row_among rows d k less = ap (λ n. get_or rows n []) (let same : k + 1 - 1 ≡ k = omega arith in same) ∙ sym (get_or-take d rows k [] less)
 
 -- the bins of a level end within the events
 pub bins_end : (s : Numbers) (n : ℕ) (rows : List (List BinAt)) → IsAt s n rows → (level : ℕ) → 1 ≤ level → level ≤ s.levels → All (λ bin. bin.to ≤ n) (row_of rows level)

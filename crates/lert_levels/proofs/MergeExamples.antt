@@ -3,7 +3,7 @@ use Rattle.std.proofs.Common.{◌≡◌, ℕ, List, [], ◌∷◌, Some, None, r
 use Rattle.lert_spec.specs.declared.numbers.Numbers.{Numbers}
 use Rattle.lert_spec.specs.declared.piece.Piece.{Piece}
 use Rattle.lert_spec.specs.Bins.{Bin}
-use Rattle.lert_levels.specs.Young.{added, bins_of}
+use Rattle.lert_rows.specs.Young.{added, bins_of}
 use Rattle.lert_levels.specs.Gathered.{merged, part_table}
 
 abbrev small : Numbers

@@ -9,9 +9,8 @@ use Rattle.lert_frames.specs.declared.bin.LoadedBin.{LoadedBin}
 use Rattle.lert_frames.specs.Frame.{IsBin}
 use Rattle.lert_spec.specs.Bins.{Bin}
 use Rattle.lert_spec.specs.declared.piece.Piece.{Piece}
-use Rattle.lert_levels.specs.declared.bin_at.BinAt.{BinAt}
-use Rattle.lert_levels.specs.Gathered.{lists_of}
-use Rattle.lert_levels.specs.Loading.{AreBins, width_of, widths_in}
+use Rattle.lert_rows.specs.declared.bin_at.BinAt.{BinAt}
+use Rattle.lert_rows.specs.Loading.{lists_of, AreBins, width_of, widths_in}
 use Rattle.lert_levels.specs.Merged.{widths_of}
 use Rattle.lert_levels.specs.Parts.{streams_to}
 

@@ -5,11 +5,11 @@ use Rattle.lert_spec.specs.declared.numbers.Numbers.{Numbers}
 use Rattle.lert_spec.specs.Bins.{Bin}
 use Rattle.lert_spec.specs.Edges.{edge, capacity}
 use Rattle.lert_spec.specs.declared.piece.Piece.{Piece}
-use Rattle.lert_levels.specs.declared.bin_at.BinAt.{BinAt}
-use Rattle.lert_levels.specs.Landing.{CanStand}
+use Rattle.lert_rows.specs.declared.bin_at.BinAt.{BinAt}
+use Rattle.lert_rows.specs.Landing.{CanStand}
 use Rattle.lert_levels.specs.OnDisk.{OnDisk}
-use Rattle.lert_levels.specs.Ranges.{young_bins}
-use Rattle.lert_levels.specs.Rows.{row_of, IsAt, arrived, tallied_in, HoldsBins}
+use Rattle.lert_rows.specs.Ranges.{young_bins}
+use Rattle.lert_rows.specs.Rows.{row_of, IsAt, arrived, tallied_in, HoldsBins}
 
 -- the new bins, that of level 1 first, have room in their frames
 abbrev pub AllCanStand : Numbers → List (List Piece) → Type 0

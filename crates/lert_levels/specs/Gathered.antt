@@ -1,5 +1,5 @@
 -- The merge of bins: the table of all counts, and the tables of some of the bins.
-use Rattle.std.specs.Prelude.{ℕ, ◌≡◌, ◌+◌, ◌<◌, ◌++◌, map, fold, drop, List, [], ◌∷◌, length, Option, Some, None, slice_index_or}
+use Rattle.std.specs.Prelude.{ℕ, ◌≡◌, ◌+◌, ◌<◌, ◌++◌, fold, drop, List, [], ◌∷◌, length, Option, Some, None, slice_index_or}
 use Rattle.lert_frames.specs.declared.bin.LoadedBin.{LoadedBin}
 use Rattle.lert_merge.specs.declared.heads.Head.{Head}
 use Rattle.lert_merge.specs.declared.heads.Head.TheVariants.{Ended}
@@ -8,10 +8,6 @@ use Rattle.lert_merge.specs.Seats.{Seats, seat_at, ahead}
 use Rattle.lert_spec.specs.declared.piece.Piece.{Piece}
 use Rattle.lert_spec.specs.Table.{plus}
 use Rattle.lert_levels.specs.declared.gather.Part.{Part}
-
--- the pieces of loaded bins
-abbrev pub lists_of : List LoadedBin → List (List Piece)
-lists_of bins = map (λ bin. bin.pieces.items) bins
 
 -- a table with the counts of more pieces
 abbrev pub joined : List Piece → List Piece → List Piece

@@ -1,8 +1,8 @@
 -- The levels on disk.
 use Rattle.std.specs.Prelude.{◌≡◌, ℕ, ◌+◌, ◌*◌, ◌<◌, ◌≤◌, List, map, All}
 use Rattle.lert_spec.specs.declared.numbers.Numbers.{Numbers}
-use Rattle.lert_levels.specs.declared.bin_at.BinAt.{BinAt}
-use Rattle.lert_levels.specs.Rows.{AreRows, directory_text}
+use Rattle.lert_rows.specs.declared.bin_at.BinAt.{BinAt}
+use Rattle.lert_rows.specs.Rows.{AreRows, directory_text}
 
 -- what they are seen as: their settings, and the rows from level 1 on
 pub record OnDisk : Type 0 where

@@ -3,9 +3,9 @@
 use Rattle.std.specs.Prelude.{ℕ, zero, suc, ◌+◌, ◌-◌, List, length, map, take, sum_by, Option, Some, None, if◌then◌else◌}
 use Rattle.std.specs.List.{range_with_len}
 use Rattle.lert_spec.specs.declared.numbers.Numbers.{Numbers}
-use Rattle.lert_levels.specs.declared.bin_at.BinAt.{BinAt}
+use Rattle.lert_rows.specs.declared.bin_at.BinAt.{BinAt}
 use Rattle.lert_levels.specs.declared.gather.Part.{Part}
-use Rattle.lert_levels.specs.Rows.{begins}
+use Rattle.lert_rows.specs.Rows.{begins}
 
 -- how many streams the levels from 0 up to one have
 abbrev pub streams_to : ℕ → List (List BinAt) → ℕ → ℕ

@@ -3,7 +3,8 @@
 ghost use Rattle.std.specs.Prelude.{◌≡◌, ℕ, ◌+◌, ◌^◌, ◌<◌, ◌≤◌, List, [], ◌++◌, All, length, map, slice_index_or, None, Some, IfOk, IfSome, OnOk, MatchOption};
 ghost use Rattle.lert_merge.specs.Merging.{share_of, part_of, behind, IsNext, IsAbove, AreShares, AreOver};
 ghost use Rattle.lert_spec.specs.declared.piece.Piece.{Piece};
-ghost use Rattle.lert_levels.specs.Gathered.{lists_of, merged, part_table, share_in, bound_after, IsWithin, AreLeft};
+ghost use Rattle.lert_levels.specs.Gathered.{merged, part_table, share_in, bound_after, IsWithin, AreLeft};
+ghost use Rattle.lert_rows.specs.Loading.{lists_of};
 
 use lert_base::{Piece, Totals};
 use lert_frames::LoadedBin;
@@ -11,9 +12,6 @@ use lert_io::{Faulty, OutOfMemory};
 use lert_merge::{Heads, Merge};
 use std::alloc::Global;
 use std::marker::Model;
-
-#[cfg(test)]
-mod tests;
 
 /// Which streams of a merge go into one bin: a level's oldest bin and, where both lie in one interval of the next older
 /// level, that level's newest one.

@@ -9,31 +9,27 @@ ghost use Rattle.lert_spec.specs.declared.piece.Piece.{Piece};
 ghost use Rattle.lert_spec.specs.Bins.{tallied};
 ghost use Rattle.lert_spec.specs.Edges.{edge, depth, lookback, capacity};
 ghost use Rattle.lert_spec.specs.Table.{IsTable};
-ghost use Rattle.lert_levels.specs.declared.bin_at.BinAt.{BinAt};
-ghost use Rattle.lert_levels.specs.Checked.{EachStands, held_after, rows_left};
+ghost use Rattle.lert_rows.specs.declared.bin_at.BinAt.{BinAt};
+ghost use Rattle.lert_rows.specs.Checked.{EachStands, held_after, rows_left};
 ghost use Rattle.lert_levels.specs.Flushed.{AllCanStand, AreNew, AreEvents, AreAllEvents, InNamed};
 ghost use Rattle.lert_levels.specs.Gathered.{IsWithin};
-ghost use Rattle.lert_levels.specs.Landing.{KeepsRest};
-ghost use Rattle.lert_levels.specs.Loading.{AllStand, OneBreaks};
+ghost use Rattle.lert_rows.specs.Landing.{KeepsRest};
+ghost use Rattle.lert_rows.specs.Loading.{AllStand, OneBreaks};
 ghost use Rattle.lert_levels.specs.Merged.{IsMade, IsFrames};
-ghost use Rattle.lert_levels.specs.Named.{IsDirectory};
+ghost use Rattle.lert_rows.specs.Named.{IsDirectory};
 ghost use Rattle.lert_levels.specs.Parts.{streams_to, parts_at};
-ghost use Rattle.lert_levels.specs.Rows.{row_of, IsAt, IsRow, AreRows, HoldsBins, moved, directory_text};
+ghost use Rattle.lert_rows.specs.Rows.{row_of, IsAt, IsRow, AreRows, HoldsBins, moved, directory_text};
 
-use crate::bin_at::BinAt;
-use crate::checking::check_rows;
-use crate::directory::lay_directory;
-use crate::fault::FlushFault;
 use crate::gather::{Merger, Part};
-use crate::landing::land;
-use crate::merging::load_levels;
 use crate::parts::parts_of;
-use crate::restoring::restore_rows;
-use crate::rows::move_row;
-use crate::zero::Zero;
+use crate::streams::load_levels;
 use lert_base::{CountTable, Piece, Settings, Totals};
 use lert_bay::Bay;
 use lert_io::{Failed, OutOfMemory};
+use lert_rows::{
+    BinAt, FlushFault, Zero, check_rows, empty_rows, lay_directory, move_rows, restore_rows,
+    write_arrivals,
+};
 use std::alloc::Global;
 use std::marker::{Model, PhantomData};
 
@@ -364,7 +360,7 @@ impl<T: CountTable> Levels<T> {
         ensures mark { B.mark bay.new ≡ B.mark bay.old }
     {
         let depth = self.settings.depth(m) as usize;
-        land(&self.settings, m, self.reached(depth), made, bay)
+        write_arrivals(&self.settings, m, self.reached(depth), made, bay)
     }
 
     // Moves the rows on through the flush at position `m`.
@@ -386,34 +382,5 @@ impl<T: CountTable> Levels<T> {
         ensures restores { (n : ℕ) → IsAt self.now.settings n self.now.rows → IsDirectory self.now.settings n result.now }
     {
         &self.directory
-    }
-}
-
-// So many rows with no bin, and with room for so many.
-fn empty_rows(alloc: Global, levels: usize, bins: usize) -> Result<Vec<Vec<BinAt>>, OutOfMemory>
-    ensures len { IfOk result (λ rows. length rows.items ≡ levels) }
-    ensures empty { IfOk result (λ rows. All (λ row. row.items ≡ []) rows.items) }
-    ensures roomy { IfOk result (λ rows. All (λ row. bins ≤ vec_capacity row) rows.items) }
-{
-    let mut rows = Vec::with_capacity(alloc, levels)?;
-    for _ in 0..levels {
-        rows.push(Vec::with_capacity(alloc, bins)?)?;
-    }
-    Ok(rows)
-}
-
-// Moves the rows on through the flush at position `m`.
-fn move_rows(settings: &Settings, m: u64, rows: &mut [Vec<BinAt>])
-    requires first { 1 ≤ m }
-    requires last { m ≤ capacity settings.now }
-    requires levels { length rows.old ≡ settings.now.levels }
-    requires few { All (λ row. length row.items ≤ settings.now.bins) rows.old }
-    requires roomy { All (λ row. settings.now.bins < vec_capacity row) rows.old }
-    ensures rows { map (λ row. row.items) rows.new ≡ moved settings.now m (map (λ row. row.items) rows.old) }
-    ensures roomy { All (λ row. settings.now.bins < vec_capacity row) rows.new }
-{
-    let _valid = settings.numbers();
-    for (lower, row) in rows.iter_mut().enumerate() {
-        move_row(settings, m, lower as u32 + 1, row);
     }
 }

@@ -4,25 +4,10 @@
 //! their frames.
 #![tactic(auto)]
 
-mod bin_at;
-mod checking;
-mod directory;
-mod fault;
 mod gather;
-mod landing;
 mod levels;
-mod loading;
-mod merging;
 mod parts;
-mod restoring;
-mod rows;
-#[cfg(test)]
-mod samples;
-#[cfg(test)]
-mod tests;
-mod zero;
+mod streams;
 
-pub use bin_at::BinAt;
-pub use fault::FlushFault;
+pub use lert_rows::{BinAt, FlushFault, Zero};
 pub use levels::Levels;
-pub use zero::Zero;

@@ -3,13 +3,12 @@
 ghost use Rattle.std.specs.Prelude.{◌≡◌, ℕ, ◌+◌, ◌-◌, ◌<◌, ◌≤◌, [], length, map, IfOk, slice_index_or};
 ghost use Rattle.lert_spec.specs.Edges.{capacity};
 ghost use Rattle.lert_levels.specs.Parts.{newest_stream, parts_at};
-ghost use Rattle.lert_levels.specs.Rows.{IsRow};
+ghost use Rattle.lert_rows.specs.Rows.{IsRow};
 
-use crate::bin_at::BinAt;
 use crate::gather::Part;
-use crate::rows::begins;
 use lert_base::Settings;
 use lert_io::OutOfMemory;
+use lert_rows::{BinAt, begins};
 use std::alloc::Global;
 
 /// For each level that the flush at position `m` reaches, of which these are the rows, the streams of its new bin. The streams

@@ -1,4 +1,3 @@
 pub mod Draws
 pub mod Seats
 pub mod Merging
-pub mod TwoStreams

@@ -8,8 +8,6 @@
 
 mod heads;
 mod merge;
-#[cfg(test)]
-mod tests;
 mod tournament;
 
 pub use heads::Heads;

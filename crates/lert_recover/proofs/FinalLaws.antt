@@ -9,7 +9,7 @@ use Rattle.lert_bay.specs.Files.{Files}
 use Rattle.lert_cone.specs.History.{most_payload, end_of}
 use Rattle.lert_cone.specs.Sound.{IsSound, IsJournal}
 use Rattle.lert_journal.proofs.OneAnswer.{one_history}
-use Rattle.lert_levels.specs.declared.bin_at.BinAt.{BinAt}
+use Rattle.lert_rows.specs.declared.bin_at.BinAt.{BinAt}
 use Rattle.lert_reports.specs.Log.{is_closed, last_n0}
 use Rattle.lert_reports.specs.LogText.{LogRecord}
 use Rattle.lert_reports.proofs.LogOnce.{one_log}

@@ -3,11 +3,11 @@ use Rattle.std.specs.Prelude.{◌≡◌, ℕ, List, Option, Some, None}
 use Rattle.lert_base.specs.declared.kept.Kept.{Kept}
 use Rattle.lert_bay.specs.Files.{Files}
 use Rattle.lert_bay.specs.Images.{Lasts}
-use Rattle.lert_levels.specs.declared.bin_at.BinAt.{BinAt}
-use Rattle.lert_levels.specs.declared.fault.FlushFault.{FlushFault}
-use Rattle.lert_levels.specs.declared.fault.FlushFault.TheVariants.{Failed as CheckFailed, Malformed as CheckMalformed, OutOfMemory as CheckOutOfMemory}
-use Rattle.lert_levels.specs.Checked.{rows_left}
-use Rattle.lert_levels.specs.Named.{AreNamed}
+use Rattle.lert_rows.specs.declared.bin_at.BinAt.{BinAt}
+use Rattle.lert_rows.specs.declared.fault.FlushFault.{FlushFault}
+use Rattle.lert_rows.specs.declared.fault.FlushFault.TheVariants.{Failed as CheckFailed, Malformed as CheckMalformed, OutOfMemory as CheckOutOfMemory}
+use Rattle.lert_rows.specs.Checked.{rows_left}
+use Rattle.lert_rows.specs.Named.{AreNamed}
 use Rattle.lert_recover.specs.declared.fault.ReopenFault.{ReopenFault}
 use Rattle.lert_recover.specs.declared.fault.ReopenFault.TheVariants.{Failed, Malformed, OtherSettings, OutOfMemory}
 use Rattle.lert_recover.specs.Headed.{BeginningLeaves, IsHeaded, HasOther}

@@ -8,7 +8,7 @@ use Rattle.lert_cone.specs.declared.refusal.ReplayFault.{ReplayFault}
 use Rattle.lert_cone.specs.declared.refusal.ReplayFault.TheVariants.{Failed as ReplayFailed, Malformed as ReplayMalformed, Unsound as ReplayUnsound, OutOfMemory as ReplayOutOfMemory}
 use Rattle.lert_cone.specs.Sound.{IsSound}
 use Rattle.lert_gatelog.specs.Gated.{IsClosed}
-use Rattle.lert_levels.specs.declared.bin_at.BinAt.{BinAt}
+use Rattle.lert_rows.specs.declared.bin_at.BinAt.{BinAt}
 use Rattle.lert_recover.specs.declared.fault.ReopenFault.{ReopenFault}
 use Rattle.lert_recover.specs.declared.fault.ReopenFault.TheVariants.{Failed, Malformed, OtherSettings, OutOfMemory}
 use Rattle.lert_recover.specs.Headed.{HasOther}

@@ -4,9 +4,9 @@ ghost use Rattle.std.specs.Prelude.{◌≡◌, ◌⊎◌, ℕ, ◌≤◌, ◌^�
 ghost use Rattle.lert_base.specs.declared.kept.Kept.{Kept as KeptOf};
 ghost use Rattle.lert_bay.specs.Files.{Files, IfTold};
 ghost use Rattle.lert_io.specs.Fault.{HasRisen, HasCause};
-ghost use Rattle.lert_levels.specs.declared.bin_at.BinAt.{BinAt};
-ghost use Rattle.lert_levels.specs.Checked.{EachStands};
-ghost use Rattle.lert_levels.specs.Rows.{IsAt, AreRows, directory_text};
+ghost use Rattle.lert_rows.specs.declared.bin_at.BinAt.{BinAt};
+ghost use Rattle.lert_rows.specs.Checked.{EachStands};
+ghost use Rattle.lert_rows.specs.Rows.{IsAt, AreRows, directory_text};
 ghost use Rattle.lert_recover.specs.Headed.{HasOther};
 ghost use Rattle.lert_recover.specs.Opened.{AreOpened, IsAsRead, IsRefused, LeaveAt, WritesNothing};
 ghost use Rattle.lert_recover.specs.Read.{IsReadOf, IsPoint, AreReportsUpTo};

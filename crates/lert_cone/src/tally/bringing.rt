@@ -10,9 +10,9 @@ ghost use Rattle.lert_spec.specs.Limits.{IsValid};
 ghost use Rattle.lert_spec.specs.declared.piece.Piece.{Piece};
 ghost use Rattle.lert_gatelog.specs.Kept.{InEach};
 ghost use Rattle.lert_levels.specs.Flushed.{InNamed};
-ghost use Rattle.lert_levels.specs.Landing.{KeepsRest};
-ghost use Rattle.lert_levels.specs.Loading.{OneBreaks};
-ghost use Rattle.lert_levels.specs.Rows.{IsAt, AreRows, HoldsBins, moved};
+ghost use Rattle.lert_rows.specs.Landing.{KeepsRest};
+ghost use Rattle.lert_rows.specs.Loading.{OneBreaks};
+ghost use Rattle.lert_rows.specs.Rows.{IsAt, AreRows, HoldsBins, moved};
 ghost use Rattle.lert_cone.specs.Due.{TookFrom};
 ghost use Rattle.lert_cone.specs.Tally.{AreYoung, totals_at};
 

@@ -1,7 +1,7 @@
 use Rattle.std.proofs.Common.{rules, ◌≡◌, ◌≢◌, ℕ, ◌+◌, ◌-◌, ◌≤◌, List, [], ◌∷◌, ◌++◌, length, map, ap, sym, ◌∙◌, subst, inl, inr, arith, length-append}
 use Rattle.lert_gatelog.specs.Gated.{IsGated}
 use Rattle.lert_gatelog.specs.Kept.{InEach, IsWithOrWithout, OthersStay}
-use Rattle.lert_levels.specs.Rows.{directory_text}
+use Rattle.lert_rows.specs.Rows.{directory_text}
 use Rattle.lert_reports.specs.declared.log.LogKind.{LogKind}
 use Rattle.lert_reports.specs.Log.{most_record}
 use Rattle.lert_reports.specs.LogText.{log_payload_of}

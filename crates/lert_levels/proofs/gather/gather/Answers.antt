@@ -1,6 +1,6 @@
 use Rattle.std.proofs.Common.{List, Vec, Global, length, refl, ap, subst, sym, ◌∙◌}
 use Rattle.lert_spec.specs.declared.piece.Piece.{Piece}
-use Rattle.lert_levels.specs.Gathered.{lists_of}
+use Rattle.lert_rows.specs.Loading.{lists_of}
 use Rattle.lert_levels.proofs.GatherLaws.{AreMade, gathering_begin, totals_begin, made_begin, step, total_fits, gathering_more, totals_more, made_more, totals_all, made_all, are_tables, as_many, written}
 use Rattle.lert_levels.proofs.gather.gather.Goals as goal
 

@@ -1,5 +1,6 @@
 use Rattle.std.proofs.Common.{◌≡◌, ◌-◌}
-use Rattle.lert_levels.specs.Gathered.{lists_of, bound_after}
+use Rattle.lert_levels.specs.Gathered.{bound_after}
+use Rattle.lert_rows.specs.Loading.{lists_of}
 use Rattle.lert_levels.proofs.GatherLaws.{IsGathering, HasTotals, AreMade}
 use Rattle.lert_levels.proofs.gather.gather.Given as goal
 

@@ -2,9 +2,9 @@ use Rattle.std.proofs.Common.{◌≡◌, ◌+◌, ◌*◌, ◌∙◌, map, lengt
 use Rattle.std.proofs.Math.Nat.{suc-mul}
 use Rattle.std.proofs.lemmas.List.{length-map}
 use Rattle.lert_levels.specs.Parts.{streams_to, oldest_stream}
-use Rattle.lert_levels.specs.Rows.{IsRow}
+use Rattle.lert_rows.specs.Rows.{IsRow}
 use Rattle.lert_levels.proofs.PartLaws.{streams_more, parts_more}
-use Rattle.lert_levels.proofs.ReadLaws.{row_here}
+use Rattle.lert_rows.proofs.ReadLaws.{row_here}
 use Rattle.lert_levels.proofs.parts.parts_of.Goals as goal
 
 pub loop-lower-preserved : goal.loop-lower-preserved

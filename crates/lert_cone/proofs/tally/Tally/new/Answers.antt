@@ -1,8 +1,8 @@
 use Rattle.std.proofs.Common.{List, ap, sym, subst, arith}
-use Rattle.lert_levels.specs.declared.bin_at.BinAt.{BinAt}
+use Rattle.lert_rows.specs.declared.bin_at.BinAt.{BinAt}
 use Rattle.lert_levels.specs.OnDisk.{OnDisk}
-use Rattle.lert_levels.specs.Rows.{IsAt, AreRows}
-use Rattle.lert_levels.proofs.LevelLaws.{AreRows-none}
+use Rattle.lert_rows.specs.Rows.{IsAt, AreRows}
+use Rattle.lert_rows.proofs.MoveLaws.{AreRows-none}
 use Rattle.lert_spec.specs.Limits.{IsValid}
 use Rattle.lert_cone.proofs.RecountLaws.{counted_from_none}
 use Rattle.lert_cone.proofs.TallyLaws.{rows_none}

@@ -1,7 +1,7 @@
 use Rattle.std.proofs.Common.{◌≡◌, ℕ, ◌+◌, ◌<◌, List, ◌∷◌, ◌++◌, [], suc, false, length, ap, sym, ◌∙◌, subst, arith, Option, Err}
 use Rattle.lert_gatelog.specs.Kept.{InEach}
-use Rattle.lert_levels.specs.Loading.{OneBreaks}
-use Rattle.lert_levels.specs.Rows.{AreRows, HoldsBins}
+use Rattle.lert_rows.specs.Loading.{OneBreaks}
+use Rattle.lert_rows.specs.Rows.{AreRows, HoldsBins}
 use Rattle.lert_spec.specs.declared.numbers.Numbers.{Numbers}
 use Rattle.lert_spec.specs.Edges.{capacity}
 use Rattle.lert_spec.specs.Mix.{cone_of}

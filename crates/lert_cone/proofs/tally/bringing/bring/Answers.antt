@@ -5,12 +5,12 @@ use Rattle.lert_bay.specs.Files.{Files}
 use Rattle.lert_spec.specs.declared.numbers.Numbers.{Numbers}
 use Rattle.lert_spec.specs.declared.piece.Piece.{Piece}
 use Rattle.lert_spec.specs.Edges.{span, depth}
-use Rattle.lert_levels.specs.Loading.{OneBreaks}
+use Rattle.lert_rows.specs.Loading.{OneBreaks}
 use Rattle.lert_levels.specs.OnDisk.{OnDisk}
-use Rattle.lert_levels.specs.Ranges.{young_bins}
-use Rattle.lert_levels.specs.Rows.{IsAt, AreRows, HoldsBins}
-use Rattle.lert_levels.specs.Young.{Young}
-use Rattle.lert_levels.proofs.RowLaws.{IsAt-moved, AreRows-moved}
+use Rattle.lert_rows.specs.Ranges.{young_bins}
+use Rattle.lert_rows.specs.Rows.{IsAt, AreRows, HoldsBins}
+use Rattle.lert_rows.specs.Young.{Young}
+use Rattle.lert_rows.proofs.RowLaws.{IsAt-moved, AreRows-moved}
 use Rattle.lert_cone.specs.Due.{TookFrom}
 use Rattle.lert_cone.proofs.TallyLaws.{edge_still, young_total, flush_total, rows_still, flush_moves, dropped_edge, dropped_bins}
 use Rattle.lert_cone.proofs.TotalLaws.{edge_within}

@@ -1,11 +1,11 @@
 use Rattle.std.proofs.Common.{◌≡◌, ◌⊎◌, ◌∙◌, OnOk, ap, subst, sym, slice_range}
 use Rattle.lert_bay.specs.Files.{IfTold}
-use Rattle.lert_levels.specs.declared.fault.FlushFault.{FlushFault}
-use Rattle.lert_levels.specs.declared.fault.FlushFault.TheVariants.{Failed, OutOfMemory}
+use Rattle.lert_rows.specs.declared.fault.FlushFault.{FlushFault}
+use Rattle.lert_rows.specs.declared.fault.FlushFault.TheVariants.{Failed, OutOfMemory}
 use Rattle.lert_levels.specs.Flushed.{AreEvents}
 use Rattle.lert_levels.specs.OnDisk.{OnDisk}
-use Rattle.lert_levels.specs.Ranges.{young_bins}
-use Rattle.lert_levels.specs.Rows.{HoldsBins, moved}
+use Rattle.lert_rows.specs.Ranges.{young_bins}
+use Rattle.lert_rows.specs.Rows.{HoldsBins, moved}
 use Rattle.lert_spec.specs.Bins.{tallied}
 use Rattle.lert_spec.specs.Edges.{depth, lookback}
 use Rattle.lert_cone.specs.Due.{Dues, TookFrom}

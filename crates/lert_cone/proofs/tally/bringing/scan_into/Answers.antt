@@ -1,8 +1,8 @@
 use Rattle.std.proofs.Common.{◌≡◌, ◌⊎◌, ◌∙◌, OnOk, ap, subst, sym}
-use Rattle.lert_levels.specs.declared.fault.FlushFault.{FlushFault}
-use Rattle.lert_levels.specs.declared.fault.FlushFault.TheVariants.{Failed, OutOfMemory}
+use Rattle.lert_rows.specs.declared.fault.FlushFault.{FlushFault}
+use Rattle.lert_rows.specs.declared.fault.FlushFault.TheVariants.{Failed, OutOfMemory}
 use Rattle.lert_levels.specs.Flushed.{AreAllEvents}
-use Rattle.lert_levels.specs.Ranges.{young_bins}
+use Rattle.lert_rows.specs.Ranges.{young_bins}
 use Rattle.lert_spec.specs.Bins.{tallied}
 use Rattle.lert_cone.specs.Due.{Dues, TookFrom}
 use Rattle.lert_cone.proofs.TakeLaws.{ok_of, never_malformed}

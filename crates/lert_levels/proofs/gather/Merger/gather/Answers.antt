@@ -1,6 +1,7 @@
 use Rattle.std.proofs.Common.{◌≡◌, List, IfOk, map, subst}
 use Rattle.lert_frames.specs.declared.bin.LoadedBin.{LoadedBin}
-use Rattle.lert_levels.specs.Gathered.{lists_of, part_table}
+use Rattle.lert_levels.specs.Gathered.{part_table}
+use Rattle.lert_rows.specs.Loading.{lists_of}
 use Rattle.lert_levels.proofs.gather.Merger.gather.Goals as goal
 
 pub returns-clause-parts : goal.returns-clause-parts

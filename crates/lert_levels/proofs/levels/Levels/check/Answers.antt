@@ -1,11 +1,12 @@
 use Rattle.std.proofs.Common.{◌≡◌, ◌∙◌, Some, None, ap, sym, subst, arith}
 use Rattle.std.specs.Prelude.{OnOk}
 use Rattle.lert_spec.specs.Limits.{IsValid}
-use Rattle.lert_levels.specs.Checked.{EachStands, rows_left}
+use Rattle.lert_rows.specs.Checked.{EachStands, rows_left}
 use Rattle.lert_levels.specs.OnDisk.{OnDisk}
-use Rattle.lert_levels.specs.Rows.{AreRows}
-use Rattle.lert_levels.proofs.CheckLaws.{all_whole, check_refuses, check_passes, lent_rows, lent_seen}
-use Rattle.lert_levels.proofs.HeldLaws.{on_ok, all_stand}
+use Rattle.lert_rows.specs.Rows.{AreRows}
+use Rattle.lert_rows.proofs.CheckLaws.{all_whole, check_refuses, check_passes, lent_rows}
+use Rattle.lert_levels.proofs.LevelLaws.{lent_seen}
+use Rattle.lert_rows.proofs.HeldLaws.{on_ok, all_stand}
 use Rattle.lert_levels.proofs.levels.Levels.check.Goals as goal
 
 pub check_rows-requires-clause-rows : goal.check_rows-requires-clause-rows

@@ -5,11 +5,11 @@ use Rattle.lert_frames.proofs.WriteLaws.{same_err}
 use Rattle.lert_spec.specs.Edges.{depth}
 use Rattle.lert_spec.specs.Limits.{IsValid}
 use Rattle.lert_levels.specs.Flushed.{AllCanStand, AreNew, InNamed}
-use Rattle.lert_levels.specs.Landing.{KeepsRest}
+use Rattle.lert_rows.specs.Landing.{KeepsRest}
 use Rattle.lert_levels.specs.OnDisk.{OnDisk}
-use Rattle.lert_levels.specs.Rows.{IsAt, HoldsBins, moved}
-use Rattle.lert_levels.proofs.LandLaws.{rest_on, read_rest}
-use Rattle.lert_levels.proofs.RowLaws.{IsAt-moved}
+use Rattle.lert_rows.specs.Rows.{IsAt, HoldsBins, moved}
+use Rattle.lert_rows.proofs.LandLaws.{rest_on, read_rest}
+use Rattle.lert_rows.proofs.RowLaws.{IsAt-moved}
 use Rattle.lert_levels.proofs.levels.Levels.flush.Goals as goal
 
 pub returns-in_err-made-clause-told : goal.returns-in_err-made-clause-told

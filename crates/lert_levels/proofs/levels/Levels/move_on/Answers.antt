@@ -1,7 +1,8 @@
 use Rattle.std.proofs.Common.{◌<◌, ◌++◌, length, take, drop, sym, subst, vec_capacity}
 use Rattle.std.specs.List.{All}
 use Rattle.lert_spec.specs.Limits.{IsValid}
-use Rattle.lert_levels.proofs.LevelLaws.{rows_few, after_few, after_room, after_kept}
+use Rattle.lert_levels.proofs.LevelLaws.{after_few, after_room, after_kept}
+use Rattle.lert_rows.proofs.MoveLaws.{rows_few}
 use Rattle.lert_levels.proofs.levels.Levels.move_on.Goals as goal
 
 pub move_rows-requires-clause-few : goal.move_rows-requires-clause-few

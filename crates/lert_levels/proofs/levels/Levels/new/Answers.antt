@@ -1,8 +1,8 @@
 use Rattle.std.proofs.Common.{◌≡◌, ◌+◌, ◌*◌, ◌≤◌, ◌∙◌, List, [], map, replicate, length, ap, sym, subst, arith, vec_capacity}
 use Rattle.lert_spec.specs.declared.numbers.Numbers.{Numbers}
-use Rattle.lert_levels.specs.declared.bin_at.BinAt.{BinAt}
-use Rattle.lert_levels.specs.Rows.{AreRows, directory_text}
-use Rattle.lert_levels.proofs.LevelLaws.{all_empty, AreRows-none, short_directory}
+use Rattle.lert_rows.specs.declared.bin_at.BinAt.{BinAt}
+use Rattle.lert_rows.specs.Rows.{AreRows, directory_text}
+use Rattle.lert_rows.proofs.MoveLaws.{all_empty, AreRows-none, short_directory}
 use Rattle.lert_levels.proofs.levels.Levels.new.Goals as goal
 
 pub lay_directory-requires-clause-room : goal.lay_directory-requires-clause-room

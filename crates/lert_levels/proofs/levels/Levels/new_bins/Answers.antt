@@ -6,11 +6,11 @@ use Rattle.lert_spec.specs.declared.numbers.Numbers.{Numbers}
 use Rattle.lert_spec.specs.Edges.{depth}
 use Rattle.lert_spec.specs.Limits.{IsValid}
 use Rattle.lert_levels.specs.Gathered.{IsWithin}
-use Rattle.lert_levels.specs.Loading.{AllStand, OneBreaks}
+use Rattle.lert_rows.specs.Loading.{AllStand, OneBreaks}
 use Rattle.lert_levels.specs.Merged.{IsFrames}
 use Rattle.lert_levels.specs.OnDisk.{OnDisk}
 use Rattle.lert_levels.specs.Parts.{parts_at, streams_to}
-use Rattle.lert_levels.specs.Rows.{AreRows, tallied_in}
+use Rattle.lert_rows.specs.Rows.{AreRows, tallied_in}
 use Rattle.lert_levels.proofs.ArrivalLaws.{parts_within}
 use Rattle.lert_levels.proofs.FlushLaws.{matched, made_count, made_can, made_took, made_new, made_taken, made_turned}
 use Rattle.lert_levels.proofs.HoldLaws.{rows_stand}

@@ -1,6 +1,6 @@
 use Rattle.std.proofs.Common.{◌++◌, length, take, drop, subst, vec_capacity}
 use Rattle.lert_spec.specs.Limits.{IsValid}
-use Rattle.lert_levels.proofs.NamedLaws.{restored_few, restored_room, restored_kept}
+use Rattle.lert_levels.proofs.LevelLaws.{restored_few, restored_room, restored_kept}
 use Rattle.lert_levels.proofs.levels.Levels.restore.Goals as goal
 
 pub lay_directory-requires-clause-few : goal.lay_directory-requires-clause-few

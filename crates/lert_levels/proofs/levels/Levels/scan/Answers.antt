@@ -4,11 +4,11 @@ use Rattle.std.proofs.lemmas.Result.{err_from_is_err_and}
 use Rattle.lert_frames.proofs.WriteLaws.{same_err}
 use Rattle.lert_spec.specs.declared.numbers.Numbers.{Numbers}
 use Rattle.lert_spec.specs.Limits.{IsValid}
-use Rattle.lert_levels.specs.declared.bin_at.BinAt.{BinAt}
-use Rattle.lert_levels.specs.Loading.{AllStand, OneBreaks}
+use Rattle.lert_rows.specs.declared.bin_at.BinAt.{BinAt}
+use Rattle.lert_rows.specs.Loading.{AllStand, OneBreaks}
 use Rattle.lert_levels.specs.Merged.{IsFrames}
 use Rattle.lert_levels.specs.OnDisk.{OnDisk}
-use Rattle.lert_levels.specs.Rows.{AreRows, tallied_in}
+use Rattle.lert_rows.specs.Rows.{AreRows, tallied_in}
 use Rattle.lert_levels.proofs.FlushLaws.{made_turned, scan_took, scan_taken}
 use Rattle.lert_levels.proofs.HoldLaws.{rows_stand}
 use Rattle.lert_levels.proofs.levels.Levels.scan.Goals as goal

@@ -1,0 +1,16 @@
+//! Tests of the merge, of level 0 and of the levels on disk, through their public calls.
+//!
+//! Their expected values come from worked examples, and not from a clause. No crate stands on this
+//! one.
+#![tactic(auto)]
+
+#[cfg(test)]
+mod levels;
+#[cfg(test)]
+mod merge;
+#[cfg(test)]
+mod samples;
+#[cfg(test)]
+mod scenes;
+#[cfg(test)]
+mod zero;

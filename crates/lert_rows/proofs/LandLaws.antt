@@ -1,0 +1,221 @@
+-- Calls that write some frames and leave the rest, one after the other.
+use Rattle.std.proofs.Common.{ℕ, ◌≡◌, ◌≢◌, ◌+◌, ◌<◌, ◌≤◌, List, [], length, take, get_or, refl, ap, sym, ◌∙◌, arith, inl, inr, ◌⊎◌, subst, Option, Some, Result, length-take, length-drop}
+use Rattle.std.specs.Prelude.{Ok, Err, OnOk, OnErr}
+use Rattle.std.proofs.lemmas.Bool.{cases_eq, cases_lt}
+use Rattle.lert_bay.specs.Files.{Files, Turns, Changes, Holds, Torn, LeftByFailure}
+use Rattle.lert_bay.specs.Images.{Elapses, Settles, KeepsImages}
+use Rattle.lert_bay.specs.Settled.{part, Keeps, IsSettled}
+use Rattle.lert_bay.proofs.Lasting.{lasts_on, lasts_none, lasts_more}
+use Rattle.lert_bay.proofs.Settling.{part_torn}
+use Rattle.lert_bay.proofs.Tearing.{torn_held}
+use Rattle.lert_frames.proofs.StoreLaws.{length_frame}
+use Rattle.lert_frames.proofs.WriteLaws.{either_way}
+use Rattle.lert_frames.specs.Frame.{HoldsFrame, frame_text, text_len}
+use Rattle.lert_frames.specs.Kept.{OnlyRead}
+use Rattle.lert_frames.specs.Place.{frame_place, frame_len, tail_limit}
+use Rattle.lert_frames.proofs.PlaceLaws.{places_apart}
+use Rattle.lert_spec.specs.declared.numbers.Numbers.{Numbers}
+use Rattle.lert_spec.specs.declared.piece.Piece.{Piece}
+use Rattle.lert_spec.proofs.Tables.{length_le-total}
+use Rattle.lert_rows.specs.declared.bin_at.BinAt.{BinAt}
+use Rattle.lert_rows.specs.Landing.{IsApart, LeavesRest, KeepsRest, landing_frame, AreApart, CanStand, AreLanded}
+use Rattle.lert_rows.specs.Rows.{IsRow, arrived}
+use Rattle.lert_rows.proofs.RowLaws.{lowest_is_free}
+
+-- fewer ranges
+leaves_fewer : (kept fewer : ℕ → ℕ → Type 0) (old new : Files) → ((from to : ℕ) → fewer from to → kept from to) → LeavesRest kept old new → LeavesRest fewer old new
+leaves_fewer kept fewer old new weaker leaves = record { others = leaves.others; longer = leaves.longer; rest = λ from to kept_here within. leaves.rest from to (weaker from to kept_here) within }
+
+pub turns_fewer : (kept fewer : ℕ → ℕ → Type 0) (before after : Option Files) → ((from to : ℕ) → fewer from to → kept from to) → Turns (LeavesRest kept) before after → Turns (LeavesRest fewer) before after
+turns_fewer kept fewer before after weaker turned = record {
+  told = λ old told. let then = turned.told old told in (then.0, then.1, leaves_fewer kept fewer old then.0 weaker then.2);
+  untold = turned.untold;
+}
+
+leaves_same : (kept : ℕ → ℕ → Type 0) (files : Files) → LeavesRest kept files files
+leaves_same kept files = record { others = λ number other. refl; longer = omega arith; rest = λ from to kept_here within. refl }
+
+-- no call
+pub rest_none : (kept : ℕ → ℕ → Type 0) (files : Option Files) (leaves : Files → Type 0) (now : ℕ) (since : ℕ → Files → Type 0) → ((image : Files) → since now image → leaves image) → KeepsRest kept files files leaves now now since since
+rest_none kept files leaves now since only_now = record {
+  seen = record { told = λ old told. (old, told, leaves_same kept old); untold = λ untold. untold };
+  settled = λ seen told number from to may settled image since_now. settled.same image (only_now image since_now);
+  time = lasts_none now since;
+}
+
+-- a range that doesn't reach past the end of a file that got no shorter, and reads the same
+settled_middle : (kept : ℕ → ℕ → Type 0) (leaves_before leaves_middle : Files → Type 0) (since : ℕ → Files → Type 0) (first : ℕ) (old middle : Files) (number from to : ℕ) → (number ≢ 2) ⊎ kept from to → LeavesRest kept old middle →
+    ((image : Files) → leaves_middle image → since first image) → IsSettled leaves_before old number from to → Keeps (since first) old number from to →
+    IsSettled leaves_middle middle number from to × (part (middle number) from to ≡ part (old number) from to)
+settled_middle kept leaves_before leaves_middle since first old middle number from to may leaves now settled keeps =
+    elim (cases_eq number 2) [
+      | inr other ↦ (
+          let same = leaves.others number other in
+          let reads = ap (λ bytes. part bytes from to) same in
+          (record { within = omega (arith, ap length same, settled.within); same = λ image left. keeps image (now image left) ∙ sym reads }, reads))
+      | inl frames ↦ (
+          let kept_here : kept from to = elim may [ inl other ↦ absurd (other frames) | inr kept_range ↦ kept_range ] in
+          let within : to ≤ length (old 2) = subst (λ (n : ℕ). to ≤ length (old n)) frames settled.within in
+          let reads = subst (λ (n : ℕ). part (middle n) from to ≡ part (old n) from to) (sym frames) (leaves.rest from to kept_here within) in
+          let long = subst (λ (n : ℕ). to ≤ length (middle n)) (sym frames) (let longer : to ≤ length (middle 2) = omega (arith, within, leaves.longer) in longer) in
+          (record { within = long; same = λ image left. keeps image (now image left) ∙ sym reads }, reads))
+    ]
+
+leaves_on : (kept : ℕ → ℕ → Type 0) (old middle new : Files) → LeavesRest kept old middle → LeavesRest kept middle new → LeavesRest kept old new
+leaves_on kept old middle new one two = record {
+  others = λ number other. two.others number other ∙ one.others number other;
+  longer = omega (arith, one.longer, two.longer);
+  rest = λ from to kept_here within. two.rest from to kept_here (omega (arith, within, one.longer)) ∙ one.rest from to kept_here within;
+}
+
+-- calls after calls
+pub rest_on : (kept : ℕ → ℕ → Type 0) (files_first files_middle files_last : Option Files) (leaves_first leaves_middle : Files → Type 0) (first middle last : ℕ) (since_first since_middle since_last : ℕ → Files → Type 0) →
+    ((image : Files) → leaves_middle image → since_middle middle image) → ((t u : ℕ) (image : Files) → t ≤ u → since_middle u image → since_middle t image) → ((t u : ℕ) (image : Files) → t ≤ u → since_last u image → since_last t image) →
+    KeepsRest kept files_first files_middle leaves_first first middle since_first since_middle → KeepsRest kept files_middle files_last leaves_middle middle last since_middle since_last →
+    KeepsRest kept files_first files_last leaves_first first last since_first since_last
+rest_on kept files_first files_middle files_last leaves_first leaves_middle first middle last since_first since_middle since_last now earlier_middle earlier_last one two = record {
+  seen = record {
+    told = λ old told.
+        let then = one.seen.told old told in
+        let later = two.seen.told then.0 then.1 in
+        (later.0, later.1, leaves_on kept old then.0 later.0 then.2 later.2);
+    untold = λ untold. two.seen.untold (one.seen.untold untold);
+  };
+  settled = λ seen told number from to may settled image since. (
+      let then = one.seen.told seen told in
+      let keeps = one.settled seen told number from to may settled in
+      let there = settled_middle kept leaves_first leaves_middle since_middle first seen then.0 number from to may then.2
+      (λ other left. earlier_middle first middle other one.time.later (now other left)) settled keeps in
+      elim (two.time.known first image one.time.later since) [
+        | inl past ↦ keeps image past
+        | inr after ↦ two.settled then.0 then.1 number from to may there.0 image after ∙ there.1
+      ]);
+  time = lasts_on first middle last since_first since_middle since_last one.time two.time earlier_last;
+}
+
+pub rest_fewer : (kept fewer : ℕ → ℕ → Type 0) (files_before files_after : Option Files) (leaves : Files → Type 0) (first last : ℕ) (since_before since_after : ℕ → Files → Type 0) → ((from to : ℕ) → fewer from to → kept from to) →
+    KeepsRest kept files_before files_after leaves first last since_before since_after → KeepsRest fewer files_before files_after leaves first last since_before since_after
+rest_fewer kept fewer files_before files_after leaves first last since_before since_after weaker keeps = record {
+  seen = turns_fewer kept fewer files_before files_after weaker keeps.seen;
+  settled = λ seen told number from to may settled. keeps.settled seen told number from to (elim may [ inl other ↦ inl other | inr kept_here ↦ inr (weaker from to kept_here) ]) settled;
+  time = keeps.time;
+}
+
+-- ---- the write of one frame
+
+torn_rest : (s : Numbers) (level frame count : ℕ) (old new : Files) → count ≤ frame_len s level → ((number : ℕ) → number ≢ 2 → new number ≡ old number) → Torn (frame_place s level frame) count (old 2) (new 2) → LeavesRest (IsApart s level frame) old new
+torn_rest s level frame count old new fits others torn = record {
+  others = others;
+  longer = torn.no_shorter;
+  rest = λ from to apart within. part_torn (frame_place s level frame) count (old 2) (new 2) (old 2) from to torn refl within
+      (elim apart [ inl before ↦ inl before | inr behind ↦ inr (omega (arith, behind, fits)) ]);
+}
+
+pub stored_rest : {T E : Type 0} (s : Numbers) (level frame : ℕ) (pieces : List Piece) (result : Result T E) (before after : Option Files) → text_len pieces ≤ frame_len s level →
+    OnOk result (Turns (Changes (Holds (frame_place s level frame) (frame_text pieces)) 2) before after) → OnErr result (Turns (Changes (LeftByFailure (frame_place s level frame) (text_len pieces)) 2) before after) →
+    Turns (LeavesRest (IsApart s level frame)) before after
+stored_rest s level frame pieces result before after fits ok err =
+    let place = frame_place s level frame in
+    either_way (Turns (LeavesRest (IsApart s level frame)) before after) (Turns (Changes (Holds place (frame_text pieces)) 2) before after) (Turns (Changes (LeftByFailure place (text_len pieces)) 2) before after) result ok err
+    (λ wrote. record {
+      told = λ old told. (
+          let then = wrote.told old told in
+          let torn = torn_held place (frame_text pieces) (old 2) (then.0 2) then.2.here in
+          (then.0, then.1, torn_rest s level frame (text_len pieces) old then.0 fits then.2.others (subst (λ (n : ℕ). Torn place n (old 2) (then.0 2)) (length_frame pieces) torn)));
+      untold = wrote.untold;
+    })
+    (λ failed. record {
+      told = λ old told. (
+          let then = failed.told old told in
+          (then.0, then.1, torn_rest s level frame (text_len pieces) old then.0 fits then.2.others then.2.here.torn));
+      untold = failed.untold;
+    })
+
+-- a frame in a range that is kept still holds its pieces
+pub holds_stays : (kept : ℕ → ℕ → Type 0) (old new : Files) (place : ℕ) (pieces : List Piece) → LeavesRest kept old new → kept place (place + text_len pieces) → HoldsFrame place (old 2) pieces → HoldsFrame place (new 2) pieces
+holds_stays kept old new place pieces leaves kept_here holds =
+    let long : place + text_len pieces ≤ length (old 2) = reaches_end (old 2) place (text_len pieces) (omega arith) (ap length holds ∙ length_frame pieces) in
+    leaves.rest place (place + text_len pieces) kept_here long ∙ holds
+  where
+    reaches_end : (bytes : List ℕ) (from count : ℕ) → 1 ≤ count → length (part bytes from (from + count)) ≡ count → from + count ≤ length bytes
+    reaches_end bytes from count some long = omega (arith, long, length-drop from (take (from + count) bytes), length-take (from + count) bytes)
+
+-- ---- the sync
+
+pub sync_rest : (kept : ℕ → ℕ → Type 0) (files_before files_after : Option Files) (leaves_before leaves_after : Files → Type 0) (first last : ℕ) (since_before since_after : ℕ → Files → Type 0) → files_after ≡ files_before →
+    ((image : Files) → since_before first image → leaves_before image) → ((seen : Files) → files_before ≡ Some seen → (image : Files) → leaves_after image → leaves_before image) → ((t u : ℕ) (image : Files) → t ≤ u → since_before u image → since_before t image) →
+    Elapses first last since_before since_after leaves_after → KeepsRest kept files_before files_after leaves_before first last since_before since_after
+sync_rest kept files_before files_after leaves_before leaves_after first last since_before since_after same only_now was earlier elapsed = record {
+  seen = record { told = λ old told. (old, same ∙ told, leaves_same kept old); untold = λ untold. same ∙ untold };
+  settled = λ seen told number from to may settled image since. elim (elapsed.known first image (omega arith) since) [
+    | inl past ↦ settled.same image (only_now image past)
+    | inr now ↦ settled.same image (was seen told image now)
+  ];
+  time = lasts_more first first last since_before since_before since_after leaves_after (lasts_none first since_before) elapsed;
+}
+
+-- ---- bin after bin
+
+pub landing_within : (s : Numbers) (m level : ℕ) (row : List BinAt) → IsRow s level row → (arrived s m level row).frame ≤ s.bins
+landing_within s m level row is = omega (arith, (lowest_is_free row).within, is.few)
+
+room_for : (s : Numbers) (level : ℕ) (pieces : List Piece) → CanStand s level pieces → text_len pieces ≤ frame_len s level
+room_for s level pieces can = omega (arith, length_le-total 0 (tail_limit s) pieces can.given.table, can.fits)
+
+module _ (s : Numbers) (m : ℕ) (rows : List (List BinAt)) (bins : List (List Piece)) (rows_are : (k : ℕ) → k < length rows → IsRow s (k + 1) (get_or rows k [])) (len : length bins ≡ length rows) (bins_are : (k : ℕ) → k < length bins → CanStand s (k + 1) (get_or bins k [])) where
+  -- a bin more stands, and those before it still do
+  pub landed_more : (old new : Files) (i frame : ℕ) (pieces : List Piece) → i < length rows → landing_frame s m rows i ≡ frame → get_or bins i [] ≡ pieces → LeavesRest (IsApart s (i + 1) frame) old new →
+      HoldsFrame (frame_place s (i + 1) frame) (new 2) pieces → AreLanded s m rows (old 2) bins i → AreLanded s m rows (new 2) bins (i + 1)
+  landed_more old new i frame pieces below frame_is pieces_are leaves here before k within =
+      elim (cases_lt k i) [
+        | inl earlier ↦ (
+            let list = get_or bins k [] in
+            let own = landing_frame s m rows k in
+            let place = frame_place s (k + 1) own in
+            let fits = room_for s (k + 1) list (bins_are k (omega arith)) in
+            let own_within = landing_within s m (k + 1) (get_or rows k []) (rows_are k (omega arith)) in
+            let frame_within : frame ≤ s.bins = subst (λ (n : ℕ). n ≤ s.bins) frame_is (landing_within s m (i + 1) (get_or rows i []) (rows_are i below)) in
+            let levels_differ : k + 1 ≢ i + 1 = λ same. omega arith in
+            let apart : IsApart s (i + 1) frame place (place + text_len list) = elim (places_apart s (i + 1) frame (k + 1) own (omega arith) frame_within (omega arith) own_within (inl levels_differ)) [
+              | inl behind ↦ inl (omega (arith, behind, fits))
+              | inr ahead ↦ inr ahead
+            ] in
+            holds_stays (IsApart s (i + 1) frame) old new place list leaves apart (before k earlier))
+        | inr last ↦ (
+            let same : i ≡ k = omega arith in
+            subst (λ (n : ℕ). HoldsFrame (frame_place s (n + 1) (landing_frame s m rows n)) (new 2) (get_or bins n [])) same
+            (subst (λ (f : ℕ). HoldsFrame (frame_place s (i + 1) f) (new 2) (get_or bins i [])) (sym frame_is)
+            (subst (HoldsFrame (frame_place s (i + 1) frame) (new 2)) (sym pieces_are) here)))
+      ]
+
+  -- and the rest is as it was
+  pub rest_more : (i frame : ℕ) (files_first files_middle files_last : Option Files) (leaves_first leaves_middle : Files → Type 0) (first middle last : ℕ) (since_first since_middle since_last : ℕ → Files → Type 0) →
+      i < length rows → landing_frame s m rows i ≡ frame →
+      ((image : Files) → leaves_middle image → since_middle middle image) → ((t u : ℕ) (image : Files) → t ≤ u → since_middle u image → since_middle t image) → ((t u : ℕ) (image : Files) → t ≤ u → since_last u image → since_last t image) →
+      KeepsRest (AreApart s m rows) files_first files_middle leaves_first first middle since_first since_middle → KeepsRest (IsApart s (i + 1) frame) files_middle files_last leaves_middle middle last since_middle since_last →
+      KeepsRest (AreApart s m rows) files_first files_last leaves_first first last since_first since_last
+  rest_more i frame files_first files_middle files_last leaves_first leaves_middle first middle last since_first since_middle since_last below frame_is now earlier_middle earlier_last one two =
+      rest_on (AreApart s m rows) files_first files_middle files_last leaves_first leaves_middle first middle last since_first since_middle since_last now earlier_middle earlier_last one
+      (rest_fewer (IsApart s (i + 1) frame) (AreApart s m rows) files_middle files_last leaves_middle middle last since_middle since_last
+      (λ from to apart. subst (λ (f : ℕ). IsApart s (i + 1) f from to) frame_is (apart i below)) two)
+
+-- after a sync that may have failed each image is one of before
+pub synced_was : {T E : Type 0} (result : Result T E) (files : Option Files) (leaves_before leaves_after : Files → Type 0) → ((seen : Files) → files ≡ Some seen → OnOk result (Settles 2 (seen 2) leaves_before leaves_after)) → OnErr result (KeepsImages leaves_before leaves_after) →
+    (seen : Files) → files ≡ Some seen → (image : Files) → leaves_after image → leaves_before image
+synced_was result files leaves_before leaves_after durable failed seen told image left =
+    either_way (leaves_before image) (Settles 2 (seen 2) leaves_before leaves_after) (KeepsImages leaves_before leaves_after) result (durable seen told) failed (λ settles. settles.was image left) (λ keeps. (keeps image).0 left)
+
+-- and after one that succeeded it has the file as a read gives it
+pub synced_durable : {T E : Type 0} (result : Result T E) (files_before files_after : Option Files) (leaves_before leaves_after : Files → Type 0) → files_after ≡ files_before → ((seen : Files) → files_before ≡ Some seen → OnOk result (Settles 2 (seen 2) leaves_before leaves_after)) →
+    OnOk result ((seen : Files) → files_after ≡ Some seen → (image : Files) → leaves_after image → image 2 ≡ seen 2)
+synced_durable (Ok value) files_before files_after leaves_before leaves_after same durable = λ seen told image left. (durable seen (sym same ∙ told)).durable image left
+synced_durable (Err error) files_before files_after leaves_before leaves_after same durable = tt
+
+-- ---- calls that read alone leave all
+
+pub read_rest : (kept : ℕ → ℕ → Type 0) (files_before files_after : Option Files) (leaves_before leaves_after : Files → Type 0) (first last : ℕ) (since_before since_after : ℕ → Files → Type 0) → OnlyRead files_before files_after leaves_before leaves_after first last since_before since_after → KeepsRest kept files_before files_after leaves_before first last since_before since_after
+read_rest kept files_before files_after leaves_before leaves_after first last since_before since_after read = record {
+  seen = record { told = λ old told. (old, read.seen ∙ told, leaves_same kept old); untold = λ untold. read.seen ∙ untold };
+  settled = λ seen told number from to may settled image since. settled.same image (read.moments image since);
+  time = read.time;
+}

@@ -1,0 +1,197 @@
+-- Tables and the bins of level 0 as lists of pieces.
+use Rattle.std.proofs.Common.{ℕ, zero, suc, ◌≡◌, ◌+◌, ◌-◌, ◌*◌, ◌/◌, ◌%◌, ◌^◌, ◌<◌, ◌≤◌, min, List, [], ◌∷◌, ◌++◌, All, length, get_or, map, take, refl, ap, ap₂, sym, ◌∙◌, subst, arith, inl, inr, lit<, append-nil, append_assoc}
+use Rattle.std.proofs.Math.Nat.{pow-le-pow_right, mul-le-mul_right, suc-mul}
+use Rattle.std.proofs.lemmas.Bool.{cases_lt}
+use Rattle.std.proofs.lemmas.List.{map-append, map_more, get_or-map, get_or_default, length-map, take-map}
+use Rattle.std.proofs.lemmas.List.Elements.{All-append, All-take}
+use Rattle.std.proofs.lemmas.Grind.{div_ceil_times}
+use Rattle.lert_spec.proofs.GivenLaws.{given_wide}
+use Rattle.lert_frames.specs.Frame.{IsBin}
+use Rattle.lert_frames.specs.declared.bin.LoadedBin.{LoadedBin}
+use Rattle.lert_spec.specs.declared.piece.Piece.{Piece}
+use Rattle.lert_spec.specs.Table.{total, IsTable, AreGiven}
+use Rattle.lert_spec.proofs.Tables.{count_le-total}
+use Rattle.lert_spec.specs.declared.numbers.Numbers.{Numbers}
+use Rattle.lert_spec.specs.Bins.{Bin}
+use Rattle.lert_spec.specs.Edges.{span}
+use Rattle.lert_rows.specs.Loading.{lists_of}
+use Rattle.lert_rows.specs.Young.{Young, bins_of, IsFilled, AreFilled}
+use Rattle.lert_rows.proofs.YoungLaws.{bins_of-none, bins_of-some, bins_of-length, width_within}
+
+-- the pieces of a table of few events
+pub given_of : (bits room : ℕ) (pieces : List Piece) → IsTable (2 ^ bits) pieces → total pieces ≤ room → room ≤ 2 ^ 47 → AreGiven (2 ^ bits) pieces
+given_of bits room pieces table fits few = record { table = table; counts = λ k d within. omega (arith, count_le-total pieces k d within) }
+
+pub given_in_word : (bits : ℕ) (pieces items : List Piece) → AreGiven (2 ^ bits) pieces → bits ≤ 64 → items ≡ pieces → AreGiven (2 ^ 64) items
+given_in_word bits pieces items given few same =
+    subst (AreGiven (2 ^ 64)) (sym same) (given_wide (2 ^ bits) (2 ^ 64) pieces (pow-le-pow_right {n = 2} (lit< tt) {i = bits} {j = 64} few) given)
+
+pub all_loaded : (items left pieces : List Piece) → items ++ left ≡ pieces → left ≡ [] → items ≡ pieces
+all_loaded items left pieces is over = sym (append-nil items) ∙ ap (λ rest. items ++ rest) (sym over) ∙ is
+
+-- the first tables were put behind the lists, and are tables indeed
+pub record IsLoaded {T : Type 0} (pieces : T → List Piece) (tail_bits : T → ℕ) (tables : List T) (number : ℕ) (old new : List (List Piece)) : Type 0 where
+  pub lists : new ≡ old ++ map pieces (take number tables)
+  pub given : (k : ℕ) (d : T) → k < number → AreGiven (2 ^ tail_bits (get_or tables k d)) (pieces (get_or tables k d))
+
+pub loaded_none : {T : Type 0} (pieces : T → List Piece) (tail_bits : T → ℕ) (tables : List T) (old : List (List Piece)) → IsLoaded pieces tail_bits tables 0 old old
+loaded_none pieces tail_bits tables old = record { lists = sym (append-nil old); given = λ k d below. absurd (omega arith) }
+
+pub loaded_more : {T : Type 0} (pieces : T → List Piece) (tail_bits : T → ℕ) (tables : List T) (number : ℕ) (old : List (List Piece)) (bins after : List LoadedBin) (bin : LoadedBin) (table : T) →
+    IsLoaded pieces tail_bits tables number old (lists_of bins) → number < length tables → table ≡ get_or tables number table →
+    bin.pieces.items ≡ pieces table → AreGiven (2 ^ tail_bits table) (pieces table) → after ≡ bins ++ bin ∷ [] →
+    IsLoaded pieces tail_bits tables (number + 1) old (lists_of after)
+loaded_more {T} pieces tail_bits tables number old bins after bin table loaded below is items given after_is = record {
+  lists = ap lists_of after_is ∙ map-append (λ (b : LoadedBin). b.pieces.items) bins (bin ∷ [])
+      ∙ ap₂ (λ xs ps. xs ++ ps ∷ []) loaded.lists (items ∙ ap pieces is)
+      ∙ append_assoc old (map pieces (take number tables)) (pieces (get_or tables number table) ∷ [])
+      ∙ ap (λ xs. old ++ xs) (sym (map_more pieces tables number table below));
+  given = λ k d within. elim (cases_lt k number) [
+    | inl before ↦ loaded.given k d before
+    | inr behind ↦ (
+        let last : k ≡ number = omega arith in
+        let there : get_or tables k d ≡ table = ap (λ n. get_or tables n d) last ∙ get_or_default tables number d table below ∙ sym is in
+        subst (λ (t : T). AreGiven (2 ^ tail_bits t) (pieces t)) (sym there) given)
+  ];
+}
+
+pub fresh_more : (old bins after : List LoadedBin) (bin : LoadedBin) → (All (λ (b : LoadedBin). b.given ≡ 0) old → All (λ (b : LoadedBin). b.given ≡ 0) bins) →
+    bin.given ≡ 0 → after ≡ bins ++ bin ∷ [] → All (λ (b : LoadedBin). b.given ≡ 0) old → All (λ (b : LoadedBin). b.given ≡ 0) after
+fresh_more old bins after bin fresh none after_is before =
+    subst (All (λ (b : LoadedBin). b.given ≡ 0)) (sym after_is)
+    (All-append (λ (b : LoadedBin). b.given ≡ 0) bins (bin ∷ []) (fresh before) (λ k d below. elim k as (λ n. n < 1 → (get_or (bin ∷ []) n d).given ≡ 0) [ zero ↦ λ _. none | suc k ↦ λ more. absurd (omega arith) ] below))
+
+-- ---- the tables in use
+
+pub used_pieces : (wide from to count : ℕ) (tables : List (List Piece)) → to ≤ from + count * wide → count * wide < (to - from) + wide →
+    take count tables ≡ map (λ (bin : Bin). bin.pieces) (bins_of wide from to tables)
+used_pieces wide from to zero tables covers few = ap (map (λ (bin : Bin). bin.pieces)) (sym (bins_of-none wide from to tables (omega arith)))
+used_pieces wide from to (suc count) [] covers few = refl
+used_pieces wide from to (suc count) (p ∷ tables) covers few =
+    let step = suc-mul count wide in
+    ap (λ lists. p ∷ lists) (used_pieces wide (from + wide) to count tables (omega arith) (omega arith))
+    ∙ sym (ap (map (λ (bin : Bin). bin.pieces)) (bins_of-some wide from to p tables (omega arith)))
+
+bins_of-each : (P : Bin → Type 0) (wide from to : ℕ) (tables : List (List Piece)) →
+    ((k start : ℕ) → start ≡ from + k * wide → start < to → k < length tables → P (record { from = start; to = min to (start + wide); pieces = get_or tables k [] })) →
+    All P (bins_of wide from to tables)
+bins_of-each P wide from to [] each = λ k d below. absurd (omega arith)
+bins_of-each P wide from to (p ∷ tables) each = elim (cases_lt from to) [
+  | inr over ↦ subst (All P) (sym (bins_of-none wide from to (p ∷ tables) over)) (λ k d below. absurd (omega arith))
+  | inl some ↦ (
+      let here = each 0 from (omega arith) some (omega arith) in
+      let rest = bins_of-each P wide (from + wide) to tables (λ k start is under within. (let step = suc-mul k wide in each (suc k) start (omega arith) under (omega arith))) in
+      let bin : Bin = record { from = from; to = min to (from + wide); pieces = p } in
+      let bins = bins_of wide (from + wide) to tables in
+      subst (All P) (sym (bins_of-some wide from to p tables some))
+      (λ k d below. elim k as (λ n. n < suc (length bins) → P (get_or (bin ∷ bins) n d)) [ zero ↦ λ _. here | suc k ↦ λ within. rest k d (omega arith) ] below))
+]
+
+bins_of-few : (wide from to : ℕ) (tables : List (List Piece)) → length (bins_of wide from to tables) ≤ length tables
+bins_of-few wide from to [] = omega arith
+bins_of-few wide from to (p ∷ tables) = elim (cases_lt from to) [
+  | inl some ↦ omega (arith, ap length (bins_of-some wide from to p tables some), bins_of-few wide (from + wide) to tables)
+  | inr over ↦ omega (arith, ap length (bins_of-none wide from to (p ∷ tables) over))
+]
+
+-- how many tables are in use
+pub record IsUsed {T : Type 0} (pieces : T → List Piece) (room tail_bits : T → ℕ) (s : Numbers) (tables all : List T) (from to : ℕ) (young : Young) (wide count : ℕ) : Type 0 where
+  pub filled : AreFilled pieces room tail_bits s all from to
+  pub seen : record { settings = s; from = from; to = to; bins = bins_of (span s 0) from to (map pieces all) } ≡ young
+  pub same : tables ≡ all
+  pub wide_is : wide ≡ span s 0
+  pub positive : 1 ≤ wide
+  pub count_is : count ≡ (to - from) / wide + min 1 ((to - from) % wide)
+
+pub used_covers : {T : Type 0} {pieces : T → List Piece} {room tail_bits : T → ℕ} {s : Numbers} {tables all : List T} {from to : ℕ} {young : Young} {wide count : ℕ} →
+    IsUsed pieces room tail_bits s tables all from to young wide count → (to ≤ from + count * span s 0) × (count * span s 0 < (to - from) + span s 0)
+used_covers {T} {pieces} {room} {tail_bits} {s} {tables} {all} {from} {to} {young} {wide} {count} used =
+    let times = div_ceil_times (to - from) wide (omega (arith, used.positive)) in
+    let product : count * span s 0 ≡ ((to - from) / wide + min 1 ((to - from) % wide)) * wide = ap₂ (λ n w. n * w) used.count_is (sym used.wide_is) in
+    let wide_is = used.wide_is in
+    (omega (arith, times.0), omega (arith, times.1))
+
+pub used_within : {T : Type 0} {pieces : T → List Piece} {room tail_bits : T → ℕ} {s : Numbers} {tables all : List T} {from to : ℕ} {young : Young} {wide count : ℕ} →
+    IsUsed pieces room tail_bits s tables all from to young wide count → count ≤ length tables
+used_within {T} {pieces} {room} {tail_bits} {s} {tables} {all} {from} {to} {young} {wide} {count} used =
+    let covers = used_covers used in
+    let within = used.filled.within in
+    let len : length tables ≡ s.bins = ap length used.same ∙ used.filled.len in
+    elim (cases_lt s.bins count) [
+      | inl more ↦ absurd (let products = mul-le-mul_right (span s 0) (let next : suc s.bins ≤ count = more in next) in let step = suc-mul s.bins (span s 0) in omega (arith, covers.1))
+      | inr few ↦ omega arith
+    ]
+
+pub used_are : {T : Type 0} {pieces : T → List Piece} {room tail_bits : T → ℕ} {s : Numbers} {tables all : List T} {from to : ℕ} {young : Young} {wide count : ℕ} →
+    IsUsed pieces room tail_bits s tables all from to young wide count → map pieces (take count tables) ≡ map (λ (bin : Bin). bin.pieces) young.bins
+used_are {T} {pieces} {room} {tail_bits} {s} {tables} {all} {from} {to} {young} {wide} {count} used =
+    let covers = used_covers used in
+    sym (take-map pieces count tables)
+    ∙ ap (λ (ts : List T). take count (map pieces ts)) used.same
+    ∙ used_pieces (span s 0) from to count (map pieces all) covers.0 covers.1
+    ∙ ap (λ (y : Young). map (λ (bin : Bin). bin.pieces) y.bins) used.seen
+
+pub used_rooms : {T : Type 0} {pieces : T → List Piece} {room tail_bits : T → ℕ} {s : Numbers} {tables all : List T} {from to : ℕ} {young : Young} {wide count : ℕ} →
+    IsUsed pieces room tail_bits s tables all from to young wide count → All (λ table. (room table ≤ 2 ^ 47) × (tail_bits table ≡ 64 - young.settings.cone_bits)) (take count tables)
+used_rooms {T} {pieces} {room} {tail_bits} {s} {tables} {all} {from} {to} {young} {wide} {count} used =
+    subst (λ (y : Young). All (λ table. (room table ≤ 2 ^ 47) × (tail_bits table ≡ 64 - y.settings.cone_bits)) (take count tables)) used.seen
+    (All-take (λ table. (room table ≤ 2 ^ 47) × (tail_bits table ≡ 64 - s.cone_bits)) count tables
+    (subst (All (λ table. (room table ≤ 2 ^ 47) × (tail_bits table ≡ 64 - s.cone_bits))) (sym used.same)
+    (λ k d below. let here = used.filled.each k d below in (omega (arith, here.events, width_within s used.filled.valid), here.bits))))
+
+pub used_widths : {T : Type 0} {pieces : T → List Piece} {room tail_bits : T → ℕ} {s : Numbers} {tables all : List T} {from to : ℕ} {young : Young} {wide count : ℕ} →
+    IsUsed pieces room tail_bits s tables all from to young wide count → All (λ (bin : Bin). total bin.pieces ≡ bin.to - bin.from) young.bins
+used_widths {T} {pieces} {room} {tail_bits} {s} {tables} {all} {from} {to} {young} {wide} {count} used =
+    subst (λ (y : Young). All (λ (bin : Bin). total bin.pieces ≡ bin.to - bin.from) y.bins) used.seen
+    (bins_of-each (λ (bin : Bin). total bin.pieces ≡ bin.to - bin.from) (span s 0) from to (map pieces all)
+    (λ k start is under within. some_width all used.filled.each k start is under (omega (arith, length-map all pieces))))
+  where
+    some_width : (all : List T) → ((k : ℕ) (d : T) → k < length all → IsFilled s from to k (pieces (get_or all k d)) (room (get_or all k d)) (tail_bits (get_or all k d))) →
+        (k start : ℕ) → start ≡ from + k * span s 0 → start < to → k < length all → total (get_or (map pieces all) k []) ≡ min to (start + span s 0) - start
+    some_width [] each k start is under within = absurd (omega arith)
+    some_width (first ∷ rest) each k start is under within =
+        let here = each k first within in
+        ap total (get_or-map pieces (first ∷ rest) k first [] within) ∙ here.summed ∙ omega arith
+
+pub used_narrow : {T : Type 0} {pieces : T → List Piece} {room tail_bits : T → ℕ} {s : Numbers} {tables all : List T} {from to : ℕ} {young : Young} {wide count : ℕ} →
+    IsUsed pieces room tail_bits s tables all from to young wide count → All (λ (bin : Bin). bin.to - bin.from ≤ span young.settings 0) young.bins
+used_narrow {T} {pieces} {room} {tail_bits} {s} {tables} {all} {from} {to} {young} {wide} {count} used =
+    subst (λ (y : Young). All (λ (bin : Bin). bin.to - bin.from ≤ span y.settings 0) y.bins) used.seen
+    (bins_of-each (λ (bin : Bin). bin.to - bin.from ≤ span s 0) (span s 0) from to (map pieces all) (λ k start is under within. omega arith))
+
+pub used_some : {T : Type 0} {pieces : T → List Piece} {room tail_bits : T → ℕ} {s : Numbers} {tables all : List T} {from to : ℕ} {young : Young} {wide count : ℕ} →
+    IsUsed pieces room tail_bits s tables all from to young wide count → young.from < young.to → 1 ≤ length young.bins
+used_some {T} {pieces} {room} {tail_bits} {s} {tables} {all} {from} {to} {young} {wide} {count} used =
+    subst (λ (y : Young). y.from < y.to → 1 ≤ length y.bins) used.seen
+    (λ under. bins_of-length (span s 0) from to (map pieces all) under (omega (arith, length-map all pieces, used.filled.len, used.filled.valid.limits.bins_from)))
+
+pub used_few : {T : Type 0} {pieces : T → List Piece} {room tail_bits : T → ℕ} {s : Numbers} {tables all : List T} {from to : ℕ} {young : Young} {wide count : ℕ} →
+    IsUsed pieces room tail_bits s tables all from to young wide count → length young.bins ≤ young.settings.bins
+used_few {T} {pieces} {room} {tail_bits} {s} {tables} {all} {from} {to} {young} {wide} {count} used =
+    subst (λ (y : Young). length y.bins ≤ y.settings.bins) used.seen
+    (omega (arith, bins_of-few (span s 0) from to (map pieces all), length-map all pieces, used.filled.len))
+
+pub used : {T : Type 0} (pieces : T → List Piece) (room tail_bits : T → ℕ) {s : Numbers} {tables all : List T} {from to : ℕ} {young : Young} {wide count : ℕ} →
+    AreFilled pieces room tail_bits s all from to → record { settings = s; from = from; to = to; bins = bins_of (span s 0) from to (map pieces all) } ≡ young → tables ≡ all → wide ≡ span s 0 → 1 ≤ wide →
+    count ≡ (to - from) / wide + min 1 ((to - from) % wide) → IsUsed pieces room tail_bits s tables all from to young wide count
+used pieces room tail_bits filled seen same wide_is positive count_is =
+    record { filled = filled; seen = seen; same = same; wide_is = wide_is; positive = positive; count_is = count_is }
+
+-- ---- the bins
+
+pub each_bin : {T : Type 0} (pieces : T → List Piece) (tail_bits : T → ℕ) (bits : ℕ) (tables : List T) (bins : List Bin) → map pieces tables ≡ map (λ (bin : Bin). bin.pieces) bins →
+    All (λ table. AreGiven (2 ^ tail_bits table) (pieces table)) tables → All (λ table. tail_bits table ≡ bits) tables → All (λ (bin : Bin). AreGiven (2 ^ bits) bin.pieces) bins
+each_bin {T} pieces tail_bits bits tables [] same given are = λ k d below. absurd (omega arith)
+each_bin {T} pieces tail_bits bits [] (bin ∷ bins) same given are = absurd (cc)
+each_bin {T} pieces tail_bits bits (table ∷ tables) (bin ∷ bins) same given are =
+    let first : pieces table ≡ bin.pieces = cc in
+    let others : map pieces tables ≡ map (λ (b : Bin). b.pieces) bins = cc in
+    let here : AreGiven (2 ^ tail_bits table) (pieces table) = given 0 table (omega arith) in
+    let bits_are : tail_bits table ≡ bits = are 0 table (omega arith) in
+    let turned : AreGiven (2 ^ bits) bin.pieces = subst (λ b. AreGiven (2 ^ b) bin.pieces) bits_are (subst (AreGiven (2 ^ tail_bits table)) first here) in
+    let rest = each_bin pieces tail_bits bits tables bins others (λ k d below. given (suc k) d (omega arith)) (λ k d below. are (suc k) d (omega arith)) in
+    (λ k d below. elim k as (λ n. n < suc (length bins) → AreGiven (2 ^ bits) (get_or (bin ∷ bins) n d).pieces) [ zero ↦ λ _. turned | suc k ↦ λ within. rest k d (omega arith) ] below)
+
+pub each_width : (limit : ℕ) (bins : List Bin) → All (λ (bin : Bin). AreGiven limit bin.pieces) bins → All (λ (bin : Bin). total bin.pieces ≡ bin.to - bin.from) bins →
+    All (λ (bin : Bin). IsBin limit (bin.to - bin.from) bin.pieces) bins
+each_width limit bins given widths = λ k d below. record { given = given k d below; summed = widths k d below }

@@ -1,0 +1,73 @@
+use Rattle.std.proofs.Common.{rules, ℕ, ◌<◌, ◌∙◌, ◌++◌, List, length, ap, subst, map, take, arith}
+use Rattle.std.specs.List.{All}
+use Rattle.std.proofs.lemmas.List.{take_all, length-map}
+use Rattle.std.proofs.lemmas.Result.{err_from_is_err_and}
+use Rattle.lert_frames.proofs.WriteLaws.{same_err}
+use Rattle.lert_frames.specs.Place.{tail_limit}
+use Rattle.lert_rows.specs.declared.bin_at.BinAt.{BinAt}
+use Rattle.lert_rows.specs.Loading.{lists_of, width_of, AreBins, Stands, RowBreaks, held_in, widths_in}
+use Rattle.lert_rows.specs.Rows.{IsRow}
+use Rattle.lert_rows.proofs.ReadLaws.{only_read_on, row_here, row_to, row_from, flat_more}
+use Rattle.lert_rows.proofs.bins.load_rows.Goals as goal
+
+pub overflow_add-level : goal.overflow_add-level
+overflow_add-level g c = omega (arith, c.numbers-valid.ensures.valid.limits.levels_to, ap (λ s. s.levels) c.numbers-valid.ensures.value)
+
+pub load_row-requires-clause-row : goal.load_row-requires-clause-row
+load_row-requires-clause-row g c =
+    let rows = map (λ row. row.items) c.args.rows.now in
+    let here = row_here (λ row. row.items) c.args.rows.now c.loop-row.row-index c.row-item.result c.deref.result.now c.loop-row-test.true c.row-item.is c.deref.ensures.value in
+    row_to (IsRow c.args.settings.now) rows c.loop-row.row-index c.loop-row.level c.deref.result.now here c.loop-row.invariant.level (c.requires.rows c.loop-row.row-index c.loop-row-test.true)
+
+pub returns-in_err-load_row-clause-lists : goal.returns-in_err-load_row-clause-lists
+returns-in_err-load_row-clause-lists g c seen told held stand =
+    let rows = map (λ row. row.items) c.args.rows.now in
+    let here = row_here (λ row. row.items) c.args.rows.now c.loop-row.row-index c.row-item.result c.deref.result.now c.loop-row-test.true c.row-item.is c.deref.ensures.value in
+    let p = err_from_is_err_and c.from_residual.result c.from_residual.ensures.1 in
+    rw (p.1, p.2) (c.in_err-load_row.ensures.lists seen (c.loop-row.invariant.only_read.seen ∙ told) held
+    (row_to (λ (level : ℕ) (row : List BinAt). All (Stands c.args.settings.now level (seen 2) held) row) rows c.loop-row.row-index c.loop-row.level c.deref.result.now here c.loop-row.invariant.level
+    (stand c.loop-row.row-index (omega (arith, c.loop-row-test.true, length-map c.args.rows.now (λ row. row.items))))))
+
+pub returns-in_err-load_row-clause-malformed : goal.returns-in_err-load_row-clause-malformed
+returns-in_err-load_row-clause-malformed g c seen told at =
+    let rows = map (λ row. row.items) c.args.rows.now in
+    let here = row_here (λ row. row.items) c.args.rows.now c.loop-row.row-index c.row-item.result c.deref.result.now c.loop-row-test.true c.row-item.is c.deref.ensures.value in
+    let p = err_from_is_err_and c.from_residual.result c.from_residual.ensures.1 in
+    rw (p.1, p.2) (λ is. record {
+      number = c.loop-row.row-index;
+      within = omega (arith, c.loop-row-test.true, length-map c.args.rows.now (λ row. row.items));
+      breaks = row_from (λ (level : ℕ) (row : List BinAt). RowBreaks c.args.settings.now level row (seen 2) at) rows c.loop-row.row-index c.loop-row.level c.deref.result.now here c.loop-row.invariant.level
+          (c.in_err-load_row.ensures.malformed seen (c.loop-row.invariant.only_read.seen ∙ told) at (same_err _ _ is));
+    })
+
+pub loop-row-preserved : goal.loop-row-preserved
+loop-row-preserved g c =
+    let rows = map (λ row. row.items) c.args.rows.now in
+    let i = c.loop-row.row-index in
+    let now = c.deref.result.now in
+    let here = row_here (λ row. row.items) c.args.rows.now i c.row-item.result now c.loop-row-test.true c.row-item.is c.deref.ensures.value in
+    let below : i < length rows = omega (arith, c.loop-row-test.true, length-map c.args.rows.now (λ row. row.items)) in
+    record {
+      level = omega arith;
+      lists = λ seen told held stand.
+          c.in_ok-load_row.ensures.lists seen (c.loop-row.invariant.only_read.seen ∙ told) held
+          (row_to (λ (level : ℕ) (row : List BinAt). All (Stands c.args.settings.now level (seen 2) held) row) rows i c.loop-row.level now here c.loop-row.invariant.level (stand i below))
+          ∙ ap (λ lists. lists ++ map held now) (c.loop-row.invariant.lists seen told held stand)
+          ∙ flat_more (λ row. map held row) (lists_of c.args.streams.now.items) rows i now here below;
+      bins = λ widths are.
+          subst (λ (w : List ℕ). AreBins (tail_limit c.args.settings.now) w (lists_of c.load_row.new.streams.items))
+          (flat_more (λ row. map width_of row) widths rows i now here below)
+          (c.in_ok-load_row.ensures.bins (widths ++ widths_in (take i rows)) (c.loop-row.invariant.bins widths are));
+      fresh = λ was. c.in_ok-load_row.ensures.fresh (c.loop-row.invariant.fresh was);
+      only_read = only_read_on (g.B.Bay.files c.args.bay.now) (g.B.Bay.files c.loop-row.bay) (g.B.Bay.files c.load_row.new.bay) (g.B.Bay.leaves c.args.bay.now) (g.B.Bay.leaves c.loop-row.bay) (g.B.Bay.leaves c.load_row.new.bay)
+          (g.B.Bay.moment c.args.bay.now) (g.B.Bay.moment c.loop-row.bay) (g.B.Bay.moment c.load_row.new.bay) (g.B.Bay.left_since c.args.bay.now) (g.B.Bay.left_since c.loop-row.bay) (g.B.Bay.left_since c.load_row.new.bay)
+          (g.met.B.Bay.since_earlier c.load_row.new.bay) c.loop-row.invariant.only_read c.in_ok-load_row.ensures.only_read;
+      never_falls = search rules;
+      mark = search rules;
+    }
+
+pub returns-clause-lists : goal.returns-clause-lists
+returns-clause-lists g c seen told held stand =
+    let rows = map (λ row. row.items) c.args.rows.now in
+    c.loop-row.invariant.lists seen told held stand
+    ∙ ap (λ rs. lists_of c.args.streams.now.items ++ held_in held rs) (take_all c.loop-row.row-index rows (omega (arith, c.loop-row-test.false, length-map c.args.rows.now (λ row. row.items))))

@@ -1,0 +1,60 @@
+use Rattle.std.proofs.Common.{rules, ℕ, ◌≡◌, ◌+◌, ◌<◌, ◌∙◌, List, None, Some, length, subst, map, get_or, [], ap, sym, arith, inl, inr}
+use Rattle.std.proofs.lemmas.Bool.{cases_lt}
+use Rattle.std.proofs.lemmas.List.{take_all, length-map}
+use Rattle.std.proofs.lemmas.Result.{err_from_is_err_and}
+use Rattle.lert_frames.proofs.WriteLaws.{same_err}
+use Rattle.lert_rows.specs.declared.bin_at.BinAt.{BinAt}
+use Rattle.lert_rows.specs.Checked.{RowStands, row_left, rows_left}
+use Rattle.lert_rows.specs.Rows.{IsRow}
+use Rattle.lert_rows.proofs.CheckLaws.{rows_more, rows_break}
+use Rattle.lert_rows.proofs.ReadLaws.{only_read_on, row_here, row_to, row_from}
+use Rattle.lert_rows.proofs.check.check_rows.Goals as goal
+
+pub check_row-requires-clause-row : goal.check_row-requires-clause-row
+check_row-requires-clause-row g c =
+    let rows = map (λ row. row.items) c.args.rows.now in
+    let here = row_here (λ row. row.items) c.args.rows.now c.loop-row.row-index c.row-item.result c.deref.result.now c.loop-row-test.true c.row-item.is c.deref.ensures.value in
+    row_to (IsRow c.args.settings.now) rows c.loop-row.row-index c.loop-row.level c.deref.result.now here c.loop-row.invariant.level (c.requires.rows c.loop-row.row-index c.loop-row-test.true)
+
+pub returns-in_err-check_row-clause-malformed : goal.returns-in_err-check_row-clause-malformed
+returns-in_err-check_row-clause-malformed g c seen told at =
+    let rows = map (λ row. row.items) c.args.rows.now in
+    let i = c.loop-row.row-index in
+    let now = c.deref.result.now in
+    let here = row_here (λ row. row.items) c.args.rows.now i c.row-item.result now c.loop-row-test.true c.row-item.is c.deref.ensures.value in
+    let p = err_from_is_err_and c.from_residual.result c.from_residual.ensures.1 in
+    rw (p.1, p.2) (λ is. rows_break c.args.settings.now (seen 2) rows i now here (omega (arith, c.loop-row-test.true, length-map c.args.rows.now (λ row. row.items))) (c.loop-row.invariant.whole seen told) at
+    (subst (λ (level : ℕ). row_left c.args.settings.now (seen 2) (level + 1) now ≡ Some at) c.loop-row.invariant.level
+    (c.in_err-check_row.ensures.malformed seen (c.loop-row.invariant.only_read.seen ∙ told) at (same_err _ _ is))))
+
+pub loop-row-preserved : goal.loop-row-preserved
+loop-row-preserved g c =
+    let rows = map (λ row. row.items) c.args.rows.now in
+    let i = c.loop-row.row-index in
+    let now = c.deref.result.now in
+    let here = row_here (λ row. row.items) c.args.rows.now i c.row-item.result now c.loop-row-test.true c.row-item.is c.deref.ensures.value in
+    let below : i < length rows = omega (arith, c.loop-row-test.true, length-map c.args.rows.now (λ row. row.items)) in
+    record {
+      level = omega arith;
+      stand = λ seen told k less. elim (cases_lt k i) [
+        | inl before ↦ c.loop-row.invariant.stand seen told k before
+        | inr last ↦ (
+            let same : i ≡ k = omega arith in
+            subst (λ (n : ℕ). RowStands c.args.settings.now (seen 2) (n + 1) (get_or rows n [])) same
+            (row_from (λ (level : ℕ) (row : List BinAt). RowStands c.args.settings.now (seen 2) level row) rows i c.loop-row.level now here c.loop-row.invariant.level
+            (c.in_ok-check_row.ensures.stand seen (c.loop-row.invariant.only_read.seen ∙ told))))
+      ];
+      whole = λ seen told.
+          rows_more c.args.settings.now (seen 2) rows i now here below (c.loop-row.invariant.whole seen told)
+          (subst (λ (level : ℕ). row_left c.args.settings.now (seen 2) (level + 1) now ≡ None) c.loop-row.invariant.level (c.in_ok-check_row.ensures.whole seen (c.loop-row.invariant.only_read.seen ∙ told)));
+      only_read = only_read_on (g.B.Bay.files c.args.bay.now) (g.B.Bay.files c.loop-row.bay) (g.B.Bay.files c.check_row.new.bay) (g.B.Bay.leaves c.args.bay.now) (g.B.Bay.leaves c.loop-row.bay) (g.B.Bay.leaves c.check_row.new.bay)
+          (g.B.Bay.moment c.args.bay.now) (g.B.Bay.moment c.loop-row.bay) (g.B.Bay.moment c.check_row.new.bay) (g.B.Bay.left_since c.args.bay.now) (g.B.Bay.left_since c.loop-row.bay) (g.B.Bay.left_since c.check_row.new.bay)
+          (g.met.B.Bay.since_earlier c.check_row.new.bay) c.loop-row.invariant.only_read c.in_ok-check_row.ensures.only_read;
+      never_falls = search rules;
+      mark = search rules;
+    }
+
+pub returns-clause-whole : goal.returns-clause-whole
+returns-clause-whole g c seen told =
+    let rows = map (λ row. row.items) c.args.rows.now in
+    ap (rows_left c.args.settings.now (seen 2)) (sym (take_all c.loop-row.row-index rows (omega (arith, c.loop-row-test.false, length-map c.args.rows.now (λ row. row.items))))) ∙ c.loop-row.invariant.whole seen told

@@ -1,0 +1,46 @@
+use Rattle.std.proofs.Common.{◌∙◌, ◌++◌, ◌∷◌, ◌/◌, [], map, suc, subst, ap, ap₂, sym, arith}
+use Rattle.std.proofs.lemmas.List.{map_push, take_more}
+use Rattle.std.proofs.lemmas.List.FromFn.{map-range_with_len_more}
+use Rattle.std.proofs.lemmas.Nat.{mul-le}
+use Rattle.lert_spec.specs.Limits.{IsValid}
+use Rattle.lert_rows.specs.declared.bin_at.BinAt.{BinAt}
+use Rattle.lert_rows.specs.Ranges.{range_at}
+use Rattle.lert_rows.specs.Rows.{range_of}
+use Rattle.lert_rows.proofs.NamedLaws.{interval_within, ranges_back}
+use Rattle.lert_rows.proofs.named.restore_row.Goals as goal
+
+pub bin_in-requires-clause-last : goal.bin_in-requires-clause-last
+bin_in-requires-clause-last c =
+    let valid : IsValid c.args.settings.now = subst IsValid c.numbers-valid.ensures.value c.numbers-valid.ensures.valid in
+    interval_within c.args.settings.now valid c.args.level c.args.n0 c.loop-frame.frame-index c.loop-frame.interval c.span-wide.result c.edge-low.result c.requires.to c.requires.within
+    c.span-wide.ensures.value c.edge-low.ensures (omega (arith, c.loop-frame-test.true, c.requires.few)) c.loop-frame.invariant.place
+
+pub overflow_add-interval : goal.overflow_add-interval
+overflow_add-interval c =
+    let valid : IsValid c.args.settings.now = subst IsValid c.numbers-valid.ensures.value c.numbers-valid.ensures.valid in
+    let last = interval_within c.args.settings.now valid c.args.level c.args.n0 c.loop-frame.frame-index c.loop-frame.interval c.span-wide.result c.edge-low.result c.requires.to c.requires.within
+    c.span-wide.ensures.value c.edge-low.ensures (omega (arith, c.loop-frame-test.true, c.requires.few)) c.loop-frame.invariant.place in
+    omega (arith, mul-le (suc c.loop-frame.interval) 1 (suc c.loop-frame.interval) c.span-wide.result (omega arith) c.span-wide.ensures.positive, last)
+
+pub loop-frame-preserved : goal.loop-frame-preserved
+loop-frame-preserved c =
+    let f = range_at c.span-wide.result c.edge-low.result c.edge-high.result in
+    record {
+      place = omega (arith, c.loop-frame.invariant.place);
+      ranges = ap (map range_of) c.put.ensures.items
+          ∙ map_push range_of c.loop-frame.row.items c.bin_in.result
+          ∙ ap₂ (λ ranges range. ranges ++ range ∷ []) c.loop-frame.invariant.ranges c.bin_in.ensures.range
+          ∙ sym (map-range_with_len_more f (c.edge-low.result / c.span-wide.result) c.loop-frame.frame-index c.loop-frame.interval (sym c.loop-frame.invariant.place));
+      frames = ap (map (λ (bin : BinAt). bin.frame)) c.put.ensures.items
+          ∙ map_push (λ (bin : BinAt). bin.frame) c.loop-frame.row.items c.bin_in.result
+          ∙ ap₂ (λ frames frame. frames ++ frame ∷ []) c.loop-frame.invariant.frames c.bin_in.ensures.frame
+          ∙ sym (take_more c.args.frames.now c.loop-frame.frame-index 0 c.loop-frame-test.true);
+      room = omega (arith, c.loop-frame.invariant.room, c.put.ensures.capacity);
+      grows = omega (arith, c.loop-frame.invariant.grows, c.put.ensures.capacity);
+    }
+
+pub returns-clause-ranges : goal.returns-clause-ranges
+returns-clause-ranges c =
+    c.loop-frame.invariant.ranges
+    ∙ ranges_back c.args.settings.now c.args.n0 c.args.level c.span-wide.result c.edge-low.result c.edge-high.result c.loop-frame.frame-index c.span-wide.ensures.positive c.span-wide.ensures.value c.edge-low.ensures
+    c.edge-high.ensures (omega (arith, c.requires.count, c.loop-frame-test.false, c.loop-frame.auto.frame-index-end))

@@ -1,0 +1,103 @@
+//! The new bins of a flush, as they are written.
+
+ghost use Rattle.std.specs.Prelude.{◌≡◌, ℕ, ◌+◌, ◌<◌, ◌≤◌, [], length, map, OnOk, slice_index_or};
+ghost use Rattle.lert_bay.specs.Files.{Files, IfTold};
+ghost use Rattle.lert_frames.specs.Frame.{HoldsFrame};
+ghost use Rattle.lert_frames.specs.Place.{frame_place};
+ghost use Rattle.lert_io.specs.Fault.{HasCause};
+ghost use Rattle.lert_spec.specs.Edges.{capacity};
+ghost use Rattle.lert_rows.specs.Landing.{IsApart, KeepsRest, Anywhere, AreApart, CanStand, AreLanded};
+ghost use Rattle.lert_rows.specs.Rows.{IsRow};
+
+use crate::bin_at::BinAt;
+use crate::rows::arrival;
+use lert_base::{Piece, Settings};
+use lert_bay::{Bay, FRAMES};
+use lert_frames::store;
+use lert_io::Failed;
+
+/// Writes the new bins of the flush at position `m`, that of level 1 first, each in the frame where it is to stand, and makes
+/// the file of frames durable. It changes nothing else, whatever it answers.
+pub fn write_arrivals<B: Bay>(
+    settings: &Settings,
+    m: u64,
+    rows: &[Vec<BinAt>],
+    bins: &[Vec<Piece>],
+    bay: &mut B,
+) -> Result<(), Failed>
+    requires first { 1 ≤ m }
+    requires last { m ≤ capacity settings.now }
+    requires few { length rows.now ≤ settings.now.levels }
+    requires rows { (k : ℕ) → k < length rows.now → IsRow settings.now (k + 1) (slice_index_or (map (λ row. row.items) rows.now) k []) }
+    requires len { length bins.now ≡ length rows.now }
+    requires bins { (k : ℕ) → k < length bins.now → CanStand settings.now (k + 1) (slice_index_or (map (λ bin. bin.items) bins.now) k []) }
+    ensures stand { OnOk result (IfTold (B.files bay.new) (λ seen.
+        AreLanded settings.now m (map (λ row. row.items) rows.now) (seen 2) (map (λ bin. bin.items) bins.now) (length rows.now))) }
+    ensures durable { OnOk result (IfTold (B.files bay.new) (λ seen. (image : Files) → B.leaves bay.new image → image 2 ≡ seen 2)) }
+    ensures rest { KeepsRest (AreApart settings.now m (map (λ row. row.items) rows.now)) (B.files bay.old) (B.files bay.new) (B.leaves bay.old) (B.moment bay.old) (B.moment bay.new) (B.left_since bay.old) (B.left_since bay.new) }
+    ensures cause { HasCause (B.faults bay.old) (B.faults bay.new) result }
+    ensures mark { B.mark bay.new ≡ B.mark bay.old }
+{
+    store_bins(settings, m, rows, bins, bay)?;
+    sync_frames(bay)
+}
+
+// Makes the file of frames durable.
+fn sync_frames<B: Bay>(bay: &mut B) -> Result<(), Failed>
+    ensures seen { B.files bay.new ≡ B.files bay.old }
+    ensures durable { OnOk result (IfTold (B.files bay.new) (λ seen. (image : Files) → B.leaves bay.new image → image 2 ≡ seen 2)) }
+    ensures rest { KeepsRest Anywhere (B.files bay.old) (B.files bay.new) (B.leaves bay.old) (B.moment bay.old) (B.moment bay.new) (B.left_since bay.old) (B.left_since bay.new) }
+    ensures cause { HasCause (B.faults bay.old) (B.faults bay.new) result }
+    ensures mark { B.mark bay.new ≡ B.mark bay.old }
+{
+    bay.sync(FRAMES)
+}
+
+// Writes the new bins, each in its frame.
+fn store_bins<B: Bay>(
+    settings: &Settings,
+    m: u64,
+    rows: &[Vec<BinAt>],
+    bins: &[Vec<Piece>],
+    bay: &mut B,
+) -> Result<(), Failed>
+    requires first { 1 ≤ m }
+    requires last { m ≤ capacity settings.now }
+    requires few { length rows.now ≤ settings.now.levels }
+    requires rows { (k : ℕ) → k < length rows.now → IsRow settings.now (k + 1) (slice_index_or (map (λ row. row.items) rows.now) k []) }
+    requires len { length bins.now ≡ length rows.now }
+    requires bins { (k : ℕ) → k < length bins.now → CanStand settings.now (k + 1) (slice_index_or (map (λ bin. bin.items) bins.now) k []) }
+    ensures stand { OnOk result (IfTold (B.files bay.new) (λ seen.
+        AreLanded settings.now m (map (λ row. row.items) rows.now) (seen 2) (map (λ bin. bin.items) bins.now) (length rows.now))) }
+    ensures rest { KeepsRest (AreApart settings.now m (map (λ row. row.items) rows.now)) (B.files bay.old) (B.files bay.new) (B.leaves bay.old) (B.moment bay.old) (B.moment bay.new) (B.left_since bay.old) (B.left_since bay.new) }
+    ensures cause { HasCause (B.faults bay.old) (B.faults bay.new) result }
+    ensures mark { B.mark bay.new ≡ B.mark bay.old }
+{
+    let _valid = settings.numbers();
+    for (lower, row) in rows.iter().enumerate() {
+        let level = lower as u32 + 1;
+        let bin = arrival(settings, m, level, row);
+        store_bin(settings, level, u32::from(bin.frame), &bins[lower], bay)?;
+    }
+    Ok(())
+}
+
+// Writes a bin of a level in a frame.
+fn store_bin<B: Bay>(
+    settings: &Settings,
+    level: u32,
+    frame: u32,
+    pieces: &[Piece],
+    bay: &mut B,
+) -> Result<(), Failed>
+    requires first { 1 ≤ level }
+    requires last { level ≤ settings.now.levels }
+    requires frame { frame ≤ settings.now.bins }
+    requires pieces { CanStand settings.now level pieces.now }
+    ensures stands { OnOk result (IfTold (B.files bay.new) (λ seen. HoldsFrame (frame_place settings.now level frame) (seen 2) pieces.now)) }
+    ensures rest { KeepsRest (IsApart settings.now level frame) (B.files bay.old) (B.files bay.new) (B.leaves bay.old) (B.moment bay.old) (B.moment bay.new) (B.left_since bay.old) (B.left_since bay.new) }
+    ensures cause { HasCause (B.faults bay.old) (B.faults bay.new) result }
+    ensures mark { B.mark bay.new ≡ B.mark bay.old }
+{
+    store(settings, level, frame, pieces, bay)
+}

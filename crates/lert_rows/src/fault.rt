@@ -1,0 +1,75 @@
+//! Why a flush or a scan gives no totals.
+
+use lert_frames::LoadFault;
+use lert_io::{Failed, OutOfMemory};
+use std::alloc::{AllocError, AllocFailed};
+
+/// Why a flush or a scan gives no totals. The bins are then those of before.
+#[derive(Clone, Copy, Debug, PartialEq, Eq)]
+pub enum FlushFault {
+    /// A call of the bay failed.
+    Failed,
+    /// A frame of a bin leaves its format at this byte of the file of frames.
+    Malformed { at: u64 },
+    /// There is no memory for the bins. No clause says when this comes.
+    OutOfMemory,
+}
+
+impl From<LoadFault> for FlushFault {
+    ghost use Rattle.std.specs.Prelude.{◌≡◌};
+    ghost use Rattle.lert_rows.specs.Loading.{flush_fault};
+
+    ghost from_gives = { λ load fault. fault ≡ flush_fault load };
+
+    fn from(load: LoadFault) -> FlushFault {
+        match load {
+            LoadFault::Failed => FlushFault::Failed,
+            LoadFault::Malformed { at } => FlushFault::Malformed { at },
+            LoadFault::OutOfMemory => FlushFault::OutOfMemory,
+        }
+    }
+}
+
+impl From<Failed> for FlushFault {
+    ghost use Rattle.std.specs.Prelude.{◌≡◌};
+    ghost use Rattle.lert_rows.specs.declared.fault.FlushFault.TheVariants.{Failed as FailedCall};
+
+    ghost from_gives = { λ _ fault. fault ≡ FailedCall };
+
+    fn from(_failed: Failed) -> FlushFault {
+        FlushFault::Failed
+    }
+}
+
+impl From<OutOfMemory> for FlushFault {
+    ghost use Rattle.std.specs.Prelude.{◌≡◌};
+    ghost use Rattle.lert_rows.specs.declared.fault.FlushFault.TheVariants.{OutOfMemory as NoMemory};
+
+    ghost from_gives = { λ _ fault. fault ≡ NoMemory };
+
+    fn from(_error: OutOfMemory) -> FlushFault {
+        FlushFault::OutOfMemory
+    }
+}
+
+impl From<AllocError> for FlushFault {
+    ghost use Rattle.std.specs.Prelude.{◌≡◌};
+    ghost use Rattle.lert_rows.specs.declared.fault.FlushFault.TheVariants.{OutOfMemory as NoMemory};
+
+    ghost from_gives = { λ _ fault. fault ≡ NoMemory };
+
+    fn from(_error: AllocError) -> FlushFault {
+        FlushFault::OutOfMemory
+    }
+}
+
+impl<T: Drop> From<AllocFailed<T>> for FlushFault {
+    ghost use Rattle.std.specs.Prelude.{◌≡◌};
+    ghost use Rattle.lert_rows.specs.declared.fault.FlushFault.TheVariants.{OutOfMemory as NoMemory};
+
+    ghost from_gives = { λ _ fault. fault ≡ NoMemory };
+
+    fn from(_error: AllocFailed<T>) -> FlushFault {
+        FlushFault::OutOfMemory
+    }
+}
