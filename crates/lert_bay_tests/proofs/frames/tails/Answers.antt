@@ -2,7 +2,7 @@ use Rattle.std.proofs.Common.{◌+◌, ◌^◌, ap, subst, sym, ◌∙◌, arith
 use Rattle.lert_spec.proofs.GivenLaws.{given_more, given_wide}
 use Rattle.lert_spec.specs.Table.{total, AreGiven}
 use Rattle.lert_frames.proofs.BinLaws.{total-push}
-use Rattle.lert_disk_tests.proofs.frames.tails.Goals as goal
+use Rattle.lert_bay_tests.proofs.frames.tails.Goals as goal
 
 pub loop-tail-preserved : goal.loop-tail-preserved
 loop-tail-preserved c = record {

@@ -1,6 +1,6 @@
 use Rattle.std.proofs.Common.{◌≡◌}
 use Rattle.lert_spec.specs.Table.{total, AreGiven}
-use Rattle.lert_disk_tests.proofs.frames.tails.Given as goal
+use Rattle.lert_bay_tests.proofs.frames.tails.Given as goal
 
 -- the tails so far
 abbrev pub invariant-loop-tail : goal.invariant-loop-tail
