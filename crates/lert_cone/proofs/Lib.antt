@@ -1,12 +1,21 @@
+pub mod Admits
 pub mod AdoptLaws
+pub mod Calls
 pub mod DueLaws
+pub mod EndCounted
 pub mod EndStep
+pub mod EndTaken
 mod Examples
 pub mod FramedLaws
 pub mod GateLaws
+pub mod KeyCounted
 pub mod KeyLemmas
 pub mod KeyStep
+pub mod KeyTaken
+pub mod KeysReplayed
+pub mod KeysTaken
 pub mod LogLaws
+pub mod PacketTaken
 pub mod RecordLaws
 pub mod ReplayLaws
 pub mod ReplayStands

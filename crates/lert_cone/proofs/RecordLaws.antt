@@ -1,5 +1,5 @@
 -- The text of a record, as it is appended.
-use Rattle.std.proofs.Common.{◌≡◌, ℕ, ◌+◌, ◌-◌, ◌*◌, ◌≤◌, List, [], ◌∷◌, ◌++◌, length, take, drop, get_or, All, refl, sym, ap, ◌∙◌, arith, length-drop, length-append}
+use Rattle.std.proofs.Common.{◌≡◌, ℕ, ◌+◌, ◌-◌, ◌*◌, ◌≤◌, List, [], ◌∷◌, ◌++◌, length, take, drop, get_or, All, Result, Err, refl, sym, ap, subst, ◌∙◌, arith, length-drop, length-append}
 use Rattle.std.specs.Prelude.{flat_map}
 use Rattle.std.proofs.lemmas.List.{take_all, get_or_default}
 use Rattle.std.proofs.lemmas.Nat.{mul-le}
@@ -15,10 +15,14 @@ use Rattle.lert_reports.specs.Log.{most_record}
 use Rattle.lert_spec.specs.declared.numbers.Numbers.{Numbers}
 use Rattle.lert_spec.specs.Limits.{IsValid}
 use Rattle.lert_spec.specs.declared.report.Report.{Report}
+use Rattle.std.specs.Result.{IsErrAnd}
+use Rattle.lert_cone.specs.Appends.{AppendsRecord}
+use Rattle.lert_cone.specs.Bays.{Bays}
 use Rattle.lert_cone.specs.InStep.{IsLogging}
 use Rattle.lert_cone.specs.Listing.{Listing}
 use Rattle.lert_cone.specs.Tally.{Tallied}
 use Rattle.lert_cone.specs.Record.{LogPlace, payload_at, payload_len}
+use Rattle.lert_cone.proofs.TakeLaws.{handed_on}
 
 pub payload_is_at : (log : LogPlace) (kind : LogKind) (n0 : ℕ) (directory : List ℕ) (reports : List Report) → log_payload kind n0 32 1 directory (drop log.named reports) ≡ payload_at log kind n0 directory reports
 unfolding payload_at
@@ -99,3 +103,17 @@ logging_more t a log log_after room room_after key directory reports valid loggi
   near = omega (arith, gate_is, fits, logging.near, logging.most, most_few t.listing.settings valid, ap (λ (l : Listing). length l.events) is, length-append t.listing.events (key ∷ []));
   roomy = omega (arith, most_is, room_is, logging.roomy);
 }
+
+-- ---- an append
+
+pub same_record : {B E : Type 0} (bays : Bays B) (kind : LogKind) (n n_now : ℕ) (directory directory_now : List ℕ) (reports reports_now : List Report) (bay bay_after : B) (old new : LogPlace) (result : Result (Unit {0}) E) →
+    n ≡ n_now → directory ≡ directory_now → reports ≡ reports_now → AppendsRecord bays kind n directory reports bay bay_after old new result → AppendsRecord bays kind n_now directory_now reports_now bay bay_after old new result
+same_record bays kind n n_now directory directory_now reports reports_now bay bay_after old new result n_is directory_is reports_are appends =
+    subst (λ k. AppendsRecord bays kind k directory_now reports_now bay bay_after old new result) n_is
+    (subst (λ (d : List ℕ). AppendsRecord bays kind n d reports_now bay bay_after old new result) directory_is
+    (subst (λ (rs : List Report). AppendsRecord bays kind n directory rs bay bay_after old new result) reports_are appends))
+
+pub refused_record : {B E : Type 0} (bays : Bays B) (kind : LogKind) (n : ℕ) (directory : List ℕ) (reports : List Report) (bay bay_after : B) (old new : LogPlace) (given : Result (Unit {0}) E) (failed : E) →
+    IsErrAnd given (λ g. g ≡ failed) → AppendsRecord bays kind n directory reports bay bay_after old new (Err failed) → AppendsRecord bays kind n directory reports bay bay_after old new given
+refused_record {B} {E} bays kind n directory reports bay bay_after old new given failed given_is =
+    subst (λ (r : Result (Unit {0}) E). AppendsRecord bays kind n directory reports bay bay_after old new r) (handed_on given failed given_is)

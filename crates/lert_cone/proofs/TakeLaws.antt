@@ -275,7 +275,7 @@ one_of_first s depth rows file at one =
     }
 
 -- a call that hands on a fault as it is
-pub handed_on : (result : Result (Unit {0}) TakeFault) (fault : TakeFault) → IsErrAnd result (λ given. given ≡ fault) → Err fault ≡ result
+pub handed_on : {T E : Type 0} (result : Result T E) (fault : E) → IsErrAnd result (λ given. given ≡ fault) → Err fault ≡ result
 handed_on (Ok done) fault is = absurd is
 handed_on (Err given) fault is = ap Err (sym is)
 

@@ -6,7 +6,7 @@ use Rattle.lert_bay.specs.Files.{Files, IfTold, Turns, Torn}
 use Rattle.lert_bay.specs.Images.{Lasts}
 use Rattle.lert_bay.specs.Settled.{part, IsSettled}
 use Rattle.lert_bay.proofs.Lasting.{lasts_none, lasts_on}
-use Rattle.lert_frames.specs.Kept.{OnlyRead}
+use Rattle.lert_bay.specs.Kept.{OnlyRead}
 use Rattle.lert_gatelog.specs.Kept.{KeepsOthers, IsWhollySettled, OthersStay}
 use Rattle.lert_gatelog.proofs.GatedLaws.{byte_of_part, part_within, closed_behind}
 use Rattle.lert_rows.specs.Landing.{KeepsRest}

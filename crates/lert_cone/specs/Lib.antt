@@ -1,3 +1,6 @@
+pub mod Appends
+pub mod Bays
+pub mod Counts
 pub mod Due
 pub mod Framed
 pub mod History
@@ -10,5 +13,6 @@ pub mod Replays
 pub mod Room
 pub mod Sound
 pub mod Stands
+pub mod Takes
 pub mod Tally
 pub mod Wrote

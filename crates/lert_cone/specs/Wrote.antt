@@ -1,5 +1,6 @@
 -- What calls make of a bay that leave one of its files alone.
 use Rattle.std.specs.Prelude.{◌≡◌, ℕ, Option, Some}
+use Rattle.lert_cone.specs.Bays.{Bays}
 use Rattle.lert_bay.specs.Files.{Files, IfTold, Turns}
 use Rattle.lert_bay.specs.Images.{Lasts}
 use Rattle.lert_bay.specs.Settled.{Keeps, IsSettled}
@@ -12,6 +13,11 @@ pub record LeavesFile (file : ℕ) (files_before files_after : Option Files) (le
   pub settled : (old : Files) → files_before ≡ Some old → (from to : ℕ) → IsSettled leaves_before old file from to → Keeps (since_after first) old file from to
   pub now : (image : Files) → leaves_after image → since_after first image
   pub time : Lasts first last since_before since_after
+
+-- so from one state of a bay to another
+abbrev pub LeavesAlone : {B : Type 0} → Bays B → ℕ → B → B → Type 0
+LeavesAlone bays file before after =
+    LeavesFile file (bays.files before) (bays.files after) (bays.leaves before) (bays.leaves after) (bays.moment before) (bays.moment after) (bays.left_since before) (bays.left_since after)
 
 -- a file is settled from its first byte to its length, and a gate in it is closed in every image
 pub record IsShut (leaves : Files → Type 0) (seen : Files) (file gate : ℕ) : Type 0 where

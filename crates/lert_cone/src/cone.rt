@@ -22,7 +22,7 @@ ghost use Rattle.lert_cone.specs.Wrote.{Anything};
 
 use crate::acked::Acked;
 use crate::headers::{is_fresh, write_headers};
-use crate::keys::{close, keys_of, take_keys};
+use crate::keys::take_packet;
 use crate::log_point::LogPoint;
 use crate::refusal::{ConeFault, CreateFault, CreateRefused};
 use crate::report_log::ReportLog;
@@ -32,14 +32,11 @@ use crate::tally::{TakeFault, Tally};
 use lert_base::{CountTable, Entry, Settings};
 use lert_bay::Bay;
 use lert_gatelog::GateLog;
-use lert_journal::append_entry;
-use lert_reports::ReportStore;
 use std::marker::Model;
 use std::snapshot::Snapshot;
 
+mod end;
 mod replay;
-#[cfg(test)]
-mod tests;
 
 /// A cone that acknowledges a packet only when its record is on the disk.
 ///
@@ -229,19 +226,14 @@ impl<B: Bay, T: CountTable> Cone<B, T> {
         ensures never_falls { B.faults self.old.bay ≤ B.faults self.new.bay }
         ensures mark { B.mark self.new.bay ≡ B.mark self.old.bay }
     {
-        let keys = keys_of(entry);
         let len = entry.keys.len() as u64;
         self.test(len)?;
-        if append_entry(&mut self.journal, &mut self.bay, entry, &mut self.buffer).is_err() {
-            self.over = Some(Snapshot::of(entry));
-            self.state = ConeState::BrokenByBay;
-            return Err(ConeFault::BayFailed);
-        }
-        if let Err(fault) = take_keys(
+        if let Err(fault) = take_packet(
             &mut self.tally,
             &mut self.log,
+            &mut self.journal,
             &mut self.bay,
-            keys,
+            entry,
             &mut self.buffer,
         ) {
             self.over = Some(Snapshot::of(entry));
@@ -255,96 +247,6 @@ impl<B: Bay, T: CountTable> Cone<B, T> {
             to: self.events,
             reports: self.tally.store().len() as u64,
         })
-    }
-
-    /// Ends the cone: scans all levels, makes the reports that are left, and answers how many stand then. The closing record
-    /// stands in the log then: four calls of the bay beside those of the scan.
-    pub fn finish(&mut self) -> Result<u64, ConeFault>
-        ensures stands_for { OnOk result ((h : List Packet) → StandsFor B.files B.leaves B.faults self.old h →
-            StandsFor B.files B.leaves B.faults self.new h) }
-        ensures answers { IfOk result (λ reports. (h : List Packet) → StandsFor B.files B.leaves B.faults self.old h →
-            WasSound B.files self.old → IfTold (B.files self.old.bay) (λ _. reports ≡ length (closing self.old.listing.settings (events_of h)))) }
-        ensures reports { IfOk result (λ reports. reports ≡ length self.new.reports) }
-        ensures finished { OnOk result (self.new ≡ record self.old {
-          bay = self.new.bay;
-          listing = record self.old.listing { closed = true };
-          reports = self.new.reports;
-          state = ConeState.Finished;
-          log = self.new.log;
-        }) }
-
-        // After Ok each key that has reached the threshold stands among the reports, and soon enough. No key stands there twice.
-        ensures in_time { OnOk result ((h : List Packet) → StandsFor B.files B.leaves B.faults self.old h → WasSound B.files self.old →
-            IfTold (B.files self.old.bay) (λ _. IsTimely self.old.listing.settings.threshold self.old.listing.settings.bins
-            (events_of h) self.new.reports)) }
-
-        // A refusal leaves the list, and the first two leave all.
-        ensures stays { OnErr result ((h : List Packet) → StandsFor B.files B.leaves B.faults self.old h →
-            StandsFor B.files B.leaves B.faults self.new h) }
-        ensures unchanged { IfErr result (λ fault. is_refusal fault ≡ true → self.new ≡ self.old) }
-        ensures broke { IfErr result (λ fault. is_refusal fault ≡ false → self.new ≡ record self.old {
-          bay = self.new.bay;
-          listing = record self.old.listing { closed = self.new.listing.closed };
-          reports = self.new.reports;
-          state = self.new.state;
-          log = self.new.log;
-        }) }
-
-        ensures same_cone { IsSameCone self.old self.new }
-
-        // Why it refuses.
-        ensures closed { (result ≡ Err ConeFault.Closed) ↔ (self.old.state ≡ ConeState.Finished) }
-        ensures broken { (result ≡ Err ConeFault.Broken) ↔ (is_broken self.old.state ≡ true) }
-        ensures never_full { (n len : ℕ) → result ≡ Err (ConeFault.CapacityFull n len) → ⊥ }
-        ensures bay_failed { IsErrOf result ConeFault.BayFailed →
-            (self.new.state ≡ ConeState.BrokenByBay) × HasRisen (B.faults self.old.bay) (B.faults self.new.bay) }
-        ensures unsound { (file at : ℕ) → IsErrOf result (ConeFault.Unsound file at) → (self.new.state ≡ ConeState.BrokenByRead file at)
-            × ((h : List Packet) → StandsFor B.files B.leaves B.faults self.old h → WasSound B.files self.old → B.files self.old.bay ≡ None) }
-        ensures shows { (file at : ℕ) → IsErrOf result (ConeFault.Unsound file at) →
-            IfTold (B.files self.new.bay) (λ seen. Shows self.new.listing.settings self.new.rows self.new.reports (seen 2) file at) }
-        ensures out_of_memory { IsErrOf result ConeFault.OutOfMemory → self.new.state ≡ ConeState.BrokenByMemory }
-
-        // In each image of each moment of the call the files are sound for the list, and after Ok they are closed.
-        ensures each_moment { is_broken self.old.state ≡ false → WasSound B.files self.old → IfTold (B.files self.old.bay) (λ _. (h : List Packet) →
-            StandsFor B.files B.leaves B.faults self.old h → (image : Files) →
-            B.left_since self.new.bay (B.moment self.old.bay) image → IsSound self.old.listing.settings self.old.listing.cone h image) }
-        ensures sound_closed { OnOk result (WasSound B.files self.old → IfTold (B.files self.new.bay) (λ seen. (h : List Packet) → StandsFor B.files B.leaves B.faults self.old h →
-            IsKept (B.leaves self.new.bay) seen (IsSoundClosed self.old.listing.settings self.old.listing.cone h))) }
-        ensures seen { Turns Anything (B.files self.old.bay) (B.files self.new.bay) }
-        ensures time { Lasts (B.moment self.old.bay) (B.moment self.new.bay) (B.left_since self.old.bay) (B.left_since self.new.bay) }
-        ensures never_falls { B.faults self.old.bay ≤ B.faults self.new.bay }
-        ensures mark { B.mark self.new.bay ≡ B.mark self.old.bay }
-    {
-        self.test_state()?;
-        if let Err(fault) = close(
-            &mut self.tally,
-            &mut self.log,
-            &mut self.bay,
-            &mut self.buffer,
-        ) {
-            self.state = broken_by(fault);
-            return Err(ConeFault::from(fault));
-        }
-        self.state = ConeState::Finished;
-        Ok(self.tally.store().len() as u64)
-    }
-
-    /// The reports, in the order of their positions. Of a broken cone's nothing is said.
-    pub fn reports(&self) -> &ReportStore<T>
-        ensures value { result.now.reports ≡ self.now.reports }
-        ensures settings { is_broken self.now.state ≡ false → result.now.settings ≡ self.now.listing.settings }
-        ensures running { self.now.state ≡ ConeState.Running → (h : List Packet) → StandsFor B.files B.leaves B.faults self.now h →
-            WasSound B.files self.now → IfTold (B.files self.now.bay) (λ _. result.now.reports ≡ look self.now.listing.settings (events_of h)) }
-        ensures finished { self.now.state ≡ ConeState.Finished → (h : List Packet) → StandsFor B.files B.leaves B.faults self.now h →
-            WasSound B.files self.now → IfTold (B.files self.now.bay) (λ _. result.now.reports ≡ closing self.now.listing.settings (events_of h)) }
-
-        // A key that reaches the threshold stands there, and soon enough. No key stands there twice.
-        ensures in_time { self.now.state ≡ ConeState.Finished → (h : List Packet) → StandsFor B.files B.leaves B.faults self.now h →
-            WasSound B.files self.now → IfTold (B.files self.now.bay) (λ _. IsTimely self.now.listing.settings.threshold self.now.listing.settings.bins (events_of h) result.now.reports) }
-        ensures in_time_so_far { self.now.state ≡ ConeState.Running → (h : List Packet) → StandsFor B.files B.leaves B.faults self.now h →
-            WasSound B.files self.now → IfTold (B.files self.now.bay) (λ _. IsTimelySoFar self.now.listing.settings.threshold self.now.listing.settings.bins (events_of h) result.now.reports) }
-    {
-        self.tally.store()
     }
 
     /// How many keys the packets have that it acknowledged.

@@ -15,7 +15,7 @@ mod due;
 mod headers;
 mod keys;
 mod log_point;
-mod records;
+mod packets;
 mod refusal;
 mod report_log;
 mod room;

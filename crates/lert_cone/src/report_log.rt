@@ -1,14 +1,13 @@
 //! The log of a cone: a record for each flush, and one at the end.
 
-ghost use Rattle.std.specs.Prelude.{◌≡◌, ℕ, ◌+◌, ◌*◌, ◌<◌, ◌≤◌, ◌^◌, List, [], ◌∷◌, ◌++◌, length, OnOk, OnErr};
-ghost use Rattle.lert_bay.specs.Files.{Files, IfTold, Turns};
-ghost use Rattle.lert_bay.specs.Images.{Lasts};
-ghost use Rattle.lert_gatelog.specs.Gated.{IsClosed, IsGated, next_gate};
-ghost use Rattle.lert_gatelog.specs.Kept.{InEach, KeepsOthers, KeepsBefore, IsWhollySettled, IsWithOrWithout, OthersStay};
-ghost use Rattle.lert_io.specs.Fault.{HasCause};
+ghost use Rattle.std.specs.Prelude.{◌≡◌, ◌+◌, ◌<◌, ◌≤◌, ◌^◌, length};
+ghost use Rattle.lert_bay.specs.Files.{IfTold};
+ghost use Rattle.lert_gatelog.specs.Gated.{IsClosed};
+ghost use Rattle.lert_gatelog.specs.Kept.{InEach};
 ghost use Rattle.lert_reports.specs.Log.{most_record};
 ghost use Rattle.lert_spec.specs.Limits.{IsValid};
-ghost use Rattle.lert_cone.specs.Record.{payload_at, payload_len};
+ghost use Rattle.lert_cone.specs.Appends.{AppendsRecord};
+ghost use Rattle.lert_cone.specs.Record.{payload_len};
 
 use crate::log_point::{FIRST, OFFSET};
 use lert_base::{Report, Settings};
@@ -90,30 +89,7 @@ impl ReportLog {
         requires room { self.old.most + 5 ≤ length buffer.old }
         requires reach { self.old.gate + self.old.most + 6 < 2 ^ 63 }
         requires closed { IfTold (B.files bay.old) (λ _. InEach (B.leaves bay.old) 1 (λ bytes. IsClosed bytes self.old.gate)) }
-        ensures moved { OnOk result (self.new ≡ record self.old {
-          gate = next_gate self.old.gate (payload_at self.old kind n0 directory.now reports.now);
-          named = length reports.now;
-        }) }
-        ensures stayed { OnErr result (self.new ≡ self.old) }
-        ensures long { next_gate self.old.gate (payload_at self.old kind n0 directory.now reports.now) ≡ self.old.gate + 5 + payload_len self.old directory.now reports.now }
-
-        // In every image of each moment of the call the open records are those from before, or those and this one.
-        ensures each_moment { IfTold (B.files bay.old) (λ _. (first : ℕ) (payloads : List (List ℕ)) →
-            InEach (B.leaves bay.old) 1 (λ bytes. IsGated self.old.most bytes first payloads self.old.gate) →
-            InEach (B.left_since bay.new (B.moment bay.old)) 1 (IsWithOrWithout self.old.most first payloads self.old.gate (payload_at self.old kind n0 directory.now reports.now))) }
-
-        // After Ok they are those and this one.
-        ensures appended { IfTold (B.files bay.old) (λ _. (first : ℕ) (payloads : List (List ℕ)) →
-            InEach (B.leaves bay.old) 1 (λ bytes. IsGated self.old.most bytes first payloads self.old.gate) →
-            OnOk result (InEach (B.leaves bay.new) 1 (λ bytes. IsGated self.old.most bytes first (payloads ++ payload_at self.old kind n0 directory.now reports.now ∷ []) self.new.gate))) }
-        ensures closed { IfTold (B.files bay.old) (λ _. OnOk result (InEach (B.leaves bay.new) 1 (λ bytes. IsClosed bytes self.new.gate))) }
-        ensures settled { OnOk result (IfTold (B.files bay.new) (λ seen. IsWhollySettled (B.leaves bay.new) seen 1)) }
-        ensures before { IfTold (B.files bay.old) (λ seen. KeepsBefore (B.leaves bay.old) (B.left_since bay.new (B.moment bay.old)) seen 1 self.old.gate) }
-        ensures others { IfTold (B.files bay.old) (λ seen. KeepsOthers (B.leaves bay.old) (B.left_since bay.new (B.moment bay.old)) seen 1) }
-        ensures seen { Turns (OthersStay 1) (B.files bay.old) (B.files bay.new) }
-        ensures time { Lasts (B.moment bay.old) (B.moment bay.new) (B.left_since bay.old) (B.left_since bay.new) }
-        ensures cause { HasCause (B.faults bay.old) (B.faults bay.new) result }
-        ensures mark { B.mark bay.new ≡ B.mark bay.old }
+        ensures { AppendsRecord B.Bay kind n0 directory.now reports.now bay.old bay.new self.old self.new result }
     {
         // Its clause bounds the payload's length.
         let _ = self.log.gate();

@@ -1,19 +1,13 @@
 //! The counts and reports of a cone: level 0 in memory, the older levels on its bay.
 
-ghost use Rattle.std.specs.Prelude.{◌≡◌, ◌≢◌, ℕ, ◌+◌, ◌-◌, ◌^◌, ◌<◌, ◌≤◌, true, false, List, [], ◌∷◌, ◌++◌, All, length, replicate, IfOk, OnOk, OnErr, IsErrOf, IsTrue, IsFalse, Err};
-ghost use Rattle.lert_bay.specs.Files.{Files, IfTold};
-ghost use Rattle.lert_frames.specs.Kept.{OnlyRead};
-ghost use Rattle.lert_io.specs.Fault.{HasRisen};
+ghost use Rattle.std.specs.Prelude.{◌≡◌, ◌≢◌, ℕ, ◌-◌, ◌^◌, ◌<◌, ◌≤◌, false, [], All, length, replicate, IsTrue, IsFalse};
+ghost use Rattle.lert_bay.specs.Files.{Files};
 ghost use Rattle.lert_spec.specs.Edges.{edge, capacity};
 ghost use Rattle.lert_spec.specs.Mix.{cone_of};
-ghost use Rattle.lert_gatelog.specs.Kept.{InEach};
-ghost use Rattle.lert_levels.specs.Flushed.{InNamed};
-ghost use Rattle.lert_rows.specs.Landing.{KeepsRest};
-ghost use Rattle.lert_rows.specs.Rows.{IsAt, AreRows, HoldsBins, directory_text};
-ghost use Rattle.lert_cone.specs.Framed.{HoldsSome};
+ghost use Rattle.lert_rows.specs.Rows.{IsAt, AreRows, directory_text};
 
 use crate::due::Due;
-use bringing::{bring, scan_into};
+use totals::{bring, scan_into};
 use lert_base::{CountTable, Settings};
 use lert_bay::{Bay, FRAMES, LOG};
 use lert_io::{Failed, Seen};
@@ -22,8 +16,8 @@ use lert_mixer::tail_of;
 use lert_reports::ReportStore;
 use std::marker::{Brand, Model};
 
-mod bringing;
-mod recounting;
+mod recount;
+mod totals;
 
 /// Why a key isn't taken, or the end isn't reached. What then stands in memory is of no use.
 #[derive(Clone, Copy, Debug, PartialEq, Eq)]
@@ -98,7 +92,8 @@ impl<T: CountTable> Model for Tally<T> {
 }
 
 impl<T: CountTable> Tally<T> {
-    ghost use Rattle.lert_cone.specs.Tally.{IsCounted, IsHeld, IsRecounted, Shows};
+    ghost use Rattle.lert_cone.specs.Tally.{IsCounted, IsHeld, IsRecounted};
+    ghost use Rattle.lert_cone.specs.Counts.{CountsEnd, CountsKey};
 
     /// No key yet.
     pub fn new(
@@ -211,32 +206,7 @@ impl<T: CountTable> Tally<T> {
         requires own { cone_of self.old.listing.settings key ≡ self.old.listing.cone }
         requires fits { length self.old.listing.events < capacity self.old.listing.settings }
         requires counted { IsCounted self.old }
-        ensures listing { self.new.listing ≡ record self.old.listing { events = self.new.listing.events } }
-        ensures taken { OnOk result (self.new.listing.events ≡ self.old.listing.events ++ key ∷ []) }
-        ensures counted { OnOk result (IsCounted self.new) }
-        ensures grows { OnOk result (length self.old.due.reports ≤ length self.new.due.reports) }
-
-        // Where the edge of level 0 stays the rows stay.
-        ensures still { edge self.old.listing.settings 0 (length self.old.listing.events + 1) ≡ edge self.old.listing.settings 0 (length self.old.listing.events) →
-            OnOk result (self.new.rows ≡ self.old.rows) }
-
-        // Where the files are told, and the frames and reports are those of the keys so far.
-        ensures held { IfTold (B.files bay.old) (λ seen. IsHeld self.old seen →
-            OnOk result (IfTold (B.files bay.new) (λ after. IsHeld self.new after))) }
-        ensures sound { IfTold (B.files bay.old) (λ seen. IsHeld self.old seen → (file at : ℕ) → result ≢ Err (TakeFault.Unsound file at)) }
-        ensures shows { IfTold (B.files bay.new) (λ seen. (file at : ℕ) → IsErrOf result (TakeFault.Unsound file at) →
-            Shows self.new.listing.settings self.new.rows self.new.due.reports (seen 2) file at) }
-        // Where the frames hold the bins of some events, whatever these are, they do so again, and none is found malformed.
-        ensures framed { IfTold (B.files bay.old) (λ seen. HoldsSome self.old.listing.settings (length self.old.listing.events) self.old.rows (seen 2) →
-            OnOk result (IfTold (B.files bay.new) (λ after. HoldsSome self.new.listing.settings (length self.new.listing.events) self.new.rows (after 2)))) }
-        ensures whole { IfTold (B.files bay.old) (λ seen. HoldsSome self.old.listing.settings (length self.old.listing.events) self.old.rows (seen 2) →
-            (at : ℕ) → result ≢ Err (TakeFault.Unsound 2 at)) }
-        ensures images { IfTold (B.files bay.old) (λ seen. IsHeld self.old seen → InEach (B.leaves bay.old) 2 (HoldsBins self.old.listing.settings self.old.listing.events self.old.rows) →
-            OnOk result (IfTold (B.files bay.new) (λ _. InEach (B.leaves bay.new) 2 (HoldsBins self.new.listing.settings self.new.listing.events self.new.rows)))) }
-        ensures rest { KeepsRest (InNamed self.old.listing.settings self.old.rows) (B.files bay.old) (B.files bay.new) (B.leaves bay.old) (B.moment bay.old) (B.moment bay.new) (B.left_since bay.old) (B.left_since bay.new) }
-        ensures failed { IsErrOf result TakeFault.Failed → HasRisen (B.faults bay.old) (B.faults bay.new) }
-        ensures never_falls { B.faults bay.old ≤ B.faults bay.new }
-        ensures mark { B.mark bay.new ≡ B.mark bay.old }
+        ensures { CountsKey B.Bay key bay.old bay.new self.old self.new result }
     {
         let m = self.len + 1;
         let tail = tail_of(&self.settings, key);
@@ -268,20 +238,7 @@ impl<T: CountTable> Tally<T> {
     pub fn finish<B: Bay>(&mut self, bay: &mut B) -> Result<(), TakeFault>
         requires still { self.old.listing.closed ≡ false }
         requires counted { IsCounted self.old }
-        ensures listing { self.new.listing ≡ record self.old.listing { closed = self.new.listing.closed } }
-        ensures rows { self.new.rows ≡ self.old.rows }
-        ensures closed { OnOk result (self.new.listing.closed ≡ true) }
-        ensures refused { OnErr result (self.new.listing ≡ self.old.listing) }
-        ensures grows { OnOk result (length self.old.due.reports ≤ length self.new.due.reports) }
-        ensures counted { OnOk result (IsCounted self.new) }
-        ensures held { IfTold (B.files bay.old) (λ seen. IsHeld self.old seen → OnOk result (IsHeld self.new seen)) }
-        ensures sound { IfTold (B.files bay.old) (λ seen. IsHeld self.old seen → (file at : ℕ) → result ≢ Err (TakeFault.Unsound file at)) }
-        ensures shows { IfTold (B.files bay.new) (λ seen. (file at : ℕ) → IsErrOf result (TakeFault.Unsound file at) →
-            Shows self.new.listing.settings self.new.rows self.new.due.reports (seen 2) file at) }
-        ensures only_read { OnlyRead (B.files bay.old) (B.files bay.new) (B.leaves bay.old) (B.leaves bay.new) (B.moment bay.old) (B.moment bay.new) (B.left_since bay.old) (B.left_since bay.new) }
-        ensures failed { IsErrOf result TakeFault.Failed → HasRisen (B.faults bay.old) (B.faults bay.new) }
-        ensures never_falls { B.faults bay.old ≤ B.faults bay.new }
-        ensures mark { B.mark bay.new ≡ B.mark bay.old }
+        ensures { CountsEnd B.Bay bay.old bay.new self.old self.new result }
     {
         let Some(mut due) = self.due.take() else {
             unreachable!()

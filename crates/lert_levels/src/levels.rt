@@ -2,7 +2,7 @@
 
 ghost use Rattle.std.specs.Prelude.{◌≡◌, ◌⊎◌, ℕ, ◌+◌, ◌-◌, ◌<◌, ◌≤◌, List, [], Some, None, length, map, take, replicate, All, IfOk, IfErr, OnOk, OnErr, MatchResult, IsErrOf, IsErrAnd, slice_index_or, slice_range, vec_capacity};
 ghost use Rattle.lert_bay.specs.Files.{Files, IfTold};
-ghost use Rattle.lert_frames.specs.Kept.{OnlyRead};
+ghost use Rattle.lert_bay.specs.Kept.{OnlyRead};
 ghost use Rattle.lert_frames.specs.Place.{tail_limit};
 ghost use Rattle.lert_io.specs.Fault.{HasRisen, HasCause};
 ghost use Rattle.lert_spec.specs.declared.piece.Piece.{Piece};

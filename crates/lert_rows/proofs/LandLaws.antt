@@ -11,7 +11,7 @@ use Rattle.lert_bay.proofs.Tearing.{torn_held}
 use Rattle.lert_frames.proofs.StoreLaws.{length_frame}
 use Rattle.lert_frames.proofs.WriteLaws.{either_way}
 use Rattle.lert_frames.specs.Frame.{HoldsFrame, frame_text, text_len}
-use Rattle.lert_frames.specs.Kept.{OnlyRead}
+use Rattle.lert_bay.specs.Kept.{OnlyRead}
 use Rattle.lert_frames.specs.Place.{frame_place, frame_len, tail_limit}
 use Rattle.lert_frames.proofs.PlaceLaws.{places_apart}
 use Rattle.lert_spec.specs.declared.numbers.Numbers.{Numbers}

@@ -8,7 +8,7 @@ use Rattle.lert_frames.specs.declared.bin.LoadedBin.{LoadedBin}
 use Rattle.lert_frames.specs.declared.fault.LoadFault.{LoadFault}
 use Rattle.lert_frames.specs.declared.fault.LoadFault.TheVariants.{Failed as LoadFailed, Malformed as LoadMalformed, OutOfMemory as LoadOutOfMemory}
 use Rattle.lert_frames.specs.Frame.{IsBin}
-use Rattle.lert_frames.specs.Kept.{OnlyRead}
+use Rattle.lert_bay.specs.Kept.{OnlyRead}
 use Rattle.lert_spec.specs.declared.piece.Piece.{Piece}
 use Rattle.lert_rows.specs.declared.bin_at.BinAt.{BinAt}
 use Rattle.lert_rows.specs.declared.fault.FlushFault.{FlushFault}

@@ -3,7 +3,7 @@
 ghost use Rattle.std.specs.Prelude.{◌≡◌, ◌⊎◌, ℕ, ◌+◌, ◌<◌, ◌≤◌, ◌++◌, List, [], length, map, All, IfOk, OnOk, MatchResult, IsErrOf, slice_index_or};
 ghost use Rattle.lert_bay.specs.Files.{IfTold};
 ghost use Rattle.lert_frames.specs.Frame.{IsBin};
-ghost use Rattle.lert_frames.specs.Kept.{OnlyRead};
+ghost use Rattle.lert_bay.specs.Kept.{OnlyRead};
 ghost use Rattle.lert_frames.specs.Place.{tail_limit};
 ghost use Rattle.lert_io.specs.Fault.{HasRisen};
 ghost use Rattle.lert_spec.specs.Edges.{span};

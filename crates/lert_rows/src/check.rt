@@ -2,7 +2,7 @@
 
 ghost use Rattle.std.specs.Prelude.{◌≡◌, ℕ, ◌+◌, ◌<◌, ◌≤◌, ◌^◌, List, [], Some, None, length, map, OnOk, IsErrOf, slice_index_or};
 ghost use Rattle.lert_bay.specs.Files.{IfTold};
-ghost use Rattle.lert_frames.specs.Kept.{OnlyRead};
+ghost use Rattle.lert_bay.specs.Kept.{OnlyRead};
 ghost use Rattle.lert_io.specs.Fault.{HasRisen};
 ghost use Rattle.lert_spec.specs.Edges.{span};
 ghost use Rattle.lert_rows.specs.Checked.{pieces_in, RowStands, EachStands, bin_left, row_left, rows_left};

@@ -22,7 +22,7 @@ use crate::cone::{Cone, broken_by};
 use crate::headers::greatest_payload;
 use crate::keys::{keys_of, replay_keys};
 use crate::log_point::LogPoint;
-use crate::records::read_record;
+use crate::packets::read_packet;
 use crate::refusal::ReplayFault;
 use crate::report_log::{ReportLog, greatest_record};
 use crate::room::ConeRoom;
@@ -136,7 +136,7 @@ impl<B: Bay, T: CountTable> Cone<B, T> {
     {
         let most = greatest_payload(self.tally.settings());
         self.journal = GateLog::at_gate(JOURNAL, gate, most);
-        match read_record(
+        match read_packet(
             &mut self.journal,
             &mut self.bay,
             &self.tally,

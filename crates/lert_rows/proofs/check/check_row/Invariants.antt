@@ -1,7 +1,7 @@
 use Rattle.std.proofs.Common.{◌≡◌, ◌≤◌, Some, None, map, take}
 use Rattle.lert_bay.specs.Files.{Files}
 use Rattle.lert_frames.specs.Frame.{first_of}
-use Rattle.lert_frames.specs.Kept.{OnlyRead}
+use Rattle.lert_bay.specs.Kept.{OnlyRead}
 use Rattle.lert_rows.specs.Checked.{RowStands, bin_left}
 use Rattle.lert_rows.proofs.check.check_row.Given as goal
 

@@ -1,6 +1,6 @@
 use Rattle.std.proofs.Common.{ℕ, ◌≡◌, ◌+◌, ◌<◌, ◌≤◌, Some, None, [], map, take, get_or}
 use Rattle.lert_bay.specs.Files.{Files}
-use Rattle.lert_frames.specs.Kept.{OnlyRead}
+use Rattle.lert_bay.specs.Kept.{OnlyRead}
 use Rattle.lert_rows.specs.Checked.{RowStands, rows_left}
 use Rattle.lert_rows.proofs.check.check_rows.Given as goal
 

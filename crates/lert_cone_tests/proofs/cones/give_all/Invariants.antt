@@ -1,5 +1,5 @@
 use Rattle.std.proofs.Common.{◌≡◌}
-use Rattle.lert_cone.proofs.cone.tests.give_all.Given as goal
+use Rattle.lert_cone_tests.proofs.cones.give_all.Given as goal
 
 -- the cone is the same one
 abbrev pub invariant-loop-key : goal.invariant-loop-key

@@ -1,6 +1,6 @@
 use Rattle.std.proofs.Common.{◌≡◌, length, take, All}
 use Rattle.lert_spec.specs.Mix.{cone_of}
-use Rattle.lert_cone.proofs.cone.tests.entry.Given as goal
+use Rattle.lert_cone_tests.proofs.cones.entry.Given as goal
 
 -- the list has the keys so far, all of the only cone, and room for all
 abbrev pub invariant-loop-key : goal.invariant-loop-key

@@ -23,7 +23,7 @@ use lert_journal::read_entry;
 /// Reads the packet at the journal's gate into the entry, and moves the journal on behind it, where the packet may stand behind
 /// the keys so far. False comes exactly at a closed gate behind as many keys as the log's last record has, and then the journal
 /// and the entry are as they were. After a refusal nothing is said of these two. It changes no file and takes no memory.
-pub fn read_record<B: Bay, T: CountTable>(
+pub fn read_packet<B: Bay, T: CountTable>(
     journal: &mut GateLog,
     bay: &mut B,
     tally: &Tally<T>,

@@ -9,7 +9,7 @@ use Rattle.lert_spec.specs.declared.numbers.Numbers.{Numbers}
 use Rattle.lert_spec.specs.Edges.{capacity}
 use Rattle.lert_cone.specs.History.{most_payload}
 use Rattle.lert_cone.specs.Replay.{Past_the_end, Too_many}
-use Rattle.lert_cone.proofs.records.read_record.Goals as goal
+use Rattle.lert_cone.proofs.packets.read_packet.Goals as goal
 
 -- what was read is a packet that stands in the journal
 held_at : (s : Numbers) (cone most file gate : ℕ) (seen : Files) (packet : Packet) → file ≡ 0 → most ≡ most_payload s → IsOpen most (seen file) gate (payload_of packet) → IsJournaled s cone packet → All (λ key. key < 2 ^ 64) packet.keys →

@@ -1,0 +1,59 @@
+-- Calls of a bay in turn, over the states that it has between them.
+use Rattle.std.proofs.Common.{◌≡◌, ◌≢◌, ℕ, ◌≤◌, Some}
+use Rattle.lert_cone.specs.Bays.{Bays}
+use Rattle.lert_bay.specs.Files.{Files, IfTold, Turns}
+use Rattle.lert_bay.specs.Images.{Lasts}
+use Rattle.lert_bay.specs.Kept.{OnlyRead}
+use Rattle.lert_gatelog.specs.Kept.{KeepsOthers, IsWhollySettled, OthersStay}
+use Rattle.lert_rows.specs.Landing.{KeepsRest}
+use Rattle.lert_cone.specs.Wrote.{LeavesAlone, IsShutIfTold}
+use Rattle.lert_cone.proofs.WroteLaws.{leaves_none, leaves_on, leaves_rest, leaves_others, leaves_read, settled_through, shut_through}
+
+-- the laws that each bay keeps
+pub record IsLawful {B : Type 0} (bays : Bays B) : Type 0 where
+  pub as_read : (bay : B) (seen : Files) → bays.files bay ≡ Some seen → bays.leaves bay seen
+  pub since_now : (bay : B) (image : Files) → bays.leaves bay image → bays.left_since bay (bays.moment bay) image
+  pub only_now : (bay : B) (image : Files) → bays.left_since bay (bays.moment bay) image → bays.leaves bay image
+  pub since_earlier : (bay : B) (t u : ℕ) (image : Files) → t ≤ u → bays.left_since bay u image → bays.left_since bay t image
+
+module _ {B : Type 0} (bays : Bays B) (lawful : IsLawful bays) where
+  -- what a crash may leave after calls it might have left since they began
+  pub now_since : (before after : B) → bays.moment before ≤ bays.moment after → (image : Files) → bays.leaves after image → bays.left_since after (bays.moment before) image
+  now_since before after later image may = lawful.since_earlier after (bays.moment before) (bays.moment after) image later (lawful.since_now after image may)
+
+  pub alone_none : (file : ℕ) (bay : B) → LeavesAlone bays file bay bay
+  alone_none file bay = leaves_none file (bays.files bay) (bays.leaves bay) (bays.moment bay) (bays.left_since bay) (lawful.only_now bay) (lawful.since_now bay)
+
+  pub alone_on : (file : ℕ) (before between after : B) → LeavesAlone bays file before between → LeavesAlone bays file between after → LeavesAlone bays file before after
+  alone_on file before between after one two =
+      leaves_on file (bays.files before) (bays.files between) (bays.files after) (bays.leaves before) (bays.leaves between) (bays.leaves after) (bays.moment before) (bays.moment between) (bays.moment after)
+      (bays.left_since before) (bays.left_since between) (bays.left_since after) one two (lawful.since_earlier after)
+
+  pub alone_rest : (kept : ℕ → ℕ → Type 0) (file : ℕ) → file ≢ 2 → (before after : B) →
+      KeepsRest kept (bays.files before) (bays.files after) (bays.leaves before) (bays.moment before) (bays.moment after) (bays.left_since before) (bays.left_since after) → LeavesAlone bays file before after
+  alone_rest kept file other before after rest =
+      leaves_rest kept file other (bays.files before) (bays.files after) (bays.leaves before) (bays.leaves after) (bays.moment before) (bays.moment after) (bays.left_since before) (bays.left_since after)
+      rest (now_since before after rest.time.later)
+
+  pub alone_others : (log file : ℕ) → file ≢ log → (before after : B) → Turns (OthersStay log) (bays.files before) (bays.files after) →
+      IfTold (bays.files before) (λ seen. KeepsOthers (bays.leaves before) (bays.left_since after (bays.moment before)) seen log) →
+      Lasts (bays.moment before) (bays.moment after) (bays.left_since before) (bays.left_since after) → LeavesAlone bays file before after
+  alone_others log file other before after turns keeps time =
+      leaves_others log file other (bays.files before) (bays.files after) (bays.leaves before) (bays.leaves after) (bays.moment before) (bays.moment after) (bays.left_since before) (bays.left_since after)
+      turns keeps time (now_since before after time.later)
+
+  pub alone_read : (file : ℕ) (before after : B) →
+      OnlyRead (bays.files before) (bays.files after) (bays.leaves before) (bays.leaves after) (bays.moment before) (bays.moment after) (bays.left_since before) (bays.left_since after) → LeavesAlone bays file before after
+  alone_read file before after read =
+      leaves_read file (bays.files before) (bays.files after) (bays.leaves before) (bays.leaves after) (bays.moment before) (bays.moment after) (bays.left_since before) (bays.left_since after)
+      read (now_since before after read.time.later)
+
+  pub settled_alone : (file : ℕ) (before after : B) → LeavesAlone bays file before after → (old : Files) → bays.files before ≡ Some old → IsWhollySettled (bays.leaves before) old file →
+      (new : Files) → bays.files after ≡ Some new → IsWhollySettled (bays.leaves after) new file
+  settled_alone file before after =
+      settled_through file (bays.files before) (bays.files after) (bays.leaves before) (bays.leaves after) (bays.moment before) (bays.moment after) (bays.left_since before) (bays.left_since after)
+
+  pub shut_alone : (file gate : ℕ) (before after : B) → LeavesAlone bays file before after → IsShutIfTold (bays.files before) (bays.leaves before) file gate → IsShutIfTold (bays.files after) (bays.leaves after) file gate
+  shut_alone file gate before after left =
+      shut_through file gate (bays.files before) (bays.files after) (bays.leaves before) (bays.leaves after) (bays.moment before) (bays.moment after) (bays.left_since before) (bays.left_since after)
+      left (lawful.as_read before)

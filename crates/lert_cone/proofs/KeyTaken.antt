@@ -1,0 +1,250 @@
+-- A key through the calls that it makes: it isn't counted, no flush comes with it, or a flush and its record.
+use Rattle.std.proofs.Common.{◌≡◌, ◌≢◌, ℕ, ◌+◌, ◌-◌, ◌≤◌, List, [], ◌∷◌, ◌++◌, length, map, Result, Ok, Err, Some, refl, sym, ap, ◌∙◌, subst, inl, inr, arith, length-append}
+use Rattle.lert_cone.specs.Bays.{Bays}
+use Rattle.lert_bay.specs.Files.{Files, IfTold}
+use Rattle.lert_gatelog.specs.Gated.{IsGated}
+use Rattle.lert_gatelog.specs.Kept.{InEach, IsWithOrWithout, OthersStay}
+use Rattle.lert_levels.specs.Flushed.{InNamed}
+use Rattle.lert_rows.specs.Rows.{directory_text}
+use Rattle.lert_reports.specs.declared.log.LogKind.{LogKind}
+use Rattle.lert_reports.specs.Log.{most_record}
+use Rattle.lert_reports.specs.LogText.{log_payload_of}
+use Rattle.lert_spec.specs.declared.numbers.Numbers.{Numbers}
+use Rattle.lert_spec.specs.Edges.{edge}
+use Rattle.lert_base.specs.Packet.{Packet}
+use Rattle.lert_cone.specs.declared.tally.TakeFault.{TakeFault}
+use Rattle.lert_cone.specs.declared.tally.TakeFault.TheVariants.{Failed}
+use Rattle.lert_cone.specs.Appends.{AppendsRecord}
+use Rattle.lert_cone.specs.Counts.{CountsKey}
+use Rattle.lert_cone.specs.Framed.{HoldsSome}
+use Rattle.lert_cone.specs.InStep.{IsInStep, IsLogging, IsPartway}
+use Rattle.lert_cone.specs.Listing.{Listing}
+use Rattle.lert_cone.specs.Record.{LogPlace, payload_at}
+use Rattle.lert_cone.specs.Sound.{IsSound}
+use Rattle.lert_cone.specs.Takes.{Workplace, CanLog, CanTake, AreInStep, TakesKeys}
+use Rattle.lert_cone.specs.Tally.{Tallied, IsCounted, IsHeld}
+use Rattle.lert_cone.proofs.Calls.{IsLawful, now_since, alone_on, alone_rest, alone_others, settled_alone, shut_alone}
+use Rattle.lert_cone.proofs.KeyStep.{IsTaken, held_of, sound_rest, taken_of, up_between, sound_append, up_flushed}
+use Rattle.lert_cone.proofs.RecordLaws.{record_fits, logging_more}
+use Rattle.lert_cone.proofs.SoundLaws.{turns_back}
+use Rattle.lert_cone.proofs.TakeLaws.{handed_on}
+use Rattle.lert_io.proofs.Rising.{risen_since}
+use Rattle.lert_cone.specs.Wrote.{LeavesAlone}
+use Rattle.std.specs.Result.{IsErrAnd}
+
+module _ {B : Type 0} (bays : Bays B) (lawful : IsLawful bays) (old : Workplace B) (key : ℕ) (can : CanTake bays (key ∷ []) old) (bay : B) (counts : Tallied) where
+  -- whatever comes of it, the frames of before stand at each moment
+  module _ (result : Result (Unit {0}) TakeFault) (did : CountsKey bays key old.bay bay old.counts counts result) where
+    sound_key : IfTold (bays.files old.bay) (λ seen. (history : List Packet) → IsPartway old.counts.listing.settings history old.counts.listing.events (key ∷ []) → AreInStep bays old seen history →
+        (image : Files) → bays.left_since bay (bays.moment old.bay) image → IsSound old.counts.listing.settings old.counts.listing.cone history image)
+    sound_key seen told history partway up image may =
+        sound_rest (bays.files old.bay) (bays.files bay) (bays.leaves old.bay) (bays.leaves bay) (bays.moment old.bay) (bays.moment bay) (bays.left_since old.bay) (bays.left_since bay) history old.counts old.log
+        did.rest (now_since bays lawful old.bay bay did.rest.time.later) can.counted can.still seen told (lawful.as_read old.bay seen told) up (key ∷ []) partway image may
+
+    held : (seen : Files) → bays.files old.bay ≡ Some seen → (history : List Packet) → AreInStep bays old seen history → IsHeld old.counts seen
+    held seen told history up = held_of (bays.leaves old.bay) seen history old.counts old.log (lawful.as_read old.bay seen told) up
+
+  refused_by : (fault : TakeFault) → CountsKey bays key old.bay bay old.counts counts (Err fault) →
+      TakesKeys bays (key ∷ []) old (record { bay = bay; counts = counts; log = old.log; room = old.room }) (Err fault)
+  refused_by fault did = record {
+    listing = did.listing;
+    taken = tt;
+    counted = tt;
+    can_log = tt;
+    in_step = λ seen told history up. tt;
+    each_moment = sound_key (Err fault) did;
+    sound = λ seen told history up. did.sound seen told (held (Err fault) did seen told history up);
+    framed = λ seen told some. tt;
+    whole = did.whole;
+    keeps = record {
+      shows = did.shows;
+      journal = alone_rest bays lawful (InNamed old.counts.listing.settings old.counts.rows) 0 (λ same. absurd (omega (arith, same))) old.bay bay did.rest;
+      most = refl;
+      failed = did.failed;
+      never_falls = did.never_falls;
+      mark = did.mark;
+    };
+  }
+
+  -- the key isn't counted
+  pub key_refused : (result : Result (Unit {0}) TakeFault) (fault : TakeFault) → result ≡ Err fault → CountsKey bays key old.bay bay old.counts counts result →
+      (given : Result (Unit {0}) TakeFault) → IsErrAnd given (λ g. g ≡ fault) → TakesKeys bays (key ∷ []) old (record { bay = bay; counts = counts; log = old.log; room = old.room }) given
+  key_refused result fault is did given given_is =
+      subst (λ (r : Result (Unit {0}) TakeFault). TakesKeys bays (key ∷ []) old (record { bay = bay; counts = counts; log = old.log; room = old.room }) r) (handed_on given fault given_is)
+      (refused_by fault (subst (λ (r : Result (Unit {0}) TakeFault). CountsKey bays key old.bay bay old.counts counts r) is did))
+
+  -- the key is counted
+  module _ (did : CountsKey bays key old.bay bay old.counts counts (Ok tt)) where
+    is : counts.listing ≡ record old.counts.listing { events = old.counts.listing.events ++ key ∷ [] }
+    is = did.listing ∙ ap (λ (keys : List ℕ). record { settings = old.counts.listing.settings; cone = old.counts.listing.cone; events = keys; closed = old.counts.listing.closed }) did.taken
+
+    settings_are : counts.listing.settings ≡ old.counts.listing.settings
+    settings_are = ap (λ (l : Listing). l.settings) is
+
+    long : length counts.listing.events ≡ length old.counts.listing.events + 1
+    long = ap (λ (l : Listing). length l.events) is ∙ length-append old.counts.listing.events (key ∷ [])
+
+    taken : (seen : Files) → bays.files old.bay ≡ Some seen → (history : List Packet) (up : AreInStep bays old seen history) → (after : Files) → bays.files bay ≡ Some after →
+        IsTaken (bays.leaves bay) after history old.counts counts old.log up.logged key
+    taken seen told history up after told_after =
+        let holds = held (Ok tt) did seen told history up in
+        taken_of (bays.files old.bay) (bays.files bay) (bays.leaves old.bay) (bays.leaves bay) (bays.moment old.bay) (bays.moment bay) (bays.left_since old.bay) (bays.left_since bay) history old.counts old.log
+        did.rest (now_since bays lawful old.bay bay did.rest.time.later) can.counted can.still seen told (lawful.as_read old.bay seen told) up counts key is after told_after (lawful.as_read bay after told_after)
+        (did.images seen told holds up.frames after told_after) (did.held seen told holds after told_after).reports
+
+    logging_kept : IsLogging counts old.log old.room
+    logging_kept = record {
+      most = can.can_log.logging.most ∙ ap most_record (sym settings_are);
+      named = omega (arith, can.can_log.logging.named, did.grows);
+      near = omega (arith, can.can_log.logging.near, long);
+      roomy = can.can_log.logging.roomy;
+    }
+
+    -- where it stands then the log's next record may be appended
+    pub can_log_then : CanLog bays (record { bay = bay; counts = counts; log = old.log; room = old.room })
+    can_log_then = record {
+      logging = logging_kept;
+      log_shut = shut_alone bays lawful 1 old.log.gate old.bay bay
+          (alone_rest bays lawful (InNamed old.counts.listing.settings old.counts.rows) 1 (λ same. absurd (omega (arith, same))) old.bay bay did.rest) can.can_log.log_shut;
+    }
+
+    -- between two flushes
+    pub key_between : edge counts.listing.settings 0 (length counts.listing.events) ≡ edge counts.listing.settings 0 (length counts.listing.events - 1) →
+        TakesKeys bays (key ∷ []) old (record { bay = bay; counts = counts; log = old.log; room = old.room }) (Ok tt)
+    key_between stays_now =
+        let stays : edge old.counts.listing.settings 0 (length counts.listing.events) ≡ edge old.counts.listing.settings 0 (length counts.listing.events - 1) =
+        subst (λ (s : Numbers). edge s 0 (length counts.listing.events) ≡ edge s 0 (length counts.listing.events - 1)) settings_are stays_now in
+        let before : length counts.listing.events - 1 ≡ length old.counts.listing.events = omega (arith, long) in
+        let rows_are = did.still (ap (edge old.counts.listing.settings 0) (sym long) ∙ stays ∙ ap (edge old.counts.listing.settings 0) before) in
+        record {
+          listing = did.listing;
+          taken = did.taken;
+          counted = did.counted;
+          can_log = can_log_then;
+          in_step = λ seen told history up after told_after.
+              up_between (bays.leaves bay) after history old.counts counts old.log up.logged key can.still can.counted did.counted (taken seen told history up after told_after) stays rows_are;
+          each_moment = sound_key (Ok tt) did;
+          sound = λ seen told history up. did.sound seen told (held (Ok tt) did seen told history up);
+          framed = did.framed;
+          whole = did.whole;
+          keeps = record {
+            shows = did.shows;
+            journal = alone_rest bays lawful (InNamed old.counts.listing.settings old.counts.rows) 0 (λ same. absurd (omega (arith, same))) old.bay bay did.rest;
+            most = refl;
+            failed = did.failed;
+            never_falls = did.never_falls;
+            mark = did.mark;
+          };
+        }
+
+    -- a flush
+    module _ (moves_now : edge counts.listing.settings 0 (length counts.listing.events) ≢ edge counts.listing.settings 0 (length counts.listing.events - 1)) (few : length counts.due.reports ≤ counts.listing.settings.room)
+        {E : Type 0} (wrote : Result (Unit {0}) E) (bay_after : B) (log_after : LogPlace)
+        (appends : AppendsRecord bays LogKind.Flush (length counts.listing.events) (directory_text counts.rows) counts.due.reports bay bay_after old.log log_after wrote) where
+      moves : edge old.counts.listing.settings 0 (length counts.listing.events) ≢ edge old.counts.listing.settings 0 (length counts.listing.events - 1)
+      moves = subst (λ (s : Numbers). edge s 0 (length counts.listing.events) ≢ edge s 0 (length counts.listing.events - 1)) settings_are moves_now
+
+      few_here : length counts.due.reports ≤ old.counts.listing.settings.room
+      few_here = omega (arith, few, ap (λ (s : Numbers). s.room) settings_are)
+
+      abbrev payload : List ℕ
+      payload = payload_at old.log LogKind.Flush (length counts.listing.events) (directory_text counts.rows) counts.due.reports
+
+      journal_then : LeavesAlone bays 0 old.bay bay_after
+      journal_then =
+          alone_on bays lawful 0 old.bay bay bay_after (alone_rest bays lawful (InNamed old.counts.listing.settings old.counts.rows) 0 (λ same. absurd (omega (arith, same))) old.bay bay did.rest)
+          (alone_others bays lawful 1 0 (λ same. absurd (omega (arith, same))) bay bay_after appends.seen appends.others appends.time)
+
+      -- in each image of each moment
+      sound_flush : IfTold (bays.files old.bay) (λ seen. (history : List Packet) → IsPartway old.counts.listing.settings history old.counts.listing.events (key ∷ []) → AreInStep bays old seen history →
+          (image : Files) → bays.left_since bay_after (bays.moment old.bay) image → IsSound old.counts.listing.settings old.counts.listing.cone history image)
+      sound_flush seen told history partway up image may =
+          let mid = did.rest.seen.told seen told in
+          let taken_then = taken seen told history up mid.0 mid.1 in
+          let all : InEach (bays.leaves bay) 1 (λ bytes. IsGated old.log.most bytes 8 (map log_payload_of up.logged) old.log.gate) =
+          λ earlier left. subst (λ (m : ℕ). IsGated m (earlier 1) 8 (map log_payload_of up.logged) old.log.gate) (sym can.can_log.logging.most) (taken_then.log_there earlier left).records_stand in
+          let each : InEach (bays.left_since bay_after (bays.moment bay)) 1 (IsWithOrWithout (most_record old.counts.listing.settings) 8 (map log_payload_of up.logged) old.log.gate payload) =
+          λ earlier left. subst (λ (m : ℕ). IsWithOrWithout m 8 (map log_payload_of up.logged) old.log.gate payload (earlier 1)) can.can_log.logging.most
+          (appends.each_moment mid.0 mid.1 8 (map log_payload_of up.logged) all earlier left) in
+          elim (appends.time.known (bays.moment old.bay) image did.rest.time.later may) [
+            | inl past ↦ sound_key (Ok tt) did seen told history partway up image past
+            | inr here ↦ sound_append (bays.leaves bay) mid.0 history old.counts counts old.log up.logged key can.still can.counted did.counted taken_then moves few_here
+                (bays.left_since bay_after (bays.moment bay)) payload refl (appends.others mid.0 mid.1) (appends.before mid.0 mid.1) each partway image here
+          ]
+
+    -- its record isn't appended
+    pub record_failed : edge counts.listing.settings 0 (length counts.listing.events) ≢ edge counts.listing.settings 0 (length counts.listing.events - 1) → length counts.due.reports ≤ counts.listing.settings.room →
+        {E : Type 0} (failed : E) (bay_after : B) (log_after : LogPlace) (room : ℕ) →
+        AppendsRecord bays LogKind.Flush (length counts.listing.events) (directory_text counts.rows) counts.due.reports bay bay_after old.log log_after (Err failed) →
+        (given : Result (Unit {0}) TakeFault) → IsErrAnd given (λ fault. fault ≡ Failed) → TakesKeys bays (key ∷ []) old (record { bay = bay_after; counts = counts; log = log_after; room = room }) given
+    record_failed moves_now few failed bay_after log_after room appends given given_is = subst (λ (r : Result (Unit {0}) TakeFault). TakesKeys bays (key ∷ []) old (record { bay = bay_after; counts = counts; log = log_after; room = room }) r) (handed_on given Failed given_is) (record {
+      listing = did.listing;
+      taken = tt;
+      counted = tt;
+      can_log = tt;
+      in_step = λ seen told history up. tt;
+      each_moment = sound_flush moves_now few (Err failed) bay_after log_after appends;
+      sound = λ seen told history up file at same. (let never : ⊥ = cc in never);
+      framed = λ seen told some. tt;
+      whole = λ seen told some at same. (let never : ⊥ = cc in never);
+      keeps = record {
+        shows = λ seen told file at same. absurd (let never : ⊥ = cc in never);
+        journal = journal_then moves_now few (Err failed) bay_after log_after appends;
+        most = ap (λ (l : LogPlace). l.most) appends.stayed;
+        failed = λ _. risen_since (bays.faults old.bay) (bays.faults bay) (bays.faults bay_after) did.never_falls appends.cause.never_falls (appends.cause.failed refl);
+        never_falls = omega (arith, did.never_falls, appends.cause.never_falls);
+        mark = appends.mark ∙ did.mark;
+      };
+    })
+
+    -- its record is appended
+    pub key_flushed : edge counts.listing.settings 0 (length counts.listing.events) ≢ edge counts.listing.settings 0 (length counts.listing.events - 1) → length counts.due.reports ≤ counts.listing.settings.room →
+        {E : Type 0} (bay_after : B) (log_after : LogPlace) (room : ℕ) → room ≡ old.room →
+        AppendsRecord {E = E} bays LogKind.Flush (length counts.listing.events) (directory_text counts.rows) counts.due.reports bay bay_after old.log log_after (Ok tt) →
+        TakesKeys bays (key ∷ []) old (record { bay = bay_after; counts = counts; log = log_after; room = room }) (Ok tt)
+    key_flushed moves_now few bay_after log_after room room_is appends = record {
+      listing = did.listing;
+      taken = did.taken;
+      counted = did.counted;
+      can_log = record {
+        logging = logging_more old.counts counts old.log log_after old.room room key (directory_text counts.rows) counts.due.reports can.counted.valid can.can_log.logging is
+            (ap (λ (l : LogPlace). l.most) appends.moved) (ap (λ (l : LogPlace). l.named) appends.moved) (ap (λ (l : LogPlace). l.gate) appends.moved ∙ appends.long)
+            (record_fits counts.listing.settings counts.rows old.log (directory_text counts.rows) counts.due.reports counts.due.reports did.counted.are
+            (can.can_log.logging.most ∙ ap most_record (sym settings_are)) refl refl few)
+            room_is;
+        log_shut = λ after told_after.
+            let back = turns_back (OthersStay 1) (bays.files bay) (bays.files bay_after) appends.seen after told_after in
+            record { settled = appends.settled after told_after; closed = appends.closed back.0 back.1 };
+      };
+      in_step = λ seen told history up after told_after.
+          let mid = did.rest.seen.told seen told in
+          let taken_then = taken seen told history up mid.0 mid.1 in
+          let all : InEach (bays.leaves bay) 1 (λ bytes. IsGated old.log.most bytes 8 (map log_payload_of up.logged) old.log.gate) =
+          λ earlier left. subst (λ (m : ℕ). IsGated m (earlier 1) 8 (map log_payload_of up.logged) old.log.gate) (sym can.can_log.logging.most) (taken_then.log_there earlier left).records_stand in
+          let pay = payload_at old.log LogKind.Flush (length counts.listing.events) (directory_text counts.rows) counts.due.reports in
+          let stands : InEach (bays.leaves bay_after) 1 (λ bytes. IsGated (most_record old.counts.listing.settings) bytes 8 (map log_payload_of up.logged ++ pay ∷ []) log_after.gate) =
+          λ later left. subst (λ (m : ℕ). IsGated m (later 1) 8 (map log_payload_of up.logged ++ pay ∷ []) log_after.gate) can.can_log.logging.most
+          (appends.appended mid.0 mid.1 8 (map log_payload_of up.logged) all later left) in
+          up_flushed (bays.leaves bay) mid.0 history old.counts counts old.log up.logged key can.still can.counted did.counted taken_then
+          (moves moves_now few (Ok tt) bay_after log_after appends) (few_here moves_now few (Ok tt) bay_after log_after appends)
+          (bays.left_since bay_after (bays.moment bay)) pay refl (appends.others mid.0 mid.1) (appends.before mid.0 mid.1) (bays.leaves bay_after) after log_after
+          (now_since bays lawful bay bay_after appends.time.later) (ap (λ (l : LogPlace). l.named) appends.moved) stands
+          (settled_alone bays lawful 0 bay bay_after (alone_others bays lawful 1 0 (λ same. absurd (omega (arith, same))) bay bay_after appends.seen appends.others appends.time)
+          mid.0 mid.1 taken_then.journal_settled after told_after)
+          (appends.settled after told_after);
+      each_moment = sound_flush moves_now few (Ok tt) bay_after log_after appends;
+      sound = λ seen told history up. did.sound seen told (held (Ok tt) did seen told history up);
+      framed = λ seen told some after told_after.
+          let was = turns_back (OthersStay 1) (bays.files bay) (bays.files bay_after) appends.seen after told_after in
+          subst (λ (bytes : List ℕ). HoldsSome counts.listing.settings (length counts.listing.events) counts.rows bytes) (sym (was.2 2 (λ same. absurd (omega (arith, same)))))
+          (did.framed seen told some was.0 was.1);
+      whole = did.whole;
+      keeps = record {
+        shows = λ seen told file at same. absurd (let never : ⊥ = cc in never);
+        journal = journal_then moves_now few (Ok tt) bay_after log_after appends;
+        most = ap (λ (l : LogPlace). l.most) appends.moved;
+        failed = λ same. absurd (let never : ⊥ = cc in never);
+        never_falls = omega (arith, did.never_falls, appends.cause.never_falls);
+        mark = appends.mark ∙ did.mark;
+      };
+    }

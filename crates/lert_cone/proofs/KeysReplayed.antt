@@ -1,0 +1,140 @@
+-- Keys of a journal that are taken again: all are counted again, or others stand behind those.
+use Rattle.std.proofs.Common.{◌≡◌, ℕ, ◌+◌, ◌-◌, ◌<◌, ◌≤◌, Bool, true, false, List, ◌++◌, All, length, take, drop, min, max, Result, Ok, OnOk, Some, refl, sym, ap, ◌∙◌, subst, arith, length-append, length-take, length-drop, append_assoc}
+use Rattle.std.proofs.lemmas.List.{take_all, take-append-drop}
+use Rattle.std.proofs.lemmas.List.Elements.{All-drop}
+use Rattle.lert_bay.specs.Files.{Files, IfTold}
+use Rattle.lert_rows.specs.declared.bin_at.BinAt.{BinAt}
+use Rattle.lert_reports.specs.Log.{most_record}
+use Rattle.lert_spec.specs.declared.numbers.Numbers.{Numbers}
+use Rattle.lert_spec.specs.Edges.{capacity}
+use Rattle.lert_spec.specs.Mix.{cone_of}
+use Rattle.lert_cone.specs.declared.tally.TakeFault.{TakeFault}
+use Rattle.lert_cone.specs.Bays.{Bays}
+use Rattle.lert_cone.specs.Due.{Dues}
+use Rattle.lert_cone.specs.Framed.{HoldsSome}
+use Rattle.lert_cone.specs.Listing.{Listing}
+use Rattle.lert_cone.specs.Replay.{IsOnWay}
+use Rattle.lert_cone.specs.Takes.{Workplace, CanLog, CanTake, CanReplay, TakesKeys, ReplaysKeys}
+use Rattle.lert_cone.specs.Tally.{Tallied, IsRecounted}
+use Rattle.lert_cone.proofs.Calls.{IsLawful, alone_none}
+use Rattle.lert_cone.proofs.KeysTaken.{map_ok}
+use Rattle.lert_cone.proofs.RecountLaws.{recounted_behind}
+use Rattle.lert_cone.proofs.ReplayStep.{way_counted, way_in_step, way_partway, way_taken, enough_counted, told_once}
+use Rattle.lert_cone.proofs.SomeLaws.{some_counted}
+use Rattle.lert_cone.proofs.TakeLaws.{on_ok}
+
+never_true : (b : Bool) → (b ≡ true → ⊥) → b ≡ false
+never_true true never = absurd (never refl)
+never_true false never = refl
+
+-- `counts` is what the cone counted once the first keys are counted again, and nothing else changed
+module _ {B : Type 0} (bays : Bays B) (lawful : IsLawful bays) (old : Workplace B) (n0 count : ℕ) (keys : List ℕ) (can : CanReplay bays n0 keys old) (counts : Tallied)
+    (count_is : count ≡ min (n0 - length old.counts.listing.events) (length keys)) (listing_is : counts.listing ≡ record old.counts.listing { events = old.counts.listing.events ++ take count keys })
+    (rows_are : counts.rows ≡ old.counts.rows) (due_is : counts.due ≡ old.counts.due) (recounted : IsRecounted counts n0) where
+  settings_are : counts.listing.settings ≡ old.counts.listing.settings
+  settings_are = ap (λ (l : Listing). l.settings) listing_is
+
+  counted : length counts.listing.events ≡ length old.counts.listing.events + length (take count keys)
+  counted = ap (λ (l : Listing). length l.events) listing_is ∙ length-append old.counts.listing.events (take count keys)
+
+  early : count ≤ n0 - length old.counts.listing.events
+  early = omega (arith, count_is)
+
+  can_log_then : CanLog bays (record { bay = old.bay; counts = counts; log = old.log; room = old.room })
+  can_log_then = record {
+    logging = record {
+      most = can.can_log.logging.most ∙ ap most_record (sym settings_are);
+      named = omega (arith, can.can_log.logging.named, ap (λ (d : Dues). length d.reports) due_is);
+      near = omega (arith, can.can_log.logging.near, counted);
+      roomy = can.can_log.logging.roomy;
+    };
+    log_shut = can.can_log.log_shut;
+  }
+
+  -- all keys are counted again
+  pub all_again : length (drop count keys) ≡ 0 → ReplaysKeys bays n0 keys old (record { bay = old.bay; counts = counts; log = old.log; room = old.room }) (Ok tt)
+  all_again none =
+      let whole : take count keys ≡ keys = take_all count keys (omega (arith, none, length-drop count keys)) in
+      let events_are : counts.listing.events ≡ old.counts.listing.events ++ take count keys = ap (λ (l : Listing). l.events) listing_is in
+      record {
+        listing = listing_is ∙ ap (λ (ks : List ℕ). record { settings = old.counts.listing.settings; cone = old.counts.listing.cone; events = ks; closed = old.counts.listing.closed }) (sym events_are);
+        taken = events_are ∙ ap (λ ks. old.counts.listing.events ++ ks) whole;
+        recounted = recounted;
+        can_log = can_log_then;
+        on_way = λ seen told history rest is on_way after told_after.
+            subst (λ (files : Files). IsOnWay (bays.leaves old.bay) files history counts.listing counts.rows counts.due.reports old.log n0) (told_once (bays.files old.bay) seen after told told_after)
+            (way_counted (bays.leaves old.bay) seen history old.counts counts old.log n0 count keys rest on_way is early listing_is rows_are due_is);
+        sound = λ seen told history rest is on_way file at same. (let never : ⊥ = cc in never);
+        framed = λ seen told some after told_after.
+            let same : max n0 (length old.counts.listing.events) ≡ max n0 (length counts.listing.events) = omega (arith, count_is, counted, none, length-take count keys, length-drop count keys) in
+            subst (λ (s : Numbers). HoldsSome s (max n0 (length counts.listing.events)) counts.rows (after 2)) (sym settings_are)
+            (subst (λ (rows : List (List BinAt)). HoldsSome old.counts.listing.settings (max n0 (length counts.listing.events)) rows (after 2)) (sym rows_are)
+            (subst (λ n. HoldsSome old.counts.listing.settings n old.counts.rows (after 2)) same
+            (subst (λ (files : Files). HoldsSome old.counts.listing.settings (max n0 (length old.counts.listing.events)) old.counts.rows (files 2)) (told_once (bays.files old.bay) seen after told told_after) some)));
+        whole = λ seen told some at same. (let never : ⊥ = cc in never);
+        keeps = record {
+          shows = λ seen told file at same. absurd (let never : ⊥ = cc in never);
+          journal = alone_none bays lawful 0 old.bay;
+          most = refl;
+          failed = λ same. absurd (let never : ⊥ = cc in never);
+          never_falls = omega arith;
+          mark = refl;
+        };
+      }
+
+  -- others stand behind those
+  module _ (some : 0 < length (drop count keys)) where
+    enough : n0 ≤ length counts.listing.events
+    enough = enough_counted old.counts counts n0 count keys count_is some listing_is
+
+    pub can_take_ahead : CanTake bays (drop count keys) (record { bay = old.bay; counts = counts; log = old.log; room = old.room })
+    can_take_ahead = record {
+      still = never_true counts.listing.closed (λ closed. absurd (omega (arith, can.before_closing (sym (ap (λ (l : Listing). l.closed) listing_is) ∙ closed), enough, counted, some, length-take count keys, length-drop count keys)));
+      own = subst (λ (l : Listing). All (λ key. cone_of l.settings key ≡ l.cone) (drop count keys)) (sym listing_is)
+          (All-drop (λ key. cone_of old.counts.listing.settings key ≡ old.counts.listing.cone) count keys can.own);
+      fits = subst (λ (l : Listing). length l.events + length (drop count keys) ≤ capacity l.settings) (sym listing_is)
+          (omega (arith, can.fits, length-append old.counts.listing.events (take count keys), length-take count keys, length-drop count keys, some));
+      counted = recounted.behind enough;
+      can_log = can_log_then;
+    }
+
+    pub others_ahead : (new : Workplace B) (result : Result (Unit {0}) TakeFault) → TakesKeys bays (drop count keys) (record { bay = old.bay; counts = counts; log = old.log; room = old.room }) new result →
+        ReplaysKeys bays n0 keys old new result
+    others_ahead new result did =
+        let up_to : max n0 (length old.counts.listing.events) ≡ length counts.listing.events = omega (arith, count_is, counted, enough, length-take count keys) in
+        let then_most : (ks : List ℕ) → ks ≡ counts.listing.events ++ drop count keys → length ks ≡ max n0 (length ks) =
+        λ ks is. (let long : length ks ≡ length counts.listing.events + length (drop count keys) = ap (length {A = ℕ}) is ∙ length-append counts.listing.events (drop count keys) in omega (arith, long, enough)) in
+        record {
+          listing = did.listing ∙ ap (λ (l : Listing). record { settings = l.settings; cone = l.cone; events = new.counts.listing.events; closed = l.closed }) listing_is;
+          taken = map_ok result (λ (took : new.counts.listing.events ≡ counts.listing.events ++ drop count keys).
+              took ∙ ap (λ (l : Listing). l.events ++ drop count keys) listing_is ∙ append_assoc old.counts.listing.events (take count keys) (drop count keys)
+              ∙ ap (λ ks. old.counts.listing.events ++ ks) (take-append-drop count keys)) did.taken;
+          recounted = on_ok _ _ (IsRecounted new.counts n0) result did.counted did.taken
+              (λ now (took : new.counts.listing.events ≡ counts.listing.events ++ drop count keys). recounted_behind new.counts n0 now
+              (omega (arith, enough, ap (length {A = ℕ}) took, length-append counts.listing.events (drop count keys))));
+          can_log = did.can_log;
+          on_way = λ seen told history rest is on_way.
+              let step = way_in_step (bays.leaves old.bay) seen history old.counts counts old.log n0 count keys rest on_way is early listing_is rows_are due_is enough in
+              on_ok _ _ (IfTold (bays.files new.bay) (λ after. IsOnWay (bays.leaves new.bay) after history new.counts.listing new.counts.rows new.counts.due.reports new.log n0)) result
+              (did.in_step seen told history step) did.taken
+              (λ up (took : new.counts.listing.events ≡ counts.listing.events ++ drop count keys) after told_after.
+              way_taken (bays.leaves old.bay) seen history old.counts counts old.log n0 count keys rest on_way is early listing_is rows_are due_is enough (bays.leaves new.bay) after new.counts new.log
+              (did.listing ∙ ap (λ (ks : List ℕ). record { settings = counts.listing.settings; cone = counts.listing.cone; events = ks; closed = counts.listing.closed }) took) (up after told_after));
+          sound = λ seen told history rest is on_way.
+              did.sound seen told history (way_in_step (bays.leaves old.bay) seen history old.counts counts old.log n0 count keys rest on_way is early listing_is rows_are due_is enough);
+          framed = λ seen told holds.
+              let here = some_counted old.counts counts (max n0 (length old.counts.listing.events)) (seen 2) settings_are rows_are up_to holds in
+              on_ok _ _ (IfTold (bays.files new.bay) (λ after. HoldsSome new.counts.listing.settings (max n0 (length new.counts.listing.events)) new.counts.rows (after 2))) result
+              (did.framed seen told here) did.taken
+              (λ again (took : new.counts.listing.events ≡ counts.listing.events ++ drop count keys) after told_after.
+              subst (λ n. HoldsSome new.counts.listing.settings n new.counts.rows (after 2)) (then_most new.counts.listing.events took) (again after told_after));
+          whole = λ seen told holds. did.whole seen told (some_counted old.counts counts (max n0 (length old.counts.listing.events)) (seen 2) settings_are rows_are up_to holds);
+          keeps = record {
+            shows = did.keeps.shows;
+            journal = did.keeps.journal;
+            most = did.keeps.most;
+            failed = did.keeps.failed;
+            never_falls = did.keeps.never_falls;
+            mark = did.keeps.mark;
+          };
+        }

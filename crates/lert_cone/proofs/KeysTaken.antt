@@ -1,0 +1,165 @@
+-- Keys in turn: none, one more, and one that isn't taken.
+use Rattle.std.proofs.Common.{◌≡◌, ℕ, ◌+◌, ◌<◌, ◌≤◌, List, [], ◌∷◌, ◌++◌, All, length, take, drop, get_or, Result, Ok, Err, OnOk, Some, refl, sym, ap, ◌∙◌, subst, inl, inr, arith, length-append, append_assoc, append-nil, length-take}
+use Rattle.std.specs.Result.{IsErrAnd}
+use Rattle.std.proofs.lemmas.List.{take_all, take_more, take-append-drop}
+use Rattle.std.proofs.lemmas.List.Elements.{All-nil, All-cons}
+use Rattle.std.proofs.lemmas.Option.{same_Some}
+use Rattle.lert_base.specs.Packet.{Packet}
+use Rattle.lert_bay.specs.Files.{Files}
+use Rattle.lert_io.proofs.Rising.{risen_since}
+use Rattle.lert_spec.specs.declared.numbers.Numbers.{Numbers}
+use Rattle.lert_spec.specs.Edges.{capacity}
+use Rattle.lert_spec.specs.Mix.{cone_of}
+use Rattle.lert_cone.specs.declared.tally.TakeFault.{TakeFault}
+use Rattle.lert_cone.specs.Bays.{Bays}
+use Rattle.lert_cone.specs.Framed.{HoldsSome}
+use Rattle.lert_cone.specs.InStep.{IsPartway}
+use Rattle.lert_cone.specs.Listing.{Listing}
+use Rattle.lert_cone.specs.Takes.{Workplace, CanTake, AreInStep, TakesKeys}
+use Rattle.lert_cone.proofs.Calls.{IsLawful, alone_none, alone_on}
+use Rattle.lert_cone.proofs.KeyStep.{sound_now, sound_behind}
+use Rattle.lert_cone.proofs.LogLaws.{last_flush_grows}
+use Rattle.lert_cone.proofs.TakeLaws.{handed_on}
+
+-- what follows from an answer of Ok
+pub map_ok : {T E A C : Type 0} (result : Result T E) → (A → C) → OnOk result A → OnOk result C
+map_ok (Ok done) goes holds = goes holds
+map_ok (Err fault) goes holds = tt
+
+-- what holds in any case
+pub ok_holds : {T E A : Type 0} (result : Result T E) → A → OnOk result A
+ok_holds (Ok done) holds = holds
+ok_holds (Err fault) holds = tt
+
+-- ---- keys still to come
+
+partway_front : (s : Numbers) (history : List Packet) (events front back : List ℕ) → IsPartway s history events (front ++ back) → IsPartway s history events front
+partway_front s history events front back partway = record {
+  rest = back ++ partway.rest;
+  is = partway.is ∙ ap (λ keys. events ++ keys) (append_assoc front back partway.rest);
+  late = partway.late;
+}
+
+partway_back : (s : Numbers) (history : List Packet) (events front back : List ℕ) → IsPartway s history events (front ++ back) → IsPartway s history (events ++ front) back
+partway_back s history events front back partway = record {
+  rest = partway.rest;
+  is = partway.is ∙ ap (λ keys. events ++ keys) (append_assoc front back partway.rest) ∙ sym (append_assoc events front (back ++ partway.rest));
+  late = omega (arith, partway.late, last_flush_grows s (length events) (length (events ++ front)) (omega (arith, length-append events front)));
+}
+
+module _ {B : Type 0} (bays : Bays B) (lawful : IsLawful bays) where
+  -- no key
+  pub takes_none : (at : Workplace B) (keys : List ℕ) → CanTake bays keys at → TakesKeys bays [] at at (Ok tt)
+  takes_none at keys can = record {
+    listing = refl;
+    taken = sym (append-nil at.counts.listing.events);
+    counted = can.counted;
+    can_log = can.can_log;
+    in_step = λ seen told history up after told_after. subst (λ (files : Files). AreInStep bays at files history) (same_Some seen after (sym told ∙ told_after)) up;
+    each_moment = λ seen told history partway up image may.
+        sound_now (bays.leaves at.bay) seen history at.counts at.log [] can.counted can.still up partway image (lawful.only_now at.bay image may);
+    sound = λ seen told history up file at same. (let never : ⊥ = cc in never);
+    framed = λ seen told some after told_after.
+        subst (λ (files : Files). HoldsSome at.counts.listing.settings (length at.counts.listing.events) at.counts.rows (files 2)) (same_Some seen after (sym told ∙ told_after)) some;
+    whole = λ seen told some at same. (let never : ⊥ = cc in never);
+    keeps = record {
+      shows = λ seen told file at same. absurd (let never : ⊥ = cc in never);
+      journal = alone_none bays lawful 0 at.bay;
+      most = refl;
+      failed = λ same. absurd (let never : ⊥ = cc in never);
+      never_falls = omega arith;
+      mark = refl;
+    };
+  }
+
+  -- some, and then others
+  module _ (old mid new : Workplace B) (front back : List ℕ) (result : Result (Unit {0}) TakeFault) (first : TakesKeys bays front old mid (Ok tt)) (second : TakesKeys bays back mid new result) where
+    mid_is : mid.counts.listing ≡ record old.counts.listing { events = old.counts.listing.events ++ front }
+    mid_is = first.listing ∙ ap (λ (keys : List ℕ). record { settings = old.counts.listing.settings; cone = old.counts.listing.cone; events = keys; closed = old.counts.listing.closed }) first.taken
+
+    pub takes_more : TakesKeys bays (front ++ back) old new result
+    takes_more = record {
+      listing = second.listing ∙ ap (λ (l : Listing). record { settings = l.settings; cone = l.cone; events = new.counts.listing.events; closed = l.closed }) first.listing;
+      taken = map_ok result (λ (took : new.counts.listing.events ≡ mid.counts.listing.events ++ back).
+          took ∙ ap (λ (keys : List ℕ). keys ++ back) first.taken ∙ append_assoc old.counts.listing.events front back) second.taken;
+      counted = second.counted;
+      can_log = second.can_log;
+      in_step = λ seen told history up.
+          let came = first.keeps.journal.seen.told seen told in
+          second.in_step came.0 came.1 history (first.in_step seen told history up came.0 came.1);
+      each_moment = λ seen told history partway up image may.
+          let came = first.keeps.journal.seen.told seen told in
+          let here_up = first.in_step seen told history up came.0 came.1 in
+          let behind = subst (λ (l : Listing). IsPartway l.settings history l.events back) (sym mid_is)
+          (partway_back old.counts.listing.settings history old.counts.listing.events front back partway) in
+          elim (second.keeps.journal.time.known (bays.moment old.bay) image first.keeps.journal.time.later may) [
+            | inl past ↦ first.each_moment seen told history (partway_front old.counts.listing.settings history old.counts.listing.events front back partway) up image past
+            | inr here ↦ sound_behind mid.counts.listing old.counts.listing history image (ap (λ (l : Listing). l.settings) first.listing) (ap (λ (l : Listing). l.cone) first.listing)
+                (second.each_moment came.0 came.1 history behind here_up image here)
+          ];
+      sound = λ seen told history up.
+          let came = first.keeps.journal.seen.told seen told in
+          second.sound came.0 came.1 history (first.in_step seen told history up came.0 came.1);
+      framed = λ seen told some.
+          let came = first.keeps.journal.seen.told seen told in
+          second.framed came.0 came.1 (first.framed seen told some came.0 came.1);
+      whole = λ seen told some.
+          let came = first.keeps.journal.seen.told seen told in
+          second.whole came.0 came.1 (first.framed seen told some came.0 came.1);
+      keeps = record {
+        shows = second.keeps.shows;
+        journal = alone_on bays lawful 0 old.bay mid.bay new.bay first.keeps.journal second.keeps.journal;
+        most = second.keeps.most ∙ first.keeps.most;
+        failed = λ same. risen_since (bays.faults old.bay) (bays.faults mid.bay) (bays.faults new.bay) first.keeps.never_falls second.keeps.never_falls (second.keeps.failed same);
+        never_falls = omega (arith, first.keeps.never_falls, second.keeps.never_falls);
+        mark = second.keeps.mark ∙ first.keeps.mark;
+      };
+    }
+
+  -- where a key isn't taken no other is
+  takes_fewer : (old new : Workplace B) (front back : List ℕ) (fault : TakeFault) → TakesKeys bays front old new (Err fault) → TakesKeys bays (front ++ back) old new (Err fault)
+  takes_fewer old new front back fault did = record {
+    listing = did.listing;
+    taken = tt;
+    counted = tt;
+    can_log = tt;
+    in_step = λ seen told history up. tt;
+    each_moment = λ seen told history partway up image may.
+        did.each_moment seen told history (partway_front old.counts.listing.settings history old.counts.listing.events front back partway) up image may;
+    sound = did.sound;
+    framed = λ seen told some. tt;
+    whole = did.whole;
+    keeps = did.keeps;
+  }
+
+  -- ---- a list of keys, up to a place
+
+  module _ (old mid : Workplace B) (keys : List ℕ) (i : ℕ) (first : TakesKeys bays (take i keys) old mid (Ok tt)) where
+    pub next_can : CanTake bays keys old → i < length keys → CanTake bays (get_or keys i 0 ∷ []) mid
+    next_can can within =
+        let is = first.listing ∙ ap (λ (ks : List ℕ). record { settings = old.counts.listing.settings; cone = old.counts.listing.cone; events = ks; closed = old.counts.listing.closed }) first.taken in
+        record {
+          still = ap (λ (l : Listing). l.closed) is ∙ can.still;
+          own = subst (λ (l : Listing). All (λ key. cone_of l.settings key ≡ l.cone) (get_or keys i 0 ∷ [])) (sym is)
+              (All-cons (λ key. cone_of old.counts.listing.settings key ≡ old.counts.listing.cone) (get_or keys i 0) [] (can.own i 0 within) (All-nil (λ key. cone_of old.counts.listing.settings key ≡ old.counts.listing.cone)));
+          fits = subst (λ (l : Listing). length l.events + 1 ≤ capacity l.settings) (sym is)
+              (omega (arith, can.fits, within, length-append old.counts.listing.events (take i keys), length-take i keys));
+          counted = first.counted;
+          can_log = first.can_log;
+        }
+
+    pub next_takes : (new : Workplace B) → i < length keys → TakesKeys bays (get_or keys i 0 ∷ []) mid new (Ok tt) → TakesKeys bays (take (i + 1) keys) old new (Ok tt)
+    next_takes new within second =
+        subst (λ (front : List ℕ). TakesKeys bays front old new (Ok tt)) (sym (take_more keys i 0 within)) (takes_more old mid new (take i keys) (get_or keys i 0 ∷ []) (Ok tt) first second)
+
+    pub next_refused : (new : Workplace B) → i < length keys → (result : Result (Unit {0}) TakeFault) (fault : TakeFault) → result ≡ Err fault → TakesKeys bays (get_or keys i 0 ∷ []) mid new result →
+        (given : Result (Unit {0}) TakeFault) → IsErrAnd given (λ g. g ≡ fault) → TakesKeys bays keys old new given
+    next_refused new within result fault is second given given_is =
+        let failed : TakesKeys bays (get_or keys i 0 ∷ []) mid new (Err fault) = subst (λ (r : Result (Unit {0}) TakeFault). TakesKeys bays (get_or keys i 0 ∷ []) mid new r) is second in
+        let split : (take i keys ++ get_or keys i 0 ∷ []) ++ drop (i + 1) keys ≡ keys = ap (λ front. front ++ drop (i + 1) keys) (sym (take_more keys i 0 within)) ∙ take-append-drop (i + 1) keys in
+        subst (λ (r : Result (Unit {0}) TakeFault). TakesKeys bays keys old new r) (handed_on given fault given_is)
+        (subst (λ (all : List ℕ). TakesKeys bays all old new (Err fault)) split
+        (takes_fewer old new (take i keys ++ get_or keys i 0 ∷ []) (drop (i + 1) keys) fault (takes_more old mid new (take i keys) (get_or keys i 0 ∷ []) (Err fault) first failed)))
+
+    pub all_taken : length keys ≤ i → TakesKeys bays keys old mid (Ok tt)
+    all_taken over = subst (λ (all : List ℕ). TakesKeys bays all old mid (Ok tt)) (take_all i keys over) first

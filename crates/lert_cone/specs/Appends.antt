@@ -1,0 +1,30 @@
+-- What the append of a record makes of a cone's log and of its bay.
+use Rattle.std.specs.Prelude.{◌≡◌, ℕ, ◌+◌, List, [], ◌∷◌, ◌++◌, length, Result, OnOk, OnErr}
+use Rattle.lert_cone.specs.Bays.{Bays}
+use Rattle.lert_bay.specs.Files.{Files, IfTold, Turns}
+use Rattle.lert_bay.specs.Images.{Lasts}
+use Rattle.lert_gatelog.specs.Gated.{IsClosed, IsGated, next_gate}
+use Rattle.lert_gatelog.specs.Kept.{InEach, KeepsOthers, KeepsBefore, IsWhollySettled, IsWithOrWithout, OthersStay}
+use Rattle.lert_io.specs.Fault.{HasCause}
+use Rattle.lert_reports.specs.declared.log.LogKind.{LogKind}
+use Rattle.lert_spec.specs.declared.report.Report.{Report}
+use Rattle.lert_cone.specs.Record.{LogPlace, payload_at, payload_len}
+
+-- A record is appended behind n0 events. In every image of each moment of the call the open records are those from before, or
+-- those and this one; after Ok they are those and this one.
+pub record AppendsRecord {B E : Type 0} (bays : Bays B) (kind : LogKind) (n0 : ℕ) (directory : List ℕ) (reports : List Report) (bay bay_after : B) (old new : LogPlace) (result : Result (Unit {0}) E) : Type 0 where
+  pub moved : OnOk result (new ≡ record old { gate = next_gate old.gate (payload_at old kind n0 directory reports); named = length reports })
+  pub stayed : OnErr result (new ≡ old)
+  pub long : next_gate old.gate (payload_at old kind n0 directory reports) ≡ old.gate + 5 + payload_len old directory reports
+  pub each_moment : IfTold (bays.files bay) (λ _. (first : ℕ) (payloads : List (List ℕ)) → InEach (bays.leaves bay) 1 (λ bytes. IsGated old.most bytes first payloads old.gate) →
+      InEach (bays.left_since bay_after (bays.moment bay)) 1 (IsWithOrWithout old.most first payloads old.gate (payload_at old kind n0 directory reports)))
+  pub appended : IfTold (bays.files bay) (λ _. (first : ℕ) (payloads : List (List ℕ)) → InEach (bays.leaves bay) 1 (λ bytes. IsGated old.most bytes first payloads old.gate) →
+      OnOk result (InEach (bays.leaves bay_after) 1 (λ bytes. IsGated old.most bytes first (payloads ++ payload_at old kind n0 directory reports ∷ []) new.gate)))
+  pub closed : IfTold (bays.files bay) (λ _. OnOk result (InEach (bays.leaves bay_after) 1 (λ bytes. IsClosed bytes new.gate)))
+  pub settled : OnOk result (IfTold (bays.files bay_after) (λ seen. IsWhollySettled (bays.leaves bay_after) seen 1))
+  pub before : IfTold (bays.files bay) (λ seen. KeepsBefore (bays.leaves bay) (bays.left_since bay_after (bays.moment bay)) seen 1 old.gate)
+  pub others : IfTold (bays.files bay) (λ seen. KeepsOthers (bays.leaves bay) (bays.left_since bay_after (bays.moment bay)) seen 1)
+  pub seen : Turns (OthersStay 1) (bays.files bay) (bays.files bay_after)
+  pub time : Lasts (bays.moment bay) (bays.moment bay_after) (bays.left_since bay) (bays.left_since bay_after)
+  pub cause : HasCause (bays.faults bay) (bays.faults bay_after) result
+  pub mark : bays.mark bay_after ≡ bays.mark bay

@@ -1,0 +1,127 @@
+-- What a key, and the end, make of a cone's counts and of its bay.
+use Rattle.std.specs.Prelude.{◌≡◌, ◌≢◌, ℕ, ◌+◌, ◌-◌, ◌≤◌, true, List, [], ◌∷◌, ◌++◌, length, slice_range, Result, Err, OnOk, OnErr, IsErrOf}
+use Rattle.lert_cone.specs.Bays.{Bays}
+use Rattle.lert_bay.specs.Files.{Files, IfTold}
+use Rattle.lert_bay.specs.Kept.{OnlyRead}
+use Rattle.lert_gatelog.specs.Kept.{InEach}
+use Rattle.lert_io.specs.Fault.{HasRisen}
+use Rattle.lert_rows.specs.declared.fault.FlushFault.{FlushFault}
+use Rattle.lert_rows.specs.declared.fault.FlushFault.TheVariants.{Failed as FlushFailed, Malformed}
+use Rattle.lert_levels.specs.Flushed.{InNamed}
+use Rattle.lert_rows.specs.Landing.{KeepsRest}
+use Rattle.lert_rows.specs.Rows.{IsAt, AreRows, HoldsBins, moved}
+use Rattle.lert_rows.specs.Loading.{OneBreaks}
+use Rattle.lert_levels.specs.OnDisk.{OnDisk}
+use Rattle.lert_rows.specs.Young.{Young}
+use Rattle.lert_spec.specs.declared.piece.Piece.{Piece}
+use Rattle.lert_spec.specs.Bins.{tallied}
+use Rattle.lert_spec.specs.Edges.{edge, lookback, capacity}
+use Rattle.lert_cone.specs.declared.tally.TakeFault.{TakeFault}
+use Rattle.lert_cone.specs.declared.tally.TakeFault.TheVariants.{Failed, Unsound}
+use Rattle.lert_cone.specs.Due.{Dues, TookFrom}
+use Rattle.lert_cone.specs.Framed.{HoldsSome}
+use Rattle.lert_cone.specs.Tally.{Tallied, AreYoung, IsCounted, IsHeld, Shows, totals_at}
+
+-- the levels are flushed at position m, with the reports as the taker of the totals
+pub record Flushes {B : Type 0} (bays : Bays B) (start : Dues) (m : ℕ) (bay bay_after : B) (zero : Young) (levels levels_after : OnDisk) (due : Dues) (result : Result (Unit {0}) FlushFault) : Type 0 where
+  pub flushed : OnOk result (levels_after ≡ record levels { rows = moved levels.settings m levels.rows })
+  pub refused : OnErr result (levels_after ≡ levels)
+  pub holds : (events : List ℕ) → length events ≡ m → AreYoung levels.settings events zero.from zero.bins →
+      IfTold (bays.files bay) (λ seen. HoldsBins levels.settings events levels.rows (seen 2) →
+      OnOk result (IfTold (bays.files bay_after) (λ after. HoldsBins levels_after.settings events levels_after.rows (after 2))))
+  pub totals : (events : List ℕ) → length events ≡ m → AreYoung levels.settings events zero.from zero.bins →
+      IfTold (bays.files bay) (λ seen. HoldsBins levels.settings events levels.rows (seen 2) →
+      OnOk result (TookFrom start due (tallied levels.settings (slice_range events (lookback levels.settings m) m))))
+  pub took : OnOk result ((list : List Piece) × TookFrom start due list)
+  pub sound : (events : List ℕ) → length events ≡ m → AreYoung levels.settings events zero.from zero.bins →
+      IfTold (bays.files bay) (λ seen. HoldsBins levels.settings events levels.rows (seen 2) → (at : ℕ) → result ≢ Err (Malformed at))
+  pub malformed : IfTold (bays.files bay) (λ seen. (at : ℕ) → IsErrOf result (Malformed at) → OneBreaks levels.settings levels.rows (seen 2) at)
+  pub unwritten : (at : ℕ) → IsErrOf result (Malformed at) → bays.files bay_after ≡ bays.files bay
+  pub durable : OnOk result (IfTold (bays.files bay_after) (λ seen. (image : Files) → bays.leaves bay_after image → image 2 ≡ seen 2))
+  pub rest : KeepsRest (InNamed levels.settings levels.rows) (bays.files bay) (bays.files bay_after) (bays.leaves bay) (bays.moment bay) (bays.moment bay_after) (bays.left_since bay) (bays.left_since bay_after)
+  pub failed : IsErrOf result FlushFailed → HasRisen (bays.faults bay) (bays.faults bay_after)
+  pub never_falls : bays.faults bay ≤ bays.faults bay_after
+  pub mark : bays.mark bay_after ≡ bays.mark bay
+
+-- The totals come to the reports that the event at position m brings, which level 0 has, its tail being this one: the levels
+-- are flushed where an edge moves, and the oldest bin of level 0 is dropped.
+pub record Brings {B : Type 0} (bays : Bays B) (start : Dues) (m tail : ℕ) (bay bay_after : B) (zero zero_after : Young) (levels levels_after : OnDisk) (due : Dues) (result : Result (Unit {0}) FlushFault) : Type 0 where
+  pub young_settings : zero_after.settings ≡ zero.settings
+  pub settings : levels_after.settings ≡ levels.settings
+  pub from : OnOk result (zero_after.from ≡ edge levels.settings 0 m)
+  pub to : OnOk result (zero_after.to ≡ m)
+  pub bins : (events : List ℕ) → length events ≡ m → AreYoung levels.settings events zero.from zero.bins → OnOk result (AreYoung levels.settings events (edge levels.settings 0 m) zero_after.bins)
+  pub rows : OnOk result (IsAt levels.settings m levels_after.rows)
+  pub holds : (events : List ℕ) → length events ≡ m → AreYoung levels.settings events zero.from zero.bins →
+      IfTold (bays.files bay) (λ seen. HoldsBins levels.settings events levels.rows (seen 2) →
+      OnOk result (IfTold (bays.files bay_after) (λ after. HoldsBins levels.settings events levels_after.rows (after 2))))
+  pub totals : (events : List ℕ) → length events ≡ m → AreYoung levels.settings events zero.from zero.bins →
+      IfTold (bays.files bay) (λ seen. HoldsBins levels.settings events levels.rows (seen 2) → OnOk result (TookFrom start due (totals_at levels.settings events m tail)))
+  pub took : OnOk result ((list : List Piece) × TookFrom start due list)
+  pub sound : (events : List ℕ) → length events ≡ m → AreYoung levels.settings events zero.from zero.bins →
+      IfTold (bays.files bay) (λ seen. HoldsBins levels.settings events levels.rows (seen 2) → (at : ℕ) → result ≢ Err (Malformed at))
+  pub malformed : IfTold (bays.files bay) (λ seen. (at : ℕ) → IsErrOf result (Malformed at) → OneBreaks levels_after.settings levels_after.rows (seen 2) at)
+  pub unwritten : (at : ℕ) → IsErrOf result (Malformed at) → bays.files bay_after ≡ bays.files bay
+  pub images : (events : List ℕ) → length events ≡ m → AreYoung levels.settings events zero.from zero.bins →
+      IfTold (bays.files bay) (λ seen. HoldsBins levels.settings events levels.rows (seen 2) → InEach (bays.leaves bay) 2 (HoldsBins levels.settings events levels.rows) →
+      OnOk result (IfTold (bays.files bay_after) (λ _. InEach (bays.leaves bay_after) 2 (HoldsBins levels.settings events levels_after.rows))))
+  pub are : OnOk result (AreRows levels.settings levels.rows → AreRows levels.settings levels_after.rows)
+  pub still : edge levels.settings 0 m ≡ edge levels.settings 0 (m - 1) → OnOk result (levels_after.rows ≡ levels.rows)
+  pub rest : KeepsRest (InNamed levels.settings levels.rows) (bays.files bay) (bays.files bay_after) (bays.leaves bay) (bays.moment bay) (bays.moment bay_after) (bays.left_since bay) (bays.left_since bay_after)
+  pub failed : IsErrOf result FlushFailed → HasRisen (bays.faults bay) (bays.faults bay_after)
+  pub never_falls : bays.faults bay ≤ bays.faults bay_after
+  pub mark : bays.mark bay_after ≡ bays.mark bay
+
+-- all levels are scanned, with the reports as the taker of the totals
+pub record Scans {B : Type 0} (bays : Bays B) (start : Dues) (bay bay_after : B) (zero : Young) (levels levels_after : OnDisk) (due : Dues) (result : Result (Unit {0}) FlushFault) : Type 0 where
+  pub stays : levels_after ≡ levels
+  pub totals : (events : List ℕ) → length events ≤ capacity levels.settings → IsAt levels.settings (length events) levels.rows →
+      zero.from ≡ edge levels.settings 0 (length events) → zero.to ≡ length events → AreYoung levels.settings events zero.from zero.bins →
+      IfTold (bays.files bay) (λ seen. HoldsBins levels.settings events levels.rows (seen 2) → OnOk result (TookFrom start due (tallied levels.settings events)))
+  pub took : OnOk result ((list : List Piece) × TookFrom start due list)
+  pub sound : (events : List ℕ) → length events ≤ capacity levels.settings → IsAt levels.settings (length events) levels.rows →
+      zero.from ≡ edge levels.settings 0 (length events) → AreYoung levels.settings events zero.from zero.bins →
+      IfTold (bays.files bay) (λ seen. HoldsBins levels.settings events levels.rows (seen 2) → (at : ℕ) → result ≢ Err (Malformed at))
+  pub malformed : IfTold (bays.files bay) (λ seen. (at : ℕ) → IsErrOf result (Malformed at) → OneBreaks levels.settings levels.rows (seen 2) at)
+  pub only_read : OnlyRead (bays.files bay) (bays.files bay_after) (bays.leaves bay) (bays.leaves bay_after) (bays.moment bay) (bays.moment bay_after) (bays.left_since bay) (bays.left_since bay_after)
+  pub failed : IsErrOf result FlushFailed → HasRisen (bays.faults bay) (bays.faults bay_after)
+  pub never_falls : bays.faults bay ≤ bays.faults bay_after
+  pub mark : bays.mark bay_after ≡ bays.mark bay
+
+-- A key is counted. Where the edge of level 0 stays the rows stay, and the frames that the rows named stay in any case. Where
+-- the files are told, and the frames and reports are those of the keys so far, they are so again, in every image too, and no
+-- frame is found malformed; that holds too where the frames hold the bins of some events, whatever these are.
+pub record CountsKey {B : Type 0} (bays : Bays B) (key : ℕ) (bay bay_after : B) (old new : Tallied) (result : Result (Unit {0}) TakeFault) : Type 0 where
+  pub listing : new.listing ≡ record old.listing { events = new.listing.events }
+  pub taken : OnOk result (new.listing.events ≡ old.listing.events ++ key ∷ [])
+  pub counted : OnOk result (IsCounted new)
+  pub grows : OnOk result (length old.due.reports ≤ length new.due.reports)
+  pub still : edge old.listing.settings 0 (length old.listing.events + 1) ≡ edge old.listing.settings 0 (length old.listing.events) → OnOk result (new.rows ≡ old.rows)
+  pub held : IfTold (bays.files bay) (λ seen. IsHeld old seen → OnOk result (IfTold (bays.files bay_after) (λ after. IsHeld new after)))
+  pub sound : IfTold (bays.files bay) (λ seen. IsHeld old seen → (file at : ℕ) → result ≢ Err (Unsound file at))
+  pub shows : IfTold (bays.files bay_after) (λ seen. (file at : ℕ) → IsErrOf result (Unsound file at) → Shows new.listing.settings new.rows new.due.reports (seen 2) file at)
+  pub framed : IfTold (bays.files bay) (λ seen. HoldsSome old.listing.settings (length old.listing.events) old.rows (seen 2) →
+      OnOk result (IfTold (bays.files bay_after) (λ after. HoldsSome new.listing.settings (length new.listing.events) new.rows (after 2))))
+  pub whole : IfTold (bays.files bay) (λ seen. HoldsSome old.listing.settings (length old.listing.events) old.rows (seen 2) → (at : ℕ) → result ≢ Err (Unsound 2 at))
+  pub images : IfTold (bays.files bay) (λ seen. IsHeld old seen → InEach (bays.leaves bay) 2 (HoldsBins old.listing.settings old.listing.events old.rows) →
+      OnOk result (IfTold (bays.files bay_after) (λ _. InEach (bays.leaves bay_after) 2 (HoldsBins new.listing.settings new.listing.events new.rows))))
+  pub rest : KeepsRest (InNamed old.listing.settings old.rows) (bays.files bay) (bays.files bay_after) (bays.leaves bay) (bays.moment bay) (bays.moment bay_after) (bays.left_since bay) (bays.left_since bay_after)
+  pub failed : IsErrOf result Failed → HasRisen (bays.faults bay) (bays.faults bay_after)
+  pub never_falls : bays.faults bay ≤ bays.faults bay_after
+  pub mark : bays.mark bay_after ≡ bays.mark bay
+
+-- All levels are scanned, and the reports listed that are left. It writes nothing.
+pub record CountsEnd {B : Type 0} (bays : Bays B) (bay bay_after : B) (old new : Tallied) (result : Result (Unit {0}) TakeFault) : Type 0 where
+  pub listing : new.listing ≡ record old.listing { closed = new.listing.closed }
+  pub rows : new.rows ≡ old.rows
+  pub closed : OnOk result (new.listing.closed ≡ true)
+  pub refused : OnErr result (new.listing ≡ old.listing)
+  pub grows : OnOk result (length old.due.reports ≤ length new.due.reports)
+  pub counted : OnOk result (IsCounted new)
+  pub held : IfTold (bays.files bay) (λ seen. IsHeld old seen → OnOk result (IsHeld new seen))
+  pub sound : IfTold (bays.files bay) (λ seen. IsHeld old seen → (file at : ℕ) → result ≢ Err (Unsound file at))
+  pub shows : IfTold (bays.files bay_after) (λ seen. (file at : ℕ) → IsErrOf result (Unsound file at) → Shows new.listing.settings new.rows new.due.reports (seen 2) file at)
+  pub only_read : OnlyRead (bays.files bay) (bays.files bay_after) (bays.leaves bay) (bays.leaves bay_after) (bays.moment bay) (bays.moment bay_after) (bays.left_since bay) (bays.left_since bay_after)
+  pub failed : IsErrOf result Failed → HasRisen (bays.faults bay) (bays.faults bay_after)
+  pub never_falls : bays.faults bay ≤ bays.faults bay_after
+  pub mark : bays.mark bay_after ≡ bays.mark bay

@@ -1,0 +1,156 @@
+-- What keys, a packet, and the end make of a cone's counts, its log and its bay.
+use Rattle.std.specs.Prelude.{◌≡◌, ◌≢◌, ℕ, ◌+◌, ◌*◌, ◌^◌, ◌<◌, ◌≤◌, max, true, false, List, [], ◌∷◌, ◌++◌, All, length, Some, Result, Err, OnOk, IsErrOf}
+use Rattle.lert_base.specs.Packet.{Packet, events_of}
+use Rattle.lert_cone.specs.Bays.{Bays}
+use Rattle.lert_bay.specs.Files.{Files, IfTold, Turns}
+use Rattle.lert_bay.specs.Images.{Lasts}
+use Rattle.lert_gatelog.specs.Gated.{Log, next_gate}
+use Rattle.lert_journal.specs.Payload.{IsJournaled, payload_of}
+use Rattle.lert_io.specs.Fault.{HasRisen}
+use Rattle.lert_spec.specs.Edges.{capacity}
+use Rattle.lert_spec.specs.Mix.{cone_of}
+use Rattle.lert_cone.specs.declared.tally.TakeFault.{TakeFault}
+use Rattle.lert_cone.specs.declared.tally.TakeFault.TheVariants.{Failed, Unsound}
+use Rattle.lert_cone.specs.Framed.{HoldsSome}
+use Rattle.lert_cone.specs.History.{most_payload}
+use Rattle.lert_cone.specs.InStep.{IsInStep, IsLogging, IsPartway}
+use Rattle.lert_cone.specs.Record.{LogPlace}
+use Rattle.lert_cone.specs.Replay.{IsOnWay}
+use Rattle.lert_cone.specs.Sound.{IsSound, IsSoundOver}
+use Rattle.lert_cone.specs.Stands.{IsWhole}
+use Rattle.lert_cone.specs.Tally.{Tallied, IsCounted, IsRecounted, Shows}
+use Rattle.lert_cone.specs.Wrote.{Anything, LeavesAlone, IsShutIfTold}
+
+-- what keys are taken over: the bay, the counts, the log, and the length of the buffer
+pub record Workplace (B : Type 0) : Type 0 where
+  pub bay : B
+  pub counts : Tallied
+  pub log : LogPlace
+  pub room : ℕ
+
+-- where its log is before its next record, and its gate closed in every image
+pub record CanLog {B : Type 0} (bays : Bays B) (at : Workplace B) : Type 0 where
+  pub logging : IsLogging at.counts at.log at.room
+  pub log_shut : IsShutIfTold (bays.files at.bay) (bays.leaves at.bay) 1 at.log.gate
+
+-- these keys may be taken: the cone isn't closed, they are its own and no more than it takes, and no call broke off
+pub record CanTake {B : Type 0} (bays : Bays B) (keys : List ℕ) (at : Workplace B) : Type 0 where
+  pub still : at.counts.listing.closed ≡ false
+  pub own : All (λ key. cone_of at.counts.listing.settings key ≡ at.counts.listing.cone) keys
+  pub fits : length at.counts.listing.events + length keys ≤ capacity at.counts.listing.settings
+  pub counted : IsCounted at.counts
+  pub can_log : CanLog bays at
+
+-- files and memory go together there
+abbrev pub AreInStep : {B : Type 0} → Bays B → Workplace B → Files → List Packet → Type 0
+AreInStep bays at seen history = IsInStep (bays.leaves at.bay) seen history at.counts.listing at.counts.rows at.counts.due.reports at.log
+
+-- and the journal is that of these packets, up to its gate
+abbrev pub IsWholeAt : {B : Type 0} → Bays B → Workplace B → Log → Files → List Packet → Type 0
+IsWholeAt bays at journal seen history = IsWhole (bays.leaves at.bay) seen at.counts.listing at.counts.rows at.counts.due.reports journal.gate at.log history
+
+-- the journal stays as it is, no frame is found malformed but where it shows so, a failed call has its cause, and the bay is the same one
+pub record KeepsJournal {B : Type 0} (bays : Bays B) (old new : Workplace B) (result : Result (Unit {0}) TakeFault) : Type 0 where
+  pub shows : IfTold (bays.files new.bay) (λ seen. (file at : ℕ) → IsErrOf result (Unsound file at) →
+      Shows new.counts.listing.settings new.counts.rows new.counts.due.reports (seen 2) file at)
+  pub journal : LeavesAlone bays 0 old.bay new.bay
+  pub most : new.log.most ≡ old.log.most
+  pub failed : IsErrOf result Failed → HasRisen (bays.faults old.bay) (bays.faults new.bay)
+  pub never_falls : bays.faults old.bay ≤ bays.faults new.bay
+  pub mark : bays.mark new.bay ≡ bays.mark old.bay
+
+-- Keys are taken. Where the bay tells its files, and these went together with memory, they do so again, and they are sound in
+-- each image of each moment; no frame is found malformed then, nor where the frames hold the bins of some events, whatever
+-- these are, as they do again.
+pub record TakesKeys {B : Type 0} (bays : Bays B) (keys : List ℕ) (old new : Workplace B) (result : Result (Unit {0}) TakeFault) : Type 0 where
+  pub listing : new.counts.listing ≡ record old.counts.listing { events = new.counts.listing.events }
+  pub taken : OnOk result (new.counts.listing.events ≡ old.counts.listing.events ++ keys)
+  pub counted : OnOk result (IsCounted new.counts)
+  pub can_log : OnOk result (CanLog bays new)
+  pub in_step : IfTold (bays.files old.bay) (λ seen. (history : List Packet) → AreInStep bays old seen history →
+      OnOk result (IfTold (bays.files new.bay) (λ after. AreInStep bays new after history)))
+  pub each_moment : IfTold (bays.files old.bay) (λ seen. (history : List Packet) → IsPartway old.counts.listing.settings history old.counts.listing.events keys → AreInStep bays old seen history →
+      (image : Files) → bays.left_since new.bay (bays.moment old.bay) image → IsSound old.counts.listing.settings old.counts.listing.cone history image)
+  pub sound : IfTold (bays.files old.bay) (λ seen. (history : List Packet) → AreInStep bays old seen history → (file at : ℕ) → result ≢ Err (Unsound file at))
+  pub framed : IfTold (bays.files old.bay) (λ seen. HoldsSome old.counts.listing.settings (length old.counts.listing.events) old.counts.rows (seen 2) →
+      OnOk result (IfTold (bays.files new.bay) (λ after. HoldsSome new.counts.listing.settings (length new.counts.listing.events) new.counts.rows (after 2))))
+  pub whole : IfTold (bays.files old.bay) (λ seen. HoldsSome old.counts.listing.settings (length old.counts.listing.events) old.counts.rows (seen 2) → (at : ℕ) → result ≢ Err (Unsound 2 at))
+  pub keeps : KeepsJournal bays old new result
+
+-- a packet may be taken: the journal may hold it, its gate is closed in every image, and its keys may be taken
+pub record CanTakePacket {B : Type 0} (bays : Bays B) (packet : Packet) (at : Workplace B) (journal : Log) : Type 0 where
+  pub file : journal.file ≡ 0
+  pub most : journal.most ≡ most_payload at.counts.listing.settings
+  pub roomy : journal.most + 5 ≤ at.room
+  pub reach : journal.gate + 14 + 8 * length packet.keys < 2 ^ 63
+  pub shut : IsShutIfTold (bays.files at.bay) (bays.leaves at.bay) 0 journal.gate
+  pub journaled : IsJournaled at.counts.listing.settings at.counts.listing.cone packet
+  pub fits : length at.counts.listing.events + length packet.keys ≤ capacity at.counts.listing.settings
+  pub still : at.counts.listing.closed ≡ false
+  pub counted : IsCounted at.counts
+  pub can_log : CanLog bays at
+
+-- A packet is taken: it is appended to the journal, and then its keys are taken. Where the bay tells its files, and these are
+-- those of a list of packets, they are sound for the list, or for the list and the packet, in each image of each moment, and
+-- after Ok they go together with memory for the list and the packet.
+pub record TakesPacket {B : Type 0} (bays : Bays B) (packet : Packet) (old new : Workplace B) (journal journal_after : Log) (result : Result (Unit {0}) TakeFault) : Type 0 where
+  pub listing : new.counts.listing ≡ record old.counts.listing { events = new.counts.listing.events }
+  pub taken : OnOk result (new.counts.listing.events ≡ old.counts.listing.events ++ packet.keys)
+  pub counted : OnOk result (IsCounted new.counts)
+  pub can_log : OnOk result (CanLog bays new)
+  pub moved : OnOk result (journal_after ≡ record journal { gate = next_gate journal.gate (payload_of packet) })
+  pub file : journal_after.file ≡ journal.file
+  pub most : journal_after.most ≡ journal.most
+  pub shut : OnOk result (IsShutIfTold (bays.files new.bay) (bays.leaves new.bay) 0 journal_after.gate)
+  pub in_step : IfTold (bays.files old.bay) (λ seen. (history : List Packet) → IsWholeAt bays old journal seen history →
+      OnOk result (IfTold (bays.files new.bay) (λ after. AreInStep bays new after (history ++ packet ∷ []))))
+  pub each_moment : IfTold (bays.files old.bay) (λ seen. (history : List Packet) → IsWholeAt bays old journal seen history →
+      (image : Files) → bays.left_since new.bay (bays.moment old.bay) image → IsSoundOver old.counts.listing.settings old.counts.listing.cone history (Some packet) image)
+  pub sound : IfTold (bays.files old.bay) (λ seen. (history : List Packet) → IsWholeAt bays old journal seen history → (file at : ℕ) → result ≢ Err (Unsound file at))
+  pub shows : IfTold (bays.files new.bay) (λ seen. (file at : ℕ) → IsErrOf result (Unsound file at) →
+      Shows new.counts.listing.settings new.counts.rows new.counts.due.reports (seen 2) file at)
+  pub seen : Turns Anything (bays.files old.bay) (bays.files new.bay)
+  pub now : (image : Files) → bays.leaves new.bay image → bays.left_since new.bay (bays.moment old.bay) image
+  pub time : Lasts (bays.moment old.bay) (bays.moment new.bay) (bays.left_since old.bay) (bays.left_since new.bay)
+  pub failed : IsErrOf result Failed → HasRisen (bays.faults old.bay) (bays.faults new.bay)
+  pub never_falls : bays.faults old.bay ≤ bays.faults new.bay
+  pub mark : bays.mark new.bay ≡ bays.mark old.bay
+
+-- these keys of a journal may be taken again, of which those up to n0, the place of the log's last record, are counted again
+pub record CanReplay {B : Type 0} (bays : Bays B) (n0 : ℕ) (keys : List ℕ) (at : Workplace B) : Type 0 where
+  pub own : All (λ key. cone_of at.counts.listing.settings key ≡ at.counts.listing.cone) keys
+  pub fits : length at.counts.listing.events + length keys ≤ capacity at.counts.listing.settings
+  pub before_closing : at.counts.listing.closed ≡ true → length at.counts.listing.events + length keys ≤ n0
+  pub recounted : IsRecounted at.counts n0
+  pub can_log : CanLog bays at
+
+-- They are taken. Where the bay tells its files, and these and memory were on their way through a journal that has these keys
+-- next, they are so behind them, and no frame is found malformed; nor is one where the frames hold the bins of some events.
+pub record ReplaysKeys {B : Type 0} (bays : Bays B) (n0 : ℕ) (keys : List ℕ) (old new : Workplace B) (result : Result (Unit {0}) TakeFault) : Type 0 where
+  pub listing : new.counts.listing ≡ record old.counts.listing { events = new.counts.listing.events }
+  pub taken : OnOk result (new.counts.listing.events ≡ old.counts.listing.events ++ keys)
+  pub recounted : OnOk result (IsRecounted new.counts n0)
+  pub can_log : OnOk result (CanLog bays new)
+  pub on_way : IfTold (bays.files old.bay) (λ seen. (history : List Packet) (rest : List ℕ) → events_of history ≡ old.counts.listing.events ++ (keys ++ rest) →
+      IsOnWay (bays.leaves old.bay) seen history old.counts.listing old.counts.rows old.counts.due.reports old.log n0 →
+      OnOk result (IfTold (bays.files new.bay) (λ after. IsOnWay (bays.leaves new.bay) after history new.counts.listing new.counts.rows new.counts.due.reports new.log n0)))
+  pub sound : IfTold (bays.files old.bay) (λ seen. (history : List Packet) (rest : List ℕ) → events_of history ≡ old.counts.listing.events ++ (keys ++ rest) →
+      IsOnWay (bays.leaves old.bay) seen history old.counts.listing old.counts.rows old.counts.due.reports old.log n0 → (file at : ℕ) → result ≢ Err (Unsound file at))
+  pub framed : IfTold (bays.files old.bay) (λ seen. HoldsSome old.counts.listing.settings (max n0 (length old.counts.listing.events)) old.counts.rows (seen 2) →
+      OnOk result (IfTold (bays.files new.bay) (λ after. HoldsSome new.counts.listing.settings (max n0 (length new.counts.listing.events)) new.counts.rows (after 2))))
+  pub whole : IfTold (bays.files old.bay) (λ seen. HoldsSome old.counts.listing.settings (max n0 (length old.counts.listing.events)) old.counts.rows (seen 2) → (at : ℕ) → result ≢ Err (Unsound 2 at))
+  pub keeps : KeepsJournal bays old new result
+
+-- The end: all levels are scanned, the reports listed that are left, and the closing record appended.
+pub record TakesEnd {B : Type 0} (bays : Bays B) (old new : Workplace B) (result : Result (Unit {0}) TakeFault) : Type 0 where
+  pub listing : new.counts.listing ≡ record old.counts.listing { closed = new.counts.listing.closed }
+  pub rows : new.counts.rows ≡ old.counts.rows
+  pub closed : OnOk result (new.counts.listing.closed ≡ true)
+  pub counted : OnOk result (IsCounted new.counts)
+  pub in_step : IfTold (bays.files old.bay) (λ seen. (history : List Packet) → old.counts.listing.events ≡ events_of history → AreInStep bays old seen history →
+      OnOk result (IfTold (bays.files new.bay) (λ after. AreInStep bays new after history)))
+  pub each_moment : IfTold (bays.files old.bay) (λ seen. (history : List Packet) → old.counts.listing.events ≡ events_of history → AreInStep bays old seen history →
+      (image : Files) → bays.left_since new.bay (bays.moment old.bay) image → IsSound old.counts.listing.settings old.counts.listing.cone history image)
+  pub sound : IfTold (bays.files old.bay) (λ seen. (history : List Packet) → AreInStep bays old seen history → (file at : ℕ) → result ≢ Err (Unsound file at))
+  pub room : new.room ≡ old.room
+  pub keeps : KeepsJournal bays old new result

@@ -1,0 +1,86 @@
+//! The totals that a key or the end brings to the reports.
+
+ghost use Rattle.std.specs.Prelude.{◌≡◌, ◌≢◌, ◌-◌, ◌≤◌, []};
+ghost use Rattle.lert_spec.specs.Edges.{edge, capacity};
+ghost use Rattle.lert_spec.specs.Limits.{IsValid};
+ghost use Rattle.lert_rows.specs.Rows.{IsAt};
+ghost use Rattle.lert_cone.specs.Counts.{Brings, Flushes, Scans};
+ghost use Rattle.lert_cone.specs.Due.{TookFrom};
+
+use crate::due::{Begun, Due, DueSince};
+use lert_base::CountTable;
+use lert_bay::Bay;
+use lert_levels::{FlushFault, Levels, Zero};
+
+// Flushes the levels at position `m`, with the reports as the taker of the totals.
+fn flush_into<B: Bay, T: CountTable, N: Begun>(
+    levels: &mut Levels<T>,
+    bay: &mut B,
+    zero: &Zero<T>,
+    m: u64,
+    due: Due<T>,
+) -> (Due<T>, Result<(), FlushFault>)
+    requires start { TookFrom N.start due [] }
+    requires first { 1 ≤ m }
+    requires last { m ≤ capacity levels.old.settings }
+    requires flushes { edge levels.old.settings 0 m ≢ edge levels.old.settings 0 (m - 1) }
+    requires settings { zero.now.settings ≡ levels.old.settings }
+    requires from { zero.now.from ≡ edge levels.old.settings 0 (m - 1) }
+    requires to { zero.now.to ≡ m }
+    requires rows { IsAt levels.old.settings (m - 1) levels.old.rows }
+    ensures { Flushes B.Bay N.start m bay.old bay.new zero.now levels.old levels.new result.0 result.1 }
+{
+    let mut taker = DueSince::<T, N>::new(due);
+    let result = levels.flush(bay, zero, m, &mut taker);
+    (taker.into_due(), result)
+}
+
+// Gives the reports the totals that the event at position `m` brings, which level 0 has, its tail being this one. At a
+// flush position the levels are flushed, and the oldest bin of level 0 is dropped.
+pub(super) fn bring<B: Bay, T: CountTable, N: Begun>(
+    zero: &mut Zero<T>,
+    levels: &mut Levels<T>,
+    bay: &mut B,
+    tail: u64,
+    m: u64,
+    mut due: Due<T>,
+) -> (Due<T>, Result<(), FlushFault>)
+    requires start { TookFrom N.start due [] }
+    requires valid { IsValid levels.old.settings }
+    requires first { 1 ≤ m }
+    requires last { m ≤ capacity levels.old.settings }
+    requires settings { zero.old.settings ≡ levels.old.settings }
+    requires from { zero.old.from ≡ edge levels.old.settings 0 (m - 1) }
+    requires to { zero.old.to ≡ m }
+    requires rows { IsAt levels.old.settings (m - 1) levels.old.rows }
+    ensures { Brings B.Bay N.start m tail bay.old bay.new zero.old zero.new levels.old levels.new result.0 result.1 }
+{
+    if zero.settings().depth(m) == 0 {
+        due.total(tail, zero.count(tail));
+        return (due, Ok(()));
+    }
+    let (due, result) = flush_into::<B, T, N>(levels, bay, zero, m, due);
+    match result {
+        Ok(()) => {
+            zero.drop_oldest();
+            (due, Ok(()))
+        }
+        Err(fault) => (due, Err(fault)),
+    }
+}
+
+// Scans all levels, with the reports as the taker of the totals.
+pub(super) fn scan_into<B: Bay, T: CountTable, N: Begun>(
+    levels: &mut Levels<T>,
+    bay: &mut B,
+    zero: &Zero<T>,
+    due: Due<T>,
+) -> (Due<T>, Result<(), FlushFault>)
+    requires start { TookFrom N.start due [] }
+    requires settings { zero.now.settings ≡ levels.old.settings }
+    ensures { Scans B.Bay N.start bay.old bay.new zero.now levels.old levels.new result.0 result.1 }
+{
+    let mut taker = DueSince::<T, N>::new(due);
+    let result = levels.scan(bay, zero, &mut taker);
+    (taker.into_due(), result)
+}
