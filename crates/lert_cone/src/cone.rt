@@ -23,7 +23,6 @@ ghost use Rattle.lert_cone.specs.Wrote.{Anything};
 use crate::acked::Acked;
 use crate::headers::{is_fresh, write_headers};
 use crate::keys::{close, keys_of, take_keys};
-use crate::log_point::LogPoint;
 use crate::refusal::{ConeFault, CreateFault, CreateRefused};
 use crate::report_log::ReportLog;
 use crate::room::ConeRoom;
@@ -33,7 +32,7 @@ use lert_base::{CountTable, Entry, Settings};
 use lert_bay::Bay;
 use lert_gatelog::GateLog;
 use lert_journal::append_entry;
-use lert_reports::ReportStore;
+use lert_reports::{LogPoint, ReportStore};
 use std::marker::Model;
 use std::snapshot::Snapshot;
 

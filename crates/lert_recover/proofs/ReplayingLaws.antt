@@ -2,7 +2,7 @@
 use Rattle.std.proofs.Common.{ℕ, ◌≡◌, Some, Option, List, ◌++◌, length, refl, ap, sym, ◌∙◌, subst}
 use Rattle.lert_base.specs.Packet.{Packet}
 use Rattle.lert_bay.specs.Files.{Files}
-use Rattle.lert_cone.specs.declared.log_point.LogPoint.{LogPoint}
+use Rattle.lert_reports.specs.declared.log_point.LogPoint.{LogPoint}
 use Rattle.lert_cone.specs.History.{most_payload}
 use Rattle.lert_cone.specs.Listing.{Listing}
 use Rattle.lert_cone.specs.Replay.{MayFollow, ReplayLeavesAt}

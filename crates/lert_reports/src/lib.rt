@@ -9,8 +9,12 @@
 
 mod directory;
 mod log;
+mod log_point;
 mod store;
 
 pub use directory::bins;
-pub use log::{LogBefore, LogKind, LogParts, frames_of, read_log, report_at, write_log};
+pub use log::{
+    LogBefore, LogKind, LogParts, frames_of, greatest_record, read_log, report_at, write_log,
+};
+pub use log_point::{FIRST, LogPoint, OFFSET};
 pub use store::ReportStore;
