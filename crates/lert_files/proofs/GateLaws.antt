@@ -1,5 +1,5 @@
 -- Where what stands at a gate of a log leaves the format.
-use Rattle.std.proofs.Common.{ℕ, ◌≡◌, ◌+◌, ◌≤◌, Bool, true, false, Result, Err, List, refl, ap, sym, ◌∙◌, subst, arith, inl, inr}
+use Rattle.std.proofs.Common.{ℕ, ◌≡◌, ◌+◌, ◌≤◌, Bool, true, false, Result, Ok, Err, List, refl, ap, sym, ◌∙◌, subst, arith, inl, inr}
 use Rattle.std.proofs.lemmas.Bool.{true≢false}
 use Rattle.std.proofs.lemmas.List.{get_or_past}
 use Rattle.lert_gatelog.specs.Gated.{IsOpen, BreaksAt, No_gate, Cut_length, Cut_payload}
@@ -7,7 +7,7 @@ use Rattle.lert_spec.specs.declared.numbers.Numbers.{Numbers}
 use Rattle.lert_reports.specs.Log.{is_closed, most_record, HasLogUpTo, LogLeavesAt, PayloadLeavesAt, At_gate, In_payload, Behind_closing}
 use Rattle.lert_reports.specs.LogText.{LogRecord}
 use Rattle.lert_files.specs.declared.fault.ReopenFault.{ReopenFault}
-use Rattle.lert_files.specs.declared.fault.ReopenFault.TheVariants.{Malformed}
+use Rattle.lert_files.specs.declared.fault.ReopenFault.TheVariants.{Failed, Malformed}
 use Rattle.lert_files.specs.Read.{GateLeavesAt}
 
 pub same_place : {T : Type 0} (file at other_file other : ℕ) → ◌≡◌ {A = Result T ReopenFault} (Err (Malformed file at)) (Err (Malformed other_file other)) → at ≡ other
@@ -15,6 +15,18 @@ same_place file at other_file other is = cc
 
 pub same_file : {T : Type 0} (file at other_file other : ℕ) → ◌≡◌ {A = Result T ReopenFault} (Err (Malformed file at)) (Err (Malformed other_file other)) → file ≡ other_file
 same_file file at other_file other is = cc
+
+pub err_is : {T : Type 0} (one other : ReopenFault) → ◌≡◌ {A = Result T ReopenFault} (Err one) (Err other) → one ≡ other
+err_is one other is = cc
+
+pub not_err : {T : Type 0} (x : T) (fault : ReopenFault) → ◌≡◌ {A = Result T ReopenFault} (Ok x) (Err fault) → ⊥
+not_err x fault is = cc
+
+pub failed_or_malformed : {T : Type 0} (file at : ℕ) → ◌≡◌ {A = Result T ReopenFault} (Err Failed) (Err (Malformed file at)) → ⊥
+failed_or_malformed file at is = cc
+
+pub malformed_or_failed : {T : Type 0} (file at : ℕ) → ◌≡◌ {A = Result T ReopenFault} (Err (Malformed file at)) (Err Failed) → ⊥
+malformed_or_failed file at is = cc
 
 -- behind a closing record an open gate is the place itself, which lies before the one that its record breaks at
 behind_closing : (most : ℕ) (bytes : List ℕ) (gate at found : ℕ) → BreaksAt most bytes gate at → (gate ≤ at → found ≡ gate) → (at ≤ gate → found ≡ at) → GateLeavesAt most true bytes gate found

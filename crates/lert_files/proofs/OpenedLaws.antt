@@ -205,6 +205,17 @@ module _ (s : Numbers) (cone : ℕ) (seen : Files) (n0 offset first : ℕ) (clos
   check_refused fault (CheckMalformed place) is said =
       By_place 2 place is (In_frame headed records log_end log levels.rows named refl (subst (λ (numbers : Numbers). rows_left numbers (seen 2) levels.rows ≡ Some place) own (said place refl)))
 
+pub check_failed : (check : FlushFault) → checked_fault check ≡ Failed → check ≡ CheckFailed
+check_failed CheckFailed is = refl
+check_failed CheckOutOfMemory is = absurd (memory_or_failed is)
+  where
+    memory_or_failed : OutOfMemory ≡ Failed → ⊥
+    memory_or_failed same = cc
+check_failed (CheckMalformed place) is = absurd (place_or_failed is)
+  where
+    place_or_failed : Malformed 2 place ≡ Failed → ⊥
+    place_or_failed same = cc
+
 -- why the beginning of the journal is, and why the log behind it
 pub header_refused : (s : Numbers) (cone : ℕ) (seen : Files) (fault : ReopenFault) → (fault ≡ Failed) ⊎ IsHeaderFault s cone (seen 0) fault → IsRefused s cone seen fault
 header_refused s cone seen fault (inl failed) = By_call failed

@@ -14,7 +14,7 @@ use Rattle.std.proofs.lemmas.Map.Made.{IsDistinct-from_AllPairs}
 use Rattle.std.proofs.lemmas.Map.Steps.{length-le_from_distinct_below}
 use Rattle.byteorder.specs.Endian.{little_bytes}
 use Rattle.lert_bay.specs.Settled.{part}
-use Rattle.lert_gatelog.specs.Gated.{IsOpen, Records, next_gate}
+use Rattle.lert_gatelog.specs.Gated.{IsClosed, IsOpen, Records, next_gate}
 use Rattle.lert_spec.specs.declared.numbers.Numbers.{Numbers}
 use Rattle.lert_spec.specs.declared.report.Report.{Report}
 use Rattle.lert_spec.specs.Edges.{capacity}
@@ -24,7 +24,7 @@ use Rattle.lert_spec.specs.Mix.{cone_of}
 use Rattle.lert_spec.proofs.LimitLaws.{capacity_to}
 use Rattle.lert_reports.specs.declared.log.LogBefore.{LogBefore}
 use Rattle.lert_reports.specs.declared.log.LogKind.{LogKind}
-use Rattle.lert_reports.specs.Log.{is_closed, is_closing, is_flush, flushes_in, last_at, last_n0, listed_in, most_record, log_header, before_of, AreRecords, HasLogUpTo}
+use Rattle.lert_reports.specs.Log.{is_closed, is_closing, is_flush, flushes_in, last_at, last_n0, listed_in, most_record, log_header, before_of, AreRecords, HasLog, HasLogUpTo}
 use Rattle.lert_reports.specs.LogRules.{AreFrames, KeepsRules}
 use Rattle.lert_reports.specs.LogText.{LogRecord, directory_bytes, log_payload_of, report_bytes}
 use Rattle.lert_reports.proofs.LogLaws.{flushes_in-push, is_closed-push, last_directory-push, last_n0-push, listed_in-push, payloads-push, records_more, records_none}
@@ -174,6 +174,18 @@ read_none s cone progress reports directory is empty bytes = record {
   };
   before_is = ap (λ (p : Progress). p.before) is;
 }
+
+-- nothing more was read
+pub read_still : (s : Numbers) (cone : ℕ) (progress now : Progress) (reports reports_now : List Report) (directory directory_now : List ℕ) (records : List LogRecord) → now ≡ progress → reports_now ≡ reports → directory_now ≡ directory →
+    HasRead s cone progress reports directory records → HasRead s cone now reports_now directory_now records
+read_still s cone progress now reports reports_now directory directory_now records same reports_are bytes_are has =
+    subst (λ (p : Progress). HasRead s cone p reports_now directory_now records) (sym same)
+    (subst (λ rs. HasRead s cone progress rs directory_now records) (sym reports_are) (subst (λ bytes. HasRead s cone progress reports bytes records) (sym bytes_are) has))
+
+-- records up to a closed gate are a log
+pub whole_log : (s : Numbers) (cone : ℕ) (bytes : List ℕ) (records : List LogRecord) (gate end : ℕ) → HasLogUpTo s cone bytes records gate → IsClosed bytes gate → end ≡ gate → HasLog s cone bytes records end
+whole_log s cone bytes records gate end up shut same =
+    subst (HasLog s cone bytes records) (sym same) (record { headed = up.headed; records_stand = record { records = up.records_stand; closed = shut }; rules = up.rules })
 
 pub up_none : (s : Numbers) (cone : ℕ) (bytes : List ℕ) (gate : ℕ) → part bytes 0 8 ≡ log_header → gate ≡ 8 → HasLogUpTo s cone bytes [] gate
 up_none s cone bytes gate headed gate_is = record { headed = headed; records_stand = gate_is; rules = records_none s cone }

@@ -40,6 +40,10 @@ module _ (s : Numbers) (cone : ℕ) (valid : IsValid s) (bytes : List ℕ) where
   pub header_refuses : (fault : ReopenFault) (at : ℕ) → IsLogFault fault → ((file other : ℕ) → fault ≡ Malformed file other → LogLeavesAt s cone bytes other) → LogLeavesAt s cone bytes at → (fault ≡ Failed) ⊎ (fault ≡ Malformed 1 at)
   header_refuses fault at is said leaves = left_there fault at is (said 1) leaves
 
+  pub header_back : (fault : ReopenFault) (records : List LogRecord) (log_end : ℕ) → IsLogFault fault → ((file other : ℕ) → fault ≡ Malformed file other → LogLeavesAt s cone bytes other) → HasLog s cone bytes records log_end → fault ≡ Failed
+  header_back fault records log_end (inl failed) said log = failed
+  header_back fault records log_end (inr (at, is)) said log = absurd (log_or_left s cone valid bytes records log_end at log (said 1 at is))
+
   module _ (reports : List Report) (directory : List ℕ) (Q : List LogRecord → ℕ → Type 0) (log_of : (records : List LogRecord) (end : ℕ) → Q records end → HasLog s cone bytes records end) where
     abbrev IsRead : LogPoint → List LogRecord → Type 0
     IsRead end records = IsReadOf s cone end.n0 end.offset end.first end.closed reports directory records

@@ -11,9 +11,9 @@ ghost use Rattle.lert_files.specs.Read.{IsReadOf, IsPoint, AreReportsUpTo};
 ghost use Rattle.lert_reports.specs.Log.{log_header, most_record, HasLog, LogLeavesAt};
 ghost use Rattle.lert_reports.specs.LogText.{LogRecord};
 
-use crate::log_header::{LOG_HEADER_LEN, read_log_header};
 use crate::directory::Directory;
 use crate::fault::ReopenFault;
+use crate::log_header::{LOG_HEADER_LEN, read_log_header};
 use crate::log_record::{Progress, read_log_record};
 use lert_base::{CountTable, Settings};
 use lert_bay::{Bay, LOG};
