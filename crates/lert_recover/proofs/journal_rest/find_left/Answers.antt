@@ -22,7 +22,7 @@ records-preserved g c =
       ends = λ seen told ends.
           let stands = rw c.in-Packet.is at (found.told seen (now.only_read.seen ∙ told)) in
           now.ends seen told (ends_packet s c.args.cone last.n0 last.closed c.records.count (seen 0) c.records.log.gate c.find_here.new.log.gate c.in-Packet.keys stands ends);
-      only_read = only_read_on (g.B.Bay.files c.args.bay.now) (g.B.Bay.files c.records.bay) (g.B.Bay.files c.find_here.new.bay) (g.B.Bay.leaves c.args.bay.now) (g.B.Bay.leaves c.records.bay) (g.B.Bay.leaves c.find_here.new.bay) (g.B.Bay.moment c.args.bay.now) (g.B.Bay.moment c.records.bay) (g.B.Bay.moment c.find_here.new.bay) (g.B.Bay.left_since c.args.bay.now) (g.B.Bay.left_since c.records.bay) (g.B.Bay.left_since c.find_here.new.bay) now.only_read found.only_read (g.met.B.Bay.since_earlier c.find_here.new.bay);
+      only_read = only_read_on now.only_read found.only_read (g.met.B.Bay.since_earlier c.find_here.new.bay);
       never_falls = omega (arith, now.never_falls, found.cause.never_falls);
       mark = found.mark ∙ now.mark;
     }
