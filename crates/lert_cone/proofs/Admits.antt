@@ -16,7 +16,7 @@ use Rattle.lert_spec.specs.Edges.{capacity}
 use Rattle.lert_spec.specs.Look.{look}
 use Rattle.lert_spec.specs.Timely.{IsTimelySoFar}
 use Rattle.lert_cone.specs.declared.acked.Acked.{Acked}
-use Rattle.lert_cone.specs.declared.log_point.LogPoint.{LogPoint}
+use Rattle.lert_reports.specs.declared.log_point.LogPoint.{LogPoint}
 use Rattle.lert_cone.specs.declared.refusal.ConeFault.{ConeFault}
 use Rattle.lert_cone.specs.declared.refusal.ConeFault.TheVariants.{Closed, Broken, CapacityFull, BayFailed, Unsound, OutOfMemory}
 use Rattle.lert_cone.specs.declared.state.ConeState.{ConeState}

@@ -19,7 +19,7 @@ use Rattle.lert_spec.specs.declared.numbers.Numbers.{Numbers}
 use Rattle.lert_spec.specs.declared.report.Report.{Report}
 use Rattle.lert_spec.specs.Edges.{capacity}
 use Rattle.lert_spec.specs.Limits.{IsValid}
-use Rattle.lert_cone.specs.declared.log_point.LogPoint.{LogPoint}
+use Rattle.lert_reports.specs.declared.log_point.LogPoint.{LogPoint}
 use Rattle.lert_cone.specs.declared.refusal.ReplayFault.TheVariants.{Failed, Unsound, OutOfMemory}
 use Rattle.lert_cone.specs.declared.state.ConeState.{ConeState}
 use Rattle.lert_cone.specs.declared.state.ConeState.TheVariants.{Running, Finished, Replaying}

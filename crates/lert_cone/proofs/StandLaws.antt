@@ -28,7 +28,7 @@ use Rattle.lert_cone.specs.declared.state.ConeState.TheVariants.{Running, Finish
 use Rattle.lert_cone.specs.declared.refusal.ConeFault.TheVariants.{BayFailed, Unsound, OutOfMemory}
 use Rattle.lert_cone.specs.declared.tally.TakeFault.{TakeFault}
 use Rattle.lert_cone.specs.declared.tally.TakeFault.TheVariants.{Failed as TakeFailed, Unsound as TakeUnsound, OutOfMemory as TakeOutOfMemory}
-use Rattle.lert_cone.specs.declared.log_point.LogPoint.{LogPoint}
+use Rattle.lert_reports.specs.declared.log_point.LogPoint.{LogPoint}
 use Rattle.lert_cone.specs.Framed.{last_flush}
 use Rattle.lert_cone.specs.History.{most_payload, end_of}
 use Rattle.lert_cone.specs.InStep.{IsInStep, IsLogging, IsPartway, AreNew}

@@ -10,7 +10,7 @@ use Rattle.lert_spec.specs.declared.numbers.Numbers.{Numbers}
 use Rattle.lert_spec.specs.Edges.{capacity}
 use Rattle.lert_spec.specs.Limits.{IsValid}
 use Rattle.lert_spec.specs.Mix.{cone_of}
-use Rattle.lert_cone.specs.declared.log_point.LogPoint.{LogPoint}
+use Rattle.lert_reports.specs.declared.log_point.LogPoint.{LogPoint}
 use Rattle.lert_cone.specs.History.{most_payload}
 
 -- the bytes of the greatest text that is appended, a packet's or a log record's: its length, its payload and the next gate

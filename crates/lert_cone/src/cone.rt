@@ -23,7 +23,6 @@ ghost use Rattle.lert_cone.specs.Wrote.{Anything};
 use crate::acked::Acked;
 use crate::headers::{is_fresh, write_headers};
 use crate::keys::take_packet;
-use crate::log_point::LogPoint;
 use crate::refusal::{ConeFault, CreateFault, CreateRefused};
 use crate::report_log::ReportLog;
 use crate::room::ConeRoom;
@@ -32,6 +31,7 @@ use crate::tally::{TakeFault, Tally};
 use lert_base::{CountTable, Entry, Settings};
 use lert_bay::Bay;
 use lert_gatelog::GateLog;
+use lert_reports::LogPoint;
 use std::marker::Model;
 use std::snapshot::Snapshot;
 

@@ -9,12 +9,13 @@ ghost use Rattle.lert_reports.specs.Log.{most_record};
 ghost use Rattle.lert_cone.specs.Sound.{AreEmpty, FramesStay};
 ghost use Rattle.lert_cone.specs.InStep.{AreNew};
 
-use crate::report_log::{ReportLog, greatest_record};
+use crate::report_log::ReportLog;
 use lert_base::Settings;
 use lert_bay::{Bay, FRAMES, JOURNAL, LOG};
 use lert_gatelog::GateLog;
 use lert_io::Failed;
 use lert_journal::{HEADER_LEN, write_header};
+use lert_reports::greatest_record;
 
 // The letters LERTL, and version 1.
 const LOG_HEADER: [u8; 8] = [0x4c, 0x45, 0x52, 0x54, 0x4c, 0x01, 0x00, 0x00];

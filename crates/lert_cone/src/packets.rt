@@ -13,12 +13,12 @@ ghost use Rattle.lert_cone.specs.History.{most_payload};
 ghost use Rattle.lert_cone.specs.Replay.{MayFollow, ReplayLeavesAt};
 
 use crate::keys::keys_of;
-use crate::log_point::LogPoint;
 use crate::tally::Tally;
 use lert_base::{CountTable, Entry};
 use lert_bay::Bay;
 use lert_gatelog::{GateLog, LogFault};
 use lert_journal::read_entry;
+use lert_reports::LogPoint;
 
 /// Reads the packet at the journal's gate into the entry, and moves the journal on behind it, where the packet may stand behind
 /// the keys so far. False comes exactly at a closed gate behind as many keys as the log's last record has, and then the journal

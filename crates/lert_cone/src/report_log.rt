@@ -4,29 +4,15 @@ ghost use Rattle.std.specs.Prelude.{◌≡◌, ◌+◌, ◌<◌, ◌≤◌, ◌^
 ghost use Rattle.lert_bay.specs.Files.{IfTold};
 ghost use Rattle.lert_gatelog.specs.Gated.{IsClosed};
 ghost use Rattle.lert_gatelog.specs.Kept.{InEach};
-ghost use Rattle.lert_reports.specs.Log.{most_record};
-ghost use Rattle.lert_spec.specs.Limits.{IsValid};
 ghost use Rattle.lert_cone.specs.Appends.{AppendsRecord};
 ghost use Rattle.lert_cone.specs.Record.{payload_len};
 
-use crate::log_point::{FIRST, OFFSET};
-use lert_base::{Report, Settings};
+use lert_base::Report;
 use lert_bay::{Bay, LOG};
 use lert_gatelog::GateLog;
 use lert_io::Failed;
-use lert_reports::{LogKind, write_log};
+use lert_reports::{FIRST, LogKind, OFFSET, write_log};
 use std::marker::Model;
-
-/// The greatest length of a record's payload in a log: 29 bytes, one for each level and each of its bins, and 16 for each
-/// report that there is room for.
-pub fn greatest_record(settings: &Settings) -> u32
-    ensures value { result ≡ most_record settings.now }
-    ensures most { result ≤ 67109029 }
-    ensures valid { IsValid settings.now }
-{
-    let numbers = settings.numbers();
-    29 + numbers.levels as u32 * (1 + numbers.bins as u32) + 16 * numbers.room as u32
-}
 
 /// A log at its closed gate, and how many reports its records name. Seen as that, with the greatest length of a payload.
 #[derive(Drop)]

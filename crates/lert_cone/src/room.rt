@@ -7,12 +7,11 @@ ghost use Rattle.lert_cone.specs.Tally.{IsCounted, IsHeld};
 ghost use Rattle.lert_spec.specs.Limits.{IsValid};
 
 use crate::headers::greatest_payload;
-use crate::report_log::greatest_record;
 use crate::tally::Tally;
 use lert_base::{CountTable, Entry, KeyList, Settings};
 use lert_io::OutOfMemory;
 use lert_levels::{Levels, Zero};
-use lert_reports::ReportStore;
+use lert_reports::{ReportStore, greatest_record};
 use std::alloc::Global;
 
 // A packet of a journal has at most so many times the keys that the settings name.

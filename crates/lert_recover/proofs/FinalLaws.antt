@@ -15,13 +15,13 @@ use Rattle.lert_reports.specs.LogText.{LogRecord}
 use Rattle.lert_reports.proofs.LogOnce.{one_log}
 use Rattle.lert_spec.specs.declared.numbers.Numbers.{Numbers}
 use Rattle.lert_spec.specs.Limits.{IsValid}
-use Rattle.lert_recover.specs.declared.fault.ReopenFault.{ReopenFault}
-use Rattle.lert_recover.specs.declared.fault.ReopenFault.TheVariants.{Failed, Malformed, OtherSettings, OutOfMemory}
-use Rattle.lert_recover.specs.Headed.{HasOther}
-use Rattle.lert_recover.specs.Opened.{AreOpened}
+use Rattle.lert_files.specs.declared.fault.ReopenFault.{ReopenFault}
+use Rattle.lert_files.specs.declared.fault.ReopenFault.TheVariants.{Failed, Malformed, OtherSettings, OutOfMemory}
+use Rattle.lert_files.specs.Headed.{HasOther}
+use Rattle.lert_files.specs.Opened.{AreOpened}
 use Rattle.lert_recover.specs.Replayed.{AreInFormat, FirstLeaves, Before_records, In_records, JournalEnds, JournalLeavesAt}
 use Rattle.lert_recover.specs.Reopened.{IsReopened, IsReopenRefused, Of_call, Of_memory, Of_place, Of_header, Of_sight, IsUnsoundAt}
-use Rattle.lert_recover.proofs.OpenedLaws.{IsOutside, left_or_other, no_other, one_header, one_place, opened_or_left}
+use Rattle.lert_files.proofs.OpenedLaws.{IsOutside, left_or_other, no_other, one_header, one_place, opened_or_left}
 use Rattle.lert_recover.proofs.ReplayedLaws.{ends_from_start, ends_here, ends_or_leaves, journal_of, one_journal_place}
 
 module _ (s : Numbers) (cone : ℕ) (valid : IsValid s) (below : cone < 2 ^ 32) (seen : Files) where

@@ -1,22 +1,7 @@
-pub mod AgreedLaws
-pub mod CallLaws
-mod Examples
 pub mod FinalLaws
-pub mod GateLaws
-pub mod HeadLaws
-pub mod LeavesLaws
-pub mod LeftLaws
-pub mod OpenedLaws
-pub mod PointLaws
-pub mod QuietLaws
-pub mod RecordsLaws
 pub mod ReopenLaws
-pub mod RepeatLaws
 pub mod ReplayedLaws
 pub mod ReplayingLaws
 pub mod RestLaws
 pub mod SomeEvents
-pub mod StartLaws
-pub mod StepLaws
 pub mod StopLaws
-pub mod WholeLaws

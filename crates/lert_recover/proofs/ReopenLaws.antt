@@ -24,15 +24,15 @@ use Rattle.lert_reports.proofs.LogLaws.{last_directory-push}
 use Rattle.lert_spec.specs.declared.numbers.Numbers.{Numbers}
 use Rattle.lert_spec.specs.declared.report.Report.{Report}
 use Rattle.lert_spec.specs.Limits.{IsValid}
-use Rattle.lert_recover.specs.declared.fault.ReopenFault.{ReopenFault}
-use Rattle.lert_recover.specs.declared.fault.ReopenFault.TheVariants.{Failed, Malformed, OtherSettings, OutOfMemory}
-use Rattle.lert_recover.specs.Headed.{HasOther, IsHeaded}
-use Rattle.lert_recover.specs.Opened.{AreLastRows, AreOpened, IsAsRead, LeaveAt}
-use Rattle.lert_recover.specs.Read.{IsReadOf}
+use Rattle.lert_files.specs.declared.fault.ReopenFault.{ReopenFault}
+use Rattle.lert_files.specs.declared.fault.ReopenFault.TheVariants.{Failed, Malformed, OtherSettings, OutOfMemory}
+use Rattle.lert_files.specs.Headed.{HasOther, IsHeaded}
+use Rattle.lert_files.specs.Opened.{AreLastRows, AreOpened, IsAsRead, LeaveAt}
+use Rattle.lert_files.specs.Read.{IsReadOf}
 use Rattle.lert_recover.specs.Replayed.{Before_records, In_records, HasReplayed, JournalEnds, JournalLeavesAt}
 use Rattle.lert_recover.specs.Reopened.{IsReopened, IsReopenRefused, Of_call, Of_memory, Of_place, Of_header, Of_sight, IsStopped, At_call, At_memory, At_place, At_sight}
-use Rattle.lert_recover.proofs.PointLaws.{directed}
-use Rattle.lert_recover.proofs.RecordsLaws.{walk}
+use Rattle.lert_files.proofs.PointLaws.{directed}
+use Rattle.lert_files.proofs.RecordsLaws.{walk}
 
 -- ---- every image is what a read gives
 

@@ -15,7 +15,7 @@ use Rattle.lert_journal.specs.Journal.{HoldsPacket, HasPackets}
 use Rattle.lert_journal.specs.Payload.{payload_of, IsJournaled}
 use Rattle.lert_spec.specs.declared.numbers.Numbers.{Numbers}
 use Rattle.lert_spec.specs.Edges.{capacity}
-use Rattle.lert_recover.specs.Headed.{IsHeaded}
+use Rattle.lert_files.specs.Headed.{IsHeaded}
 use Rattle.lert_recover.specs.Replayed.{AreReplayed, HasReplayed, JournalEnds, JournalLeavesAt}
 
 module _ (s : Numbers) (cone n0 : ℕ) (closed : Bool) (bytes : List ℕ) where

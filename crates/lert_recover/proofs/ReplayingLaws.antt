@@ -1,8 +1,9 @@
 -- A cone that replays one packet more, or stops.
-use Rattle.std.proofs.Common.{ℕ, ◌≡◌, Some, Option, List, ◌++◌, length, refl, ap, sym, ◌∙◌, subst}
+use Rattle.std.proofs.Common.{ℕ, ◌≡◌, Bool, Some, Option, List, [], ◌++◌, length, max, refl, ap, sym, ◌∙◌, subst, arith}
 use Rattle.lert_base.specs.Packet.{Packet}
 use Rattle.lert_bay.specs.Files.{Files}
-use Rattle.lert_cone.specs.declared.log_point.LogPoint.{LogPoint}
+use Rattle.lert_reports.specs.declared.log_point.LogPoint.{LogPoint}
+use Rattle.lert_cone.specs.Framed.{HoldsSome}
 use Rattle.lert_cone.specs.History.{most_payload}
 use Rattle.lert_cone.specs.Listing.{Listing}
 use Rattle.lert_cone.specs.Replay.{MayFollow, ReplayLeavesAt}
@@ -10,6 +11,7 @@ use Rattle.lert_cone.specs.Stands.{IsSameCone, Standing}
 use Rattle.lert_gatelog.specs.Gated.{IsClosed, next_gate}
 use Rattle.lert_journal.specs.Journal.{HoldsPacket}
 use Rattle.lert_journal.specs.Payload.{payload_of}
+use Rattle.lert_rows.specs.declared.bin_at.BinAt.{BinAt}
 use Rattle.lert_spec.specs.declared.numbers.Numbers.{Numbers}
 use Rattle.lert_recover.specs.Replayed.{HasReplayed, IsJournalSame}
 use Rattle.lert_recover.proofs.ReplayedLaws.{replayed_more}
@@ -26,6 +28,22 @@ journal_on first middle last one two = record {
       (went.0, went.1, went.2 ∙ came.2);
   untold = λ none. two.untold (one.untold none);
 }
+
+-- before the first packet
+pub read_none : (s : Numbers) (cone n0 : ℕ) (closed : Bool) (bytes events : List ℕ) → events ≡ [] → HasReplayed s cone n0 closed bytes 32 events
+read_none s cone n0 closed bytes events none = record { packets = []; stand = refl; events_are = none }
+
+pub framed_none : (files : Option Files) (s : Numbers) (n0 : ℕ) (rows : List (List BinAt)) (events : List ℕ) → events ≡ [] → (seen there : Files) → files ≡ Some seen → files ≡ Some there → HoldsSome s n0 rows (seen 2) → HoldsSome s (max n0 (length events)) rows (there 2)
+framed_none files s n0 rows events none seen there told told_there some =
+    let n_is : n0 ≡ max n0 (length events) = omega (arith, ap (length {A = ℕ}) none) in
+    let same : seen ≡ there = one_told seen there (sym told ∙ told_there) in
+    subst (λ (n : ℕ). HoldsSome s n rows (there 2)) n_is (subst (λ (f : Files). HoldsSome s n0 rows (f 2)) same some)
+  where
+    one_told : (one other : Files) → Some one ≡ Some other → one ≡ other
+    one_told one other is = cc
+
+pub same_none : {B : Type 0} (start : Standing B) → IsSameCone start start
+same_none start = record { settings = refl; cone = refl; made = refl; last = refl }
 
 module _ {B : Type 0} (files : B → Option Files) (start old new : Standing B) where
   pub same_on : IsSameCone start old → IsSameCone old new → IsSameCone start new

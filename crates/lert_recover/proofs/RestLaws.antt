@@ -13,7 +13,7 @@ use Rattle.lert_journal.specs.Payload.{key_in, left, packet_in, payload_of}
 use Rattle.lert_journal.proofs.PayloadWhole.{payload_back, whole_packet}
 use Rattle.lert_spec.specs.declared.numbers.Numbers.{Numbers}
 use Rattle.lert_spec.specs.Edges.{capacity}
-use Rattle.lert_recover.specs.declared.rest.Found.TheVariants.{Packet as Followed}
+use Rattle.lert_recover.specs.declared.journal_rest.Found.TheVariants.{Packet as Followed}
 use Rattle.lert_recover.specs.Replayed.{JournalEnds, JournalLeavesAt}
 use Rattle.lert_recover.specs.Rest.{IsFound}
 use Rattle.lert_recover.proofs.ReplayedLaws.{ends_behind, later}

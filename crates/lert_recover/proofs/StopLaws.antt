@@ -10,8 +10,8 @@ use Rattle.lert_cone.specs.Tally.{Shows}
 use Rattle.lert_rows.specs.declared.bin_at.BinAt.{BinAt}
 use Rattle.lert_spec.specs.declared.numbers.Numbers.{Numbers}
 use Rattle.lert_spec.specs.declared.report.Report.{Report}
-use Rattle.lert_recover.specs.declared.fault.ReopenFault.{ReopenFault}
-use Rattle.lert_recover.specs.declared.fault.ReopenFault.TheVariants.{Failed, OutOfMemory}
+use Rattle.lert_files.specs.declared.fault.ReopenFault.{ReopenFault}
+use Rattle.lert_files.specs.declared.fault.ReopenFault.TheVariants.{Failed, OutOfMemory}
 use Rattle.lert_recover.specs.Replayed.{HasReplayed, IsOutsideReplay, JournalEnds, JournalLeavesAt}
 use Rattle.lert_recover.specs.Reopened.{IsStopped, IsWhy, At_call, At_memory, At_place, At_sight}
 use Rattle.lert_recover.proofs.ReplayedLaws.{ends_from_start, here, leaves_from_start}

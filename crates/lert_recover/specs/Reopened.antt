@@ -9,10 +9,10 @@ use Rattle.lert_cone.specs.declared.refusal.ReplayFault.TheVariants.{Failed as R
 use Rattle.lert_cone.specs.Sound.{IsSound}
 use Rattle.lert_gatelog.specs.Gated.{IsClosed}
 use Rattle.lert_rows.specs.declared.bin_at.BinAt.{BinAt}
-use Rattle.lert_recover.specs.declared.fault.ReopenFault.{ReopenFault}
-use Rattle.lert_recover.specs.declared.fault.ReopenFault.TheVariants.{Failed, Malformed, OtherSettings, OutOfMemory}
-use Rattle.lert_recover.specs.Headed.{HasOther}
-use Rattle.lert_recover.specs.Opened.{AreOpened}
+use Rattle.lert_files.specs.declared.fault.ReopenFault.{ReopenFault}
+use Rattle.lert_files.specs.declared.fault.ReopenFault.TheVariants.{Failed, Malformed, OtherSettings, OutOfMemory}
+use Rattle.lert_files.specs.Headed.{HasOther}
+use Rattle.lert_files.specs.Opened.{AreOpened}
 use Rattle.lert_recover.specs.Replayed.{AreInFormat, FirstLeaves, HasReplayed, JournalEnds, JournalLeavesAt}
 use Rattle.lert_reports.specs.Log.{is_closed, last_n0}
 use Rattle.lert_reports.specs.LogText.{LogRecord}

@@ -6,8 +6,8 @@ use Rattle.lert_cone.specs.Replay.{MayFollow, ReplayLeavesAt}
 use Rattle.lert_gatelog.specs.Gated.{IsClosed, next_gate}
 use Rattle.lert_journal.specs.Journal.{HoldsPacket}
 use Rattle.lert_journal.specs.Payload.{payload_of}
-use Rattle.lert_recover.specs.declared.rest.Found.{Found}
-use Rattle.lert_recover.specs.declared.rest.Found.TheVariants.{Packet as Followed, End, Left}
+use Rattle.lert_recover.specs.declared.journal_rest.Found.{Found}
+use Rattle.lert_recover.specs.declared.journal_rest.Found.TheVariants.{Packet as Followed, End, Left}
 use Rattle.lert_spec.specs.declared.numbers.Numbers.{Numbers}
 use Rattle.lert_spec.specs.Edges.{capacity}
 

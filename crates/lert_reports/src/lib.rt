@@ -8,8 +8,10 @@
 
 mod directory;
 mod log;
+mod log_point;
 mod store;
 
 pub use directory::bins;
-pub use log::{LogBefore, LogKind, LogParts, read_log, write_log};
+pub use log::{LogBefore, LogKind, LogParts, greatest_record, read_log, write_log};
+pub use log_point::{FIRST, LogPoint, OFFSET};
 pub use store::ReportStore;

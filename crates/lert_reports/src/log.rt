@@ -2,9 +2,11 @@
 
 ghost use Rattle.std.specs.Prelude.{◌≡◌, ℕ, ◌+◌, ◌*◌, ◌<◌, ◌≤◌, ◌^◌, ◌++◌, length, take, flat_map};
 ghost use Rattle.lert_gatelog.specs.Gated.{appendix};
+ghost use Rattle.lert_reports.specs.Log.{most_record};
 ghost use Rattle.lert_reports.specs.LogText.{kind_number, log_payload, report_bytes};
+ghost use Rattle.lert_spec.specs.Limits.{IsValid};
 
-use lert_base::Report;
+use lert_base::{Report, Settings};
 use lert_bay::fields::{put, put_u32, put_u64};
 pub use read::read_log;
 
@@ -101,4 +103,15 @@ fn put_report(into: &mut [u8], place: usize, report: &Report)
 {
     put_u64(into, place, report.key);
     put_u64(into, place + 8, report.at);
+}
+
+/// The greatest length of a record's payload in a log: 29 bytes, one for each level and each of its bins, and 16 for each
+/// report that there is room for.
+pub fn greatest_record(settings: &Settings) -> u32
+    ensures value { result ≡ most_record settings.now }
+    ensures most { result ≤ 67109029 }
+    ensures valid { IsValid settings.now }
+{
+    let numbers = settings.numbers();
+    29 + numbers.levels as u32 * (1 + numbers.bins as u32) + 16 * numbers.room as u32
 }

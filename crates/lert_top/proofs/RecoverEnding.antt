@@ -7,7 +7,7 @@ use Rattle.lert_base.specs.Packet.{Packet}
 use Rattle.lert_bay.specs.Files.{Files, IfTold}
 use Rattle.lert_cone.specs.Sound.{IsSound}
 use Rattle.lert_io.specs.Fault.{IsFaultless}
-use Rattle.lert_recover.specs.Headed.{HasOther}
+use Rattle.lert_files.specs.Headed.{HasOther}
 use Rattle.lert_recover.specs.Replayed.{FirstLeaves}
 use Rattle.lert_spec.specs.declared.numbers.Numbers.{Numbers}
 use Rattle.lert_top.specs.Bays.{AreFaultless, IfHeld}

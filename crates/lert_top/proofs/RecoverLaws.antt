@@ -12,9 +12,9 @@ use Rattle.lert_cone.specs.Stands.{IsWhole, Standing, StandsFor, WasSound, is_br
 use Rattle.lert_cone.specs.declared.state.ConeState.{ConeState}
 use Rattle.lert_cone.specs.declared.state.ConeState.TheVariants.{Running, Finished}
 use Rattle.lert_io.specs.Fault.{HasRisen, IsFaultless}
-use Rattle.lert_recover.specs.declared.fault.ReopenFault.{ReopenFault}
-use Rattle.lert_recover.specs.declared.fault.ReopenFault.TheVariants as fault
-use Rattle.lert_recover.specs.Headed.{HasOther}
+use Rattle.lert_files.specs.declared.fault.ReopenFault.{ReopenFault}
+use Rattle.lert_files.specs.declared.fault.ReopenFault.TheVariants as fault
+use Rattle.lert_files.specs.Headed.{HasOther}
 use Rattle.lert_recover.specs.Reopened.{IsUnsoundAt}
 use Rattle.lert_recover.specs.Replayed.{FirstLeaves}
 use Rattle.lert_reports.specs.Log.{is_closed}

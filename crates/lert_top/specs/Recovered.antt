@@ -7,9 +7,9 @@ use Rattle.lert_cone.specs.Sound.{IsJournal, IsSound, IsSoundAs}
 use Rattle.lert_cone.specs.Stands.{Standing, StandsFor, WasSound}
 use Rattle.lert_io.specs.Fault.{HasRisen, IsFaultless}
 use Rattle.lert_io.specs.Reading as reading
-use Rattle.lert_recover.specs.declared.fault.ReopenFault.{ReopenFault}
-use Rattle.lert_recover.specs.declared.fault.ReopenFault.TheVariants as fault
-use Rattle.lert_recover.specs.Headed.{HasOther}
+use Rattle.lert_files.specs.declared.fault.ReopenFault.{ReopenFault}
+use Rattle.lert_files.specs.declared.fault.ReopenFault.TheVariants as fault
+use Rattle.lert_files.specs.Headed.{HasOther}
 use Rattle.lert_recover.specs.Reopened.{IsUnsoundAt}
 use Rattle.lert_recover.specs.Replayed.{FirstLeaves}
 use Rattle.lert_reports.specs.Log.{is_closed}

@@ -21,16 +21,16 @@ ghost use Rattle.lert_cone.specs.Wrote.{IsShutIfTold, LeavesFile};
 use crate::cone::{Cone, broken_by};
 use crate::headers::greatest_payload;
 use crate::keys::{keys_of, replay_keys};
-use crate::log_point::LogPoint;
 use crate::packets::read_packet;
 use crate::refusal::ReplayFault;
-use crate::report_log::{ReportLog, greatest_record};
+use crate::report_log::ReportLog;
 use crate::room::ConeRoom;
 use crate::state::ConeState;
 use crate::tally::Tally;
 use lert_base::CountTable;
 use lert_bay::{Bay, JOURNAL};
 use lert_gatelog::GateLog;
+use lert_reports::{LogPoint, greatest_record};
 use std::snapshot::Snapshot;
 
 impl<B: Bay, T: CountTable> Cone<B, T> {

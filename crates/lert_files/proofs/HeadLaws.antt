@@ -1,0 +1,167 @@
+-- What the first bytes of a journal say is one of three: the header of this cone, another one, or a place at which they leave
+-- the format.
+use Rattle.std.proofs.Common.{ℕ, ◌≡◌, ◌≢◌, ◌+◌, ◌<◌, ◌≤◌, ◌^◌, min, nat_lt, Some, None, Result, Ok, Err, List, [], ◌∷◌, ◌++◌, length, take, drop, refl, ap, ap₂, sym, ◌∙◌, subst, arith, inl, inr, ◌⊎◌, length-take}
+use Rattle.std.specs.Prelude.{slice_index, if◌then◌else◌, MatchResult, IsErrAnd}
+use Rattle.std.proofs.Math.Seq.{take-add}
+use Rattle.std.proofs.lemmas.Bool.{cases_lt, le-ltb}
+use Rattle.std.proofs.lemmas.List.{drop_more, get_or-drop, length-drop, take_all, take-take}
+use Rattle.std.proofs.lemmas.Option.{none-some}
+use Rattle.byteorder.specs.Endian.{little_bytes}
+use Rattle.lert_base.specs.declared.kept.Kept.{Kept}
+use Rattle.lert_spec.specs.declared.numbers.Numbers.{Numbers}
+use Rattle.lert_spec.specs.Limits.{IsInLimits}
+use Rattle.lert_spec.specs.Trace.{agreed}
+use Rattle.lert_spec.proofs.ByteLaws.{bytes_back}
+use Rattle.lert_journal.specs.Header.{magic, header, header_left, number_at, kept_in}
+use Rattle.lert_journal.proofs.HeaderLaws.{reads_back, begins}
+use Rattle.lert_files.specs.declared.fault.ReopenFault.{ReopenFault}
+use Rattle.lert_files.specs.declared.fault.ReopenFault.TheVariants.{Failed, Malformed, OtherSettings}
+use Rattle.lert_files.specs.Headed.{BeginningLeaves, IsHeaded, HasOther, IsHeaderFault}
+use Rattle.lert_files.proofs.AgreedLaws.{agreed_whole}
+
+-- ---- the header of what it says
+
+module _ (bytes : List ℕ) (small : (k : ℕ) → slice_index bytes k < 256) (long : length bytes ≡ 32) where
+  piece : (place : ℕ) (rest : List ℕ) → take 4 (drop place bytes) ≡ rest → take place bytes ++ rest ≡ take (place + 4) bytes
+  piece place rest is = ap (λ more. take place bytes ++ more) (sym is) ∙ sym (take-add place 4 bytes)
+
+  number : (place : ℕ) → place + 4 ≤ 32 → take 4 (drop place bytes) ≡ little_bytes 4 (number_at bytes place)
+  number place within =
+      sym (bytes_back 0 4 (drop place bytes)
+      (λ k. subst (λ byte. byte < 256) (sym (get_or-drop place bytes k 0)) (small (place + k)))
+      (omega (arith, within, long, length-drop place bytes)))
+
+  four : take 4 (drop 24 bytes) ≡ slice_index bytes 24 ∷ slice_index bytes 25 ∷ slice_index bytes 26 ∷ slice_index bytes 27 ∷ []
+  four =
+      ap (take 4)
+      (drop_more bytes 24 0 (omega (arith, long))
+      ∙ ap (λ rest. slice_index bytes 24 ∷ rest)
+      (drop_more bytes 25 0 (omega (arith, long))
+      ∙ ap (λ rest. slice_index bytes 25 ∷ rest)
+      (drop_more bytes 26 0 (omega (arith, long))
+      ∙ ap (λ rest. slice_index bytes 26 ∷ rest) (drop_more bytes 27 0 (omega (arith, long))))))
+
+  -- bytes that say these numbers, and begin as a journal, are their header
+  pub header_of : (s : Numbers) (cone : ℕ) → take 8 bytes ≡ magic → kept_in bytes ≡ record { cone = cone; numbers = s } → bytes ≡ header s cone
+  header_of s cone begun kept =
+      let numbers : (kept_in bytes).numbers ≡ s = ap (λ (k : Kept). k.numbers) kept in
+      let cone_is : number_at bytes 28 ≡ cone = ap (λ (k : Kept). k.cone) kept in
+      let a = ap (λ (n : Numbers). little_bytes 4 n.threshold) numbers in
+      let b = ap (λ (n : Numbers). little_bytes 4 n.room) numbers in
+      let c = ap (λ (n : Numbers). little_bytes 4 n.base) numbers in
+      let d = ap (λ (n : Numbers). little_bytes 4 n.packet) numbers in
+      let e = ap (λ (n : Numbers). n.bins ∷ n.ratio ∷ n.levels ∷ n.cone_bits ∷ []) numbers in
+      let f = ap (little_bytes 4) cone_is in
+      let at12 = ap₂ (λ x y. x ++ y) (sym begun) (sym a) ∙ piece 8 _ (number 8 (omega arith)) in
+      let at16 = ap₂ (λ x y. x ++ y) at12 (sym b) ∙ piece 12 _ (number 12 (omega arith)) in
+      let at20 = ap₂ (λ x y. x ++ y) at16 (sym c) ∙ piece 16 _ (number 16 (omega arith)) in
+      let at24 = ap₂ (λ x y. x ++ y) at20 (sym d) ∙ piece 20 _ (number 20 (omega arith)) in
+      let at28 = ap₂ (λ x y. x ++ y) at24 (sym e) ∙ piece 24 _ four in
+      let at32 = ap₂ (λ x y. x ++ y) at28 (sym f) ∙ piece 28 _ (number 28 (omega arith)) in
+      sym (at32 ∙ take_all 32 bytes (omega (arith, long)))
+
+-- ---- files by their first bytes
+
+-- a file with a whole header leaves that nowhere
+pub whole_header : (file : List ℕ) → take 8 file ≡ magic → 32 ≤ length file → header_left file ≡ None
+whole_header file begun long =
+    let same : agreed magic file ≡ 8 = agreed_whole magic file begun in
+    ap (λ b. if b then Some (agreed magic file) else (if nat_lt (length file) 32 then Some (length file) else None)) (le-ltb (agreed magic file) 8 (omega (arith, same)))
+    ∙ ap (λ b. if b then Some (length file) else None) (le-ltb (length file) 32 (omega (arith, long)))
+
+-- the first eight bytes by the first thirty-two
+first_eight : (file head : List ℕ) → head ≡ take 32 file → take 8 head ≡ magic → take 8 file ≡ magic
+first_eight file head is begun = sym (take-take 8 32 file (omega arith)) ∙ (ap (take 8) (sym is) ∙ begun)
+
+module _ (s : Numbers) (cone : ℕ) (limits : IsInLimits s) (below : cone < 2 ^ 32) (file : List ℕ) where
+  headed_says : IsHeaded s cone file → kept_in (take 32 file) ≡ record { cone = cone; numbers = s }
+  headed_says headed = ap kept_in headed.headed ∙ reads_back s cone limits below
+
+  pub headed_whole : IsHeaded s cone file → (at : ℕ) → BeginningLeaves s cone file at → ⊥
+  headed_whole headed at (inl left) =
+      none-some at (sym (whole_header file (first_eight file (header s cone) (sym headed.headed) (begins s cone)) (omega (arith, headed.gate))) ∙ left)
+  headed_whole headed at (inr (gateless, is)) = absurd (omega (arith, headed.gate, gateless.short))
+
+  pub headed_or_fault : (fault : ReopenFault) → IsHeaded s cone file → IsHeaderFault s cone file fault → ⊥
+  headed_or_fault fault headed (inl (at, is, left)) = headed_whole headed at left
+  headed_or_fault fault headed (inr (kept, is, other)) = other.other (other.kept_is ∙ headed_says headed)
+
+  some_place : (m n : ℕ) → Some m ≡ Some n → m ≡ n
+  some_place m n is = cc
+
+  -- a beginning is left at one place, and not where it says other numbers
+  pub one_beginning : (m n : ℕ) → BeginningLeaves s cone file m → BeginningLeaves s cone file n → m ≡ n
+  one_beginning m n (inl left) (inl too) = some_place m n (sym left ∙ too)
+  one_beginning m n (inl left) (inr (gateless, is)) = absurd (none-some m (sym gateless.whole ∙ left))
+  one_beginning m n (inr (gateless, is)) (inl left) = absurd (none-some n (sym gateless.whole ∙ left))
+  one_beginning m n (inr (gateless, is)) (inr (other, too)) = is ∙ sym too
+
+  pub other_or_left : (kept : Kept) (at : ℕ) → HasOther s cone file kept → BeginningLeaves s cone file at → ⊥
+  other_or_left kept at has (inl left) = none-some at (sym has.whole ∙ left)
+  other_or_left kept at has (inr (gateless, is)) = has.other (has.kept_is ∙ gateless.own)
+
+  left_fault : (fault : ReopenFault) (at : ℕ) → BeginningLeaves s cone file at → IsHeaderFault s cone file fault → fault ≡ Malformed 0 at
+  left_fault fault at left (inl (other, is, too)) = is ∙ ap (Malformed 0) (one_beginning other at too left)
+  left_fault fault at left (inr (kept, is, other)) = absurd (other_or_left kept at other left)
+
+  other_fault : (fault : ReopenFault) (kept : Kept) → HasOther s cone file kept → IsHeaderFault s cone file fault → fault ≡ OtherSettings kept
+  other_fault fault kept has (inl (at, is, left)) = absurd (other_or_left kept at has left)
+  other_fault fault kept has (inr (too, is, other)) = is ∙ ap OtherSettings (other.kept_is ∙ sym has.kept_is)
+
+  -- ---- what an answer that is right says the other way round
+
+  module _ {T : Type 0} where
+    abbrev pub Told : Result T ReopenFault → Type 0
+    Told result = MatchResult result (λ _. IsHeaded s cone file) (λ fault. (fault ≡ Failed) ⊎ IsHeaderFault s cone file fault)
+
+    pub told : (result : Result T ReopenFault) → MatchResult result (λ _. IsHeaded s cone file) (IsHeaderFault s cone file) → Told result
+    told (Ok x) is = is
+    told (Err fault) is = inr is
+
+    pub headed_back : (result : Result T ReopenFault) → Told result → IsHeaded s cone file → MatchResult result (λ _. Unit {0}) (λ fault. fault ≡ Failed)
+    headed_back (Ok x) is headed = tt
+    headed_back (Err fault) (inl failed) headed = failed
+    headed_back (Err fault) (inr is) headed = absurd (headed_or_fault fault headed is)
+
+    pub left_back : (result : Result T ReopenFault) → Told result → (at : ℕ) → BeginningLeaves s cone file at → IsErrAnd result (λ fault. (fault ≡ Failed) ⊎ (fault ≡ Malformed 0 at))
+    left_back (Ok x) is at left = headed_whole is at left
+    left_back (Err fault) (inl failed) at left = inl failed
+    left_back (Err fault) (inr is) at left = inr (left_fault fault at left is)
+
+    pub other_back : (result : Result T ReopenFault) → Told result → (kept : Kept) → HasOther s cone file kept → IsErrAnd result (λ fault. (fault ≡ Failed) ⊎ (fault ≡ OtherSettings kept))
+    other_back (Ok x) is kept has = has.other (has.kept_is ∙ headed_says is)
+    other_back (Err fault) (inl failed) kept has = inl failed
+    other_back (Err fault) (inr is) kept has = inr (other_fault fault kept has is)
+
+-- ---- from what was read to the file
+
+-- as many bytes as there is room for, or as the file has
+pub read_front : (room count : ℕ) (into file : List ℕ) → count ≡ min room (length file) → take count into ≡ take count file → take count into ≡ take room file
+read_front room count into file count_is copied =
+    elim (cases_lt (length file) room) [
+      | inl short ↦ copied ∙ (take_all count file (omega (arith, count_is, short)) ∙ sym (take_all room file (omega (arith, short))))
+      | inr long ↦ copied ∙ ap (λ n. take n file) (let same : count ≡ room = omega (arith, count_is, long) in same)
+    ]
+
+-- a whole header that was read, with a gate behind it: its file begins with it
+pub read_whole : (count : ℕ) (head file : List ℕ) → length head ≡ 32 → count ≤ 32 → take count head ≡ take 32 file → 32 ≤ length (take count head) → head ≡ take 32 file
+read_whole count head file long few is whole =
+    sym (take_all 32 head (omega (arith, long)))
+    ∙ (ap (λ n. take n head) (let same : 32 ≡ count = omega (arith, whole, few, length-take count head) in same) ∙ is)
+
+-- its file has as many bytes
+pub whole_file : (count : ℕ) (head file : List ℕ) → take count head ≡ take 32 file → 32 ≤ length (take count head) → 32 ≤ length file
+whole_file count head file is whole = omega (arith, whole, ap (λ (xs : List ℕ). length xs) is, length-take 32 file)
+
+pub gateless_there : (s : Numbers) (cone at : ℕ) (head file : List ℕ) (kept : Kept) → head ≡ take 32 file → take 8 head ≡ magic → 32 ≤ length file → at ≡ length file → at ≤ 32 → kept ≡ kept_in head →
+    kept ≡ record { cone = cone; numbers = s } → IsHeaderFault s cone file (Malformed 0 at)
+gateless_there s cone at head file kept is begun long at_is short kept_is own =
+    inl (at, refl, inr (record { whole = whole_header file (first_eight file head is begun) long; own = sym (ap kept_in is) ∙ (sym kept_is ∙ own); short = omega (arith, at_is, short) }, at_is))
+
+pub fault_there : (s : Numbers) (cone : ℕ) (head file : List ℕ) (kept : Kept) → head ≡ take 32 file → take 8 head ≡ magic → 32 ≤ length file → kept ≡ kept_in head → kept ≢ record { cone = cone; numbers = s } → IsHeaderFault s cone file (OtherSettings kept)
+fault_there s cone head file kept is begun long kept_is other =
+    inr (kept, refl, record { whole = whole_header file (first_eight file head is begun) long; kept_is = kept_is ∙ ap kept_in is; other = other })
+
+pub headed_there : (s : Numbers) (cone : ℕ) (head file : List ℕ) (kept : Kept) → ((k : ℕ) → slice_index head k < 256) → length head ≡ 32 → head ≡ take 32 file → take 8 head ≡ magic → 32 < length file → kept ≡ kept_in head → kept ≡ record { cone = cone; numbers = s } → IsHeaded s cone file
+headed_there s cone head file kept small long is begun gate kept_is own =
+    record { headed = sym is ∙ header_of head small long s cone begun (sym kept_is ∙ own); gate = gate }

@@ -1,0 +1,4 @@
+pub mod Headed
+pub mod Opened
+pub mod Read
+pub mod Repeated

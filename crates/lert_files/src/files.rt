@@ -1,0 +1,134 @@
+//! What is read of a cone's files before the records of its journal.
+
+ghost use Rattle.std.specs.Prelude.{◌≡◌, ◌⊎◌, ℕ, ◌≤◌, ◌^◌, List, [], Some, None, length, IfOk, IfErr, OnOk, MatchResult, IsErrOf, IsErrAnd};
+ghost use Rattle.lert_base.specs.declared.kept.Kept.{Kept as KeptOf};
+ghost use Rattle.lert_bay.specs.Files.{Files, IfTold};
+ghost use Rattle.lert_io.specs.Fault.{HasRisen, HasCause};
+ghost use Rattle.lert_rows.specs.declared.bin_at.BinAt.{BinAt};
+ghost use Rattle.lert_rows.specs.Checked.{EachStands};
+ghost use Rattle.lert_rows.specs.Rows.{IsAt, AreRows, directory_text};
+ghost use Rattle.lert_files.specs.Headed.{HasOther};
+ghost use Rattle.lert_files.specs.Opened.{AreOpened, IsAsRead, IsRefused, LeaveAt, WritesNothing};
+ghost use Rattle.lert_files.specs.Read.{IsReadOf, IsPoint, AreReportsUpTo};
+ghost use Rattle.lert_reports.specs.Log.{most_record};
+ghost use Rattle.lert_reports.specs.LogText.{LogRecord};
+
+use crate::directory::Directory;
+use crate::fault::ReopenFault;
+use crate::journal_header::read_journal_header;
+use crate::log::read_whole_log;
+use lert_base::{CountTable, Settings};
+use lert_bay::{Bay, FRAMES, JOURNAL, LOG};
+use lert_io::Failed;
+use lert_levels::Levels;
+use lert_reports::{LogPoint, ReportStore};
+
+/// Makes the three files of a cone durable, and reads the header of its journal, its whole log, and each frame that the last
+/// record of the log names. The reports of all records come into the store, and the bins of that record into the levels. After
+/// a fault any of these may be in them, and any bytes are in `buffer`.
+///
+/// Writes nothing. Takes the memory of one bin at a time. Costs a look-up a report, and reads each frame once.
+pub fn read_files<B: Bay, T: CountTable>(
+    bay: &mut B,
+    settings: &Settings,
+    cone: u32,
+    levels: &mut Levels<T>,
+    store: &mut ReportStore<T>,
+    buffer: &mut [u8],
+) -> Result<LogPoint, ReopenFault>
+    requires levels { levels.old.settings ≡ settings.now }
+    requires store { store.old.settings ≡ settings.now }
+    requires empty { store.old.reports ≡ [] }
+    requires room { most_record settings.now ≤ length buffer.old }
+
+    // Told or not, what was read keeps the rules.
+    ensures point { IfOk result (λ end. IsPoint settings.now end.n0 end.offset end.first) }
+    ensures reach { IfOk result (λ end. end.log_end ≤ 2 ^ 62) }
+    ensures at { IfOk result (λ end. IsAt settings.now end.n0 levels.new.rows) }
+    ensures rows { OnOk result (AreRows settings.now levels.new.rows) }
+    ensures reports { IfOk result (λ end. AreReportsUpTo settings.now cone end.n0 store.new.reports) }
+
+    // Where the files are told, it is what stands in them, and every image is what a read gives.
+    ensures opened { IfTold (B.files bay.old) (λ seen. IfOk result (λ end. (records : List LogRecord)
+        × IsReadOf settings.now cone end.n0 end.offset end.first end.closed store.new.reports (directory_text levels.new.rows) records
+        × AreOpened settings.now cone seen records end.log_end levels.new.rows)) }
+    ensures stand { IfTold (B.files bay.old) (λ seen. OnOk result (EachStands settings.now (seen 2) levels.new.rows)) }
+    ensures durable { IfTold (B.files bay.old) (λ seen. OnOk result ((image : Files) → B.leaves bay.new image → IsAsRead seen image)) }
+    ensures malformed { IfTold (B.files bay.old) (λ seen. (file at : ℕ) → IsErrOf result (ReopenFault.Malformed file at) →
+        LeaveAt settings.now cone seen file at) }
+    ensures other { IfTold (B.files bay.old) (λ seen. (kept : KeptOf) → IsErrOf result (ReopenFault.OtherSettings kept) →
+        HasOther settings.now cone (seen 0) kept) }
+
+    // And what stands in them is the answer, but where a call of the bay or memory fails.
+    ensures passes { IfTold (B.files bay.old) (λ seen. (records : List LogRecord) (log_end : ℕ) (rows : List (List BinAt)) →
+        AreOpened settings.now cone seen records log_end rows →
+        MatchResult result
+        (λ end. (end.log_end ≡ log_end) × (levels.new.rows ≡ rows)
+        × IsReadOf settings.now cone end.n0 end.offset end.first end.closed store.new.reports (directory_text levels.new.rows) records)
+        (λ fault. (fault ≡ ReopenFault.Failed) ⊎ (fault ≡ ReopenFault.OutOfMemory))) }
+    ensures refuses { IfTold (B.files bay.old) (λ seen. (file at : ℕ) → LeaveAt settings.now cone seen file at →
+        IsErrAnd result (λ fault. ((fault ≡ ReopenFault.Failed) ⊎ (fault ≡ ReopenFault.OutOfMemory)) ⊎ (fault ≡ ReopenFault.Malformed file at))) }
+    ensures differs { IfTold (B.files bay.old) (λ seen. (kept : KeptOf) → HasOther settings.now cone (seen 0) kept →
+        IsErrAnd result (λ fault. ((fault ≡ ReopenFault.Failed) ⊎ (fault ≡ ReopenFault.OutOfMemory)) ⊎ (fault ≡ ReopenFault.OtherSettings kept))) }
+    ensures same { (levels.new.settings ≡ levels.old.settings) × (store.new.settings ≡ store.old.settings) }
+    ensures quiet { WritesNothing (B.files bay.old) (B.files bay.new) (B.leaves bay.old) (B.leaves bay.new) (B.moment bay.old) (B.moment bay.new) (B.left_since bay.old) (B.left_since bay.new) }
+    ensures never_falls { B.faults bay.old ≤ B.faults bay.new }
+    ensures failed { IsErrOf result ReopenFault.Failed → HasRisen (B.faults bay.old) (B.faults bay.new) }
+    ensures mark { B.mark bay.new ≡ B.mark bay.old }
+{
+    // Its clause says that the numbers are valid.
+    let _ = settings.numbers();
+    read_in_order(bay, settings, cone, levels, store, buffer)
+}
+
+// Reads them, in the order in which a place comes first.
+fn read_in_order<B: Bay, T: CountTable>(
+    bay: &mut B,
+    settings: &Settings,
+    cone: u32,
+    levels: &mut Levels<T>,
+    store: &mut ReportStore<T>,
+    buffer: &mut [u8],
+) -> Result<LogPoint, ReopenFault>
+    requires levels { levels.old.settings ≡ settings.now }
+    requires store { store.old.settings ≡ settings.now }
+    requires empty { store.old.reports ≡ [] }
+    requires room { most_record settings.now ≤ length buffer.old }
+    ensures point { IfOk result (λ end. IsPoint settings.now end.n0 end.offset end.first) }
+    ensures reach { IfOk result (λ end. end.log_end ≤ 2 ^ 62) }
+    ensures at { IfOk result (λ end. IsAt settings.now end.n0 levels.new.rows) }
+    ensures rows { OnOk result (AreRows settings.now levels.new.rows) }
+    ensures reports { IfOk result (λ end. AreReportsUpTo settings.now cone end.n0 store.new.reports) }
+    ensures told { IfTold (B.files bay.old) (λ seen. MatchResult result
+        (λ end. (records : List LogRecord)
+        × IsReadOf settings.now cone end.n0 end.offset end.first end.closed store.new.reports (directory_text levels.new.rows) records
+        × AreOpened settings.now cone seen records end.log_end levels.new.rows)
+        (IsRefused settings.now cone seen)) }
+    ensures stand { IfTold (B.files bay.old) (λ seen. OnOk result (EachStands settings.now (seen 2) levels.new.rows)) }
+    ensures durable { IfTold (B.files bay.old) (λ seen. OnOk result ((image : Files) → B.leaves bay.new image → IsAsRead seen image)) }
+    ensures same { (levels.new.settings ≡ levels.old.settings) × (store.new.settings ≡ store.old.settings) }
+    ensures quiet { WritesNothing (B.files bay.old) (B.files bay.new) (B.leaves bay.old) (B.leaves bay.new) (B.moment bay.old) (B.moment bay.new) (B.left_since bay.old) (B.left_since bay.new) }
+    ensures never_falls { B.faults bay.old ≤ B.faults bay.new }
+    ensures failed { IsErrOf result ReopenFault.Failed → HasRisen (B.faults bay.old) (B.faults bay.new) }
+    ensures mark { B.mark bay.new ≡ B.mark bay.old }
+{
+    let mut directory = Directory::new();
+    sync_files(bay)?;
+    read_journal_header(bay, settings, cone)?;
+    let end = read_whole_log(bay, settings, cone, store, &mut directory, buffer)?;
+    levels.restore(end.n0, directory.bytes());
+    levels.check(bay)?;
+    Ok(end)
+}
+
+// Makes the three files durable.
+fn sync_files<B: Bay>(bay: &mut B) -> Result<(), Failed>
+    ensures durable { IfTold (B.files bay.old) (λ seen. OnOk result ((image : Files) → B.leaves bay.new image → IsAsRead seen image)) }
+    ensures quiet { WritesNothing (B.files bay.old) (B.files bay.new) (B.leaves bay.old) (B.leaves bay.new) (B.moment bay.old) (B.moment bay.new) (B.left_since bay.old) (B.left_since bay.new) }
+    ensures cause { HasCause (B.faults bay.old) (B.faults bay.new) result }
+    ensures mark { B.mark bay.new ≡ B.mark bay.old }
+{
+    bay.sync(JOURNAL)?;
+    bay.sync(LOG)?;
+    bay.sync(FRAMES)
+}

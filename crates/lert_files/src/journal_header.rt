@@ -1,0 +1,95 @@
+//! The header of the journal.
+
+ghost use Rattle.std.specs.Prelude.{◌≡◌, ◌≢◌, ◌⊎◌, ℕ, ◌≤◌, List, Some, length, take, IsTrue, IsFalse, IfErr, MatchResult, IsErrOf, IsErrAnd};
+ghost use Rattle.lert_base.specs.declared.kept.Kept.{Kept as KeptOf};
+ghost use Rattle.lert_bay.specs.Files.{Files, IfTold};
+ghost use Rattle.lert_bay.specs.Images.{KeepsImages, Lasts};
+ghost use Rattle.lert_io.specs.Fault.{HasRisen};
+ghost use Rattle.lert_files.specs.Headed.{BeginningLeaves, IsHeaded, HasOther, IsHeaderFault, IsOfHeader};
+
+use crate::fault::ReopenFault;
+use lert_base::{Kept, Settings};
+use lert_bay::{Bay, JOURNAL};
+use lert_journal::{HEADER_LEN, header_left, read_header};
+
+/// Reads the header of the journal. Ok comes exactly where it is that of this cone with these settings and a gate stands
+/// behind it, but where a call of the bay fails. Reads 32 bytes and a length, changes no file and takes no memory.
+pub fn read_journal_header<B: Bay>(
+    bay: &mut B,
+    settings: &Settings,
+    cone: u32,
+) -> Result<(), ReopenFault>
+    // Where the file is told, the answer is what stands there.
+    ensures told { IfTold (B.files bay.old) (λ seen. MatchResult result (λ _. IsHeaded settings.now cone (seen 0))
+        (λ fault. (fault ≡ ReopenFault.Failed) ⊎ IsHeaderFault settings.now cone (seen 0) fault)) }
+
+    // And what stands there is the answer, but where a call of the bay fails.
+    ensures reads_back { IfTold (B.files bay.old) (λ seen. IsHeaded settings.now cone (seen 0) →
+        MatchResult result (λ _. Unit {0}) (λ fault. fault ≡ ReopenFault.Failed)) }
+    ensures refuses { IfTold (B.files bay.old) (λ seen. (at : ℕ) → BeginningLeaves settings.now cone (seen 0) at →
+        IsErrAnd result (λ fault. (fault ≡ ReopenFault.Failed) ⊎ (fault ≡ ReopenFault.Malformed 0 at))) }
+    ensures differs { IfTold (B.files bay.old) (λ seen. (kept : KeptOf) → HasOther settings.now cone (seen 0) kept →
+        IsErrAnd result (λ fault. (fault ≡ ReopenFault.Failed) ⊎ (fault ≡ ReopenFault.OtherSettings kept))) }
+
+    // Told or not, it is the bay or the journal that is refused.
+    ensures fault { IfErr result (λ fault. (fault ≡ ReopenFault.Failed) ⊎ IsOfHeader fault) }
+    ensures seen { B.files bay.new ≡ B.files bay.old }
+    ensures images { KeepsImages (B.leaves bay.old) (B.leaves bay.new) }
+    ensures moments { (image : Files) → B.left_since bay.new (B.moment bay.old) image → B.leaves bay.old image }
+    ensures time { Lasts (B.moment bay.old) (B.moment bay.new) (B.left_since bay.old) (B.left_since bay.new) }
+    ensures never_falls { B.faults bay.old ≤ B.faults bay.new }
+    ensures failed { IsErrOf result ReopenFault.Failed → HasRisen (B.faults bay.old) (B.faults bay.new) }
+    ensures mark { B.mark bay.new ≡ B.mark bay.old }
+{
+    // Its clause says that the numbers are valid.
+    let _ = settings.numbers();
+    let end = bay.len(JOURNAL)?;
+    let mut head = [0; HEADER_LEN];
+    let count = bay.read_at(JOURNAL, 0, &mut head)?;
+    check_header(settings, cone, &head, count, end)
+}
+
+// Whether the first bytes of a file of `end` bytes, of which `count` were read, are the header of this cone.
+fn check_header(
+    settings: &Settings,
+    cone: u32,
+    head: &[u8; HEADER_LEN],
+    count: usize,
+    end: u64,
+) -> Result<(), ReopenFault>
+    requires { count ≤ 32 }
+    ensures told { (file : List ℕ) → end ≡ length file → take count head.now ≡ take 32 file →
+        MatchResult result (λ _. IsHeaded settings.now cone file) (IsHeaderFault settings.now cone file) }
+    ensures fault { IfErr result IsOfHeader }
+    ensures decided { ¬ IsErrOf result ReopenFault.Failed }
+{
+    if let Some(at) = header_left(&head[..count]) {
+        return Err(ReopenFault::Malformed { file: JOURNAL, at });
+    }
+    let Some(kept) = read_header(head) else {
+        unreachable!()
+    };
+    // Other settings are told of a header alone, too.
+    if !is_own(settings, cone, &kept) {
+        return Err(ReopenFault::OtherSettings { kept });
+    }
+    if end <= HEADER_LEN as u64 {
+        return Err(ReopenFault::Malformed {
+            file: JOURNAL,
+            at: end,
+        });
+    }
+    Ok(())
+}
+
+// Whether a header says these settings and this cone.
+fn is_own(settings: &Settings, cone: u32, kept: &Kept) -> bool
+    ensures own { IsTrue result → kept.now ≡ record { cone = cone; numbers = settings.now } }
+    ensures other { IsFalse result → kept.now ≢ record { cone = cone; numbers = settings.now } }
+{
+    let own = Kept {
+        cone,
+        numbers: settings.numbers(),
+    };
+    *kept == own
+}

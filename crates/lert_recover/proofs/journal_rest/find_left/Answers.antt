@@ -1,0 +1,35 @@
+use Rattle.std.proofs.Common.{◌∙◌, arith}
+use Rattle.lert_files.proofs.CallLaws.{only_read_on}
+use Rattle.lert_recover.proofs.ReplayedLaws.{here}
+use Rattle.lert_recover.proofs.RestLaws.{ends_packet, onward_packet}
+use Rattle.lert_recover.proofs.journal_rest.find_left.Goals as goal
+
+pub records-preserved : goal.records-preserved
+records-preserved g c =
+    let s = c.args.settings.now in
+    let now = c.records.invariant in
+    let last = c.args.last.now in
+    let found = c.in_ok-keys.ensures in
+    let goes = rw c.in-Packet.is at found.forward in
+    record {
+      file = found.file ∙ now.file;
+      most = found.most ∙ now.most;
+      within = goes.1;
+      near = omega (arith, now.near, goes.0, goes.2);
+      onward = λ seen told at leaves.
+          let stands = rw c.in-Packet.is at (found.told seen (now.only_read.seen ∙ told)) in
+          now.onward seen told at (onward_packet s c.args.cone last.n0 last.closed c.records.count (seen 0) c.records.log.gate c.find_here.new.log.gate c.in-Packet.keys stands at leaves);
+      ends = λ seen told ends.
+          let stands = rw c.in-Packet.is at (found.told seen (now.only_read.seen ∙ told)) in
+          now.ends seen told (ends_packet s c.args.cone last.n0 last.closed c.records.count (seen 0) c.records.log.gate c.find_here.new.log.gate c.in-Packet.keys stands ends);
+      only_read = only_read_on now.only_read found.only_read (g.met.B.Bay.since_earlier c.find_here.new.bay);
+      never_falls = omega (arith, now.never_falls, found.cause.never_falls);
+      mark = found.mark ∙ now.mark;
+    }
+
+pub returns-in-Left-clause-told : goal.returns-in-Left-clause-told
+returns-in-Left-clause-told g c seen told =
+    let now = c.records.invariant in
+    let last = c.args.last.now in
+    let left = rw c.in-Left.is at (c.in_ok-keys.ensures.told seen (now.only_read.seen ∙ told)) in
+    now.onward seen told c.in-Left.at (here c.args.settings.now c.args.cone last.n0 last.closed (seen 0) c.records.count c.records.log.gate c.in-Left.at left)

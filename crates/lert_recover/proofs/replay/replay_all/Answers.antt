@@ -1,0 +1,143 @@
+use Rattle.std.proofs.Common.{◌≡◌, ◌+◌, ◌≤◌, [], ◌∷◌, ◌++◌, length, refl, ap, sym, ◌∙◌, subst, arith, length-append, Err, List, ℕ}
+use Rattle.lert_spec.specs.declared.numbers.Numbers.{Numbers}
+use Rattle.lert_spec.specs.Edges.{capacity}
+use Rattle.lert_io.proofs.Rising.{risen_since}
+use Rattle.lert_reports.specs.declared.log_point.LogPoint.{LogPoint}
+use Rattle.lert_cone.specs.declared.refusal.ReplayFault.TheVariants.{Unsound}
+use Rattle.lert_cone.specs.Replays.{Replays, WhyRefused}
+use Rattle.lert_cone.specs.Stands.{Standing}
+use Rattle.lert_recover.specs.Replayed.{HasReplayed}
+use Rattle.lert_recover.proofs.ReplayingLaws.{framed_none, journal_none, journal_on, left_on, read_none, read_on, same_none, same_on, shut_on}
+use Rattle.lert_recover.proofs.StopLaws.{full_alone}
+use Rattle.lert_recover.proofs.replay.replay_all.Goals as goal
+
+pub packets-init : goal.packets-init
+packets-init g c =
+    let start = c.args.cone.now in
+    let begun = c.requires.begun in
+    let none = ap (length {A = ℕ}) begun.1 in
+    record {
+      state = c.requires.replaying;
+      same = same_none start;
+      closed = refl;
+      gate_is = begun.0;
+      counted = begun.2 ∙ sym none;
+      within = omega (arith, none);
+      near = omega arith;
+      read = λ seen told. read_none start.listing.settings start.listing.cone start.last.n0 start.last.closed (seen 0) start.listing.events begun.1;
+      sound = λ seen told h replays. ([], replays);
+      framed = λ seen told some there told_there. framed_none (g.B.Bay.files start.bay) start.listing.settings start.last.n0 start.rows start.listing.events begun.1 seen there told told_there some;
+      journal = journal_none (g.B.Bay.files start.bay);
+      never_falls = omega arith;
+      mark = refl;
+    }
+
+pub packets-preserved : goal.packets-preserved
+packets-preserved g c =
+    let files = g.B.Bay.files in
+    let start = c.args.cone.now in
+    let old = c.packets.cone in
+    let new = c.replay.new.self in
+    let now = c.packets.invariant in
+    let took = rw c.in-Ok-Some.field-0-is at c.in-Ok-Some.ensures.taken in
+    let next = rw c.in-Ok-Some.field-0-is at c.in-Ok-Some.ensures.forward in
+    let keys = took.packet.keys in
+    let count : length new.listing.events ≡ length old.listing.events + length keys = ap (λ (k : Standing g.row.B.Denot). length k.listing.events) took.is ∙ length-append old.listing.events keys in
+    let within : length old.listing.events + length keys ≤ capacity start.listing.settings = subst (λ (s : Numbers). length old.listing.events + length keys ≤ capacity s) now.same.settings took.follows.within in
+    record {
+      state = ap (λ (k : Standing g.row.B.Denot). k.state) took.is ∙ now.state;
+      same = same_on files start old new now.same c.replay.ensures.same_cone;
+      closed = ap (λ (k : Standing g.row.B.Denot). k.listing.closed) took.is ∙ now.closed;
+      gate_is = ap (λ (k : Standing g.row.B.Denot). k.gate) took.is;
+      counted = omega (arith, ap (λ (k : Standing g.row.B.Denot). k.events) took.is, now.counted, count);
+      within = omega (arith, within, count);
+      near = omega (arith, now.near, next.1, took.journaled.some, count);
+      read = λ seen told. read_on files start old new seen told now.same now.journal c.packets.gate c.in-Ok-Some.next (now.read seen told)
+          (λ there told_there. (took.packet, took.stands there told_there, took.follows, took.next_is, ap (λ (k : Standing g.row.B.Denot). k.listing) took.is));
+      sound = λ seen told h begun.
+          let done = now.sound seen told h begun in
+          let there = now.journal.told seen told in
+          let step = rw c.in-Ok-Some.field-0-is at (c.in-Ok-Some.ensures.replays there.0 there.1 h done.0 done.1 (sym now.gate_is)) in
+          (done.0 ++ step.0 ∷ [], step.1);
+      framed = λ seen told some.
+          let there = now.journal.told seen told in
+          c.in-Ok-Some.ensures.framed there.0 there.1 (now.framed seen told some there.0 there.1);
+      journal = journal_on (files start.bay) (files old.bay) (files new.bay) now.journal c.replay.ensures.journal.seen;
+      never_falls = omega (arith, now.never_falls, c.replay.ensures.never_falls);
+      mark = c.replay.ensures.mark ∙ now.mark;
+    }
+
+pub returns-in-Ok-None : goal.returns-in-Ok-None
+returns-in-Ok-None g c =
+    let files = g.B.Bay.files in
+    let start = c.args.cone.now in
+    let old = c.packets.cone in
+    let new = c.replay.new.self in
+    let now = c.packets.invariant in
+    let gate = c.packets.gate in
+    let ended = rw c.in-Ok-None.field-0-is at c.in-Ok-None.ensures.ended in
+    let events_are = ap (λ (k : Standing g.row.B.Denot). k.listing.events) ended.is in
+    record {
+      told = λ seen told. (
+        subst (λ (events : List ℕ). HasReplayed start.listing.settings start.listing.cone start.last.n0 start.last.closed (seen 0) gate events) (sym events_are) (now.read seen told),
+        shut_on files start old new seen told now.same now.journal gate ended.stands,
+      );
+      full = λ seen told some. tt;
+      replays = λ seen told h begun.
+          let done = now.sound seen told h begun in
+          let there = now.journal.told seen told in
+          let end = rw c.in-Ok-None.field-0-is at (c.in-Ok-None.ensures.replays there.0 there.1 h done.0 done.1 (sym now.gate_is)) in
+          subst (Replays g.B.Bay.files g.B.Bay.leaves new h) end.0 end.1;
+      passed = omega (arith, ended.enough, ap (λ (last : LogPoint). last.n0) now.same.last, ap (length {A = ℕ}) events_are);
+      replaying = ap (λ (k : Standing g.row.B.Denot). k.state) ended.is ∙ now.state;
+      gate = ap (λ (k : Standing g.row.B.Denot). k.gate) ended.is;
+      shut = ended.shut;
+      counted = ap (λ (k : Standing g.row.B.Denot). k.events) ended.is ∙ (now.counted ∙ sym (ap (length {A = ℕ}) events_are));
+      closed = ap (λ (k : Standing g.row.B.Denot). k.listing.closed) ended.is ∙ now.closed;
+      same_cone = same_on files start old new now.same c.replay.ensures.same_cone;
+      near = tt;
+      journal = journal_on (files start.bay) (files old.bay) (files new.bay) now.journal c.replay.ensures.journal.seen;
+      never_falls = omega (arith, now.never_falls, c.replay.ensures.never_falls);
+      failed = tt;
+      mark = c.replay.ensures.mark ∙ now.mark;
+    }
+
+pub returns-in-Err : goal.returns-in-Err
+returns-in-Err g c =
+    let files = g.B.Bay.files in
+    let faults = g.B.Faulty.faults in
+    let start = c.args.cone.now in
+    let old = c.packets.cone in
+    let new = c.replay.new.self in
+    let now = c.packets.invariant in
+    let count = c.events-events.ensures.count ∙ now.counted in
+    record {
+      told = λ seen told. (
+        old.listing.events,
+        now.read seen told,
+        count,
+        λ at is. left_on files start old new seen told now.same now.journal c.packets.gate at c.events-events.result count
+            (λ there told_there. subst (WhyRefused old (there 0) c.packets.gate) is (c.in-Err.ensures.refused there told_there)),
+      );
+      full = λ seen told some file at is.
+          let there = now.journal.told seen told in
+          let after = c.replay.ensures.journal.seen.told there.0 there.1 in
+          full_alone new.listing.settings new.rows new.reports (after.0 2) file at (c.in-Err.ensures.unsound file at (ap Err is) after.0 after.1)
+          (λ same. c.in-Err.ensures.whole there.0 there.1 (now.framed seen told some there.0 there.1) at (ap Err is ∙ ap (λ f. Err (Unsound f at)) same));
+      replays = λ seen told h begun.
+          let done = now.sound seen told h begun in
+          let there = now.journal.told seen told in
+          c.in-Err.ensures.replays there.0 there.1 h done.0 done.1 (sym now.gate_is);
+      passed = tt;
+      replaying = tt;
+      gate = tt;
+      shut = tt;
+      counted = tt;
+      closed = tt;
+      same_cone = same_on files start old new now.same c.replay.ensures.same_cone;
+      near = (omega (arith, now.near, count), omega (arith, now.within, count));
+      journal = journal_on (files start.bay) (files old.bay) (files new.bay) now.journal c.replay.ensures.journal.seen;
+      never_falls = omega (arith, now.never_falls, c.replay.ensures.never_falls);
+      failed = λ is. risen_since (faults start.bay) (faults old.bay) (faults new.bay) now.never_falls c.replay.ensures.never_falls (c.in-Err.ensures.failed (ap Err is));
+      mark = c.replay.ensures.mark ∙ now.mark;
+    }

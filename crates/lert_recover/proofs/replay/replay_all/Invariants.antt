@@ -1,0 +1,33 @@
+use Rattle.std.proofs.Common.{◌≡◌, ◌+◌, ◌-◌, ◌*◌, ◌≤◌, max, Some, List, [], length}
+use Rattle.lert_base.specs.Packet.{Packet}
+use Rattle.lert_bay.specs.Files.{Files}
+use Rattle.lert_cone.specs.declared.state.ConeState.TheVariants.{Replaying}
+use Rattle.lert_cone.specs.Framed.{HoldsSome}
+use Rattle.lert_cone.specs.Replays.{Replays}
+use Rattle.lert_cone.specs.Stands.{IsSameCone}
+use Rattle.lert_spec.specs.Edges.{capacity}
+use Rattle.lert_recover.specs.Replayed.{HasReplayed, IsJournalSame}
+use Rattle.lert_recover.proofs.replay.replay_all.Given as goal
+
+-- the packets up to this gate were replayed
+abbrev pub invariant-packets : goal.invariant-packets
+invariant-packets g l = record {
+  state : l.cone.state ≡ Replaying;
+  same : IsSameCone l.fn.cone l.cone;
+  closed : l.cone.listing.closed ≡ l.fn.cone.listing.closed;
+  gate_is : l.cone.gate ≡ l.gate;
+  counted : l.cone.events ≡ length l.cone.listing.events;
+  within : length l.cone.listing.events ≤ capacity l.fn.cone.listing.settings;
+  near : l.gate ≤ 32 + 65536 * length l.cone.listing.events;
+  read : (seen : Files) → g.B.Bay.files l.fn.cone.bay ≡ Some seen → HasReplayed l.fn.cone.listing.settings l.fn.cone.listing.cone l.fn.cone.last.n0 l.fn.cone.last.closed (seen 0) l.gate l.cone.listing.events;
+  sound : (seen : Files) → g.B.Bay.files l.fn.cone.bay ≡ Some seen → (h : List Packet) → Replays g.B.Bay.files g.B.Bay.leaves l.fn.cone h [] → (done : List Packet) × Replays g.B.Bay.files g.B.Bay.leaves l.cone h done;
+  framed : (seen : Files) → g.B.Bay.files l.fn.cone.bay ≡ Some seen → HoldsSome l.fn.cone.listing.settings l.fn.cone.last.n0 l.fn.cone.rows (seen 2) →
+      (there : Files) → g.B.Bay.files l.cone.bay ≡ Some there → HoldsSome l.cone.listing.settings (max l.cone.last.n0 (length l.cone.listing.events)) l.cone.rows (there 2);
+  journal : IsJournalSame (g.B.Bay.files l.fn.cone.bay) (g.B.Bay.files l.cone.bay);
+  never_falls : g.B.Faulty.faults l.fn.cone.bay ≤ g.B.Faulty.faults l.cone.bay;
+  mark : g.B.Faulty.mark l.cone.bay ≡ g.B.Faulty.mark l.fn.cone.bay;
+}
+
+-- each packet has a key
+abbrev pub decreases-packets : goal.decreases-packets
+decreases-packets g l = capacity l.fn.cone.listing.settings - length l.cone.listing.events

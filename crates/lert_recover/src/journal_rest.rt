@@ -1,0 +1,185 @@
+//! The rest of a journal, read without a cone.
+
+ghost use Rattle.std.specs.Prelude.{◌≡◌, ◌⊎◌, ℕ, ◌+◌, ◌*◌, ◌<◌, ◌≤◌, ◌^◌, List, length, IfOk, MatchOption};
+ghost use Rattle.lert_bay.specs.Files.{Files, IfTold};
+ghost use Rattle.lert_cone.specs.History.{most_payload};
+ghost use Rattle.lert_bay.specs.Kept.{OnlyRead};
+ghost use Rattle.lert_gatelog.specs.Gated.{IsOpen, IsClosed, next_gate};
+ghost use Rattle.lert_io.specs.Fault.{HasCause, HasRisen};
+ghost use Rattle.lert_recover.specs.Reopened.{IsWhy};
+ghost use Rattle.lert_recover.specs.Replayed.{JournalEnds, JournalLeavesAt};
+ghost use Rattle.lert_recover.specs.Rest.{IsFound, GoesOn};
+ghost use Rattle.lert_spec.specs.declared.numbers.Numbers.{Numbers};
+ghost use Rattle.lert_spec.specs.Edges.{capacity};
+
+use crate::replay::Stop;
+use lert_base::Settings;
+use lert_bay::{Bay, JOURNAL};
+use lert_cone::{LogPoint, ReplayFault};
+use lert_files::ReopenFault;
+use lert_gatelog::{GateLog, LogFault};
+use lert_io::Failed;
+use lert_journal::place_left;
+
+// The greatest payload of a journal, whatever the settings: eight bytes, and eight for each of 4096 keys.
+const PAYLOAD_ROOM: usize = 32776;
+
+// What stands at a gate of a journal, behind some keys.
+#[derive(Clone, Copy)]
+pub enum Found {
+    // A packet that may follow, with so many keys.
+    Packet { keys: u64 },
+    // A closed gate, with as many keys before it as the log says.
+    End,
+    // Something that leaves the format, at this place.
+    Left { at: u64 },
+}
+
+/// The place at which a journal first leaves its format, from a gate on, behind so many keys. None where it is in it up to a closed
+/// gate. Reads each record there once, changes no file and takes no memory.
+pub fn find_left<B: Bay>(
+    bay: &mut B,
+    settings: &Settings,
+    cone: u32,
+    last: &LogPoint,
+    gate: u64,
+    events: u64,
+) -> Result<Option<u64>, Failed>
+    requires place { last.now.n0 ≤ capacity settings.now }
+    requires within { events ≤ capacity settings.now }
+    requires near { gate ≤ 32 + 65536 * events }
+    ensures told { IfTold (B.files bay.old) (λ seen. IfOk result (λ found. MatchOption found
+        (JournalEnds settings.now cone last.now.n0 last.now.closed (seen 0) events gate)
+        (λ at. JournalLeavesAt settings.now cone last.now.n0 last.now.closed (seen 0) events gate at))) }
+    ensures only_read { OnlyRead (B.files bay.old) (B.files bay.new) (B.leaves bay.old) (B.leaves bay.new) (B.moment bay.old) (B.moment bay.new) (B.left_since bay.old) (B.left_since bay.new) }
+    ensures cause { HasCause (B.faults bay.old) (B.faults bay.new) result }
+    ensures mark { B.mark bay.new ≡ B.mark bay.old }
+{
+    let mut buffer = [0; PAYLOAD_ROOM];
+    let most = 8 + 32 * settings.numbers().packet as u32;
+    let mut log = GateLog::at_gate(JOURNAL, gate, most);
+    let mut count = events;
+    'records: loop {
+        match find_here(&mut log, bay, settings, cone, last, count, &mut buffer)? {
+            Found::Packet { keys } => count += keys,
+            Found::End => return Ok(None),
+            Found::Left { at } => return Ok(Some(at)),
+        }
+    }
+}
+
+/// Why a replay stopped. What shows that the files are sound for no list is told only where the rest of the journal is in its
+/// format; else the place at which it leaves that comes first.
+pub fn why_stopped<B: Bay>(
+    bay: &mut B,
+    settings: &Settings,
+    cone: u32,
+    last: &LogPoint,
+    stop: &Stop,
+) -> ReopenFault
+    requires place { last.now.n0 ≤ capacity settings.now }
+    requires within { stop.now.events ≤ capacity settings.now }
+    requires near { stop.now.gate ≤ 32 + 65536 * stop.now.events }
+    ensures told { IfTold (B.files bay.old) (λ seen. IsWhy settings.now cone last.now.n0 last.now.closed (seen 0) stop.now.events stop.now.gate stop.now.fault result) }
+    ensures failed { result ≡ ReopenFault.Failed → (stop.now.fault ≡ ReplayFault.Failed) ⊎ HasRisen (B.faults bay.old) (B.faults bay.new) }
+    ensures only_read { OnlyRead (B.files bay.old) (B.files bay.new) (B.leaves bay.old) (B.leaves bay.new) (B.moment bay.old) (B.moment bay.new) (B.left_since bay.old) (B.left_since bay.new) }
+    ensures never_falls { B.faults bay.old ≤ B.faults bay.new }
+    ensures mark { B.mark bay.new ≡ B.mark bay.old }
+{
+    match stop.fault {
+        ReplayFault::Failed => ReopenFault::Failed,
+        ReplayFault::Malformed { at } => ReopenFault::Malformed { file: JOURNAL, at },
+        ReplayFault::OutOfMemory => ReopenFault::OutOfMemory,
+        ReplayFault::Unsound { file, at } => {
+            match find_left(bay, settings, cone, last, stop.gate, stop.events) {
+                Ok(None) => ReopenFault::Malformed { file, at },
+                Ok(Some(place)) => ReopenFault::Malformed {
+                    file: JOURNAL,
+                    at: place,
+                },
+                Err(Failed) => ReopenFault::Failed,
+            }
+        }
+    }
+}
+
+// What stands at the gate, and moves on behind a packet.
+fn find_here<B: Bay>(
+    log: &mut GateLog,
+    bay: &mut B,
+    settings: &Settings,
+    cone: u32,
+    last: &LogPoint,
+    events: u64,
+    buffer: &mut [u8],
+) -> Result<Found, Failed>
+    requires file { log.old.file ≡ 0 }
+    requires most { log.old.most ≡ most_payload settings.now }
+    requires room { log.old.most ≤ length buffer.old }
+    requires reach { log.old.gate ≤ 2 ^ 62 }
+    requires place { last.now.n0 ≤ capacity settings.now }
+    requires within { events ≤ capacity settings.now }
+    ensures told { IfTold (B.files bay.old) (λ seen. IfOk result (IsFound settings.now cone last.now.n0 last.now.closed events (seen 0) log.old.gate log.new.gate)) }
+    ensures forward { IfOk result (GoesOn settings.now events log.old.gate log.new.gate) }
+    ensures file { log.new.file ≡ log.old.file }
+    ensures most { log.new.most ≡ log.old.most }
+    ensures only_read { OnlyRead (B.files bay.old) (B.files bay.new) (B.leaves bay.old) (B.leaves bay.new) (B.moment bay.old) (B.moment bay.new) (B.left_since bay.old) (B.left_since bay.new) }
+    ensures cause { HasCause (B.faults bay.old) (B.faults bay.new) result }
+    ensures mark { B.mark bay.new ≡ B.mark bay.old }
+{
+    let gate = log.gate();
+    match log.next(bay, buffer) {
+        Ok(None) => Ok(end_here(last, events, gate)),
+        Ok(Some(count)) => Ok(packet_here(settings, cone, last, events, gate, &buffer[..count])),
+        Err(LogFault::Malformed { at }) => Ok(Found::Left { at }),
+        Err(LogFault::Failed) => Err(Failed),
+    }
+}
+
+// What a closed gate is.
+fn end_here(last: &LogPoint, events: u64, gate: u64) -> Found
+    ensures told { (s : Numbers) (cone : ℕ) (bytes : List ℕ) (next : ℕ) → IsClosed bytes gate → IsFound s cone last.now.n0 last.now.closed events bytes gate next result }
+    ensures forward { (s : Numbers) (next : ℕ) → GoesOn s events gate next result }
+{
+    if events < last.n0 {
+        return Found::Left { at: gate };
+    }
+    Found::End
+}
+
+// What an open record with this payload is.
+fn packet_here(
+    settings: &Settings,
+    cone: u32,
+    last: &LogPoint,
+    events: u64,
+    gate: u64,
+    payload: &[u8],
+) -> Found
+    requires short { length payload.now ≤ most_payload settings.now }
+    requires reach { gate ≤ 2 ^ 62 }
+    requires place { last.now.n0 ≤ capacity settings.now }
+    requires within { events ≤ capacity settings.now }
+    ensures told { (bytes : List ℕ) → IsOpen (most_payload settings.now) bytes gate payload.now →
+        IsFound settings.now cone last.now.n0 last.now.closed events bytes gate (next_gate gate payload.now) result }
+    ensures forward { GoesOn settings.now events gate (next_gate gate payload.now) result }
+{
+    // Its clause says that the numbers are valid.
+    let _ = settings.numbers();
+    if let Some(place) = place_left(settings, cone, payload) {
+        return Found::Left {
+            at: gate + 1 + place,
+        };
+    }
+    let keys = (payload.len() as u64 - 8) / 8;
+    if last.closed {
+        if last.n0 < events + keys {
+            return Found::Left { at: gate };
+        }
+        return Found::Packet { keys };
+    }
+    if settings.capacity() < events + keys {
+        return Found::Left { at: gate + 1 };
+    }
+    Found::Packet { keys }
+}

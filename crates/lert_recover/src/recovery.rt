@@ -1,0 +1,179 @@
+//! A cone over the files of a stopped run.
+
+ghost use Rattle.std.specs.Prelude.{◌≡◌, ◌⊎◌, ℕ, ◌<◌, ◌≤◌, ◌^◌, [], List, All, length, if◌then◌else◌, MatchResult, IfOk, IfErr, IsErrAnd};
+ghost use Rattle.lert_base.specs.declared.kept.Kept.{Kept as KeptOf};
+ghost use Rattle.lert_base.specs.Packet.{Packet, events_of};
+ghost use Rattle.lert_bay.specs.Files.{Files, IfTold};
+ghost use Rattle.lert_cone.specs.Framed.{HoldsSome};
+ghost use Rattle.lert_cone.specs.Replays.{Replays};
+ghost use Rattle.lert_cone.specs.Room.{IsRoom};
+ghost use Rattle.lert_cone.specs.Sound.{IsSound, IsJournal};
+ghost use Rattle.lert_cone.specs.Stands.{IsSameCone, StandsFor, WasSound};
+ghost use Rattle.lert_gatelog.specs.Gated.{IsClosed};
+ghost use Rattle.lert_io.specs.Fault.{HasRisen};
+ghost use Rattle.lert_files.specs.Headed.{HasOther};
+ghost use Rattle.lert_recover.specs.Reopened.{IsReopened, IsReopenRefused, IsStopped, IsUnsoundAt};
+ghost use Rattle.lert_recover.specs.Replayed.{FirstLeaves, HasReplayed, IsJournalSame};
+ghost use Rattle.lert_reports.specs.Log.{is_closed};
+ghost use Rattle.lert_spec.specs.Edges.{capacity};
+ghost use Rattle.lert_spec.specs.Limits.{IsValid};
+
+use crate::journal_rest::why_stopped;
+use crate::replay::replay_all;
+use lert_base::{CountTable, Settings};
+use lert_bay::Bay;
+use lert_cone::{Cone, ConeRoom, ConeState, LogPoint};
+use lert_files::{ReopenFault, read_files};
+use lert_reports::{FIRST, OFFSET};
+
+/// A cone that wasn't reopened. Its journal reads as before.
+#[derive(Drop)]
+pub struct ReopenRefused<B: Bay> {
+    pub fault: ReopenFault,
+    pub bay: B,
+}
+
+/// Makes a cone over the files of a stopped run, which stands for the packets of their journal: makes the files durable, reads
+/// the journal's header, the whole log, the frames that its last record names, and then replays the journal's packets. Where the
+/// log's last record isn't a closing one, the cone goes on taking packets, and may write the frames and the log of a flush that
+/// the run didn't come to.
+///
+/// A refusal hands the bay back, and lets the room go. Reads all of the journal and the log once, each named frame once, and what
+/// a flush reads. Takes the memory of the bins that it reads and makes. Where the store shows while the journal is replayed that
+/// the files are sound for no list, the rest of the journal is read too, and the first place at which it leaves its format comes
+/// before that.
+pub fn reopen<B: Bay, T: CountTable>(
+    room: ConeRoom<T>,
+    cone: u32,
+    bay: B,
+) -> Result<Cone<B, T>, ReopenRefused<B>>
+    requires named { cone < 2 ^ room.settings.cone_bits }
+    requires room { IsRoom room.settings room.zero room.levels room.store room.entry.keys (length room.buffer.items) }
+
+    // Files that are told and sound for a list make a cone that stands for it, finished exactly where the log's last record is a
+    // closing one.
+    ensures sound_opens { IfTold (B.files bay) (λ seen. (h : List Packet) (sound : IsSound room.settings cone h seen) →
+        MatchResult result
+        (λ now. StandsFor B.files B.leaves B.faults now h × (now.state ≡ if is_closed sound.logged then ConeState.Finished else ConeState.Running))
+        (λ refused. (refused.fault ≡ ReopenFault.Failed) ⊎ (refused.fault ≡ ReopenFault.OutOfMemory))) }
+
+    // Told or not, it stands for each list of as many events. Where the files were told and sound for a list, that is such a list.
+    ensures stands { IfOk result (λ now. (h : List Packet) → All (λ packet. 0 < length packet.keys) h → length (events_of h) ≡ now.events →
+        IfTold (B.files bay) (λ seen. (other : List Packet) → IsSound room.settings cone other seen → IsSound room.settings cone h seen) →
+        StandsFor B.files B.leaves B.faults now h) }
+
+    // Where the files are told, its keys are those of the journal, whatever the log says.
+    ensures journal { IfTold (B.files bay) (λ seen. IfOk result (λ now. (h : List Packet) × IsJournal room.settings cone h (seen 0) × (now.listing.events ≡ events_of h))) }
+
+    // A place is the first one at which they leave their format. Files that leave it nowhere and are sound for no list are refused
+    // for their log alone, at its start, where one report more would be due than the store takes.
+    ensures malformed { IfTold (B.files bay) (λ seen. IfErr result (λ refused. (file at : ℕ) → refused.fault ≡ ReopenFault.Malformed file at →
+        FirstLeaves room.settings cone seen file at ⊎ IsUnsoundAt room.settings cone seen file at)) }
+    ensures other { IfTold (B.files bay) (λ seen. IfErr result (λ refused. (kept : KeptOf) → refused.fault ≡ ReopenFault.OtherSettings kept →
+        HasOther room.settings cone (seen 0) kept)) }
+
+    // And where they leave it there, that is the answer, but where a call of the bay or memory fails.
+    ensures refuses { IfTold (B.files bay) (λ seen. (file at : ℕ) → FirstLeaves room.settings cone seen file at →
+        IsErrAnd result (λ refused. ((refused.fault ≡ ReopenFault.Failed) ⊎ (refused.fault ≡ ReopenFault.OutOfMemory)) ⊎ (refused.fault ≡ ReopenFault.Malformed file at))) }
+    ensures differs { IfTold (B.files bay) (λ seen. (kept : KeptOf) → HasOther room.settings cone (seen 0) kept →
+        IsErrAnd result (λ refused. ((refused.fault ≡ ReopenFault.Failed) ⊎ (refused.fault ≡ ReopenFault.OutOfMemory)) ⊎ (refused.fault ≡ ReopenFault.OtherSettings kept))) }
+
+    // Told or not, what it is.
+    ensures own { IfOk result (λ now. (now.listing.settings ≡ room.settings) × (now.listing.cone ≡ cone) × (now.events ≡ length now.listing.events)
+        × (now.state ≡ if now.listing.closed then ConeState.Finished else ConeState.Running)) }
+    ensures made { IfOk result (λ now. (B.files now.made ≡ B.files bay) × (B.faults bay ≤ B.faults now.made) × (B.mark now.made ≡ B.mark bay)) }
+    ensures reads { MatchResult result (λ now. IsJournalSame (B.files bay) (B.files now.bay)) (λ refused. IsJournalSame (B.files bay) (B.files refused.bay)) }
+    ensures never_falls { MatchResult result (λ now. B.faults bay ≤ B.faults now.bay) (λ refused. B.faults bay ≤ B.faults refused.bay) }
+    ensures failed { IfErr result (λ refused. refused.fault ≡ ReopenFault.Failed → HasRisen (B.faults bay) (B.faults refused.bay)) }
+    ensures mark { MatchResult result (λ now. B.mark now.bay ≡ B.mark bay) (λ refused. B.mark refused.bay ≡ B.mark bay) }
+{
+    reopen_in_order(room, cone, bay)
+}
+
+// Reads the files in the order in which a place comes first, and replays.
+fn reopen_in_order<B: Bay, T: CountTable>(
+    mut room: ConeRoom<T>,
+    cone: u32,
+    mut bay: B,
+) -> Result<Cone<B, T>, ReopenRefused<B>>
+    requires named { cone < 2 ^ room.settings.cone_bits }
+    requires room { IsRoom room.settings room.zero room.levels room.store room.entry.keys (length room.buffer.items) }
+    ensures told { IfTold (B.files bay) (λ seen. MatchResult result
+        (λ now. IsReopened room.settings cone seen now.listing.closed now.listing.events now.gate)
+        (λ refused. IsReopenRefused room.settings cone seen refused.fault)) }
+    ensures fails { IfTold (B.files bay) (λ seen. IfErr result (λ refused. (h : List Packet) → IsSound room.settings cone h seen →
+        (refused.fault ≡ ReopenFault.Failed) ⊎ (refused.fault ≡ ReopenFault.OutOfMemory))) }
+    ensures stands { IfOk result (λ now. (h : List Packet) → All (λ packet. 0 < length packet.keys) h → length (events_of h) ≡ now.events →
+        IfTold (B.files bay) (λ seen. (other : List Packet) → IsSound room.settings cone other seen → IsSound room.settings cone h seen) →
+        StandsFor B.files B.leaves B.faults now h) }
+    ensures own { IfOk result (λ now. (now.listing.settings ≡ room.settings) × (now.listing.cone ≡ cone) × (now.events ≡ length now.listing.events)
+        × (now.state ≡ if now.listing.closed then ConeState.Finished else ConeState.Running)) }
+    ensures made { IfOk result (λ now. (B.files now.made ≡ B.files bay) × (B.faults bay ≤ B.faults now.made) × (B.mark now.made ≡ B.mark bay)) }
+    ensures reads { MatchResult result (λ now. IsJournalSame (B.files bay) (B.files now.bay)) (λ refused. IsJournalSame (B.files bay) (B.files refused.bay)) }
+    ensures never_falls { MatchResult result (λ now. B.faults bay ≤ B.faults now.bay) (λ refused. B.faults bay ≤ B.faults refused.bay) }
+    ensures failed { IfErr result (λ refused. refused.fault ≡ ReopenFault.Failed → HasRisen (B.faults bay) (B.faults refused.bay)) }
+    ensures mark { MatchResult result (λ now. B.mark now.bay ≡ B.mark bay) (λ refused. B.mark refused.bay ≡ B.mark bay) }
+{
+    match read_files(
+        &mut bay,
+        &room.settings,
+        cone,
+        &mut room.levels,
+        &mut room.store,
+        &mut room.buffer,
+    ) {
+        Ok(end) => {
+            // Each record that a cone writes says so too.
+            let last = LogPoint {
+                offset: OFFSET,
+                first: FIRST,
+                ..end
+            };
+            let settings = room.settings;
+            let begun = Cone::adopt(room, cone, bay, last);
+            replay_journal(&settings, cone, &last, begun)
+        }
+        Err(fault) => Err(ReopenRefused { fault, bay }),
+    }
+}
+
+// Replays the journal of a cone with these settings, this number and what its log says, which has no packet yet.
+fn replay_journal<B: Bay, T: CountTable>(
+    settings: &Settings,
+    number: u32,
+    last: &LogPoint,
+    mut cone: Cone<B, T>,
+) -> Result<Cone<B, T>, ReopenRefused<B>>
+    requires own { (cone.listing.settings ≡ settings.now) × (cone.listing.cone ≡ number) × (cone.last ≡ last.now) }
+    requires place { last.now.n0 ≤ capacity settings.now }
+    requires replaying { cone.state ≡ ConeState.Replaying }
+    requires valid { IsValid cone.listing.settings }
+    requires begun { (cone.gate ≡ 32) × (cone.listing.events ≡ []) × (cone.events ≡ 0) }
+    ensures told { IfTold (B.files cone.bay) (λ seen. HoldsSome cone.listing.settings cone.last.n0 cone.rows (seen 2) → MatchResult result
+        (λ now. HasReplayed cone.listing.settings cone.listing.cone cone.last.n0 cone.last.closed (seen 0) now.gate now.listing.events × IsClosed (seen 0) now.gate)
+        (λ refused. IsStopped cone.listing.settings cone.listing.cone cone.last.n0 cone.last.closed (seen 0) refused.fault)) }
+    ensures fails { IfTold (B.files cone.bay) (λ _. IfErr result (λ refused. (h : List Packet) → Replays B.files B.leaves cone h [] →
+        (refused.fault ≡ ReopenFault.Failed) ⊎ (refused.fault ≡ ReopenFault.OutOfMemory))) }
+    ensures stands { IfOk result (λ now. (h : List Packet) → All (λ packet. 0 < length packet.keys) h → length (events_of h) ≡ now.events →
+        (WasSound B.files cone → IfTold (B.files cone.bay) (λ _. Replays B.files B.leaves cone h [])) → StandsFor B.files B.leaves B.faults now h) }
+    ensures passed { IfOk result (λ now. cone.last.n0 ≤ length now.listing.events) }
+    ensures counted { IfOk result (λ now. now.events ≡ length now.listing.events) }
+    ensures state { IfOk result (λ now. (now.listing.closed ≡ cone.listing.closed) × (now.state ≡ if cone.last.closed then ConeState.Finished else ConeState.Running)) }
+    ensures same_cone { IfOk result (λ now. IsSameCone cone now) }
+    ensures reads { MatchResult result (λ now. IsJournalSame (B.files cone.bay) (B.files now.bay)) (λ refused. IsJournalSame (B.files cone.bay) (B.files refused.bay)) }
+    ensures never_falls { MatchResult result (λ now. B.faults cone.bay ≤ B.faults now.bay) (λ refused. B.faults cone.bay ≤ B.faults refused.bay) }
+    ensures failed { IfErr result (λ refused. refused.fault ≡ ReopenFault.Failed → HasRisen (B.faults cone.bay) (B.faults refused.bay)) }
+    ensures mark { MatchResult result (λ now. B.mark now.bay ≡ B.mark cone.bay) (λ refused. B.mark refused.bay ≡ B.mark cone.bay) }
+{
+    match replay_all(&mut cone) {
+        Ok(end) => {
+            cone.ready(end);
+            Ok(cone)
+        }
+        Err(stop) => {
+            let mut bay = cone.into_bay();
+            let fault = why_stopped(&mut bay, settings, number, last, &stop);
+            Err(ReopenRefused { fault, bay })
+        }
+    }
+}

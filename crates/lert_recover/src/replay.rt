@@ -1,0 +1,86 @@
+//! The packets of a journal, replayed one after the other.
+
+ghost use Rattle.std.specs.Prelude.{◌≡◌, ℕ, ◌+◌, ◌*◌, ◌≤◌, [], List, length, MatchResult, OnOk, IfOk, IfErr};
+ghost use Rattle.lert_base.specs.Packet.{Packet};
+ghost use Rattle.lert_bay.specs.Files.{Files, IfTold, Turns};
+ghost use Rattle.lert_cone.specs.Framed.{HoldsSome};
+ghost use Rattle.lert_cone.specs.Replay.{ReplayLeavesAt};
+ghost use Rattle.lert_cone.specs.Replays.{Replays};
+ghost use Rattle.lert_cone.specs.Stands.{IsSameCone};
+ghost use Rattle.lert_cone.specs.Wrote.{IsShutIfTold};
+ghost use Rattle.lert_gatelog.specs.Gated.{IsClosed};
+ghost use Rattle.lert_io.specs.Fault.{HasRisen};
+ghost use Rattle.lert_recover.specs.Replayed.{HasReplayed, IsJournalSame, IsOutsideReplay};
+ghost use Rattle.lert_spec.specs.Edges.{capacity};
+ghost use Rattle.lert_spec.specs.Limits.{IsValid};
+
+use lert_base::CountTable;
+use lert_bay::Bay;
+use lert_cone::{Cone, ConeState, ReplayFault};
+
+// Where the first record of a journal stands.
+const JOURNAL_GATE: u64 = 32;
+
+/// Where a replay stopped: at a gate, behind so many keys, and why.
+#[derive(Clone, Copy)]
+pub struct Stop {
+    pub fault: ReplayFault,
+    pub gate: u64,
+    pub events: u64,
+}
+
+/// Replays the packets of the journal of a cone that has none yet, up to a closed gate, which is the answer.
+pub fn replay_all<B: Bay, T: CountTable>(cone: &mut Cone<B, T>) -> Result<u64, Stop>
+    requires replaying { cone.old.state ≡ ConeState.Replaying }
+    requires valid { IsValid cone.old.listing.settings }
+    requires begun { (cone.old.gate ≡ 32) × (cone.old.listing.events ≡ []) × (cone.old.events ≡ 0) }
+
+    // Where the files are told, these are the packets that stand there, up to a closed gate or to where it stopped.
+    ensures told { IfTold (B.files cone.old.bay) (λ seen. MatchResult result
+        (λ end. HasReplayed cone.old.listing.settings cone.old.listing.cone cone.old.last.n0 cone.old.last.closed (seen 0) end cone.new.listing.events
+        × IsClosed (seen 0) end)
+        (λ stop. (events : List ℕ)
+        × HasReplayed cone.old.listing.settings cone.old.listing.cone cone.old.last.n0 cone.old.last.closed (seen 0) stop.gate events
+        × (stop.events ≡ length events)
+        × ((at : ℕ) → stop.fault ≡ ReplayFault.Malformed at →
+        ReplayLeavesAt cone.old.listing.settings cone.old.listing.cone cone.old.last.n0 cone.old.last.closed stop.events (seen 0) stop.gate at))) }
+
+    // Where the frames hold the bins of some events, whatever these are, only a full store may show that the files are sound for
+    // no list.
+    ensures full { IfTold (B.files cone.old.bay) (λ seen. HoldsSome cone.old.listing.settings cone.old.last.n0 cone.old.rows (seen 2) →
+        IfErr result (λ stop. (file at : ℕ) → stop.fault ≡ ReplayFault.Unsound file at → (file ≡ 1) × (at ≡ 0))) }
+
+    // A cone on its way through the packets of a list is then behind all of them.
+    ensures replays { IfTold (B.files cone.old.bay) (λ _. (h : List Packet) → Replays B.files B.leaves cone.old h [] →
+        MatchResult result (λ _. Replays B.files B.leaves cone.new h h) (λ stop. IsOutsideReplay stop.fault)) }
+
+    // Told or not, it has at least the keys that the log speaks of, and waits at the gate.
+    ensures passed { OnOk result (cone.old.last.n0 ≤ length cone.new.listing.events) }
+    ensures replaying { OnOk result (cone.new.state ≡ ConeState.Replaying) }
+    ensures gate { IfOk result (λ end. cone.new.gate ≡ end) }
+    ensures shut { IfOk result (λ end. IsShutIfTold (B.files cone.new.bay) (B.leaves cone.new.bay) 0 end) }
+    ensures counted { OnOk result (cone.new.events ≡ length cone.new.listing.events) }
+    ensures closed { OnOk result (cone.new.listing.closed ≡ cone.old.listing.closed) }
+    ensures same_cone { IsSameCone cone.old cone.new }
+    ensures near { IfErr result (λ stop. (stop.gate ≤ 32 + 65536 * stop.events) × (stop.events ≤ capacity cone.old.listing.settings)) }
+    ensures journal { IsJournalSame (B.files cone.old.bay) (B.files cone.new.bay) }
+    ensures never_falls { B.faults cone.old.bay ≤ B.faults cone.new.bay }
+    ensures failed { IfErr result (λ stop. stop.fault ≡ ReplayFault.Failed → HasRisen (B.faults cone.old.bay) (B.faults cone.new.bay)) }
+    ensures mark { B.mark cone.new.bay ≡ B.mark cone.old.bay }
+{
+    let mut gate = JOURNAL_GATE;
+    'packets: loop {
+        let events = cone.events();
+        match cone.replay(gate) {
+            Ok(Some(next)) => gate = next,
+            Ok(None) => return Ok(gate),
+            Err(fault) => {
+                return Err(Stop {
+                    fault,
+                    gate,
+                    events,
+                });
+            }
+        }
+    }
+}

@@ -1,0 +1,150 @@
+//! Files that are read again: what a cone has of them, and why one isn't made.
+
+use crate::settings::alone;
+use lert_bay::{FRAMES, JOURNAL, LOG, MemBay};
+use lert_cone::{Cone, ConeRoom, ConeState};
+use lert_plain::PlainTable;
+use lert_recover::{ReopenFault, ReopenRefused, reopen};
+use std::alloc::Global;
+use std::test::Fail;
+
+// The journal of a packet of three keys 7, of that and another one, and of one that reaches the first flush.
+const THREE: [u8; 70] =
+    *b"LERTJ\x01\0\0\x03\0\0\0 \0\0\0\x04\0\0\0\x08\0\0\0\x03\x02\x02\0\0\0\0\0\x01 \0\0\0\0\0\0\0\0\0\0\0\x07\0\0\0\0\0\0\0\x07\0\0\0\0\0\0\0\x07\0\0\0\0\0\0\0\0";
+
+const SIX: [u8; 107] =
+    *b"LERTJ\x01\0\0\x03\0\0\0 \0\0\0\x04\0\0\0\x08\0\0\0\x03\x02\x02\0\0\0\0\0\x01 \0\0\0\0\0\0\0\0\0\0\0\x07\0\0\0\0\0\0\0\x07\0\0\0\0\0\0\0\x07\0\0\0\0\0\0\0\x01 \0\0\0\0\0\0\0\0\0\0\0\x08\0\0\0\0\0\0\0\x09\0\0\0\0\0\0\0\x0a\0\0\0\0\0\0\0\0";
+
+const TWELVE: [u8; 142] =
+    *b"LERTJ\x01\0\0\x03\0\0\0 \0\0\0\x04\0\0\0\x08\0\0\0\x03\x02\x02\0\0\0\0\0\x01h\0\0\0\0\0\0\0\0\0\0\0\x07\0\0\0\0\0\0\0\x07\0\0\0\0\0\0\0\x07\0\0\0\0\0\0\0\x01\0\0\0\0\0\0\0\x02\0\0\0\0\0\0\0\x03\0\0\0\0\0\0\0\x04\0\0\0\0\0\0\0\x05\0\0\0\0\0\0\0\x06\0\0\0\0\0\0\0\x08\0\0\0\0\0\0\0\x09\0\0\0\0\0\0\0\x0a\0\0\0\0\0\0\0\0";
+
+// A log without a record, one that was closed after three keys 7, and one with the record of the first flush.
+const BEGUN: [u8; 9] = *b"LERTL\x01\0\0\0";
+
+const CLOSED: [u8; 61] =
+    *b"LERTL\x01\0\0\x01/\0\0\0\x02\x03\0\0\0\0\0\0\0 \0\0\0\0\0\0\0\x01\0\0\0\0\0\0\0\0\0\x01\0\0\0\x07\0\0\0\0\0\0\0\x03\0\0\0\0\0\0\0\0";
+
+const FLUSHED: [u8; 62] =
+    *b"LERTL\x01\0\0\x010\0\0\0\x01\x0c\0\0\0\0\0\0\0 \0\0\0\0\0\0\0\x01\0\0\0\0\0\0\0\x01\0\0\x01\0\0\0\x07\0\0\0\0\0\0\0\x03\0\0\0\0\0\0\0\0";
+
+fn bay(alloc: Global, files: &[&[u8]; 3]) -> Result<MemBay, Fail> {
+    let mut bay = MemBay::new(alloc)?;
+    bay.load(JOURNAL, files[0])?;
+    bay.load(LOG, files[1])?;
+    bay.load(FRAMES, files[2])?;
+    Ok(bay)
+}
+
+fn opened(
+    alloc: Global,
+    bay: MemBay,
+) -> Result<Result<Cone<MemBay, PlainTable>, ReopenRefused<MemBay>>, Fail> {
+    let settings = alone()?;
+    Ok(reopen(ConeRoom::new(alloc, &settings)?, 0, bay))
+}
+
+// What there is to see of a cone that was reopened, or why there is none.
+#[derive(Drop, Debug, PartialEq, Eq)]
+struct Answer {
+    state: Option<ConeState>,
+    events: u64,
+    reports: u64,
+    fault: Option<ReopenFault>,
+}
+
+fn answer_to(alloc: Global, bay: MemBay) -> Result<Answer, Fail> {
+    match opened(alloc, bay)? {
+        Ok(cone) => Ok(Answer {
+            state: Some(cone.state()),
+            events: cone.events(),
+            reports: cone.reports().len() as u64,
+            fault: None,
+        }),
+        Err(refused) => Ok(Answer {
+            state: None,
+            events: 0,
+            reports: 0,
+            fault: Some(refused.fault),
+        }),
+    }
+}
+
+fn is_open(state: ConeState, events: u64, reports: u64) -> Answer {
+    Answer {
+        state: Some(state),
+        events,
+        reports,
+        fault: None,
+    }
+}
+
+fn is_left(file: u8, at: u64) -> Answer {
+    Answer {
+        state: None,
+        events: 0,
+        reports: 0,
+        fault: Some(ReopenFault::Malformed { file, at }),
+    }
+}
+
+#[test]
+fn files_make_a_cone_or_leave_their_format(rt: HostRuntime) -> Result<(), Fail> {
+    let mut other_letter = THREE;
+    other_letter[4] = b'L';
+    let mut many_callers = THREE;
+    many_callers[37] = 64;
+    let empty = &THREE[..33];
+    let rows: [([&[u8]; 3], Answer); 9] = [
+        ([&THREE, &BEGUN, &[]], is_open(ConeState::Running, 3, 1)),
+        ([&THREE, &CLOSED, &[]], is_open(ConeState::Finished, 3, 1)),
+        ([&TWELVE, &BEGUN, &[]], is_open(ConeState::Running, 12, 1)),
+        ([&other_letter, &BEGUN, &[]], is_left(JOURNAL, 4)),
+        ([&THREE, &[], &[]], is_left(LOG, 0)),
+        ([&TWELVE, &FLUSHED, &[]], is_left(FRAMES, 0)),
+        ([&many_callers, &BEGUN, &[]], is_left(JOURNAL, 37)),
+        // The log was closed after three keys: a record goes past them.
+        ([&SIX, &CLOSED, &[]], is_left(JOURNAL, 69)),
+        // And here the keys are missing.
+        ([&empty[..32], &CLOSED, &[]], is_left(JOURNAL, 32)),
+    ];
+    for (files, wanted) in rows {
+        let bay = bay(rt.alloc(), &files)?;
+        assert_eq!(rt; answer_to(rt.alloc(), bay)?, wanted);
+    }
+    Ok(())
+}
+
+#[test]
+fn a_flush_that_the_run_did_not_come_to(rt: HostRuntime) -> Result<(), Fail> {
+    let alloc = rt.alloc();
+    let stopped = bay(alloc, &[&TWELVE, &BEGUN, &[]])?;
+    let Ok(cone) = opened(alloc, stopped)? else {
+        return Err(Fail::new("the files are sound"));
+    };
+    let written = cone.into_bay();
+    assert_eq!(rt; written.bytes(LOG), FLUSHED.as_slice());
+    let frames = written.bytes(FRAMES);
+    let cut = frames.get(..10).ok_or("a frame was written")?;
+    let again = bay(alloc, &[&TWELVE, &FLUSHED, frames])?;
+    assert_eq!(rt;
+        answer_to(alloc, again)?,
+        is_open(ConeState::Running, 12, 1)
+    );
+    let short = bay(alloc, &[&TWELVE, &FLUSHED, cut])?;
+    assert_eq!(rt; answer_to(alloc, short)?, is_left(FRAMES, 10));
+    Ok(())
+}
+
+#[test]
+fn a_call_that_fails_is_told(rt: HostRuntime) -> Result<(), Fail> {
+    for call in 1..9 {
+        let mut failing = bay(rt.alloc(), &[&THREE, &CLOSED, &[]])?;
+        failing.fail_at(call);
+        let Err(refused) = opened(rt.alloc(), failing)? else {
+            return Err(Fail::new("a call failed"));
+        };
+        assert_eq!(rt; refused.fault, ReopenFault::Failed);
+        assert_eq!(rt; refused.bay.bytes(JOURNAL), THREE.as_slice());
+    }
+    Ok(())
+}

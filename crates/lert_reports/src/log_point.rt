@@ -1,0 +1,41 @@
+//! What a log says of its cone.
+
+ghost use Rattle.std.specs.Prelude.{◌≡◌, false};
+
+/// Where a log without a record says that the journal is to be read from, and each record that a cone writes: at its first
+/// packet, whose first key has the first position.
+pub const OFFSET: u64 = 32;
+
+/// The position of that key.
+pub const FIRST: u64 = 1;
+
+/// What the last record of a log says, and where the log ends. Of a log without a record `n0` is 0, `offset` 32 and
+/// `first` 1, and it isn't closed.
+#[derive(Clone, Copy, Debug, PartialEq, Eq)]
+pub struct LogPoint {
+    /// How many keys the cone had.
+    pub n0: u64,
+    /// The place of the gate from which on the journal is to be read.
+    pub offset: u64,
+    /// The position of the first key of the packet there, counted from 1.
+    pub first: u64,
+    /// Whether the record is the closing one.
+    pub closed: bool,
+    /// The place of the log's closed gate.
+    pub log_end: u64,
+}
+
+impl LogPoint {
+    /// What a log without a record says, whose closed gate stands at this place.
+    pub fn without_record(log_end: u64) -> LogPoint
+        ensures { result ≡ record { n0 = 0; offset = 32; first = 1; closed = false; log_end = log_end } }
+    {
+        LogPoint {
+            n0: 0,
+            offset: OFFSET,
+            first: FIRST,
+            closed: false,
+            log_end,
+        }
+    }
+}
