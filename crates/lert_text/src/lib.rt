@@ -1,18 +1,22 @@
-//! The printed lines, each written into a buffer of fixed size.
+//! The printed lines, each written into a buffer of fixed size, and a page that takes them to a sink.
 //!
-//! The one contract is that each call writes exactly the bytes of its line, as the definition of the
-//! printed text has them, and answers how many. Nothing here takes memory. The top call prints with
-//! these lines alone.
+//! The one contract is the exact text: each call writes exactly the bytes of its line, as the definition of the
+//! printed text has them, and the sink takes the lines in their order, or a beginning of them where it fails. No
+//! memory is taken but that of the page. The top call prints with these lines alone.
 #![tactic(auto)]
 
 ghost use Rattle.std.specs.Prelude.{◌≡◌, ◌≤◌, take};
 ghost use Rattle.lert_spec.specs.Lines.{cone_line as cone_text, report_line as report_text, total_line as total_text};
 
+mod page;
 mod pieces;
+mod print;
 mod status;
 
 use crate::pieces::{push_number, push_text};
 use lert_base::Report;
+pub use page::Page;
+pub use print::{print_cone, print_total};
 pub use status::status_line;
 
 /// How long a buffer for a line is, in bytes. No line is longer.

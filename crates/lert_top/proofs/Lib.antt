@@ -1,16 +1,2 @@
-pub mod AskedLaws
-pub mod BayLaws
-pub mod ConeLaws
-pub mod ConeTexts
-pub mod Ending
-pub mod FreshLaws
-pub mod KeysRead
-pub mod LaneLaws
-pub mod Parsing
-pub mod PrintLaws
-pub mod Printing
 pub mod RecoverEnding
 pub mod RecoverLaws
-pub mod Spelling
-pub mod Stopping
-pub mod WeaveLaws

@@ -10,12 +10,12 @@ use Rattle.lert_io.specs.Fault.{IsFaultless}
 use Rattle.lert_files.specs.Headed.{HasOther}
 use Rattle.lert_recover.specs.Replayed.{FirstLeaves}
 use Rattle.lert_spec.specs.declared.numbers.Numbers.{Numbers}
-use Rattle.lert_top.specs.Bays.{AreFaultless, IfHeld}
+use Rattle.lert_ingest.specs.Bays.{AreFaultless, IfHeld}
 use Rattle.lert_top.specs.Recovered.{AreSoundBelow, HasRecovered, IsUnopened, NoneIsSound, RecoveryShows}
-use Rattle.lert_top.specs.declared.status.Status.{Status}
-use Rattle.lert_top.specs.declared.status.Status.TheVariants.{Done, Usage, PlaceFault, TraceFault, BadTrace, TooLong, NotFresh, BayFault, CapacityFull, Malformed, OtherSettings, OutFault, OutOfMemory}
-use Rattle.lert_top.proofs.BayLaws.{slice_get-some}
-use Rattle.lert_top.proofs.Ending.{failed_or_not, no_rise}
+use Rattle.lert_ingest.specs.declared.status.Status.{Status}
+use Rattle.lert_ingest.specs.declared.status.Status.TheVariants.{Done, Usage, PlaceFault, TraceFault, BadTrace, TooLong, NotFresh, BayFault, CapacityFull, Malformed, OtherSettings, OutFault, OutOfMemory}
+use Rattle.lert_ingest.proofs.BayLaws.{slice_get-some}
+use Rattle.lert_ingest.proofs.Ending.{failed_or_not, no_rise}
 
 module _ {K B : Type 0} (taken : K → Option (List ℕ)) (sink_faults : K → ℕ) (files : B → Option Files) (bay_faults : B → ℕ) (s : Numbers) (before after : K) (bays later : List B) where
   abbrev Shows : Status → Type 0

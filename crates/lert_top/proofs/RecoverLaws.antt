@@ -22,15 +22,15 @@ use Rattle.lert_spec.specs.declared.numbers.Numbers.{Numbers}
 use Rattle.lert_spec.specs.declared.report.Report.{Report}
 use Rattle.lert_spec.specs.Lines.{Printed}
 use Rattle.lert_spec.specs.Look.{closing, look}
-use Rattle.lert_top.specs.Bays.{AreFaultless, AreLater, HasFailed, IfHeld, bays_of}
-use Rattle.lert_top.specs.Lanes.{state_of}
-use Rattle.lert_top.specs.Print.{ArePrintable, printed_as}
+use Rattle.lert_ingest.specs.Bays.{AreFaultless, AreLater, HasFailed, IfHeld, bays_of}
+use Rattle.lert_ingest.specs.Lanes.{state_of}
+use Rattle.lert_ingest.specs.Print.{ArePrintable, printed_as}
 use Rattle.lert_top.specs.Recovered.{AreOpenOver, AreRecovered, AreSoundBelow, HasRecovered, IsOpenOver, IsOther, IsRecovered, IsSpoiled, IsUnopened, LowerAreFormed, NoneIsSound, RecoveryShows, printed_for, reopen_status}
-use Rattle.lert_top.specs.declared.status.Status.{Status}
-use Rattle.lert_top.specs.declared.status.Status.TheVariants.{Done, Usage, PlaceFault, TraceFault, BadTrace, TooLong, NotFresh, BayFault, CapacityFull, Malformed, OtherSettings, OutFault, OutOfMemory}
-use Rattle.lert_top.proofs.BayLaws.{bay_at, bay_is, slice_get-seam, slice_get-some}
-use Rattle.lert_top.proofs.Ending.{failed_or_not, no_rise}
-use Rattle.lert_top.proofs.PrintLaws.{printed_at}
+use Rattle.lert_ingest.specs.declared.status.Status.{Status}
+use Rattle.lert_ingest.specs.declared.status.Status.TheVariants.{Done, Usage, PlaceFault, TraceFault, BadTrace, TooLong, NotFresh, BayFault, CapacityFull, Malformed, OtherSettings, OutFault, OutOfMemory}
+use Rattle.lert_ingest.proofs.BayLaws.{bay_at, bay_is, slice_get-seam, slice_get-some}
+use Rattle.lert_ingest.proofs.Ending.{failed_or_not, no_rise}
+use Rattle.lert_ingest.proofs.PrintLaws.{printed_at}
 
 -- a state tells whether a cone is finished
 same_end : (one other : Bool) → state_of one ≡ state_of other → one ≡ other

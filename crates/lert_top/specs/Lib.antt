@@ -1,13 +1,1 @@
-pub mod Asked
-pub mod Bays
-pub mod Command
-pub mod Cones
-pub mod Lanes
-pub mod Page
-pub mod Print
 pub mod Recovered
-pub mod Router
-pub mod Run
-pub mod Shelf
-pub mod Status
-pub mod Word

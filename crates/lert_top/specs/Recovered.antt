@@ -16,11 +16,11 @@ use Rattle.lert_reports.specs.Log.{is_closed}
 use Rattle.lert_spec.specs.declared.numbers.Numbers.{Numbers}
 use Rattle.lert_spec.specs.Lines.{Printed, lines}
 use Rattle.lert_spec.specs.Look.{closing, look}
-use Rattle.lert_top.specs.Bays.{AreFaultless, HasFailed, IfHeld}
-use Rattle.lert_top.specs.Lanes.{state_of}
-use Rattle.lert_top.specs.Page.{IsCut}
-use Rattle.lert_top.specs.declared.status.Status.{Status}
-use Rattle.lert_top.specs.declared.status.Status.TheVariants.{Done, Usage, PlaceFault, TraceFault, BadTrace, TooLong, NotFresh, BayFault, CapacityFull, Malformed, OtherSettings, OutFault, OutOfMemory}
+use Rattle.lert_ingest.specs.Bays.{AreFaultless, HasFailed, IfHeld}
+use Rattle.lert_ingest.specs.Lanes.{state_of}
+use Rattle.lert_text.specs.Page.{IsCut}
+use Rattle.lert_ingest.specs.declared.status.Status.{Status}
+use Rattle.lert_ingest.specs.declared.status.Status.TheVariants.{Done, Usage, PlaceFault, TraceFault, BadTrace, TooLong, NotFresh, BayFault, CapacityFull, Malformed, OtherSettings, OutFault, OutOfMemory}
 
 -- ---- one cone
 

@@ -3,20 +3,18 @@
 ghost use Rattle.std.specs.Prelude.{◌≡◌, ◌≢◌, ◌^◌, ◌<◌, ◌≤◌, ℕ, List, [], length, slice_get};
 ghost use Rattle.std.specs.VecDeque.{deque_capacity};
 ghost use Rattle.lert_io.specs.Fault.{HasRisen};
-ghost use Rattle.lert_top.specs.Asked.{AreReturned, IsAskedForBays};
-ghost use Rattle.lert_top.specs.Bays.{AreLater};
+ghost use Rattle.lert_ingest.specs.Asked.{IsAskedForBays};
+ghost use Rattle.lert_place.specs.Openings.{AreReturned};
+ghost use Rattle.lert_ingest.specs.Bays.{AreLater};
 ghost use Rattle.lert_top.specs.Recovered.{HasRecovered, RecoveryShows};
 
-use crate::bays::{open_bays, put_back_bays};
-use crate::cones::bring_back;
-use crate::page::Page;
-use crate::place::Place;
-use crate::print::print_cones;
-use crate::reopening::reopen_cones;
-use crate::status::Status;
+use crate::reopened_cones::reopen_cones;
 use lert_base::Settings;
 use lert_bay::Bay;
+use lert_ingest::{Status, bring_back, open_bays, print_cones, put_back_bays};
 use lert_io::{Failed, OutOfMemory, Sink};
+use lert_place::Place;
+use lert_text::Page;
 use std::alloc::Global;
 use std::collections::VecDeque;
 

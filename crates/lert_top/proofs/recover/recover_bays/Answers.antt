@@ -3,9 +3,9 @@ use Rattle.std.proofs.Math.Pow.{pow_mono}
 use Rattle.lert_cone.specs.Stands.{Standing}
 use Rattle.lert_spec.specs.declared.numbers.Numbers.{Numbers}
 use Rattle.lert_spec.specs.Lines.{lines}
-use Rattle.lert_top.specs.Bays.{bays_of}
-use Rattle.lert_top.specs.Page.{IsCut}
-use Rattle.lert_top.specs.Print.{ArePrintable, printed_as}
+use Rattle.lert_ingest.specs.Bays.{bays_of}
+use Rattle.lert_text.specs.Page.{IsCut}
+use Rattle.lert_ingest.specs.Print.{ArePrintable, printed_as}
 use Rattle.lert_top.specs.Recovered.{AreRecovered}
 use Rattle.lert_top.proofs.RecoverEnding.{shows_unopened}
 use Rattle.lert_top.proofs.RecoverLaws.{all_formed, open_printable, open_recovered}

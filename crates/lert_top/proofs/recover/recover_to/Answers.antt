@@ -1,10 +1,10 @@
 use Rattle.std.proofs.Common.{[], List, refl, ap, sym, ◌∙◌, subst, arith, inl, inr, append-nil}
-use Rattle.lert_top.specs.declared.status.Status.{Status}
-use Rattle.lert_top.specs.declared.status.Status.TheVariants.{OutOfMemory}
-use Rattle.lert_top.specs.Bays.{AreLater}
+use Rattle.lert_ingest.specs.declared.status.Status.{Status}
+use Rattle.lert_ingest.specs.declared.status.Status.TheVariants.{OutOfMemory}
+use Rattle.lert_ingest.specs.Bays.{AreLater}
 use Rattle.lert_top.specs.Recovered.{HasRecovered}
-use Rattle.lert_top.proofs.AskedLaws.{all_back, none_returned}
-use Rattle.lert_top.proofs.BayLaws.{are_same, still_marked}
+use Rattle.lert_ingest.proofs.AskedLaws.{all_back, none_returned}
+use Rattle.lert_ingest.proofs.BayLaws.{are_same, still_marked}
 use Rattle.lert_top.proofs.RecoverEnding.{has_recovered, recovery_not_place_fault, recovery_not_usage}
 use Rattle.lert_top.proofs.recover.recover_to.Goals as goal
 

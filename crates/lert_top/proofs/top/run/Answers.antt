@@ -1,15 +1,15 @@
 use Rattle.std.proofs.Common.{◌≡◌, ◌^◌, ◌∷◌, [], List, ℕ, true, refl, ap, sym, ◌∙◌, subst, inl, inr}
 use Rattle.lert_spec.specs.declared.numbers.Numbers.{Numbers}
-use Rattle.lert_top.specs.declared.line.Line.{Line}
-use Rattle.lert_top.specs.declared.line.Task.{Task}
-use Rattle.lert_top.specs.declared.line.Task.TheVariants.{Run, Recover}
-use Rattle.lert_top.specs.Asked.{IsAsked, IsAskedForBays}
+use Rattle.lert_args.specs.declared.line.Line.{Line}
+use Rattle.lert_args.specs.declared.line.Task.{Task}
+use Rattle.lert_args.specs.declared.line.Task.TheVariants.{Run, Recover}
+use Rattle.lert_ingest.specs.Asked.{IsAsked, IsAskedForBays}
 use Rattle.lert_top.specs.Recovered.{HasRecovered}
-use Rattle.lert_top.specs.Run.{HasRun}
-use Rattle.lert_top.specs.Word.{word_at}
-use Rattle.lert_top.proofs.AskedLaws.{none_returned}
-use Rattle.lert_top.proofs.Ending.{some_is, word_at-slice_get}
-use Rattle.lert_top.proofs.Spelling.{places_of}
+use Rattle.lert_ingest.specs.Run.{HasRun}
+use Rattle.lert_args.specs.Word.{word_at}
+use Rattle.lert_ingest.proofs.AskedLaws.{none_returned}
+use Rattle.lert_ingest.proofs.Ending.{some_is}
+use Rattle.lert_args.proofs.Spelling.{places_of, word_at-slice_get}
 use Rattle.lert_top.proofs.top.run.Goals as goal
 
 -- a line that runs names one trace, and a line that recovers none

@@ -1,0 +1,208 @@
+//! What a run finds and leaves on the disks of its cones.
+
+ghost use Rattle.std.specs.Prelude.{◌<◌};
+
+use lert_bay::MemBay;
+use lert_top::Status;
+use lert_trials::{Ended, Row, SMALL, bay_of, long_form, run_on, run_row, trace, trace_with};
+use std::alloc::Global;
+use std::process::Abort;
+use std::test::Fail;
+
+// The journal of the keys 7, 7, 7: a header, a packet of 32 bytes behind an open gate, and a closed gate.
+const SEVENS: [u8; 70] =
+    *b"LERTJ\x01\0\0\x03\0\0\0\x20\0\0\0\x04\0\0\0\x08\0\0\0\x03\x02\x02\0\0\0\0\0\x01\x20\0\0\0\0\0\0\0\0\0\0\0\x07\0\0\0\0\0\0\0\x07\0\0\0\0\0\0\0\x07\0\0\0\0\0\0\0\0";
+
+// The text of the same keys.
+const SEVENS_TEXT: &str = "cone 0 events 3 reports 1 closed\n7 3\ntotal events 3 reports 1\n";
+
+// Runs the long form with these numbers over a trace and the bay of the one cone, and wants the status and the text.
+fn check_on(
+    rt: &(impl Abort + AllocGlobal),
+    numbers: [&str; 8],
+    trace: &[u8],
+    bay: MemBay,
+    status: Status,
+    text: &str,
+) -> Result<Ended, Fail> {
+    let ended = run_on(rt.alloc(), &long_form(numbers), trace, 0, bay)?;
+    assert_eq!(rt; ended.status, status);
+    assert_eq!(rt; ended.text.as_slice(), text.as_bytes());
+    Ok(ended)
+}
+
+// Runs over the keys 7, 7, 7.
+fn check_sevens(
+    rt: &(impl Abort + AllocGlobal),
+    bay: MemBay,
+    status: Status,
+    text: &str,
+) -> Result<Ended, Fail> {
+    let trace = trace(rt.alloc(), &[7, 7, 7])?;
+    check_on(rt, SMALL, trace.as_slice(), bay, status, text)
+}
+
+// How many keys each packet of a journal has, by its format alone.
+fn packets(alloc: Global, journal: &[u8]) -> Result<Vec<usize>, Fail> {
+    let mut packets = Vec::new(alloc);
+    let mut rest = journal.get(32..).unwrap_or(&[]);
+    while let [1, a, b, c, d, behind @ ..] = rest {
+        let len = u32::from_le_bytes([*a, *b, *c, *d]) as usize;
+        packets.push(len.saturating_sub(8) / 8)?;
+        rest = behind.get(len..).unwrap_or(&[]);
+    }
+    match rest {
+        [0] => Ok(packets),
+        _ => Err(Fail::new("the journal doesn't end with a closed gate")),
+    }
+}
+
+// Runs the long form with these numbers over so many keys, each of its own, and wants packets of so many
+// keys in the journal.
+fn check_packets(
+    rt: &(impl Abort + AllocGlobal),
+    numbers: [&str; 8],
+    len: u8,
+    status: Status,
+    text: &str,
+    want: &[usize],
+) -> Result<(), Fail> {
+    let alloc = rt.alloc();
+    let trace = trace_with(alloc, len, &[])?;
+    let bay = MemBay::new(alloc)?;
+    let ended = check_on(rt, numbers, trace.as_slice(), bay, status, text)?;
+    let packets = packets(alloc, ended.files.journal.as_slice())?;
+    assert_eq!(rt; packets.as_slice(), want, "of {len} keys");
+    Ok(())
+}
+
+#[test]
+fn a_run_leaves_the_journal_of_its_keys(rt: HostRuntime) -> Result<(), Fail> {
+    let bay = MemBay::new(rt.alloc())?;
+    let ended = check_sevens(&rt, bay, Status::Done, SEVENS_TEXT)?;
+    assert_eq!(rt; ended.files.journal.as_slice(), SEVENS.as_slice());
+    Ok(())
+}
+
+#[test]
+fn a_packet_whose_write_fails_stands_behind_a_closed_gate(rt: HostRuntime) -> Result<(), Fail> {
+    let mut bay = MemBay::new(rt.alloc())?;
+    // Before the cone is made, and again as it is, the run asks for the three lengths; then it writes and
+    // syncs two headers. So its third write, that of the packet, is the bay's call 11.
+    bay.fail_at(11);
+    let ended = check_sevens(&rt, bay, Status::BayFault { cone: 0 }, "")?;
+    // Half of the 37 bytes are written.
+    let mut torn = SEVENS;
+    torn[32] = 0;
+    assert_eq!(rt; ended.files.journal.as_slice(), &torn[..51]);
+    Ok(())
+}
+
+#[test]
+fn a_second_run_refuses_the_files_of_the_first(rt: HostRuntime) -> Result<(), Fail> {
+    let bay = MemBay::new(rt.alloc())?;
+    let first = check_sevens(&rt, bay, Status::Done, SEVENS_TEXT)?;
+    let bay = bay_of(rt.alloc(), &first.files)?;
+    let second = check_sevens(&rt, bay, Status::NotFresh { cone: 0 }, "")?;
+    assert_eq!(rt;
+        second.files.journal.as_slice(),
+        first.files.journal.as_slice()
+    );
+    assert_eq!(rt; second.files.log.as_slice(), first.files.log.as_slice());
+    assert_eq!(rt;
+        second.files.frames.as_slice(),
+        first.files.frames.as_slice()
+    );
+    Ok(())
+}
+
+// The numbers of two cones.
+const HALVES: [&str; 8] = ["3", "3", "2", "4", "2", "1", "32", "8"];
+
+// A bay with a byte in one file.
+fn bay_with_a_byte(alloc: Global, file: u8) -> Result<MemBay, Fail>
+    requires { file < 3 }
+{
+    let mut bay = MemBay::new(alloc)?;
+    bay.load(file, &[0])?;
+    Ok(bay)
+}
+
+#[test]
+fn the_first_cone_with_a_byte_is_named(rt: HostRuntime) -> Result<(), Fail> {
+    let trace = trace(rt.alloc(), &[7, 7, 7])?;
+    for file in 0..3 {
+        let bay = bay_with_a_byte(rt.alloc(), file)?;
+        let ended = run_on(rt.alloc(), &long_form(HALVES), trace.as_slice(), 1, bay)?;
+        assert_eq!(rt; ended.status, Status::NotFresh { cone: 1 });
+        assert_eq!(rt; ended.text.as_slice(), b"".as_slice());
+    }
+    Ok(())
+}
+
+#[test]
+fn a_cone_without_a_bay_is_a_fault_of_the_place(rt: HostRuntime) -> Result<(), Fail> {
+    let trace = trace(rt.alloc(), &[7, 7, 7])?;
+    for cones in 0..2 {
+        let row = Row {
+            words: &long_form(HALVES),
+            cones,
+            trace: trace.as_slice(),
+            failing_read: 0,
+            failing_write: 0,
+        };
+        let ended = run_row(rt.alloc(), &row)?;
+        assert_eq!(rt; ended.status, Status::PlaceFault);
+        assert_eq!(rt; ended.text.as_slice(), b"".as_slice());
+        assert!(rt; ended.trace);
+        assert_eq!(rt; ended.bays, cones);
+    }
+    Ok(())
+}
+
+#[test]
+fn a_cone_takes_as_many_keys_as_its_capacity(rt: HostRuntime) -> Result<(), Fail> {
+    let narrow = ["3", "3", "2", "4", "2", "0", "16", "8"];
+    let rows: [([&str; 8], u8, Status, &str, &[usize]); 4] = [
+        (
+            SMALL,
+            71,
+            Status::Done,
+            "cone 0 events 71 reports 0 closed\ntotal events 71 reports 0\n",
+            &[8, 8, 8, 8, 8, 8, 8, 8, 7],
+        ),
+        (
+            SMALL,
+            72,
+            Status::CapacityFull {
+                cone: 0,
+                n: 64,
+                len: 8,
+            },
+            "",
+            &[8; 8],
+        ),
+        (
+            narrow,
+            48,
+            Status::Done,
+            "cone 0 events 48 reports 0 closed\ntotal events 48 reports 0\n",
+            &[8; 6],
+        ),
+        (
+            narrow,
+            49,
+            Status::CapacityFull {
+                cone: 0,
+                n: 48,
+                len: 1,
+            },
+            "",
+            &[8; 6],
+        ),
+    ];
+    for (numbers, len, status, text, want) in rows {
+        check_packets(&rt, numbers, len, status, text, want)?;
+    }
+    Ok(())
+}

@@ -1,0 +1,11 @@
+pub mod AskedLaws
+pub mod BayLaws
+pub mod ConeLaws
+pub mod ConeTexts
+pub mod Ending
+pub mod FreshLaws
+pub mod KeysRead
+pub mod LaneLaws
+pub mod PrintLaws
+pub mod Stopping
+pub mod WeaveLaws

@@ -1,0 +1,108 @@
+use Rattle.std.proofs.Common.{[], List, refl, ap, sym, ◌∙◌, subst, arith, inl, inr, append-nil}
+use Rattle.lert_ingest.specs.declared.status.Status.{Status}
+use Rattle.lert_ingest.specs.declared.status.Status.TheVariants.{OutOfMemory}
+use Rattle.lert_ingest.specs.Bays.{AreLater, IsStale}
+use Rattle.lert_ingest.specs.Run.{HasRun}
+use Rattle.lert_ingest.proofs.AskedLaws.{all_back, none_returned}
+use Rattle.lert_ingest.proofs.BayLaws.{are_same, still_marked}
+use Rattle.lert_ingest.proofs.Ending.{HasRun-shows, not_place_fault, not_usage, shows_along, true_is_false}
+use Rattle.lert_ingest.proofs.runs.run_trace.Goals as goal
+
+pub returns-in-Err-clause-asked : goal.returns-in-Err-clause-asked
+returns-in-Err-clause-asked g c =
+    elim c.in-Err.ensures.refused [
+      | inl none ↦ inr (record {
+        number = 0;
+        within = omega arith;
+        asked_is = ap g.P.Place.asked none.1 ∙ sym (append-nil (g.P.Place.asked c.args.place.now));
+        no_fault = λ is. let other = none.0 in cc;
+        all = λ is. absurd (let other = none.0 in cc);
+      })
+      | inr bay ↦ inl (record { number = bay.2.0; named = omega (arith, bay.2.1, c.cones.ensures); asked_is = bay.2.2; status_is = bay.0 })
+    ]
+
+pub returns-in-Err-clause-place_fault : goal.returns-in-Err-clause-place_fault
+returns-in-Err-clause-place_fault g c = λ is.
+    elim c.in-Err.ensures.refused [
+      | inl none ↦ absurd (let other = none.0 in cc)
+      | inr bay ↦ (bay.1, refl)
+    ]
+
+pub returns-in-Err-clause-returned : goal.returns-in-Err-clause-returned
+returns-in-Err-clause-returned g c =
+    elim c.in-Err.ensures.refused [
+      | inl none ↦ none_returned g.P.Bay.Faulty.mark _ _ (ap g.P.Place.handed_bays none.1 ∙ c.requires.none)
+      | inr bay ↦ bay.3
+    ]
+
+pub returns-in-Err-clause-ran : goal.returns-in-Err-clause-ran
+returns-in-Err-clause-ran g c = λ differs.
+    elim c.in-Err.ensures.refused [
+      | inl none ↦
+          let same = ap g.P.Place.handed_bays none.1 ∙ c.requires.none in
+          let trace = c.args.trace in
+          let out = c.args.out.now in
+          let s = c.args.settings.now in (
+            [],
+            λ cone below. absurd (omega (arith, below)),
+            subst (λ (xs : List g.row.P-Bay.Denot). AreLater g.P.Bay.Bay.files g.P.Bay.Faulty.faults g.P.Bay.Faulty.mark xs []) (sym same) (are_same g.P.Bay.Bay.files g.P.Bay.Faulty.faults g.P.Bay.Faulty.mark []),
+            subst (λ (xs : List g.row.P-Bay.Denot). HasRun {S = g.row.P-Trace.Denot} {K = g.row.K.Denot} {B = g.row.P-Bay.Denot} g.P.Trace.Source.remaining g.P.Trace.Faulty.faults g.K.Sink.taken g.K.Faulty.faults g.P.Bay.Bay.files g.P.Bay.Faulty.faults s trace trace out out xs [] c.in-Err.status) (sym same)
+                (subst (λ (st : Status). HasRun {S = g.row.P-Trace.Denot} {K = g.row.K.Denot} {B = g.row.P-Bay.Denot} g.P.Trace.Source.remaining g.P.Trace.Faulty.faults g.K.Sink.taken g.K.Faulty.faults g.P.Bay.Bay.files g.P.Bay.Faulty.faults s trace trace out out [] [] st) (sym none.0)
+                (HasRun-shows {S = g.row.P-Trace.Denot} {K = g.row.K.Denot} {B = g.row.P-Bay.Denot} g.P.Trace.Source.remaining g.P.Trace.Faulty.faults g.K.Sink.taken g.K.Faulty.faults g.P.Bay.Bay.files g.P.Bay.Faulty.faults s trace trace out out [] [] OutOfMemory (refl, inl refl) (λ other. absurd (other refl)) (λ is. absurd (true_is_false (sym is))))),
+          )
+      | inr bay ↦ absurd (differs bay.0)
+    ]
+
+pub returns-in-Err-clause-no_usage : goal.returns-in-Err-clause-no_usage
+returns-in-Err-clause-no_usage g c = λ rule is.
+    elim c.in-Err.ensures.refused [
+      | inl none ↦ let other = none.0 in cc
+      | inr bay ↦ let other = bay.0 in cc
+    ]
+
+pub returns-clause-asked : goal.returns-clause-asked
+returns-clause-asked g c =
+    let shows = c.run_bays-status.ensures.shows in
+    inr (record {
+      number = c.cones.result;
+      within = omega (arith, c.cones.ensures);
+      asked_is = c.put_back_bays.ensures.asked ∙ c.in-Ok.ensures.asked;
+      no_fault = not_place_fault {S = g.row.P-Trace.Denot} {K = g.row.K.Denot} {B = g.row.P-Bay.Denot} g.P.Trace.Source.remaining g.P.Trace.Faulty.faults g.K.Sink.taken g.K.Faulty.faults g.P.Bay.Bay.files g.P.Bay.Faulty.faults c.args.settings.now _ _ c.args.out.now c.run_bays-status.new.out c.in-Ok.bays.items c.run_bays-status.new.bays.items c.run_bays-status.result shows;
+      all = λ is. c.cones.ensures;
+    })
+
+pub returns-clause-place_fault : goal.returns-clause-place_fault
+returns-clause-place_fault g c = λ is.
+    absurd (not_place_fault {S = g.row.P-Trace.Denot} {K = g.row.K.Denot} {B = g.row.P-Bay.Denot} g.P.Trace.Source.remaining g.P.Trace.Faulty.faults g.K.Sink.taken g.K.Faulty.faults g.P.Bay.Bay.files g.P.Bay.Faulty.faults c.args.settings.now _ _ c.args.out.now c.run_bays-status.new.out c.in-Ok.bays.items c.run_bays-status.new.bays.items c.run_bays-status.result
+    c.run_bays-status.ensures.shows is)
+
+pub returns-clause-no_usage : goal.returns-clause-no_usage
+returns-clause-no_usage g c = λ rule is.
+    not_usage {S = g.row.P-Trace.Denot} {K = g.row.K.Denot} {B = g.row.P-Bay.Denot} g.P.Trace.Source.remaining g.P.Trace.Faulty.faults g.K.Sink.taken g.K.Faulty.faults g.P.Bay.Bay.files g.P.Bay.Faulty.faults c.args.settings.now _ _ c.args.out.now c.run_bays-status.new.out c.in-Ok.bays.items c.run_bays-status.new.bays.items rule c.run_bays-status.result
+    c.run_bays-status.ensures.shows is
+
+pub returns-clause-returned : goal.returns-clause-returned
+returns-clause-returned g c =
+    all_back g.P.Bay.Bay.files g.P.Bay.Faulty.faults g.P.Bay.Faulty.mark c.in-Ok.bays.items c.run_bays-status.new.bays.items _ _ (c.put_back_bays.ensures.bays ∙ c.in-Ok.ensures.opened) c.run_bays-status.ensures.later c.in-Ok.ensures.marked
+    c.put_back_bays.ensures.returned
+
+pub returns-clause-ran : goal.returns-clause-ran
+returns-clause-ran g c = λ differs.
+    let same = c.put_back_bays.ensures.bays ∙ c.in-Ok.ensures.opened in
+    let first = c.in-Ok.bays.items in
+    let now = c.run_bays-status.new.bays.items in
+    let s = c.args.settings.now in
+    let status = c.run_bays-status.result in
+    let shows = shows_along {S = g.row.P-Trace.Denot} {K = g.row.K.Denot} {B = g.row.P-Bay.Denot} g.P.Trace.Source.remaining g.P.Trace.Faulty.faults g.K.Sink.taken g.K.Faulty.faults g.P.Bay.Bay.files g.P.Bay.Faulty.faults s _ c.args.trace _ c.into_source.result c.args.out.now c.run_bays-status.new.out first now (IsStale g.P.Bay.Bay.files first) status
+    (ap (λ r. r.made) c.new-reader.ensures) (sym c.into_source.ensures) c.run_bays-status.ensures.shows in (
+      now,
+      c.put_back_bays.ensures.returned,
+      subst (λ (xs : List g.row.P-Bay.Denot). AreLater g.P.Bay.Bay.files g.P.Bay.Faulty.faults g.P.Bay.Faulty.mark xs now) (sym same) c.run_bays-status.ensures.later,
+      subst (λ (xs : List g.row.P-Bay.Denot). HasRun {S = g.row.P-Trace.Denot} {K = g.row.K.Denot} {B = g.row.P-Bay.Denot} g.P.Trace.Source.remaining g.P.Trace.Faulty.faults g.K.Sink.taken g.K.Faulty.faults g.P.Bay.Bay.files g.P.Bay.Faulty.faults s c.args.trace c.into_source.result c.args.out.now c.run_bays-status.new.out xs now status) (sym same)
+          (HasRun-shows {S = g.row.P-Trace.Denot} {K = g.row.K.Denot} {B = g.row.P-Bay.Denot} g.P.Trace.Source.remaining g.P.Trace.Faulty.faults g.K.Sink.taken g.K.Faulty.faults g.P.Bay.Bay.files g.P.Bay.Faulty.faults s c.args.trace c.into_source.result c.args.out.now c.run_bays-status.new.out first now status shows
+          (λ other. c.in-Ok.ensures.number ∙ c.cones.ensures) c.run_bays-status.ensures.fresh),
+    )
+
+pub put_back_bays-requires-clause-marked : goal.put_back_bays-requires-clause-marked
+put_back_bays-requires-clause-marked g c = λ lifetimes outlive cone bay is.
+    still_marked g.P.Bay.Bay.files g.P.Bay.Faulty.faults g.P.Bay.Faulty.mark c.in-Ok.bays.items c.run_bays-status.new.bays.items c.run_bays-status.ensures.later c.in-Ok.ensures.marked cone bay is

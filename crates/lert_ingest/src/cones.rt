@@ -1,0 +1,123 @@
+//! Cones over the bays of a run, and the bays of cones again.
+
+ghost use Rattle.std.specs.Prelude.{◌≡◌, ℕ, ◌+◌, ◌^◌, ◌<◌, ◌≤◌, ◌++◌, [], ◌∷◌, true, false, All, length, slice_get, Some, None, IfOk, IfErr, OnOk, OnErr, vec_len, vec_capacity};
+ghost use Rattle.std.specs.VecDeque.{deque_capacity, deque_len};
+ghost use Rattle.lert_spec.specs.Limits.{IsValid};
+ghost use Rattle.lert_ingest.specs.Bays.{AreFresh, AreLater, bays_of};
+ghost use Rattle.lert_ingest.specs.Cones.{AreNew, IsNewRoom};
+ghost use Rattle.lert_ingest.specs.Run.{IsUnmade};
+ghost use Rattle.lert_ingest.specs.Status.{create_status};
+
+use crate::status::Status;
+use lert_base::Settings;
+use lert_bay::Bay;
+use lert_cone::{Cone, ConeRoom, CreateFault, CreateRefused};
+use lert_cqf::Cqf;
+use lert_io::OutOfMemory;
+use std::alloc::Global;
+use std::collections::VecDeque;
+
+/// Cones without a packet over all bays, in ascending order, for which the memory is taken first. A refusal
+/// leaves the bays, and Ok an emptied list with room for them.
+pub fn make_cones<B: Bay>(
+    alloc: Global,
+    settings: &Settings,
+    bays: &mut VecDeque<B>,
+) -> Result<Vec<Cone<B, Cqf>>, Status>
+    requires number { length bays.old.items ≡ 2 ^ settings.now.cone_bits }
+    requires room { length bays.old.items ≤ deque_capacity bays.old }
+    requires fresh { AreFresh B.files bays.old.items }
+    ensures new_cones { IfOk result (λ cones. AreNew B.files B.leaves B.faults settings.now cones.items) }
+    ensures number { IfOk result (λ cones. length cones.items ≡ 2 ^ settings.now.cone_bits) }
+    ensures emptied { OnOk result (bays.new.items ≡ []) }
+    ensures room { deque_capacity bays.new ≡ deque_capacity bays.old }
+    ensures later { IfOk result (λ cones. AreLater B.files B.faults B.mark bays.old.items (bays_of cones.items)) }
+    ensures kept { OnErr result (AreLater B.files B.faults B.mark bays.old.items bays.new.items) }
+    ensures unmade { IfErr result (IsUnmade B.files B.faults bays.old.items bays.new.items) }
+{
+    let rooms = make_rooms(alloc, settings)?;
+    let Ok(cones) = Vec::with_capacity(alloc, settings.cones() as usize) else {
+        return Err(Status::OutOfMemory);
+    };
+    fill_rooms(settings, rooms, bays, cones)
+}
+
+/// The memory of all cones. Its only error is want of memory.
+pub fn make_rooms(alloc: Global, settings: &Settings) -> Result<Vec<ConeRoom<Cqf>>, OutOfMemory>
+    ensures number { IfOk result (λ rooms. length rooms.items ≡ 2 ^ settings.now.cone_bits) }
+    ensures each { IfOk result (λ rooms. All (IsNewRoom settings.now) rooms.items) }
+{
+    let mut rooms = Vec::with_capacity(alloc, settings.cones() as usize)?;
+    for _ in 0..settings.cones() {
+        rooms.push(ConeRoom::new(alloc, settings)?)?;
+    }
+    Ok(rooms)
+}
+
+// A cone over each bay, in ascending order, in an empty list with room for all.
+fn fill_rooms<B: Bay>(
+    settings: &Settings,
+    mut rooms: Vec<ConeRoom<Cqf>>,
+    bays: &mut VecDeque<B>,
+    mut cones: Vec<Cone<B, Cqf>>,
+) -> Result<Vec<Cone<B, Cqf>>, Status>
+    requires number { length bays.old.items ≡ 2 ^ settings.now.cone_bits }
+    requires room { length bays.old.items ≤ deque_capacity bays.old }
+    requires fresh { AreFresh B.files bays.old.items }
+    requires rooms_number { length rooms.items ≡ 2 ^ settings.now.cone_bits }
+    requires rooms { All (IsNewRoom settings.now) rooms.items }
+    requires none { cones.items ≡ [] }
+    requires cones_room { 2 ^ settings.now.cone_bits ≤ vec_capacity cones }
+    ensures new_cones { IfOk result (λ made. AreNew B.files B.leaves B.faults settings.now made.items) }
+    ensures number { IfOk result (λ made. length made.items ≡ 2 ^ settings.now.cone_bits) }
+    ensures emptied { OnOk result (bays.new.items ≡ []) }
+    ensures room { deque_capacity bays.new ≡ deque_capacity bays.old }
+    ensures later { IfOk result (λ made. AreLater B.files B.faults B.mark bays.old.items (bays_of made.items)) }
+    ensures kept { OnErr result (AreLater B.files B.faults B.mark bays.old.items bays.new.items) }
+    ensures unmade { IfErr result (IsUnmade B.files B.faults bays.old.items bays.new.items) }
+{
+    for number in 0..settings.cones() {
+        let Some(room) = rooms.pop() else {
+            unreachable!()
+        };
+        let Some(bay) = bays.pop_front() else {
+            unreachable!()
+        };
+        match Cone::create(room, number, bay) {
+            Ok(cone) => cones.push_reserved(cone),
+            Err(refused) => {
+                let CreateRefused {
+                    fault,
+                    bay,
+                    room: _,
+                } = refused;
+                bays.push_front_reserved(bay);
+                bring_back(cones, bays);
+                return Err(status_of(number, fault));
+            }
+        }
+    }
+    Ok(cones)
+}
+
+// The status of a run in which the cone of a number wasn't made.
+fn status_of(number: u32, fault: CreateFault) -> Status
+    ensures { result ≡ create_status number fault }
+{
+    match fault {
+        CreateFault::NotFresh => Status::NotFresh { cone: number },
+        CreateFault::Failed => Status::BayFault { cone: number },
+    }
+}
+
+/// Puts the bays of cones before those of a list, which has room for them.
+pub fn bring_back<B: Bay>(mut cones: Vec<Cone<B, Cqf>>, bays: &mut VecDeque<B>)
+    requires { length cones.items + length bays.old.items ≤ deque_capacity bays.old }
+    ensures bays { bays.new.items ≡ bays_of cones.items ++ bays.old.items }
+    ensures room { deque_capacity bays.new ≡ deque_capacity bays.old }
+{
+    while let Some(cone) = cones.pop() {
+        bays.push_front_reserved(cone.into_bay());
+    }
+    cones.destroy_empty();
+}

@@ -1,0 +1,21 @@
+-- The openings of one trace and of the bays of cones, and how what was handed out came back.
+use Rattle.std.specs.Prelude.{◌≡◌, ℕ, ◌<◌, Bool, true, false, List, length, map, Option, Some}
+use Rattle.std.specs.List.{range_with_len}
+use Rattle.lert_place.specs.declared.opening.Opening.{Opening}
+use Rattle.lert_place.specs.declared.opening.Wanted.TheVariants.{Trace, Bay}
+
+-- the openings of the bays of the first so many cones in a directory, all answered Ok
+abbrev pub bays_opened : List ℕ → ℕ → List Opening
+bays_opened dir number = map (λ cone. record { wanted = Bay dir cone; opened = true }) (range_with_len 0 number)
+
+-- the opening of a bay that failed
+abbrev pub bay_refused : List ℕ → ℕ → Opening
+bay_refused dir cone = record { wanted = Bay dir cone; opened = false }
+
+-- the opening of a trace
+abbrev pub trace_asked : List ℕ → Bool → Opening
+trace_asked name opened = record { wanted = Trace name; opened = opened }
+
+-- each object that was handed out was put back under its number, which is its mark
+abbrev pub AreReturned : {T : Type 0} → (T → ℕ) → List T → (ℕ → Option T) → Type 0
+AreReturned {T = T} mark handed returned = (number : ℕ) → number < length handed → (back : T) × (returned number ≡ Some back) × (mark back ≡ number)

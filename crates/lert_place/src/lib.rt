@@ -1,0 +1,14 @@
+//! Places of traces and bays.
+//!
+//! The one contract is that of the trait `Place`: what was asked, what was handed out, and what came back.
+//! `MemPlace` meets it in memory, for tests. The top call opens what it needs at a place, and puts it back there.
+#![tactic(auto)]
+
+mod lent;
+mod mem_place;
+mod opening;
+mod place;
+
+pub use mem_place::MemPlace;
+pub use opening::{Opening, Wanted};
+pub use place::Place;

@@ -1,0 +1,145 @@
+//! What is reported, and when.
+
+use super::{check, check_long};
+use lert_top::Status;
+use lert_trials::{Row, SMALL, short_form, trace, trace_with};
+use std::test::Fail;
+
+// How many keys there are, these at these positions, and the text.
+type Placed<'a> = (u8, &'a [(u8, u64)], &'a str);
+
+#[test]
+fn the_short_form_runs_with_the_defaults(rt: HostRuntime) -> Result<(), Fail> {
+    let rows: [(&str, &[u64], &str); 4] = [
+        (
+            "3",
+            &[],
+            "cone 0 events 0 reports 0 closed\ntotal events 0 reports 0\n",
+        ),
+        (
+            "3",
+            &[7, 7, 7],
+            "cone 0 events 3 reports 1 closed\n7 3\ntotal events 3 reports 1\n",
+        ),
+        (
+            "1",
+            &[7, 7, 8],
+            "cone 0 events 3 reports 2 closed\n7 1\n8 3\ntotal events 3 reports 2\n",
+        ),
+        (
+            "4294967295",
+            &[7, 7, 8],
+            "cone 0 events 3 reports 0 closed\ntotal events 3 reports 0\n",
+        ),
+    ];
+    for (threshold, keys, text) in rows {
+        let trace = trace(rt.alloc(), keys)?;
+        let row = Row {
+            words: &short_form(threshold),
+            cones: 1,
+            trace: trace.as_slice(),
+            failing_read: 0,
+            failing_write: 0,
+        };
+        check(&rt, &row, Status::Done, text)?;
+    }
+    Ok(())
+}
+
+#[test]
+fn the_long_form_runs_with_its_settings(rt: HostRuntime) -> Result<(), Fail> {
+    let at_once = ["1", "3", "2", "4", "2", "0", "32", "8"];
+    let spelled = ["03", "3", "2", "4", "2", "00", "32", "00000000000000000008"];
+    let rows: [([&str; 8], &[u64], &str); 4] = [
+        (
+            SMALL,
+            &[],
+            "cone 0 events 0 reports 0 closed\ntotal events 0 reports 0\n",
+        ),
+        (
+            SMALL,
+            &[7, 7, 7],
+            "cone 0 events 3 reports 1 closed\n7 3\ntotal events 3 reports 1\n",
+        ),
+        (
+            spelled,
+            &[7, 7, 7],
+            "cone 0 events 3 reports 1 closed\n7 3\ntotal events 3 reports 1\n",
+        ),
+        (
+            at_once,
+            &[7, 7, 8],
+            "cone 0 events 3 reports 2 closed\n7 1\n8 3\ntotal events 3 reports 2\n",
+        ),
+    ];
+    for (numbers, keys, text) in rows {
+        let trace = trace(rt.alloc(), keys)?;
+        check_long(&rt, numbers, trace.as_slice(), Status::Done, text)?;
+    }
+    Ok(())
+}
+
+#[test]
+fn a_key_is_reported_by_level_0_by_a_flush_or_at_the_end(rt: HostRuntime) -> Result<(), Fail> {
+    let rows: [Placed; 5] = [
+        (
+            16,
+            &[(1, 7), (2, 7), (13, 7)],
+            "cone 0 events 16 reports 1 closed\n7 16\ntotal events 16 reports 1\n",
+        ),
+        (
+            16,
+            &[(1, 7), (2, 7), (16, 7)],
+            "cone 0 events 16 reports 1 closed\n7 16\ntotal events 16 reports 1\n",
+        ),
+        (
+            40,
+            &[(1, 7), (2, 7), (33, 7)],
+            "cone 0 events 40 reports 1 closed\n7 40\ntotal events 40 reports 1\n",
+        ),
+        (
+            35,
+            &[(1, 7), (33, 7), (34, 7), (35, 7)],
+            "cone 0 events 35 reports 1 closed\n7 35\ntotal events 35 reports 1\n",
+        ),
+        (
+            34,
+            &[(1, 7), (2, 7), (33, 7)],
+            "cone 0 events 34 reports 1 closed\n7 34\ntotal events 34 reports 1\n",
+        ),
+    ];
+    for (len, placed, text) in rows {
+        let trace = trace_with(rt.alloc(), len, placed)?;
+        check_long(&rt, SMALL, trace.as_slice(), Status::Done, text)?;
+    }
+    Ok(())
+}
+
+#[test]
+fn reports_of_one_position_stand_in_the_order_of_mixed_values(rt: HostRuntime) -> Result<(), Fail> {
+    let text =
+        "cone 0 events 16 reports 2 closed\n18446744073709551615 16\n1 16\ntotal events 16 reports 2\n";
+    let rows: [&[(u8, u64)]; 2] = [
+        &[
+            (1, 1),
+            (2, 1),
+            (13, 1),
+            (3, u64::MAX),
+            (4, u64::MAX),
+            (14, u64::MAX),
+        ],
+        &[
+            (1, u64::MAX),
+            (2, u64::MAX),
+            (13, u64::MAX),
+            (14, 1),
+            (15, 1),
+            (16, 1),
+        ],
+    ];
+    for placed in rows {
+        let trace = trace_with(rt.alloc(), 16, placed)?;
+        check_long(&rt, SMALL, trace.as_slice(), Status::Done, text)?;
+    }
+    Ok(())
+}

@@ -1,8 +1,0 @@
-use Rattle.std.proofs.Common.{◌≡◌, drop}
-use Rattle.lert_top.specs.Shelf.{bay_of}
-use Rattle.lert_top.proofs.mem_place.MemPlace.bay_copy.Given as goal
-
--- no bay so far is the one
-abbrev pub invariant-loop-bay : goal.invariant-loop-bay
-invariant-loop-bay l =
-    bay_of l.self-inside.bays.items l.dir l.cone ≡ bay_of (drop l.bay-index l.self-inside.bays.items) l.dir l.cone

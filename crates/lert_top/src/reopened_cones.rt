@@ -1,0 +1,97 @@
+//! Cones over the files that runs left.
+
+ghost use Rattle.std.specs.Prelude.{◌≡◌, ℕ, ◌+◌, ◌^◌, ◌<◌, ◌≤◌, ◌++◌, [], ◌∷◌, All, length, slice_get, Some, IfOk, IfErr, OnOk, OnErr, vec_capacity};
+ghost use Rattle.std.specs.VecDeque.{deque_capacity};
+ghost use Rattle.lert_ingest.specs.Bays.{AreLater, bays_of};
+ghost use Rattle.lert_ingest.specs.Cones.{IsNewRoom};
+ghost use Rattle.lert_top.specs.Recovered.{AreOpenOver, IsUnopened, reopen_status};
+
+use lert_base::Settings;
+use lert_bay::Bay;
+use lert_cone::{Cone, ConeRoom};
+use lert_cqf::Cqf;
+use lert_ingest::{Status, bring_back, make_rooms};
+use lert_recover::{ReopenFault, ReopenRefused, reopen};
+use std::alloc::Global;
+use std::collections::VecDeque;
+
+/// Opens cones over the files of all bays, in ascending order, for which the memory is taken first, up to the first that is
+/// refused. A refusal leaves the bays, and Ok an emptied list with room for them.
+pub fn reopen_cones<B: Bay>(
+    alloc: Global,
+    settings: &Settings,
+    bays: &mut VecDeque<B>,
+) -> Result<Vec<Cone<B, Cqf>>, Status>
+    requires number { length bays.old.items ≡ 2 ^ settings.now.cone_bits }
+    requires room { length bays.old.items ≤ deque_capacity bays.old }
+    ensures open { IfOk result (λ cones. AreOpenOver B.files B.leaves B.faults settings.now bays.old.items cones.items) }
+    ensures number { IfOk result (λ cones. length cones.items ≡ 2 ^ settings.now.cone_bits) }
+    ensures emptied { OnOk result (bays.new.items ≡ []) }
+    ensures room { deque_capacity bays.new ≡ deque_capacity bays.old }
+    ensures later { IfOk result (λ cones. AreLater B.files B.faults B.mark bays.old.items (bays_of cones.items)) }
+    ensures kept { OnErr result (AreLater B.files B.faults B.mark bays.old.items bays.new.items) }
+    ensures unopened { IfErr result (IsUnopened B.files B.faults settings.now bays.old.items bays.new.items) }
+{
+    let rooms = make_rooms(alloc, settings)?;
+    let Ok(cones) = Vec::with_capacity(alloc, settings.cones() as usize) else {
+        return Err(Status::OutOfMemory);
+    };
+    reopen_rooms(settings, rooms, bays, cones)
+}
+
+// Opens a cone over the files of each bay, in ascending order, in an empty list with room for all.
+fn reopen_rooms<B: Bay>(
+    settings: &Settings,
+    mut rooms: Vec<ConeRoom<Cqf>>,
+    bays: &mut VecDeque<B>,
+    mut cones: Vec<Cone<B, Cqf>>,
+) -> Result<Vec<Cone<B, Cqf>>, Status>
+    requires number { length bays.old.items ≡ 2 ^ settings.now.cone_bits }
+    requires room { length bays.old.items ≤ deque_capacity bays.old }
+    requires rooms_number { length rooms.items ≡ 2 ^ settings.now.cone_bits }
+    requires rooms { All (IsNewRoom settings.now) rooms.items }
+    requires none { cones.items ≡ [] }
+    requires cones_room { 2 ^ settings.now.cone_bits ≤ vec_capacity cones }
+    ensures open { IfOk result (λ made. AreOpenOver B.files B.leaves B.faults settings.now bays.old.items made.items) }
+    ensures number { IfOk result (λ made. length made.items ≡ 2 ^ settings.now.cone_bits) }
+    ensures emptied { OnOk result (bays.new.items ≡ []) }
+    ensures room { deque_capacity bays.new ≡ deque_capacity bays.old }
+    ensures later { IfOk result (λ made. AreLater B.files B.faults B.mark bays.old.items (bays_of made.items)) }
+    ensures kept { OnErr result (AreLater B.files B.faults B.mark bays.old.items bays.new.items) }
+    ensures unopened { IfErr result (IsUnopened B.files B.faults settings.now bays.old.items bays.new.items) }
+{
+    for number in 0..settings.cones() {
+        let Some(room) = rooms.pop() else {
+            unreachable!()
+        };
+        let Some(bay) = bays.pop_front() else {
+            unreachable!()
+        };
+        match reopen(room, number, bay) {
+            Ok(cone) => cones.push_reserved(cone),
+            Err(refused) => {
+                let ReopenRefused { fault, bay } = refused;
+                bays.push_front_reserved(bay);
+                bring_back(cones, bays);
+                return Err(status_of(number, fault));
+            }
+        }
+    }
+    Ok(cones)
+}
+
+// The status of a recovery in which the cone of a number wasn't opened.
+fn status_of(number: u32, fault: ReopenFault) -> Status
+    ensures { result ≡ reopen_status number fault }
+{
+    match fault {
+        ReopenFault::Failed => Status::BayFault { cone: number },
+        ReopenFault::Malformed { file, at } => Status::Malformed {
+            cone: number,
+            file,
+            at,
+        },
+        ReopenFault::OtherSettings { .. } => Status::OtherSettings { cone: number },
+        ReopenFault::OutOfMemory => Status::OutOfMemory,
+    }
+}

@@ -1,0 +1,15 @@
+//! Runs and recoveries over places in memory, for tests of the top call: words, traces, and what comes of a run as plain bytes.
+//!
+//! No contract here says what a run does. What comes of it is handed over as a status, a text and files, so that a test owns no
+//! place, which would be dear to let go at each of its exits.
+#![tactic(auto)]
+
+mod cone_files;
+mod lines;
+mod runs;
+mod traces;
+
+pub use cone_files::{Files, bay_of};
+pub use lines::{SMALL, long_form, recover_form, short_form};
+pub use runs::{Ended, Row, recover_files, run_at, run_on, run_row};
+pub use traces::{HEADER, trace, trace_with};

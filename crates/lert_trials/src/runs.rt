@@ -1,0 +1,207 @@
+//! Runs and recoveries, and what comes of them.
+
+ghost use Rattle.std.specs.Prelude.{◌≡◌, [], OnOk};
+
+use crate::cone_files::{Files, bay_of};
+use lert_base::Words;
+use lert_bay::MemBay;
+use lert_io::{CallList, MemSink, MemSource, OutOfMemory};
+use lert_top::{MemPlace, Status, run};
+use std::alloc::Global;
+
+/// A run over one trace and empty bays in memory: the calls of the trace and of the sink that fail, with 0
+/// for none.
+#[derive(Drop)]
+pub struct Row<'a> {
+    pub words: &'a [&'a str],
+    pub cones: u32,
+    pub trace: &'a [u8],
+    pub failing_read: u64,
+    pub failing_write: u64,
+}
+
+/// What came of a run or a recovery: its status and its text, whether the trace came back and how many bays did, and what the
+/// first of these holds.
+#[derive(Drop)]
+pub struct Ended {
+    pub status: Status,
+    pub text: Vec<u8>,
+    pub trace: bool,
+    pub bays: u32,
+    pub files: Files,
+}
+
+fn words(alloc: Global, texts: &[&str]) -> Result<Words, OutOfMemory> {
+    let mut words = Words::new(alloc)?;
+    push_words(&mut words, texts)?;
+    Ok(words)
+}
+
+fn push_words(words: &mut Words, texts: &[&str]) -> Result<(), OutOfMemory> {
+    for text in texts {
+        words.push(text)?;
+    }
+    Ok(())
+}
+
+// The list of this call, or of none where it is 0.
+fn calls(alloc: Global, call: u64) -> Result<CallList, OutOfMemory> {
+    let mut calls = CallList::new(alloc)?;
+    if call > 0 {
+        calls.push(call)?;
+    }
+    Ok(calls)
+}
+
+// Gives a place that was asked for nothing yet a trace under the name `a`, of which this read fails.
+fn add_trace(
+    alloc: Global,
+    place: &mut MemPlace,
+    trace: &[u8],
+    failing_read: u64,
+) -> Result<(), OutOfMemory>
+    requires asked { place.old.asked ≡ [] }
+    requires traces { place.old.lent_traces.handed ≡ [] }
+    requires bays { place.old.lent_bays.handed ≡ [] }
+    ensures asked { OnOk result (place.new.asked ≡ []) }
+    ensures traces { OnOk result (place.new.lent_traces.handed ≡ []) }
+    ensures bays { OnOk result (place.new.lent_bays.handed ≡ []) }
+{
+    let source = MemSource::new(alloc, trace, &calls(alloc, failing_read)?)?;
+    place.add_trace("a", source)?;
+    Ok(())
+}
+
+// Gives a place that was asked for nothing yet the empty bays of so many cones in the directory `d`.
+fn add_bays(alloc: Global, place: &mut MemPlace, cones: u32) -> Result<(), OutOfMemory>
+    requires asked { place.old.asked ≡ [] }
+    requires traces { place.old.lent_traces.handed ≡ [] }
+    requires bays { place.old.lent_bays.handed ≡ [] }
+    ensures asked { OnOk result (place.new.asked ≡ []) }
+    ensures traces { OnOk result (place.new.lent_traces.handed ≡ []) }
+    ensures bays { OnOk result (place.new.lent_bays.handed ≡ []) }
+{
+    for cone in 0..cones {
+        place.add_bay("d", cone, MemBay::new(alloc)?)?;
+    }
+    Ok(())
+}
+
+// How many bays came back.
+fn bays_back(place: &MemPlace) -> u32 {
+    for cone in 0..256 {
+        if place.bay(cone).is_none() {
+            return cone;
+        }
+    }
+    256
+}
+
+// What the first bay that came back holds.
+fn files_back(alloc: Global, place: &MemPlace) -> Result<Files, OutOfMemory> {
+    match place.bay(0) {
+        Some(bay) => Files::of_bay(alloc, bay),
+        None => Ok(Files::new(alloc)),
+    }
+}
+
+/// Runs these words over a place that was asked for nothing yet, with this write of the text failing, or none where it is 0.
+pub fn run_at(
+    alloc: Global,
+    texts: &[&str],
+    place: &mut MemPlace,
+    failing_write: u64,
+) -> Result<Ended, OutOfMemory>
+    requires asked { place.old.asked ≡ [] }
+    requires traces { place.old.lent_traces.handed ≡ [] }
+    requires bays { place.old.lent_bays.handed ≡ [] }
+{
+    let words = words(alloc, texts)?;
+    let mut out = MemSink::new(alloc, 16_384, &calls(alloc, failing_write)?)?;
+    let status = run_words(alloc, &words, place, &mut out);
+    let files = files_back(alloc, place)?;
+    Ok(Ended {
+        status,
+        text: Vec::from_slice(alloc, out.bytes())?,
+        trace: place.trace(0).is_some(),
+        bays: bays_back(place),
+        files,
+    })
+}
+
+// The call alone, so that what it says stands in no goal of its callers.
+fn run_words(alloc: Global, words: &Words, place: &mut MemPlace, out: &mut MemSink) -> Status
+    requires asked { place.old.asked ≡ [] }
+    requires traces { place.old.lent_traces.handed ≡ [] }
+    requires bays { place.old.lent_bays.handed ≡ [] }
+{
+    run(alloc, words, place, out)
+}
+
+/// Runs a row over a place that has its trace and its bays.
+pub fn run_row(alloc: Global, row: &Row) -> Result<Ended, OutOfMemory> {
+    let mut place = MemPlace::new(alloc)?;
+    run_row_at(alloc, row, &mut place)
+}
+
+fn run_row_at(alloc: Global, row: &Row, place: &mut MemPlace) -> Result<Ended, OutOfMemory>
+    requires asked { place.old.asked ≡ [] }
+    requires traces { place.old.lent_traces.handed ≡ [] }
+    requires bays { place.old.lent_bays.handed ≡ [] }
+{
+    add_trace(alloc, place, row.trace, row.failing_read)?;
+    add_bays(alloc, place, row.cones)?;
+    run_at(alloc, row.words, place, row.failing_write)
+}
+
+/// Runs these words over a trace, the empty bays of so many cones, and behind them this bay of the next cone.
+pub fn run_on(
+    alloc: Global,
+    texts: &[&str],
+    trace: &[u8],
+    empty: u32,
+    bay: MemBay,
+) -> Result<Ended, OutOfMemory> {
+    let mut place = MemPlace::new(alloc)?;
+    run_on_at(alloc, texts, trace, empty, bay, &mut place)
+}
+
+fn run_on_at(
+    alloc: Global,
+    texts: &[&str],
+    trace: &[u8],
+    empty: u32,
+    bay: MemBay,
+    place: &mut MemPlace,
+) -> Result<Ended, OutOfMemory>
+    requires asked { place.old.asked ≡ [] }
+    requires traces { place.old.lent_traces.handed ≡ [] }
+    requires bays { place.old.lent_bays.handed ≡ [] }
+{
+    // The bay goes first, so that no later exit has to let it go.
+    place.add_bay("d", empty, bay)?;
+    add_trace(alloc, place, trace, 0)?;
+    add_bays(alloc, place, empty)?;
+    run_at(alloc, texts, place, 0)
+}
+
+/// Runs these words, of a recovery, over a place with a bay of cone 0 that has these files.
+pub fn recover_files(alloc: Global, texts: &[&str], files: &Files) -> Result<Ended, OutOfMemory> {
+    let bay = bay_of(alloc, files)?;
+    let mut place = MemPlace::new(alloc)?;
+    recover_at(alloc, texts, bay, &mut place)
+}
+
+fn recover_at(
+    alloc: Global,
+    texts: &[&str],
+    bay: MemBay,
+    place: &mut MemPlace,
+) -> Result<Ended, OutOfMemory>
+    requires asked { place.old.asked ≡ [] }
+    requires traces { place.old.lent_traces.handed ≡ [] }
+    requires bays { place.old.lent_bays.handed ≡ [] }
+{
+    place.add_bay("d", 0, bay)?;
+    run_at(alloc, texts, place, 0)
+}
