@@ -21,7 +21,8 @@ pub trait Bay: Faulty {
     /// The files as a read gives them, where the bay tells them.
     ghost files: { Self → Option Files };
 
-    /// The images: what a crash at this moment may leave of the files.
+    /// The images: what a crash at this moment may leave of the files. No clause says that their bytes are
+    /// below 256.
     ghost leaves: { Self → Files → Type 0 };
 
     /// This moment, as a number that doesn't fall. All three files share it.

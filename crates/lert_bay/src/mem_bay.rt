@@ -131,8 +131,9 @@ impl MemBay {
     }
 
     /// What a crash at this moment may leave, one of its images, as a bay with nothing pending and no call
-    /// that is to fail. The picks 0 to 3 give the bytes of the last syncs, those that a read gives, and
-    /// two mixes with different lengths; greater picks give other mixes.
+    /// that is to fail. It takes back the writes since the last sync, the last one first. The picks 0 to 3
+    /// take back all of each, nothing, the second half and the first half, and leave the least length, the
+    /// greatest, the greatest and the one between. A greater pick gives each write a fate of its own.
     pub fn crashed(mut self, pick: u64) -> Result<MemBay, OutOfMemory>
         ensures image { IfOk result (λ bay. MayLeaveAll self.files (seen_of bay.files)) }
         ensures lost { pick ≡ 0 → IfOk result (λ bay. (number : ℕ) → seen_of bay.files number ≡ (file_of self.files number).synced) }

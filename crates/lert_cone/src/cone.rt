@@ -156,7 +156,8 @@ impl<B: Bay, T: CountTable> Cone<B, T> {
     }
 
     /// Takes the packet of an entry: appends it to the journal, and then takes its keys, one after another. At a flush position
-    /// the log gets a record. Ok comes when the packet is on the disk and its keys are counted.
+    /// the log gets a record. Ok comes when the packet is on the disk and its keys are counted. No clause tells in which order
+    /// journal and memory take a packet without a flush, since memory is lost with the machine.
     pub fn admit(&mut self, entry: &Entry) -> Result<Acked, ConeFault>
         requires fits { IsJournaled self.old.listing.settings self.old.listing.cone (packet_of entry.now) }
 
@@ -227,6 +228,7 @@ impl<B: Bay, T: CountTable> Cone<B, T> {
         ensures mark { B.mark self.new.bay ≡ B.mark self.old.bay }
     {
         let len = entry.keys.len() as u64;
+        // The tests first: a packet that is refused leaves cone and files as they were.
         self.test(len)?;
         if let Err(fault) = take_packet(
             &mut self.tally,
@@ -240,6 +242,7 @@ impl<B: Bay, T: CountTable> Cone<B, T> {
             self.state = broken_by(fault);
             return Err(ConeFault::from(fault));
         }
+        // Acknowledged only here: the packet is on the disk and its keys are counted.
         let from = self.events + 1;
         self.events += len;
         Ok(Acked {
@@ -334,6 +337,7 @@ fn begin<B: Bay>(
     ensures failed { IsErrOf result CreateFault.Failed → HasRisen (B.faults bay.old) (B.faults bay.new) }
     ensures mark { B.mark bay.new ≡ B.mark bay.old }
 {
+    // Nothing is written before all three files are found empty.
     if !is_fresh(bay)? {
         return Err(CreateFault::NotFresh);
     }

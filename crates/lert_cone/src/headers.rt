@@ -69,6 +69,7 @@ pub fn write_headers<B: Bay>(
 {
     let mut header = [0; HEADER_LEN];
     write_header(settings, cone, &mut header);
+    // The journal's first, in the order in which a recovery reads the headers.
     let journal = GateLog::create(bay, JOURNAL, &header, greatest_payload(settings))?;
     let log = GateLog::create(bay, LOG, &LOG_HEADER, greatest_record(settings))?;
     Ok((journal, ReportLog::new(log)))

@@ -41,6 +41,7 @@ pub fn take_packet<B: Bay, T: CountTable>(
         (record { bay = bay.new; counts = tally.new; log = log.new; room = length buffer.new }) journal.old journal.new result }
 {
     let keys = keys_of(entry);
+    // The journal before the keys are counted: a flush among them writes a record that counts on the packet.
     append_entry(journal, bay, entry, buffer)?;
     take_keys(tally, log, bay, keys, buffer)
 }
@@ -99,6 +100,7 @@ fn write_record<B: Bay, T: CountTable>(
 {
     let n0 = tally.len();
     let reports = tally.store().list();
+    // The frames before the record that names them: each image's last record names frames that hold its bins.
     log.append(bay, kind, n0, tally.directory(), reports, buffer)
 }
 
@@ -118,6 +120,7 @@ pub fn replay_keys<B: Bay, T: CountTable>(
 {
     let count = n0.saturating_sub(tally.len()).min(keys.len() as u64);
     let (again, ahead) = keys.split_at(count as usize);
+    // Up to n0 the log has flushes and reports already, so these keys are only counted.
     count_again(tally, n0, again);
     if ahead.is_empty() {
         return Ok(());
@@ -152,6 +155,7 @@ pub fn finish<B: Bay, T: CountTable>(
     ensures { TakesEnd B.Bay (record { bay = bay.old; counts = tally.old; log = log.old; room = length buffer.old })
         (record { bay = bay.new; counts = tally.new; log = log.new; room = length buffer.new }) result }
 {
+    // The scan first: the closing record lists the reports that it brings.
     tally.finish(bay)?;
     write_record(tally, log, bay, LogKind::Closing, buffer)?;
     Ok(())

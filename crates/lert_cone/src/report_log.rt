@@ -82,6 +82,7 @@ impl ReportLog {
         let new = &reports[self.named..];
         let len = write_log(kind, n0, OFFSET, FIRST, directory, new, buffer);
         self.log.append(bay, &buffer[..len])?;
+        // Behind the append: one that failed names these reports again.
         self.named = reports.len();
         Ok(())
     }

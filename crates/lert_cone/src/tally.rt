@@ -210,6 +210,7 @@ impl<T: CountTable> Tally<T> {
     {
         let m = self.len + 1;
         let tail = tail_of(&self.settings, key);
+        // Into level 0 first: a flush at this position counts the key.
         self.zero.add(tail, m);
         let Some(mut due) = self.due.take() else {
             unreachable!()

@@ -94,7 +94,7 @@ impl<S: Held> ConeLock<S> {
     }
 
     /// Has the packet of an entry applied, if no other caller holds the lock just now. Takes no memory
-    /// and waits for nobody.
+    /// and waits for nobody. Whatever it answers, the pass keeps its lock, its range and what it had seen.
     pub fn try_act(&self, pass: &mut Pass<S>, entry: &Entry) -> Turn<S::Reply, S::Refusal>
         requires belongs { BelongsTo pass.old self.now }
         requires number { entry.now.by ≡ pass.old.lo }
@@ -110,7 +110,8 @@ impl<S: Held> ConeLock<S> {
         try_turn::<S, Trying>(&self.table.shared, &mut pass.seat, entry)
     }
 
-    /// Has the packet of an entry applied, and waits for the lock where it must. Takes no memory.
+    /// Has the packet of an entry applied, and waits for the lock where it must. Takes no memory. Whatever
+    /// it answers, the pass keeps its lock, its range and what it had seen.
     pub fn act<R: Wait>(
         &self,
         rt: &R,

@@ -52,7 +52,8 @@ fn write_zero_counter(width: u32, count: u64, into: &mut [u64]) -> usize
     end + 2
 }
 
-/// Writes the group of `x` and `count` to the front of `into`, and answers its length, at most nine.
+/// Writes the group of `x` and `count` to the front of `into`, and answers its length, at most nine. Its slots are below
+/// 2^width where `x` is.
 pub fn write_group(width: u32, x: u64, count: u64, into: &mut [u64]) -> usize
     requires narrow { 8 ≤ width }
     requires wide { width ≤ 62 }

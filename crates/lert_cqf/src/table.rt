@@ -138,6 +138,7 @@ impl CountTable for Cqf {
         })
     }
 
+    /// Shifts once for each slot that a group grows by: at most nine times, and almost always once.
     fn add(&mut self, tail: u64, n: u64) {
         let (home, x) = self.parts(tail);
         self.rows.put(self.width, home, x, n);
@@ -168,6 +169,7 @@ impl CountTable for Cqf {
         self.events
     }
 
+    /// Writes all rows anew: 8 bytes a slot and 4 a quotient.
     fn clear(&mut self) {
         self.rows.clear();
         self.events = 0;

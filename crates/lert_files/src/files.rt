@@ -113,7 +113,9 @@ fn read_in_order<B: Bay, T: CountTable>(
     ensures mark { B.mark bay.new ≡ B.mark bay.old }
 {
     let mut directory = Directory::new();
+    // Durable first: a second stop takes nothing back of what is read here.
     sync_files(bay)?;
+    // In the order in which a place comes first; the directory before the frames that it names.
     read_journal_header(bay, settings, cone)?;
     let end = read_whole_log(bay, settings, cone, store, &mut directory, buffer)?;
     levels.restore(end.n0, directory.bytes());

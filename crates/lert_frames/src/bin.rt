@@ -7,7 +7,7 @@ ghost use Rattle.lert_spec.specs.Table.{AreGiven};
 use lert_base::{Piece, PieceFault, Pieces};
 use lert_io::Faulty;
 
-/// The pieces of a bin, which it gives one by one through any context. It never fails.
+/// The pieces of a bin, which it gives one by one through any context. It never fails, and makes no call on its context.
 #[derive(Drop)]
 pub struct LoadedBin {
     pieces: Vec<Piece>,

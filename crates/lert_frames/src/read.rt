@@ -111,7 +111,8 @@ fn is_above(pieces: &[Piece], tail: u64) -> bool
     }
 }
 
-/// The sum of the counts, or the greatest number where it is above that.
+/// The sum of the counts, or the greatest number where it is above that: a frame has up to 2^32 counts of up to 2^47, and
+/// their sum is compared with a width below 2^42, so a stopped sum is as good as the whole.
 pub fn sum_of(pieces: &[Piece]) -> u64
     ensures { result ≡ min (total pieces.now) 18446744073709551615 }
 {

@@ -67,6 +67,7 @@ fn write_frame<B: Bay>(bay: &mut B, place: u64, pieces: &[Piece]) -> Result<(), 
 {
     let mut head = [0; 4];
     LittleEndian::write_u32(&mut head, pieces.len() as u32);
+    // No sync here: a flush syncs once behind all its frames, and none is named before.
     write_bytes(bay, place, &head)?;
     let mut written = 0;
     while written < pieces.len() {

@@ -25,5 +25,6 @@ pub fn write_durably<B: Bay>(bay: &mut B, file: u8, at: u64, bytes: &[u8]) -> Re
     ensures mark { B.mark bay.new ≡ B.mark bay.old }
 {
     bay.write_at(file, at, bytes)?;
+    // Until this sync a crash leaves any bytes in the range; after it just these.
     bay.sync(file)
 }

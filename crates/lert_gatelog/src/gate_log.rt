@@ -87,6 +87,7 @@ impl GateLog {
     {
         let mut text = [0; MOST_HEADER + 1];
         text[..header.len()].copy_from_slice(header);
+        // Header and closed gate are on the disk before a record is appended.
         write_durably(bay, file, 0, &text[..header.len() + 1])?;
         Ok(GateLog::at_gate(file, header.len() as u64, most))
     }
@@ -121,8 +122,11 @@ impl GateLog {
         ensures cause { HasCause (B.faults bay.old) (B.faults bay.new) result }
         ensures mark { B.mark bay.new ≡ B.mark bay.old }
     {
+        // The record and the next closed gate come first: behind an open gate they would count.
         write_durably(bay, self.file, self.gate + 1, text)?;
+        // One byte: each image has the record or not. After its sync the record may be acknowledged.
         write_durably(bay, self.file, self.gate, &[OPEN])?;
+        // Behind both: a failed append leaves the log where it stood.
         self.gate += text.len() as u64;
         Ok(())
     }

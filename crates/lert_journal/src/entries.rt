@@ -126,6 +126,7 @@ pub fn read_entry<B: Bay>(
             at: gate + 1 + place,
         });
     }
+    // Only a payload that kept all rules changes the entry and moves the log.
     fill(entry, payload);
     *log = ahead;
     Ok(true)

@@ -159,6 +159,7 @@ impl<T: CountTable> Levels<T> {
     {
         let _valid = self.settings.numbers();
         let made = self.new_bins(zero, m, bay, totals)?;
+        // All reads lie before the first write: a broken frame is found while nothing is written.
         self.land(m, &made, bay)?;
         Ok(())
     }
@@ -340,6 +341,7 @@ impl<T: CountTable> Levels<T> {
         ensures mark { B.mark bay.new ≡ B.mark bay.old }
     {
         self.write(m, made, bay)?;
+        // The frames are durable before the directory moves: a failed write leaves the old one.
         self.move_on(m);
         Ok(())
     }

@@ -34,7 +34,8 @@ pub trait Place: Faulty {
     /// The bay that was last put back under a number, as it was then.
     ghost returned_bay: { Self → ℕ → Option Self.Bay };
 
-    /// Opens the trace of this name. Its mark is its number, from 0, among the traces handed out.
+    /// Opens the trace of this name. Its mark is its number, from 0, among the traces handed out. A place that
+    /// runs out of numbers, which are below 2^32, refuses: a counted fault.
     fn open_trace(&mut self, name: &str) -> Result<Self::Trace, Failed>
         ensures asked { asked self.new ≡ asked self.old ++ record { wanted = Wanted.Trace name.now; opened = is_ok result } ∷ [] }
         ensures handed { IfOk result (λ trace. handed_traces self.new ≡ handed_traces self.old ++ trace ∷ []) }
@@ -47,7 +48,7 @@ pub trait Place: Faulty {
         ensures mark { Self.mark self.new ≡ Self.mark self.old };
 
     /// Opens the files of this cone in this directory. The bay's mark is its number, from 0, among the bays
-    /// handed out.
+    /// handed out, which run out as those of traces do.
     fn open_bay(&mut self, dir: &str, cone: u32) -> Result<Self::Bay, Failed>
         ensures asked { asked self.new ≡ asked self.old ++ record { wanted = Wanted.Bay dir.now cone; opened = is_ok result } ∷ [] }
         ensures handed { IfOk result (λ bay. handed_bays self.new ≡ handed_bays self.old ++ bay ∷ []) }

@@ -130,6 +130,7 @@ fn reopen_in_order<B: Bay, T: CountTable>(
                 ..end
             };
             let settings = room.settings;
+            // The journal last: levels and reports stand for its first n0 events.
             let begun = Cone::adopt(room, cone, bay, last);
             replay_journal(&settings, cone, &last, begun)
         }
@@ -167,11 +168,13 @@ fn replay_journal<B: Bay, T: CountTable>(
 {
     match replay_all(&mut cone) {
         Ok(end) => {
+            // Ready only at the journal's closed gate, where the next packet goes.
             cone.ready(end);
             Ok(cone)
         }
         Err(stop) => {
             let mut bay = cone.into_bay();
+            // The rest of the journal is read first: a place in it comes before the log's.
             let fault = why_stopped(&mut bay, settings, number, last, &stop);
             Err(ReopenRefused { fault, bay })
         }

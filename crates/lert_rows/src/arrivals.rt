@@ -39,6 +39,7 @@ pub fn write_arrivals<B: Bay>(
     ensures mark { B.mark bay.new ≡ B.mark bay.old }
 {
     store_bins(settings, m, rows, bins, bay)?;
+    // One sync behind all frames, before the rows move and a record names them.
     sync_frames(bay)
 }
 
@@ -76,6 +77,7 @@ fn store_bins<B: Bay>(
     let _valid = settings.numbers();
     for (lower, row) in rows.iter().enumerate() {
         let level = lower as u32 + 1;
+        // A frame that no bin of the row has: those that the last record names stay whole.
         let bin = arrival(settings, m, level, row);
         store_bin(settings, level, u32::from(bin.frame), &bins[lower], bay)?;
     }

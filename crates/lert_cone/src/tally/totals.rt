@@ -62,6 +62,7 @@ pub(super) fn bring<B: Bay, T: CountTable, N: Begun>(
     let (due, result) = flush_into::<B, T, N>(levels, bay, zero, m, due);
     match result {
         Ok(()) => {
+            // Only now: the flush has put the oldest bin's counts into a frame.
             zero.drop_oldest();
             (due, Ok(()))
         }
