@@ -28,7 +28,7 @@ use Rattle.lert_cone.specs.InStep.{IsInStep}
 use Rattle.lert_cone.specs.Logged.{IsLogOf, frames_of}
 use Rattle.lert_cone.specs.Replay.{IsLastOf, IsOnWay}
 use Rattle.lert_cone.specs.Sound.{IsSound, HoldFrames, HoldsDirectory}
-use Rattle.lert_cone.proofs.LogLaws.{last_flush_logged}
+use Rattle.lert_cone.proofs.FlushLaws.{last_flush_logged}
 use Rattle.lert_cone.proofs.StepLaws.{journal_since, log_since, frames_since}
 
 -- ---- frames
@@ -41,7 +41,8 @@ from_frames s events file level (bin ∷ row) holds =
     All-cons (λ (b : BinAt). HoldsFrame (frame_place s level b.frame) file (tallied_in s events b)) bin row holds.0 (from_frames s events file level row holds.1)
 
 -- the frames of a directory are those of the rows that it was read into
-pub bins_there : (s : Numbers) (events : List ℕ) (rows : List (List BinAt)) (directory : List (List ℕ)) (file : List ℕ) → IsAt s (length events) rows → directory ≡ frames_of rows → HoldsDirectory s events directory file → HoldsBins s events rows file
+pub bins_there : (s : Numbers) (events : List ℕ) (rows : List (List BinAt)) (directory : List (List ℕ)) (file : List ℕ) → IsAt s (length events) rows → directory ≡ frames_of rows →
+    HoldsDirectory s events directory file → HoldsBins s events rows file
 bins_there s events rows directory file at named holds level first last =
     let row = row_of rows level in
     let frames_are : slice_index_or directory (level - 1) [] ≡ map (λ (bin : BinAt). bin.frame) row =
@@ -62,9 +63,11 @@ frames_settled leaves seen s events rows are holds settled =
 
 -- ---- a cone that is adopted
 
-module _ (leaves : Files → Type 0) (seen : Files) (s : Numbers) (cone : ℕ) (history : List Packet) (rows : List (List BinAt)) (reports : List Report) (records : List LogRecord) (log_end n0 : ℕ) (closed : Bool)
+module _ (leaves : Files → Type 0) (seen : Files) (s : Numbers) (cone : ℕ) (history : List Packet) (rows : List (List BinAt)) (reports : List Report) (records : List LogRecord) (log_end n0 : ℕ)
+    (closed : Bool)
     (valid : IsValid s) (at : IsAt s n0 rows) (are : AreRows s rows) (log : HasLog s cone (seen 1) records log_end) (last : IsLastOf s n0 closed rows reports records)
-    (journal_settled : IsWhollySettled leaves seen 0) (log_settled : IsWhollySettled leaves seen 1) (named_settled : (from to : ℕ) → InNamed s rows from to → to ≤ length (seen 2) → IsSettled leaves seen 2 from to)
+    (journal_settled : IsWhollySettled leaves seen 0) (log_settled : IsWhollySettled leaves seen 1) (named_settled : (from to : ℕ) → InNamed s rows from to → to ≤ length (seen 2) →
+    IsSettled leaves seen 2 from to)
     (sound : IsSound s cone history seen) where
   -- the records that were read are those for which the files are sound
   same : records ≡ sound.logged
@@ -146,7 +149,11 @@ module _ (leaves : Files → Type 0) (seen : Files) (s : Numbers) (cone : ℕ) (
       (ap (last_directory s) (sym same) ∙ last.directory_is)
       (subst (λ n. HoldsDirectory s (take n (events_of history)) (last_directory s sound.logged) (seen 2)) (sym n0_is) sound.frames)
 
-  in_step : IsInStep leaves seen history (record { settings = s; cone = cone; events = take n0 (events_of history); closed = closed }) rows reports (record { gate = log_end; most = most_record s; named = length reports })
+  in_step : IsInStep leaves seen history (record { settings = s; cone = cone; events = take n0 (events_of history); closed = closed }) rows reports (record {
+    gate = log_end;
+    most = most_record s;
+    named = length reports;
+  })
   in_step = record {
     logged = records;
     log_of = log_of;
@@ -160,12 +167,20 @@ module _ (leaves : Files → Type 0) (seen : Files) (s : Numbers) (cone : ℕ) (
   }
 
   -- no key is read yet
-  pub adopted : IsOnWay leaves seen history (record { settings = s; cone = cone; events = []; closed = closed }) rows reports (record { gate = log_end; most = most_record s; named = length reports }) n0
+  pub adopted : IsOnWay leaves seen history (record { settings = s; cone = cone; events = []; closed = closed }) rows reports (record {
+    gate = log_end;
+    most = most_record s;
+    named = length reports;
+  }) n0
   adopted =
       let none : n0 ≡ max n0 (length {A = ℕ} []) = omega arith in
       record {
         n0_most = most;
         n0_least = omega (arith, n0_is, sound.n0_least);
         closed_behind = behind;
-        in_step = subst (λ n. IsInStep leaves seen history (record { settings = s; cone = cone; events = take n (events_of history); closed = closed }) rows reports (record { gate = log_end; most = most_record s; named = length reports })) none in_step;
+        in_step = subst (λ n. IsInStep leaves seen history (record { settings = s; cone = cone; events = take n (events_of history); closed = closed }) rows reports (record {
+          gate = log_end;
+          most = most_record s;
+          named = length reports;
+        })) none in_step;
       }

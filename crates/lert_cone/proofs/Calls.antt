@@ -26,24 +26,29 @@ module _ {B : Type 0} (bays : Bays B) (lawful : IsLawful bays) where
 
   pub alone_on : (file : ℕ) (before between after : B) → LeavesAlone bays file before between → LeavesAlone bays file between after → LeavesAlone bays file before after
   alone_on file before between after one two =
-      leaves_on file (bays.files before) (bays.files between) (bays.files after) (bays.leaves before) (bays.leaves between) (bays.leaves after) (bays.moment before) (bays.moment between) (bays.moment after)
+      leaves_on file (bays.files before) (bays.files between) (bays.files after) (bays.leaves before) (bays.leaves between) (bays.leaves after) (bays.moment before) (bays.moment between)
+      (bays.moment after)
       (bays.left_since before) (bays.left_since between) (bays.left_since after) one two (lawful.since_earlier after)
 
   pub alone_rest : (kept : ℕ → ℕ → Type 0) (file : ℕ) → file ≢ 2 → (before after : B) →
-      KeepsRest kept (bays.files before) (bays.files after) (bays.leaves before) (bays.moment before) (bays.moment after) (bays.left_since before) (bays.left_since after) → LeavesAlone bays file before after
+      KeepsRest kept (bays.files before) (bays.files after) (bays.leaves before) (bays.moment before) (bays.moment after) (bays.left_since before) (bays.left_since after) →
+      LeavesAlone bays file before after
   alone_rest kept file other before after rest =
-      leaves_rest kept file other (bays.files before) (bays.files after) (bays.leaves before) (bays.leaves after) (bays.moment before) (bays.moment after) (bays.left_since before) (bays.left_since after)
+      leaves_rest kept file other (bays.files before) (bays.files after) (bays.leaves before) (bays.leaves after) (bays.moment before) (bays.moment after) (bays.left_since before)
+      (bays.left_since after)
       rest (now_since before after rest.time.later)
 
   pub alone_others : (log file : ℕ) → file ≢ log → (before after : B) → Turns (OthersStay log) (bays.files before) (bays.files after) →
       IfTold (bays.files before) (λ seen. KeepsOthers (bays.leaves before) (bays.left_since after (bays.moment before)) seen log) →
       Lasts (bays.moment before) (bays.moment after) (bays.left_since before) (bays.left_since after) → LeavesAlone bays file before after
   alone_others log file other before after turns keeps time =
-      leaves_others log file other (bays.files before) (bays.files after) (bays.leaves before) (bays.leaves after) (bays.moment before) (bays.moment after) (bays.left_since before) (bays.left_since after)
+      leaves_others log file other (bays.files before) (bays.files after) (bays.leaves before) (bays.leaves after) (bays.moment before) (bays.moment after) (bays.left_since before)
+      (bays.left_since after)
       turns keeps time (now_since before after time.later)
 
   pub alone_read : (file : ℕ) (before after : B) →
-      OnlyRead (bays.files before) (bays.files after) (bays.leaves before) (bays.leaves after) (bays.moment before) (bays.moment after) (bays.left_since before) (bays.left_since after) → LeavesAlone bays file before after
+      OnlyRead (bays.files before) (bays.files after) (bays.leaves before) (bays.leaves after) (bays.moment before) (bays.moment after) (bays.left_since before) (bays.left_since after) →
+      LeavesAlone bays file before after
   alone_read file before after read =
       leaves_read file (bays.files before) (bays.files after) (bays.leaves before) (bays.leaves after) (bays.moment before) (bays.moment after) (bays.left_since before) (bays.left_since after)
       read (now_since before after read.time.later)
@@ -53,7 +58,8 @@ module _ {B : Type 0} (bays : Bays B) (lawful : IsLawful bays) where
   settled_alone file before after =
       settled_through file (bays.files before) (bays.files after) (bays.leaves before) (bays.leaves after) (bays.moment before) (bays.moment after) (bays.left_since before) (bays.left_since after)
 
-  pub shut_alone : (file gate : ℕ) (before after : B) → LeavesAlone bays file before after → IsShutIfTold (bays.files before) (bays.leaves before) file gate → IsShutIfTold (bays.files after) (bays.leaves after) file gate
+  pub shut_alone : (file gate : ℕ) (before after : B) → LeavesAlone bays file before after → IsShutIfTold (bays.files before) (bays.leaves before) file gate → IsShutIfTold (bays.files after)
+      (bays.leaves after) file gate
   shut_alone file gate before after left =
       shut_through file gate (bays.files before) (bays.files after) (bays.leaves before) (bays.leaves after) (bays.moment before) (bays.moment after) (bays.left_since before) (bays.left_since after)
       left (lawful.as_read before)

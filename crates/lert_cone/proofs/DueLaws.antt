@@ -29,7 +29,8 @@ is_listed-append key (report ∷ reports) more =
     grouped false b c = refl
 
 -- the reports of one piece more
-pub due_reports-append : (s : Numbers) (cone : ℕ) (listed : List Report) (at : ℕ) (pieces more : List Piece) → due_reports s cone listed at (pieces ++ more) ≡ due_reports s cone listed at pieces ++ due_reports s cone listed at more
+pub due_reports-append : (s : Numbers) (cone : ℕ) (listed : List Report) (at : ℕ) (pieces more : List Piece) → due_reports s cone listed at
+    (pieces ++ more) ≡ due_reports s cone listed at pieces ++ due_reports s cone listed at more
 due_reports-append s cone listed at pieces more =
     let test : Piece → Bool = is_due_piece s cone s.threshold listed in
     let f : Piece → ℕ = λ p. key_with s cone p.tail in
@@ -41,16 +42,19 @@ due_reports-append s cone listed at pieces more =
 due-cons_true : (s : Numbers) (cone : ℕ) (listed : List Report) (at : ℕ) (p : Piece) (pieces : List Piece) → is_due_piece s cone s.threshold listed p ≡ true →
     due_reports s cone listed at (p ∷ pieces) ≡ record { key = key_with s cone p.tail; at = at } ∷ due_reports s cone listed at pieces
 due-cons_true s cone listed at p pieces due =
-    ap (λ t. map (λ k. record { key = k; at = at }) (map (λ (q : Piece). key_with s cone q.tail) (cond t (p ∷ filter (is_due_piece s cone s.threshold listed) pieces) (filter (is_due_piece s cone s.threshold listed) pieces)))) due
+    ap (λ t. map (λ k. record { key = k; at = at }) (map (λ (q : Piece). key_with s cone q.tail) (cond t (p ∷ filter (is_due_piece s cone s.threshold listed) pieces) (filter
+    (is_due_piece s cone s.threshold listed) pieces)))) due
 
 due-cons_false : (s : Numbers) (cone : ℕ) (listed : List Report) (at : ℕ) (p : Piece) (pieces : List Piece) → is_due_piece s cone s.threshold listed p ≡ false →
     due_reports s cone listed at (p ∷ pieces) ≡ due_reports s cone listed at pieces
 due-cons_false s cone listed at p pieces due =
-    ap (λ t. map (λ k. record { key = k; at = at }) (map (λ (q : Piece). key_with s cone q.tail) (cond t (p ∷ filter (is_due_piece s cone s.threshold listed) pieces) (filter (is_due_piece s cone s.threshold listed) pieces)))) due
+    ap (λ t. map (λ k. record { key = k; at = at }) (map (λ (q : Piece). key_with s cone q.tail) (cond t (p ∷ filter (is_due_piece s cone s.threshold listed) pieces) (filter
+    (is_due_piece s cone s.threshold listed) pieces)))) due
 
 module _ (s : Numbers) (cone : ℕ) (bits : s.cone_bits ≤ 64) (named : cone < 2 ^ s.cone_bits) where
   -- a tail's key isn't among the reports of lesser tails
-  unlisted : (listed : List Report) (at least tail : ℕ) (pieces : List Piece) → AscendsFrom least (2 ^ (64 - s.cone_bits)) pieces → tail < 2 ^ (64 - s.cone_bits) → All (λ piece. piece.tail < tail) pieces →
+  unlisted : (listed : List Report) (at least tail : ℕ) (pieces : List Piece) → AscendsFrom least (2 ^ (64 - s.cone_bits)) pieces → tail < 2 ^ (64 - s.cone_bits) → All
+      (λ piece. piece.tail < tail) pieces →
       is_listed (key_with s cone tail) (due_reports s cone listed at pieces) ≡ false
   unlisted listed at least tail [] up below less = refl
   unlisted listed at least tail (p ∷ pieces) up below less =
@@ -82,7 +86,8 @@ module _ (s : Numbers) (cone : ℕ) (bits : s.cone_bits ≤ 64) (named : cone < 
       or_false false = refl
 
 -- one total more
-module _ (d : Dues) (bits : d.settings.cone_bits ≤ 64) (named : d.cone < 2 ^ d.settings.cone_bits) (pieces : List Piece) (p : Piece) (took : TookTotals d pieces) (less : All (λ piece. piece.tail < p.tail) pieces) where
+module _ (d : Dues) (bits : d.settings.cone_bits ≤ 64) (named : d.cone < 2 ^ d.settings.cone_bits) (pieces : List Piece) (p : Piece) (took : TookTotals d pieces) (less : All
+    (λ piece. piece.tail < p.tail) pieces) where
   abbrev all : List Piece
   all = pieces ++ p ∷ []
 
@@ -174,9 +179,11 @@ module _ (d : Dues) (bits : d.settings.cone_bits ≤ 64) (named : d.cone < 2 ^ d
                   behind ∙ ap (λ t. with_report d (cond t (Some key) None)) is_due in
                   elim (cases_eq (length d.reports) d.settings.room) [
                     | inl filled ↦ subst (λ (v : Dues). TookTotals v all)
-                        (sym (reported ∙ ap (λ t. cond t (record d { is_full = true }) (record d { reports = d.reports ++ report ∷ [] })) (eq-eqb (length d.reports) d.settings.room filled))) (when_no_room room is_due filled)
+                        (sym (reported ∙ ap (λ t. cond t (record d { is_full = true }) (record d { reports = d.reports ++ report ∷ [] })) (eq-eqb (length d.reports) d.settings.room filled)))
+                        (when_no_room room is_due filled)
                     | inr space ↦ subst (λ (v : Dues). TookTotals v all)
-                        (sym (reported ∙ ap (λ t. cond t (record d { is_full = true }) (record d { reports = d.reports ++ report ∷ [] })) (ne_eqb (length d.reports) d.settings.room space))) (when_reported room is_due)
+                        (sym (reported ∙ ap (λ t. cond t (record d { is_full = true }) (record d { reports = d.reports ++ report ∷ [] })) (ne_eqb (length d.reports) d.settings.room space)))
+                        (when_reported room is_due)
                   ])
               | inr not_due ↦ subst (λ (v : Dues). TookTotals v all) (sym (behind ∙ ap (λ t. with_report d (cond t (Some key) None)) not_due)) (when_not_due room not_due)
             ])
@@ -184,7 +191,8 @@ module _ (d : Dues) (bits : d.settings.cone_bits ≤ 64) (named : d.cone < 2 ^ d
 
 -- a total changes the reports alone
 module _ (d : Dues) (p : Piece) where
-  after_report : (start : Dues) (key : Option ℕ) (pieces : List Piece) → (d.settings ≡ start.settings) × (d.cone ≡ start.cone) × (d.before ≡ start.before) × (d.at ≡ start.at) × (length d.before ≤ length d.reports) →
+  after_report : (start : Dues) (key : Option ℕ) (pieces : List Piece) → (d.settings ≡ start.settings) × (d.cone ≡ start.cone) × (d.before ≡ start.before) × (d.at ≡ start.at) ×
+      (length d.before ≤ length d.reports) →
       TookTotals (with_report d key) pieces → TookFrom start (with_report d key) pieces
   after_report start None pieces same took = record { settings_are = same.0; cone_is = same.1; before_is = same.2; at_is = same.3; grows = same.4; took = took }
   after_report start (Some key) pieces same took =
@@ -204,7 +212,8 @@ module _ (d : Dues) (p : Piece) where
   pub from_total : (start : Dues) (pieces : List Piece) → d.settings.cone_bits ≤ 64 → d.cone < 2 ^ d.settings.cone_bits → TookFrom start d pieces → All (λ piece. piece.tail < p.tail) pieces →
       TookFrom start (with_total d p) (pieces ++ p ∷ [])
   from_total start pieces bits named from less =
-      let same : (d.settings ≡ start.settings) × (d.cone ≡ start.cone) × (d.before ≡ start.before) × (d.at ≡ start.at) × (length d.before ≤ length d.reports) = (from.settings_are, from.cone_is, from.before_is, from.at_is, from.grows) in
+      let same : (d.settings ≡ start.settings) × (d.cone ≡ start.cone) × (d.before ≡ start.before) × (d.at ≡ start.at) × (length d.before ≤ length d.reports) =
+      (from.settings_are, from.cone_is, from.before_is, from.at_is, from.grows) in
       elim d.is_full as (λ t. TookTotals (cond t d (with_report d (due_key d.settings d.cone d.reports p))) (pieces ++ p ∷ []) →
       TookFrom start (cond t d (with_report d (due_key d.settings d.cone d.reports p))) (pieces ++ p ∷ [])) [
         | true ↦ λ is. record { settings_are = from.settings_are; cone_is = from.cone_is; before_is = from.before_is; at_is = from.at_is; grows = from.grows; took = is }

@@ -1,10 +1,9 @@
 -- The end through the counts: the totals don't come to the reports, or a report finds no room, or all are listed.
-use Rattle.std.proofs.Common.{◌≡◌, ◌≢◌, ℕ, ◌^◌, ◌<◌, Bool, true, false, List, length, Result, Ok, Err, Some, refl, sym, ap, ◌∙◌, subst, arith}
+use Rattle.std.proofs.Common.{◌≡◌, ℕ, ◌^◌, ◌<◌, Bool, true, false, List, length, Result, Ok, Err, Some, refl, sym, ap, ◌∙◌, subst, arith}
 use Rattle.std.specs.Result.{IsErrAnd}
 use Rattle.lert_bay.specs.Files.{Files}
 use Rattle.lert_rows.specs.declared.bin_at.BinAt.{BinAt}
 use Rattle.lert_rows.specs.declared.fault.FlushFault.{FlushFault}
-use Rattle.lert_rows.specs.declared.fault.FlushFault.TheVariants.{Malformed}
 use Rattle.lert_rows.specs.Loading.{OneBreaks}
 use Rattle.lert_levels.specs.OnDisk.{OnDisk}
 use Rattle.lert_spec.specs.declared.numbers.Numbers.{Numbers}
@@ -20,13 +19,34 @@ use Rattle.lert_cone.specs.Tally.{Tallied, IsCounted, IsHeld, take_fault}
 use Rattle.lert_cone.proofs.KeyCounted.{failed_flush}
 use Rattle.lert_cone.proofs.TakeLaws.{rows_end, fits_end, from_end, young_end, frames_end, counted_end, held_end, never_full_end, sound_fault, shows_frame, shows_full, handed_on}
 
-module _ {B : Type 0} (bays : Bays B) (t : Tallied) (ls : Numbers) (levels_are : ls ≡ t.listing.settings) (valid : IsValid t.listing.settings) (named : t.listing.cone < 2 ^ t.listing.settings.cone_bits) (counted : IsCounted t)
+module _ {B : Type 0} (bays : Bays B) (t : Tallied) (ls : Numbers) (levels_are : ls ≡ t.listing.settings) (valid : IsValid t.listing.settings)
+    (named : t.listing.cone < 2 ^ t.listing.settings.cone_bits) (counted : IsCounted t)
     (m : ℕ) (m_is : m ≡ length t.listing.events) (start due : Dues) (start_is : start ≡ started t.due m) (bay bay_after : B) (levels_after : OnDisk) where
-  with_rows : (result : Result (Unit {0}) FlushFault) → Scans bays start bay bay_after t.young (record { settings = ls; rows = t.rows }) levels_after due result → (closed : Bool) (given : Result (Unit {0}) TakeFault) →
-      CountsEnd bays bay bay_after t (record { listing = record { settings = t.listing.settings; cone = t.listing.cone; events = t.listing.events; closed = closed }; young = t.young; rows = t.rows; due = due }) given →
-      CountsEnd bays bay bay_after t (record { listing = record { settings = t.listing.settings; cone = t.listing.cone; events = t.listing.events; closed = closed }; young = t.young; rows = levels_after.rows; due = due }) given
-  with_rows result scans closed given = subst (λ (rows : List (List BinAt)). CountsEnd bays bay bay_after t (record { listing = record { settings = t.listing.settings; cone = t.listing.cone; events = t.listing.events; closed = closed };
-      young = t.young; rows = rows; due = due }) given) (sym (ap (λ (v : OnDisk). v.rows) scans.stays))
+  with_rows : (result : Result (Unit {0}) FlushFault) → Scans bays start bay bay_after t.young (record { settings = ls; rows = t.rows }) levels_after due result → (closed : Bool) (given : Result
+      (Unit {0}) TakeFault) →
+      CountsEnd bays bay bay_after t (record {
+        listing = record { settings = t.listing.settings; cone = t.listing.cone; events = t.listing.events; closed = closed };
+        young = t.young;
+        rows = t.rows;
+        due = due;
+      }) given →
+      CountsEnd bays bay bay_after t (record {
+        listing = record { settings = t.listing.settings; cone = t.listing.cone; events = t.listing.events; closed = closed };
+        young = t.young;
+        rows = levels_after.rows;
+        due = due;
+      }) given
+  with_rows result scans closed given = subst (λ (rows : List (List BinAt)). CountsEnd bays bay bay_after t (record {
+    listing = record {
+      settings = t.listing.settings;
+      cone = t.listing.cone;
+      events = t.listing.events;
+      closed = closed;
+    };
+    young = t.young;
+    rows = rows;
+    due = due;
+  }) given) (sym (ap (λ (v : OnDisk). v.rows) scans.stays))
 
   refused_by : (fault : FlushFault) → Scans bays start bay bay_after t.young (record { settings = ls; rows = t.rows }) levels_after due (Err fault) →
       CountsEnd bays bay bay_after t (record { listing = t.listing; young = t.young; rows = t.rows; due = due }) (Err (take_fault fault))
@@ -39,7 +59,8 @@ module _ {B : Type 0} (bays : Bays B) (t : Tallied) (ls : Numbers) (levels_are :
     counted = tt;
     held = λ seen told held. tt;
     sound = λ seen told held file at same.
-        let fine = scans.sound t.listing.events (fits_end t ls levels_are valid named counted) (rows_end t ls levels_are valid named counted) (from_end t ls levels_are valid named counted) (young_end t ls levels_are valid named counted)
+        let fine = scans.sound t.listing.events (fits_end t ls levels_are valid named counted) (rows_end t ls levels_are valid named counted) (from_end t ls levels_are valid named counted)
+        (young_end t ls levels_are valid named counted)
         seen told (frames_end t ls levels_are valid named counted seen held) in
         sound_fault fault (λ place is. fine place (ap Err is)) file at (let inner : take_fault fault ≡ Unsound file at = cc in inner);
     shows = λ seen told file at same.
@@ -52,17 +73,27 @@ module _ {B : Type 0} (bays : Bays B) (t : Tallied) (ls : Numbers) (levels_are :
   }
 
   -- the totals don't come
-  pub not_ended : (result : Result (Unit {0}) FlushFault) (fault : FlushFault) → result ≡ Err fault → Scans bays start bay bay_after t.young (record { settings = ls; rows = t.rows }) levels_after due result →
-      (given : Result (Unit {0}) TakeFault) → IsErrAnd given (λ g. g ≡ take_fault fault) → CountsEnd bays bay bay_after t (record { listing = t.listing; young = t.young; rows = levels_after.rows; due = due }) given
+  pub not_ended : (result : Result (Unit {0}) FlushFault) (fault : FlushFault) → result ≡ Err fault → Scans bays start bay bay_after t.young (record {
+    settings = ls;
+    rows = t.rows;
+  }) levels_after due result →
+      (given : Result (Unit {0}) TakeFault) → IsErrAnd given (λ g. g ≡ take_fault fault) → CountsEnd bays bay bay_after t (record {
+        listing = t.listing;
+        young = t.young;
+        rows = levels_after.rows;
+        due = due;
+      }) given
   not_ended result fault is scans given given_is =
-      subst (λ (r : Result (Unit {0}) TakeFault). CountsEnd bays bay bay_after t (record { listing = t.listing; young = t.young; rows = levels_after.rows; due = due }) r) (handed_on given (take_fault fault) given_is)
+      subst (λ (r : Result (Unit {0}) TakeFault). CountsEnd bays bay bay_after t (record { listing = t.listing; young = t.young; rows = levels_after.rows; due = due }) r) (handed_on given
+      (take_fault fault) given_is)
       (let failed = subst (λ (r : Result (Unit {0}) FlushFault). Scans bays start bay bay_after t.young (record { settings = ls; rows = t.rows }) levels_after due r) is scans in
       with_rows (Err fault) failed t.listing.closed (Err (take_fault fault)) (refused_by fault failed))
 
   module _ (still : t.listing.closed ≡ false) (scans : Scans bays start bay bay_after t.young (record { settings = ls; rows = t.rows }) levels_after due (Ok tt)) where
     took_all : (seen : Files) → bays.files bay ≡ Some seen → IsHeld t seen → TookFrom start due (tallied ls t.listing.events)
     took_all seen told held =
-        scans.totals t.listing.events (fits_end t ls levels_are valid named counted) (rows_end t ls levels_are valid named counted) (from_end t ls levels_are valid named counted) counted.to (young_end t ls levels_are valid named counted)
+        scans.totals t.listing.events (fits_end t ls levels_are valid named counted) (rows_end t ls levels_are valid named counted) (from_end t ls levels_are valid named counted) counted.to
+        (young_end t ls levels_are valid named counted)
         seen told (frames_end t ls levels_are valid named counted seen held)
 
     -- a report finds no room
@@ -88,7 +119,12 @@ module _ {B : Type 0} (bays : Bays B) (t : Tallied) (ls : Numbers) (levels_are :
 
     -- all reports are listed
     pub all_counted : due.is_full ≡ false →
-        CountsEnd bays bay bay_after t (record { listing = record { settings = t.listing.settings; cone = t.listing.cone; events = t.listing.events; closed = true }; young = t.young; rows = levels_after.rows; due = due }) (Ok tt)
+        CountsEnd bays bay bay_after t (record {
+          listing = record { settings = t.listing.settings; cone = t.listing.cone; events = t.listing.events; closed = true };
+          young = t.young;
+          rows = levels_after.rows;
+          due = due;
+        }) (Ok tt)
     all_counted room = with_rows (Ok tt) scans true (Ok tt) (record {
       listing = refl;
       rows = refl;

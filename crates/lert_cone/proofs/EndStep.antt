@@ -22,7 +22,7 @@ use Rattle.lert_cone.specs.Sound.{IsJournal, IsSound, but_last}
 use Rattle.lert_cone.specs.Tally.{Tallied, IsCounted}
 use Rattle.lert_cone.proofs.KeyStep.{next_payload, journal_beside, frames_beside, log_beside, log_behind}
 use Rattle.lert_cone.proofs.LogLaws.{LogsNext, log_at_close}
-use Rattle.lert_cone.proofs.LogLaws.{last_flush_grows}
+use Rattle.lert_cone.proofs.FlushLaws.{last_flush_grows}
 use Rattle.lert_cone.proofs.StepLaws.{sound_of}
 
 -- all keys are taken
@@ -55,7 +55,8 @@ module _ (leaves : Files → Type 0) (seen : Files) (history : List Packet) (t a
 
   next : LogsNext t.listing.settings t.listing.cone t.listing.events t.rows true logged (next_record LogKind.Closing (length t.listing.events) t.rows logged a.due.reports)
   next =
-      log_at_close t.listing.settings before.valid t.listing.cone t.listing.events t.rows logged a.due.reports before.fits before.keys before.own before.rows before.are closed_reports few ending.log_of
+      log_at_close t.listing.settings before.valid t.listing.cone t.listing.events t.rows logged a.due.reports before.fits before.keys before.own before.rows before.are closed_reports few
+      ending.log_of
 
   partway : IsPartway t.listing.settings history t.listing.events []
   partway = partway_all t.listing.settings history t.listing.events ending.all ending.late
@@ -70,17 +71,21 @@ module _ (leaves : Files → Type 0) (seen : Files) (history : List Packet) (t a
         ∙ next_payload log LogKind.Closing (length t.listing.events) t.rows logged a.due.reports ending.named_is
 
     journal_then : InEach since 0 (IsJournal t.listing.settings t.listing.cone history)
-    journal_then = journal_beside leaves since seen t.listing.settings t.listing.cone history logged last log.gate payload ending.read ending.journal ending.journal_settled ending.log_there next.is.rules payload_here others earlier
+    journal_then = journal_beside leaves since seen t.listing.settings t.listing.cone history logged last log.gate payload ending.read ending.journal ending.journal_settled ending.log_there
+        next.is.rules payload_here others earlier
 
     frames_then : InEach since 2 (HoldsBins t.listing.settings t.listing.events t.rows)
     frames_then =
-        frames_beside leaves since seen t.listing.settings t.listing.cone history logged last log.gate payload ending.read ending.journal ending.journal_settled ending.log_there next.is.rules payload_here others earlier
+        frames_beside leaves since seen t.listing.settings t.listing.cone history logged last log.gate payload ending.read ending.journal ending.journal_settled ending.log_there next.is.rules
+        payload_here others earlier
         t.listing.events t.rows before.are ending.frames
 
     -- in each image of each moment of the append
-    pub sound_close : InEach since 1 (IsWithOrWithout (most_record t.listing.settings) 8 (map log_payload_of logged) log.gate payload) → (image : Files) → since image → IsSound t.listing.settings t.listing.cone history image
+    pub sound_close : InEach since 1 (IsWithOrWithout (most_record t.listing.settings) 8 (map log_payload_of logged) log.gate payload) → (image : Files) → since image →
+        IsSound t.listing.settings t.listing.cone history image
     sound_close each image may =
-        elim (log_beside leaves since seen t.listing.settings t.listing.cone history logged last log.gate payload ending.read ending.journal ending.journal_settled ending.log_there next.is.rules payload_here others earlier each image may) [
+        elim (log_beside leaves since seen t.listing.settings t.listing.cone history logged last log.gate payload ending.read ending.journal ending.journal_settled ending.log_there next.is.rules
+        payload_here others earlier each image may) [
           | inl without ↦ sound_of t.listing.settings t.listing.cone history t.listing.events t.rows false logged log.gate before.valid before.rows partway
               (λ never. absurd (false≢true never)) ending.log_of image (journal_then image may) without (frames_then image may)
           | inr with_it ↦ sound_of t.listing.settings t.listing.cone history t.listing.events t.rows true (logged ++ last ∷ []) (next_gate log.gate payload) before.valid before.rows partway
@@ -88,12 +93,14 @@ module _ (leaves : Files → Type 0) (seen : Files) (history : List Packet) (t a
         ]
 
     -- and after it
-    of_listing : (P : Numbers → ℕ → List ℕ → List (List BinAt) → Bool → Type 0) → P t.listing.settings t.listing.cone t.listing.events t.rows true → P a.listing.settings a.listing.cone a.listing.events a.rows a.listing.closed
+    of_listing : (P : Numbers → ℕ → List ℕ → List (List BinAt) → Bool → Type 0) → P t.listing.settings t.listing.cone t.listing.events t.rows true →
+        P a.listing.settings a.listing.cone a.listing.events a.rows a.listing.closed
     of_listing P holds = subst (λ (l : Listing). P l.settings l.cone l.events a.rows l.closed) (sym ending.listing_is)
         (subst (λ (rows : List (List BinAt)). P t.listing.settings t.listing.cone t.listing.events rows true) (sym ending.rows_are) holds)
 
     pub up_closed : (after : Files → Type 0) (seen_after : Files) (log_after : LogPlace) → ((image : Files) → after image → since image) → log_after.named ≡ length a.due.reports →
-        InEach after 1 (λ bytes. IsGated (most_record t.listing.settings) bytes 8 (map log_payload_of logged ++ payload ∷ []) log_after.gate) → IsWhollySettled after seen_after 0 → IsWhollySettled after seen_after 1 →
+        InEach after 1 (λ bytes. IsGated (most_record t.listing.settings) bytes 8 (map log_payload_of logged ++ payload ∷ []) log_after.gate) → IsWhollySettled after seen_after 0 →
+        IsWhollySettled after seen_after 1 →
         IsInStep after seen_after history a.listing a.rows a.due.reports log_after
     up_closed after seen_after log_after now named_is stands journal_settled log_settled = record {
       logged = logged ++ last ∷ [];
@@ -101,7 +108,8 @@ module _ (leaves : Files → Type 0) (seen : Files) (history : List Packet) (t a
       named_is = named_is ∙ ap length (closed_reports ∙ sym next.is.reports_are);
       journal = λ image may. of_listing (λ s cone events rows closed. IsJournal s cone history (image 0)) (journal_then image (now image may));
       log_there = λ image may. of_listing (λ s cone events rows closed. HasLog s cone (image 1) (logged ++ last ∷ []) log_after.gate)
-          (log_behind leaves since seen t.listing.settings t.listing.cone history logged last log.gate payload ending.read ending.journal ending.journal_settled ending.log_there next.is.rules payload_here others earlier
+          (log_behind leaves since seen t.listing.settings t.listing.cone history logged last log.gate payload ending.read ending.journal ending.journal_settled ending.log_there next.is.rules
+          payload_here others earlier
           after log_after.gate now stands image may);
       frames = λ image may. of_listing (λ s cone events rows closed. HoldsBins s events rows (image 2)) (frames_then image (now image may));
       journal_settled = journal_settled;
@@ -120,8 +128,10 @@ late_all history events all =
     omega (arith, ap length all, ap length split, length-append (events_of front) (events_of back))
 
 -- after calls that read alone
-pub ending_of : (leaves leaves_after : Files → Type 0) (seen : Files) (history : List Packet) (t a : Tallied) (log : LogPlace) → t.listing.closed ≡ false → (up : IsInStep leaves seen history t.listing t.rows t.due.reports log) →
-    a.listing ≡ record t.listing { closed = true } → a.rows ≡ t.rows → ((image : Files) → leaves_after image → leaves image) → leaves_after seen → a.due.reports ≡ reports_of a.listing → t.listing.events ≡ events_of history →
+pub ending_of : (leaves leaves_after : Files → Type 0) (seen : Files) (history : List Packet) (t a : Tallied) (log : LogPlace) → t.listing.closed ≡ false →
+    (up : IsInStep leaves seen history t.listing t.rows t.due.reports log) →
+    a.listing ≡ record t.listing { closed = true } → a.rows ≡ t.rows → ((image : Files) → leaves_after image → leaves image) → leaves_after seen → a.due.reports ≡ reports_of a.listing →
+    t.listing.events ≡ events_of history →
     IsEnding leaves_after seen history t a log up.logged
 ending_of leaves leaves_after seen history t a log still up listing_is rows_are back read reports_are all = record {
   log_of = subst (λ closed. IsLogOf t.listing.settings t.listing.cone t.listing.events t.rows closed up.logged) still up.log_of;

@@ -159,7 +159,8 @@ module _ {B : Type 0} (bays : Bays B) (lawful : IsLawful bays) (old : Workplace 
           let stands : InEach (bays.leaves bay_after) 1 (λ bytes. IsGated (most_record old.counts.listing.settings) bytes 8 (map log_payload_of up.logged ++ payload ∷ []) log_after.gate) =
           λ later left. subst (λ (m : ℕ). IsGated m (later 1) 8 (map log_payload_of up.logged ++ payload ∷ []) log_after.gate) can.can_log.logging.most
           (appends.appended seen told_then 8 (map log_payload_of up.logged) (all_there history up.logged seen ends) later left) in
-          up_closed (bays.leaves bay) seen history old.counts counts old.log up.logged can.counted ends (few_here few (Ok tt) bay_after log_after appends) (bays.left_since bay_after (bays.moment bay)) payload refl
+          up_closed (bays.leaves bay) seen history old.counts counts old.log up.logged can.counted ends (few_here few (Ok tt) bay_after log_after appends) (bays.left_since bay_after
+          (bays.moment bay)) payload refl
           (appends.others seen told_then) (appends.before seen told_then) (bays.leaves bay_after) after log_after (now_since bays lawful bay bay_after appends.time.later)
           (ap (λ (l : LogPlace). l.named) appends.moved) stands
           (settled_alone bays lawful 0 bay bay_after (beside few (Ok tt) bay_after log_after appends) seen told_then ends.journal_settled after told_after)

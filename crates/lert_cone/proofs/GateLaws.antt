@@ -49,7 +49,8 @@ keys_next history done events gate packet past next =
     ∙ ap (λ keys. keys ++ (packet.keys ++ events_of next.rest)) (sym past.keys))
 
 -- the first of them are taken, the others are still to come
-pub keys_cut : (history : List Packet) (events keys rest : List ℕ) (count : ℕ) → events_of history ≡ events ++ (keys ++ rest) → events_of history ≡ (events ++ take count keys) ++ (drop count keys ++ rest)
+pub keys_cut : (history : List Packet) (events keys rest : List ℕ) (count : ℕ) → events_of history ≡ events ++ (keys ++ rest) → events_of history ≡ (events ++ take count keys) ++
+    (drop count keys ++ rest)
 keys_cut history events keys rest count is =
     is
     ∙ (ap (λ ks. events ++ (ks ++ rest)) (sym (take-append-drop count keys))
@@ -57,7 +58,8 @@ keys_cut history events keys rest count is =
     ∙ sym (append_assoc events (take count keys) (drop count keys ++ rest))))
 
 -- one packet stands at a gate
-pub one_packet : (s : Numbers) (cone : ℕ) (bytes : List ℕ) (gate : ℕ) (one other : Packet) → HoldsPacket s cone (most_payload s) bytes gate one → HoldsPacket s cone (most_payload s) bytes gate other → one ≡ other
+pub one_packet : (s : Numbers) (cone : ℕ) (bytes : List ℕ) (gate : ℕ) (one other : Packet) → HoldsPacket s cone (most_payload s) bytes gate one → HoldsPacket s cone
+    (most_payload s) bytes gate other → one ≡ other
 one_packet s cone bytes gate one other holds too =
     sym (packet_back one (omega (arith, holds.journaled.by_most)) (omega (arith, holds.journaled.trace_most)) holds.fits)
     ∙ (ap packet_in (one_payload (most_payload s) bytes gate (payload_of one) (payload_of other) holds.stands too.stands)
@@ -66,7 +68,8 @@ one_packet s cone bytes gate one other holds too =
 -- ---- only one of these stands at a gate
 
 -- a packet that may stand there, or a place at which the format is left
-pub packet_or_leaves : (s : Numbers) (cone n0 : ℕ) (closed : Bool) (n : ℕ) (bytes : List ℕ) (gate at : ℕ) (packet : Packet) → HoldsPacket s cone (most_payload s) bytes gate packet → MayFollow s n0 closed n packet →
+pub packet_or_leaves : (s : Numbers) (cone n0 : ℕ) (closed : Bool) (n : ℕ) (bytes : List ℕ) (gate at : ℕ) (packet : Packet) → HoldsPacket s cone (most_payload s) bytes gate packet →
+    MayFollow s n0 closed n packet →
     ReplayLeavesAt s cone n0 closed n bytes gate at → ⊥
 packet_or_leaves s cone n0 closed n bytes gate at packet holds may (In_record leaves) = packet_or_left s cone (most_payload s) bytes gate at packet holds leaves
 packet_or_leaves s cone n0 closed n bytes gate at packet holds may (Too_few shut few at_is) = open_or_closed (most_payload s) bytes gate (payload_of packet) holds.stands shut
@@ -83,7 +86,8 @@ closed_or_leaves s cone n0 closed n bytes gate at shut enough (Past_the_end pack
 closed_or_leaves s cone n0 closed n bytes gate at shut enough (Too_many packet there running many at_is) = open_or_closed (most_payload s) bytes gate (payload_of packet) there.stands shut
 
 -- a packet that may not, or a closed gate behind too few events, has no other place
-held_place : (s : Numbers) (cone n0 : ℕ) (closed : Bool) (n : ℕ) (bytes : List ℕ) (gate at : ℕ) (packet : Packet) → HoldsPacket s cone (most_payload s) bytes gate packet → ReplayLeavesAt s cone n0 closed n bytes gate at →
+held_place : (s : Numbers) (cone n0 : ℕ) (closed : Bool) (n : ℕ) (bytes : List ℕ) (gate at : ℕ) (packet : Packet) → HoldsPacket s cone (most_payload s) bytes gate packet →
+    ReplayLeavesAt s cone n0 closed n bytes gate at →
     ((closed ≡ true) × (at ≡ gate)) ⊎ ((closed ≡ false) × (at ≡ gate + 1))
 held_place s cone n0 closed n bytes gate at packet holds (In_record leaves) = absurd (packet_or_left s cone (most_payload s) bytes gate at packet holds leaves)
 held_place s cone n0 closed n bytes gate at packet holds (Too_few shut few at_is) = absurd (open_or_closed (most_payload s) bytes gate (payload_of packet) holds.stands shut)
@@ -96,14 +100,16 @@ shut_place s cone n0 closed n bytes gate at shut (Too_few too few at_is) = at_is
 shut_place s cone n0 closed n bytes gate at shut (Past_the_end packet there ended goes at_is) = absurd (open_or_closed (most_payload s) bytes gate (payload_of packet) there.stands shut)
 shut_place s cone n0 closed n bytes gate at shut (Too_many packet there running many at_is) = absurd (open_or_closed (most_payload s) bytes gate (payload_of packet) there.stands shut)
 
-left_place : (s : Numbers) (cone n0 : ℕ) (closed : Bool) (n : ℕ) (bytes : List ℕ) (gate at other : ℕ) → LeavesAt s cone (most_payload s) bytes gate at → ReplayLeavesAt s cone n0 closed n bytes gate other → at ≡ other
+left_place : (s : Numbers) (cone n0 : ℕ) (closed : Bool) (n : ℕ) (bytes : List ℕ) (gate at other : ℕ) → LeavesAt s cone (most_payload s) bytes gate at →
+    ReplayLeavesAt s cone n0 closed n bytes gate other → at ≡ other
 left_place s cone n0 closed n bytes gate at other left (In_record leaves) = one_place_left s cone (most_payload s) bytes gate at other left leaves
 left_place s cone n0 closed n bytes gate at other left (Too_few shut few at_is) = absurd (closed_or_left s cone (most_payload s) bytes gate at shut left)
 left_place s cone n0 closed n bytes gate at other left (Past_the_end packet there ended goes at_is) = absurd (packet_or_left s cone (most_payload s) bytes gate at packet there left)
 left_place s cone n0 closed n bytes gate at other left (Too_many packet there running many at_is) = absurd (packet_or_left s cone (most_payload s) bytes gate at packet there left)
 
 -- one place is the first
-pub one_replay_place : (s : Numbers) (cone n0 : ℕ) (closed : Bool) (n : ℕ) (bytes : List ℕ) (gate at other : ℕ) → ReplayLeavesAt s cone n0 closed n bytes gate at → ReplayLeavesAt s cone n0 closed n bytes gate other → at ≡ other
+pub one_replay_place : (s : Numbers) (cone n0 : ℕ) (closed : Bool) (n : ℕ) (bytes : List ℕ) (gate at other : ℕ) → ReplayLeavesAt s cone n0 closed n bytes gate at →
+    ReplayLeavesAt s cone n0 closed n bytes gate other → at ≡ other
 one_replay_place s cone n0 closed n bytes gate at other (In_record leaves) too = left_place s cone n0 closed n bytes gate at other leaves too
 one_replay_place s cone n0 closed n bytes gate at other (Too_few shut few at_is) too = at_is ∙ sym (shut_place s cone n0 closed n bytes gate other shut too)
 one_replay_place s cone n0 closed n bytes gate at other (Past_the_end packet holds ended goes at_is) too = elim (held_place s cone n0 closed n bytes gate other packet holds too) [
@@ -118,7 +124,8 @@ one_replay_place s cone n0 closed n bytes gate at other (Too_many packet holds r
 -- ---- the packets of a history
 
 -- the packets behind some others stand from the gate behind those on
-from_gate : (most : ℕ) (bytes : List ℕ) (front done rest : List Packet) (end : ℕ) → Records most bytes (end_of front) (map payload_of (done ++ rest)) end → Records most bytes (end_of (front ++ done)) (map payload_of rest) end
+from_gate : (most : ℕ) (bytes : List ℕ) (front done rest : List Packet) (end : ℕ) → Records most bytes (end_of front) (map payload_of (done ++ rest)) end → Records most bytes (end_of
+    (front ++ done)) (map payload_of rest) end
 from_gate most bytes front [] rest end there = subst (λ (h : List Packet). Records most bytes (end_of h) (map payload_of rest) end) (sym (append-nil front)) there
 from_gate most bytes front (packet ∷ done) rest end there =
     subst (λ (h : List Packet). Records most bytes (end_of h) (map payload_of rest) end) (append_assoc front (packet ∷ []) done)
@@ -173,7 +180,8 @@ module _ (s : Numbers) (cone : ℕ) (bytes : List ℕ) (history done : List Pack
         length-append packet.keys (events_of next.rest),
       )
 
-  pub next_follows : (n0 : ℕ) (closed : Bool) → (closed ≡ true → n0 ≡ length (events_of history)) → (packet : Packet) → HoldsPacket s cone (most_payload s) bytes gate packet → MayFollow s n0 closed (length events) packet
+  pub next_follows : (n0 : ℕ) (closed : Bool) → (closed ≡ true → n0 ≡ length (events_of history)) → (packet : Packet) → HoldsPacket s cone (most_payload s) bytes gate packet →
+      MayFollow s n0 closed (length events) packet
   next_follows n0 closed behind packet holds = record {
     within = omega (arith, journal.within, next_within packet holds);
     before_closing = λ ended. omega (arith, behind ended, next_within packet holds);
@@ -190,7 +198,8 @@ module _ (s : Numbers) (cone : ℕ) (bytes : List ℕ) (history done : List Pack
   all_there closed = ap length (past.keys ∙ ap events_of (ends_there closed))
 
   -- nothing there leaves the format
-  pub never_leaves : (n0 : ℕ) (closed : Bool) (at : ℕ) → n0 ≤ length (events_of history) → (closed ≡ true → n0 ≡ length (events_of history)) → ReplayLeavesAt s cone n0 closed (length events) bytes gate at → ⊥
+  pub never_leaves : (n0 : ℕ) (closed : Bool) (at : ℕ) → n0 ≤ length (events_of history) → (closed ≡ true → n0 ≡ length (events_of history)) → ReplayLeavesAt s cone n0 closed
+      (length events) bytes gate at → ⊥
   never_leaves n0 closed at most behind leaves = elim next_or_end [
     | inl ended ↦ closed_or_leaves s cone n0 closed (length events) bytes gate at ended.1 (omega (arith, most, all_there ended.1)) leaves
     | inr there ↦ packet_or_leaves s cone n0 closed (length events) bytes gate at there.0 there.2 (next_follows n0 closed behind there.0 there.2) leaves

@@ -31,7 +31,8 @@ failed_flush FlushFailed same = refl
 failed_flush (Malformed at) same = absurd (let never : ⊥ = cc in never)
 failed_flush NoMemory same = absurd (let never : ⊥ = cc in never)
 
-module _ {B : Type 0} (bays : Bays B) (t : Tallied) (ls : Numbers) (levels_are : ls ≡ t.listing.settings) (valid : IsValid t.listing.settings) (named : t.listing.cone < 2 ^ t.listing.settings.cone_bits)
+module _ {B : Type 0} (bays : Bays B) (t : Tallied) (ls : Numbers) (levels_are : ls ≡ t.listing.settings) (valid : IsValid t.listing.settings)
+    (named : t.listing.cone < 2 ^ t.listing.settings.cone_bits)
     (young_settings : t.young.settings ≡ t.listing.settings) (counted : IsCounted t) (fits : length t.listing.events < capacity t.listing.settings)
     (key tail m : ℕ) (tail_is : tail ≡ tail_of t.listing.settings key) (m_is : m ≡ suc (length t.listing.events)) (young : Young) (added : young ≡ with_event t.young tail m)
     (start due : Dues) (start_is : start ≡ started t.due m) (bay bay_after : B) (young_after : Young) (levels_after : OnDisk) where
@@ -58,8 +59,10 @@ module _ {B : Type 0} (bays : Bays B) (t : Tallied) (ls : Numbers) (levels_are :
         (others_young t ls levels_are valid named young_settings counted fits key tail m tail_is m_is young added (seen 2) some) seen told
         (others_frames t ls levels_are valid named young_settings counted fits key tail m tail_is m_is young added (seen 2) some)
 
-    rest_here : KeepsRest (InNamed t.listing.settings t.rows) (bays.files bay) (bays.files bay_after) (bays.leaves bay) (bays.moment bay) (bays.moment bay_after) (bays.left_since bay) (bays.left_since bay_after)
-    rest_here = subst (λ (s : Numbers). KeepsRest (InNamed s t.rows) (bays.files bay) (bays.files bay_after) (bays.leaves bay) (bays.moment bay) (bays.moment bay_after) (bays.left_since bay) (bays.left_since bay_after)) levels_are brings.rest
+    rest_here : KeepsRest (InNamed t.listing.settings t.rows) (bays.files bay) (bays.files bay_after) (bays.leaves bay) (bays.moment bay) (bays.moment bay_after) (bays.left_since bay)
+        (bays.left_since bay_after)
+    rest_here = subst (λ (s : Numbers). KeepsRest (InNamed s t.rows) (bays.files bay) (bays.files bay_after) (bays.leaves bay) (bays.moment bay) (bays.moment bay_after) (bays.left_since bay)
+        (bays.left_since bay_after)) levels_are brings.rest
 
   -- the totals don't come
   refused_by : (fault : FlushFault) → Brings bays start m tail bay bay_after young young_after (record { settings = ls; rows = t.rows }) levels_after due (Err fault) →
@@ -90,10 +93,19 @@ module _ {B : Type 0} (bays : Bays B) (t : Tallied) (ls : Numbers) (levels_are :
     mark = brings.mark;
   }
 
-  pub not_counted : (result : Result (Unit {0}) FlushFault) (fault : FlushFault) → result ≡ Err fault → Brings bays start m tail bay bay_after young young_after (record { settings = ls; rows = t.rows }) levels_after due result →
-      (given : Result (Unit {0}) TakeFault) → IsErrAnd given (λ g. g ≡ take_fault fault) → CountsKey bays key bay bay_after t (record { listing = t.listing; young = young_after; rows = levels_after.rows; due = due }) given
+  pub not_counted : (result : Result (Unit {0}) FlushFault) (fault : FlushFault) → result ≡ Err fault → Brings bays start m tail bay bay_after young young_after (record {
+    settings = ls;
+    rows = t.rows;
+  }) levels_after due result →
+      (given : Result (Unit {0}) TakeFault) → IsErrAnd given (λ g. g ≡ take_fault fault) → CountsKey bays key bay bay_after t (record {
+        listing = t.listing;
+        young = young_after;
+        rows = levels_after.rows;
+        due = due;
+      }) given
   not_counted result fault is brings given given_is =
-      subst (λ (r : Result (Unit {0}) TakeFault). CountsKey bays key bay bay_after t (record { listing = t.listing; young = young_after; rows = levels_after.rows; due = due }) r) (handed_on given (take_fault fault) given_is)
+      subst (λ (r : Result (Unit {0}) TakeFault). CountsKey bays key bay bay_after t (record { listing = t.listing; young = young_after; rows = levels_after.rows; due = due }) r) (handed_on given
+      (take_fault fault) given_is)
       (refused_by fault (subst (λ (r : Result (Unit {0}) FlushFault). Brings bays start m tail bay bay_after young young_after (record { settings = ls; rows = t.rows }) levels_after due r) is brings))
 
   module _ (below : key < 2 ^ 64) (own : cone_of t.listing.settings key ≡ t.listing.cone) (still : t.listing.closed ≡ false)
@@ -125,18 +137,40 @@ module _ {B : Type 0} (bays : Bays B) (t : Tallied) (ls : Numbers) (levels_are :
 
     -- the key is counted
     pub key_counted : (events : List ℕ) → events ≡ t.listing.events ++ key ∷ [] → due.is_full ≡ false →
-        CountsKey bays key bay bay_after t (record { listing = record { settings = t.listing.settings; cone = t.listing.cone; events = events; closed = t.listing.closed }; young = young_after; rows = levels_after.rows; due = due }) (Ok tt)
+        CountsKey bays key bay bay_after t (record {
+          listing = record { settings = t.listing.settings; cone = t.listing.cone; events = events; closed = t.listing.closed };
+          young = young_after;
+          rows = levels_after.rows;
+          due = due;
+        }) (Ok tt)
     key_counted events events_are room =
-        let after : Tallied = record { listing = record { settings = t.listing.settings; cone = t.listing.cone; events = events; closed = t.listing.closed }; young = young_after; rows = levels_after.rows; due = due } in
-        let after_is : after ≡ record { listing = record { settings = t.listing.settings; cone = t.listing.cone; events = t.listing.events ++ key ∷ []; closed = t.listing.closed }; young = young_after; rows = levels_after.rows; due = due } =
-        ap (λ (keys : List ℕ). record { listing = record { settings = t.listing.settings; cone = t.listing.cone; events = keys; closed = t.listing.closed }; young = young_after; rows = levels_after.rows; due = due }) events_are in
+        let after : Tallied = record {
+          listing = record { settings = t.listing.settings; cone = t.listing.cone; events = events; closed = t.listing.closed };
+          young = young_after;
+          rows = levels_after.rows;
+          due = due;
+        } in
+        let after_is : after ≡ record {
+          listing = record { settings = t.listing.settings; cone = t.listing.cone; events = t.listing.events ++ key ∷ []; closed = t.listing.closed };
+          young = young_after;
+          rows = levels_after.rows;
+          due = due;
+        } =
+        ap (λ (keys : List ℕ). record {
+          listing = record { settings = t.listing.settings; cone = t.listing.cone; events = keys; closed = t.listing.closed };
+          young = young_after;
+          rows = levels_after.rows;
+          due = due;
+        }) events_are in
         record {
           listing = refl;
           taken = events_are;
           counted = counted_next t ls levels_are valid named young_settings counted fits key tail m tail_is m_is young added below own start due start_is young_after levels_after.rows after after_is
-              brings.from brings.to (brings.bins (t.listing.events ++ key ∷ []) long now_young) brings.rows (brings.are (subst (λ (v : Numbers). AreRows v t.rows) (sym levels_are) counted.are)) brings.took;
+              brings.from brings.to (brings.bins (t.listing.events ++ key ∷ []) long now_young) brings.rows (brings.are (subst (λ (v : Numbers). AreRows v t.rows)
+              (sym levels_are) counted.are)) brings.took;
           grows = omega (arith, brings.took.1.grows, ap (λ (d : Dues). length d.before) start_is, ap (length {A = Report}) brings.took.1.before_is);
-          still = λ stays. brings.still (ap (λ (s : Numbers). edge s 0 m) levels_are ∙ ap (edge t.listing.settings 0) (m_is ∙ omega arith) ∙ stays ∙ ap (edge t.listing.settings 0) (omega (arith, m_is)) ∙ ap (λ (s : Numbers). edge s 0 (m - 1)) (sym levels_are));
+          still = λ stays. brings.still (ap (λ (s : Numbers). edge s 0 m) levels_are ∙ ap (edge t.listing.settings 0) (m_is ∙ omega arith) ∙ stays ∙ ap (edge t.listing.settings 0) (omega
+              (arith, m_is)) ∙ ap (λ (s : Numbers). edge s 0 (m - 1)) (sym levels_are));
           held = λ seen told held after_files told_after.
               held_next t ls levels_are valid named young_settings counted fits key tail m tail_is m_is young added below own start due start_is still seen held
               (brings.totals (t.listing.events ++ key ∷ []) long now_young seen told (now_frames seen held)) young_after levels_after.rows after after_files after_is room
@@ -153,7 +187,8 @@ module _ {B : Type 0} (bays : Bays B) (t : Tallied) (ls : Numbers) (levels_are :
           whole = λ seen told some at same. (let never : ⊥ = cc in never);
           images = λ seen told held each after_files told_after.
               let each_now : InEach (bays.leaves bay) 2 (HoldsBins ls (t.listing.events ++ key ∷ []) t.rows) =
-              λ image may. subst (λ (v : Numbers). HoldsBins v (t.listing.events ++ key ∷ []) t.rows (image 2)) (sym levels_are) (frames_more t.listing.settings valid t.listing.events (key ∷ []) t.rows (image 2) counted.rows (each image may)) in
+              λ image may. subst (λ (v : Numbers). HoldsBins v (t.listing.events ++ key ∷ []) t.rows (image 2)) (sym levels_are) (frames_more t.listing.settings valid t.listing.events
+              (key ∷ []) t.rows (image 2) counted.rows (each image may)) in
               let stay = brings.images (t.listing.events ++ key ∷ []) long now_young seen told (now_frames seen held) each_now in
               subst (λ (keys : List ℕ). InEach (bays.leaves bay_after) 2 (HoldsBins t.listing.settings keys levels_after.rows)) (sym events_are)
               (subst (λ (v : Numbers). InEach (bays.leaves bay_after) 2 (HoldsBins v (t.listing.events ++ key ∷ []) levels_after.rows)) levels_are (stay after_files told_after));

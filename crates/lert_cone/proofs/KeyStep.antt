@@ -27,7 +27,8 @@ use Rattle.lert_cone.specs.Logged.{IsLogOf, next_record}
 use Rattle.lert_cone.specs.Record.{LogPlace, payload_at}
 use Rattle.lert_cone.specs.Sound.{IsJournal, IsSound}
 use Rattle.lert_cone.specs.Tally.{Tallied, IsCounted, IsHeld}
-use Rattle.lert_cone.proofs.LogLaws.{LogsNext, last_flush_grows, log_between, log_at_flush, payload_is}
+use Rattle.lert_cone.proofs.LogLaws.{LogsNext, log_between, log_at_flush, payload_is}
+use Rattle.lert_cone.proofs.FlushLaws.{last_flush_grows}
 use Rattle.lert_cone.proofs.RecordLaws.{payload_is_at}
 use Rattle.lert_cone.proofs.WroteLaws.{leaves_rest, settled_through}
 use Rattle.lert_cone.proofs.StepLaws.{journal_since, log_since, frames_since, sound_of, with_or_without, with_record, header_since}
@@ -75,7 +76,8 @@ module _ (leaves since : Files → Type 0) (seen : Files) (history : List Packet
 
 -- what stands before an append: the packets and the records in every image
 module _ (leaves since : Files → Type 0) (seen : Files) (s : Numbers) (cone : ℕ) (history : List Packet) (logged : List LogRecord) (one : LogRecord) (gate : ℕ) (payload : List ℕ)
-    (read : leaves seen) (journal : InEach leaves 0 (IsJournal s cone history)) (journal_settled : IsWhollySettled leaves seen 0) (log_there : InEach leaves 1 (λ bytes. HasLog s cone bytes logged gate))
+    (read : leaves seen) (journal : InEach leaves 0 (IsJournal s cone history)) (journal_settled : IsWhollySettled leaves seen 0) (log_there : InEach leaves 1
+    (λ bytes. HasLog s cone bytes logged gate))
     (rules : AreRecords s cone (logged ++ one ∷ [])) (payload_is : payload ≡ log_payload_of one)
     (others : KeepsOthers leaves since seen 1) (before : KeepsBefore leaves since seen 1 gate) where
   pub journal_beside : InEach since 0 (IsJournal s cone history)
@@ -87,9 +89,11 @@ module _ (leaves since : Files → Type 0) (seen : Files) (s : Numbers) (cone : 
   pub log_beside : InEach since 1 (IsWithOrWithout (most_record s) 8 (map log_payload_of logged) gate payload) → (image : Files) → since image →
       HasLog s cone (image 1) logged gate ⊎ HasLog s cone (image 1) (logged ++ one ∷ []) (next_gate gate payload)
   log_beside each image may =
-      with_or_without s cone logged one gate payload (image 1) payload_is (log_there seen read).rules rules (header_since leaves since seen s cone logged gate read log_there before image may) (each image may)
+      with_or_without s cone logged one gate payload (image 1) payload_is (log_there seen read).rules rules (header_since leaves since seen s cone logged gate read log_there before image may)
+      (each image may)
 
-  pub log_behind : (after : Files → Type 0) (gate_after : ℕ) → ((image : Files) → after image → since image) → InEach after 1 (λ bytes. IsGated (most_record s) bytes 8 (map log_payload_of logged ++ payload ∷ []) gate_after) →
+  pub log_behind : (after : Files → Type 0) (gate_after : ℕ) → ((image : Files) → after image → since image) → InEach after 1 (λ bytes. IsGated (most_record s) bytes 8
+      (map log_payload_of logged ++ payload ∷ []) gate_after) →
       InEach after 1 (λ bytes. HasLog s cone bytes (logged ++ one ∷ []) gate_after)
   log_behind after gate_after now stands image may =
       with_record s cone logged one gate_after payload (image 1) payload_is rules (header_since leaves since seen s cone logged gate read log_there before image (now image may)) (stands image may)
@@ -137,14 +141,16 @@ module _ (leaves : Files → Type 0) (seen : Files) (history : List Packet) (t a
   journal_now image may = of_listing (λ s cone events closed. IsJournal s cone history (image 0)) (taken.journal image may)
 
   -- between two flushes
-  pub up_between : edge t.listing.settings 0 (length a.listing.events) ≡ edge t.listing.settings 0 (length a.listing.events - 1) → a.rows ≡ t.rows → IsInStep leaves seen history a.listing a.rows a.due.reports log
+  pub up_between : edge t.listing.settings 0 (length a.listing.events) ≡ edge t.listing.settings 0 (length a.listing.events - 1) → a.rows ≡ t.rows →
+      IsInStep leaves seen history a.listing a.rows a.due.reports log
   up_between stays rows_are =
       let n_is : length a.listing.events ≡ suc (length t.listing.events) = ap (λ (l : Listing). length l.events) taken.listing_is ∙ long in
       let before_is : length a.listing.events - 1 ≡ length t.listing.events = omega (arith, n_is) in
       record {
         logged = logged;
         log_of = subst (λ (rows : List (List BinAt)). IsLogOf a.listing.settings a.listing.cone a.listing.events rows a.listing.closed logged) (sym rows_are)
-            (log_as t.rows logged (log_between t.listing.settings t.listing.cone t.listing.events key t.rows logged (ap (edge t.listing.settings 0) (sym n_is) ∙ stays ∙ ap (edge t.listing.settings 0) before_is) taken.log_of));
+            (log_as t.rows logged (log_between t.listing.settings t.listing.cone t.listing.events key t.rows logged (ap (edge t.listing.settings 0) (sym n_is) ∙ stays ∙ ap
+            (edge t.listing.settings 0) before_is) taken.log_of));
         named_is = taken.named_is;
         journal = journal_now;
         log_there = λ image may. of_listing (λ s cone events closed. HasLog s cone (image 1) logged log.gate) (taken.log_there image may);
@@ -165,7 +171,8 @@ module _ (leaves : Files → Type 0) (seen : Files) (history : List Packet) (t a
         moves (ap (edge t.listing.settings 0) n_is ∙ same ∙ ap (edge t.listing.settings 0) (sym before_is))
 
     looked : a.due.reports ≡ look t.listing.settings (t.listing.events ++ key ∷ [])
-    looked = taken.reports_are ∙ ap reports_of taken.listing_is ∙ ap (λ b. cond b (closing t.listing.settings (t.listing.events ++ key ∷ [])) (look t.listing.settings (t.listing.events ++ key ∷ []))) still
+    looked = taken.reports_are ∙ ap reports_of taken.listing_is ∙ ap (λ b. cond b (closing t.listing.settings (t.listing.events ++ key ∷ [])) (look t.listing.settings
+        (t.listing.events ++ key ∷ []))) still
 
     abbrev pub one : LogRecord
     one = next_record LogKind.Flush (suc (length t.listing.events)) a.rows logged a.due.reports
@@ -187,20 +194,25 @@ module _ (leaves : Files → Type 0) (seen : Files) (history : List Packet) (t a
     module _ (since : Files → Type 0) (payload : List ℕ) (payload_is : payload ≡ payload_at log LogKind.Flush (length a.listing.events) (directory_text a.rows) a.due.reports)
         (others : KeepsOthers leaves since seen 1) (earlier : KeepsBefore leaves since seen 1 log.gate) where
       payload_here : payload ≡ log_payload_of (next_record LogKind.Flush (suc (length t.listing.events)) a.rows logged a.due.reports)
-      payload_here = payload_is ∙ ap (λ n. payload_at log LogKind.Flush n (directory_text a.rows) a.due.reports) n_is ∙ next_payload log LogKind.Flush (suc (length t.listing.events)) a.rows logged a.due.reports taken.named_is
+      payload_here = payload_is ∙ ap (λ n. payload_at log LogKind.Flush n (directory_text a.rows) a.due.reports) n_is ∙ next_payload log LogKind.Flush (suc
+          (length t.listing.events)) a.rows logged a.due.reports taken.named_is
 
       frames_new : InEach leaves 2 (HoldsBins t.listing.settings (t.listing.events ++ key ∷ []) a.rows)
       frames_new image may = to_listing (λ s cone events closed. HoldsBins s events a.rows (image 2)) (taken.frames image may)
 
       -- in each image of each moment of the append
-      pub sound_append : InEach since 1 (IsWithOrWithout (most_record t.listing.settings) 8 (map log_payload_of logged) log.gate payload) → IsPartway t.listing.settings history t.listing.events (key ∷ []) →
+      pub sound_append : InEach since 1 (IsWithOrWithout (most_record t.listing.settings) 8 (map log_payload_of logged) log.gate payload) → IsPartway t.listing.settings history t.listing.events
+          (key ∷ []) →
           (image : Files) → since image → IsSound t.listing.settings t.listing.cone history image
       sound_append each partway image may =
           let s = t.listing.settings in
           let cone = t.listing.cone in
-          let journal = journal_beside leaves since seen s cone history logged one log.gate payload taken.read taken.journal taken.journal_settled taken.log_there next.is.rules payload_here others earlier image may in
-          let beside = frames_beside leaves since seen s cone history logged one log.gate payload taken.read taken.journal taken.journal_settled taken.log_there next.is.rules payload_here others earlier in
-          elim (log_beside leaves since seen s cone history logged one log.gate payload taken.read taken.journal taken.journal_settled taken.log_there next.is.rules payload_here others earlier each image may) [
+          let journal = journal_beside leaves since seen s cone history logged one log.gate payload taken.read taken.journal taken.journal_settled taken.log_there next.is.rules payload_here
+          others earlier image may in
+          let beside = frames_beside leaves since seen s cone history logged one log.gate payload taken.read taken.journal taken.journal_settled taken.log_there next.is.rules payload_here others
+          earlier in
+          elim (log_beside leaves since seen s cone history logged one log.gate payload taken.read taken.journal taken.journal_settled taken.log_there next.is.rules payload_here others earlier
+          each image may) [
             | inl without ↦ sound_of s cone history t.listing.events t.rows false logged log.gate before.valid before.rows (partway_less t.listing.settings history t.listing.events (key ∷ []) partway)
                 (λ never. absurd (false≢true never)) taken.log_of image journal without (beside t.listing.events t.rows before.are taken.frames_before image may)
             | inr with_it ↦ sound_of s cone history (t.listing.events ++ key ∷ []) a.rows false (logged ++ one ∷ []) (next_gate log.gate payload) before.valid
@@ -210,13 +222,15 @@ module _ (leaves : Files → Type 0) (seen : Files) (history : List Packet) (t a
 
       -- and after it
       pub up_flushed : (after : Files → Type 0) (seen_after : Files) (log_after : LogPlace) → ((image : Files) → after image → since image) → log_after.named ≡ length a.due.reports →
-          InEach after 1 (λ bytes. IsGated (most_record t.listing.settings) bytes 8 (map log_payload_of logged ++ payload ∷ []) log_after.gate) → IsWhollySettled after seen_after 0 → IsWhollySettled after seen_after 1 →
+          InEach after 1 (λ bytes. IsGated (most_record t.listing.settings) bytes 8 (map log_payload_of logged ++ payload ∷ []) log_after.gate) → IsWhollySettled after seen_after 0 →
+          IsWhollySettled after seen_after 1 →
           IsInStep after seen_after history a.listing a.rows a.due.reports log_after
       up_flushed after seen_after log_after now named_is stands journal_settled log_settled =
           let s = t.listing.settings in
           let cone = t.listing.cone in
           let last : last_flush s (length (t.listing.events ++ key ∷ [])) ≡ length (t.listing.events ++ key ∷ []) =
-          ap (last_flush s) long ∙ ap (λ b. cond b (last_flush s (length t.listing.events)) (suc (length t.listing.events))) (ne_eqb (edge s 0 (suc (length t.listing.events))) (edge s 0 (length t.listing.events)) moves_here) ∙ sym long in
+          ap (last_flush s) long ∙ ap (λ b. cond b (last_flush s (length t.listing.events)) (suc (length t.listing.events))) (ne_eqb (edge s 0 (suc (length t.listing.events))) (edge s 0
+          (length t.listing.events)) moves_here) ∙ sym long in
           let listed : listed_in (logged ++ one ∷ []) ≡ a.due.reports =
           next.is.reports_are ∙ ap (look s) (take_all (last_flush s (length (t.listing.events ++ key ∷ []))) (t.listing.events ++ key ∷ []) (omega (arith, last))) ∙ sym looked in
           record {
@@ -224,9 +238,11 @@ module _ (leaves : Files → Type 0) (seen : Files) (history : List Packet) (t a
             log_of = log_as a.rows (logged ++ one ∷ []) next.is;
             named_is = named_is ∙ ap length (sym listed);
             journal = λ image may. of_listing (λ s cone events closed. IsJournal s cone history (image 0))
-                (journal_beside leaves since seen s cone history logged one log.gate payload taken.read taken.journal taken.journal_settled taken.log_there next.is.rules payload_here others earlier image (now image may));
+                (journal_beside leaves since seen s cone history logged one log.gate payload taken.read taken.journal taken.journal_settled taken.log_there next.is.rules payload_here others
+                earlier image (now image may));
             log_there = λ image may. of_listing (λ s cone events closed. HasLog s cone (image 1) (logged ++ one ∷ []) log_after.gate)
-                (log_behind leaves since seen s cone history logged one log.gate payload taken.read taken.journal taken.journal_settled taken.log_there next.is.rules payload_here others earlier after log_after.gate now stands image may);
+                (log_behind leaves since seen s cone history logged one log.gate payload taken.read taken.journal taken.journal_settled taken.log_there next.is.rules payload_here others earlier
+                after log_after.gate now stands image may);
             frames = λ image may. of_listing (λ s cone events closed. HoldsBins s events a.rows (image 2))
                 (frames_beside leaves since seen s cone history logged one log.gate payload taken.read taken.journal taken.journal_settled taken.log_there next.is.rules payload_here others earlier
                 (t.listing.events ++ key ∷ []) a.rows rows_are frames_new image (now image may));
@@ -238,13 +254,16 @@ module _ (leaves : Files → Type 0) (seen : Files) (history : List Packet) (t a
 -- ---- where a bay tells its files
 
 -- what goes together with memory holds what memory asks of the files
-pub held_of : (leaves : Files → Type 0) (seen : Files) (history : List Packet) (t : Tallied) (log : LogPlace) → leaves seen → IsInStep leaves seen history t.listing t.rows t.due.reports log → IsHeld t seen
+pub held_of : (leaves : Files → Type 0) (seen : Files) (history : List Packet) (t : Tallied) (log : LogPlace) → leaves seen → IsInStep leaves seen history t.listing t.rows t.due.reports log →
+    IsHeld t seen
 held_of leaves seen history t log read up = record { frames = up.frames seen read; reports = up.reports_are }
 
 -- taking a key writes no frame that the rows name
-module _ (files_before files_after : Option Files) (leaves leaves_after : Files → Type 0) (first last : ℕ) (since_before since_after : ℕ → Files → Type 0) (history : List Packet) (t : Tallied) (log : LogPlace)
+module _ (files_before files_after : Option Files) (leaves leaves_after : Files → Type 0) (first last : ℕ) (since_before since_after : ℕ → Files → Type 0) (history : List Packet) (t : Tallied)
+    (log : LogPlace)
     (rest : KeepsRest (InNamed t.listing.settings t.rows) files_before files_after leaves first last since_before since_after) (now : (image : Files) → leaves_after image → since_after first image)
-    (counted : IsCounted t) (still : t.listing.closed ≡ false) (seen : Files) (told : files_before ≡ Some seen) (read : leaves seen) (up : IsInStep leaves seen history t.listing t.rows t.due.reports log) where
+    (counted : IsCounted t) (still : t.listing.closed ≡ false) (seen : Files) (told : files_before ≡ Some seen) (read : leaves seen)
+    (up : IsInStep leaves seen history t.listing t.rows t.due.reports log) where
   journal_kept : Keeps (since_after first) seen 0 0 (length (seen 0))
   journal_kept = rest.settled seen told 0 0 (length (seen 0)) (inl (λ same. absurd (omega (arith, same)))) up.journal_settled
 
@@ -255,7 +274,8 @@ module _ (files_before files_after : Option Files) (leaves leaves_after : Files 
   frames_kept from to named settled = rest.settled seen told 2 from to (inr named) settled
 
   pub sound_rest : (more : List ℕ) → IsPartway t.listing.settings history t.listing.events more → (image : Files) → since_after first image → IsSound t.listing.settings t.listing.cone history image
-  sound_rest more partway = sound_here leaves (since_after first) seen history t log counted up read journal_kept log_kept frames_kept still (partway_less t.listing.settings history t.listing.events more partway)
+  sound_rest more partway = sound_here leaves (since_after first) seen history t log counted up read journal_kept log_kept frames_kept still
+      (partway_less t.listing.settings history t.listing.events more partway)
 
   pub taken_of : (a : Tallied) (key : ℕ) → a.listing ≡ record t.listing { events = t.listing.events ++ key ∷ [] } → (after : Files) → files_after ≡ Some after → leaves_after after →
       InEach leaves_after 2 (HoldsBins a.listing.settings a.listing.events a.rows) → a.due.reports ≡ reports_of a.listing → IsTaken leaves_after after history t a log up.logged key
@@ -266,10 +286,12 @@ module _ (files_before files_after : Option Files) (leaves leaves_after : Files 
     read = read_after;
     journal = λ image may. journal_here leaves (since_after first) seen history t log counted up read journal_kept log_kept frames_kept image (now image may);
     journal_settled = settled_through 0 files_before files_after leaves leaves_after first last since_before since_after
-        (leaves_rest (InNamed t.listing.settings t.rows) 0 (λ same. absurd (omega (arith, same))) files_before files_after leaves leaves_after first last since_before since_after rest now) seen told up.journal_settled after told_after;
+        (leaves_rest (InNamed t.listing.settings t.rows) 0 (λ same. absurd (omega (arith, same))) files_before files_after leaves leaves_after first last since_before since_after rest now) seen
+        told up.journal_settled after told_after;
     log_there = λ image may. log_here leaves (since_after first) seen history t log counted up read journal_kept log_kept frames_kept image (now image may);
     log_settled = settled_through 1 files_before files_after leaves leaves_after first last since_before since_after
-        (leaves_rest (InNamed t.listing.settings t.rows) 1 (λ same. absurd (omega (arith, same))) files_before files_after leaves leaves_after first last since_before since_after rest now) seen told up.log_settled after told_after;
+        (leaves_rest (InNamed t.listing.settings t.rows) 1 (λ same. absurd (omega (arith, same))) files_before files_after leaves leaves_after first last since_before since_after rest now) seen
+        told up.log_settled after told_after;
     frames_before = λ image may. frames_here leaves (since_after first) seen history t log counted up read journal_kept log_kept frames_kept image (now image may);
     frames = frames;
     reports_are = reports;
@@ -277,27 +299,16 @@ module _ (files_before files_after : Option Files) (leaves leaves_after : Files 
 
 -- ---- keys in turn
 
--- the next of some keys
-pub partway_step : (s : Numbers) (history : List Packet) (events keys : List ℕ) (i : ℕ) → i < length keys → IsPartway s history events keys → IsPartway s history (events ++ take i keys) (get_or keys i 0 ∷ [])
-partway_step s history events keys i within partway =
-    let key = get_or keys i 0 in
-    let split : keys ≡ (take i keys ++ key ∷ []) ++ drop (i + 1) keys = sym (take-append-drop (i + 1) keys) ∙ ap (λ front. front ++ drop (i + 1) keys) (take_more keys i 0 within) in
-    record {
-      rest = drop (i + 1) keys ++ partway.rest;
-      is = partway.is
-          ∙ ap (λ ks. events ++ (ks ++ partway.rest)) split
-          ∙ ap (λ ks. events ++ ks) (append_assoc (take i keys ++ key ∷ []) (drop (i + 1) keys) partway.rest ∙ append_assoc (take i keys) (key ∷ []) (drop (i + 1) keys ++ partway.rest))
-          ∙ sym (append_assoc events (take i keys) (key ∷ (drop (i + 1) keys ++ partway.rest)));
-      late = omega (arith, partway.late, last_flush_grows s (length events) (length (events ++ take i keys)) (omega (arith, length-append events (take i keys))));
-    }
-
 -- what goes together with memory is sound
-pub sound_now : (leaves : Files → Type 0) (seen : Files) (history : List Packet) (t : Tallied) (log : LogPlace) (more : List ℕ) → IsCounted t → t.listing.closed ≡ false → IsInStep leaves seen history t.listing t.rows t.due.reports log →
+pub sound_now : (leaves : Files → Type 0) (seen : Files) (history : List Packet) (t : Tallied) (log : LogPlace) (more : List ℕ) → IsCounted t → t.listing.closed ≡ false →
+    IsInStep leaves seen history t.listing t.rows t.due.reports log →
     IsPartway t.listing.settings history t.listing.events more → (image : Files) → leaves image → IsSound t.listing.settings t.listing.cone history image
 sound_now leaves seen history t log more counted still up partway image may =
-    sound_of t.listing.settings t.listing.cone history t.listing.events t.rows t.listing.closed up.logged log.gate counted.valid counted.rows (partway_less t.listing.settings history t.listing.events more partway)
+    sound_of t.listing.settings t.listing.cone history t.listing.events t.rows t.listing.closed up.logged log.gate counted.valid counted.rows
+    (partway_less t.listing.settings history t.listing.events more partway)
     (λ ended. absurd (false≢true (sym still ∙ ended))) up.log_of image (up.journal image may) (up.log_there image may) (up.frames image may)
 
 -- in each image of each moment of a key behind others: either it was left before, or since the key began
-pub sound_behind : (listing first : Listing) (history : List Packet) (image : Files) → listing.settings ≡ first.settings → listing.cone ≡ first.cone → IsSound listing.settings listing.cone history image → IsSound first.settings first.cone history image
+pub sound_behind : (listing first : Listing) (history : List Packet) (image : Files) → listing.settings ≡ first.settings → listing.cone ≡ first.cone →
+    IsSound listing.settings listing.cone history image → IsSound first.settings first.cone history image
 sound_behind listing first history image settings cone sound = subst (λ n. IsSound first.settings n history image) cone (subst (λ (s : Numbers). IsSound s listing.cone history image) settings sound)

@@ -17,12 +17,12 @@ use Rattle.lert_cone.specs.declared.tally.TakeFault.TheVariants.{Failed}
 use Rattle.lert_cone.specs.Appends.{AppendsRecord}
 use Rattle.lert_cone.specs.Counts.{CountsKey}
 use Rattle.lert_cone.specs.Framed.{HoldsSome}
-use Rattle.lert_cone.specs.InStep.{IsInStep, IsLogging, IsPartway}
+use Rattle.lert_cone.specs.InStep.{IsLogging, IsPartway}
 use Rattle.lert_cone.specs.Listing.{Listing}
 use Rattle.lert_cone.specs.Record.{LogPlace, payload_at}
 use Rattle.lert_cone.specs.Sound.{IsSound}
 use Rattle.lert_cone.specs.Takes.{Workplace, CanLog, CanTake, AreInStep, TakesKeys}
-use Rattle.lert_cone.specs.Tally.{Tallied, IsCounted, IsHeld}
+use Rattle.lert_cone.specs.Tally.{Tallied, IsHeld}
 use Rattle.lert_cone.proofs.Calls.{IsLawful, now_since, alone_on, alone_rest, alone_others, settled_alone, shut_alone}
 use Rattle.lert_cone.proofs.KeyStep.{IsTaken, held_of, sound_rest, taken_of, up_between, sound_append, up_flushed}
 use Rattle.lert_cone.proofs.RecordLaws.{record_fits, logging_more}
@@ -38,7 +38,8 @@ module _ {B : Type 0} (bays : Bays B) (lawful : IsLawful bays) (old : Workplace 
     sound_key : IfTold (bays.files old.bay) (λ seen. (history : List Packet) → IsPartway old.counts.listing.settings history old.counts.listing.events (key ∷ []) → AreInStep bays old seen history →
         (image : Files) → bays.left_since bay (bays.moment old.bay) image → IsSound old.counts.listing.settings old.counts.listing.cone history image)
     sound_key seen told history partway up image may =
-        sound_rest (bays.files old.bay) (bays.files bay) (bays.leaves old.bay) (bays.leaves bay) (bays.moment old.bay) (bays.moment bay) (bays.left_since old.bay) (bays.left_since bay) history old.counts old.log
+        sound_rest (bays.files old.bay) (bays.files bay) (bays.leaves old.bay) (bays.leaves bay) (bays.moment old.bay) (bays.moment bay) (bays.left_since old.bay)
+        (bays.left_since bay) history old.counts old.log
         did.rest (now_since bays lawful old.bay bay did.rest.time.later) can.counted can.still seen told (lawful.as_read old.bay seen told) up (key ∷ []) partway image may
 
     held : (seen : Files) → bays.files old.bay ≡ Some seen → (history : List Packet) → AreInStep bays old seen history → IsHeld old.counts seen
@@ -88,8 +89,10 @@ module _ {B : Type 0} (bays : Bays B) (lawful : IsLawful bays) (old : Workplace 
         IsTaken (bays.leaves bay) after history old.counts counts old.log up.logged key
     taken seen told history up after told_after =
         let holds = held (Ok tt) did seen told history up in
-        taken_of (bays.files old.bay) (bays.files bay) (bays.leaves old.bay) (bays.leaves bay) (bays.moment old.bay) (bays.moment bay) (bays.left_since old.bay) (bays.left_since bay) history old.counts old.log
-        did.rest (now_since bays lawful old.bay bay did.rest.time.later) can.counted can.still seen told (lawful.as_read old.bay seen told) up counts key is after told_after (lawful.as_read bay after told_after)
+        taken_of (bays.files old.bay) (bays.files bay) (bays.leaves old.bay) (bays.leaves bay) (bays.moment old.bay) (bays.moment bay) (bays.left_since old.bay)
+        (bays.left_since bay) history old.counts old.log
+        did.rest (now_since bays lawful old.bay bay did.rest.time.later) can.counted can.still seen told (lawful.as_read old.bay seen told) up counts key is after told_after
+        (lawful.as_read bay after told_after)
         (did.images seen told holds up.frames after told_after) (did.held seen told holds after told_after).reports
 
     logging_kept : IsLogging counts old.log old.room
@@ -138,7 +141,8 @@ module _ {B : Type 0} (bays : Bays B) (lawful : IsLawful bays) (old : Workplace 
         }
 
     -- a flush
-    module _ (moves_now : edge counts.listing.settings 0 (length counts.listing.events) ≢ edge counts.listing.settings 0 (length counts.listing.events - 1)) (few : length counts.due.reports ≤ counts.listing.settings.room)
+    module _ (moves_now : edge counts.listing.settings 0 (length counts.listing.events) ≢ edge counts.listing.settings 0 (length counts.listing.events - 1))
+        (few : length counts.due.reports ≤ counts.listing.settings.room)
         {E : Type 0} (wrote : Result (Unit {0}) E) (bay_after : B) (log_after : LogPlace)
         (appends : AppendsRecord bays LogKind.Flush (length counts.listing.events) (directory_text counts.rows) counts.due.reports bay bay_after old.log log_after wrote) where
       moves : edge old.counts.listing.settings 0 (length counts.listing.events) ≢ edge old.counts.listing.settings 0 (length counts.listing.events - 1)
@@ -156,7 +160,8 @@ module _ {B : Type 0} (bays : Bays B) (lawful : IsLawful bays) (old : Workplace 
           (alone_others bays lawful 1 0 (λ same. absurd (omega (arith, same))) bay bay_after appends.seen appends.others appends.time)
 
       -- in each image of each moment
-      sound_flush : IfTold (bays.files old.bay) (λ seen. (history : List Packet) → IsPartway old.counts.listing.settings history old.counts.listing.events (key ∷ []) → AreInStep bays old seen history →
+      sound_flush : IfTold (bays.files old.bay) (λ seen. (history : List Packet) → IsPartway old.counts.listing.settings history old.counts.listing.events (key ∷ []) →
+          AreInStep bays old seen history →
           (image : Files) → bays.left_since bay_after (bays.moment old.bay) image → IsSound old.counts.listing.settings old.counts.listing.cone history image)
       sound_flush seen told history partway up image may =
           let mid = did.rest.seen.told seen told in
@@ -173,11 +178,22 @@ module _ {B : Type 0} (bays : Bays B) (lawful : IsLawful bays) (old : Workplace 
           ]
 
     -- its record isn't appended
-    pub record_failed : edge counts.listing.settings 0 (length counts.listing.events) ≢ edge counts.listing.settings 0 (length counts.listing.events - 1) → length counts.due.reports ≤ counts.listing.settings.room →
+    pub record_failed : edge counts.listing.settings 0 (length counts.listing.events) ≢ edge counts.listing.settings 0 (length counts.listing.events - 1) →
+        length counts.due.reports ≤ counts.listing.settings.room →
         {E : Type 0} (failed : E) (bay_after : B) (log_after : LogPlace) (room : ℕ) →
         AppendsRecord bays LogKind.Flush (length counts.listing.events) (directory_text counts.rows) counts.due.reports bay bay_after old.log log_after (Err failed) →
-        (given : Result (Unit {0}) TakeFault) → IsErrAnd given (λ fault. fault ≡ Failed) → TakesKeys bays (key ∷ []) old (record { bay = bay_after; counts = counts; log = log_after; room = room }) given
-    record_failed moves_now few failed bay_after log_after room appends given given_is = subst (λ (r : Result (Unit {0}) TakeFault). TakesKeys bays (key ∷ []) old (record { bay = bay_after; counts = counts; log = log_after; room = room }) r) (handed_on given Failed given_is) (record {
+        (given : Result (Unit {0}) TakeFault) → IsErrAnd given (λ fault. fault ≡ Failed) → TakesKeys bays (key ∷ []) old (record {
+          bay = bay_after;
+          counts = counts;
+          log = log_after;
+          room = room;
+        }) given
+    record_failed moves_now few failed bay_after log_after room appends given given_is = subst (λ (r : Result (Unit {0}) TakeFault). TakesKeys bays (key ∷ []) old (record {
+      bay = bay_after;
+      counts = counts;
+      log = log_after;
+      room = room;
+    }) r) (handed_on given Failed given_is) (record {
       listing = did.listing;
       taken = tt;
       counted = tt;
@@ -198,7 +214,8 @@ module _ {B : Type 0} (bays : Bays B) (lawful : IsLawful bays) (old : Workplace 
     })
 
     -- its record is appended
-    pub key_flushed : edge counts.listing.settings 0 (length counts.listing.events) ≢ edge counts.listing.settings 0 (length counts.listing.events - 1) → length counts.due.reports ≤ counts.listing.settings.room →
+    pub key_flushed : edge counts.listing.settings 0 (length counts.listing.events) ≢ edge counts.listing.settings 0 (length counts.listing.events - 1) →
+        length counts.due.reports ≤ counts.listing.settings.room →
         {E : Type 0} (bay_after : B) (log_after : LogPlace) (room : ℕ) → room ≡ old.room →
         AppendsRecord {E = E} bays LogKind.Flush (length counts.listing.events) (directory_text counts.rows) counts.due.reports bay bay_after old.log log_after (Ok tt) →
         TakesKeys bays (key ∷ []) old (record { bay = bay_after; counts = counts; log = log_after; room = room }) (Ok tt)

@@ -1,5 +1,5 @@
 -- Keys of a journal that are taken again: all are counted again, or others stand behind those.
-use Rattle.std.proofs.Common.{◌≡◌, ℕ, ◌+◌, ◌-◌, ◌<◌, ◌≤◌, Bool, true, false, List, ◌++◌, All, length, take, drop, min, max, Result, Ok, OnOk, Some, refl, sym, ap, ◌∙◌, subst, arith, length-append, length-take, length-drop, append_assoc}
+use Rattle.std.proofs.Common.{◌≡◌, ℕ, ◌+◌, ◌-◌, ◌<◌, ◌≤◌, Bool, true, false, List, ◌++◌, All, length, take, drop, min, max, Result, Ok, refl, sym, ap, ◌∙◌, subst, arith, length-append, length-take, length-drop, append_assoc}
 use Rattle.std.proofs.lemmas.List.{take_all, take-append-drop}
 use Rattle.std.proofs.lemmas.List.Elements.{All-drop}
 use Rattle.lert_bay.specs.Files.{Files, IfTold}
@@ -19,7 +19,7 @@ use Rattle.lert_cone.specs.Tally.{Tallied, IsRecounted}
 use Rattle.lert_cone.proofs.Calls.{IsLawful, alone_none}
 use Rattle.lert_cone.proofs.KeysTaken.{map_ok}
 use Rattle.lert_cone.proofs.RecountLaws.{recounted_behind}
-use Rattle.lert_cone.proofs.ReplayStep.{way_counted, way_in_step, way_partway, way_taken, enough_counted, told_once}
+use Rattle.lert_cone.proofs.ReplayStep.{way_counted, way_in_step, way_taken, enough_counted, told_once}
 use Rattle.lert_cone.proofs.SomeLaws.{some_counted}
 use Rattle.lert_cone.proofs.TakeLaws.{on_ok}
 
@@ -57,7 +57,8 @@ module _ {B : Type 0} (bays : Bays B) (lawful : IsLawful bays) (old : Workplace 
       let whole : take count keys ≡ keys = take_all count keys (omega (arith, none, length-drop count keys)) in
       let events_are : counts.listing.events ≡ old.counts.listing.events ++ take count keys = ap (λ (l : Listing). l.events) listing_is in
       record {
-        listing = listing_is ∙ ap (λ (ks : List ℕ). record { settings = old.counts.listing.settings; cone = old.counts.listing.cone; events = ks; closed = old.counts.listing.closed }) (sym events_are);
+        listing = listing_is ∙ ap (λ (ks : List ℕ). record { settings = old.counts.listing.settings; cone = old.counts.listing.cone; events = ks; closed = old.counts.listing.closed })
+            (sym events_are);
         taken = events_are ∙ ap (λ ks. old.counts.listing.events ++ ks) whole;
         recounted = recounted;
         can_log = can_log_then;
@@ -70,7 +71,8 @@ module _ {B : Type 0} (bays : Bays B) (lawful : IsLawful bays) (old : Workplace 
             subst (λ (s : Numbers). HoldsSome s (max n0 (length counts.listing.events)) counts.rows (after 2)) (sym settings_are)
             (subst (λ (rows : List (List BinAt)). HoldsSome old.counts.listing.settings (max n0 (length counts.listing.events)) rows (after 2)) (sym rows_are)
             (subst (λ n. HoldsSome old.counts.listing.settings n old.counts.rows (after 2)) same
-            (subst (λ (files : Files). HoldsSome old.counts.listing.settings (max n0 (length old.counts.listing.events)) old.counts.rows (files 2)) (told_once (bays.files old.bay) seen after told told_after) some)));
+            (subst (λ (files : Files). HoldsSome old.counts.listing.settings (max n0 (length old.counts.listing.events)) old.counts.rows (files 2)) (told_once
+            (bays.files old.bay) seen after told told_after) some)));
         whole = λ seen told some at same. (let never : ⊥ = cc in never);
         keeps = record {
           shows = λ seen told file at same. absurd (let never : ⊥ = cc in never);
@@ -89,7 +91,16 @@ module _ {B : Type 0} (bays : Bays B) (lawful : IsLawful bays) (old : Workplace 
 
     pub can_take_ahead : CanTake bays (drop count keys) (record { bay = old.bay; counts = counts; log = old.log; room = old.room })
     can_take_ahead = record {
-      still = never_true counts.listing.closed (λ closed. absurd (omega (arith, can.before_closing (sym (ap (λ (l : Listing). l.closed) listing_is) ∙ closed), enough, counted, some, length-take count keys, length-drop count keys)));
+      still = never_true counts.listing.closed (λ closed. absurd (omega (
+        arith,
+        can.before_closing (sym (ap (λ (l : Listing). l.closed) listing_is)
+            ∙ closed),
+        enough,
+        counted,
+        some,
+        length-take count keys,
+        length-drop count keys,
+      )));
       own = subst (λ (l : Listing). All (λ key. cone_of l.settings key ≡ l.cone) (drop count keys)) (sym listing_is)
           (All-drop (λ key. cone_of old.counts.listing.settings key ≡ old.counts.listing.cone) count keys can.own);
       fits = subst (λ (l : Listing). length l.events + length (drop count keys) ≤ capacity l.settings) (sym listing_is)
@@ -98,12 +109,18 @@ module _ {B : Type 0} (bays : Bays B) (lawful : IsLawful bays) (old : Workplace 
       can_log = can_log_then;
     }
 
-    pub others_ahead : (new : Workplace B) (result : Result (Unit {0}) TakeFault) → TakesKeys bays (drop count keys) (record { bay = old.bay; counts = counts; log = old.log; room = old.room }) new result →
+    pub others_ahead : (new : Workplace B) (result : Result (Unit {0}) TakeFault) → TakesKeys bays (drop count keys) (record {
+      bay = old.bay;
+      counts = counts;
+      log = old.log;
+      room = old.room;
+    }) new result →
         ReplaysKeys bays n0 keys old new result
     others_ahead new result did =
         let up_to : max n0 (length old.counts.listing.events) ≡ length counts.listing.events = omega (arith, count_is, counted, enough, length-take count keys) in
         let then_most : (ks : List ℕ) → ks ≡ counts.listing.events ++ drop count keys → length ks ≡ max n0 (length ks) =
-        λ ks is. (let long : length ks ≡ length counts.listing.events + length (drop count keys) = ap (length {A = ℕ}) is ∙ length-append counts.listing.events (drop count keys) in omega (arith, long, enough)) in
+        λ ks is. (let long : length ks ≡ length counts.listing.events + length (drop count keys) = ap (length {A = ℕ}) is ∙ length-append counts.listing.events (drop count keys) in omega
+        (arith, long, enough)) in
         record {
           listing = did.listing ∙ ap (λ (l : Listing). record { settings = l.settings; cone = l.cone; events = new.counts.listing.events; closed = l.closed }) listing_is;
           taken = map_ok result (λ (took : new.counts.listing.events ≡ counts.listing.events ++ drop count keys).

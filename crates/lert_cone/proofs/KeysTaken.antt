@@ -1,5 +1,5 @@
 -- Keys in turn: none, one more, and one that isn't taken.
-use Rattle.std.proofs.Common.{◌≡◌, ℕ, ◌+◌, ◌<◌, ◌≤◌, List, [], ◌∷◌, ◌++◌, All, length, take, drop, get_or, Result, Ok, Err, OnOk, Some, refl, sym, ap, ◌∙◌, subst, inl, inr, arith, length-append, append_assoc, append-nil, length-take}
+use Rattle.std.proofs.Common.{◌≡◌, ℕ, ◌+◌, ◌<◌, ◌≤◌, List, [], ◌∷◌, ◌++◌, All, length, take, drop, get_or, Result, Ok, Err, OnOk, refl, sym, ap, ◌∙◌, subst, inl, inr, arith, length-append, append_assoc, append-nil, length-take}
 use Rattle.std.specs.Result.{IsErrAnd}
 use Rattle.std.proofs.lemmas.List.{take_all, take_more, take-append-drop}
 use Rattle.std.proofs.lemmas.List.Elements.{All-nil, All-cons}
@@ -18,7 +18,7 @@ use Rattle.lert_cone.specs.Listing.{Listing}
 use Rattle.lert_cone.specs.Takes.{Workplace, CanTake, AreInStep, TakesKeys}
 use Rattle.lert_cone.proofs.Calls.{IsLawful, alone_none, alone_on}
 use Rattle.lert_cone.proofs.KeyStep.{sound_now, sound_behind}
-use Rattle.lert_cone.proofs.LogLaws.{last_flush_grows}
+use Rattle.lert_cone.proofs.FlushLaws.{last_flush_grows}
 use Rattle.lert_cone.proofs.TakeLaws.{handed_on}
 
 -- what follows from an answer of Ok
@@ -141,7 +141,8 @@ module _ {B : Type 0} (bays : Bays B) (lawful : IsLawful bays) where
         record {
           still = ap (λ (l : Listing). l.closed) is ∙ can.still;
           own = subst (λ (l : Listing). All (λ key. cone_of l.settings key ≡ l.cone) (get_or keys i 0 ∷ [])) (sym is)
-              (All-cons (λ key. cone_of old.counts.listing.settings key ≡ old.counts.listing.cone) (get_or keys i 0) [] (can.own i 0 within) (All-nil (λ key. cone_of old.counts.listing.settings key ≡ old.counts.listing.cone)));
+              (All-cons (λ key. cone_of old.counts.listing.settings key ≡ old.counts.listing.cone) (get_or keys i 0) [] (can.own i 0 within) (All-nil
+              (λ key. cone_of old.counts.listing.settings key ≡ old.counts.listing.cone)));
           fits = subst (λ (l : Listing). length l.events + 1 ≤ capacity l.settings) (sym is)
               (omega (arith, can.fits, within, length-append old.counts.listing.events (take i keys), length-take i keys));
           counted = first.counted;

@@ -1,11 +1,14 @@
 pub mod Admits
 pub mod AdoptLaws
+pub mod AppendLaws
 pub mod Calls
 pub mod DueLaws
 pub mod EndCounted
 pub mod EndStep
 pub mod EndTaken
 mod Examples
+pub mod FaultLaws
+pub mod FlushLaws
 pub mod FramedLaws
 pub mod GateLaws
 pub mod KeyCounted
@@ -15,6 +18,7 @@ pub mod KeyTaken
 pub mod KeysReplayed
 pub mod KeysTaken
 pub mod LogLaws
+pub mod MadeReports
 pub mod PacketTaken
 pub mod RecordLaws
 pub mod ReplayLaws

@@ -1,5 +1,5 @@
 -- A packet through the calls that it makes: it isn't appended, or it is, and its keys are taken.
-use Rattle.std.proofs.Common.{◌≡◌, ◌≢◌, ℕ, ◌+◌, ◌^◌, ◌<◌, ◌≤◌, List, [], ◌∷◌, ◌++◌, All, length, Result, Ok, Err, OnOk, OnErr, Some, refl, sym, ap, ◌∙◌, subst, inl, inr, arith}
+use Rattle.std.proofs.Common.{◌≡◌, ℕ, ◌+◌, ◌^◌, ◌<◌, ◌≤◌, List, [], ◌∷◌, ◌++◌, All, length, Result, Ok, Err, OnOk, OnErr, Some, refl, ap, ◌∙◌, subst, inl, inr, arith}
 use Rattle.std.specs.Result.{IsErrAnd}
 use Rattle.lert_base.specs.Packet.{Packet, events_of}
 use Rattle.lert_bay.specs.Files.{Files, IfTold, Turns}
@@ -16,17 +16,16 @@ use Rattle.lert_cone.specs.declared.tally.TakeFault.{TakeFault}
 use Rattle.lert_cone.specs.declared.tally.TakeFault.TheVariants.{Failed}
 use Rattle.lert_cone.specs.Bays.{Bays}
 use Rattle.lert_cone.specs.History.{most_payload}
-use Rattle.lert_cone.specs.InStep.{IsInStep, IsPartway}
-use Rattle.lert_cone.specs.Record.{LogPlace}
+use Rattle.lert_cone.specs.InStep.{IsInStep}
 use Rattle.lert_cone.specs.Sound.{IsSoundOver}
-use Rattle.lert_cone.specs.Takes.{Workplace, CanTake, CanTakePacket, IsWholeAt, AreInStep, TakesKeys, TakesPacket}
+use Rattle.lert_cone.specs.Takes.{Workplace, CanTake, CanTakePacket, IsWholeAt, TakesKeys, TakesPacket}
 use Rattle.lert_cone.specs.Wrote.{IsShutIfTold, LeavesAlone}
 use Rattle.lert_cone.proofs.Calls.{IsLawful, now_since, alone_others, settled_alone, shut_alone}
 use Rattle.lert_cone.proofs.KeysTaken.{ok_holds}
 use Rattle.lert_cone.proofs.SoundLaws.{turns_back}
-use Rattle.lert_cone.proofs.StandLaws.{sound_appending, up_appended, records_there, each_there, partway_packet, any_turn, turns_on, appended_there}
+use Rattle.lert_cone.proofs.AppendLaws.{sound_appending, up_appended, records_there, each_there, partway_packet, appended_there}
+use Rattle.lert_cone.proofs.FaultLaws.{any_turn, turns_on}
 use Rattle.lert_cone.proofs.TakeLaws.{handed_on}
-use Rattle.std.specs.Result.{is_err}
 
 -- what the append of a packet says
 pub record AppendsPacket {B E : Type 0} (bays : Bays B) (packet : Packet) (bay bay_after : B) (old new : Log) (result : Result (Unit {0}) E) : Type 0 where
@@ -45,11 +44,13 @@ pub record AppendsPacket {B E : Type 0} (bays : Bays B) (packet : Packet) (bay b
   pub cause : HasCause (bays.faults bay) (bays.faults bay_after) result
   pub mark : bays.mark bay_after ≡ bays.mark bay
 
-pub appends_ok : {B E : Type 0} (bays : Bays B) (packet : Packet) (bay bay_after : B) (old new : Log) (result : Result (Unit {0}) E) → result ≡ Ok tt → AppendsPacket bays packet bay bay_after old new result →
+pub appends_ok : {B E : Type 0} (bays : Bays B) (packet : Packet) (bay bay_after : B) (old new : Log) (result : Result (Unit {0}) E) → result ≡ Ok tt →
+    AppendsPacket bays packet bay bay_after old new result →
     AppendsPacket {E = E} bays packet bay bay_after old new (Ok tt)
 appends_ok {B} {E} bays packet bay bay_after old new result is appends = subst (λ (r : Result (Unit {0}) E). AppendsPacket bays packet bay bay_after old new r) is appends
 
-module _ {B : Type 0} (bays : Bays B) (lawful : IsLawful bays) (old : Workplace B) (packet : Packet) (journal journal_after : Log) (can : CanTakePacket bays packet old journal) (fit : All (λ key. key < 2 ^ 64) packet.keys) (bay : B) where
+module _ {B : Type 0} (bays : Bays B) (lawful : IsLawful bays) (old : Workplace B) (packet : Packet) (journal journal_after : Log) (can : CanTakePacket bays packet old journal) (fit : All
+    (λ key. key < 2 ^ 64) packet.keys) (bay : B) where
   -- whatever comes of the append
   module _ {E : Type 0} (result : Result (Unit {0}) E) (appends : AppendsPacket bays packet old.bay bay journal journal_after result) where
     now : (image : Files) → bays.leaves bay image → bays.left_since bay (bays.moment old.bay) image
@@ -67,13 +68,15 @@ module _ {B : Type 0} (bays : Bays B) (lawful : IsLawful bays) (old : Workplace 
     there : (seen : Files) → bays.files old.bay ≡ Some seen → (history : List Packet) → IsWholeAt bays old journal seen history →
         InEach (bays.leaves old.bay) 0 (λ bytes. HasPackets (most_payload old.counts.listing.settings) bytes 32 history journal.gate)
     there seen told history whole =
-        records_there (bays.leaves old.bay) (bays.left_since bay (bays.moment old.bay)) seen old.counts old.log journal.gate history packet can.counted can.still (lawful.as_read old.bay seen told) whole
+        records_there (bays.leaves old.bay) (bays.left_since bay (bays.moment old.bay)) seen old.counts old.log journal.gate history packet can.counted can.still
+        (lawful.as_read old.bay seen told) whole
         can.journaled fit (fits_here seen history whole) (others_here seen told) (before_here seen told)
 
     sound_append : IfTold (bays.files old.bay) (λ seen. (history : List Packet) → IsWholeAt bays old journal seen history →
         (image : Files) → bays.left_since bay (bays.moment old.bay) image → IsSoundOver old.counts.listing.settings old.counts.listing.cone history (Some packet) image)
     sound_append seen told history whole image may =
-        sound_appending (bays.leaves old.bay) (bays.left_since bay (bays.moment old.bay)) seen old.counts old.log journal.gate history packet can.counted can.still (lawful.as_read old.bay seen told) whole
+        sound_appending (bays.leaves old.bay) (bays.left_since bay (bays.moment old.bay)) seen old.counts old.log journal.gate history packet can.counted can.still
+        (lawful.as_read old.bay seen told) whole
         can.journaled fit (fits_here seen history whole) (others_here seen told) (before_here seen told)
         (each_there (bays.leaves old.bay) (bays.left_since bay (bays.moment old.bay)) old.counts.listing.settings journal.file journal.most journal.gate history packet can.file can.most
         (appends.each_moment seen told 32 history) (there seen told history whole)) image may
@@ -106,9 +109,15 @@ module _ {B : Type 0} (bays : Bays B) (lawful : IsLawful bays) (old : Workplace 
 
   -- it isn't appended
   pub packet_refused : {E : Type 0} (result : Result (Unit {0}) E) (failed : E) → result ≡ Err failed → AppendsPacket bays packet old.bay bay journal journal_after result → (room : ℕ) →
-      (given : Result (Unit {0}) TakeFault) → IsErrAnd given (λ fault. fault ≡ Failed) → TakesPacket bays packet old (record { bay = bay; counts = old.counts; log = old.log; room = room }) journal journal_after given
+      (given : Result (Unit {0}) TakeFault) → IsErrAnd given (λ fault. fault ≡ Failed) → TakesPacket bays packet old (record {
+        bay = bay;
+        counts = old.counts;
+        log = old.log;
+        room = room;
+      }) journal journal_after given
   packet_refused {E} result failed is appends room given given_is =
-      subst (λ (r : Result (Unit {0}) TakeFault). TakesPacket bays packet old (record { bay = bay; counts = old.counts; log = old.log; room = room }) journal journal_after r) (handed_on given Failed given_is)
+      subst (λ (r : Result (Unit {0}) TakeFault). TakesPacket bays packet old (record { bay = bay; counts = old.counts; log = old.log; room = room }) journal journal_after r)
+      (handed_on given Failed given_is)
       (refused_by failed room (subst (λ (r : Result (Unit {0}) E). AppendsPacket bays packet old.bay bay journal journal_after r) is appends))
 
   -- it is appended
@@ -141,15 +150,22 @@ module _ {B : Type 0} (bays : Bays B) (lawful : IsLawful bays) (old : Workplace 
     up_then : (seen : Files) → bays.files old.bay ≡ Some seen → (history : List Packet) → IsWholeAt bays old journal seen history → (mid : Files) → bays.files bay ≡ Some mid →
         IsInStep (bays.leaves bay) mid (history ++ packet ∷ []) old.counts.listing old.counts.rows old.counts.due.reports old.log
     up_then seen told history whole mid told_mid =
-        let appended_here = appended_there {T = Unit {0}} {E = E} (Ok tt) (bays.leaves old.bay) (bays.leaves bay) old.counts.listing.settings journal.file journal.most journal.gate journal_after.gate packet can.file can.most refl
+        let appended_here = appended_there {T = Unit {0}} {E = E} (Ok tt) (bays.leaves old.bay) (bays.leaves bay) old.counts.listing.settings journal.file journal.most journal.gate
+        journal_after.gate packet can.file can.most refl
         (appends.appended seen told) history (there (Ok tt) appends seen told history whole) in
         up_appended (bays.leaves old.bay) (bays.left_since bay (bays.moment old.bay)) seen old.counts old.log journal.gate history packet can.counted can.still (lawful.as_read old.bay seen told) whole
-        can.journaled fit (fits_here (Ok tt) appends seen history whole) (others_here (Ok tt) appends seen told) (before_here (Ok tt) appends seen told) (bays.leaves bay) mid journal_after.gate (now (Ok tt) appends)
+        can.journaled fit (fits_here (Ok tt) appends seen history whole) (others_here (Ok tt) appends seen told) (before_here (Ok tt) appends seen told) (bays.leaves bay) mid journal_after.gate
+        (now (Ok tt) appends)
         (ap (λ (j : Log). j.gate) appends.moved) appended_here
         (subst (λ (f : ℕ). IsWhollySettled (bays.leaves bay) mid f) can.file (appends.settled mid told_mid))
         (settled_alone bays lawful 1 old.bay bay (log_alone (Ok tt) appends) seen told whole.in_step.log_settled mid told_mid)
 
-    pub packet_taken : (room : ℕ) (new : Workplace B) (result : Result (Unit {0}) TakeFault) → TakesKeys bays packet.keys (record { bay = bay; counts = old.counts; log = old.log; room = room }) new result →
+    pub packet_taken : (room : ℕ) (new : Workplace B) (result : Result (Unit {0}) TakeFault) → TakesKeys bays packet.keys (record {
+      bay = bay;
+      counts = old.counts;
+      log = old.log;
+      room = room;
+    }) new result →
         TakesPacket bays packet old new journal journal_after result
     packet_taken room new result did = record {
       listing = did.listing;
@@ -167,8 +183,12 @@ module _ {B : Type 0} (bays : Bays B) (lawful : IsLawful bays) (old : Workplace 
           let mid = appends.seen.told seen told in
           elim (did.keeps.journal.time.known (bays.moment old.bay) image appends.time.later may) [
             | inl past ↦ sound_append (Ok tt) appends seen told history whole image past
-            | inr here ↦ inr (packet, refl, did.each_moment mid.0 mid.1 (history ++ packet ∷ []) (partway_packet old.counts.listing.settings history packet old.counts.listing.events whole.keys)
-                (up_then seen told history whole mid.0 mid.1) image here)
+            | inr here ↦ inr (
+              packet,
+              refl,
+              did.each_moment mid.0 mid.1 (history ++ packet ∷ []) (partway_packet old.counts.listing.settings history packet old.counts.listing.events whole.keys)
+                  (up_then seen told history whole mid.0 mid.1) image here,
+            )
           ];
       sound = λ seen told history whole.
           let mid = appends.seen.told seen told in
@@ -176,7 +196,8 @@ module _ {B : Type 0} (bays : Bays B) (lawful : IsLawful bays) (old : Workplace 
       shows = did.keeps.shows;
       seen = turns_on (OthersStay journal.file) (λ before after. after 0 ≡ before 0) (bays.files old.bay) (bays.files bay) (bays.files new.bay) appends.seen did.keeps.journal.seen;
       now = λ image may. lawful.since_earlier new.bay (bays.moment old.bay) (bays.moment bay) image appends.time.later (did.keeps.journal.now image may);
-      time = lasts_on (bays.moment old.bay) (bays.moment bay) (bays.moment new.bay) (bays.left_since old.bay) (bays.left_since bay) (bays.left_since new.bay) appends.time did.keeps.journal.time (lawful.since_earlier new.bay);
+      time = lasts_on (bays.moment old.bay) (bays.moment bay) (bays.moment new.bay) (bays.left_since old.bay) (bays.left_since bay) (bays.left_since new.bay) appends.time did.keeps.journal.time
+          (lawful.since_earlier new.bay);
       failed = λ same. risen_since (bays.faults old.bay) (bays.faults bay) (bays.faults new.bay) appends.cause.never_falls did.keeps.never_falls (did.keeps.failed same);
       never_falls = omega (arith, appends.cause.never_falls, did.keeps.never_falls);
       mark = did.keeps.mark ∙ appends.mark;

@@ -24,7 +24,8 @@ use Rattle.lert_cone.specs.Tally.{Tallied}
 use Rattle.lert_cone.specs.Record.{LogPlace, payload_at, payload_len}
 use Rattle.lert_cone.proofs.TakeLaws.{handed_on}
 
-pub payload_is_at : (log : LogPlace) (kind : LogKind) (n0 : ℕ) (directory : List ℕ) (reports : List Report) → log_payload kind n0 32 1 directory (drop log.named reports) ≡ payload_at log kind n0 directory reports
+pub payload_is_at : (log : LogPlace) (kind : LogKind) (n0 : ℕ) (directory : List ℕ) (reports : List Report) → log_payload kind n0 32 1 directory
+    (drop log.named reports) ≡ payload_at log kind n0 directory reports
 unfolding payload_at
 payload_is_at log kind n0 directory reports = refl
 
@@ -83,7 +84,8 @@ directory_few s rows are =
     omega (arith, (are.each (k + 1) (omega arith) (omega (arith, are.levels, below))).few, ap (length {A = BinAt}) is)) in
     omega (arith, directory_short s.bins rows few, ap (λ n. n * (1 + s.bins)) are.levels)
 
-pub record_fits : (s : Numbers) (rows : List (List BinAt)) (log : LogPlace) (directory : List ℕ) (reports all : List Report) → AreRows s rows → log.most ≡ most_record s → directory ≡ directory_text rows → reports ≡ all → length all ≤ s.room →
+pub record_fits : (s : Numbers) (rows : List (List BinAt)) (log : LogPlace) (directory : List ℕ) (reports all : List Report) → AreRows s rows → log.most ≡ most_record s →
+    directory ≡ directory_text rows → reports ≡ all → length all ≤ s.room →
     payload_len log directory reports ≤ log.most
 record_fits s rows log directory reports all are most_is directory_is reports_are few =
     omega (arith, most_is, ap (length {A = ℕ}) directory_is, directory_few s rows are, ap (length {A = Report}) reports_are, few, length-drop log.named reports)
@@ -95,8 +97,10 @@ most_few s valid =
     omega (arith, product, valid.limits.room_to)
 
 -- and a record more leaves a log in its bounds
-pub logging_more : (t a : Tallied) (log log_after : LogPlace) (room room_after : ℕ) (key : ℕ) (directory : List ℕ) (reports : List Report) → IsValid t.listing.settings → IsLogging t log room → a.listing ≡ record t.listing { events = t.listing.events ++ key ∷ [] } →
-    log_after.most ≡ log.most → log_after.named ≡ length a.due.reports → log_after.gate ≡ log.gate + 5 + payload_len log directory reports → payload_len log directory reports ≤ log.most → room_after ≡ room → IsLogging a log_after room_after
+pub logging_more : (t a : Tallied) (log log_after : LogPlace) (room room_after : ℕ) (key : ℕ) (directory : List ℕ) (reports : List Report) → IsValid t.listing.settings → IsLogging t log room →
+    a.listing ≡ record t.listing { events = t.listing.events ++ key ∷ [] } →
+    log_after.most ≡ log.most → log_after.named ≡ length a.due.reports → log_after.gate ≡ log.gate + 5 + payload_len log directory reports → payload_len log directory reports ≤ log.most →
+    room_after ≡ room → IsLogging a log_after room_after
 logging_more t a log log_after room room_after key directory reports valid logging is most_is named_is gate_is fits room_is = record {
   most = most_is ∙ logging.most ∙ ap (λ (l : Listing). most_record l.settings) (sym is);
   named = omega (arith, named_is);
@@ -106,14 +110,17 @@ logging_more t a log log_after room room_after key directory reports valid loggi
 
 -- ---- an append
 
-pub same_record : {B E : Type 0} (bays : Bays B) (kind : LogKind) (n n_now : ℕ) (directory directory_now : List ℕ) (reports reports_now : List Report) (bay bay_after : B) (old new : LogPlace) (result : Result (Unit {0}) E) →
-    n ≡ n_now → directory ≡ directory_now → reports ≡ reports_now → AppendsRecord bays kind n directory reports bay bay_after old new result → AppendsRecord bays kind n_now directory_now reports_now bay bay_after old new result
+pub same_record : {B E : Type 0} (bays : Bays B) (kind : LogKind) (n n_now : ℕ) (directory directory_now : List ℕ) (reports reports_now : List Report) (bay bay_after : B) (old new : LogPlace)
+    (result : Result (Unit {0}) E) →
+    n ≡ n_now → directory ≡ directory_now → reports ≡ reports_now → AppendsRecord bays kind n directory reports bay bay_after old new result →
+    AppendsRecord bays kind n_now directory_now reports_now bay bay_after old new result
 same_record bays kind n n_now directory directory_now reports reports_now bay bay_after old new result n_is directory_is reports_are appends =
     subst (λ k. AppendsRecord bays kind k directory_now reports_now bay bay_after old new result) n_is
     (subst (λ (d : List ℕ). AppendsRecord bays kind n d reports_now bay bay_after old new result) directory_is
     (subst (λ (rs : List Report). AppendsRecord bays kind n directory rs bay bay_after old new result) reports_are appends))
 
-pub refused_record : {B E : Type 0} (bays : Bays B) (kind : LogKind) (n : ℕ) (directory : List ℕ) (reports : List Report) (bay bay_after : B) (old new : LogPlace) (given : Result (Unit {0}) E) (failed : E) →
+pub refused_record : {B E : Type 0} (bays : Bays B) (kind : LogKind) (n : ℕ) (directory : List ℕ) (reports : List Report) (bay bay_after : B) (old new : LogPlace) (given : Result (Unit {0}) E)
+    (failed : E) →
     IsErrAnd given (λ g. g ≡ failed) → AppendsRecord bays kind n directory reports bay bay_after old new (Err failed) → AppendsRecord bays kind n directory reports bay bay_after old new given
 refused_record {B} {E} bays kind n directory reports bay bay_after old new given failed given_is =
     subst (λ (r : Result (Unit {0}) E). AppendsRecord bays kind n directory reports bay bay_after old new r) (handed_on given failed given_is)

@@ -20,8 +20,8 @@ use Rattle.lert_cone.specs.Sound.{IsJournal, IsSound, but_last}
 use Rattle.lert_cone.specs.Stands.{IsWhole}
 use Rattle.lert_cone.specs.Tally.{Tallied, IsCounted}
 use Rattle.lert_cone.proofs.GateLaws.{keys_next, keys_cut, never_leaves}
-use Rattle.lert_cone.proofs.LogLaws.{last_flush_grows}
-use Rattle.lert_cone.proofs.StandLaws.{whole_of}
+use Rattle.lert_cone.proofs.FlushLaws.{last_flush_grows}
+use Rattle.lert_cone.proofs.AppendLaws.{whole_of}
 use Rattle.lert_cone.proofs.StepLaws.{sound_of}
 
 -- a flush position is its own last one
@@ -42,7 +42,8 @@ late_at s n0 before n least enough = omega (arith, last_flush_again s before, la
 module _ (leaves : Files → Type 0) (seen : Files) (history : List Packet) (listing : Listing) (rows : List (List BinAt)) (reports : List Report) (log : LogPlace) (n0 : ℕ)
     (on_way : IsOnWay leaves seen history listing rows reports log n0) where
   -- up to n0 events go by without a change
-  pub on_way_counted : (later : Listing) (keys : List ℕ) (count : ℕ) → later ≡ record listing { events = listing.events ++ take count keys } → count ≤ n0 - length listing.events → IsOnWay leaves seen history later rows reports log n0
+  pub on_way_counted : (later : Listing) (keys : List ℕ) (count : ℕ) → later ≡ record listing { events = listing.events ++ take count keys } → count ≤ n0 - length listing.events →
+      IsOnWay leaves seen history later rows reports log n0
   on_way_counted later keys count is early =
       let long : length (listing.events ++ take count keys) ≡ length listing.events + length (take count keys) = length-append listing.events (take count keys) in
       let same : max n0 (length listing.events) ≡ max n0 (length (listing.events ++ take count keys)) = omega (arith, early, long, length-take count keys) in
@@ -103,11 +104,13 @@ module _ (leaves : Files → Type 0) (seen : Files) (history : List Packet) (lis
       } in
       let whole : listing.closed ≡ true → take (max n0 (length listing.events)) (events_of history) ≡ events_of history =
       λ ended. take_all (max n0 (length listing.events)) (events_of history) (omega (arith, on_way.closed_behind ended)) in
-      sound_of s listing.cone history (take (max n0 (length listing.events)) (events_of history)) rows listing.closed on_way.in_step.logged log.gate valid (subst (λ n. IsAt s n rows) (sym long) at) partway whole on_way.in_step.log_of image
+      sound_of s listing.cone history (take (max n0 (length listing.events)) (events_of history)) rows listing.closed on_way.in_step.logged log.gate valid (subst (λ n. IsAt s n rows)
+      (sym long) at) partway whole on_way.in_step.log_of image
       (on_way.in_step.journal image may) (on_way.in_step.log_there image may) (on_way.in_step.frames image may)
 
   -- where files and memory go together after more keys, by calls that may have written, the cone is on its way
-  pub on_way_behind : (leaves_after : Files → Type 0) (seen_after : Files) (later : Listing) (rows_after : List (List BinAt)) (reports_after : List Report) (log_after : LogPlace) (events rest : List ℕ) →
+  pub on_way_behind : (leaves_after : Files → Type 0) (seen_after : Files) (later : Listing) (rows_after : List (List BinAt)) (reports_after : List Report) (log_after : LogPlace)
+      (events rest : List ℕ) →
       later ≡ record listing { events = events } → events_of history ≡ events ++ rest → n0 ≤ length events → IsInStep leaves_after seen_after history later rows_after reports_after log_after →
       IsOnWay leaves_after seen_after history later rows_after reports_after log_after n0
   on_way_behind leaves_after seen_after later rows_after reports_after log_after events rest is begins enough step =
@@ -129,13 +132,15 @@ module _ (leaves : Files → Type 0) (seen : Files) (history : List Packet) (lis
   journal_on_way read = on_way.in_step.journal seen read
 
   -- nothing at the gate leaves the format
-  pub never_on_way : leaves seen → (done : List Packet) (gate at : ℕ) → IsPast history done listing.events gate → ReplayLeavesAt listing.settings listing.cone n0 listing.closed (length listing.events) (seen 0) gate at → ⊥
+  pub never_on_way : leaves seen → (done : List Packet) (gate at : ℕ) → IsPast history done listing.events gate → ReplayLeavesAt listing.settings listing.cone n0 listing.closed
+      (length listing.events) (seen 0) gate at → ⊥
   never_on_way read done gate at past =
       never_leaves listing.settings listing.cone (seen 0) history done listing.events gate (journal_on_way read) past n0 listing.closed at on_way.n0_most on_way.closed_behind
 
 -- ---- a packet that is cut at n0
 
-module _ (leaves : Files → Type 0) (seen : Files) (history done : List Packet) (listing later : Listing) (rows : List (List BinAt)) (reports : List Report) (log : LogPlace) (n0 gate : ℕ) (packet : Packet) (count : ℕ)
+module _ (leaves : Files → Type 0) (seen : Files) (history done : List Packet) (listing later : Listing) (rows : List (List BinAt)) (reports : List Report) (log : LogPlace) (n0 gate : ℕ)
+    (packet : Packet) (count : ℕ)
     (on_way : IsOnWay leaves seen history listing rows reports log n0) (past : IsPast history done listing.events gate) (next : IsNext history done packet)
     (count_is : count ≡ min (n0 - length listing.events) (length packet.keys)) (later_is : later ≡ record listing { events = listing.events ++ take count packet.keys }) where
   -- its first keys are counted
@@ -197,7 +202,8 @@ module _ (leaves : Files → Type 0) (seen : Files) (history done : List Packet)
 -- ---- the end of the way
 
 -- behind all packets a cone with its counts is whole
-pub whole_on_way : (leaves : Files → Type 0) (seen : Files) (history : List Packet) (t : Tallied) (gate : ℕ) (log : LogPlace) (n0 : ℕ) → IsCounted t → IsOnWay leaves seen history t.listing t.rows t.due.reports log n0 →
+pub whole_on_way : (leaves : Files → Type 0) (seen : Files) (history : List Packet) (t : Tallied) (gate : ℕ) (log : LogPlace) (n0 : ℕ) → IsCounted t →
+    IsOnWay leaves seen history t.listing t.rows t.due.reports log n0 →
     IsPast history history t.listing.events gate → n0 ≤ length t.listing.events → leaves seen → IsWhole leaves seen t.listing t.rows t.due.reports gate log history
 whole_on_way leaves seen history t gate log n0 counted on_way past enough read =
     whole_of leaves seen history t gate log counted

@@ -43,13 +43,15 @@ use Rattle.lert_cone.proofs.WroteLaws.{settled_through, torn_behind}
 -- ---- calls that read alone
 
 -- a file stays wholly settled
-pub read_settled : (file : ℕ) (before after : Option Files) (leaves leaves_after : Files → Type 0) → after ≡ before → KeepsImages leaves leaves_after → IfTold before (λ seen. IsWhollySettled leaves seen file) → IfTold after (λ seen. IsWhollySettled leaves_after seen file)
+pub read_settled : (file : ℕ) (before after : Option Files) (leaves leaves_after : Files → Type 0) → after ≡ before → KeepsImages leaves leaves_after → IfTold before
+    (λ seen. IsWhollySettled leaves seen file) → IfTold after (λ seen. IsWhollySettled leaves_after seen file)
 read_settled file before after leaves leaves_after same images settled seen told =
     let was = settled seen (sym same ∙ told) in
     record { within = was.within; same = λ image may. was.same image ((images image).0 may) }
 
 -- and a gate in it closed
-pub read_shut : (file gate : ℕ) (before after : Option Files) (leaves leaves_after : Files → Type 0) → after ≡ before → KeepsImages leaves leaves_after → IsShutIfTold before leaves file gate → IsShutIfTold after leaves_after file gate
+pub read_shut : (file gate : ℕ) (before after : Option Files) (leaves leaves_after : Files → Type 0) → after ≡ before → KeepsImages leaves leaves_after → IsShutIfTold before leaves file gate →
+    IsShutIfTold after leaves_after file gate
 read_shut file gate before after leaves leaves_after same images shut seen told =
     let was = shut seen (sym same ∙ told) in
     record {
@@ -58,7 +60,8 @@ read_shut file gate before after leaves leaves_after same images shut seen told 
     }
 
 -- a gate that is closed as the file reads is closed in every image, where the file is settled
-pub shut_there : (file gate : ℕ) (told : Option Files) (leaves : Files → Type 0) → IfTold told (λ seen. IsWhollySettled leaves seen file) → IfTold told (λ seen. IsClosed (seen file) gate) → IsShutIfTold told leaves file gate
+pub shut_there : (file gate : ℕ) (told : Option Files) (leaves : Files → Type 0) → IfTold told (λ seen. IsWhollySettled leaves seen file) → IfTold told (λ seen. IsClosed (seen file) gate) →
+    IsShutIfTold told leaves file gate
 shut_there file gate told leaves settled closed seen is = record {
   settled = settled seen is;
   closed = λ image may. closed_behind gate (length (image file)) (seen file) (image file) (closed seen is) (torn_behind (seen file) (image file) (gate + 1) ((settled seen is).same image may));
@@ -67,8 +70,10 @@ shut_there file gate told leaves settled closed seen is = record {
 -- ---- the next packet
 
 -- a packet that stands at the gate behind those that were read is the next one
-pub next_there : (leaves : Files → Type 0) (seen : Files) (history done : List Packet) (listing : Listing) (rows : List (List BinAt)) (reports : List Report) (log : LogPlace) (n0 gate : ℕ) (packet : Packet) →
-    IsOnWay leaves seen history listing rows reports log n0 → leaves seen → IsPast history done listing.events gate → HoldsPacket listing.settings listing.cone (most_payload listing.settings) (seen 0) gate packet → IsNext history done packet
+pub next_there : (leaves : Files → Type 0) (seen : Files) (history done : List Packet) (listing : Listing) (rows : List (List BinAt)) (reports : List Report) (log : LogPlace) (n0 gate : ℕ)
+    (packet : Packet) →
+    IsOnWay leaves seen history listing rows reports log n0 → leaves seen → IsPast history done listing.events gate → HoldsPacket listing.settings listing.cone (most_payload listing.settings)
+    (seen 0) gate packet → IsNext history done packet
 next_there leaves seen history done listing rows reports log n0 gate packet on_way read past holds =
     is_next listing.settings listing.cone (seen 0) history done listing.events gate (journal_on_way leaves seen history listing rows reports log n0 on_way read) past packet holds
 
@@ -115,7 +120,8 @@ ends_finished false = refl
 
 module _ {B : Type 0} (files : B → Option Files) (leaves : B → Files → Type 0) (faults : B → ℕ) where
   pub replaying_cone : (cone : Standing B) (tally : Tallied) (journal : Log) (room keys_room : ℕ) → cone.state ≡ Replaying → journal.file ≡ 0 → journal.most ≡ most_payload cone.listing.settings
-      → room ≡ room_of cone.listing.settings → keys_room ≡ 4 * cone.listing.settings.packet → cone.events ≤ capacity cone.listing.settings → IsValid cone.listing.settings → faults cone.made ≤ faults cone.bay
+      → room ≡ room_of cone.listing.settings → keys_room ≡ 4 * cone.listing.settings.packet → cone.events ≤ capacity cone.listing.settings → IsValid cone.listing.settings →
+      faults cone.made ≤ faults cone.bay
       → IsReplaying files leaves cone tally room → IsCone files leaves faults cone tally journal room keys_room
   replaying_cone cone tally journal room keys_room state_is file most roomy keys_roomy within valid falls replaying = record {
     file = file;
@@ -139,13 +145,41 @@ module _ {B : Type 0} (files : B → Option Files) (leaves : B → Files → Typ
 
   -- as it is adopted
   pub adopted_cone : (bay made : B) (s : Numbers) (cone : ℕ) (tally : Tallied) (journal : Log) (log : LogPlace) (last : LogPoint) (room keys_room : ℕ) → IsValid s
-      → tally.listing ≡ record { settings = s; cone = cone; events = []; closed = last.closed } → IsRecounted tally last.n0 → journal ≡ record { file = 0; gate = last.offset; most = most_payload s } → last.offset ≡ 32 → last.log_end ≤ 2 ^ 62
+      → tally.listing ≡ record { settings = s; cone = cone; events = []; closed = last.closed } → IsRecounted tally last.n0 → journal ≡ record {
+        file = 0;
+        gate = last.offset;
+        most = most_payload s;
+      } → last.offset ≡ 32 → last.log_end ≤ 2 ^ 62
       → log ≡ record { gate = last.log_end; most = most_record s; named = length tally.due.reports } → room ≡ room_of s → keys_room ≡ 4 * s.packet → made ≡ bay
       → IfTold (files bay) (λ seen. IsWhollySettled (leaves bay) seen 0) → IsShutIfTold (files bay) (leaves bay) 1 last.log_end
-      → IsCone files leaves faults (record { bay = bay; made = made; listing = tally.listing; rows = tally.rows; reports = tally.due.reports; events = 0; state = Replaying; over = None; gate = journal.gate; log = log; last = last }) tally journal room keys_room
+      → IsCone files leaves faults (record {
+        bay = bay;
+        made = made;
+        listing = tally.listing;
+        rows = tally.rows;
+        reports = tally.due.reports;
+        events = 0;
+        state = Replaying;
+        over = None;
+        gate = journal.gate;
+        log = log;
+        last = last;
+      }) tally journal room keys_room
   adopted_cone bay made s cone tally journal log last room keys_room valid is recounted journal_is offset_is reach log_is room_is keys_room_is made_is settled shut =
       replaying_cone
-      (record { bay = bay; made = made; listing = tally.listing; rows = tally.rows; reports = tally.due.reports; events = 0; state = Replaying; over = None; gate = journal.gate; log = log; last = last }) tally journal room keys_room
+      (record {
+        bay = bay;
+        made = made;
+        listing = tally.listing;
+        rows = tally.rows;
+        reports = tally.due.reports;
+        events = 0;
+        state = Replaying;
+        over = None;
+        gate = journal.gate;
+        log = log;
+        last = last;
+      }) tally journal room keys_room
       refl (ap (λ (j : Log). j.file) journal_is) (ap (λ (j : Log). j.most) journal_is ∙ ap (λ (l : Listing). most_payload l.settings) (sym is))
       (room_is ∙ ap (λ (l : Listing). room_of l.settings) (sym is)) (keys_room_is ∙ ap (λ (l : Listing). 4 * l.settings.packet) (sym is)) (omega arith)
       (subst (λ (l : Listing). IsValid l.settings) (sym is) valid) (omega (arith, ap faults made_is))
@@ -166,11 +200,40 @@ module _ {B : Type 0} (files : B → Option Files) (leaves : B → Files → Typ
       })
 
   -- behind its last packet
-  pub ready_cone : (bay made : B) (tally : Tallied) (events room keys_room : ℕ) (journal journal_after : Log) (log : LogPlace) (last : LogPoint) (over : Option Packet) (state state_after : ConeState) (end : ℕ)
-      → state ≡ Replaying → state_after ≡ cond last.closed Finished Running → last.n0 ≤ length tally.listing.events → journal.gate ≡ end → journal_after ≡ record { file = 0; gate = end; most = most_payload tally.listing.settings }
+  pub ready_cone : (bay made : B) (tally : Tallied) (events room keys_room : ℕ) (journal journal_after : Log) (log : LogPlace) (last : LogPoint) (over : Option Packet)
+      (state state_after : ConeState) (end : ℕ)
+      → state ≡ Replaying → state_after ≡ cond last.closed Finished Running → last.n0 ≤ length tally.listing.events → journal.gate ≡ end → journal_after ≡ record {
+        file = 0;
+        gate = end;
+        most = most_payload tally.listing.settings;
+      }
       → IsShutIfTold (files bay) (leaves bay) 0 end
-      → IsCone files leaves faults (record { bay = bay; made = made; listing = tally.listing; rows = tally.rows; reports = tally.due.reports; events = events; state = state; over = over; gate = journal.gate; log = log; last = last }) tally journal room keys_room
-      → IsCone files leaves faults (record { bay = bay; made = made; listing = tally.listing; rows = tally.rows; reports = tally.due.reports; events = events; state = state_after; over = over; gate = journal_after.gate; log = log; last = last }) tally journal_after room keys_room
+      → IsCone files leaves faults (record {
+        bay = bay;
+        made = made;
+        listing = tally.listing;
+        rows = tally.rows;
+        reports = tally.due.reports;
+        events = events;
+        state = state;
+        over = over;
+        gate = journal.gate;
+        log = log;
+        last = last;
+      }) tally journal room keys_room
+      → IsCone files leaves faults (record {
+        bay = bay;
+        made = made;
+        listing = tally.listing;
+        rows = tally.rows;
+        reports = tally.due.reports;
+        events = events;
+        state = state_after;
+        over = over;
+        gate = journal_after.gate;
+        log = log;
+        last = last;
+      }) tally journal_after room keys_room
   ready_cone bay made tally events room keys_room journal journal_after log last over state state_after end is_replaying after_is enough gate_is journal_is shut cone =
       let was = cone.replaying is_replaying in
       let whole : is_broken state_after ≡ false = ap is_broken after_is ∙ ends_whole last.closed in
@@ -195,11 +258,48 @@ module _ {B : Type 0} (files : B → Option Files) (leaves : B → Files → Typ
       }
 
   pub ready_stands : (bay made : B) (tally : Tallied) (events gate gate_after : ℕ) (log : LogPlace) (last : LogPoint) (over : Option Packet) (state state_after : ConeState) (history : List Packet)
-      → state_after ≡ cond last.closed Finished Running → gate_after ≡ gate → IsRecounted tally last.n0 → last.n0 ≤ length tally.listing.events → over ≡ None → IsValid tally.listing.settings → events ≤ capacity tally.listing.settings
+      → state_after ≡ cond last.closed Finished Running → gate_after ≡ gate → IsRecounted tally last.n0 → last.n0 ≤ length tally.listing.events → over ≡ None → IsValid tally.listing.settings →
+      events ≤ capacity tally.listing.settings
       → All (λ packet. 0 < length packet.keys) history → length (events_of history) ≡ events → IfTold (files bay) (leaves bay)
-      → (WasSound files (record { bay = bay; made = made; listing = tally.listing; rows = tally.rows; reports = tally.due.reports; events = events; state = state; over = over; gate = gate; log = log; last = last })
-      → IfTold (files bay) (λ _. Replays files leaves (record { bay = bay; made = made; listing = tally.listing; rows = tally.rows; reports = tally.due.reports; events = events; state = state; over = over; gate = gate; log = log; last = last }) history history))
-      → StandsFor files leaves faults (record { bay = bay; made = made; listing = tally.listing; rows = tally.rows; reports = tally.due.reports; events = events; state = state_after; over = over; gate = gate_after; log = log; last = last }) history
+      → (WasSound files (record {
+        bay = bay;
+        made = made;
+        listing = tally.listing;
+        rows = tally.rows;
+        reports = tally.due.reports;
+        events = events;
+        state = state;
+        over = over;
+        gate = gate;
+        log = log;
+        last = last;
+      })
+      → IfTold (files bay) (λ _. Replays files leaves (record {
+        bay = bay;
+        made = made;
+        listing = tally.listing;
+        rows = tally.rows;
+        reports = tally.due.reports;
+        events = events;
+        state = state;
+        over = over;
+        gate = gate;
+        log = log;
+        last = last;
+      }) history history))
+      → StandsFor files leaves faults (record {
+        bay = bay;
+        made = made;
+        listing = tally.listing;
+        rows = tally.rows;
+        reports = tally.due.reports;
+        events = events;
+        state = state_after;
+        over = over;
+        gate = gate_after;
+        log = log;
+        last = last;
+      }) history
   ready_stands bay made tally events gate gate_after log last over state state_after history after_is gate_is recounted enough none_over valid within some counted read replays =
       let whole : is_broken state_after ≡ false = ap is_broken after_is ∙ ends_whole last.closed in
       record {
@@ -219,10 +319,31 @@ module _ {B : Type 0} (files : B → Option Files) (leaves : B → Files → Typ
       }
 
   -- what it is adopted with is on the way
-  pub adopted_replays : (bay made : B) (s : Numbers) (cone gate : ℕ) (tally : Tallied) (log : LogPlace) (last : LogPoint) (rows : List (List BinAt)) (reports : List Report) (history : List Packet) (seen : Files)
-      → tally.listing ≡ record { settings = s; cone = cone; events = []; closed = last.closed } → tally.rows ≡ rows → tally.due.reports ≡ reports → gate ≡ 32 → log ≡ record { gate = last.log_end; most = most_record s; named = length reports }
-      → files bay ≡ Some seen → IsOnWay (leaves bay) seen history (record { settings = s; cone = cone; events = []; closed = last.closed }) rows reports (record { gate = last.log_end; most = most_record s; named = length reports }) last.n0
-      → Replays files leaves (record { bay = bay; made = made; listing = tally.listing; rows = tally.rows; reports = tally.due.reports; events = 0; state = Replaying; over = None; gate = gate; log = log; last = last }) history []
+  pub adopted_replays : (bay made : B) (s : Numbers) (cone gate : ℕ) (tally : Tallied) (log : LogPlace) (last : LogPoint) (rows : List (List BinAt)) (reports : List Report) (history : List Packet)
+      (seen : Files)
+      → tally.listing ≡ record { settings = s; cone = cone; events = []; closed = last.closed } → tally.rows ≡ rows → tally.due.reports ≡ reports → gate ≡ 32 → log ≡ record {
+        gate = last.log_end;
+        most = most_record s;
+        named = length reports;
+      }
+      → files bay ≡ Some seen → IsOnWay (leaves bay) seen history (record { settings = s; cone = cone; events = []; closed = last.closed }) rows reports (record {
+        gate = last.log_end;
+        most = most_record s;
+        named = length reports;
+      }) last.n0
+      → Replays files leaves (record {
+        bay = bay;
+        made = made;
+        listing = tally.listing;
+        rows = tally.rows;
+        reports = tally.due.reports;
+        events = 0;
+        state = Replaying;
+        over = None;
+        gate = gate;
+        log = log;
+        last = last;
+      }) history []
   adopted_replays bay made s cone gate tally log last rows reports history seen is rows_are reports_are gate_is log_is told on_way = record {
     state_is = refl;
     past = subst (λ (l : Listing). IsPast history [] l.events gate) (sym is) (subst (λ g. IsPast history [] [] g) (sym gate_is) (past_none history));
@@ -238,15 +359,18 @@ module _ {B : Type 0} (files : B → Option Files) (leaves : B → Files → Typ
 
 -- a file stays wholly settled through calls that leave it alone
 pub settled_then : (file : ℕ) (before after : Option Files) (leaves_before leaves_after : Files → Type 0) (first last : ℕ) (since_before since_after : ℕ → Files → Type 0) →
-    LeavesFile file before after leaves_before leaves_after first last since_before since_after → IfTold before (λ seen. IsWhollySettled leaves_before seen file) → IfTold after (λ seen. IsWhollySettled leaves_after seen file)
+    LeavesFile file before after leaves_before leaves_after first last since_before since_after → IfTold before (λ seen. IsWhollySettled leaves_before seen file) → IfTold after
+    (λ seen. IsWhollySettled leaves_after seen file)
 settled_then file before after leaves_before leaves_after first last since_before since_after left settled seen told =
     let back = turns_back (λ old later. later file ≡ old file) before after left.seen seen told in
     settled_through file before after leaves_before leaves_after first last since_before since_after left back.0 back.1 (settled back.0 back.1) seen told
 
 -- the gate behind a packet lies as far on as its keys need
-pub near_then : (gate gate_after events events_after : ℕ) (packet : Packet) → gate ≤ 2 ^ 62 → gate_after ≡ next_gate gate (payload_of packet) → 0 < length packet.keys → events_after ≡ events + length packet.keys → gate_after ≤ 2 ^ 62 + 21 * events_after
+pub near_then : (gate gate_after events events_after : ℕ) (packet : Packet) → gate ≤ 2 ^ 62 → gate_after ≡ next_gate gate (payload_of packet) → 0 < length packet.keys →
+    events_after ≡ events + length packet.keys → gate_after ≤ 2 ^ 62 + 21 * events_after
 near_then gate gate_after events events_after packet reach is some events_is = omega (arith, reach, is, length_payload packet, some, events_is)
 
 -- a place at which the format is left, said of the listing's state
-pub leaves_listing : (s : Numbers) (cone n0 n gate at : ℕ) (closed other : Bool) (bytes : List ℕ) → closed ≡ other → ReplayLeavesAt s cone n0 other n bytes gate at → ReplayLeavesAt s cone n0 closed n bytes gate at
+pub leaves_listing : (s : Numbers) (cone n0 n gate at : ℕ) (closed other : Bool) (bytes : List ℕ) → closed ≡ other → ReplayLeavesAt s cone n0 other n bytes gate at →
+    ReplayLeavesAt s cone n0 closed n bytes gate at
 leaves_listing s cone n0 n gate at closed other bytes same leaves = subst (λ (b : Bool). ReplayLeavesAt s cone n0 b n bytes gate at) (sym same) leaves

@@ -16,7 +16,8 @@ use Rattle.lert_cone.proofs.ReplayLaws.{on_way_counted, in_step_behind, partway_
 -- `a` is the tally behind the first keys, which were counted again, and `log` the log, of which nothing was written
 module _ (leaves : Files → Type 0) (seen : Files) (history : List Packet) (t a : Tallied) (log : LogPlace) (n0 count : ℕ) (keys rest : List ℕ)
     (on_way : IsOnWay leaves seen history t.listing t.rows t.due.reports log n0) (is : events_of history ≡ t.listing.events ++ (keys ++ rest))
-    (early : count ≤ n0 - length t.listing.events) (listing_is : a.listing ≡ record t.listing { events = t.listing.events ++ take count keys }) (rows_are : a.rows ≡ t.rows) (due_is : a.due ≡ t.due) where
+    (early : count ≤ n0 - length t.listing.events) (listing_is : a.listing ≡ record t.listing { events = t.listing.events ++ take count keys }) (rows_are : a.rows ≡ t.rows)
+    (due_is : a.due ≡ t.due) where
   pub way_counted : IsOnWay leaves seen history a.listing a.rows a.due.reports log n0
   way_counted =
       subst (λ (dues : Dues). IsOnWay leaves seen history a.listing a.rows dues.reports log n0) (sym due_is)

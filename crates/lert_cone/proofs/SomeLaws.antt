@@ -81,7 +81,8 @@ module _ (s : Numbers) (valid : IsValid s) where
     with_key = some.events ++ drop (edge s 0 (length events)) (events ++ key ∷ [])
 
     pub with_key_len : length with_key ≡ suc (length events)
-    with_key_len = shadow_len (events ++ key ∷ []) some.events (edge s 0 (length events)) some.len (omega (arith, length-append events (key ∷ []), edge_within s 0 (length events))) ∙ omega (arith, length-append events (key ∷ []))
+    with_key_len = shadow_len (events ++ key ∷ []) some.events (edge s 0 (length events)) some.len (omega (arith, length-append events (key ∷ []), edge_within s 0 (length events))) ∙ omega
+        (arith, length-append events (key ∷ []))
 
     pub with_key_young : young_bins s with_key (edge s 0 (length events)) ≡ young_bins s (events ++ key ∷ []) (edge s 0 (length events))
     with_key_young = shadow_young (events ++ key ∷ []) some.events (edge s 0 (length events)) some.len (omega (arith, length-append events (key ∷ []), edge_within s 0 (length events)))

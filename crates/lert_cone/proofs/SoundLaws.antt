@@ -44,14 +44,6 @@ counted_more history packet = ap length (events_more history packet) ∙ length-
 pub end_more : (history : List Packet) (packet : Packet) → next_gate (end_of history) (payload_of packet) ≡ end_of (history ++ packet ∷ [])
 end_more history packet = omega (arith, length_payload packet, counted_more history packet, length-append history (packet ∷ []))
 
--- a packet takes at most 21 bytes for each of its keys
-pub end_near : (history : List Packet) → All (λ packet. 0 < length packet.keys) history → end_of history ≤ 32 + 21 * length (events_of history)
-end_near history some = omega (arith, few history some)
-  where
-    few : (h : List Packet) → All (λ packet. 0 < length packet.keys) h → length h ≤ length (events_of h)
-    few [] each = omega arith
-    few (packet ∷ rest) each = omega (arith, each 0 packet (omega arith), few rest (λ k d below. each (suc k) d (omega (arith, below))), length-append packet.keys (events_of rest))
-
 -- ---- the headers
 
 -- a text that begins with a header of 32 bytes and a byte 0
@@ -59,7 +51,8 @@ pub begins : (head bytes : List ℕ) → length head ≡ 32 → part bytes 0 33 
 begins head bytes long is =
     let longer : length (head ++ 0 ∷ []) ≡ 33 = omega (arith, length-append head (0 ∷ []), long) in
     let within : 33 ≤ length bytes = part_within bytes (head ++ 0 ∷ []) 0 33 is (omega (arith, longer)) (omega (arith, longer)) in
-    let here : get_or bytes 32 0 ≡ 0 = byte_of_part bytes (head ++ 0 ∷ []) 0 33 32 is (omega (arith, longer)) (omega (arith, longer)) ∙ (ap (λ n. get_or (head ++ 0 ∷ []) n 0) (sym long) ∙ get_or-append_seam head 0 [] 0) in (
+    let here : get_or bytes 32 0 ≡ 0 = byte_of_part bytes (head ++ 0 ∷ []) 0 33 32 is (omega (arith, longer)) (omega (arith, longer)) ∙ (ap (λ n. get_or (head ++ 0 ∷ []) n 0) (sym long)
+    ∙ get_or-append_seam head 0 [] 0) in (
       sym (take-take 32 33 bytes (omega arith)) ∙ (ap (take 32) is ∙ take_at head (0 ∷ []) 32 long),
       record { within = omega (arith, within); shut = λ one. absurd (omega (arith, here, one)) },
     )

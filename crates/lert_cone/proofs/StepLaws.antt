@@ -34,7 +34,7 @@ use Rattle.lert_cone.specs.InStep.{IsPartway}
 use Rattle.lert_cone.specs.Logged.{IsLogOf}
 use Rattle.lert_cone.specs.Sound.{IsJournal, IsSound, IsSoundAs, HoldFrames, HoldsDirectory, but_last}
 use Rattle.lert_cone.proofs.FramedLaws.{flushed_bins}
-use Rattle.lert_cone.proofs.LogLaws.{last_flush_within}
+use Rattle.lert_cone.proofs.FlushLaws.{last_flush_within}
 use Rattle.lert_cone.proofs.WroteLaws.{torn_behind}
 
 -- ---- what stays
@@ -43,10 +43,12 @@ use Rattle.lert_cone.proofs.WroteLaws.{torn_behind}
 first_same : (image read : List ℕ) (all few : ℕ) → few ≤ all → part image 0 all ≡ part read 0 all → part image 0 few ≡ part read 0 few
 first_same image read all few less same = sym (take-take few all image less) ∙ ap (take few) same ∙ take-take few all read less
 
-pub journal_since : (since : Files → Type 0) (seen : Files) (s : Numbers) (cone : ℕ) (history : List Packet) → IsJournal s cone history (seen 0) → Keeps since seen 0 0 (length (seen 0)) → InEach since 0 (IsJournal s cone history)
+pub journal_since : (since : Files → Type 0) (seen : Files) (s : Numbers) (cone : ℕ) (history : List Packet) → IsJournal s cone history (seen 0) → Keeps since seen 0 0 (length (seen 0)) →
+    InEach since 0 (IsJournal s cone history)
 journal_since since seen s cone history journal keeps image may = record {
   headed = first_same (image 0) (seen 0) (length (seen 0)) 32 (omega (arith, journal.records.closed.within)) (keeps image may) ∙ journal.headed;
-  records = gated_behind (most_payload s) 32 (map payload_of history) (end_of history) (length (image 0)) (seen 0) (image 0) journal.records (torn_behind (seen 0) (image 0) (end_of history + 1) (keeps image may));
+  records = gated_behind (most_payload s) 32 (map payload_of history) (end_of history) (length (image 0)) (seen 0) (image 0) journal.records (torn_behind (seen 0) (image 0) (end_of history + 1)
+      (keeps image may));
   journaled = journal.journaled;
   fit = journal.fit;
   within = journal.within;
@@ -56,7 +58,8 @@ journal_since since seen s cone history journal keeps image may = record {
 pub log_reaches : (s : Numbers) (cone : ℕ) (bytes : List ℕ) (logged : List LogRecord) (gate : ℕ) → HasLog s cone bytes logged gate → 8 ≤ gate
 log_reaches s cone bytes logged gate log = records_ascend (most_record s) 8 (map log_payload_of logged) bytes gate log.records_stand.records
 
-pub log_since : (since : Files → Type 0) (seen : Files) (s : Numbers) (cone : ℕ) (logged : List LogRecord) (gate : ℕ) → HasLog s cone (seen 1) logged gate → Keeps since seen 1 0 (length (seen 1)) → InEach since 1 (λ bytes. HasLog s cone bytes logged gate)
+pub log_since : (since : Files → Type 0) (seen : Files) (s : Numbers) (cone : ℕ) (logged : List LogRecord) (gate : ℕ) → HasLog s cone (seen 1) logged gate → Keeps since seen 1 0 (length
+    (seen 1)) → InEach since 1 (λ bytes. HasLog s cone bytes logged gate)
 log_since since seen s cone logged gate log keeps image may = record {
   headed = first_same (image 1) (seen 1) (length (seen 1)) 8 (omega (arith, log.records_stand.closed.within, log_reaches s cone (seen 1) logged gate log)) (keeps image may) ∙ log.headed;
   records_stand = gated_behind (most_record s) 8 (map log_payload_of logged) gate (length (image 1)) (seen 1) (image 1) log.records_stand (torn_behind (seen 1) (image 1) (gate + 1) (keeps image may));
@@ -70,7 +73,8 @@ text_fits s events level bin narrow =
     omega (arith, length_le-total 0 (2 ^ (64 - s.cone_bits)) (tallied s keys) (IsTable-tallied s keys), total-tallied s keys, length-take (bin.to - bin.from) (drop bin.from events))
 
 -- the frames that rows name hold their bins in each image since, where what is settled in them stays so
-pub frames_since : (leaves since : Files → Type 0) (seen : Files) (s : Numbers) (events : List ℕ) (rows : List (List BinAt)) → AreRows s rows → leaves seen → InEach leaves 2 (HoldsBins s events rows) →
+pub frames_since : (leaves since : Files → Type 0) (seen : Files) (s : Numbers) (events : List ℕ) (rows : List (List BinAt)) → AreRows s rows → leaves seen → InEach leaves 2
+    (HoldsBins s events rows) →
     ((from to : ℕ) → InNamed s rows from to → IsSettled leaves seen 2 from to → Keeps since seen 2 from to) → InEach since 2 (HoldsBins s events rows)
 frames_since leaves since seen s events rows are read holds keeps image may level first last k d below =
     let bin = get_or (row_of rows level) k d in
@@ -97,7 +101,8 @@ to_frames s events file level (bin ∷ row) holds =
     (holds 0 bin (omega arith), to_frames s events file level row (λ k d within. holds (suc k) d (omega (arith, within))))
 
 module _ (s : Numbers) (cone : ℕ) (history : List Packet) (events : List ℕ) (rows : List (List BinAt)) (closed : Bool) (logged : List LogRecord) (gate : ℕ)
-    (valid : IsValid s) (at : IsAt s (length events) rows) (partway : IsPartway s history events []) (whole : closed ≡ true → events ≡ events_of history) (log_of : IsLogOf s cone events rows closed logged) where
+    (valid : IsValid s) (at : IsAt s (length events) rows) (partway : IsPartway s history events []) (whole : closed ≡ true → events ≡ events_of history)
+    (log_of : IsLogOf s cone events rows closed logged) where
   -- how many events the last record was written after
   n0_running : closed ≡ false → last_n0 logged ≡ last_flush s (length events)
   n0_running running = log_of.n0_is ∙ ap (λ t. cond t (length events) (last_flush s (length events))) running
@@ -176,7 +181,8 @@ module _ (s : Numbers) (cone : ℕ) (history : List Packet) (events : List ℕ) 
     closed_behind = λ ended. n0_closed (sym log_of.closed_is ∙ ended) ∙ ap length (whole (sym log_of.closed_is ∙ ended));
   }
 
-  pub sound_as : events ≡ events_of history → (files : Files) → IsJournal s cone history (files 0) → HasLog s cone (files 1) logged gate → HoldsBins s events rows (files 2) → IsSoundAs s cone closed history files
+  pub sound_as : events ≡ events_of history → (files : Files) → IsJournal s cone history (files 0) → HasLog s cone (files 1) logged gate → HoldsBins s events rows (files 2) →
+      IsSoundAs s cone closed history files
   unfolding sound_of
   sound_as all files journal log holds = record {
     sound = sound_of files journal log holds;
@@ -187,12 +193,17 @@ module _ (s : Numbers) (cone : ℕ) (history : List Packet) (events : List ℕ) 
 -- ---- one record more
 
 -- behind a closed gate stands a record, or it doesn't
-pub with_or_without : (s : Numbers) (cone : ℕ) (logged : List LogRecord) (one : LogRecord) (gate : ℕ) (payload bytes : List ℕ) → payload ≡ log_payload_of one → AreRecords s cone logged → AreRecords s cone (logged ++ one ∷ []) →
+pub with_or_without : (s : Numbers) (cone : ℕ) (logged : List LogRecord) (one : LogRecord) (gate : ℕ) (payload bytes : List ℕ) → payload ≡ log_payload_of one → AreRecords s cone logged →
+    AreRecords s cone (logged ++ one ∷ []) →
     part bytes 0 8 ≡ log_header → IsWithOrWithout (most_record s) 8 (map log_payload_of logged) gate payload bytes →
     HasLog s cone bytes logged gate ⊎ HasLog s cone bytes (logged ++ one ∷ []) (next_gate gate payload)
 with_or_without s cone logged one gate payload bytes is rules more headed (inl without) = inl (record { headed = headed; records_stand = without; rules = rules })
 with_or_without s cone logged one gate payload bytes is rules more headed (inr with_it) =
-    inr (record { headed = headed; records_stand = subst (λ (payloads : List (List ℕ)). IsGated (most_record s) bytes 8 payloads (next_gate gate payload)) (pushed logged one payload is) with_it; rules = more })
+    inr (record {
+      headed = headed;
+      records_stand = subst (λ (payloads : List (List ℕ)). IsGated (most_record s) bytes 8 payloads (next_gate gate payload)) (pushed logged one payload is) with_it;
+      rules = more;
+    })
   where
     pushed : (logged : List LogRecord) (one : LogRecord) (payload : List ℕ) → payload ≡ log_payload_of one → map log_payload_of logged ++ payload ∷ [] ≡ map log_payload_of (logged ++ one ∷ [])
     pushed logged one payload is = ap (λ p. map log_payload_of logged ++ p ∷ []) is ∙ sym (map-append log_payload_of logged (one ∷ []))
@@ -202,12 +213,14 @@ pub with_record : (s : Numbers) (cone : ℕ) (logged : List LogRecord) (one : Lo
     part bytes 0 8 ≡ log_header → IsGated (most_record s) bytes 8 (map log_payload_of logged ++ payload ∷ []) gate → HasLog s cone bytes (logged ++ one ∷ []) gate
 with_record s cone logged one gate payload bytes is more headed stands = record {
   headed = headed;
-  records_stand = subst (λ (payloads : List (List ℕ)). IsGated (most_record s) bytes 8 payloads gate) (ap (λ p. map log_payload_of logged ++ p ∷ []) is ∙ sym (map-append log_payload_of logged (one ∷ []))) stands;
+  records_stand = subst (λ (payloads : List (List ℕ)). IsGated (most_record s) bytes 8 payloads gate) (ap (λ p. map log_payload_of logged ++ p ∷ []) is ∙ sym (map-append log_payload_of logged
+      (one ∷ []))) stands;
   rules = more;
 }
 
 -- the header of a log stays, where what is settled before its gate does
-pub header_since : (leaves since : Files → Type 0) (seen : Files) (s : Numbers) (cone : ℕ) (logged : List LogRecord) (gate : ℕ) → leaves seen → InEach leaves 1 (λ bytes. HasLog s cone bytes logged gate) → KeepsBefore leaves since seen 1 gate →
+pub header_since : (leaves since : Files → Type 0) (seen : Files) (s : Numbers) (cone : ℕ) (logged : List LogRecord) (gate : ℕ) → leaves seen → InEach leaves 1
+    (λ bytes. HasLog s cone bytes logged gate) → KeepsBefore leaves since seen 1 gate →
     (image : Files) → since image → part (image 1) 0 8 ≡ log_header
 header_since leaves since seen s cone logged gate read log keeps image may =
     let here = log seen read in

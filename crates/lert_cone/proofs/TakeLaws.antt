@@ -37,7 +37,8 @@ module _ (s : Numbers) (cone at : ℕ) (before all : List Report) (pieces : List
     (settings : start.settings ≡ s) (same_cone : start.cone ≡ cone) (same_before : start.before ≡ before) (same_at : start.at ≡ at)
     (table : IsTable (2 ^ (64 - s.cone_bits)) pieces) (from : TookFrom start due pieces) (all_are : all ≡ before ++ due_reports s cone before at pieces) where
   shown : due.before ++ due_reports due.settings due.cone due.before due.at pieces ≡ all
-  shown = (λ i. (from.before_is ∙ same_before) i ++ due_reports ((from.settings_are ∙ settings) i) ((from.cone_is ∙ same_cone) i) ((from.before_is ∙ same_before) i) ((from.at_is ∙ same_at) i) pieces) ∙ sym all_are
+  shown = (λ i. (from.before_is ∙ same_before) i ++ due_reports ((from.settings_are ∙ settings) i) ((from.cone_is ∙ same_cone) i) ((from.before_is ∙ same_before) i) ((from.at_is
+      ∙ same_at) i) pieces) ∙ sym all_are
 
   table_there : IsTable (2 ^ (64 - due.settings.cone_bits)) pieces
   table_there = subst (λ (t : Numbers). IsTable (2 ^ (64 - t.cone_bits)) pieces) (sym (from.settings_are ∙ settings)) table
@@ -150,7 +151,8 @@ module _ (t : Tallied) (ls : Numbers) (levels_are : ls ≡ t.listing.settings) (
       table : IsTable (2 ^ (64 - t.listing.settings.cone_bits)) (totals_at t.listing.settings all (suc (length t.listing.events)) (tail_of t.listing.settings key))
       table = totals_table t.listing.settings t.listing.cone t.listing.events valid named counted.keys counted.own key below own
 
-      all_looked : look t.listing.settings all ≡ look t.listing.settings t.listing.events ++ due_reports t.listing.settings t.listing.cone (look t.listing.settings t.listing.events) (suc (length t.listing.events)) (totals_at t.listing.settings all (suc (length t.listing.events)) (tail_of t.listing.settings key))
+      all_looked : look t.listing.settings all ≡ look t.listing.settings t.listing.events ++ due_reports t.listing.settings t.listing.cone (look t.listing.settings t.listing.events) (suc
+          (length t.listing.events)) (totals_at t.listing.settings all (suc (length t.listing.events)) (tail_of t.listing.settings key))
       all_looked = look_is t.listing.settings t.listing.cone t.listing.events valid named counted.keys counted.own key below own
 
       pub never_full : due.is_full ≡ true → ⊥
@@ -172,7 +174,8 @@ module _ (t : Tallied) (ls : Numbers) (levels_are : ls ≡ t.listing.settings) (
           })
 
 -- the end
-module _ (t : Tallied) (ls : Numbers) (levels_are : ls ≡ t.listing.settings) (valid : IsValid t.listing.settings) (named : t.listing.cone < 2 ^ t.listing.settings.cone_bits) (counted : IsCounted t) where
+module _ (t : Tallied) (ls : Numbers) (levels_are : ls ≡ t.listing.settings) (valid : IsValid t.listing.settings) (named : t.listing.cone < 2 ^ t.listing.settings.cone_bits)
+    (counted : IsCounted t) where
   pub rows_end : IsAt ls (length t.listing.events) t.rows
   rows_end = subst (λ (v : Numbers). IsAt v (length t.listing.events) t.rows) (sym levels_are) counted.rows
 
@@ -239,7 +242,8 @@ sound_fault (Malformed place) fine file at same = fine place refl
 sound_fault NoMemory fine file at same = cc
 
 -- and what a call that hands on a fault answers
-pub err_is : (result : Result (Unit {0}) TakeFault) (fault : FlushFault) → IsErrAnd result (λ taken. taken ≡ take_fault fault) → ((at : ℕ) → fault ≢ Malformed at) → (file at : ℕ) → result ≢ Err (Unsound file at)
+pub err_is : (result : Result (Unit {0}) TakeFault) (fault : FlushFault) → IsErrAnd result (λ taken. taken ≡ take_fault fault) → ((at : ℕ) → fault ≢ Malformed at) → (file at : ℕ) → result ≢ Err
+    (Unsound file at)
 err_is (Ok done) fault is fine file at same = cc
 err_is (Err taken) fault is fine file at same = sound_fault fault fine file at (sym is ∙ (let inner : taken ≡ Unsound file at = cc in inner))
 

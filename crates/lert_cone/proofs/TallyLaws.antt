@@ -140,7 +140,8 @@ module _ (s : Numbers) (valid : IsValid s) where
   }
 
   -- a bin of the rows ends at the events so far
-  ends : (n : ℕ) (rows : List (List BinAt)) → IsAt s n rows → (level : ℕ) → 1 ≤ level → level ≤ s.levels → (k : ℕ) (d : BinAt) → k < length (row_of rows level) → (get_or (row_of rows level) k d).to ≤ n
+  ends : (n : ℕ) (rows : List (List BinAt)) → IsAt s n rows → (level : ℕ) → 1 ≤ level → level ≤ s.levels → (k : ℕ) (d : BinAt) → k < length (row_of rows level) → (get_or
+      (row_of rows level) k d).to ≤ n
   ends n rows at level first last k d within =
       let row = row_of rows level in
       let is = at.each level first last in
@@ -156,7 +157,8 @@ module _ (s : Numbers) (valid : IsValid s) where
   -- later events change no bin of the rows
   module _ (events others : List ℕ) (rows : List (List BinAt)) (file : List ℕ) (at : IsAt s (length events) rows) where
     slice_same : (level : ℕ) → 1 ≤ level → level ≤ s.levels → (k : ℕ) (d : BinAt) → k < length (row_of rows level) →
-        slice_range (events ++ others) (get_or (row_of rows level) k d).from (get_or (row_of rows level) k d).to ≡ slice_range events (get_or (row_of rows level) k d).from (get_or (row_of rows level) k d).to
+        slice_range (events ++ others) (get_or (row_of rows level) k d).from (get_or (row_of rows level) k d).to ≡ slice_range events (get_or (row_of rows level) k d).from (get_or
+        (row_of rows level) k d).to
     slice_same level first last k d within =
         slice_range-append events others (get_or (row_of rows level) k d).from (get_or (row_of rows level) k d).to (ends (length events) rows at level first last k d within)
 

@@ -10,19 +10,23 @@ use Rattle.lert_cone.specs.Stands.{Standing, StandsFor, WasSound, is_broken}
 use Rattle.lert_cone.proofs.StandLaws.{reports_running, reports_finished}
 
 -- those of a cone whose reports aren't those at the end yet
-pub timely_so_far : {B : Type 0} (files : B → Option Files) (leaves : B → Files → Type 0) (faults : B → ℕ) (cone : Standing B) (history : List Packet) → is_broken cone.state ≡ false → cone.listing.closed ≡ false → StandsFor files leaves faults cone history → WasSound files cone →
+pub timely_so_far : {B : Type 0} (files : B → Option Files) (leaves : B → Files → Type 0) (faults : B → ℕ) (cone : Standing B) (history : List Packet) → is_broken cone.state ≡ false →
+    cone.listing.closed ≡ false → StandsFor files leaves faults cone history → WasSound files cone →
     IfTold (files cone.bay) (λ _. IsTimelySoFar cone.listing.settings.threshold cone.listing.settings.bins (events_of history) cone.reports)
 timely_so_far files leaves faults cone history unbroken still stands sound seen told =
     let whole = stands.whole unbroken sound seen told in
     let fits : length (events_of history) ≤ capacity cone.listing.settings = omega (arith, stands.counted, stands.within) in
-    subst (λ (reports : List Report). IsTimelySoFar cone.listing.settings.threshold cone.listing.settings.bins (events_of history) reports) (sym (whole.in_step.reports_are ∙ reports_running cone.listing (events_of history) still whole.keys))
+    subst (λ (reports : List Report). IsTimelySoFar cone.listing.settings.threshold cone.listing.settings.bins (events_of history) reports) (sym (whole.in_step.reports_are
+    ∙ reports_running cone.listing (events_of history) still whole.keys))
     (IsTimelySoFar-look cone.listing.settings (events_of history) stands.valid fits)
 
 -- those at the end
-pub timely : {B : Type 0} (files : B → Option Files) (leaves : B → Files → Type 0) (faults : B → ℕ) (cone : Standing B) (history : List Packet) → is_broken cone.state ≡ false → cone.listing.closed ≡ true → StandsFor files leaves faults cone history → WasSound files cone →
+pub timely : {B : Type 0} (files : B → Option Files) (leaves : B → Files → Type 0) (faults : B → ℕ) (cone : Standing B) (history : List Packet) → is_broken cone.state ≡ false →
+    cone.listing.closed ≡ true → StandsFor files leaves faults cone history → WasSound files cone →
     IfTold (files cone.bay) (λ _. IsTimely cone.listing.settings.threshold cone.listing.settings.bins (events_of history) cone.reports)
 timely files leaves faults cone history unbroken ended stands sound seen told =
     let whole = stands.whole unbroken sound seen told in
     let fits : length (events_of history) ≤ capacity cone.listing.settings = omega (arith, stands.counted, stands.within) in
-    subst (λ (reports : List Report). IsTimely cone.listing.settings.threshold cone.listing.settings.bins (events_of history) reports) (sym (whole.in_step.reports_are ∙ reports_finished cone.listing (events_of history) ended whole.keys))
+    subst (λ (reports : List Report). IsTimely cone.listing.settings.threshold cone.listing.settings.bins (events_of history) reports) (sym (whole.in_step.reports_are
+    ∙ reports_finished cone.listing (events_of history) ended whole.keys))
     (IsTimely-closing cone.listing.settings (events_of history) stands.valid fits)

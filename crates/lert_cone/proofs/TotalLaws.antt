@@ -91,20 +91,27 @@ module _ (s : Numbers) (cone : ℕ) (events : List ℕ) (valid : IsValid s) (nam
     pub totals_table : IsTable (2 ^ (64 - s.cone_bits)) (totals_at s all (suc (length events)) tail)
     totals_table =
         elim (cases_eq (depth s (suc (length events))) 0) [
-          | inl shallow ↦ subst (λ t. IsTable (2 ^ (64 - s.cone_bits)) (cond t (record { tail = tail; count = window } ∷ []) (tallied s (slice_range all (lookback s (suc (length events))) (suc (length events))))))
+          | inl shallow ↦ subst (λ t. IsTable (2 ^ (64 - s.cone_bits)) (cond t (record { tail = tail; count = window } ∷ []) (tallied s (slice_range all (lookback s (suc (length events))) (suc
+              (length events))))))
               (sym (eq-eqb (depth s (suc (length events))) 0 shallow)) (omega arith, tail_below s key, some, tt)
-          | inr deep ↦ subst (λ t. IsTable (2 ^ (64 - s.cone_bits)) (cond t (record { tail = tail; count = window } ∷ []) (tallied s (slice_range all (lookback s (suc (length events))) (suc (length events))))))
+          | inr deep ↦ subst (λ t. IsTable (2 ^ (64 - s.cone_bits)) (cond t (record { tail = tail; count = window } ∷ []) (tallied s (slice_range all (lookback s (suc (length events))) (suc
+              (length events))))))
               (sym (ne_eqb (depth s (suc (length events))) 0 deep)) (IsTable-tallied s (slice_range all (lookback s (suc (length events))) (suc (length events))))
         ]
 
     -- the report of one piece
-    one_report : (c at : ℕ) (listed : List Report) → due_reports s cone listed at (record { tail = tail; count = c } ∷ []) ≡ cond {A = List Report} (leb s.threshold c && not (is_listed key listed)) (record { key = key; at = at } ∷ []) []
+    one_report : (c at : ℕ) (listed : List Report) → due_reports s cone listed at (record { tail = tail; count = c } ∷ []) ≡ cond {A = List Report} (leb s.threshold c && not
+        (is_listed key listed)) (record { key = key; at = at } ∷ []) []
     one_report c at listed =
         let same = key_with-tail s cone bits named key below mine in
-        ap (λ k. map (λ x. record { key = x; at = at }) (map (λ (p : Piece). key_with s cone p.tail) (cond (leb s.threshold c && not (is_listed k listed)) (record { tail = tail; count = c } ∷ []) []))) same
+        ap (λ k. map (λ x. record { key = x; at = at }) (map (λ (p : Piece). key_with s cone p.tail) (cond (leb s.threshold c && not (is_listed k listed)) (record {
+          tail = tail;
+          count = c;
+        } ∷ []) []))) same
         ∙ shown (leb s.threshold c && not (is_listed key listed))
       where
-        shown : (t : Bool) → map (λ x. record { key = x; at = at }) (map (λ (p : Piece). key_with s cone p.tail) (cond t (record { tail = tail; count = c } ∷ []) [])) ≡ cond {A = List Report} t (record { key = key; at = at } ∷ []) []
+        shown : (t : Bool) → map (λ x. record { key = x; at = at }) (map (λ (p : Piece). key_with s cone p.tail) (cond t (record { tail = tail; count = c } ∷ []) [])) ≡ cond {A = List Report} t
+            (record { key = key; at = at } ∷ []) []
         shown true = ap (λ k. record { key = k; at = at } ∷ []) (key_with-tail s cone bits named key below mine)
         shown false = λ _. []
 
@@ -117,9 +124,11 @@ module _ (s : Numbers) (cone : ℕ) (events : List ℕ) (valid : IsValid s) (nam
               look-push_between s events key valid keys below (young_stays s (length events) valid shallow)
               ∙ ap (λ c. reports ++ cond {A = List Report} (leb s.threshold c && not (is_listed key reports)) (record { key = key; at = m } ∷ []) []) (sym counted)
               ∙ ap (λ rs. reports ++ rs) (sym (one_report window m reports))
-              ∙ ap (λ t. reports ++ due_reports s cone reports m (cond t (record { tail = tail; count = window } ∷ []) (tallied s (slice_range all (lookback s m) m)))) (sym (eq-eqb (depth s m) 0 shallow))
+              ∙ ap (λ t. reports ++ due_reports s cone reports m (cond t (record { tail = tail; count = window } ∷ []) (tallied s (slice_range all (lookback s m) m)))) (sym (eq-eqb
+              (depth s m) 0 shallow))
           | inr deep ↦
               look-push s events key valid.limits.threshold_from keys below
               ∙ ap (λ ks. reports ++ map (λ k. record { key = k; at = m }) ks) (due_by_tails s cone s.threshold all (lookback s m) m reports bits named valid.limits.threshold_from all_keys all_own)
-              ∙ ap (λ t. reports ++ due_reports s cone reports m (cond t (record { tail = tail; count = window } ∷ []) (tallied s (slice_range all (lookback s m) m)))) (sym (ne_eqb (depth s m) 0 deep))
+              ∙ ap (λ t. reports ++ due_reports s cone reports m (cond t (record { tail = tail; count = window } ∷ []) (tallied s (slice_range all (lookback s m) m)))) (sym (ne_eqb
+              (depth s m) 0 deep))
         ]

@@ -14,7 +14,8 @@ use Rattle.lert_cone.specs.Wrote.{LeavesFile, IsShutIfTold}
 use Rattle.lert_cone.proofs.SoundLaws.{turns_back}
 
 -- no call
-pub leaves_none : (file : ℕ) (files : Option Files) (leaves : Files → Type 0) (moment : ℕ) (since : ℕ → Files → Type 0) → ((image : Files) → since moment image → leaves image) → ((image : Files) → leaves image → since moment image) →
+pub leaves_none : (file : ℕ) (files : Option Files) (leaves : Files → Type 0) (moment : ℕ) (since : ℕ → Files → Type 0) → ((image : Files) → since moment image → leaves image) → ((image : Files) →
+    leaves image → since moment image) →
     LeavesFile file files files leaves leaves moment moment since since
 leaves_none file files leaves moment since only_now since_now = record {
   seen = record { told = λ old is. (old, is, refl); untold = λ none. none };
@@ -24,8 +25,10 @@ leaves_none file files leaves moment since only_now since_now = record {
 }
 
 -- calls after calls
-module _ (file : ℕ) (before between after : Option Files) (leaves_before leaves_between leaves_after : Files → Type 0) (first middle last : ℕ) (since_first since_middle since_last : ℕ → Files → Type 0)
-    (one : LeavesFile file before between leaves_before leaves_between first middle since_first since_middle) (two : LeavesFile file between after leaves_between leaves_after middle last since_middle since_last)
+module _ (file : ℕ) (before between after : Option Files) (leaves_before leaves_between leaves_after : Files → Type 0) (first middle last : ℕ) (since_first since_middle since_last : ℕ → Files →
+    Type 0)
+    (one : LeavesFile file before between leaves_before leaves_between first middle since_first since_middle) (two : LeavesFile file between after leaves_between leaves_after middle last
+    since_middle since_last)
     (earlier : (t u : ℕ) (image : Files) → t ≤ u → since_last u image → since_last t image) where
   told_on : (old : Files) → before ≡ Some old → (new : Files) × (after ≡ Some new) × (new file ≡ old file)
   told_on old told =
@@ -33,7 +36,8 @@ module _ (file : ℕ) (before between after : Option Files) (leaves_before leave
       let went = two.seen.told came.0 came.1 in
       (went.0, went.1, went.2 ∙ came.2)
 
-  settled_on : (old : Files) → before ≡ Some old → (from to : ℕ) → IsSettled leaves_before old file from to → (image : Files) → since_last first image → part (image file) from to ≡ part (old file) from to
+  settled_on : (old : Files) → before ≡ Some old → (from to : ℕ) → IsSettled leaves_before old file from to → (image : Files) → since_last first image → part (image file) from to ≡ part
+      (old file) from to
   settled_on old told from to settled image may =
       elim (two.time.known first image one.time.later may) [
         | inl past ↦ one.settled old told from to settled image past
@@ -55,7 +59,8 @@ module _ (file : ℕ) (before between after : Option Files) (leaves_before leave
   }
 
 -- a flush leaves the other files alone
-pub leaves_rest : (kept : ℕ → ℕ → Type 0) (file : ℕ) → file ≢ 2 → (before after : Option Files) (leaves_before leaves_after : Files → Type 0) (first last : ℕ) (since_before since_after : ℕ → Files → Type 0) →
+pub leaves_rest : (kept : ℕ → ℕ → Type 0) (file : ℕ) → file ≢ 2 → (before after : Option Files) (leaves_before leaves_after : Files → Type 0) (first last : ℕ) (since_before since_after : ℕ →
+    Files → Type 0) →
     KeepsRest kept before after leaves_before first last since_before since_after → ((image : Files) → leaves_after image → since_after first image) →
     LeavesFile file before after leaves_before leaves_after first last since_before since_after
 leaves_rest kept file other before after leaves_before leaves_after first last since_before since_after rest now = record {
@@ -72,7 +77,8 @@ leaves_rest kept file other before after leaves_before leaves_after first last s
 
 -- an append to a file leaves the others alone
 pub leaves_others : (log file : ℕ) → file ≢ log → (before after : Option Files) (leaves_before leaves_after : Files → Type 0) (first last : ℕ) (since_before since_after : ℕ → Files → Type 0) →
-    Turns (OthersStay log) before after → IfTold before (λ seen. KeepsOthers leaves_before (since_after first) seen log) → Lasts first last since_before since_after → ((image : Files) → leaves_after image → since_after first image) →
+    Turns (OthersStay log) before after → IfTold before (λ seen. KeepsOthers leaves_before (since_after first) seen log) → Lasts first last since_before since_after → ((image : Files) →
+    leaves_after image → since_after first image) →
     LeavesFile file before after leaves_before leaves_after first last since_before since_after
 leaves_others log file other before after leaves_before leaves_after first last since_before since_after turns keeps time now = record {
   seen = record {
@@ -122,14 +128,16 @@ settled_through file before after leaves_before leaves_after first last since_be
     let stays : new file ≡ old file = ap (λ (f : Files). f file) (turned came.0 new (sym came.1 ∙ told_after)) ∙ came.2 in
     record {
       within = omega arith;
-      same = λ image may. subst (λ (bytes : List ℕ). part (image file) 0 (length bytes) ≡ part bytes 0 (length bytes)) (sym stays) (left.settled old told 0 (length (old file)) settled image (left.now image may));
+      same = λ image may. subst (λ (bytes : List ℕ). part (image file) 0 (length bytes) ≡ part bytes 0 (length bytes)) (sym stays) (left.settled old told 0 (length (old file)) settled image
+          (left.now image may));
     }
   where
     turned : (a b : Files) → Some a ≡ Some b → b ≡ a
     turned a b same = (let is : b ≡ a = cc in is)
 
 pub shut_through : (file gate : ℕ) (before after : Option Files) (leaves_before leaves_after : Files → Type 0) (first last : ℕ) (since_before since_after : ℕ → Files → Type 0) →
-    LeavesFile file before after leaves_before leaves_after first last since_before since_after → IfTold before leaves_before → IsShutIfTold before leaves_before file gate → IsShutIfTold after leaves_after file gate
+    LeavesFile file before after leaves_before leaves_after first last since_before since_after → IfTold before leaves_before → IsShutIfTold before leaves_before file gate →
+    IsShutIfTold after leaves_after file gate
 shut_through file gate before after leaves_before leaves_after first last since_before since_after left as_read shut new told_after =
     let back = turns_back (λ old later. later file ≡ old file) before after left.seen new told_after in
     let here = shut back.0 back.1 in

@@ -1,7 +1,7 @@
 -- What the append of a record makes of a cone's log and of its bay.
 use Rattle.std.specs.Prelude.{◌≡◌, ℕ, ◌+◌, List, [], ◌∷◌, ◌++◌, length, Result, OnOk, OnErr}
 use Rattle.lert_cone.specs.Bays.{Bays}
-use Rattle.lert_bay.specs.Files.{Files, IfTold, Turns}
+use Rattle.lert_bay.specs.Files.{IfTold, Turns}
 use Rattle.lert_bay.specs.Images.{Lasts}
 use Rattle.lert_gatelog.specs.Gated.{IsClosed, IsGated, next_gate}
 use Rattle.lert_gatelog.specs.Kept.{InEach, KeepsOthers, KeepsBefore, IsWhollySettled, IsWithOrWithout, OthersStay}
@@ -12,7 +12,8 @@ use Rattle.lert_cone.specs.Record.{LogPlace, payload_at, payload_len}
 
 -- A record is appended behind n0 events. In every image of each moment of the call the open records are those from before, or
 -- those and this one; after Ok they are those and this one.
-pub record AppendsRecord {B E : Type 0} (bays : Bays B) (kind : LogKind) (n0 : ℕ) (directory : List ℕ) (reports : List Report) (bay bay_after : B) (old new : LogPlace) (result : Result (Unit {0}) E) : Type 0 where
+pub record AppendsRecord {B E : Type 0} (bays : Bays B) (kind : LogKind) (n0 : ℕ) (directory : List ℕ) (reports : List Report) (bay bay_after : B) (old new : LogPlace) (result : Result
+    (Unit {0}) E) : Type 0 where
   pub moved : OnOk result (new ≡ record old { gate = next_gate old.gate (payload_at old kind n0 directory reports); named = length reports })
   pub stayed : OnErr result (new ≡ old)
   pub long : next_gate old.gate (payload_at old kind n0 directory reports) ≡ old.gate + 5 + payload_len old directory reports

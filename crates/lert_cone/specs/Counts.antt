@@ -23,7 +23,8 @@ use Rattle.lert_cone.specs.Framed.{HoldsSome}
 use Rattle.lert_cone.specs.Tally.{Tallied, AreYoung, IsCounted, IsHeld, Shows, totals_at}
 
 -- the levels are flushed at position m, with the reports as the taker of the totals
-pub record Flushes {B : Type 0} (bays : Bays B) (start : Dues) (m : ℕ) (bay bay_after : B) (zero : Young) (levels levels_after : OnDisk) (due : Dues) (result : Result (Unit {0}) FlushFault) : Type 0 where
+pub record Flushes {B : Type 0} (bays : Bays B) (start : Dues) (m : ℕ) (bay bay_after : B) (zero : Young) (levels levels_after : OnDisk) (due : Dues) (result : Result
+    (Unit {0}) FlushFault) : Type 0 where
   pub flushed : OnOk result (levels_after ≡ record levels { rows = moved levels.settings m levels.rows })
   pub refused : OnErr result (levels_after ≡ levels)
   pub holds : (events : List ℕ) → length events ≡ m → AreYoung levels.settings events zero.from zero.bins →
@@ -38,14 +39,16 @@ pub record Flushes {B : Type 0} (bays : Bays B) (start : Dues) (m : ℕ) (bay ba
   pub malformed : IfTold (bays.files bay) (λ seen. (at : ℕ) → IsErrOf result (Malformed at) → OneBreaks levels.settings levels.rows (seen 2) at)
   pub unwritten : (at : ℕ) → IsErrOf result (Malformed at) → bays.files bay_after ≡ bays.files bay
   pub durable : OnOk result (IfTold (bays.files bay_after) (λ seen. (image : Files) → bays.leaves bay_after image → image 2 ≡ seen 2))
-  pub rest : KeepsRest (InNamed levels.settings levels.rows) (bays.files bay) (bays.files bay_after) (bays.leaves bay) (bays.moment bay) (bays.moment bay_after) (bays.left_since bay) (bays.left_since bay_after)
+  pub rest : KeepsRest (InNamed levels.settings levels.rows) (bays.files bay) (bays.files bay_after) (bays.leaves bay) (bays.moment bay) (bays.moment bay_after) (bays.left_since bay)
+      (bays.left_since bay_after)
   pub failed : IsErrOf result FlushFailed → HasRisen (bays.faults bay) (bays.faults bay_after)
   pub never_falls : bays.faults bay ≤ bays.faults bay_after
   pub mark : bays.mark bay_after ≡ bays.mark bay
 
 -- The totals come to the reports that the event at position m brings, which level 0 has, its tail being this one: the levels
 -- are flushed where an edge moves, and the oldest bin of level 0 is dropped.
-pub record Brings {B : Type 0} (bays : Bays B) (start : Dues) (m tail : ℕ) (bay bay_after : B) (zero zero_after : Young) (levels levels_after : OnDisk) (due : Dues) (result : Result (Unit {0}) FlushFault) : Type 0 where
+pub record Brings {B : Type 0} (bays : Bays B) (start : Dues) (m tail : ℕ) (bay bay_after : B) (zero zero_after : Young) (levels levels_after : OnDisk) (due : Dues) (result : Result
+    (Unit {0}) FlushFault) : Type 0 where
   pub young_settings : zero_after.settings ≡ zero.settings
   pub settings : levels_after.settings ≡ levels.settings
   pub from : OnOk result (zero_after.from ≡ edge levels.settings 0 m)
@@ -67,7 +70,8 @@ pub record Brings {B : Type 0} (bays : Bays B) (start : Dues) (m tail : ℕ) (ba
       OnOk result (IfTold (bays.files bay_after) (λ _. InEach (bays.leaves bay_after) 2 (HoldsBins levels.settings events levels_after.rows))))
   pub are : OnOk result (AreRows levels.settings levels.rows → AreRows levels.settings levels_after.rows)
   pub still : edge levels.settings 0 m ≡ edge levels.settings 0 (m - 1) → OnOk result (levels_after.rows ≡ levels.rows)
-  pub rest : KeepsRest (InNamed levels.settings levels.rows) (bays.files bay) (bays.files bay_after) (bays.leaves bay) (bays.moment bay) (bays.moment bay_after) (bays.left_since bay) (bays.left_since bay_after)
+  pub rest : KeepsRest (InNamed levels.settings levels.rows) (bays.files bay) (bays.files bay_after) (bays.leaves bay) (bays.moment bay) (bays.moment bay_after) (bays.left_since bay)
+      (bays.left_since bay_after)
   pub failed : IsErrOf result FlushFailed → HasRisen (bays.faults bay) (bays.faults bay_after)
   pub never_falls : bays.faults bay ≤ bays.faults bay_after
   pub mark : bays.mark bay_after ≡ bays.mark bay
@@ -105,7 +109,8 @@ pub record CountsKey {B : Type 0} (bays : Bays B) (key : ℕ) (bay bay_after : B
   pub whole : IfTold (bays.files bay) (λ seen. HoldsSome old.listing.settings (length old.listing.events) old.rows (seen 2) → (at : ℕ) → result ≢ Err (Unsound 2 at))
   pub images : IfTold (bays.files bay) (λ seen. IsHeld old seen → InEach (bays.leaves bay) 2 (HoldsBins old.listing.settings old.listing.events old.rows) →
       OnOk result (IfTold (bays.files bay_after) (λ _. InEach (bays.leaves bay_after) 2 (HoldsBins new.listing.settings new.listing.events new.rows))))
-  pub rest : KeepsRest (InNamed old.listing.settings old.rows) (bays.files bay) (bays.files bay_after) (bays.leaves bay) (bays.moment bay) (bays.moment bay_after) (bays.left_since bay) (bays.left_since bay_after)
+  pub rest : KeepsRest (InNamed old.listing.settings old.rows) (bays.files bay) (bays.files bay_after) (bays.leaves bay) (bays.moment bay) (bays.moment bay_after) (bays.left_since bay)
+      (bays.left_since bay_after)
   pub failed : IsErrOf result Failed → HasRisen (bays.faults bay) (bays.faults bay_after)
   pub never_falls : bays.faults bay ≤ bays.faults bay_after
   pub mark : bays.mark bay_after ≡ bays.mark bay

@@ -61,4 +61,5 @@ pub data ReplayLeavesAt (s : Numbers) (cone n0 : ℕ) (closed : Bool) (n : ℕ) 
   In_record : LeavesAt s cone (most_payload s) bytes gate at → ReplayLeavesAt s cone n0 closed n bytes gate at
   Too_few : IsClosed bytes gate → n < n0 → at ≡ gate → ReplayLeavesAt s cone n0 closed n bytes gate at
   Past_the_end : (packet : Packet) → HoldsPacket s cone (most_payload s) bytes gate packet → closed ≡ true → n0 < n + length packet.keys → at ≡ gate → ReplayLeavesAt s cone n0 closed n bytes gate at
-  Too_many : (packet : Packet) → HoldsPacket s cone (most_payload s) bytes gate packet → closed ≡ false → capacity s < n + length packet.keys → at ≡ gate + 1 → ReplayLeavesAt s cone n0 closed n bytes gate at
+  Too_many : (packet : Packet) → HoldsPacket s cone (most_payload s) bytes gate packet → closed ≡ false → capacity s < n + length packet.keys → at ≡ gate + 1 →
+      ReplayLeavesAt s cone n0 closed n bytes gate at

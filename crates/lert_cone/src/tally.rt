@@ -7,7 +7,6 @@ ghost use Rattle.lert_spec.specs.Mix.{cone_of};
 ghost use Rattle.lert_rows.specs.Rows.{IsAt, AreRows, directory_text};
 
 use crate::due::Due;
-use totals::{bring, scan_into};
 use lert_base::{CountTable, Settings};
 use lert_bay::{Bay, FRAMES, LOG};
 use lert_io::{Failed, Seen};
@@ -15,6 +14,7 @@ use lert_levels::{FlushFault, Levels, Zero};
 use lert_mixer::tail_of;
 use lert_reports::ReportStore;
 use std::marker::{Brand, Model};
+use totals::{bring, scan_into};
 
 mod recount;
 mod totals;

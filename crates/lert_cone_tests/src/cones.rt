@@ -25,7 +25,12 @@ const SMALL: Numbers = Numbers {
 };
 
 // An entry with these keys, all of the only cone.
-pub fn entry(rt: &impl Abort, alloc: Global, settings: &Settings, keys: &[u64]) -> Result<Entry, Fail>
+pub fn entry(
+    rt: &impl Abort,
+    alloc: Global,
+    settings: &Settings,
+    keys: &[u64],
+) -> Result<Entry, Fail>
     requires some { 0 < length keys.now }
     requires few { length keys.now ≤ 4 * settings.now.packet }
     ensures { IfOk result (λ entry. IsJournaled settings.now 0 (packet_of entry)) }
@@ -45,7 +50,11 @@ pub fn small(room: u64) -> Result<Settings, Fail>
     Ok(settings.ok().ok_or("the numbers are settings")?)
 }
 
-pub fn created<B: Bay>(alloc: Global, settings: &Settings, bay: B) -> Result<Cone<B, PlainTable>, Fail>
+pub fn created<B: Bay>(
+    alloc: Global,
+    settings: &Settings,
+    bay: B,
+) -> Result<Cone<B, PlainTable>, Fail>
 where
     B: Drop,
     ensures settings { IfOk result (λ c. c.listing.settings ≡ settings.now) }

@@ -26,8 +26,8 @@ fn check_on(
     text: &str,
 ) -> Result<Ended, Fail> {
     let ended = run_on(rt.alloc(), &long_form(numbers), trace, 0, bay)?;
-    assert_eq!(rt; ended.status, status);
-    assert_eq!(rt; ended.text.as_slice(), text.as_bytes());
+    assert!(rt; ended.ended_with(status), "the status");
+    assert!(rt; ended.wrote(text), "the text");
     Ok(ended)
 }
 
@@ -134,8 +134,11 @@ fn the_first_cone_with_a_byte_is_named(rt: HostRuntime) -> Result<(), Fail> {
     for file in 0..3 {
         let bay = bay_with_a_byte(rt.alloc(), file)?;
         let ended = run_on(rt.alloc(), &long_form(HALVES), trace.as_slice(), 1, bay)?;
-        assert_eq!(rt; ended.status, Status::NotFresh { cone: 1 });
-        assert_eq!(rt; ended.text.as_slice(), b"".as_slice());
+        assert!(rt;
+            ended.ended_with(Status::NotFresh { cone: 1 }),
+            "the status"
+        );
+        assert!(rt; ended.wrote(""), "the text");
     }
     Ok(())
 }
@@ -152,8 +155,8 @@ fn a_cone_without_a_bay_is_a_fault_of_the_place(rt: HostRuntime) -> Result<(), F
             failing_write: 0,
         };
         let ended = run_row(rt.alloc(), &row)?;
-        assert_eq!(rt; ended.status, Status::PlaceFault);
-        assert_eq!(rt; ended.text.as_slice(), b"".as_slice());
+        assert!(rt; ended.ended_with(Status::PlaceFault), "the status");
+        assert!(rt; ended.wrote(""), "the text");
         assert!(rt; ended.trace);
         assert_eq!(rt; ended.bays, cones);
     }

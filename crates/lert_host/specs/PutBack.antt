@@ -1,6 +1,6 @@
 -- The object that was last put back under a number.
 use Rattle.std.specs.Prelude.{ℕ, ◌==◌, List, [], ◌∷◌, reverse, Option, Some, None, if◌then◌else◌}
-use Rattle.lert_program.specs.declared.handed.PutBack.{PutBack}
+use Rattle.lert_host.specs.declared.handed.PutBack.{PutBack}
 
 -- the first with a number, where the newest stands first
 abbrev pub first_with : {T : Type 0} → List (PutBack T) → ℕ → Option T

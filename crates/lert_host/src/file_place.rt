@@ -3,7 +3,7 @@
 ghost use Rattle.std.specs.Prelude.{◌≡◌, ◌<◌, ◌≤◌, ◌++◌, ◌∷◌, [], length, string_bytes, IfSome, IfOk};
 ghost use Rattle.std.specs.Path.{path_buf_bytes, path_join};
 ghost use Rattle.lert_io.specs.Fault.{HasRisen};
-ghost use Rattle.lert_program.specs.Name.{cone_file};
+ghost use Rattle.lert_host.specs.Name.{cone_file};
 
 use crate::file_bay::FileBay;
 use crate::file_source::FileSource;
@@ -130,7 +130,7 @@ impl<'a, R: Files<File = File> + AllocGlobal> Place for FilePlace<'a, R> {
 
     type Bay = FileBay;
 
-    ghost use Rattle.lert_program.specs.PutBack.{last_returned};
+    ghost use Rattle.lert_host.specs.PutBack.{last_returned};
 
     ghost asked = { λ p. p.asked };
 

@@ -1,5 +1,5 @@
 -- Cones that are made over bays one by one.
-use Rattle.std.proofs.Common.{◌≡◌, ℕ, ◌<◌, ◌≤◌, List, [], ◌∷◌, ◌++◌, length, get_or, Option, Some, slice_get, refl, ap, sym, ◌∙◌, subst, inl, inr, arith, length-append}
+use Rattle.std.proofs.Common.{◌≡◌, ℕ, ◌+◌, ◌<◌, ◌≤◌, true, List, [], ◌∷◌, ◌++◌, length, get_or, Option, Some, slice_get, refl, ap, sym, ◌∙◌, subst, inl, inr, arith, length-append}
 use Rattle.std.proofs.lemmas.Bool.{cases_eq}
 use Rattle.std.proofs.lemmas.List.{length-map}
 use Rattle.std.proofs.lemmas.Option.{slice_get-get_or, slice_get_within, same_Some}
@@ -10,7 +10,7 @@ use Rattle.lert_cone.specs.declared.refusal.CreateFault.{CreateFault}
 use Rattle.lert_cone.specs.declared.refusal.CreateFault.TheVariants as create_fault
 use Rattle.lert_io.specs.Fault.{HasRisen}
 use Rattle.lert_ingest.specs.Bays.{AreFresh, AreLater, IsLater, bays_of}
-use Rattle.lert_ingest.specs.Run.{IsUnmade}
+use Rattle.lert_ingest.specs.Run.{IsUnmade, is_past_freshness}
 use Rattle.lert_ingest.specs.Status.{create_status}
 use Rattle.lert_ingest.specs.declared.status.Status.{Status}
 use Rattle.lert_ingest.specs.declared.status.Status.TheVariants.{Done, Usage, PlaceFault, TraceFault, BadTrace, TooLong, NotFresh, BayFault, CapacityFull, Malformed, OtherSettings, OutFault, OutOfMemory}
@@ -29,7 +29,16 @@ each-push P xs y each last k x is =
           each k x (sym (slice_get-first xs (y ∷ []) k below) ∙ is)
     ]
 
+-- a list without an item
+pub none_left : {X : Type 0} (xs : List X) → length xs ≡ 0 → xs ≡ []
+none_left [] none = refl
+none_left (x ∷ xs) none = absurd (omega (arith, none))
+
 module _ {B : Type 0} (files : B → Option Files) (faults mark : B → ℕ) where
+  -- cones and the bays that are left are as many as the bays before
+  pub cones_and_left : (bays : List B) (cones : List (Standing B)) (rest : List B) → AreLater files faults mark bays (bays_of cones ++ rest) → length cones + length rest ≡ length bays
+  cones_and_left bays cones rest later = omega (arith, later.number, length-append (bays_of cones) rest, length-map cones (λ (c : Standing B). c.bay))
+
   -- what a call of a bay leaves
   pub call_later : (old new : B) → mark new ≡ mark old → faults old ≤ faults new → {step : Files → Files → Type 0} → Turns step (files old) (files new) → IsLater files faults mark old new
   call_later old new marked falls turns = record {
@@ -92,3 +101,19 @@ module _ {B : Type 0} (files : B → Option Files) (faults mark : B → ℕ) whe
   unmade_since first then now one two fresh fresh_then (OtherSettings cone) unmade = absurd unmade
   unmade_since first then now one two fresh fresh_then OutFault unmade = absurd unmade
   unmade_since first then now one two fresh fresh_then OutOfMemory unmade = tt
+
+-- a status that says why no cones were made comes before the files were found to be empty
+pub unmade_before : {B : Type 0} (files : B → Option Files) (faults : B → ℕ) (bays later : List B) (status : Status) → IsUnmade files faults bays later status → is_past_freshness status ≡ true → ⊥
+unmade_before files faults bays later Done unmade past = absurd unmade
+unmade_before files faults bays later (Usage rule) unmade past = absurd unmade
+unmade_before files faults bays later PlaceFault unmade past = absurd unmade
+unmade_before files faults bays later (TraceFault trace) unmade past = absurd unmade
+unmade_before files faults bays later (BadTrace trace at) unmade past = absurd unmade
+unmade_before files faults bays later (TooLong trace) unmade past = absurd unmade
+unmade_before files faults bays later (NotFresh cone) unmade past = absurd (cc)
+unmade_before files faults bays later (BayFault cone) unmade past = absurd (cc)
+unmade_before files faults bays later (CapacityFull cone n len) unmade past = absurd unmade
+unmade_before files faults bays later (Malformed cone file at) unmade past = absurd unmade
+unmade_before files faults bays later (OtherSettings cone) unmade past = absurd unmade
+unmade_before files faults bays later OutFault unmade past = absurd unmade
+unmade_before files faults bays later OutOfMemory unmade past = absurd (cc)

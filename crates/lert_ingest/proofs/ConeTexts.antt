@@ -1,7 +1,7 @@
 -- The texts of cones, one behind the other.
-use Rattle.std.proofs.Common.{◌≡◌, ℕ, ◌+◌, ◌^◌, ◌≤◌, zero, suc, true, List, [], ◌∷◌, ◌++◌, length, map, get_or, slice_get, take, drop, sum_by, Option, Some, refl, ap, sym, ◌∙◌, subst, arith, append_assoc, append-nil, length-append}
+use Rattle.std.proofs.Common.{◌≡◌, ℕ, ◌+◌, ◌≤◌, zero, suc, true, List, [], ◌∷◌, ◌++◌, length, map, get_or, slice_get, take, drop, sum_by, Option, Some, ap, sym, ◌∙◌, subst, arith, append_assoc, append-nil}
 use Rattle.std.proofs.lemmas.List.{length-map, length-take-le, take-append-drop}
-use Rattle.std.proofs.lemmas.List.FromFn.{fill_by_all, take-map-range_with_len}
+use Rattle.std.proofs.lemmas.List.FromFn.{fill_by_all}
 use Rattle.std.proofs.lemmas.Option.{same_Some, slice_get-get_or, slice_get_within}
 use Rattle.lert_base.specs.Beginning.{BeginsWith}
 use Rattle.lert_bay.specs.Files.{Files, IfTold}
@@ -9,14 +9,13 @@ use Rattle.lert_cone.specs.Listing.{Listing, reports_of}
 use Rattle.lert_cone.specs.Stands.{Standing, is_finished}
 use Rattle.lert_cone.specs.declared.state.ConeState.TheVariants.{Finished}
 use Rattle.lert_spec.specs.declared.numbers.Numbers.{Numbers}
-use Rattle.lert_spec.specs.declared.report.Report.{Report}
 use Rattle.lert_spec.specs.Lines.{Printed, cone_text, cone_texts, lines, total_line}
 use Rattle.lert_spec.specs.Look.{closing}
 use Rattle.lert_spec.specs.Mix.{part_of}
 use Rattle.lert_ingest.specs.Bays.{AreTold}
 use Rattle.lert_text.specs.Page.{IsCut}
 use Rattle.lert_ingest.specs.Print.{printed_as}
-use Rattle.lert_ingest.specs.Run.{ArePrinted, IsPrinted, printed, printed_of, text_of}
+use Rattle.lert_ingest.specs.Run.{ArePrinted, IsPrinted, printed, printed_of}
 use Rattle.lert_ingest.proofs.BayLaws.{slice_get-some}
 use Rattle.lert_text.proofs.Printing.{IsCut-more}
 

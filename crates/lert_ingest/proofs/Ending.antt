@@ -1,5 +1,5 @@
 -- Which status a run ends with.
-use Rattle.std.proofs.Common.{◌≡◌, ◌≢◌, ◌⊎◌, ℕ, ◌^◌, ◌<◌, ◌≤◌, true, false, List, [], length, Option, Some, None, slice_get, refl, ap, sym, ◌∙◌, subst, inl, inr, arith}
+use Rattle.std.proofs.Common.{◌≡◌, ◌≢◌, ◌⊎◌, ℕ, ◌^◌, ◌<◌, ◌≤◌, true, false, List, length, Option, Some, None, slice_get, refl, ap, sym, ◌∙◌, subst, inl, inr, arith}
 use Rattle.std.proofs.lemmas.Bool.{cases_lt}
 use Rattle.lert_bay.specs.Files.{Files}
 use Rattle.lert_cone.specs.Sound.{AreEmpty}
@@ -17,6 +17,19 @@ some_is same = cc
 
 pub true_is_false : true ≡ false → ⊥
 true_is_false same = cc
+
+-- some statuses differ
+pub no_memory_no_place : OutOfMemory ≡ PlaceFault → ⊥
+no_memory_no_place same = cc
+
+pub no_memory_not_done : OutOfMemory ≡ Done → ⊥
+no_memory_not_done same = cc
+
+pub no_memory_no_usage : (rule : ℕ) → OutOfMemory ≡ Usage rule → ⊥
+no_memory_no_usage rule same = cc
+
+pub no_place_no_usage : (rule : ℕ) → PlaceFault ≡ Usage rule → ⊥
+no_place_no_usage rule same = cc
 
 -- what rose had no room for a count without a fault
 pub no_rise : (a b : ℕ) → IsFaultless a b → HasRisen a b → ⊥

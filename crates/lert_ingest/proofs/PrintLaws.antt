@@ -1,16 +1,14 @@
 -- What finished cones print.
-use Rattle.std.proofs.Common.{◌≡◌, ℕ, ◌^◌, ◌<◌, zero, suc, true, false, List, [], ◌∷◌, ◌++◌, length, map, slice_get, Option, Some, refl, ap, sym, ◌∙◌, subst, arith, append-nil}
+use Rattle.std.proofs.Common.{◌≡◌, ℕ, ◌^◌, ◌<◌, zero, suc, true, List, [], ◌∷◌, ◌++◌, length, map, slice_get, Option, Some, ap, sym, ◌∙◌, subst, arith, append-nil}
 use Rattle.std.proofs.lemmas.List.{length-map}
 use Rattle.std.proofs.lemmas.Option.{same_Some, slice_get_within}
 use Rattle.lert_base.specs.Packet.{events_of}
 use Rattle.lert_bay.specs.Files.{Files}
-use Rattle.lert_buffers.specs.Rings.{Rings, ring_of}
+use Rattle.lert_buffers.specs.Rings.{Rings}
 use Rattle.lert_cone.specs.Listing.{Listing}
 use Rattle.lert_cone.specs.Stands.{Standing, is_broken}
 use Rattle.lert_cone.specs.declared.state.ConeState.TheVariants.{Finished}
 use Rattle.lert_spec.specs.declared.numbers.Numbers.{Numbers}
-use Rattle.lert_spec.specs.Lines.{Printed}
-use Rattle.lert_spec.specs.Mix.{part_of}
 use Rattle.lert_ingest.specs.Bays.{bays_of}
 use Rattle.lert_ingest.specs.Lanes.{AreDrained, AreLanes, closed_cones}
 use Rattle.lert_ingest.specs.Print.{ArePrintable, printed_as}

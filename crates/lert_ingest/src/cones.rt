@@ -35,11 +35,17 @@ pub fn make_cones<B: Bay>(
     ensures kept { OnErr result (AreLater B.files B.faults B.mark bays.old.items bays.new.items) }
     ensures unmade { IfErr result (IsUnmade B.files B.faults bays.old.items bays.new.items) }
 {
-    let rooms = make_rooms(alloc, settings)?;
-    let Ok(cones) = Vec::with_capacity(alloc, settings.cones() as usize) else {
+    let mut rooms = make_rooms(alloc, settings)?;
+    let Ok(mut cones) = Vec::with_capacity(alloc, settings.cones() as usize) else {
         return Err(Status::OutOfMemory);
     };
-    fill_rooms(settings, rooms, bays, cones)
+    match fill_rooms(settings, &mut rooms, bays, &mut cones) {
+        Ok(()) => Ok(cones),
+        Err(status) => {
+            bring_back(cones, bays);
+            Err(status)
+        }
+    }
 }
 
 /// The memory of all cones. Its only error is want of memory.
@@ -54,50 +60,53 @@ pub fn make_rooms(alloc: Global, settings: &Settings) -> Result<Vec<ConeRoom<Cqf
     Ok(rooms)
 }
 
-// A cone over each bay, in ascending order, in an empty list with room for all.
+// A cone over each bay, in ascending order, in an empty list with room for all. Both lists are lent, so that no exit has to
+// let go a cone's memory: after a refusal the cones that were made have the bays before those that are left.
 fn fill_rooms<B: Bay>(
     settings: &Settings,
-    mut rooms: Vec<ConeRoom<Cqf>>,
+    rooms: &mut Vec<ConeRoom<Cqf>>,
     bays: &mut VecDeque<B>,
-    mut cones: Vec<Cone<B, Cqf>>,
-) -> Result<Vec<Cone<B, Cqf>>, Status>
+    cones: &mut Vec<Cone<B, Cqf>>,
+) -> Result<(), Status>
     requires number { length bays.old.items ≡ 2 ^ settings.now.cone_bits }
     requires room { length bays.old.items ≤ deque_capacity bays.old }
     requires fresh { AreFresh B.files bays.old.items }
-    requires rooms_number { length rooms.items ≡ 2 ^ settings.now.cone_bits }
-    requires rooms { All (IsNewRoom settings.now) rooms.items }
-    requires none { cones.items ≡ [] }
-    requires cones_room { 2 ^ settings.now.cone_bits ≤ vec_capacity cones }
-    ensures new_cones { IfOk result (λ made. AreNew B.files B.leaves B.faults settings.now made.items) }
-    ensures number { IfOk result (λ made. length made.items ≡ 2 ^ settings.now.cone_bits) }
+    requires rooms_number { length rooms.old.items ≡ 2 ^ settings.now.cone_bits }
+    requires rooms { All (IsNewRoom settings.now) rooms.old.items }
+    requires none { cones.old.items ≡ [] }
+    requires cones_room { 2 ^ settings.now.cone_bits ≤ vec_capacity cones.old }
+    ensures new_cones { OnOk result (AreNew B.files B.leaves B.faults settings.now cones.new.items) }
+    ensures number { OnOk result (length cones.new.items ≡ 2 ^ settings.now.cone_bits) }
     ensures emptied { OnOk result (bays.new.items ≡ []) }
     ensures room { deque_capacity bays.new ≡ deque_capacity bays.old }
-    ensures later { IfOk result (λ made. AreLater B.files B.faults B.mark bays.old.items (bays_of made.items)) }
-    ensures kept { OnErr result (AreLater B.files B.faults B.mark bays.old.items bays.new.items) }
-    ensures unmade { IfErr result (IsUnmade B.files B.faults bays.old.items bays.new.items) }
+    ensures later { AreLater B.files B.faults B.mark bays.old.items (bays_of cones.new.items ++ bays.new.items) }
+    ensures unmade { IfErr result (IsUnmade B.files B.faults bays.old.items (bays_of cones.new.items ++ bays.new.items)) }
 {
     for number in 0..settings.cones() {
-        let Some(room) = rooms.pop() else {
+        let Some(bay) = bays.pop_front() else {
             unreachable!()
         };
-        let Some(bay) = bays.pop_front() else {
+        let Some(room) = rooms.pop() else {
             unreachable!()
         };
         match Cone::create(room, number, bay) {
             Ok(cone) => cones.push_reserved(cone),
             Err(refused) => {
-                let CreateRefused {
-                    fault,
-                    bay,
-                    room: _,
-                } = refused;
-                bays.push_front_reserved(bay);
-                bring_back(cones, bays);
+                let fault = refused.fault;
+                bays.push_front_reserved(bay_of(refused));
                 return Err(status_of(number, fault));
             }
         }
     }
-    Ok(cones)
+    Ok(())
+}
+
+// The bay that no cone was made over. The cone's memory is let go.
+fn bay_of<B: Bay>(refused: CreateRefused<B, Cqf>) -> B
+    ensures { result ≡ refused.bay }
+{
+    let CreateRefused { bay, .. } = refused;
+    bay
 }
 
 // The status of a run in which the cone of a number wasn't made.

@@ -1,6 +1,7 @@
 -- One stream after another is asked.
 use Rattle.std.proofs.Common.{◌≡◌, ◌≢◌, ℕ, ◌<◌, ◌≤◌, Option, Some, None, List, ◌++◌, length, get_or, arith, sym, ap, ◌∙◌, refl, subst, inl, inr, ◌⊎◌}
-use Rattle.std.proofs.lemmas.Bool.{cases_eq}
+use Rattle.std.proofs.lemmas.Bool.{cases_eq, cases_lt}
+use Rattle.lert_io.specs.Fault.{HasRisen, last_count}
 use Rattle.lert_spec.specs.declared.piece.Piece.{Piece}
 use Rattle.lert_merge.specs.declared.heads.Head.TheVariants.{Unread}
 use Rattle.lert_merge.specs.Seats.{seat_at, ahead}
@@ -52,6 +53,13 @@ stay_on to_come given limit breaks a b c x y z first then = record {
         same_breaks = λ at. ((λ b. (one.same_breaks at).0 ((two.same_breaks at).0 b)), (λ b. (two.same_breaks at).1 ((one.same_breaks at).1 b)));
       };
 }
+
+-- a count that has risen since a later moment
+pub risen : (a b c : ℕ) → a ≤ b → b ≤ c → HasRisen b c → HasRisen a c
+risen a b c before after rose below = elim (cases_lt b last_count) [
+  | inl under ↦ (let more = rose under in omega arith)
+  | inr past ↦ omega arith
+]
 
 pub filled_more : {P C : Type 0} (to_come : P → C → Option (List Piece)) (given : P → List Piece) (limit : P → ℕ) (breaks : P → C → ℕ → Type 0)
     (keeps : C → C → Type 0) (faults mark : C → ℕ) (a b c : C) (x y z : Merging P) (i : ℕ) →

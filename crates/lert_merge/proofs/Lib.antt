@@ -3,6 +3,7 @@ pub mod BeginLemmas
 pub mod DrawLemmas
 pub mod FillLemmas
 pub mod ReadLemmas
+pub mod PutLemmas
 pub mod GiveLemmas
 pub mod ToldLemmas
 pub mod MergedLemmas

@@ -1,13 +1,13 @@
 -- One stream of a merge is asked, and the others stay.
-use Rattle.std.proofs.Common.{◌≡◌, ◌≢◌, ℕ, ◌+◌, ◌<◌, ◌≤◌, Option, Some, None, List, [], ◌∷◌, ◌++◌, length, set, get_or, arith, sym, ap, ◌∙◌, refl, subst, inl, inr, MatchOption, get_or-set_same, get_or-set_other, length-set, option_to_list}
+use Rattle.std.proofs.Common.{◌≡◌, ◌≢◌, ℕ, ◌+◌, ◌<◌, ◌≤◌, Option, Some, None, List, [], ◌∷◌, ◌++◌, length, set, get_or, arith, sym, ap, ◌∙◌, refl, subst, inl, inr, MatchOption, get_or-set_same, get_or-set_other, length-set, option_to_list, append_assoc, ◌↔◌}
 use Rattle.std.proofs.lemmas.Bool.{cases_eq}
 use Rattle.std.proofs.lemmas.List.{get_or_default}
 use Rattle.lert_spec.specs.declared.piece.Piece.{Piece}
 use Rattle.lert_spec.specs.Table.{AreGiven, AscendsFrom}
 use Rattle.lert_merge.specs.declared.heads.Head.TheVariants.{Unread}
 use Rattle.lert_merge.specs.declared.heads.Seat.{Seat}
-use Rattle.lert_merge.specs.Seats.{Seats, seat_at, fresh, head_from}
-use Rattle.lert_merge.specs.Merging.{Merging, IsMerging, IsSeated, EndsAbove, IsToCome, AllTold}
+use Rattle.lert_merge.specs.Seats.{Seats, seat_at, fresh, ahead, head_from}
+use Rattle.lert_merge.specs.Merging.{Merging, IsMerging, IsSeated, EndsAbove, IsToCome, Stays, AllStay, AllTold}
 
 -- what holds of the stream that was changed, and of each other, holds of each
 pub each_stream : {P : Type 0} (Q : ℕ → P → Type 0) (streams : List P) (i : ℕ) (new : P) → i < length streams → Q i new →
@@ -93,6 +93,68 @@ merging_put given limit streams seats room last i old new piece seat after is wi
       seated = λ k d under. each_seated (λ k s seat. IsSeated (limit s) (given s) last seat.head) streams seats i new seat as_many within seated
           (λ k d ne under. is.seated k d under) k d (omega arith);
     })
+
+-- one stream stays with what is read ahead of it, and the others are as they were
+pub all_stay_at : {P C : Type 0} (to_come : P → C → Option (List Piece)) (given : P → List Piece) (limit : P → ℕ) (breaks : P → C → ℕ → Type 0) (keeps : C → C → Type 0) (a b : C) (before : Merging P)
+    (streams : List P) (seats : List Seat) (room : ℕ) (last : Option ℕ) (i : ℕ) (old new : P) (after : Seats) →
+    record { streams = streams; seats = seats; room = room; last = last } ≡ before → i < length streams → old ≡ get_or streams i old →
+    length after.seats ≡ length seats → after.room ≡ room → ((k : ℕ) → (seat_at after.seats k).share ≡ (seat_at seats k).share) →
+    ((k : ℕ) → k ≢ i → seat_at after.seats k ≡ seat_at seats k) → Stays to_come given limit breaks a old (seat_at seats i).head b new (seat_at after.seats i).head →
+    ((other : P) (a b : C) → keeps a b → to_come other a ≡ None → to_come other b ≡ None) →
+    ((other : P) (a b : C) (at : ℕ) → keeps a b → (breaks other b at ↔ breaks other a at)) → keeps a b →
+    AllStay to_come given limit breaks a before b (record { streams = set streams i new; seats = after.seats; room = after.room; last = last })
+all_stay_at {P} to_come given limit breaks keeps a b before streams seats room last i old new after seen within at count same_room shares others stays untold broken kept =
+    subst (λ (m : Merging P). AllStay to_come given limit breaks a m b (record { streams = set streams i new; seats = after.seats; room = after.room; last = last })) seen
+    (record {
+      streams = length-set streams i new;
+      seats = count;
+      room = same_room;
+      last = refl;
+      shares = shares;
+      each = λ k d under.
+          each_stream (λ k s. Stays to_come given limit breaks a (get_or streams k d) (seat_at seats k).head b s (seat_at after.seats k).head) streams i new within
+          (subst (λ s. Stays to_come given limit breaks a s (seat_at seats i).head b new (seat_at after.seats i).head) (at ∙ get_or_default streams i old d within) stays)
+          (λ k e ne below.
+          subst (λ s. Stays to_come given limit breaks a s (seat_at seats k).head b (get_or streams k e) (seat_at after.seats k).head) (get_or_default streams k e d below)
+          (subst (λ h. Stays to_come given limit breaks a (get_or streams k e) (seat_at seats k).head b (get_or streams k e) h) (sym (ap (λ s. s.head) (others k ne)))
+          (record { taken = λ pieces is. is; untold = untold (get_or streams k e) a b kept; limits = refl; same_breaks = λ n. broken (get_or streams k e) a b n kept })))
+          k d under;
+    })
+
+ahead_from : (piece : Option Piece) → option_to_list piece ≡ ahead (head_from piece)
+ahead_from None = refl
+ahead_from (Some p) = refl
+
+-- a stream stays where its answer is put down
+pub all_stay_put : {P C : Type 0} (to_come : P → C → Option (List Piece)) (given : P → List Piece) (limit : P → ℕ) (breaks : P → C → ℕ → Type 0) (keeps : C → C → Type 0) (a b : C) (before : Merging P)
+    (streams : List P) (seats : List Seat) (room : ℕ) (last : Option ℕ) (i : ℕ) (old new : P) (piece : Option Piece) (seat : Seat) (after : Seats) →
+    record { streams = streams; seats = seats; room = room; last = last } ≡ before → length seats ≡ length streams → i < length streams → old ≡ get_or streams i old →
+    (seat_at seats i).head ≡ Unread → seat.head ≡ head_from piece → seat.share ≡ (seat_at seats i).share → after ≡ record { seats = set seats i seat; room = room } →
+    given new ≡ given old ++ option_to_list piece → (to_come old a ≡ None → to_come new b ≡ None) → limit new ≡ limit old → ((at : ℕ) → breaks new b at ↔ breaks old a at) →
+    ((other : P) (a b : C) → keeps a b → to_come other a ≡ None → to_come other b ≡ None) →
+    ((other : P) (a b : C) (at : ℕ) → keeps a b → (breaks other b at ↔ breaks other a at)) → keeps a b →
+    AllStay to_come given limit breaks a before b (record { streams = set streams i new; seats = after.seats; room = after.room; last = last })
+all_stay_put {P} to_come given limit breaks keeps a b before streams seats room last i old new piece seat after seen len within at unread put share now gave silent limits same untold broken kept =
+    let inside : i < length seats = omega arith in
+    let here : seat_at (set seats i seat) i ≡ seat = get_or-set_same seats i seat fresh inside in
+    subst (λ (h : Seats). AllStay to_come given limit breaks a before b (record { streams = set streams i new; seats = h.seats; room = h.room; last = last })) (sym now)
+    (all_stay_at to_come given limit breaks keeps a b before streams seats room last i old new (record { seats = set seats i seat; room = room }) seen within at
+    (length-set seats i seat) refl
+    (λ k. elim (cases_eq k i) [
+      | inl same ↦ subst (λ n. (seat_at (set seats i seat) n).share ≡ (seat_at seats n).share) (sym same) (ap (λ s. s.share) here ∙ share)
+      | inr ne ↦ ap (λ s. s.share) (get_or-set_other seats i k seat fresh ne)
+    ])
+    (λ k ne. get_or-set_other seats i k seat fresh ne)
+    (subst (λ h. Stays to_come given limit breaks a old (seat_at seats i).head b new h) (sym (ap (λ s. s.head) here ∙ put))
+    (record {
+      taken = λ pieces is.
+          (let joined : (pieces ++ []) ++ option_to_list piece ≡ pieces ++ option_to_list piece = simp append_assoc in
+          gave ∙ ap (λ xs. xs ++ option_to_list piece) (is ∙ ap (λ h. pieces ++ ahead h) unread) ∙ joined ∙ ap (λ xs. pieces ++ xs) (ahead_from piece));
+      untold = silent;
+      limits = limits;
+      same_breaks = same;
+    }))
+    untold broken kept)
 
 -- where a stream's pieces are told, its answer is the first of them
 told_put : {P C : Type 0} (to_come : P → C → Option (List Piece)) (a b : C) (old new : P) (piece : Option Piece) (pieces : List Piece) →

@@ -10,9 +10,14 @@ use std::test::Fail;
 // A bay whose journal holds `old`, and whose second call fails.
 fn failing_bay(alloc: Global) -> Result<MemBay, OutOfMemory> {
     let mut bay = MemBay::new(alloc)?;
+    prepare(&mut bay)?;
+    Ok(bay)
+}
+
+fn prepare(bay: &mut MemBay) -> Result<(), OutOfMemory> {
     bay.load(JOURNAL, b"old")?;
     bay.fail_at(2);
-    Ok(bay)
+    Ok(())
 }
 
 #[test]

@@ -1,3 +1,4 @@
+pub mod BayLaws
 pub mod FinalLaws
 pub mod ReopenLaws
 pub mod ReplayedLaws

@@ -20,6 +20,9 @@ use Rattle.lert_recover.proofs.ReplayedLaws.{replayed_more}
 pub journal_none : (files : Option Files) → IsJournalSame files files
 journal_none files = record { told = λ old told. (old, told, refl); untold = λ none. none }
 
+pub journal_same : (before after : Option Files) → after ≡ before → IsJournalSame before after
+journal_same before after same = record { told = λ old told. (old, same ∙ told, refl); untold = λ none. same ∙ none }
+
 pub journal_on : (first middle last : Option Files) → IsJournalSame first middle → IsJournalSame middle last → IsJournalSame first last
 journal_on first middle last one two = record {
   told = λ old told.

@@ -4,7 +4,7 @@ use crate::settings::alone;
 use lert_bay::{FRAMES, JOURNAL, LOG, MemBay};
 use lert_cone::{Cone, ConeRoom, ConeState};
 use lert_plain::PlainTable;
-use lert_recover::{ReopenFault, ReopenRefused, reopen};
+use lert_recover::{ReopenFault, reopen};
 use std::alloc::Global;
 use std::test::Fail;
 
@@ -35,16 +35,8 @@ fn bay(alloc: Global, files: &[&[u8]; 3]) -> Result<MemBay, Fail> {
     Ok(bay)
 }
 
-fn opened(
-    alloc: Global,
-    bay: MemBay,
-) -> Result<Result<Cone<MemBay, PlainTable>, ReopenRefused<MemBay>>, Fail> {
-    let settings = alone()?;
-    Ok(reopen(ConeRoom::new(alloc, &settings)?, 0, bay))
-}
-
 // What there is to see of a cone that was reopened, or why there is none.
-#[derive(Drop, Debug, PartialEq, Eq)]
+#[derive(Clone, Copy, Debug, PartialEq, Eq)]
 struct Answer {
     state: Option<ConeState>,
     events: u64,
@@ -52,21 +44,30 @@ struct Answer {
     fault: Option<ReopenFault>,
 }
 
-fn answer_to(alloc: Global, bay: MemBay) -> Result<Answer, Fail> {
-    match opened(alloc, bay)? {
-        Ok(cone) => Ok(Answer {
-            state: Some(cone.state()),
-            events: cone.events(),
-            reports: cone.reports().len() as u64,
-            fault: None,
+// An answer, and the bay behind it.
+#[derive(Drop)]
+struct Found {
+    answer: Answer,
+    bay: MemBay,
+}
+
+fn reopened(alloc: Global, bay: MemBay) -> Result<Found, Fail> {
+    let settings = alone()?;
+    let room: ConeRoom<PlainTable> = ConeRoom::new(alloc, &settings)?;
+    match reopen(room, 0, bay) {
+        Ok(cone) => Ok(Found {
+            answer: answer_of(&cone),
+            bay: cone.into_bay(),
         }),
-        Err(refused) => Ok(Answer {
-            state: None,
-            events: 0,
-            reports: 0,
-            fault: Some(refused.fault),
+        Err(refused) => Ok(Found {
+            answer: is_refused(refused.fault),
+            bay: refused.bay,
         }),
     }
+}
+
+fn answer_of(cone: &Cone<MemBay, PlainTable>) -> Answer {
+    is_open(cone.state(), cone.events(), cone.reports().len() as u64)
 }
 
 fn is_open(state: ConeState, events: u64, reports: u64) -> Answer {
@@ -78,13 +79,17 @@ fn is_open(state: ConeState, events: u64, reports: u64) -> Answer {
     }
 }
 
-fn is_left(file: u8, at: u64) -> Answer {
+fn is_refused(fault: ReopenFault) -> Answer {
     Answer {
         state: None,
         events: 0,
         reports: 0,
-        fault: Some(ReopenFault::Malformed { file, at }),
+        fault: Some(fault),
     }
+}
+
+fn is_left(file: u8, at: u64) -> Answer {
+    is_refused(ReopenFault::Malformed { file, at })
 }
 
 #[test]
@@ -108,8 +113,8 @@ fn files_make_a_cone_or_leave_their_format(rt: HostRuntime) -> Result<(), Fail> 
         ([&empty[..32], &CLOSED, &[]], is_left(JOURNAL, 32)),
     ];
     for (files, wanted) in rows {
-        let bay = bay(rt.alloc(), &files)?;
-        assert_eq!(rt; answer_to(rt.alloc(), bay)?, wanted);
+        let found = reopened(rt.alloc(), bay(rt.alloc(), &files)?)?;
+        assert_eq!(rt; found.answer, wanted);
     }
     Ok(())
 }
@@ -117,21 +122,14 @@ fn files_make_a_cone_or_leave_their_format(rt: HostRuntime) -> Result<(), Fail> 
 #[test]
 fn a_flush_that_the_run_did_not_come_to(rt: HostRuntime) -> Result<(), Fail> {
     let alloc = rt.alloc();
-    let stopped = bay(alloc, &[&TWELVE, &BEGUN, &[]])?;
-    let Ok(cone) = opened(alloc, stopped)? else {
-        return Err(Fail::new("the files are sound"));
-    };
-    let written = cone.into_bay();
-    assert_eq!(rt; written.bytes(LOG), FLUSHED.as_slice());
-    let frames = written.bytes(FRAMES);
+    let first = reopened(alloc, bay(alloc, &[&TWELVE, &BEGUN, &[]])?)?;
+    assert_eq!(rt; first.bay.bytes(LOG), FLUSHED.as_slice());
+    let frames = first.bay.bytes(FRAMES);
     let cut = frames.get(..10).ok_or("a frame was written")?;
-    let again = bay(alloc, &[&TWELVE, &FLUSHED, frames])?;
-    assert_eq!(rt;
-        answer_to(alloc, again)?,
-        is_open(ConeState::Running, 12, 1)
-    );
-    let short = bay(alloc, &[&TWELVE, &FLUSHED, cut])?;
-    assert_eq!(rt; answer_to(alloc, short)?, is_left(FRAMES, 10));
+    let again = reopened(alloc, bay(alloc, &[&TWELVE, &FLUSHED, frames])?)?;
+    assert_eq!(rt; again.answer, is_open(ConeState::Running, 12, 1));
+    let short = reopened(alloc, bay(alloc, &[&TWELVE, &FLUSHED, cut])?)?;
+    assert_eq!(rt; short.answer, is_left(FRAMES, 10));
     Ok(())
 }
 
@@ -140,10 +138,8 @@ fn a_call_that_fails_is_told(rt: HostRuntime) -> Result<(), Fail> {
     for call in 1..9 {
         let mut failing = bay(rt.alloc(), &[&THREE, &CLOSED, &[]])?;
         failing.fail_at(call);
-        let Err(refused) = opened(rt.alloc(), failing)? else {
-            return Err(Fail::new("a call failed"));
-        };
-        assert_eq!(rt; refused.fault, ReopenFault::Failed);
+        let refused = reopened(rt.alloc(), failing)?;
+        assert_eq!(rt; refused.answer, is_refused(ReopenFault::Failed));
         assert_eq!(rt; refused.bay.bytes(JOURNAL), THREE.as_slice());
     }
     Ok(())

@@ -29,8 +29,8 @@ fn left_by_run(
         failing_write,
     };
     let ended = run_row(rt.alloc(), &row)?;
-    assert_eq!(rt; ended.status, status);
-    assert_eq!(rt; ended.text.as_slice(), text.as_bytes());
+    assert!(rt; ended.ended_with(status), "the status");
+    assert!(rt; ended.wrote(text), "the text");
     let Ended { files, .. } = ended;
     Ok(files)
 }
@@ -44,8 +44,8 @@ fn check(
     text: &str,
 ) -> Result<Files, Fail> {
     let ended = recover_files(rt.alloc(), &recover_form(numbers), files)?;
-    assert_eq!(rt; ended.status, status);
-    assert_eq!(rt; ended.text.as_slice(), text.as_bytes());
+    assert!(rt; ended.ended_with(status), "the status");
+    assert!(rt; ended.wrote(text), "the text");
     let Ended { files, .. } = ended;
     Ok(files)
 }
@@ -204,7 +204,7 @@ fn empty_files_are_no_journal(rt: HostRuntime) -> Result<(), Fail> {
 fn a_directory_without_the_bays_is_a_fault_of_the_place(rt: HostRuntime) -> Result<(), Fail> {
     let mut place = MemPlace::new(rt.alloc())?;
     let ended = run_at(rt.alloc(), &recover_form(SMALL), &mut place, 0)?;
-    assert_eq!(rt; ended.status, Status::PlaceFault);
-    assert_eq!(rt; ended.text.as_slice(), b"".as_slice());
+    assert!(rt; ended.ended_with(Status::PlaceFault), "the status");
+    assert!(rt; ended.wrote(""), "the text");
     Ok(())
 }

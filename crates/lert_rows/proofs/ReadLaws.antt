@@ -1,6 +1,7 @@
 -- The bins of levels as they are read: one more, and a level more.
-use Rattle.std.proofs.Common.{ℕ, ◌≡◌, ◌+◌, ◌<◌, ◌≤◌, List, [], ◌∷◌, ◌++◌, length, map, take, get_or, ap, ap₂, flat_map, sym, ◌∙◌, inl, inr, subst, Option, Result}
+use Rattle.std.proofs.Common.{ℕ, ◌≡◌, ◌+◌, ◌<◌, ◌≤◌, List, [], ◌∷◌, ◌++◌, length, map, take, get_or, ap, ap₂, flat_map, sym, ◌∙◌, inl, inr, subst, Option, Result, arith}
 use Rattle.std.specs.Prelude.{Ok, Err, IsErrAnd}
+use Rattle.std.proofs.lemmas.Bool.{cases_lt}
 use Rattle.std.proofs.lemmas.List.{append_assoc, map_push, map_more, get_or-map, flat_map_more, take_more}
 use Rattle.lert_bay.specs.Files.{Files}
 use Rattle.lert_bay.proofs.Lasting.{lasts_on}
@@ -9,6 +10,7 @@ use Rattle.lert_frames.specs.declared.fault.LoadFault.{LoadFault}
 use Rattle.lert_frames.specs.declared.fault.LoadFault.TheVariants.{Failed as LoadFailed, Malformed as LoadMalformed, OutOfMemory as LoadOutOfMemory}
 use Rattle.lert_frames.specs.Frame.{IsBin}
 use Rattle.lert_bay.specs.Kept.{OnlyRead}
+use Rattle.lert_io.specs.Fault.{HasRisen, last_count}
 use Rattle.lert_spec.specs.declared.piece.Piece.{Piece}
 use Rattle.lert_rows.specs.declared.bin_at.BinAt.{BinAt}
 use Rattle.lert_rows.specs.declared.fault.FlushFault.{FlushFault}
@@ -82,3 +84,10 @@ flat_more f before rows i now is below =
     ap (λ row. (before ++ flat_map f (take i rows)) ++ f row) (sym is)
     ∙ flat_map_more f before (take i rows) (get_or rows i [])
     ∙ ap (λ rs. before ++ flat_map f rs) (sym (take_more rows i [] below))
+
+-- a count that has risen since a later moment
+pub risen : (a b c : ℕ) → a ≤ b → b ≤ c → HasRisen b c → HasRisen a c
+risen a b c before after rose below = elim (cases_lt b last_count) [
+  | inl under ↦ (let more = rose under in omega arith)
+  | inr past ↦ omega arith
+]

@@ -1,17 +1,14 @@
 -- Cones that are opened over bays one by one, what is printed of them, and which status a recovery ends with.
-use Rattle.std.proofs.Common.{◌≡◌, ◌≢◌, ◌⊎◌, ℕ, ◌^◌, ◌<◌, ◌≤◌, Bool, true, false, List, [], ◌∷◌, ◌++◌, length, map, Option, Some, slice_get, refl, ap, sym, ◌∙◌, subst, inl, inr, arith, length-append}
-use Rattle.std.proofs.lemmas.Bool.{cases_lt}
+use Rattle.std.proofs.Common.{◌≡◌, ◌⊎◌, ℕ, ◌^◌, Bool, true, false, List, ◌∷◌, ◌++◌, length, map, Option, Some, slice_get, refl, ap, sym, ◌∙◌, subst, inl, inr, arith}
 use Rattle.std.proofs.lemmas.List.{length-map}
 use Rattle.std.proofs.lemmas.Option.{slice_get_within, same_Some}
 use Rattle.lert_base.specs.declared.kept.Kept.{Kept}
 use Rattle.lert_base.specs.Packet.{Packet, events_of}
 use Rattle.lert_bay.specs.Files.{Files, IfTold}
-use Rattle.lert_cone.specs.Listing.{Listing, reports_of}
+use Rattle.lert_cone.specs.Listing.{reports_of}
 use Rattle.lert_cone.specs.Sound.{IsJournal, IsSound, IsSoundAs}
-use Rattle.lert_cone.specs.Stands.{IsWhole, Standing, StandsFor, WasSound, is_broken, is_finished}
-use Rattle.lert_cone.specs.declared.state.ConeState.{ConeState}
-use Rattle.lert_cone.specs.declared.state.ConeState.TheVariants.{Running, Finished}
-use Rattle.lert_io.specs.Fault.{HasRisen, IsFaultless}
+use Rattle.lert_cone.specs.Stands.{Standing, StandsFor, is_broken, is_finished}
+use Rattle.lert_io.specs.Fault.{HasRisen}
 use Rattle.lert_files.specs.declared.fault.ReopenFault.{ReopenFault}
 use Rattle.lert_files.specs.declared.fault.ReopenFault.TheVariants as fault
 use Rattle.lert_files.specs.Headed.{HasOther}
@@ -19,17 +16,11 @@ use Rattle.lert_recover.specs.Reopened.{IsUnsoundAt}
 use Rattle.lert_recover.specs.Replayed.{FirstLeaves}
 use Rattle.lert_reports.specs.Log.{is_closed}
 use Rattle.lert_spec.specs.declared.numbers.Numbers.{Numbers}
-use Rattle.lert_spec.specs.declared.report.Report.{Report}
-use Rattle.lert_spec.specs.Lines.{Printed}
-use Rattle.lert_spec.specs.Look.{closing, look}
-use Rattle.lert_ingest.specs.Bays.{AreFaultless, AreLater, HasFailed, IfHeld, bays_of}
+use Rattle.lert_ingest.specs.Bays.{AreLater, IfHeld, bays_of}
 use Rattle.lert_ingest.specs.Lanes.{state_of}
 use Rattle.lert_ingest.specs.Print.{ArePrintable, printed_as}
-use Rattle.lert_top.specs.Recovered.{AreOpenOver, AreRecovered, AreSoundBelow, HasRecovered, IsOpenOver, IsOther, IsRecovered, IsSpoiled, IsUnopened, LowerAreFormed, NoneIsSound, RecoveryShows, printed_for, reopen_status}
-use Rattle.lert_ingest.specs.declared.status.Status.{Status}
-use Rattle.lert_ingest.specs.declared.status.Status.TheVariants.{Done, Usage, PlaceFault, TraceFault, BadTrace, TooLong, NotFresh, BayFault, CapacityFull, Malformed, OtherSettings, OutFault, OutOfMemory}
+use Rattle.lert_top.specs.Recovered.{AreOpenOver, AreRecovered, IsOpenOver, IsRecovered, IsUnopened, LowerAreFormed, printed_for, reopen_status}
 use Rattle.lert_ingest.proofs.BayLaws.{bay_at, bay_is, slice_get-seam, slice_get-some}
-use Rattle.lert_ingest.proofs.Ending.{failed_or_not, no_rise}
 use Rattle.lert_ingest.proofs.PrintLaws.{printed_at}
 
 -- a state tells whether a cone is finished

@@ -32,39 +32,45 @@ pub fn reopen_cones<B: Bay>(
     ensures kept { OnErr result (AreLater B.files B.faults B.mark bays.old.items bays.new.items) }
     ensures unopened { IfErr result (IsUnopened B.files B.faults settings.now bays.old.items bays.new.items) }
 {
-    let rooms = make_rooms(alloc, settings)?;
-    let Ok(cones) = Vec::with_capacity(alloc, settings.cones() as usize) else {
+    let mut rooms = make_rooms(alloc, settings)?;
+    let Ok(mut cones) = Vec::with_capacity(alloc, settings.cones() as usize) else {
         return Err(Status::OutOfMemory);
     };
-    reopen_rooms(settings, rooms, bays, cones)
+    match reopen_rooms(settings, &mut rooms, bays, &mut cones) {
+        Ok(()) => Ok(cones),
+        Err(status) => {
+            bring_back(cones, bays);
+            Err(status)
+        }
+    }
 }
 
-// Opens a cone over the files of each bay, in ascending order, in an empty list with room for all.
+// Opens a cone over the files of each bay, in ascending order, in an empty list with room for all. After a refusal the cones
+// that were opened have the bays before those that are left.
 fn reopen_rooms<B: Bay>(
     settings: &Settings,
-    mut rooms: Vec<ConeRoom<Cqf>>,
+    rooms: &mut Vec<ConeRoom<Cqf>>,
     bays: &mut VecDeque<B>,
-    mut cones: Vec<Cone<B, Cqf>>,
-) -> Result<Vec<Cone<B, Cqf>>, Status>
+    cones: &mut Vec<Cone<B, Cqf>>,
+) -> Result<(), Status>
     requires number { length bays.old.items ≡ 2 ^ settings.now.cone_bits }
     requires room { length bays.old.items ≤ deque_capacity bays.old }
-    requires rooms_number { length rooms.items ≡ 2 ^ settings.now.cone_bits }
-    requires rooms { All (IsNewRoom settings.now) rooms.items }
-    requires none { cones.items ≡ [] }
-    requires cones_room { 2 ^ settings.now.cone_bits ≤ vec_capacity cones }
-    ensures open { IfOk result (λ made. AreOpenOver B.files B.leaves B.faults settings.now bays.old.items made.items) }
-    ensures number { IfOk result (λ made. length made.items ≡ 2 ^ settings.now.cone_bits) }
+    requires rooms_number { length rooms.old.items ≡ 2 ^ settings.now.cone_bits }
+    requires rooms { All (IsNewRoom settings.now) rooms.old.items }
+    requires none { cones.old.items ≡ [] }
+    requires cones_room { 2 ^ settings.now.cone_bits ≤ vec_capacity cones.old }
+    ensures open { OnOk result (AreOpenOver B.files B.leaves B.faults settings.now bays.old.items cones.new.items) }
+    ensures number { OnOk result (length cones.new.items ≡ 2 ^ settings.now.cone_bits) }
     ensures emptied { OnOk result (bays.new.items ≡ []) }
     ensures room { deque_capacity bays.new ≡ deque_capacity bays.old }
-    ensures later { IfOk result (λ made. AreLater B.files B.faults B.mark bays.old.items (bays_of made.items)) }
-    ensures kept { OnErr result (AreLater B.files B.faults B.mark bays.old.items bays.new.items) }
-    ensures unopened { IfErr result (IsUnopened B.files B.faults settings.now bays.old.items bays.new.items) }
+    ensures later { AreLater B.files B.faults B.mark bays.old.items (bays_of cones.new.items ++ bays.new.items) }
+    ensures unopened { IfErr result (IsUnopened B.files B.faults settings.now bays.old.items (bays_of cones.new.items ++ bays.new.items)) }
 {
     for number in 0..settings.cones() {
-        let Some(room) = rooms.pop() else {
+        let Some(bay) = bays.pop_front() else {
             unreachable!()
         };
-        let Some(bay) = bays.pop_front() else {
+        let Some(room) = rooms.pop() else {
             unreachable!()
         };
         match reopen(room, number, bay) {
@@ -72,12 +78,11 @@ fn reopen_rooms<B: Bay>(
             Err(refused) => {
                 let ReopenRefused { fault, bay } = refused;
                 bays.push_front_reserved(bay);
-                bring_back(cones, bays);
                 return Err(status_of(number, fault));
             }
         }
     }
-    Ok(cones)
+    Ok(())
 }
 
 // The status of a recovery in which the cone of a number wasn't opened.

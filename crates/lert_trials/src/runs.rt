@@ -31,6 +31,18 @@ pub struct Ended {
     pub files: Files,
 }
 
+impl Ended {
+    /// Whether this is the status. The long test of two statuses stands here, and in no test's own body.
+    pub fn ended_with(&self, status: Status) -> bool {
+        self.status == status
+    }
+
+    /// Whether this is the text.
+    pub fn wrote(&self, text: &str) -> bool {
+        self.text.as_slice() == text.as_bytes()
+    }
+}
+
 fn words(alloc: Global, texts: &[&str]) -> Result<Words, OutOfMemory> {
     let mut words = Words::new(alloc)?;
     push_words(&mut words, texts)?;

@@ -3,6 +3,7 @@
 use super::*;
 use lert_bay::{Bay, FRAMES, JOURNAL, LOG};
 use std::os::unix::fs::symlink;
+use lert_io::Source;
 use std::process::Abort;
 use std::test::Fail;
 
@@ -92,5 +93,33 @@ fn a_full_disk_fails_the_write(rt: HostRuntime) -> Result<(), Fail> {
     assert!(rt; bay.sync(JOURNAL).is_err());
     assert!(rt; bay.write_at(LOG, 0, b"abc").is_ok());
     fs::remove_dir_all(&rt, "bay_full")?;
+    Ok(())
+}
+
+// The bytes of a trace of at most 300,000, a few at a time.
+fn bytes_of(alloc: Global, trace: &mut FileSource<File>) -> Result<Vec<u8>, Fail> {
+    let mut bytes = Vec::new(alloc);
+    let mut piece = [0; 3_000];
+    for _ in 0..100 {
+        let count = trace.read(&mut piece)?;
+        bytes.extend_from_slice(&piece[..count])?;
+    }
+    Ok(bytes)
+}
+
+#[test]
+fn a_trace_longer_than_a_block_is_read_to_its_end(rt: HostRuntime) -> Result<(), Fail> {
+    let _ = fs::remove_dir_all(&rt, "trace_long");
+    fs::create_dir(&rt, "trace_long")?;
+    let mut bytes = vec![in rt.alloc(); 7; 70_000]?;
+    for (at, byte) in [(0, 1), (65_535, 2), (65_536, 3), (69_999, 4)] {
+        if let Some(place) = bytes.get_mut(at) {
+            *place = byte;
+        }
+    }
+    fs::write(&rt, "trace_long/trace", bytes.as_slice())?;
+    let mut trace = FilePlace::new(&rt).open_trace("trace_long/trace")?;
+    assert_eq!(rt; bytes_of(rt.alloc(), &mut trace)?.as_slice(), bytes.as_slice());
+    fs::remove_dir_all(&rt, "trace_long")?;
     Ok(())
 }

@@ -71,32 +71,40 @@ fn the_long_form_has_its_options_in_one_order(rt: HostRuntime) -> Result<(), Fai
     check_usage(&rt, &whole[..17], 0)
 }
 
+// Numbers of the small settings that are changed at their places, and the first rule that they break.
+type Changed<'a> = (&'a [(usize, &'a str)], u8);
+
+// Runs the long form with the small settings, changed like this.
+fn check_changed(
+    rt: &(impl Abort + AllocGlobal),
+    changes: &[(usize, &str)],
+    rule: u8,
+) -> Result<(), Fail> {
+    let mut numbers = SMALL;
+    for (place, number) in changes {
+        if let Some(slot) = numbers.get_mut(*place) {
+            *slot = *number;
+        }
+    }
+    check_usage(rt, &long_form(numbers), rule)
+}
+
 #[test]
 fn the_first_broken_rule_is_named(rt: HostRuntime) -> Result<(), Fail> {
-    let [threshold, bins, ratio, base, levels, none, room, packet] = SMALL;
-    let rows: [([&str; 8], u8); 10] = [
-        (["0", bins, ratio, base, levels, none, room, packet], 1),
-        (
-            ["4294967296", bins, ratio, base, levels, none, room, packet],
-            1,
-        ),
-        ([threshold, "1", ratio, base, levels, none, room, packet], 2),
-        ([threshold, bins, "17", base, levels, none, room, packet], 3),
-        ([threshold, bins, ratio, "3", levels, none, room, packet], 4),
-        ([threshold, bins, ratio, base, "9", none, room, packet], 5),
-        ([threshold, bins, ratio, base, levels, none, "0", packet], 7),
-        (
-            [threshold, bins, ratio, base, levels, none, room, "1025"],
-            8,
-        ),
-        (
-            [threshold, "16", "16", "65536", "8", none, room, packet],
-            11,
-        ),
-        ([threshold, "1", ratio, "3", levels, none, room, "0"], 2),
+    let rows: [Changed; 10] = [
+        (&[(0, "0")], 1),
+        (&[(0, "4294967296")], 1),
+        (&[(1, "1")], 2),
+        (&[(2, "17")], 3),
+        (&[(3, "3")], 4),
+        (&[(4, "9")], 5),
+        (&[(6, "0")], 7),
+        (&[(7, "1025")], 8),
+        (&[(1, "16"), (2, "16"), (3, "65536"), (4, "8")], 11),
+        (&[(1, "1"), (3, "3"), (7, "0")], 2),
     ];
-    for (numbers, rule) in rows {
-        check_usage(&rt, &long_form(numbers), rule)?;
+    for (changes, rule) in rows {
+        check_changed(&rt, changes, rule)?;
     }
     check_usage(&rt, &short_form("00"), 1)?;
     check_usage(&rt, &short_form("4294967296"), 1)
@@ -104,20 +112,13 @@ fn the_first_broken_rule_is_named(rt: HostRuntime) -> Result<(), Fail> {
 
 #[test]
 fn the_rules_on_many_cones_are_named(rt: HostRuntime) -> Result<(), Fail> {
-    let [threshold, bins, ratio, base, levels, _, room, packet] = SMALL;
-    let rows: [([&str; 8], u8); 3] = [
-        ([threshold, bins, ratio, base, levels, "9", room, packet], 6),
-        (
-            [threshold, "16", ratio, "65536", levels, "5", room, packet],
-            9,
-        ),
-        (
-            [threshold, bins, ratio, base, levels, "8", "65537", packet],
-            10,
-        ),
+    let rows: [Changed; 3] = [
+        (&[(5, "9")], 6),
+        (&[(1, "16"), (3, "65536"), (5, "5")], 9),
+        (&[(5, "8"), (6, "65537")], 10),
     ];
-    for (numbers, rule) in rows {
-        check_usage(&rt, &long_form(numbers), rule)?;
+    for (changes, rule) in rows {
+        check_changed(&rt, changes, rule)?;
     }
     Ok(())
 }

@@ -35,11 +35,11 @@ pub returns-in_err-write_record : goal.returns-in_err-write_record
 returns-in_err-write_record g c = close_failed (bays g) (lawful g)
     (record { bay = c.args.bay.now; counts = c.args.tally.now; log = c.args.log.now; room = length c.args.buffer.now })
     c.requires c.finish.new.bay c.finish.new.self c.in_ok-finish.ensures c.write_record.ensures.few
-    c.in_err-write_record.field-0.0 c.write_record.new.bay c.write_record.new.log (length c.write_record.new.buffer) (search rules)
+    c.in_err-write_record.field-0.0 c.write_record.new.bay c.write_record.new.log (length c.write_record.new.buffer) c.write_record.auto.buffer
     (rw c.in_err-write_record.was at c.write_record.ensures.appends) c.from_residual-in_err-write_record.result c.from_residual-in_err-write_record.ensures.1
 
 pub returns : goal.returns
 returns g c = end_taken (bays g) (lawful g)
     (record { bay = c.args.bay.now; counts = c.args.tally.now; log = c.args.log.now; room = length c.args.buffer.now })
     c.requires c.finish.new.bay c.finish.new.self c.in_ok-finish.ensures c.write_record.ensures.few
-    c.write_record.new.bay c.write_record.new.log (length c.write_record.new.buffer) (search rules) (rw c.in_ok-write_record.was at c.write_record.ensures.appends)
+    c.write_record.new.bay c.write_record.new.log (length c.write_record.new.buffer) c.write_record.auto.buffer (rw c.in_ok-write_record.was at c.write_record.ensures.appends)

@@ -1,4 +1,4 @@
-use Rattle.std.proofs.Common.{◌≡◌, ◌∙◌, ℕ, ◌-◌, ◌<◌, ◌++◌, List, All, length, take, drop, min, ap, sym, subst, arith, rules}
+use Rattle.std.proofs.Common.{◌≡◌, ◌∙◌, ℕ, ◌-◌, ◌<◌, ◌++◌, List, All, length, drop, min, ap, sym, subst, arith, rules}
 use Rattle.std.proofs.lemmas.List.Elements.{All-take}
 use Rattle.lert_spec.specs.Mix.{cone_of}
 use Rattle.lert_cone.specs.Bays.{Bays}
@@ -20,7 +20,7 @@ count_again-requires-clause-own g c = subst (λ (keys : List ℕ). All (λ key. 
 
 pub count_again-requires-clause-within : goal.count_again-requires-clause-within
 count_again-requires-clause-within g c = λ some.
-    let count_is : c.min-count.result ≡ min (c.args.n0 - length c.args.tally.now.listing.events) (length c.args.keys.now) = search rules in
+    let count_is : c.min-count.result ≡ min (c.args.n0 - length c.args.tally.now.listing.events) (length c.args.keys.now) = omega arith in
     omega (arith, some, count_is, c.split_at.ensures.front_len)
 
 pub count_again-requires-clause-recounted : goal.count_again-requires-clause-recounted
@@ -28,9 +28,13 @@ count_again-requires-clause-recounted g c = c.requires.recounted
 
 pub returns-then-is_empty : goal.returns-then-is_empty
 returns-then-is_empty g c =
-    let count_is : c.min-count.result ≡ min (c.args.n0 - length c.args.tally.now.listing.events) (length c.args.keys.now) = search rules in
-    let listing_is = c.count_again.ensures.listing ∙ ap (λ (keys : List ℕ). record { settings = c.args.tally.now.listing.settings; cone = c.args.tally.now.listing.cone;
-    events = c.args.tally.now.listing.events ++ keys; closed = c.args.tally.now.listing.closed }) c.split_at.ensures.front in
+    let count_is : c.min-count.result ≡ min (c.args.n0 - length c.args.tally.now.listing.events) (length c.args.keys.now) = omega arith in
+    let listing_is = c.count_again.ensures.listing ∙ ap (λ (keys : List ℕ). record {
+      settings = c.args.tally.now.listing.settings;
+      cone = c.args.tally.now.listing.cone;
+      events = c.args.tally.now.listing.events ++ keys;
+      closed = c.args.tally.now.listing.closed;
+    }) c.split_at.ensures.front in
     let none : length c.split_at.result.1.now ≡ 0 = search rules in
     all_again (bays g) (lawful g)
     (record { bay = c.args.bay.now; counts = c.args.tally.now; log = c.args.log.now; room = length c.args.buffer.now })
@@ -39,21 +43,30 @@ returns-then-is_empty g c =
 
 pub take_keys-requires : goal.take_keys-requires
 take_keys-requires g c =
-    let count_is : c.min-count.result ≡ min (c.args.n0 - length c.args.tally.now.listing.events) (length c.args.keys.now) = search rules in
-    let listing_is = c.count_again.ensures.listing ∙ ap (λ (keys : List ℕ). record { settings = c.args.tally.now.listing.settings; cone = c.args.tally.now.listing.cone;
-    events = c.args.tally.now.listing.events ++ keys; closed = c.args.tally.now.listing.closed }) c.split_at.ensures.front in
+    let count_is : c.min-count.result ≡ min (c.args.n0 - length c.args.tally.now.listing.events) (length c.args.keys.now) = omega arith in
+    let listing_is = c.count_again.ensures.listing ∙ ap (λ (keys : List ℕ). record {
+      settings = c.args.tally.now.listing.settings;
+      cone = c.args.tally.now.listing.cone;
+      events = c.args.tally.now.listing.events ++ keys;
+      closed = c.args.tally.now.listing.closed;
+    }) c.split_at.ensures.front in
     let some : 0 < length c.split_at.result.1.now = search rules in
     let some_left : 0 < length (drop c.min-count.result c.args.keys.now) = omega (arith, some, ap (length {A = ℕ}) c.split_at.ensures.back) in
-    subst (λ (keys : List ℕ). CanTake (bays g) keys (record { bay = c.args.bay.now; counts = c.count_again.new.tally; log = c.args.log.now; room = length c.args.buffer.now })) (sym c.split_at.ensures.back)
+    subst (λ (keys : List ℕ). CanTake (bays g) keys (record { bay = c.args.bay.now; counts = c.count_again.new.tally; log = c.args.log.now; room = length c.args.buffer.now }))
+    (sym c.split_at.ensures.back)
     (can_take_ahead (bays g) (lawful g)
     (record { bay = c.args.bay.now; counts = c.args.tally.now; log = c.args.log.now; room = length c.args.buffer.now })
     c.args.n0 c.min-count.result c.args.keys.now c.requires c.count_again.new.tally count_is listing_is c.count_again.ensures.rows c.count_again.ensures.due c.count_again.ensures.recounted some_left)
 
 pub returns : goal.returns
 returns g c =
-    let count_is : c.min-count.result ≡ min (c.args.n0 - length c.args.tally.now.listing.events) (length c.args.keys.now) = search rules in
-    let listing_is = c.count_again.ensures.listing ∙ ap (λ (keys : List ℕ). record { settings = c.args.tally.now.listing.settings; cone = c.args.tally.now.listing.cone;
-    events = c.args.tally.now.listing.events ++ keys; closed = c.args.tally.now.listing.closed }) c.split_at.ensures.front in
+    let count_is : c.min-count.result ≡ min (c.args.n0 - length c.args.tally.now.listing.events) (length c.args.keys.now) = omega arith in
+    let listing_is = c.count_again.ensures.listing ∙ ap (λ (keys : List ℕ). record {
+      settings = c.args.tally.now.listing.settings;
+      cone = c.args.tally.now.listing.cone;
+      events = c.args.tally.now.listing.events ++ keys;
+      closed = c.args.tally.now.listing.closed;
+    }) c.split_at.ensures.front in
     let some : 0 < length c.split_at.result.1.now = search rules in
     let some_left : 0 < length (drop c.min-count.result c.args.keys.now) = omega (arith, some, ap (length {A = ℕ}) c.split_at.ensures.back) in
     others_ahead (bays g) (lawful g)
@@ -61,4 +74,5 @@ returns g c =
     c.args.n0 c.min-count.result c.args.keys.now c.requires c.count_again.new.tally count_is listing_is c.count_again.ensures.rows c.count_again.ensures.due c.count_again.ensures.recounted some_left
     (record { bay = c.take_keys.new.bay; counts = c.take_keys.new.tally; log = c.take_keys.new.log; room = length c.take_keys.new.buffer }) c.take_keys.result
     (subst (λ (keys : List ℕ). TakesKeys (bays g) keys (record { bay = c.args.bay.now; counts = c.count_again.new.tally; log = c.args.log.now; room = length c.args.buffer.now })
-    (record { bay = c.take_keys.new.bay; counts = c.take_keys.new.tally; log = c.take_keys.new.log; room = length c.take_keys.new.buffer }) c.take_keys.result) c.split_at.ensures.back c.take_keys.ensures)
+    (record { bay = c.take_keys.new.bay; counts = c.take_keys.new.tally; log = c.take_keys.new.log; room = length c.take_keys.new.buffer }) c.take_keys.result) c.split_at.ensures.back
+    c.take_keys.ensures)

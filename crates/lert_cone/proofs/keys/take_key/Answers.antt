@@ -1,4 +1,4 @@
-use Rattle.std.proofs.Common.{◌≡◌, ◌∙◌, ℕ, ◌<◌, [], ◌∷◌, length, ap, arith, rules, length-append}
+use Rattle.std.proofs.Common.{ℕ, [], ◌∷◌, length, ap, arith, rules, length-append}
 use Rattle.lert_cone.proofs.KeyTaken.{key_refused, key_between, can_log_then, record_failed, key_flushed}
 use Rattle.lert_cone.specs.Bays.{Bays}
 use Rattle.lert_cone.proofs.Calls.{IsLawful}
@@ -59,4 +59,4 @@ pub returns : goal.returns
 returns g c = key_flushed (bays g) (lawful g)
     (record { bay = c.args.bay.now; counts = c.args.tally.now; log = c.args.log.now; room = length c.args.buffer.now })
     c.args.key c.requires c.take.new.bay c.take.new.self c.in_ok-take.ensures (c.is_flushed.ensures.flushed (search rules)) c.write_record.ensures.few
-    c.write_record.new.bay c.write_record.new.log (length c.write_record.new.buffer) (search rules) (rw c.in_ok-write_record.was at c.write_record.ensures.appends)
+    c.write_record.new.bay c.write_record.new.log (length c.write_record.new.buffer) c.write_record.auto.buffer (rw c.in_ok-write_record.was at c.write_record.ensures.appends)

@@ -1,5 +1,4 @@
-use Rattle.std.proofs.Common.{◌≡◌, ◌∙◌, ℕ, ◌≤◌, List, length, ap, sym, subst, refl, arith}
-use Rattle.lert_reports.specs.Log.{most_record}
+use Rattle.std.proofs.Common.{◌∙◌, length, ap, arith}
 use Rattle.lert_reports.specs.Stored.{Stored}
 use Rattle.lert_spec.specs.declared.numbers.Numbers.{Numbers}
 use Rattle.lert_spec.specs.declared.report.Report.{Report}
@@ -26,7 +25,14 @@ append-requires-clause-fits g c =
     let reports_are = c.list-reports.ensures.reports ∙ ap (λ (v : Stored). v.reports) c.store.ensures in
     record_fits c.args.tally.now.listing.settings c.args.tally.now.rows c.args.log.now c.directory.result.now c.list-reports.result.now c.args.tally.now.due.reports c.requires.counted.are
     c.requires.can_log.logging.most c.directory.ensures reports_are
-    (omega (arith, c.list-reports.ensures.room, ap (length {A = Report}) reports_are, ap (λ (v : Stored). v.settings.room) c.store.ensures, ap (λ (s : Numbers). s.room) c.requires.counted.due_settings))
+    (omega (
+      arith,
+      c.list-reports.ensures.room,
+      ap (length {A = Report}) reports_are,
+      ap (λ (v : Stored). v.settings.room) c.store.ensures,
+      ap (λ
+          (s : Numbers). s.room) c.requires.counted.due_settings,
+    ))
 
 pub append-requires-clause-room : goal.append-requires-clause-room
 append-requires-clause-room g c = c.requires.can_log.logging.roomy

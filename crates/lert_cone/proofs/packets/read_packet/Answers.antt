@@ -12,7 +12,8 @@ use Rattle.lert_cone.specs.Replay.{Past_the_end, Too_many}
 use Rattle.lert_cone.proofs.packets.read_packet.Goals as goal
 
 -- what was read is a packet that stands in the journal
-held_at : (s : Numbers) (cone most file gate : ℕ) (seen : Files) (packet : Packet) → file ≡ 0 → most ≡ most_payload s → IsOpen most (seen file) gate (payload_of packet) → IsJournaled s cone packet → All (λ key. key < 2 ^ 64) packet.keys →
+held_at : (s : Numbers) (cone most file gate : ℕ) (seen : Files) (packet : Packet) → file ≡ 0 → most ≡ most_payload s → IsOpen most (seen file) gate (payload_of packet) →
+    IsJournaled s cone packet → All (λ key. key < 2 ^ 64) packet.keys →
     HoldsPacket s cone (most_payload s) (seen 0) gate packet
 held_at s cone most file gate seen packet file_is most_is opened journaled fits = record {
   stands = subst (λ (m : ℕ). IsOpen m (seen 0) gate (payload_of packet)) most_is (subst (λ (f : ℕ). IsOpen most (seen f) gate (payload_of packet)) file_is opened);
@@ -23,24 +24,29 @@ held_at s cone most file gate seen packet file_is most_is opened journaled fits 
 pub returns-then-last-n-clause-malformed : goal.returns-then-last-n-clause-malformed
 returns-then-last-n-clause-malformed g c = λ seen told at same.
     let fits = subst (λ (keys : List ℕ). All (λ key. key < 2 ^ 64) keys) c.keys_of.ensures.value c.keys_of.ensures.fit in
-    let holds = held_at c.args.tally.now.listing.settings c.args.tally.now.listing.cone c.args.journal.now.most c.args.journal.now.file c.args.journal.now.gate seen (packet_of c.read_entry.new.entry) c.requires.file c.requires.most (c.in_ok-is_packet.ensures.found seen told (search rules)) (search rules) fits in
+    let holds = held_at c.args.tally.now.listing.settings c.args.tally.now.listing.cone c.args.journal.now.most c.args.journal.now.file c.args.journal.now.gate seen
+    (packet_of c.read_entry.new.entry) c.requires.file c.requires.most (c.in_ok-is_packet.ensures.found seen told (search rules)) (search rules) fits in
     let at_is : c.gate-gate.result ≡ at = cc in
     Past_the_end (packet_of c.read_entry.new.entry) holds c.if-last.true (omega (arith, c.if-last-n.true, ap (length {A = ℕ}) c.keys_of.ensures.value)) (sym at_is ∙ c.gate-gate.ensures.value)
 
 pub returns-then-last-clause-found : goal.returns-then-last-clause-found
 returns-then-last-clause-found g c = λ seen told _.
     let fits = subst (λ (keys : List ℕ). All (λ key. key < 2 ^ 64) keys) c.keys_of.ensures.value c.keys_of.ensures.fit in
-    held_at c.args.tally.now.listing.settings c.args.tally.now.listing.cone c.args.journal.now.most c.args.journal.now.file c.args.journal.now.gate seen (packet_of c.read_entry.new.entry) c.requires.file c.requires.most (c.in_ok-is_packet.ensures.found seen told (search rules)) (search rules) fits
+    held_at c.args.tally.now.listing.settings c.args.tally.now.listing.cone c.args.journal.now.most c.args.journal.now.file c.args.journal.now.gate seen
+    (packet_of c.read_entry.new.entry) c.requires.file c.requires.most (c.in_ok-is_packet.ensures.found seen told (search rules)) (search rules) fits
 
 pub returns-then-capacity-n-clause-malformed : goal.returns-then-capacity-n-clause-malformed
 returns-then-capacity-n-clause-malformed g c = λ seen told at same.
     let fits = subst (λ (keys : List ℕ). All (λ key. key < 2 ^ 64) keys) c.keys_of.ensures.value c.keys_of.ensures.fit in
-    let holds = held_at c.args.tally.now.listing.settings c.args.tally.now.listing.cone c.args.journal.now.most c.args.journal.now.file c.args.journal.now.gate seen (packet_of c.read_entry.new.entry) c.requires.file c.requires.most (c.in_ok-is_packet.ensures.found seen told (search rules)) (search rules) fits in
+    let holds = held_at c.args.tally.now.listing.settings c.args.tally.now.listing.cone c.args.journal.now.most c.args.journal.now.file c.args.journal.now.gate seen
+    (packet_of c.read_entry.new.entry) c.requires.file c.requires.most (c.in_ok-is_packet.ensures.found seen told (search rules)) (search rules) fits in
     let at_is : c.gate-gate.result + 1 ≡ at = cc in
     let most_is = c.capacity-capacity.ensures.value ∙ ap capacity c.settings-settings.ensures in
-    Too_many (packet_of c.read_entry.new.entry) holds c.if-last.false (omega (arith, c.if-capacity-n.true, most_is, c.len-n.ensures, ap (length {A = ℕ}) c.keys_of.ensures.value)) (sym at_is ∙ ap (λ n. n + 1) c.gate-gate.ensures.value)
+    Too_many (packet_of c.read_entry.new.entry) holds c.if-last.false (omega (arith, c.if-capacity-n.true, most_is, c.len-n.ensures, ap (length {A = ℕ}) c.keys_of.ensures.value)) (sym at_is ∙ ap
+    (λ n. n + 1) c.gate-gate.ensures.value)
 
 pub returns-clause-found : goal.returns-clause-found
 returns-clause-found g c = λ seen told _.
     let fits = subst (λ (keys : List ℕ). All (λ key. key < 2 ^ 64) keys) c.keys_of.ensures.value c.keys_of.ensures.fit in
-    held_at c.args.tally.now.listing.settings c.args.tally.now.listing.cone c.args.journal.now.most c.args.journal.now.file c.args.journal.now.gate seen (packet_of c.read_entry.new.entry) c.requires.file c.requires.most (c.in_ok-is_packet.ensures.found seen told (search rules)) (search rules) fits
+    held_at c.args.tally.now.listing.settings c.args.tally.now.listing.cone c.args.journal.now.most c.args.journal.now.file c.args.journal.now.gate seen
+    (packet_of c.read_entry.new.entry) c.requires.file c.requires.most (c.in_ok-is_packet.ensures.found seen told (search rules)) (search rules) fits

@@ -1,5 +1,5 @@
 use Rattle.std.proofs.Common.{◌≤◌, length}
-use Rattle.lert_program.proofs.file_bay.read_whole.Given as goal
+use Rattle.lert_host.proofs.file_bay.read_whole.Given as goal
 
 -- what was read lies within
 abbrev pub invariant-loop : goal.invariant-loop

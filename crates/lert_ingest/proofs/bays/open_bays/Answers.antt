@@ -1,4 +1,4 @@
-use Rattle.std.proofs.Common.{◌≡◌, ◌+◌, ◌++◌, ◌∷◌, [], true, length, slice_get, refl, inr, ap, sym, ◌∙◌, subst, arith, rules, append_assoc, length-append}
+use Rattle.std.proofs.Common.{◌≡◌, ◌+◌, ◌++◌, ◌∷◌, [], true, length, slice_get, refl, inl, inr, ap, sym, ◌∙◌, subst, arith, rules, append_assoc, length-append}
 use Rattle.std.proofs.lemmas.List.FromFn.{map-range_with_len_more}
 use Rattle.lert_io.proofs.Rising.{risen_since}
 use Rattle.lert_io.specs.Fault.{HasRisen}
@@ -54,3 +54,45 @@ loop-cone-preserved g c =
       traces = c.open_bay.ensures.traces ∙ here.traces;
       falls = omega (arith, here.falls, c.open_bay.ensures.cause.never_falls);
     }
+
+pub returns-in_default-clause-traces : goal.returns-in_default-clause-traces
+returns-in_default-clause-traces g c = refl
+
+pub returns-in_default-clause-never_falls : goal.returns-in_default-clause-never_falls
+returns-in_default-clause-never_falls g c = omega arith
+
+pub returns-in_default-clause-refused : goal.returns-in_default-clause-refused
+returns-in_default-clause-refused g c = inl (refl, refl)
+
+pub returns-in-Err-clause-traces : goal.returns-in-Err-clause-traces
+returns-in-Err-clause-traces g c = c.put_back_bays.ensures.traces ∙ (c.open_bay.ensures.traces ∙ c.loop-cone.invariant.traces)
+
+pub returns-in-Err-clause-never_falls : goal.returns-in-Err-clause-never_falls
+returns-in-Err-clause-never_falls g c = omega (arith, c.loop-cone.invariant.falls, c.open_bay.ensures.cause.never_falls, c.put_back_bays.ensures.faults)
+
+pub returns-clause-opened : goal.returns-clause-opened
+returns-clause-opened g c = c.loop-cone.invariant.opened
+
+pub returns-clause-room : goal.returns-clause-room
+returns-clause-room g c = c.loop-cone.invariant.room
+
+pub returns-clause-marked : goal.returns-clause-marked
+returns-clause-marked g c = c.loop-cone.invariant.marked
+
+pub returns-clause-traces : goal.returns-clause-traces
+returns-clause-traces g c = c.loop-cone.invariant.traces
+
+pub returns-clause-never_falls : goal.returns-clause-never_falls
+returns-clause-never_falls g c = c.loop-cone.invariant.falls
+
+pub returns-clause-number : goal.returns-clause-number
+returns-clause-number g c = omega (arith, c.loop-cone.invariant.number, c.loop-cone-test.false, c.loop-cone.auto.cone-end)
+
+pub put_back_bays-requires-clause-handed : goal.put_back_bays-requires-clause-handed
+put_back_bays-requires-clause-handed g c = λ lifetimes outlive. ap length (sym (c.in-Err.ensures.refused ∙ c.loop-cone.invariant.opened))
+
+pub put_back_bays-requires-clause-marked : goal.put_back_bays-requires-clause-marked
+put_back_bays-requires-clause-marked g c = λ lifetimes outlive cone bay is. c.loop-cone.invariant.marked cone bay is
+
+pub put_back_bays-requires-clause-small : goal.put_back_bays-requires-clause-small
+put_back_bays-requires-clause-small g c = omega (arith, c.loop-cone.invariant.number, c.loop-cone-test.true, c.ranges.cones)

@@ -1,4 +1,4 @@
-use Rattle.std.proofs.Common.{◌++◌, ◌∷◌, [], length, ap, sym, ◌∙◌, arith, rules, append_assoc, length-append}
+use Rattle.std.proofs.Common.{refl, append-nil, ◌++◌, ◌∷◌, [], length, ap, sym, ◌∙◌, arith, rules, append_assoc, length-append}
 use Rattle.lert_ingest.proofs.BayLaws.{put_one}
 use Rattle.lert_ingest.proofs.bays.put_back_bays.Goals as goal
 
@@ -19,3 +19,29 @@ loop-bay-preserved g c =
       bays = c.put_back_bay.ensures.bays ∙ here.bays;
       faults = c.put_back_bay.ensures.faults ∙ here.faults;
     }
+
+pub loop-bay-init : goal.loop-bay-init
+loop-bay-init g c = record {
+  split = ([], append-nil c.args.bays.items);
+  returned = λ cone above below. absurd (omega (arith, above, below));
+  returned_traces = λ number. refl;
+  asked = refl;
+  traces = refl;
+  bays = refl;
+  faults = refl;
+}
+
+pub returns-clause-returned_traces : goal.returns-clause-returned_traces
+returns-clause-returned_traces g c = c.loop-bay.invariant.returned_traces
+
+pub returns-clause-asked : goal.returns-clause-asked
+returns-clause-asked g c = c.loop-bay.invariant.asked
+
+pub returns-clause-traces : goal.returns-clause-traces
+returns-clause-traces g c = c.loop-bay.invariant.traces
+
+pub returns-clause-bays : goal.returns-clause-bays
+returns-clause-bays g c = c.loop-bay.invariant.bays
+
+pub returns-clause-faults : goal.returns-clause-faults
+returns-clause-faults g c = c.loop-bay.invariant.faults

@@ -1,4 +1,4 @@
-use Rattle.std.proofs.Common.{◌≡◌, ◌≤◌, ◌++◌, ◌∷◌, [], List, ℕ, ◌+◌, length, map, sum_by, take, refl, ap, ◌∙◌, subst, arith}
+use Rattle.std.proofs.Common.{◌≡◌, ◌≤◌, List, ◌+◌, length, map, sum_by, take, refl, ap, ◌∙◌, subst, arith}
 use Rattle.std.proofs.lemmas.List.{length-map, take_all}
 use Rattle.std.proofs.lemmas.List.Sums.{sum_by_push}
 use Rattle.std.proofs.lemmas.Option.{slice_get_read}
@@ -122,3 +122,24 @@ returns-clause-cut g c =
     (here.reports ∙ ap (λ (ps : List Printed). sum_by (λ (p : Printed). length p.reports) ps) whole) in
     on_err_weaker c.print_total.result (λ cut. subst (IsCut start (g.K.Sink.taken c.print_total.new.out)) texts cut)
     (c.print_total.ensures.cut start (cone_texts 0 all) printing)
+
+pub returns-in_err-print_cone-clause-mark : goal.returns-in_err-print_cone-clause-mark
+returns-in_err-print_cone-clause-mark g c = c.print_cone.ensures.mark ∙ c.loop-number.invariant.marked
+
+pub returns-clause-mark : goal.returns-clause-mark
+returns-clause-mark g c = c.print_total.ensures.mark ∙ c.loop-number.invariant.marked
+
+pub returns-clause-cause : goal.returns-clause-cause
+returns-clause-cause g c =
+    let here = c.loop-number.invariant in
+    let cause = c.print_total.ensures.cause in
+    record {
+      never_falls = omega (arith, here.falls, cause.never_falls);
+      failed = λ failed. risen_since (g.K.Faulty.faults c.args.out.now) (g.K.Faulty.faults c.loop-number.out) (g.K.Faulty.faults c.print_total.new.out) here.falls cause.never_falls (cause.failed failed);
+    }
+
+pub overflow_add-events : goal.overflow_add-events
+overflow_add-events g c = omega (arith, c.loop-number.invariant.few_events, c.numbers_of-events_here.ensures.few_events, c.loop-number-test.true, c.requires.few)
+
+pub overflow_add-reports : goal.overflow_add-reports
+overflow_add-reports g c = omega (arith, c.loop-number.invariant.few_reports, c.numbers_of-events_here.ensures.few_reports, c.loop-number-test.true, c.requires.few)

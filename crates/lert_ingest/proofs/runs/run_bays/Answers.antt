@@ -1,8 +1,10 @@
-use Rattle.std.proofs.Common.{◌++◌, List, ap, sym, ◌∙◌, subst, append-nil}
+use Rattle.std.proofs.Common.{◌++◌, List, length, ap, sym, ◌∙◌, subst, arith, append-nil}
+use Rattle.std.proofs.lemmas.List.{length-map}
+use Rattle.lert_cone.specs.Stands.{Standing}
 use Rattle.lert_ingest.specs.Bays.{AreLater, IsStale, bays_of}
 use Rattle.lert_ingest.specs.Run.{StatusShows}
 use Rattle.lert_ingest.proofs.BayLaws.{are_more}
-use Rattle.lert_ingest.proofs.ConeLaws.{unmade_since}
+use Rattle.lert_ingest.proofs.ConeLaws.{unmade_before, unmade_since}
 use Rattle.lert_ingest.proofs.Ending.{shows_since, shows_unmade}
 use Rattle.lert_ingest.proofs.runs.run_bays.Goals as goal
 
@@ -47,3 +49,65 @@ returns-clause-shows g c =
     (shows_since {S = g.row.S.Denot} {K = g.row.K.Denot} {B = g.row.B.Denot} g.S.Source.remaining g.S.Faulty.faults g.K.Sink.taken g.K.Faulty.faults g.B.Bay.files g.B.Faulty.faults c.args.settings.now g.B.Faulty.mark c.args.reader.now.made c.run_cones-cones.new.reader.source c.args.out.now c.run_cones-cones.new.out
     first made now (IsStale g.B.Bay.files first) (are_more g.B.Bay.files g.B.Faulty.faults g.B.Faulty.mark first then made c.find_stale.ensures.later c.in-Ok.ensures.later) c.run_cones-cones.ensures.later
     c.run_cones-cones.result.1 c.run_cones-cones.ensures.shows)
+
+pub find_stale-requires : goal.find_stale-requires
+find_stale-requires g c = record { small = c.requires.small }
+
+pub returns-in-Err-clause-later : goal.returns-in-Err-clause-later
+returns-in-Err-clause-later g c = c.find_stale.ensures.later
+
+pub returns-in-Err-clause-fresh : goal.returns-in-Err-clause-fresh
+returns-in-Err-clause-fresh g c = λ past. absurd (unmade_before g.B.Bay.files g.B.Faulty.faults c.args.bays.now.items c.find_stale.new.bays.items c.in-Err.status c.in-Err.ensures.unmade past)
+
+pub returns-in-Err-make_cones-clause-fresh : goal.returns-in-Err-make_cones-clause-fresh
+returns-in-Err-make_cones-clause-fresh g c = λ past. c.in_default.ensures.fresh
+
+pub make_cones-requires-clause-number : goal.make_cones-requires-clause-number
+make_cones-requires-clause-number g c = c.find_stale.ensures.later.number ∙ c.requires.number
+
+pub make_cones-requires-clause-room : goal.make_cones-requires-clause-room
+make_cones-requires-clause-room g c = omega (arith, c.find_stale.ensures.room, c.find_stale.ensures.later.number, c.requires.room)
+
+pub make_cones-requires-clause-fresh : goal.make_cones-requires-clause-fresh
+make_cones-requires-clause-fresh g c = c.in_default.ensures.fresh_now
+
+pub returns-clause-fresh : goal.returns-clause-fresh
+returns-clause-fresh g c = λ past. c.in_default.ensures.fresh
+
+pub returns-clause-mark : goal.returns-clause-mark
+returns-clause-mark g c = c.run_cones-cones.ensures.mark
+
+pub run_cones-cones-requires-clause-number : goal.run_cones-cones-requires-clause-number
+run_cones-cones-requires-clause-number g c = c.in-Ok.ensures.number
+
+pub run_cones-cones-requires-clause-new_cones : goal.run_cones-cones-requires-clause-new_cones
+run_cones-cones-requires-clause-new_cones g c = c.in-Ok.ensures.new_cones
+
+pub run_cones-cones-requires-clause-unread : goal.run_cones-cones-requires-clause-unread
+run_cones-cones-requires-clause-unread g c = c.requires.unread
+
+pub run_cones-cones-requires-clause-sound : goal.run_cones-cones-requires-clause-sound
+run_cones-cones-requires-clause-sound g c = c.requires.sound
+
+pub run_cones-cones-requires-clause-limit : goal.run_cones-cones-requires-clause-limit
+run_cones-cones-requires-clause-limit g c = c.requires.limit
+
+pub run_cones-cones-requires-clause-made : goal.run_cones-cones-requires-clause-made
+run_cones-cones-requires-clause-made g c = c.requires.made
+
+pub bring_back-requires : goal.bring_back-requires
+bring_back-requires g c =
+    let first = c.args.bays.now.items in
+    let made = bays_of c.in-Ok.cones.items in
+    let now = bays_of c.run_cones-cones.result.0.items in
+    omega (
+      arith,
+      ap length c.in-Ok.ensures.emptied,
+      c.make_cones.ensures.room,
+      c.find_stale.ensures.room,
+      c.requires.room,
+      c.find_stale.ensures.later.number,
+      c.in-Ok.ensures.later.number,
+      c.run_cones-cones.ensures.later.number,
+      length-map c.run_cones-cones.result.0.items (λ (cone : Standing g.row.B.Denot). cone.bay),
+    )

@@ -6,6 +6,7 @@ use Rattle.lert_place.specs.Openings.{trace_asked}
 use Rattle.lert_ingest.specs.Bays.{AreLater}
 use Rattle.lert_ingest.specs.Run.{HasRun}
 use Rattle.lert_ingest.proofs.AskedLaws.{asked_along, none_returned, one_returned, returned_along}
+use Rattle.lert_ingest.proofs.Ending.{no_place_no_usage}
 use Rattle.lert_ingest.proofs.runs.run_line.Goals as goal
 
 pub returns-in-Err-clause-asked : goal.returns-in-Err-clause-asked
@@ -56,3 +57,9 @@ returns-clause-ran g c = λ differs.
       subst (λ (xs : List g.row.P-Bay.Denot). AreLater g.P.Bay.Bay.files g.P.Bay.Faulty.faults g.P.Bay.Faulty.mark xs ran.0) (sym handed) ran.2,
       subst (λ (xs : List g.row.P-Bay.Denot). HasRun {S = g.row.P-Trace.Denot} {K = g.row.K.Denot} {B = g.row.P-Bay.Denot} g.P.Trace.Source.remaining g.P.Trace.Faulty.faults g.K.Sink.taken g.K.Faulty.faults g.P.Bay.Bay.files g.P.Bay.Faulty.faults c.args.settings.now trace back c.args.out.now c.run_trace-trace.new.out xs ran.0 c.run_trace-trace.result.1) (sym handed) ran.3,
     )
+
+pub returns-clause-no_usage : goal.returns-clause-no_usage
+returns-clause-no_usage g c = c.run_trace-trace.ensures.no_usage
+
+pub returns-in-Err-clause-no_usage : goal.returns-in-Err-clause-no_usage
+returns-in-Err-clause-no_usage g c = λ rule is. no_place_no_usage rule is

@@ -58,3 +58,54 @@ returns-in-Err-finish-clause-stopped g c =
     c.in-Err-finish.status
     (refused_since g.B.Bay.files g.B.Faulty.faults g.B.Faulty.mark c.args.router.now.settings first then now after.keys c.route_keys.ensures.later c.finish.ensures.later c.in-Err-finish.status
     (subst (λ (s : Numbers). IsRefused g.B.Bay.files g.B.Faulty.faults s then now after.keys c.in-Err-finish.status) c.route_keys.ensures.settings c.in-Err-finish.ensures.refused))
+
+pub route_keys-requires-clause-empty : goal.route_keys-requires-clause-empty
+route_keys-requires-clause-empty g c = c.requires.empty
+
+pub route_keys-requires-clause-taking : goal.route_keys-requires-clause-taking
+route_keys-requires-clause-taking g c = c.requires.taking
+
+pub route_keys-requires-clause-unread : goal.route_keys-requires-clause-unread
+route_keys-requires-clause-unread g c = c.requires.unread
+
+pub route_keys-requires-clause-sound : goal.route_keys-requires-clause-sound
+route_keys-requires-clause-sound g c = c.requires.sound
+
+pub route_keys-requires-clause-limit : goal.route_keys-requires-clause-limit
+route_keys-requires-clause-limit g c = c.requires.limit
+
+pub returns-in-Err-clause-settings : goal.returns-in-Err-clause-settings
+returns-in-Err-clause-settings g c = c.route_keys.ensures.settings
+
+pub returns-in-Err-clause-later : goal.returns-in-Err-clause-later
+returns-in-Err-clause-later g c = c.route_keys.ensures.later
+
+pub returns-in-Err-clause-partly : goal.returns-in-Err-clause-partly
+returns-in-Err-clause-partly g c = c.in-Err.ensures.partly
+
+pub returns-in-Err-clause-stopped : goal.returns-in-Err-clause-stopped
+returns-in-Err-clause-stopped g c = c.in-Err.ensures.stopped
+
+pub returns-in-Err-clause-mark : goal.returns-in-Err-clause-mark
+returns-in-Err-clause-mark g c = c.route_keys.ensures.mark
+
+pub finish-requires : goal.finish-requires
+finish-requires g c = record { taking = c.in_default.ensures.taking }
+
+pub returns-in-Ok-clause-settings : goal.returns-in-Ok-clause-settings
+returns-in-Ok-clause-settings g c = c.finish.ensures.settings ∙ c.route_keys.ensures.settings
+
+pub returns-in-Ok-clause-finished : goal.returns-in-Ok-clause-finished
+returns-in-Ok-clause-finished g c = c.in-Ok.ensures.finished
+
+pub returns-in-Ok-clause-keys : goal.returns-in-Ok-clause-keys
+returns-in-Ok-clause-keys g c = λ bytes was. c.finish.ensures.keys ∙ c.in_default.ensures.keys bytes was
+
+pub returns-in-Ok-clause-mark : goal.returns-in-Ok-clause-mark
+returns-in-Ok-clause-mark g c = c.route_keys.ensures.mark
+
+pub returns-in-Err-finish-clause-settings : goal.returns-in-Err-finish-clause-settings
+returns-in-Err-finish-clause-settings g c = c.finish.ensures.settings ∙ c.route_keys.ensures.settings
+
+pub returns-in-Err-finish-clause-mark : goal.returns-in-Err-finish-clause-mark
+returns-in-Err-finish-clause-mark g c = c.route_keys.ensures.mark

@@ -4,7 +4,7 @@ use Rattle.lert_spec.specs.Trace.{whole}
 use Rattle.lert_ingest.specs.Bays.{ArePartWoven, bays_of}
 use Rattle.lert_ingest.specs.Lanes.{open_cones}
 use Rattle.lert_ingest.specs.Run.{IsRefused}
-use Rattle.lert_ingest.proofs.BayLaws.{are_more}
+use Rattle.lert_ingest.proofs.BayLaws.{are_more, are_same}
 use Rattle.lert_ingest.proofs.KeysRead.{take-next, take-whole}
 use Rattle.lert_ingest.proofs.LaneLaws.{lanes_partly, refused_since}
 use Rattle.lert_ingest.proofs.Stopping.{begins_taken, stop_partly, stop_refused}
@@ -92,3 +92,38 @@ loop-key-preserved g c =
       falls = omega (arith, here.falls, c.next.ensures.never_falls);
       marked = c.next.ensures.mark ∙ here.marked;
     }
+
+pub loop-key-init : goal.loop-key-init
+loop-key-init g c = record {
+  settings = refl;
+  taking = c.requires.taking;
+  made = refl;
+  limit = c.requires.limit;
+  sound = c.requires.sound;
+  within = omega (arith, c.requires.unread);
+  keys = λ bytes was. c.requires.empty ∙ sym (ap (λ n. take n (whole bytes)) c.requires.unread);
+  later = are_same g.B.Bay.files g.B.Faulty.faults g.B.Faulty.mark (bays_of c.args.router.now.cones.items);
+  falls = omega arith;
+  marked = refl;
+}
+
+pub take-requires : goal.take-requires
+take-requires g c = record { taking = c.loop-key.invariant.taking }
+
+pub returns-in-Ok-None-clause-settings : goal.returns-in-Ok-None-clause-settings
+returns-in-Ok-None-clause-settings g c = c.loop-key.invariant.settings
+
+pub returns-in-Ok-None-clause-taking : goal.returns-in-Ok-None-clause-taking
+returns-in-Ok-None-clause-taking g c = c.loop-key.invariant.taking
+
+pub returns-in-Ok-None-clause-later : goal.returns-in-Ok-None-clause-later
+returns-in-Ok-None-clause-later g c = c.loop-key.invariant.later
+
+pub returns-in-Err-clause-settings : goal.returns-in-Err-clause-settings
+returns-in-Err-clause-settings g c = c.loop-key.invariant.settings
+
+pub returns-in-Err-clause-later : goal.returns-in-Err-clause-later
+returns-in-Err-clause-later g c = c.loop-key.invariant.later
+
+pub returns-in-Err-take-clause-settings : goal.returns-in-Err-take-clause-settings
+returns-in-Err-take-clause-settings g c = c.take.ensures.settings ∙ c.loop-key.invariant.settings

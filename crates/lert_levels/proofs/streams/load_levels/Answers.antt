@@ -1,4 +1,5 @@
-use Rattle.std.proofs.Common.{◌≡◌, ◌-◌, ◌∙◌, ◌++◌, map, length, ap, sym, subst}
+use Rattle.std.proofs.Common.{◌≡◌, ◌-◌, ◌∙◌, ◌++◌, map, length, ap, sym, subst, inr, refl}
+use Rattle.std.proofs.lemmas.Result.{err_from_is_err_and}
 use Rattle.std.specs.List.{All}
 use Rattle.std.proofs.lemmas.List.{length-map}
 use Rattle.lert_frames.specs.Frame.{IsBin}
@@ -22,3 +23,90 @@ pub returns-clause-count : goal.returns-clause-count
 returns-clause-count g c =
     streams_count (tail_limit c.args.settings.now) c.args.zero.now.bins (map (λ row. row.items) c.args.rows.now) c.load_rows.new.streams.items (length c.args.rows.now)
     (sym (length-map c.args.rows.now (λ row. row.items))) (returns-clause-bins g c)
+
+pub returns-in_err-load-clause-bins : goal.returns-in_err-load-clause-bins
+returns-in_err-load-clause-bins g c = let p = err_from_is_err_and c.from_residual.result c.from_residual.ensures.1 in rw p.1 tt
+
+pub returns-in_err-load-clause-young : goal.returns-in_err-load-clause-young
+returns-in_err-load-clause-young g c = let p = err_from_is_err_and c.from_residual.result c.from_residual.ensures.1 in rw p.1 tt
+
+pub returns-in_err-load-clause-narrow : goal.returns-in_err-load-clause-narrow
+returns-in_err-load-clause-narrow g c = let p = err_from_is_err_and c.from_residual.result c.from_residual.ensures.1 in rw p.1 tt
+
+pub returns-in_err-load-clause-count : goal.returns-in_err-load-clause-count
+returns-in_err-load-clause-count g c = let p = err_from_is_err_and c.from_residual.result c.from_residual.ensures.1 in rw p.1 tt
+
+pub returns-in_err-load-clause-few : goal.returns-in_err-load-clause-few
+returns-in_err-load-clause-few g c = let p = err_from_is_err_and c.from_residual.result c.from_residual.ensures.1 in rw p.1 tt
+
+pub returns-in_err-load-clause-fresh : goal.returns-in_err-load-clause-fresh
+returns-in_err-load-clause-fresh g c = let p = err_from_is_err_and c.from_residual.result c.from_residual.ensures.1 in rw p.1 tt
+
+pub returns-in_err-load_rows-clause-bins : goal.returns-in_err-load_rows-clause-bins
+returns-in_err-load_rows-clause-bins g c = let p = err_from_is_err_and c.from_residual-in_err-load_rows.result c.from_residual-in_err-load_rows.ensures.1 in rw p.1 tt
+
+pub returns-in_err-load_rows-clause-young : goal.returns-in_err-load_rows-clause-young
+returns-in_err-load_rows-clause-young g c = let p = err_from_is_err_and c.from_residual-in_err-load_rows.result c.from_residual-in_err-load_rows.ensures.1 in rw p.1 tt
+
+pub returns-in_err-load_rows-clause-narrow : goal.returns-in_err-load_rows-clause-narrow
+returns-in_err-load_rows-clause-narrow g c = let p = err_from_is_err_and c.from_residual-in_err-load_rows.result c.from_residual-in_err-load_rows.ensures.1 in rw p.1 tt
+
+pub returns-in_err-load_rows-clause-count : goal.returns-in_err-load_rows-clause-count
+returns-in_err-load_rows-clause-count g c = let p = err_from_is_err_and c.from_residual-in_err-load_rows.result c.from_residual-in_err-load_rows.ensures.1 in rw p.1 tt
+
+pub returns-in_err-load_rows-clause-few : goal.returns-in_err-load_rows-clause-few
+returns-in_err-load_rows-clause-few g c = let p = err_from_is_err_and c.from_residual-in_err-load_rows.result c.from_residual-in_err-load_rows.ensures.1 in rw p.1 tt
+
+pub returns-in_err-load_rows-clause-fresh : goal.returns-in_err-load_rows-clause-fresh
+returns-in_err-load_rows-clause-fresh g c = let p = err_from_is_err_and c.from_residual-in_err-load_rows.result c.from_residual-in_err-load_rows.ensures.1 in rw p.1 tt
+
+pub returns-in_err-load-clause-lists : goal.returns-in_err-load-clause-lists
+returns-in_err-load-clause-lists g c seen told held stand =
+    let p = err_from_is_err_and c.from_residual.result c.from_residual.ensures.1 in
+    rw p.1 (inr p.2)
+
+pub returns-in_err-load-clause-malformed : goal.returns-in_err-load-clause-malformed
+returns-in_err-load-clause-malformed g c seen told at is =
+    let p = err_from_is_err_and c.from_residual.result c.from_residual.ensures.1 in
+    absurd (cc (p.1, p.2))
+
+pub returns-in_err-load-clause-failed : goal.returns-in_err-load-clause-failed
+returns-in_err-load-clause-failed g c is =
+    let p = err_from_is_err_and c.from_residual.result c.from_residual.ensures.1 in
+    absurd (cc (p.1, p.2))
+
+pub returns-in_err-load-clause-mark : goal.returns-in_err-load-clause-mark
+returns-in_err-load-clause-mark g c = refl
+
+pub returns-in_err-load_rows-clause-lists : goal.returns-in_err-load_rows-clause-lists
+returns-in_err-load_rows-clause-lists g c seen told held stand =
+    let p = err_from_is_err_and c.from_residual-in_err-load_rows.result c.from_residual-in_err-load_rows.ensures.1 in
+    rw (p.1, p.2) (c.in_err-load_rows.ensures.lists seen told held stand)
+
+pub returns-in_err-load_rows-clause-malformed : goal.returns-in_err-load_rows-clause-malformed
+returns-in_err-load_rows-clause-malformed g c seen told at is =
+    let p = err_from_is_err_and c.from_residual-in_err-load_rows.result c.from_residual-in_err-load_rows.ensures.1 in
+    c.in_err-load_rows.ensures.malformed seen told at (cc (p.1, p.2))
+
+pub returns-in_err-load_rows-clause-failed : goal.returns-in_err-load_rows-clause-failed
+returns-in_err-load_rows-clause-failed g c is =
+    let p = err_from_is_err_and c.from_residual-in_err-load_rows.result c.from_residual-in_err-load_rows.ensures.1 in
+    c.in_err-load_rows.ensures.failed (cc (p.1, p.2))
+
+pub returns-in_err-load_rows-clause-only_read : goal.returns-in_err-load_rows-clause-only_read
+returns-in_err-load_rows-clause-only_read g c = c.load_rows.ensures.only_read
+
+pub returns-in_err-load_rows-clause-never_falls : goal.returns-in_err-load_rows-clause-never_falls
+returns-in_err-load_rows-clause-never_falls g c = c.load_rows.ensures.never_falls
+
+pub returns-in_err-load_rows-clause-mark : goal.returns-in_err-load_rows-clause-mark
+returns-in_err-load_rows-clause-mark g c = c.load_rows.ensures.mark
+
+pub returns-clause-only_read : goal.returns-clause-only_read
+returns-clause-only_read g c = c.load_rows.ensures.only_read
+
+pub returns-clause-never_falls : goal.returns-clause-never_falls
+returns-clause-never_falls g c = c.load_rows.ensures.never_falls
+
+pub returns-clause-mark : goal.returns-clause-mark
+returns-clause-mark g c = c.load_rows.ensures.mark

@@ -1,4 +1,5 @@
 use Rattle.std.proofs.Common.{◌≡◌, ℕ, ◌+◌, Err, length, take, ap, sym, ◌∙◌, subst, arith}
+use Rattle.std.proofs.lemmas.Bool.{true≢false}
 use Rattle.std.proofs.lemmas.List.{length-take-le}
 use Rattle.lert_gatelog.specs.Gated.{BreaksAt, IsClosed, IsOpen, Log, next_gate}
 use Rattle.lert_cone.specs.History.{most_payload}
@@ -6,43 +7,96 @@ use Rattle.lert_recover.specs.Rest.{GoesOn, IsFound}
 use Rattle.lert_recover.proofs.RestLaws.{found_broken}
 use Rattle.lert_recover.proofs.journal_rest.find_here.Goals as goal
 
-pub returns-in-Ok-None-clause-told : goal.returns-in-Ok-None-clause-told
-returns-in-Ok-None-clause-told g c seen told =
-    let s = c.args.settings.now in
-    let last = c.args.last.now in
-    let gate_is = c.gate-gate.ensures.value in
-    let next = c.next.new.self.gate in
-    let shut = rw c.in-Ok-None.field-0-is at (c.in-Ok-None.ensures.closed seen told) in
-    let own = subst (λ (file : ℕ). IsClosed (seen file) c.args.log.now.gate) c.requires.file shut in
-    subst (λ (gate : ℕ). IsFound s c.args.cone last.n0 last.closed c.args.events (seen 0) gate next c.end_here.result) gate_is
-    (c.end_here.ensures.told s c.args.cone (seen 0) next (subst (λ (gate : ℕ). IsClosed (seen 0) gate) (sym gate_is) own))
+pub packet_here-requires : goal.packet_here-requires
+packet_here-requires g c =
+    let counted = rw c.in-Ok-Some.field-0-is at c.in-Ok-Some.ensures.counted in
+    let long : length (take c.in-Ok-Some.count c.next.new.into) ≡ c.in-Ok-Some.count = length-take-le c.in-Ok-Some.count c.next.new.into (omega (arith, counted.1, c.requires.most, c.requires.room, c.next.auto.into)) in
+    record {
+      short = omega (arith, long, counted.1, c.requires.most);
+      reach = omega (arith, c.requires.reach, c.gate-gate.ensures.value);
+      place = c.requires.place;
+      within = c.requires.within;
+    }
 
-pub returns-in-Ok-None-clause-forward : goal.returns-in-Ok-None-clause-forward
-returns-in-Ok-None-clause-forward g c =
-    subst (λ (gate : ℕ). GoesOn c.args.settings.now c.args.events gate c.next.new.self.gate c.end_here.result) c.gate-gate.ensures.value
-    (c.end_here.ensures.forward c.args.settings.now c.next.new.self.gate)
+pub returns-in-Ok-None : goal.returns-in-Ok-None
+returns-in-Ok-None g c =
+    let next = c.in-Ok-None.ensures in
+    let moved = rw c.in-Ok-None.field-0-is at next.moved in
+    record {
+      told = λ seen told.
+          let s = c.args.settings.now in
+          let last = c.args.last.now in
+          let gate_is = c.gate-gate.ensures.value in
+          let next_gate_is = c.next.new.self.gate in
+          let shut = rw c.in-Ok-None.field-0-is at (c.in-Ok-None.ensures.closed seen told) in
+          let own = subst (λ (file : ℕ). IsClosed (seen file) c.args.log.now.gate) c.requires.file shut in
+          subst (λ (gate : ℕ). IsFound s c.args.cone last.n0 last.closed c.args.events (seen 0) gate next_gate_is c.end_here.result) gate_is
+          (c.end_here.ensures.told s c.args.cone (seen 0) next_gate_is (subst (λ (gate : ℕ). IsClosed (seen 0) gate) (sym gate_is) own));
+      forward =
+          subst (λ (gate : ℕ). GoesOn c.args.settings.now c.args.events gate c.next.new.self.gate c.end_here.result) c.gate-gate.ensures.value
+          (c.end_here.ensures.forward c.args.settings.now c.next.new.self.gate);
+      file = ap (λ (log : Log). log.file) moved;
+      most = ap (λ (log : Log). log.most) moved;
+      only_read = record { seen = next.seen; images = next.images; moments = next.moments; time = next.time };
+      cause = record { never_falls = next.never_falls; failed = λ is. absurd (true≢false (sym is)) };
+      mark = next.mark;
+    }
 
-pub returns-in-Ok-Some-clause-told : goal.returns-in-Ok-Some-clause-told
-returns-in-Ok-Some-clause-told g c seen told =
+pub returns-in-Ok-Some : goal.returns-in-Ok-Some
+returns-in-Ok-Some g c =
     let s = c.args.settings.now in
     let last = c.args.last.now in
     let count = c.in-Ok-Some.count in
     let payload = take count c.next.new.into in
+    let next = c.in-Ok-Some.ensures in
     let gate_is = c.gate-gate.ensures.value in
-    let moved = rw c.in-Ok-Some.field-0-is at c.in-Ok-Some.ensures.moved in
-    let counted = rw c.in-Ok-Some.field-0-is at c.in-Ok-Some.ensures.counted in
-    let opened = rw c.in-Ok-Some.field-0-is at (c.in-Ok-Some.ensures.opened seen told) in
+    let moved = rw c.in-Ok-Some.field-0-is at next.moved in
+    let counted = rw c.in-Ok-Some.field-0-is at next.counted in
     let long : length payload ≡ count = length-take-le count c.next.new.into (omega (arith, counted.1, c.requires.most, c.requires.room, c.next.auto.into)) in
     let next_is : c.next.new.self.gate ≡ next_gate c.args.log.now.gate payload = ap (λ (log : Log). log.gate) moved ∙ ap (λ n. c.args.log.now.gate + 5 + n) (sym long) in
-    let own = subst (λ (file : ℕ). IsOpen c.args.log.now.most (seen file) c.args.log.now.gate payload) c.requires.file opened in
-    let stands = subst (λ (most : ℕ). IsOpen most (seen 0) c.args.log.now.gate payload) c.requires.most own in
-    subst (λ (next : ℕ). IsFound s c.args.cone last.n0 last.closed c.args.events (seen 0) c.args.log.now.gate next c.packet_here.result) (sym next_is)
-    (subst (λ (gate : ℕ). IsFound s c.args.cone last.n0 last.closed c.args.events (seen 0) gate (next_gate gate payload) c.packet_here.result) gate_is
-    (c.packet_here.ensures.told (seen 0) (subst (λ (gate : ℕ). IsOpen (most_payload s) (seen 0) gate payload) (sym gate_is) stands)))
+    record {
+      told = λ seen told.
+          let opened = rw c.in-Ok-Some.field-0-is at (next.opened seen told) in
+          let own = subst (λ (file : ℕ). IsOpen c.args.log.now.most (seen file) c.args.log.now.gate payload) c.requires.file opened in
+          let stands = subst (λ (most : ℕ). IsOpen most (seen 0) c.args.log.now.gate payload) c.requires.most own in
+          subst (λ (after : ℕ). IsFound s c.args.cone last.n0 last.closed c.args.events (seen 0) c.args.log.now.gate after c.packet_here.result) (sym next_is)
+          (subst (λ (gate : ℕ). IsFound s c.args.cone last.n0 last.closed c.args.events (seen 0) gate (next_gate gate payload) c.packet_here.result) gate_is
+          (c.packet_here.ensures.told (seen 0) (subst (λ (gate : ℕ). IsOpen (most_payload s) (seen 0) gate payload) (sym gate_is) stands)));
+      forward = subst (λ (after : ℕ). GoesOn s c.args.events c.args.log.now.gate after c.packet_here.result) (sym next_is)
+          (subst (λ (gate : ℕ). GoesOn s c.args.events gate (next_gate gate payload) c.packet_here.result) gate_is c.packet_here.ensures.forward);
+      file = ap (λ (log : Log). log.file) moved;
+      most = ap (λ (log : Log). log.most) moved;
+      only_read = record { seen = next.seen; images = next.images; moments = next.moments; time = next.time };
+      cause = record { never_falls = next.never_falls; failed = λ is. absurd (true≢false (sym is)) };
+      mark = next.mark;
+    }
 
-pub returns-in-Err-Malformed-clause-told : goal.returns-in-Err-Malformed-clause-told
-returns-in-Err-Malformed-clause-told g c seen told =
-    let last = c.args.last.now in
-    let at = c.in-Err-Malformed.at in
-    found_broken c.args.settings.now c.args.cone last.n0 last.closed c.args.events c.args.log.now.most (seen 0) c.args.log.now.gate at c.requires.most
-    (subst (λ (file : ℕ). BreaksAt c.args.log.now.most (seen file) c.args.log.now.gate at) c.requires.file (c.in-Err-Malformed.ensures.malformed seen told at (ap Err c.in-Err-Malformed.field-0-is)))
+pub returns-in-Err-Malformed : goal.returns-in-Err-Malformed
+returns-in-Err-Malformed g c =
+    let next = c.in-Err-Malformed.ensures in
+    record {
+      told = λ seen told.
+          let last = c.args.last.now in
+          let at = c.in-Err-Malformed.at in
+          found_broken c.args.settings.now c.args.cone last.n0 last.closed c.args.events c.args.log.now.most (seen 0) c.args.log.now.gate at c.requires.most
+          (subst (λ (file : ℕ). BreaksAt c.args.log.now.most (seen file) c.args.log.now.gate at) c.requires.file (c.in-Err-Malformed.ensures.malformed seen told at (ap Err c.in-Err-Malformed.field-0-is)));
+      forward = tt;
+      file = ap (λ (log : Log). log.file) next.stayed;
+      most = ap (λ (log : Log). log.most) next.stayed;
+      only_read = record { seen = next.seen; images = next.images; moments = next.moments; time = next.time };
+      cause = record { never_falls = next.never_falls; failed = λ is. absurd (true≢false (sym is)) };
+      mark = next.mark;
+    }
+
+pub returns-in-Err-Failed : goal.returns-in-Err-Failed
+returns-in-Err-Failed g c =
+    let next = c.in-Err-Failed.ensures in
+    record {
+      told = λ seen told. tt;
+      forward = tt;
+      file = ap (λ (log : Log). log.file) next.stayed;
+      most = ap (λ (log : Log). log.most) next.stayed;
+      only_read = record { seen = next.seen; images = next.images; moments = next.moments; time = next.time };
+      cause = record { never_falls = next.never_falls; failed = λ is. next.failed (ap Err c.in-Err-Failed.field-0-is) };
+      mark = next.mark;
+    }

@@ -1,4 +1,5 @@
-use Rattle.std.proofs.Common.{◌≡◌, ◌<◌, ◌≤◌, ◌⊎◌, Some, Err, List, [], length, ap, sym, ◌∙◌, subst}
+use Rattle.std.proofs.Common.{◌≡◌, ◌<◌, ◌≤◌, ◌⊎◌, Some, Err, List, [], length, refl, ap, sym, ◌∙◌, subst, arith}
+use Rattle.std.specs.List.{length_refill}
 use Rattle.std.specs.Prelude.{All, IfOk, MatchResult, if◌then◌else◌}
 use Rattle.lert_base.specs.Packet.{Packet, events_of}
 use Rattle.lert_bay.specs.Files.{Files}
@@ -12,11 +13,51 @@ use Rattle.lert_files.specs.declared.fault.ReopenFault.TheVariants.{Failed, OutO
 use Rattle.lert_recover.specs.declared.recovery.ReopenRefused.{ReopenRefused}
 use Rattle.lert_recover.specs.Replayed.{HasReplayed}
 use Rattle.lert_recover.specs.Reopened.{IsStopped}
+use Rattle.lert_levels.specs.OnDisk.{OnDisk}
+use Rattle.lert_reports.specs.Stored.{Stored}
+use Rattle.lert_spec.specs.Limits.{IsValid}
+use Rattle.lert_recover.proofs.BayLaws.{bay_before, made_of, own_of}
+use Rattle.lert_recover.proofs.ReplayingLaws.{journal_same}
 use Rattle.lert_recover.proofs.ReopenLaws.{fails_on, frames_settled, journal_settled, last_of, log_shut, ok_on, refused_before, reopened_of, sound_opened, stands_on}
 use Rattle.lert_recover.proofs.SomeEvents.{some_events}
 use Rattle.lert_recover.proofs.recovery.reopen_in_order.Goals as goal
 
 -- ---- what a cone asks of the files
+
+pub read_files-requires : goal.read_files-requires
+read_files-requires g c =
+    let room = c.requires.room in
+    record {
+      levels = ap (λ (disk : OnDisk). disk.settings) room.levels_are;
+      store = ap (λ (stored : Stored). stored.settings) room.stored_is;
+      empty = ap (λ (stored : Stored). stored.reports) room.stored_is;
+      room = omega (arith, room.roomy);
+    }
+
+pub adopt-begun-requires-clause-named : goal.adopt-begun-requires-clause-named
+adopt-begun-requires-clause-named g c = c.requires.named
+
+pub adopt-begun-requires-clause-point : goal.adopt-begun-requires-clause-point
+adopt-begun-requires-clause-point g c = record { within = c.in-Ok.ensures.point.within; offset_is = refl; first_is = refl; reach = c.in-Ok.ensures.reach }
+
+pub adopt-begun-requires-clause-room : goal.adopt-begun-requires-clause-room
+adopt-begun-requires-clause-room g c =
+    let room = c.requires.room in
+    let read = c.in-Ok.ensures in
+    let buffer = c.args.room.buffer in
+    let len_is : buffer.len ≡ length buffer.items = omega (arith, buffer.ok.0) in
+    record {
+      valid = room.valid;
+      young_is = room.young_is;
+      levels_of = read.same.0 ∙ ap (λ (disk : OnDisk). disk.settings) room.levels_are;
+      at = read.at;
+      are = read.rows;
+      stored_of = read.same.1 ∙ ap (λ (stored : Stored). stored.settings) room.stored_is;
+      own = read.reports.of_cone;
+      placed = read.reports.placed;
+      keys_are = room.keys_are;
+      roomy = sym (length_refill buffer.len buffer.items c.read_files.new.buffer len_is) ∙ (len_is ∙ room.roomy);
+    }
 
 pub adopt-begun-requires-clause-log_shut : goal.adopt-begun-requires-clause-log_shut
 adopt-begun-requires-clause-log_shut g c seen told =
@@ -32,28 +73,62 @@ pub adopt-begun-requires-clause-frames : goal.adopt-begun-requires-clause-frames
 adopt-begun-requires-clause-frames g c seen told from to named =
     frames_settled (g.B.Bay.leaves c.read_files.new.bay) seen (c.in-Ok.ensures.durable seen (sym c.read_files.ensures.quiet.seen ∙ told)) from to
 
+pub replay_journal-requires : goal.replay_journal-requires
+replay_journal-requires g c =
+    let made = c.adopt-begun.ensures.made in
+    let settings_are = ap (λ (k : Standing g.row.B.Denot). k.listing.settings) made in
+    record {
+      own = (settings_are, ap (λ (k : Standing g.row.B.Denot). k.listing.cone) made, ap (λ (k : Standing g.row.B.Denot). k.last) made);
+      place = c.in-Ok.ensures.point.within;
+      replaying = ap (λ (k : Standing g.row.B.Denot). k.state) made;
+      valid = subst IsValid (sym settings_are) c.requires.room.valid;
+      begun = (ap (λ (k : Standing g.row.B.Denot). k.gate) made, ap (λ (k : Standing g.row.B.Denot). k.listing.events) made, ap (λ (k : Standing g.row.B.Denot). k.events) made);
+    }
+
 -- ---- files that aren't read
 
-pub returns-in-Err-clause-told : goal.returns-in-Err-clause-told
-returns-in-Err-clause-told g c seen told =
-    refused_before c.args.room.settings c.args.cone seen c.in-Err.fault
-    (λ file at is. c.in-Err.ensures.malformed seen told file at (ap Err is))
-    (λ kept is. c.in-Err.ensures.other seen told kept (ap Err is))
-
-pub returns-in-Err-clause-fails : goal.returns-in-Err-clause-fails
-returns-in-Err-clause-fails g c seen told h sound =
-    let there = sound_opened c.args.room.settings c.args.cone c.requires.room.valid seen h sound in
-    c.in-Err.ensures.passes seen told sound.logged sound.log_end there.rows there.opened
+pub returns-in-Err : goal.returns-in-Err
+returns-in-Err g c =
+    let read = c.in-Err.ensures in
+    record {
+      told = λ seen told.
+          refused_before c.args.room.settings c.args.cone seen c.in-Err.fault
+          (λ file at is. c.in-Err.ensures.malformed seen told file at (ap Err is))
+          (λ kept is. c.in-Err.ensures.other seen told kept (ap Err is));
+      fails = λ seen told h sound.
+          let there = sound_opened c.args.room.settings c.args.cone c.requires.room.valid seen h sound in
+          c.in-Err.ensures.passes seen told sound.logged sound.log_end there.rows there.opened;
+      stands = tt;
+      own = tt;
+      made = tt;
+      reads = journal_same (g.B.Bay.files c.args.bay) (g.B.Bay.files c.read_files.new.bay) read.quiet.seen;
+      never_falls = read.never_falls;
+      failed = λ is. read.failed (ap Err is);
+      mark = read.mark;
+    }
 
 -- ---- the journal behind the others
 
 -- of files that are told and sound for a list, the cone is on its way through that list
-pub returns-in-Ok-clause-fails : goal.returns-in-Ok-clause-fails
-returns-in-Ok-clause-fails g c seen told =
+pub returns-in-Ok : goal.returns-in-Ok
+returns-in-Ok g c =
     let files = g.B.Bay.files in
     let leaves = g.B.Bay.leaves in
+    let faults = g.B.Faulty.faults in
+    let mark = g.B.Faulty.mark in
     let s = c.args.room.settings in
+    let cone = c.args.cone in
     let start = c.adopt-begun.result in
+    let read = c.in-Ok.ensures in
+    let made = c.adopt-begun.ensures.made in
+    let bay_is = ap (λ (k : Standing g.row.B.Denot). k.bay) made in
+    let made_is = ap (λ (k : Standing g.row.B.Denot). k.made) made in
+    let result = c.replay_journal.result in
+    let replayed = c.replay_journal.ensures in
+    let says = bay_before files faults mark (λ (refused : ReopenRefused g.row.B.Denot). refused.bay) (λ (refused : ReopenRefused g.row.B.Denot). refused.fault) c.args.bay start.bay
+    (ap files bay_is ∙ read.quiet.seen) (subst (λ (bay : g.row.B.Denot). faults c.args.bay ≤ faults bay) (sym bay_is) read.never_falls) (ap mark bay_is ∙ read.mark) result
+    (record { reads = replayed.reads; never_falls = replayed.never_falls; failed = replayed.failed; mark_is = replayed.mark }) in
+    let fails = λ (seen : Files) (told : files c.args.bay ≡ Some seen).
     let after = c.read_files.ensures.quiet.seen ∙ told in
     let opened = c.in-Ok.ensures.opened seen told in
     let end = c.in-Ok.end in
@@ -61,47 +136,53 @@ returns-in-Ok-clause-fails g c seen told =
     c.adopt-begun.ensures.replays seen after opened.0 opened.2.log
     (last_of s c.args.cone end.n0 end.offset end.first end.closed c.read_files.new.store.reports c.read_files.new.levels.rows opened.0 opened.1 opened.2.named) in
     fails_on (λ h. Replays files leaves start h []) (λ h. IsSound s c.args.cone h seen) (λ (refused : ReopenRefused g.row.B.Denot). (refused.fault ≡ Failed) ⊎ (refused.fault ≡ OutOfMemory)) c.replay_journal.result begun
-    (c.replay_journal.ensures.fails seen (ap (λ (k : Standing g.row.B.Denot). files k.bay) c.adopt-begun.ensures.made ∙ after))
-
-pub returns-in-Ok-clause-told : goal.returns-in-Ok-clause-told
-returns-in-Ok-clause-told g c seen told =
-    let files = g.B.Bay.files in
-    let s = c.args.room.settings in
-    let after = c.read_files.ensures.quiet.seen ∙ told in
-    let opened = c.in-Ok.ensures.opened seen told in
-    let result = c.replay_journal.result in
-    let journal = subst (λ (k : Standing g.row.B.Denot). (now : Files) → files k.bay ≡ Some now → HoldsSome k.listing.settings k.last.n0 k.rows (now 2) → MatchResult result
-    (λ (cone : Standing g.row.B.Denot). HasReplayed k.listing.settings k.listing.cone k.last.n0 k.last.closed (now 0) cone.gate cone.listing.events × IsClosed (now 0) cone.gate)
-    (λ (refused : ReopenRefused g.row.B.Denot). IsStopped k.listing.settings k.listing.cone k.last.n0 k.last.closed (now 0) refused.fault)) c.adopt-begun.ensures.made c.replay_journal.ensures.told in
-    let passed = subst (λ (k : Standing g.row.B.Denot). IfOk result (λ (cone : Standing g.row.B.Denot). k.last.n0 ≤ length cone.listing.events)) c.adopt-begun.ensures.made c.replay_journal.ensures.passed in
-    let closed = subst (λ (k : Standing g.row.B.Denot). IfOk result (λ (cone : Standing g.row.B.Denot). cone.listing.closed ≡ k.listing.closed)) c.adopt-begun.ensures.made
-    (ok_on (λ (cone : Standing g.row.B.Denot). (cone.listing.closed ≡ c.adopt-begun.result.listing.closed) × (cone.state ≡ if c.adopt-begun.result.last.closed then Finished else Running)) (λ (cone : Standing g.row.B.Denot). cone.listing.closed ≡ c.adopt-begun.result.listing.closed)
-    result (λ cone both. both.0) c.replay_journal.ensures.state) in
-    reopened_of (λ (cone : Standing g.row.B.Denot). cone.listing.closed) (λ (cone : Standing g.row.B.Denot). cone.listing.events) (λ (cone : Standing g.row.B.Denot). cone.gate)
-    (λ (refused : ReopenRefused g.row.B.Denot). refused.fault)
-    s c.args.cone seen opened.0 c.in-Ok.end.log_end c.read_files.new.levels.rows c.in-Ok.end.n0 c.in-Ok.end.closed opened.2 opened.1.n0_is opened.1.closed_is result
-    (journal seen after (some_events s c.requires.room.valid c.in-Ok.end.n0 c.in-Ok.ensures.point.within c.read_files.new.levels.rows c.in-Ok.ensures.at (seen 2) (c.in-Ok.ensures.stand seen told))) passed closed (returns-in-Ok-clause-fails g c seen told)
-
-pub returns-in-Ok-clause-stands : goal.returns-in-Ok-clause-stands
-returns-in-Ok-clause-stands g c =
-    let files = g.B.Bay.files in
-    let leaves = g.B.Bay.leaves in
-    let s = c.args.room.settings in
-    let cone = c.args.cone in
-    let start = c.adopt-begun.result in
-    let end = c.in-Ok.end in
-    let on_way : (h : List Packet) → ((seen : Files) → files c.args.bay ≡ Some seen → (other : List Packet) → IsSound s cone other seen → IsSound s cone h seen) →
-    WasSound files start → (seen : Files) → files start.bay ≡ Some seen → Replays files leaves start h [] =
-    λ h same was seen told.
-    let after = sym (ap (λ (k : Standing g.row.B.Denot). files k.bay) c.adopt-begun.ensures.made) ∙ told in
-    let before = sym c.read_files.ensures.quiet.seen ∙ after in
-    let opened = c.in-Ok.ensures.opened seen before in
-    let first = was seen (ap (λ (k : Standing g.row.B.Denot). files k.made) c.adopt-begun.ensures.made ∙ after) in
-    let own = subst (λ (k : Standing g.row.B.Denot). IsSound k.listing.settings k.listing.cone first.0 seen) c.adopt-begun.ensures.made first.1 in
-    c.adopt-begun.ensures.replays seen after opened.0 opened.2.log
-    (last_of s cone end.n0 end.offset end.first end.closed c.read_files.new.store.reports c.read_files.new.levels.rows opened.0 opened.1 opened.2.named)
-    h (same seen before first.0 own) in
-    stands_on (λ h. All (λ (packet : Packet). 0 < length packet.keys) h) (λ h (now : Standing g.row.B.Denot). length (events_of h) ≡ now.events)
-    (λ h. WasSound files start → (seen : Files) → files start.bay ≡ Some seen → Replays files leaves start h [])
-    (λ h. (seen : Files) → files c.args.bay ≡ Some seen → (other : List Packet) → IsSound s cone other seen → IsSound s cone h seen)
-    (λ (now : Standing g.row.B.Denot) h. StandsFor files leaves g.B.Faulty.faults now h) c.replay_journal.result on_way c.replay_journal.ensures.stands
+    (c.replay_journal.ensures.fails seen (ap (λ (k : Standing g.row.B.Denot). files k.bay) c.adopt-begun.ensures.made ∙ after)) in
+    record {
+      told = λ seen told.
+          let files = g.B.Bay.files in
+          let s = c.args.room.settings in
+          let after = c.read_files.ensures.quiet.seen ∙ told in
+          let opened = c.in-Ok.ensures.opened seen told in
+          let result = c.replay_journal.result in
+          let journal = subst (λ (k : Standing g.row.B.Denot). (now : Files) → files k.bay ≡ Some now → HoldsSome k.listing.settings k.last.n0 k.rows (now 2) → MatchResult result
+          (λ (cone : Standing g.row.B.Denot). HasReplayed k.listing.settings k.listing.cone k.last.n0 k.last.closed (now 0) cone.gate cone.listing.events × IsClosed (now 0) cone.gate)
+          (λ (refused : ReopenRefused g.row.B.Denot). IsStopped k.listing.settings k.listing.cone k.last.n0 k.last.closed (now 0) refused.fault)) c.adopt-begun.ensures.made c.replay_journal.ensures.told in
+          let passed = subst (λ (k : Standing g.row.B.Denot). IfOk result (λ (cone : Standing g.row.B.Denot). k.last.n0 ≤ length cone.listing.events)) c.adopt-begun.ensures.made c.replay_journal.ensures.passed in
+          let closed = subst (λ (k : Standing g.row.B.Denot). IfOk result (λ (cone : Standing g.row.B.Denot). cone.listing.closed ≡ k.listing.closed)) c.adopt-begun.ensures.made
+          (ok_on (λ (cone : Standing g.row.B.Denot). (cone.listing.closed ≡ c.adopt-begun.result.listing.closed) × (cone.state ≡ if c.adopt-begun.result.last.closed then Finished else Running)) (λ (cone : Standing g.row.B.Denot). cone.listing.closed ≡ c.adopt-begun.result.listing.closed)
+          result (λ cone both. both.0) c.replay_journal.ensures.state) in
+          reopened_of (λ (cone : Standing g.row.B.Denot). cone.listing.closed) (λ (cone : Standing g.row.B.Denot). cone.listing.events) (λ (cone : Standing g.row.B.Denot). cone.gate)
+          (λ (refused : ReopenRefused g.row.B.Denot). refused.fault)
+          s c.args.cone seen opened.0 c.in-Ok.end.log_end c.read_files.new.levels.rows c.in-Ok.end.n0 c.in-Ok.end.closed opened.2 opened.1.n0_is opened.1.closed_is result
+          (journal seen after (some_events s c.requires.room.valid c.in-Ok.end.n0 c.in-Ok.ensures.point.within c.read_files.new.levels.rows c.in-Ok.ensures.at (seen 2) (c.in-Ok.ensures.stand seen told))) passed closed (fails seen told);
+      fails = fails;
+      stands =
+          let files = g.B.Bay.files in
+          let leaves = g.B.Bay.leaves in
+          let s = c.args.room.settings in
+          let cone = c.args.cone in
+          let start = c.adopt-begun.result in
+          let end = c.in-Ok.end in
+          let on_way : (h : List Packet) → ((seen : Files) → files c.args.bay ≡ Some seen → (other : List Packet) → IsSound s cone other seen → IsSound s cone h seen) →
+          WasSound files start → (seen : Files) → files start.bay ≡ Some seen → Replays files leaves start h [] =
+          λ h same was seen told.
+          let after = sym (ap (λ (k : Standing g.row.B.Denot). files k.bay) c.adopt-begun.ensures.made) ∙ told in
+          let before = sym c.read_files.ensures.quiet.seen ∙ after in
+          let opened = c.in-Ok.ensures.opened seen before in
+          let first = was seen (ap (λ (k : Standing g.row.B.Denot). files k.made) c.adopt-begun.ensures.made ∙ after) in
+          let own = subst (λ (k : Standing g.row.B.Denot). IsSound k.listing.settings k.listing.cone first.0 seen) c.adopt-begun.ensures.made first.1 in
+          c.adopt-begun.ensures.replays seen after opened.0 opened.2.log
+          (last_of s cone end.n0 end.offset end.first end.closed c.read_files.new.store.reports c.read_files.new.levels.rows opened.0 opened.1 opened.2.named)
+          h (same seen before first.0 own) in
+          stands_on (λ h. All (λ (packet : Packet). 0 < length packet.keys) h) (λ h (now : Standing g.row.B.Denot). length (events_of h) ≡ now.events)
+          (λ h. WasSound files start → (seen : Files) → files start.bay ≡ Some seen → Replays files leaves start h [])
+          (λ h. (seen : Files) → files c.args.bay ≡ Some seen → (other : List Packet) → IsSound s cone other seen → IsSound s cone h seen)
+          (λ (now : Standing g.row.B.Denot) h. StandsFor files leaves g.B.Faulty.faults now h) c.replay_journal.result on_way c.replay_journal.ensures.stands;
+      own = own_of start s cone (ap (λ (k : Standing g.row.B.Denot). k.listing.settings) made) (ap (λ (k : Standing g.row.B.Denot). k.listing.cone) made)
+          (ap (λ (k : Standing g.row.B.Denot). k.listing.closed) made ∙ sym (ap (λ (k : Standing g.row.B.Denot). k.last.closed) made)) result replayed.same_cone replayed.counted replayed.state;
+      made = made_of start files faults mark c.args.bay (ap files made_is ∙ read.quiet.seen) (subst (λ (bay : g.row.B.Denot). faults c.args.bay ≤ faults bay) (sym made_is) read.never_falls) (ap mark made_is ∙ read.mark) result replayed.same_cone;
+      reads = says.reads;
+      never_falls = says.never_falls;
+      failed = says.failed;
+      mark = says.mark_is;
+    }

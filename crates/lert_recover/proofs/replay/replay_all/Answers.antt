@@ -1,6 +1,7 @@
-use Rattle.std.proofs.Common.{◌≡◌, ◌+◌, ◌≤◌, [], ◌∷◌, ◌++◌, length, refl, ap, sym, ◌∙◌, subst, arith, length-append, Err, List, ℕ}
+use Rattle.std.proofs.Common.{◌≡◌, ◌+◌, ◌-◌, ◌<◌, ◌≤◌, [], ◌∷◌, ◌++◌, length, refl, ap, sym, ◌∙◌, subst, arith, length-append, Err, List, ℕ}
 use Rattle.lert_spec.specs.declared.numbers.Numbers.{Numbers}
 use Rattle.lert_spec.specs.Edges.{capacity}
+use Rattle.lert_spec.proofs.LimitLaws.{capacity_to}
 use Rattle.lert_io.proofs.Rising.{risen_since}
 use Rattle.lert_reports.specs.declared.log_point.LogPoint.{LogPoint}
 use Rattle.lert_cone.specs.declared.refusal.ReplayFault.TheVariants.{Unsound}
@@ -31,6 +32,24 @@ packets-init g c =
       never_falls = omega arith;
       mark = refl;
     }
+
+pub replay-requires : goal.replay-requires
+replay-requires g c =
+    let now = c.packets.invariant in
+    record { replaying = now.state; reach = omega (arith, now.near, now.within, capacity_to c.args.cone.now.listing.settings c.requires.valid) }
+
+pub packets-smaller : goal.packets-smaller
+packets-smaller g c =
+    let start = c.args.cone.now in
+    let old = c.packets.cone in
+    let new = c.replay.new.self in
+    let now = c.packets.invariant in
+    let took = rw c.in-Ok-Some.field-0-is at c.in-Ok-Some.ensures.taken in
+    let keys = took.packet.keys in
+    let count : length new.listing.events ≡ length old.listing.events + length keys = ap (λ (k : Standing g.row.B.Denot). length k.listing.events) took.is ∙ length-append old.listing.events keys in
+    let within : length old.listing.events + length keys ≤ capacity start.listing.settings = subst (λ (s : Numbers). length old.listing.events + length keys ≤ capacity s) now.same.settings took.follows.within in
+    let falls : capacity start.listing.settings - length new.listing.events < capacity start.listing.settings - length old.listing.events = omega (arith, count, within, took.journaled.some) in
+    falls
 
 pub packets-preserved : goal.packets-preserved
 packets-preserved g c =

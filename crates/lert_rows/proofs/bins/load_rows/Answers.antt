@@ -1,4 +1,4 @@
-use Rattle.std.proofs.Common.{rules, ℕ, ◌<◌, ◌∙◌, ◌++◌, List, length, ap, subst, map, take, arith}
+use Rattle.std.proofs.Common.{ℕ, ◌<◌, ◌∙◌, ◌++◌, List, length, ap, subst, map, take, arith}
 use Rattle.std.specs.List.{All}
 use Rattle.std.proofs.lemmas.List.{take_all, length-map}
 use Rattle.std.proofs.lemmas.Result.{err_from_is_err_and}
@@ -7,7 +7,7 @@ use Rattle.lert_frames.specs.Place.{tail_limit}
 use Rattle.lert_rows.specs.declared.bin_at.BinAt.{BinAt}
 use Rattle.lert_rows.specs.Loading.{lists_of, width_of, AreBins, Stands, RowBreaks, held_in, widths_in}
 use Rattle.lert_rows.specs.Rows.{IsRow}
-use Rattle.lert_rows.proofs.ReadLaws.{only_read_on, row_here, row_to, row_from, flat_more}
+use Rattle.lert_rows.proofs.ReadLaws.{only_read_on, row_here, row_to, row_from, flat_more, risen}
 use Rattle.lert_rows.proofs.bins.load_rows.Goals as goal
 
 pub overflow_add-level : goal.overflow_add-level
@@ -62,8 +62,8 @@ loop-row-preserved g c =
       only_read = only_read_on (g.B.Bay.files c.args.bay.now) (g.B.Bay.files c.loop-row.bay) (g.B.Bay.files c.load_row.new.bay) (g.B.Bay.leaves c.args.bay.now) (g.B.Bay.leaves c.loop-row.bay) (g.B.Bay.leaves c.load_row.new.bay)
           (g.B.Bay.moment c.args.bay.now) (g.B.Bay.moment c.loop-row.bay) (g.B.Bay.moment c.load_row.new.bay) (g.B.Bay.left_since c.args.bay.now) (g.B.Bay.left_since c.loop-row.bay) (g.B.Bay.left_since c.load_row.new.bay)
           (g.met.B.Bay.since_earlier c.load_row.new.bay) c.loop-row.invariant.only_read c.in_ok-load_row.ensures.only_read;
-      never_falls = search rules;
-      mark = search rules;
+      never_falls = omega (arith, c.loop-row.invariant.never_falls, c.load_row.ensures.never_falls);
+      mark = c.load_row.ensures.mark ∙ c.loop-row.invariant.mark;
     }
 
 pub returns-clause-lists : goal.returns-clause-lists
@@ -71,3 +71,26 @@ returns-clause-lists g c seen told held stand =
     let rows = map (λ row. row.items) c.args.rows.now in
     c.loop-row.invariant.lists seen told held stand
     ∙ ap (λ rs. lists_of c.args.streams.now.items ++ held_in held rs) (take_all c.loop-row.row-index rows (omega (arith, c.loop-row-test.false, length-map c.args.rows.now (λ row. row.items))))
+
+pub returns-in_err-load_row-clause-bins : goal.returns-in_err-load_row-clause-bins
+returns-in_err-load_row-clause-bins g c widths are = let p = err_from_is_err_and c.from_residual.result c.from_residual.ensures.1 in rw p.1 tt
+
+pub returns-in_err-load_row-clause-fresh : goal.returns-in_err-load_row-clause-fresh
+returns-in_err-load_row-clause-fresh g c = let p = err_from_is_err_and c.from_residual.result c.from_residual.ensures.1 in rw p.1 tt
+
+pub returns-in_err-load_row-clause-only_read : goal.returns-in_err-load_row-clause-only_read
+returns-in_err-load_row-clause-only_read g c = only_read_on (g.B.Bay.files c.args.bay.now) (g.B.Bay.files c.loop-row.bay) (g.B.Bay.files c.load_row.new.bay) (g.B.Bay.leaves c.args.bay.now) (g.B.Bay.leaves c.loop-row.bay) (g.B.Bay.leaves c.load_row.new.bay)
+    (g.B.Bay.moment c.args.bay.now) (g.B.Bay.moment c.loop-row.bay) (g.B.Bay.moment c.load_row.new.bay) (g.B.Bay.left_since c.args.bay.now) (g.B.Bay.left_since c.loop-row.bay) (g.B.Bay.left_since c.load_row.new.bay)
+    (g.met.B.Bay.since_earlier c.load_row.new.bay) c.loop-row.invariant.only_read c.load_row.ensures.only_read
+
+pub returns-in_err-load_row-clause-never_falls : goal.returns-in_err-load_row-clause-never_falls
+returns-in_err-load_row-clause-never_falls g c = omega (arith, c.loop-row.invariant.never_falls, c.load_row.ensures.never_falls)
+
+pub returns-in_err-load_row-clause-failed : goal.returns-in_err-load_row-clause-failed
+returns-in_err-load_row-clause-failed g c is =
+    let p = err_from_is_err_and c.from_residual.result c.from_residual.ensures.1 in
+    risen (g.B.Faulty.faults c.args.bay.now) (g.B.Faulty.faults c.loop-row.bay) (g.B.Faulty.faults c.load_row.new.bay)
+    c.loop-row.invariant.never_falls c.load_row.ensures.never_falls (c.in_err-load_row.ensures.failed (cc (p.1, p.2)))
+
+pub returns-in_err-load_row-clause-mark : goal.returns-in_err-load_row-clause-mark
+returns-in_err-load_row-clause-mark g c = c.load_row.ensures.mark ∙ c.loop-row.invariant.mark

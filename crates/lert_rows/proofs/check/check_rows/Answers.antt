@@ -1,4 +1,4 @@
-use Rattle.std.proofs.Common.{rules, ℕ, ◌≡◌, ◌+◌, ◌<◌, ◌∙◌, List, None, Some, length, subst, map, get_or, [], ap, sym, arith, inl, inr}
+use Rattle.std.proofs.Common.{ℕ, ◌≡◌, ◌+◌, ◌<◌, ◌∙◌, List, None, Some, length, subst, map, get_or, [], ap, sym, arith, inl, inr}
 use Rattle.std.proofs.lemmas.Bool.{cases_lt}
 use Rattle.std.proofs.lemmas.List.{take_all, length-map}
 use Rattle.std.proofs.lemmas.Result.{err_from_is_err_and}
@@ -7,7 +7,7 @@ use Rattle.lert_rows.specs.declared.bin_at.BinAt.{BinAt}
 use Rattle.lert_rows.specs.Checked.{RowStands, row_left, rows_left}
 use Rattle.lert_rows.specs.Rows.{IsRow}
 use Rattle.lert_rows.proofs.CheckLaws.{rows_more, rows_break}
-use Rattle.lert_rows.proofs.ReadLaws.{only_read_on, row_here, row_to, row_from}
+use Rattle.lert_rows.proofs.ReadLaws.{only_read_on, row_here, row_to, row_from, risen}
 use Rattle.lert_rows.proofs.check.check_rows.Goals as goal
 
 pub check_row-requires-clause-row : goal.check_row-requires-clause-row
@@ -50,11 +50,34 @@ loop-row-preserved g c =
       only_read = only_read_on (g.B.Bay.files c.args.bay.now) (g.B.Bay.files c.loop-row.bay) (g.B.Bay.files c.check_row.new.bay) (g.B.Bay.leaves c.args.bay.now) (g.B.Bay.leaves c.loop-row.bay) (g.B.Bay.leaves c.check_row.new.bay)
           (g.B.Bay.moment c.args.bay.now) (g.B.Bay.moment c.loop-row.bay) (g.B.Bay.moment c.check_row.new.bay) (g.B.Bay.left_since c.args.bay.now) (g.B.Bay.left_since c.loop-row.bay) (g.B.Bay.left_since c.check_row.new.bay)
           (g.met.B.Bay.since_earlier c.check_row.new.bay) c.loop-row.invariant.only_read c.in_ok-check_row.ensures.only_read;
-      never_falls = search rules;
-      mark = search rules;
+      never_falls = omega (arith, c.loop-row.invariant.never_falls, c.check_row.ensures.never_falls);
+      mark = c.check_row.ensures.mark ∙ c.loop-row.invariant.mark;
     }
 
 pub returns-clause-whole : goal.returns-clause-whole
 returns-clause-whole g c seen told =
     let rows = map (λ row. row.items) c.args.rows.now in
     ap (rows_left c.args.settings.now (seen 2)) (sym (take_all c.loop-row.row-index rows (omega (arith, c.loop-row-test.false, length-map c.args.rows.now (λ row. row.items))))) ∙ c.loop-row.invariant.whole seen told
+
+pub returns-in_err-check_row-clause-stand : goal.returns-in_err-check_row-clause-stand
+returns-in_err-check_row-clause-stand g c seen told = let p = err_from_is_err_and c.from_residual.result c.from_residual.ensures.1 in rw p.1 tt
+
+pub returns-in_err-check_row-clause-whole : goal.returns-in_err-check_row-clause-whole
+returns-in_err-check_row-clause-whole g c seen told = let p = err_from_is_err_and c.from_residual.result c.from_residual.ensures.1 in rw p.1 tt
+
+pub returns-in_err-check_row-clause-only_read : goal.returns-in_err-check_row-clause-only_read
+returns-in_err-check_row-clause-only_read g c = only_read_on (g.B.Bay.files c.args.bay.now) (g.B.Bay.files c.loop-row.bay) (g.B.Bay.files c.check_row.new.bay) (g.B.Bay.leaves c.args.bay.now) (g.B.Bay.leaves c.loop-row.bay) (g.B.Bay.leaves c.check_row.new.bay)
+    (g.B.Bay.moment c.args.bay.now) (g.B.Bay.moment c.loop-row.bay) (g.B.Bay.moment c.check_row.new.bay) (g.B.Bay.left_since c.args.bay.now) (g.B.Bay.left_since c.loop-row.bay) (g.B.Bay.left_since c.check_row.new.bay)
+    (g.met.B.Bay.since_earlier c.check_row.new.bay) c.loop-row.invariant.only_read c.check_row.ensures.only_read
+
+pub returns-in_err-check_row-clause-never_falls : goal.returns-in_err-check_row-clause-never_falls
+returns-in_err-check_row-clause-never_falls g c = omega (arith, c.loop-row.invariant.never_falls, c.check_row.ensures.never_falls)
+
+pub returns-in_err-check_row-clause-failed : goal.returns-in_err-check_row-clause-failed
+returns-in_err-check_row-clause-failed g c is =
+    let p = err_from_is_err_and c.from_residual.result c.from_residual.ensures.1 in
+    risen (g.B.Faulty.faults c.args.bay.now) (g.B.Faulty.faults c.loop-row.bay) (g.B.Faulty.faults c.check_row.new.bay)
+    c.loop-row.invariant.never_falls c.check_row.ensures.never_falls (c.in_err-check_row.ensures.failed (cc (p.1, p.2)))
+
+pub returns-in_err-check_row-clause-mark : goal.returns-in_err-check_row-clause-mark
+returns-in_err-check_row-clause-mark g c = c.check_row.ensures.mark ∙ c.loop-row.invariant.mark

@@ -1,9 +1,10 @@
-use Rattle.std.proofs.Common.{◌≡◌, ℕ, ◌≤◌, ◌++◌, List, [], length, map, Some, refl, ap, sym, ◌∙◌, subst, arith, append-nil}
+use Rattle.std.proofs.Common.{◌≡◌, ℕ, ◌≤◌, ◌++◌, List, length, map, Some, refl, ap, sym, ◌∙◌, subst, arith, append-nil}
 use Rattle.std.proofs.Math.Pow.{pow_mono}
 use Rattle.lert_cone.specs.Stands.{Standing}
 use Rattle.lert_spec.specs.declared.numbers.Numbers.{Numbers}
 use Rattle.lert_spec.specs.Lines.{lines}
-use Rattle.lert_ingest.specs.Bays.{bays_of}
+use Rattle.lert_ingest.specs.Bays.{AreLater, bays_of}
+use Rattle.lert_ingest.proofs.BayLaws.{are_same}
 use Rattle.lert_text.specs.Page.{IsCut}
 use Rattle.lert_ingest.specs.Print.{ArePrintable, printed_as}
 use Rattle.lert_top.specs.Recovered.{AreRecovered}
@@ -63,3 +64,31 @@ returns-clause-shows g c =
         subst (λ (xs : List (Standing g.row.B.Denot)). IsCut (g.K.Sink.taken c.args.out.now) (g.K.Sink.taken c.print_cones-printed.new.out) (lines (map printed_as xs))) c.as_slice.ensures.value c.in-Err-printed.ensures.cut,
       ),
     )
+
+pub reopen_cones-requires-clause-number : goal.reopen_cones-requires-clause-number
+reopen_cones-requires-clause-number g c = c.requires.number
+
+pub reopen_cones-requires-clause-room : goal.reopen_cones-requires-clause-room
+reopen_cones-requires-clause-room g c = c.requires.room
+
+pub returns-in-Err-clause-later : goal.returns-in-Err-clause-later
+returns-in-Err-clause-later g c = are_same g.B.Bay.files g.B.Faulty.faults g.B.Faulty.mark c.args.bays.now.items
+
+pub returns-in-Err-reopen_cones-clause-later : goal.returns-in-Err-reopen_cones-clause-later
+returns-in-Err-reopen_cones-clause-later g c = c.in-Err-reopen_cones.ensures.kept
+
+pub bring_back-requires : goal.bring_back-requires
+bring_back-requires g c =
+    omega (arith, c.in-Ok-reopen_cones.ensures.number, c.requires.number, c.requires.room, ap length c.in-Ok-reopen_cones.ensures.emptied, c.reopen_cones.ensures.room)
+
+pub returns-in-Ok-printed-clause-later : goal.returns-in-Ok-printed-clause-later
+returns-in-Ok-printed-clause-later g c =
+    let cones = c.in-Ok-reopen_cones.cones.items in
+    let back = c.bring_back.ensures.bays ∙ (ap (λ xs. bays_of cones ++ xs) c.in-Ok-reopen_cones.ensures.emptied ∙ append-nil (bays_of cones)) in
+    subst (AreLater g.B.Bay.files g.B.Faulty.faults g.B.Faulty.mark c.args.bays.now.items) (sym back) c.in-Ok-reopen_cones.ensures.later
+
+pub returns-clause-later : goal.returns-clause-later
+returns-clause-later g c =
+    let cones = c.in-Ok-reopen_cones.cones.items in
+    let back = c.bring_back.ensures.bays ∙ (ap (λ xs. bays_of cones ++ xs) c.in-Ok-reopen_cones.ensures.emptied ∙ append-nil (bays_of cones)) in
+    subst (AreLater g.B.Bay.files g.B.Faulty.faults g.B.Faulty.mark c.args.bays.now.items) (sym back) c.in-Ok-reopen_cones.ensures.later

@@ -1,10 +1,11 @@
-use Rattle.std.proofs.Common.{[], List, refl, ap, sym, ◌∙◌, subst, arith, inl, inr, append-nil}
+use Rattle.std.proofs.Common.{[], List, length, refl, ap, sym, ◌∙◌, subst, arith, inl, inr, append-nil}
 use Rattle.lert_ingest.specs.declared.status.Status.{Status}
 use Rattle.lert_ingest.specs.declared.status.Status.TheVariants.{OutOfMemory}
 use Rattle.lert_ingest.specs.Bays.{AreLater}
 use Rattle.lert_top.specs.Recovered.{HasRecovered}
 use Rattle.lert_ingest.proofs.AskedLaws.{all_back, none_returned}
 use Rattle.lert_ingest.proofs.BayLaws.{are_same, still_marked}
+use Rattle.lert_ingest.proofs.Ending.{no_memory_no_place, no_memory_no_usage, no_memory_not_done, no_place_no_usage}
 use Rattle.lert_top.proofs.RecoverEnding.{has_recovered, recovery_not_place_fault, recovery_not_usage}
 use Rattle.lert_top.proofs.recover.recover_to.Goals as goal
 
@@ -15,8 +16,8 @@ returns-in-Err-clause-asked g c =
         number = 0;
         within = omega arith;
         asked_is = ap g.P.Place.asked none.1 ∙ sym (append-nil (g.P.Place.asked c.args.place.now));
-        no_fault = λ is. let other = none.0 in cc;
-        all = λ is. absurd (let other = none.0 in cc);
+        no_fault = λ is. no_memory_no_place (sym none.0 ∙ is);
+        all = λ is. absurd (no_memory_not_done (sym none.0 ∙ is));
       })
       | inr bay ↦ inl (record { number = bay.2.0; named = omega (arith, bay.2.1, c.cones.ensures); asked_is = bay.2.2; status_is = bay.0 })
     ]
@@ -24,7 +25,7 @@ returns-in-Err-clause-asked g c =
 pub returns-in-Err-clause-place_fault : goal.returns-in-Err-clause-place_fault
 returns-in-Err-clause-place_fault g c = λ is.
     elim c.in-Err.ensures.refused [
-      | inl none ↦ absurd (let other = none.0 in cc)
+      | inl none ↦ absurd (no_memory_no_place (sym none.0 ∙ is))
       | inr bay ↦ (bay.1, refl)
     ]
 
@@ -55,8 +56,8 @@ returns-in-Err-clause-recovered g c = λ differs.
 pub returns-in-Err-clause-no_usage : goal.returns-in-Err-clause-no_usage
 returns-in-Err-clause-no_usage g c = λ rule is.
     elim c.in-Err.ensures.refused [
-      | inl none ↦ let other = none.0 in cc
-      | inr bay ↦ let other = bay.0 in cc
+      | inl none ↦ no_memory_no_usage rule (sym none.0 ∙ is)
+      | inr bay ↦ no_place_no_usage rule (sym bay.0 ∙ is)
     ]
 
 pub returns-clause-asked : goal.returns-clause-asked
@@ -103,3 +104,18 @@ returns-clause-recovered g c = λ differs.
 pub put_back_bays-requires-clause-marked : goal.put_back_bays-requires-clause-marked
 put_back_bays-requires-clause-marked g c = λ lifetimes outlive cone bay is.
     still_marked g.P.Bay.Bay.files g.P.Bay.Faulty.faults g.P.Bay.Faulty.mark c.in-Ok.bays.items c.recover_bays-status.new.bays.items c.recover_bays-status.ensures.later c.in-Ok.ensures.marked cone bay is
+
+pub returns-in-Err-clause-traces : goal.returns-in-Err-clause-traces
+returns-in-Err-clause-traces g c = c.open_bays.ensures.traces
+
+pub returns-clause-traces : goal.returns-clause-traces
+returns-clause-traces g c = c.put_back_bays.ensures.traces ∙ c.open_bays.ensures.traces
+
+pub recover_bays-status-requires-clause-number : goal.recover_bays-status-requires-clause-number
+recover_bays-status-requires-clause-number g c = c.in-Ok.ensures.number ∙ c.cones.ensures
+
+pub recover_bays-status-requires-clause-room : goal.recover_bays-status-requires-clause-room
+recover_bays-status-requires-clause-room g c = omega (arith, c.in-Ok.ensures.number, c.in-Ok.ensures.room)
+
+pub put_back_bays-requires-clause-handed : goal.put_back_bays-requires-clause-handed
+put_back_bays-requires-clause-handed g c = λ lifetimes outlive. c.recover_bays-status.ensures.later.number ∙ ap length (sym c.in-Ok.ensures.opened)

@@ -1,5 +1,4 @@
-use Rattle.std.proofs.Common.{◌≡◌, ◌^◌, ◌∷◌, [], List, ℕ, true, refl, ap, sym, ◌∙◌, subst, inl, inr}
-use Rattle.lert_spec.specs.declared.numbers.Numbers.{Numbers}
+use Rattle.std.proofs.Common.{◌≡◌, ◌^◌, List, ℕ, ap, sym, ◌∙◌, subst}
 use Rattle.lert_args.specs.declared.line.Line.{Line}
 use Rattle.lert_args.specs.declared.line.Task.{Task}
 use Rattle.lert_args.specs.declared.line.Task.TheVariants.{Run, Recover}
@@ -7,7 +6,6 @@ use Rattle.lert_ingest.specs.Asked.{IsAsked, IsAskedForBays}
 use Rattle.lert_top.specs.Recovered.{HasRecovered}
 use Rattle.lert_ingest.specs.Run.{HasRun}
 use Rattle.lert_args.specs.Word.{word_at}
-use Rattle.lert_ingest.proofs.AskedLaws.{none_returned}
 use Rattle.lert_ingest.proofs.Ending.{some_is}
 use Rattle.lert_args.proofs.Spelling.{places_of, word_at-slice_get}
 use Rattle.lert_top.proofs.top.run.Goals as goal

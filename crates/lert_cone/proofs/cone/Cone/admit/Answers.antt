@@ -6,17 +6,16 @@ use Rattle.lert_spec.specs.Edges.{capacity}
 use Rattle.lert_journal.specs.Payload.{IsJournaled}
 use Rattle.lert_reports.specs.Stored.{Stored}
 use Rattle.lert_io.proofs.Rising.{risen_since}
-use Rattle.lert_cone.specs.declared.acked.Acked.{Acked}
 use Rattle.lert_cone.specs.declared.refusal.ConeFault.{ConeFault}
 use Rattle.lert_cone.specs.declared.state.ConeState.TheVariants.{Running}
 use Rattle.lert_cone.specs.Bays.{Bays}
 use Rattle.lert_cone.specs.Listing.{Listing}
 use Rattle.lert_cone.specs.InStep.{IsLogging}
 use Rattle.lert_cone.specs.Stands.{Standing, over_of, is_broken, is_finished, cone_fault}
-use Rattle.lert_cone.specs.Takes.{CanTakePacket}
 use Rattle.lert_cone.proofs.Admits.{Admits, not_admitted, broken_off, admitted}
 use Rattle.lert_cone.proofs.Calls.{IsLawful}
-use Rattle.lert_cone.proofs.StandLaws.{broken_cone, more_cone, is_broken_by, not_replaying_by, by_bay_of}
+use Rattle.lert_cone.proofs.StandLaws.{broken_cone, more_cone}
+use Rattle.lert_cone.proofs.FaultLaws.{is_broken_by, not_replaying_by, by_bay_of}
 use Rattle.lert_cone.proofs.cone.Cone.admit.Given as given
 use Rattle.lert_cone.proofs.cone.Cone.admit.Goals as goal
 
@@ -58,7 +57,7 @@ returns-in_err-test g c =
 pub take_packet-requires : goal.take_packet-requires
 take_packet-requires g c =
     let ok = subst (λ (v : Standing g.row.B.Denot). (v.state ≡ Running) × (v.events + c.len-len.result ≤ capacity v.listing.settings)) (sym c.self.view_is) c.in_ok-test.ensures.ok in
-    let room : length c.self.inside.buffer.items ≡ length c.deref_mut.result.now = search rules in
+    let room : length c.self.inside.buffer.items ≡ length c.deref_mut.result.now = sym (ap (length {A = ℕ}) c.deref_mut.ensures.value) in
     let journaled : IsJournaled c.self.inside.tally.listing.settings c.self.inside.tally.listing.cone (packet_of c.args.entry.now) =
     subst (λ (v : Standing g.row.B.Denot). IsJournaled v.listing.settings v.listing.cone (packet_of c.args.entry.now)) (sym c.self.view_is) c.requires.fits in
     record {
@@ -80,14 +79,26 @@ take_packet-requires g c =
 -- a refusal in the middle
 pub invariant_of-self : goal.invariant_of-self
 invariant_of-self g c =
-    let len_is : c.self.inside.buffer.len ≡ length c.self.inside.buffer.items = search rules in
-    broken_cone g.B.Bay.files g.B.Bay.leaves g.B.Faulty.faults (record { bay = c.self.inside.bay; made = c.self.inside.made.value; listing = c.self.inside.tally.listing; rows = c.self.inside.tally.rows; reports = c.self.inside.tally.due.reports; events = c.self.inside.events;
-    state = c.self.inside.state; over = over_of c.self.inside.over; gate = c.self.inside.journal.gate; log = c.self.inside.log; last = c.self.inside.last })
+    let len_is : c.self.inside.buffer.len ≡ length c.self.inside.buffer.items = omega (arith, c.self.inside.buffer.ok) in
+    broken_cone g.B.Bay.files g.B.Bay.leaves g.B.Faulty.faults (record {
+      bay = c.self.inside.bay;
+      made = c.self.inside.made.value;
+      listing = c.self.inside.tally.listing;
+      rows = c.self.inside.tally.rows;
+      reports = c.self.inside.tally.due.reports;
+      events = c.self.inside.events;
+      state = c.self.inside.state;
+      over = over_of c.self.inside.over;
+      gate = c.self.inside.journal.gate;
+      log = c.self.inside.log;
+      last = c.self.inside.last;
+    })
     _ c.self.inside.tally c.take_packet.new.tally c.self.inside.journal c.take_packet.new.journal _ _ _ _
     (ap is_broken c.broken_by-self-inside.ensures ∙ is_broken_by c.in-Err.fault) (λ same. not_replaying_by c.in-Err.fault (sym c.broken_by-self-inside.ensures ∙ same))
     (ap (λ (l : Listing). l.settings) c.take_packet.ensures.listing) refl refl c.take_packet.ensures.file c.take_packet.ensures.most
     (sym (length_refill c.self.inside.buffer.len c.self.inside.buffer.items c.take_packet.new.buffer len_is) ∙ len_is) refl c.take_packet.ensures.never_falls
-    (λ same. risen_since (g.B.Faulty.faults c.self.inside.made.value) (g.B.Faulty.faults c.self.inside.bay) (g.B.Faulty.faults c.take_packet.new.bay) c.self.invariant.never_falls c.take_packet.ensures.never_falls
+    (λ same. risen_since (g.B.Faulty.faults c.self.inside.made.value) (g.B.Faulty.faults c.self.inside.bay) (g.B.Faulty.faults c.take_packet.new.bay) c.self.invariant.never_falls
+    c.take_packet.ensures.never_falls
     (c.take_packet.ensures.failed (c.in-Err.is ∙ ap Err (by_bay_of c.in-Err.fault (sym c.broken_by-self-inside.ensures ∙ same)))))
     c.self.invariant
 
@@ -95,13 +106,39 @@ pub returns-in-Err : goal.returns-in-Err
 returns-in-Err g c =
     let ok = subst (λ (v : Standing g.row.B.Denot). (v.state ≡ Running) × (v.events + c.len-len.result ≤ capacity v.listing.settings)) (sym c.self.view_is) c.in_ok-test.ensures.ok in
     let did = rw c.in-Err.is at c.take_packet.ensures in
-    let here = broken_off (bays g) (lawful g) (packet_of c.args.entry.now) c.self.inside.bay c.self.inside.made.value c.take_packet.new.bay c.self.inside.tally c.take_packet.new.tally c.self.inside.events
-    (length c.deref_mut.result.now) (length c.take_packet.new.buffer) c.self.inside.state (over_of c.self.inside.over) c.self.inside.journal c.take_packet.new.journal c.self.inside.log c.take_packet.new.log c.self.inside.last
+    let here = broken_off (bays g) (lawful g) (packet_of c.args.entry.now) c.self.inside.bay c.self.inside.made.value c.take_packet.new.bay c.self.inside.tally c.take_packet.new.tally
+    c.self.inside.events
+    (length c.deref_mut.result.now) (length c.take_packet.new.buffer) c.self.inside.state (over_of c.self.inside.over) c.self.inside.journal c.take_packet.new.journal c.self.inside.log
+    c.take_packet.new.log c.self.inside.last
     ok.0 (omega (arith, ok.1, c.len-len.ensures)) _ _ c.in-Err.fault c.broken_by-self-inside.ensures (ap (λ (e : Entry). Some (packet_of e)) c.of.ensures) c.self.invariant.never_falls did in
-    let turned = subst (λ (v : Standing g.row.B.Denot). Admits (bays g) (packet_of c.args.entry.now) v (record { bay = c.take_packet.new.bay; made = c.self.inside.made.value; listing = c.take_packet.new.tally.listing; rows = c.take_packet.new.tally.rows; reports = c.take_packet.new.tally.due.reports; events = c.self.inside.events;
-    state = c.broken_by-self-inside.result; over = Some (packet_of c.of.result.value); gate = c.take_packet.new.journal.gate; log = c.take_packet.new.log; last = c.self.inside.last }) (Err (cone_fault c.in-Err.fault))) c.self.view_is here in
-    let all = subst (λ (fault : ConeFault). Admits (bays g) (packet_of c.args.entry.now) c.args.self.now (record { bay = c.take_packet.new.bay; made = c.self.inside.made.value; listing = c.take_packet.new.tally.listing; rows = c.take_packet.new.tally.rows; reports = c.take_packet.new.tally.due.reports; events = c.self.inside.events;
-    state = c.broken_by-self-inside.result; over = Some (packet_of c.of.result.value); gate = c.take_packet.new.journal.gate; log = c.take_packet.new.log; last = c.self.inside.last }) (Err fault)) (sym c.from.ensures) turned in
+    let turned = subst (λ (v : Standing g.row.B.Denot). Admits (bays g) (packet_of c.args.entry.now) v (record {
+      bay = c.take_packet.new.bay;
+      made = c.self.inside.made.value;
+      listing = c.take_packet.new.tally.listing;
+      rows = c.take_packet.new.tally.rows;
+      reports = c.take_packet.new.tally.due.reports;
+      events = c.self.inside.events;
+      state = c.broken_by-self-inside.result;
+      over = Some (packet_of c.of.result.value);
+      gate = c.take_packet.new.journal.gate;
+      log = c.take_packet.new.log;
+      last = c.self.inside.last;
+    }) (Err
+    (cone_fault c.in-Err.fault))) c.self.view_is here in
+    let all = subst (λ (fault : ConeFault). Admits (bays g) (packet_of c.args.entry.now) c.args.self.now (record {
+      bay = c.take_packet.new.bay;
+      made = c.self.inside.made.value;
+      listing = c.take_packet.new.tally.listing;
+      rows = c.take_packet.new.tally.rows;
+      reports = c.take_packet.new.tally.due.reports;
+      events = c.self.inside.events;
+      state = c.broken_by-self-inside.result;
+      over = Some (packet_of c.of.result.value);
+      gate = c.take_packet.new.journal.gate;
+      log = c.take_packet.new.log;
+      last = c.self.inside.last;
+    }) (Err fault))
+    (sym c.from.ensures) turned in
     record {
       stands_for = all.stands_for;
       answers = all.answers;
@@ -133,10 +170,15 @@ invariant_of-self-2 g c =
     let did = rw c.in_default.is at c.take_packet.ensures in
     let journaled : IsJournaled c.self.inside.tally.listing.settings c.self.inside.tally.listing.cone (packet_of c.args.entry.now) =
     subst (λ (v : Standing g.row.B.Denot). IsJournaled v.listing.settings v.listing.cone (packet_of c.args.entry.now)) (sym c.self.view_is) c.requires.fits in
-    let is = did.listing ∙ ap (λ (keys : List ℕ). record { settings = c.self.inside.tally.listing.settings; cone = c.self.inside.tally.listing.cone; events = keys; closed = c.self.inside.tally.listing.closed }) did.taken in
-    let len_is : c.self.inside.buffer.len ≡ length c.self.inside.buffer.items = search rules in
+    let is = did.listing ∙ ap (λ (keys : List ℕ). record {
+      settings = c.self.inside.tally.listing.settings;
+      cone = c.self.inside.tally.listing.cone;
+      events = keys;
+      closed = c.self.inside.tally.listing.closed;
+    }) did.taken in
+    let len_is : c.self.inside.buffer.len ≡ length c.self.inside.buffer.items = omega (arith, c.self.inside.buffer.ok) in
     let room_is = sym (length_refill c.self.inside.buffer.len c.self.inside.buffer.items c.take_packet.new.buffer len_is) ∙ len_is in
-    let long : length c.take_packet.new.buffer ≡ length c.self.inside.buffer.items = search rules in
+    let long : length c.take_packet.new.buffer ≡ length c.self.inside.buffer.items = c.take_packet.auto.buffer ∙ ap (length {A = ℕ}) c.deref_mut.ensures.value in
     more_cone g.B.Bay.files g.B.Bay.leaves g.B.Faulty.faults c.self.inside.bay c.self.inside.made.value c.take_packet.new.bay c.self.inside.tally c.take_packet.new.tally c.self.inside.events _ _ _ _
     c.self.inside.state (over_of c.self.inside.over) c.self.inside.journal c.take_packet.new.journal c.self.inside.log c.take_packet.new.log c.self.inside.last (packet_of c.args.entry.now)
     ok.0 is did.counted (ap (λ n. c.self.inside.events + n) c.len-len.ensures) did.moved room_is journaled.some (omega (arith, ok.1, c.len-len.ensures)) did.never_falls did.shut
@@ -148,12 +190,25 @@ returns g c =
     let did = rw c.in_default.is at c.take_packet.ensures in
     let journaled : IsJournaled c.self.inside.tally.listing.settings c.self.inside.tally.listing.cone (packet_of c.args.entry.now) =
     subst (λ (v : Standing g.row.B.Denot). IsJournaled v.listing.settings v.listing.cone (packet_of c.args.entry.now)) (sym c.self.view_is) c.requires.fits in
-    let here = admitted (bays g) (lawful g) (packet_of c.args.entry.now) c.self.inside.bay c.self.inside.made.value c.take_packet.new.bay c.self.inside.tally c.take_packet.new.tally c.self.inside.events
-    (length c.deref_mut.result.now) (length c.take_packet.new.buffer) c.self.inside.state (over_of c.self.inside.over) c.self.inside.journal c.take_packet.new.journal c.self.inside.log c.take_packet.new.log c.self.inside.last
+    let here = admitted (bays g) (lawful g) (packet_of c.args.entry.now) c.self.inside.bay c.self.inside.made.value c.take_packet.new.bay c.self.inside.tally c.take_packet.new.tally
+    c.self.inside.events
+    (length c.deref_mut.result.now) (length c.take_packet.new.buffer) c.self.inside.state (over_of c.self.inside.over) c.self.inside.journal c.take_packet.new.journal c.self.inside.log
+    c.take_packet.new.log c.self.inside.last
     ok.0 (omega (arith, ok.1, c.len-len.ensures)) (c.self.inside.events + c.len-len.result) c.len.result (ap (λ n. c.self.inside.events + n) c.len-len.ensures) journaled.some
     (c.self.invariant.closed (ap is_broken ok.0) ∙ ap is_finished ok.0) (c.len.ensures.count ∙ ap length (ap (λ (v : Stored). v.reports) c.store.ensures)) did in
-    let all = subst (λ (v : Standing g.row.B.Denot). Admits (bays g) (packet_of c.args.entry.now) v (record { bay = c.take_packet.new.bay; made = c.self.inside.made.value; listing = c.take_packet.new.tally.listing; rows = c.take_packet.new.tally.rows; reports = c.take_packet.new.tally.due.reports;
-    events = c.self.inside.events + c.len-len.result; state = c.self.inside.state; over = over_of c.self.inside.over; gate = c.take_packet.new.journal.gate; log = c.take_packet.new.log; last = c.self.inside.last })
+    let all = subst (λ (v : Standing g.row.B.Denot). Admits (bays g) (packet_of c.args.entry.now) v (record {
+      bay = c.take_packet.new.bay;
+      made = c.self.inside.made.value;
+      listing = c.take_packet.new.tally.listing;
+      rows = c.take_packet.new.tally.rows;
+      reports = c.take_packet.new.tally.due.reports;
+      events = c.self.inside.events + c.len-len.result;
+      state = c.self.inside.state;
+      over = over_of c.self.inside.over;
+      gate = c.take_packet.new.journal.gate;
+      log = c.take_packet.new.log;
+      last = c.self.inside.last;
+    })
     (Ok (record { from = c.self.inside.events + 1; to = c.self.inside.events + c.len-len.result; reports = c.len.result }))) c.self.view_is here in
     record {
       stands_for = all.stands_for;

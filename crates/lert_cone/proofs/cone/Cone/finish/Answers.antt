@@ -1,4 +1,4 @@
-use Rattle.std.proofs.Common.{rules, ◌≡◌, ◌∙◌, List, Err, refl, length, ap, sym, subst, inl, arith}
+use Rattle.std.proofs.Common.{ℕ, ◌≡◌, ◌∙◌, List, Err, refl, length, ap, sym, subst, inl, arith}
 use Rattle.std.specs.List.{length_refill}
 use Rattle.lert_base.specs.Packet.{Packet, events_of}
 use Rattle.lert_bay.specs.Files.{IfTold}
@@ -14,7 +14,9 @@ use Rattle.lert_cone.specs.Stands.{Standing, WasSound, over_of, is_broken, is_fi
 use Rattle.lert_reports.specs.Stored.{Stored}
 use Rattle.lert_cone.proofs.SoundLaws.{turns_back}
 use Rattle.lert_io.proofs.Rising.{risen_since}
-use Rattle.lert_cone.proofs.StandLaws.{whole_of, stands_whole, stands_broken, ended_cone, broken_cone, any_turn, kept_since, reports_finished, turned_none, untold, is_broken_by, not_replaying_by, by_bay_of, by_read_of, unsound_of}
+use Rattle.lert_cone.proofs.AppendLaws.{whole_of}
+use Rattle.lert_cone.proofs.StandLaws.{stands_whole, stands_broken, ended_cone, broken_cone, reports_finished}
+use Rattle.lert_cone.proofs.FaultLaws.{any_turn, kept_since, turned_none, untold, is_broken_by, not_replaying_by, by_bay_of, by_read_of, unsound_of}
 use Rattle.lert_cone.proofs.TimeLaws.{timely}
 use Rattle.lert_cone.proofs.cone.Cone.finish.Goals as goal
 
@@ -22,7 +24,7 @@ pub finish-requires : goal.finish-requires
 finish-requires g c =
     let running : c.self.inside.state ≡ Running = subst (λ (v : Standing g.row.B.Denot). v.state ≡ Running) (sym c.self.view_is) c.in_ok-test_state.ensures.ok in
     let counted = c.self.invariant.tallied (ap is_broken running) in
-    let same : length c.self.inside.buffer.items ≡ length c.deref_mut.result.now = search rules in
+    let same : length c.self.inside.buffer.items ≡ length c.deref_mut.result.now = sym (ap (length {A = ℕ}) c.deref_mut.ensures.value) in
     record {
       still = c.self.invariant.closed (ap is_broken running) ∙ ap is_finished running;
       own = λ k d below. absurd (omega (arith, below));
@@ -43,24 +45,63 @@ returns-in_err-test_state-clause-each_moment g c = λ still sound seen told h st
 pub returns-in-Err-clause-stays : goal.returns-in-Err-clause-stays
 returns-in-Err-clause-stays g c = rw (← c.self.view_is) (λ h stands.
     let running : c.self.inside.state ≡ Running = subst (λ (v : Standing g.row.B.Denot). v.state ≡ Running) (sym c.self.view_is) c.in_ok-test_state.ensures.ok in
-    stands_broken g.B.Bay.files g.B.Bay.leaves g.B.Faulty.faults (record { bay = c.self.inside.bay; made = c.self.inside.made.value; listing = c.self.inside.tally.listing; rows = c.self.inside.tally.rows; reports = c.self.inside.tally.due.reports; events = c.self.inside.events; state = c.self.inside.state; over = over_of c.self.inside.over; gate = c.self.inside.journal.gate; log = c.self.inside.log; last = c.self.inside.last }) _ h (record { settings = ap (λ (l : Listing). l.settings) c.finish.ensures.listing; cone = ap (λ (l : Listing). l.cone) c.finish.ensures.listing; made = refl; last = refl }) (ap is_broken c.broken_by-self-inside.ensures ∙ is_broken_by c.in-Err.fault) (λ same. not_replaying_by c.in-Err.fault (sym c.broken_by-self-inside.ensures ∙ same)) refl
-    (λ same. risen_since (g.B.Faulty.faults c.self.inside.made.value) (g.B.Faulty.faults c.self.inside.bay) (g.B.Faulty.faults c.finish.new.bay) c.self.invariant.never_falls c.finish.ensures.keeps.never_falls
+    stands_broken g.B.Bay.files g.B.Bay.leaves g.B.Faulty.faults (record {
+      bay = c.self.inside.bay;
+      made = c.self.inside.made.value;
+      listing = c.self.inside.tally.listing;
+      rows = c.self.inside.tally.rows;
+      reports = c.self.inside.tally.due.reports;
+      events = c.self.inside.events;
+      state = c.self.inside.state;
+      over = over_of c.self.inside.over;
+      gate = c.self.inside.journal.gate;
+      log = c.self.inside.log;
+      last = c.self.inside.last;
+    }) _ h (record {
+      settings = ap (λ (l : Listing). l.settings) c.finish.ensures.listing;
+      cone = ap (λ
+          (l : Listing). l.cone) c.finish.ensures.listing;
+      made = refl;
+      last = refl;
+    }) (ap is_broken c.broken_by-self-inside.ensures ∙ is_broken_by c.in-Err.fault)
+    (λ same. not_replaying_by c.in-Err.fault (sym c.broken_by-self-inside.ensures ∙ same)) refl
+    (λ same. risen_since (g.B.Faulty.faults c.self.inside.made.value) (g.B.Faulty.faults c.self.inside.bay) (g.B.Faulty.faults c.finish.new.bay) c.self.invariant.never_falls
+    c.finish.ensures.keeps.never_falls
     (c.finish.ensures.keeps.failed (c.in-Err.is ∙ ap Err (by_bay_of c.in-Err.fault (sym c.broken_by-self-inside.ensures ∙ same)))))
-    (λ file at same sound. turned_none (g.B.Bay.files c.self.inside.bay) (g.B.Bay.files c.finish.new.bay) c.finish.ensures.keeps.journal.seen (untold (g.B.Bay.files c.self.inside.bay) (λ seen told. c.finish.ensures.sound seen told h (stands.whole (ap is_broken running) sound seen told).in_step file at (c.in-Err.is ∙ ap Err (by_read_of c.in-Err.fault file at (sym c.broken_by-self-inside.ensures ∙ same))))))
+    (λ file at same sound. turned_none (g.B.Bay.files c.self.inside.bay) (g.B.Bay.files c.finish.new.bay) c.finish.ensures.keeps.journal.seen (untold (g.B.Bay.files c.self.inside.bay)
+    (λ seen told. c.finish.ensures.sound seen told h (stands.whole (ap is_broken running) sound seen told).in_step file at (c.in-Err.is ∙ ap Err (by_read_of c.in-Err.fault file at
+    (sym c.broken_by-self-inside.ensures ∙ same))))))
     (λ sound seen told.
     let was = turns_back (λ old new. new 0 ≡ old 0) (g.B.Bay.files c.self.inside.bay) (g.B.Bay.files c.finish.new.bay) c.finish.ensures.keeps.journal.seen seen told in
     let whole = stands.whole (ap is_broken running) sound was.0 was.1 in
     subst (λ (l : Listing). IsKept (g.B.Bay.leaves c.finish.new.bay) seen (IsSoundOver l.settings l.cone h (over_of c.self.inside.over))) (sym c.finish.ensures.listing)
-    (kept_since (g.B.Bay.leaves c.finish.new.bay) (g.B.Bay.left_since c.finish.new.bay (g.B.Bay.moment c.self.inside.bay)) seen (IsSoundOver c.self.inside.tally.listing.settings c.self.inside.tally.listing.cone h (over_of c.self.inside.over)) (g.met.B.Bay.as_read c.finish.new.bay seen told) c.finish.ensures.keeps.journal.now
+    (kept_since (g.B.Bay.leaves c.finish.new.bay) (g.B.Bay.left_since c.finish.new.bay (g.B.Bay.moment c.self.inside.bay)) seen
+    (IsSoundOver c.self.inside.tally.listing.settings c.self.inside.tally.listing.cone h (over_of c.self.inside.over))
+    (g.met.B.Bay.as_read c.finish.new.bay seen told) c.finish.ensures.keeps.journal.now
     (λ image may. inl (c.finish.ensures.each_moment was.0 was.1 h whole.keys whole.in_step image may))))
     stands)
 
 pub invariant_of-self : goal.invariant_of-self
 invariant_of-self g c =
-    let len_is : c.self.inside.buffer.len ≡ length c.self.inside.buffer.items = search rules in
-    broken_cone g.B.Bay.files g.B.Bay.leaves g.B.Faulty.faults (record { bay = c.self.inside.bay; made = c.self.inside.made.value; listing = c.self.inside.tally.listing; rows = c.self.inside.tally.rows; reports = c.self.inside.tally.due.reports; events = c.self.inside.events; state = c.self.inside.state; over = over_of c.self.inside.over; gate = c.self.inside.journal.gate; log = c.self.inside.log; last = c.self.inside.last }) _ c.self.inside.tally c.finish.new.tally c.self.inside.journal c.self.inside.journal _ _ _ _
-    (ap is_broken c.broken_by-self-inside.ensures ∙ is_broken_by c.in-Err.fault) (λ same. not_replaying_by c.in-Err.fault (sym c.broken_by-self-inside.ensures ∙ same)) (ap (λ (l : Listing). l.settings) c.finish.ensures.listing) refl refl refl refl (sym (length_refill c.self.inside.buffer.len c.self.inside.buffer.items c.finish.new.buffer len_is) ∙ len_is) refl c.finish.ensures.keeps.never_falls
-    (λ same. risen_since (g.B.Faulty.faults c.self.inside.made.value) (g.B.Faulty.faults c.self.inside.bay) (g.B.Faulty.faults c.finish.new.bay) c.self.invariant.never_falls c.finish.ensures.keeps.never_falls
+    let len_is : c.self.inside.buffer.len ≡ length c.self.inside.buffer.items = omega (arith, c.self.inside.buffer.ok) in
+    broken_cone g.B.Bay.files g.B.Bay.leaves g.B.Faulty.faults (record {
+      bay = c.self.inside.bay;
+      made = c.self.inside.made.value;
+      listing = c.self.inside.tally.listing;
+      rows = c.self.inside.tally.rows;
+      reports = c.self.inside.tally.due.reports;
+      events = c.self.inside.events;
+      state = c.self.inside.state;
+      over = over_of c.self.inside.over;
+      gate = c.self.inside.journal.gate;
+      log = c.self.inside.log;
+      last = c.self.inside.last;
+    }) _ c.self.inside.tally c.finish.new.tally c.self.inside.journal c.self.inside.journal _ _ _ _
+    (ap is_broken c.broken_by-self-inside.ensures ∙ is_broken_by c.in-Err.fault) (λ same. not_replaying_by c.in-Err.fault (sym c.broken_by-self-inside.ensures ∙ same)) (ap (λ
+    (l : Listing). l.settings) c.finish.ensures.listing) refl refl refl refl (sym (length_refill c.self.inside.buffer.len c.self.inside.buffer.items c.finish.new.buffer len_is)
+    ∙ len_is) refl c.finish.ensures.keeps.never_falls
+    (λ same. risen_since (g.B.Faulty.faults c.self.inside.made.value) (g.B.Faulty.faults c.self.inside.bay) (g.B.Faulty.faults c.finish.new.bay) c.self.invariant.never_falls
+    c.finish.ensures.keeps.never_falls
     (c.finish.ensures.keeps.failed (c.in-Err.is ∙ ap Err (by_bay_of c.in-Err.fault (sym c.broken_by-self-inside.ensures ∙ same)))))
     c.self.invariant
 
@@ -68,8 +109,11 @@ pub returns-in-Err-clause-unsound : goal.returns-in-Err-clause-unsound
 returns-in-Err-clause-unsound g c = rw (← c.self.view_is) (λ file at same.
     let running : c.self.inside.state ≡ Running = subst (λ (v : Standing g.row.B.Denot). v.state ≡ Running) (sym c.self.view_is) c.in_ok-test_state.ensures.ok in
     let answer : c.from.result ≡ Unsound file at = cc in
-    let fault_is = unsound_of c.in-Err.fault file at (sym c.from.ensures ∙ answer) in
-    (c.broken_by-self-inside.ensures ∙ ap broken_by fault_is, (λ h stands sound. untold (g.B.Bay.files c.self.inside.bay) (λ seen told. c.finish.ensures.sound seen told h (stands.whole (ap is_broken running) sound seen told).in_step file at (c.in-Err.is ∙ ap Err fault_is)))))
+    let fault_is = unsound_of c.in-Err.fault file at (sym c.from.ensures ∙ answer) in (
+      c.broken_by-self-inside.ensures ∙ ap broken_by fault_is,
+      (λ h stands sound. untold (g.B.Bay.files c.self.inside.bay) (λ seen told. c.finish.ensures.sound seen told h (stands.whole
+          (ap is_broken running) sound seen told).in_step file at (c.in-Err.is ∙ ap Err fault_is))),
+    ))
 
 pub returns-in-Err-clause-each_moment : goal.returns-in-Err-clause-each_moment
 returns-in-Err-clause-each_moment g c = rw (← c.self.view_is) (λ still sound seen told h stands image may.
@@ -85,32 +129,69 @@ returns-in-Err-clause-time g c = rw (← c.self.view_is) c.finish.ensures.keeps.
 -- the end
 pub invariant_of-self-2 : goal.invariant_of-self-2
 invariant_of-self-2 g c =
-    let len_is : c.self.inside.buffer.len ≡ length c.self.inside.buffer.items = search rules in
+    let len_is : c.self.inside.buffer.len ≡ length c.self.inside.buffer.items = omega (arith, c.self.inside.buffer.ok) in
     let running : c.self.inside.state ≡ Running = subst (λ (v : Standing g.row.B.Denot). v.state ≡ Running) (sym c.self.view_is) c.in_ok-test_state.ensures.ok in
-    ended_cone g.B.Bay.files g.B.Bay.leaves g.B.Faulty.faults c.self.inside.bay c.self.inside.made.value c.finish.new.bay c.self.inside.tally c.finish.new.tally c.self.inside.events _ _ _ c.self.inside.state Finished (over_of c.self.inside.over) c.self.inside.journal c.self.inside.log c.finish.new.log c.self.inside.last
-    running refl (c.finish.ensures.listing ∙ ap (λ closed. record { settings = c.self.inside.tally.listing.settings; cone = c.self.inside.tally.listing.cone; events = c.self.inside.tally.listing.events; closed = closed }) c.in_default.ensures.closed) c.in_default.ensures.counted (sym (length_refill c.self.inside.buffer.len c.self.inside.buffer.items c.finish.new.buffer len_is) ∙ len_is) c.finish.ensures.keeps.never_falls c.self.invariant
+    ended_cone g.B.Bay.files g.B.Bay.leaves g.B.Faulty.faults c.self.inside.bay c.self.inside.made.value c.finish.new.bay c.self.inside.tally c.finish.new.tally c.self.inside.events _ _ _
+    c.self.inside.state Finished (over_of c.self.inside.over) c.self.inside.journal c.self.inside.log c.finish.new.log c.self.inside.last
+    running refl (c.finish.ensures.listing ∙ ap (λ closed. record {
+      settings = c.self.inside.tally.listing.settings;
+      cone = c.self.inside.tally.listing.cone;
+      events = c.self.inside.tally.listing.events;
+      closed = closed;
+    }) c.in_default.ensures.closed) c.in_default.ensures.counted (sym
+    (length_refill c.self.inside.buffer.len c.self.inside.buffer.items c.finish.new.buffer len_is) ∙ len_is) c.finish.ensures.keeps.never_falls c.self.invariant
 
 pub returns-clause-stands_for : goal.returns-clause-stands_for
 returns-clause-stands_for g c = rw (← c.self.view_is) (λ h stands.
     let running : c.self.inside.state ≡ Running = subst (λ (v : Standing g.row.B.Denot). v.state ≡ Running) (sym c.self.view_is) c.in_ok-test_state.ensures.ok in
-    let is = (c.finish.ensures.listing ∙ ap (λ closed. record { settings = c.self.inside.tally.listing.settings; cone = c.self.inside.tally.listing.cone; events = c.self.inside.tally.listing.events; closed = closed }) c.in_default.ensures.closed) in
-    stands_whole g.B.Bay.files g.B.Bay.leaves g.B.Faulty.faults (record { bay = c.self.inside.bay; made = c.self.inside.made.value; listing = c.self.inside.tally.listing; rows = c.self.inside.tally.rows; reports = c.self.inside.tally.due.reports; events = c.self.inside.events; state = c.self.inside.state; over = over_of c.self.inside.over; gate = c.self.inside.journal.gate; log = c.self.inside.log; last = c.self.inside.last }) _ h h (record { settings = ap (λ (l : Listing). l.settings) is; cone = ap (λ (l : Listing). l.cone) is; made = refl; last = refl }) refl (stands.none_over (ap is_broken running)) stands.some stands.counted stands.within
+    let is = (c.finish.ensures.listing ∙ ap (λ closed. record {
+      settings = c.self.inside.tally.listing.settings;
+      cone = c.self.inside.tally.listing.cone;
+      events = c.self.inside.tally.listing.events;
+      closed = closed;
+    }) c.in_default.ensures.closed) in
+    stands_whole g.B.Bay.files g.B.Bay.leaves g.B.Faulty.faults (record {
+      bay = c.self.inside.bay;
+      made = c.self.inside.made.value;
+      listing = c.self.inside.tally.listing;
+      rows = c.self.inside.tally.rows;
+      reports = c.self.inside.tally.due.reports;
+      events = c.self.inside.events;
+      state = c.self.inside.state;
+      over = over_of c.self.inside.over;
+      gate = c.self.inside.journal.gate;
+      log = c.self.inside.log;
+      last = c.self.inside.last;
+    }) _ h h (record {
+      settings = ap (λ (l : Listing). l.settings) is;
+      cone = ap (λ
+          (l : Listing). l.cone) is;
+      made = refl;
+      last = refl;
+    }) refl (stands.none_over (ap is_broken running)) stands.some stands.counted stands.within
     (λ sound seen told.
     let was = turns_back (λ old new. new 0 ≡ old 0) (g.B.Bay.files c.self.inside.bay) (g.B.Bay.files c.finish.new.bay) c.finish.ensures.keeps.journal.seen seen told in
     let whole = stands.whole (ap is_broken running) sound was.0 was.1 in
-    whole_of (g.B.Bay.leaves c.finish.new.bay) seen h c.finish.new.tally c.self.inside.journal.gate c.finish.new.log c.in_default.ensures.counted (c.in_default.ensures.in_step was.0 was.1 h whole.keys whole.in_step seen told) (g.met.B.Bay.as_read c.finish.new.bay seen told)
+    whole_of (g.B.Bay.leaves c.finish.new.bay) seen h c.finish.new.tally c.self.inside.journal.gate c.finish.new.log c.in_default.ensures.counted
+    (c.in_default.ensures.in_step was.0 was.1 h whole.keys whole.in_step seen told) (g.met.B.Bay.as_read c.finish.new.bay seen told)
     (ap (λ (l : Listing). l.events) is ∙ whole.keys) whole.gate_is)
     stands)
 
 pub returns-clause-answers : goal.returns-clause-answers
 returns-clause-answers g c = rw (← c.self.view_is) (λ h stands sound seen told.
     let running : c.self.inside.state ≡ Running = subst (λ (v : Standing g.row.B.Denot). v.state ≡ Running) (sym c.self.view_is) c.in_ok-test_state.ensures.ok in
-    let is = (c.finish.ensures.listing ∙ ap (λ closed. record { settings = c.self.inside.tally.listing.settings; cone = c.self.inside.tally.listing.cone; events = c.self.inside.tally.listing.events; closed = closed }) c.in_default.ensures.closed) in
+    let is = (c.finish.ensures.listing ∙ ap (λ closed. record {
+      settings = c.self.inside.tally.listing.settings;
+      cone = c.self.inside.tally.listing.cone;
+      events = c.self.inside.tally.listing.events;
+      closed = closed;
+    }) c.in_default.ensures.closed) in
     let then = c.finish.ensures.keeps.journal.seen.told seen told in
     let whole = stands.whole (ap is_broken running) sound seen told in
     let up = c.in_default.ensures.in_step seen told h whole.keys whole.in_step then.0 then.1 in
     c.len.ensures.count
-    ∙ ap length (ap (λ (v : Stored). v.reports) c.store.ensures ∙ up.reports_are ∙ reports_finished c.finish.new.tally.listing (events_of h) c.in_default.ensures.closed (ap (λ (l : Listing). l.events) is ∙ whole.keys))
+    ∙ ap length (ap (λ (v : Stored). v.reports) c.store.ensures ∙ up.reports_are ∙ reports_finished c.finish.new.tally.listing (events_of h) c.in_default.ensures.closed (ap (λ
+    (l : Listing). l.events) is ∙ whole.keys))
     ∙ ap (λ (l : Listing). length (closing l.settings (events_of h))) is)
 
 pub returns-clause-each_moment : goal.returns-clause-each_moment
@@ -121,11 +202,17 @@ returns-clause-each_moment g c = rw (← c.self.view_is) (λ still sound seen to
 pub returns-clause-sound_closed : goal.returns-clause-sound_closed
 returns-clause-sound_closed g c = rw (← c.self.view_is) (λ sound seen told h stands.
     let running : c.self.inside.state ≡ Running = subst (λ (v : Standing g.row.B.Denot). v.state ≡ Running) (sym c.self.view_is) c.in_ok-test_state.ensures.ok in
-    let is = (c.finish.ensures.listing ∙ ap (λ closed. record { settings = c.self.inside.tally.listing.settings; cone = c.self.inside.tally.listing.cone; events = c.self.inside.tally.listing.events; closed = closed }) c.in_default.ensures.closed) in
+    let is = (c.finish.ensures.listing ∙ ap (λ closed. record {
+      settings = c.self.inside.tally.listing.settings;
+      cone = c.self.inside.tally.listing.cone;
+      events = c.self.inside.tally.listing.events;
+      closed = closed;
+    }) c.in_default.ensures.closed) in
     let was = turns_back (λ old new. new 0 ≡ old 0) (g.B.Bay.files c.self.inside.bay) (g.B.Bay.files c.finish.new.bay) c.finish.ensures.keeps.journal.seen seen told in
     let whole = stands.whole (ap is_broken running) sound was.0 was.1 in
     subst (λ (l : Listing). IsKept (g.B.Bay.leaves c.finish.new.bay) seen (IsSoundAs l.settings l.cone l.closed h)) is
-    (whole_of (g.B.Bay.leaves c.finish.new.bay) seen h c.finish.new.tally c.self.inside.journal.gate c.finish.new.log c.in_default.ensures.counted (c.in_default.ensures.in_step was.0 was.1 h whole.keys whole.in_step seen told) (g.met.B.Bay.as_read c.finish.new.bay seen told)
+    (whole_of (g.B.Bay.leaves c.finish.new.bay) seen h c.finish.new.tally c.self.inside.journal.gate c.finish.new.log c.in_default.ensures.counted
+    (c.in_default.ensures.in_step was.0 was.1 h whole.keys whole.in_step seen told) (g.met.B.Bay.as_read c.finish.new.bay seen told)
     (ap (λ (l : Listing). l.events) is ∙ whole.keys) whole.gate_is).files.kept)
 
 pub returns-clause-seen : goal.returns-clause-seen
@@ -142,9 +229,27 @@ returns-in-Err-clause-shows g c = λ file at same.
 
 pub returns-clause-in_time : goal.returns-clause-in_time
 returns-clause-in_time g c = λ h stands sound seen told.
-    let is = (c.finish.ensures.listing ∙ ap (λ closed. record { settings = c.self.inside.tally.listing.settings; cone = c.self.inside.tally.listing.cone; events = c.self.inside.tally.listing.events; closed = closed }) c.in_default.ensures.closed) in
-    let was : WasSound g.B.Bay.files (record { bay = c.self.inside.bay; made = c.self.inside.made.value; listing = c.self.inside.tally.listing; rows = c.self.inside.tally.rows; reports = c.self.inside.tally.due.reports; events = c.self.inside.events; state = c.self.inside.state; over = over_of c.self.inside.over; gate = c.self.inside.journal.gate; log = c.self.inside.log; last = c.self.inside.last }) = subst (λ (v : Standing g.row.B.Denot). WasSound g.B.Bay.files v) (sym c.self.view_is) sound in
+    let is = (c.finish.ensures.listing ∙ ap (λ closed. record {
+      settings = c.self.inside.tally.listing.settings;
+      cone = c.self.inside.tally.listing.cone;
+      events = c.self.inside.tally.listing.events;
+      closed = closed;
+    }) c.in_default.ensures.closed) in
+    let was : WasSound g.B.Bay.files (record {
+      bay = c.self.inside.bay;
+      made = c.self.inside.made.value;
+      listing = c.self.inside.tally.listing;
+      rows = c.self.inside.tally.rows;
+      reports = c.self.inside.tally.due.reports;
+      events = c.self.inside.events;
+      state = c.self.inside.state;
+      over = over_of c.self.inside.over;
+      gate = c.self.inside.journal.gate;
+      log = c.self.inside.log;
+      last = c.self.inside.last;
+    }) = subst (λ (v : Standing g.row.B.Denot). WasSound g.B.Bay.files v) (sym c.self.view_is) sound in
     let after = (returns-clause-seen g c).told seen told in
-    subst (λ (settings : Numbers). IsTimely settings.threshold settings.bins (events_of h) c.finish.new.tally.due.reports) (ap (λ (l : Listing). l.settings) is ∙ ap (λ (v : Standing g.row.B.Denot). v.listing.settings) c.self.view_is)
+    subst (λ (settings : Numbers). IsTimely settings.threshold settings.bins (events_of h) c.finish.new.tally.due.reports) (ap (λ (l : Listing). l.settings) is ∙ ap (λ
+    (v : Standing g.row.B.Denot). v.listing.settings) c.self.view_is)
     (timely g.B.Bay.files g.B.Bay.leaves g.B.Faulty.faults _ h refl (ap (λ (l : Listing). l.closed) is) (returns-clause-stands_for g c h stands)
     (subst (λ (l : Listing). IfTold (g.B.Bay.files c.self.inside.made.value) (λ first. (history : List Packet) × IsSound l.settings l.cone history first)) (sym is) was) after.0 after.1)

@@ -24,7 +24,8 @@ use Rattle.lert_cone.proofs.ReplayLaws.{journal_on_way, never_on_way, on_way_rea
 use Rattle.lert_cone.proofs.ReplayStands.{leaves_listing, near_then, never_unsound, next_there, unsound_keys, only_by_bay, only_failed, read_settled, read_shut, refused_keys, refused_record, replaying_cone, settled_then, shut_there}
 use Rattle.lert_cone.proofs.ReplayStep.{told_once}
 use Rattle.lert_io.proofs.Rising.{risen_since}
-use Rattle.lert_cone.proofs.StandLaws.{broken_cone, by_bay_of, is_broken_by, not_replaying_by}
+use Rattle.lert_cone.proofs.StandLaws.{broken_cone}
+use Rattle.lert_cone.proofs.FaultLaws.{by_bay_of, is_broken_by, not_replaying_by}
 use Rattle.lert_cone.proofs.WroteLaws.{leaves_on, leaves_read}
 use Rattle.lert_cone.proofs.cone.Cone.replay.Goals as goal
 
@@ -32,8 +33,8 @@ pub replay_keys-requires : goal.replay_keys-requires
 replay_keys-requires g c =
     let replaying : c.self.inside.state ≡ Replaying = subst (λ (v : Standing g.row.B.Denot). v.state ≡ Replaying) (sym c.self.view_is) c.requires.replaying in
     let was = c.self.invariant.replaying replaying in
-    let yes : IsTrue c.in-Ok-true.field-0 = search rules in
-    let len_is : c.self.inside.buffer.len ≡ length c.self.inside.buffer.items = search rules in
+    let yes : IsTrue c.in-Ok-true.field-0 = c.in-Ok-true.field-0-test in
+    let len_is : c.self.inside.buffer.len ≡ length c.self.inside.buffer.items = omega (arith, c.self.inside.buffer.ok) in
     let room : length c.deref_mut-in-Ok-true.result.now ≡ length c.self.inside.buffer.items =
     ap (length {A = ℕ}) c.deref_mut-in-Ok-true.ensures.value ∙ (sym (length_refill c.self.inside.buffer.len c.self.inside.buffer.items c.read_packet.new.buffer len_is) ∙ len_is) in
     let journaled = c.in-Ok-true.ensures.journaled yes in
@@ -53,40 +54,102 @@ replay_keys-requires g c =
 -- not all keys are taken
 pub invariant_of-self : goal.invariant_of-self
 invariant_of-self g c =
-    let len_is : c.self.inside.buffer.len ≡ length c.self.inside.buffer.items = search rules in
-    broken_cone g.B.Bay.files g.B.Bay.leaves g.B.Faulty.faults (record { bay = c.self.inside.bay; made = c.self.inside.made.value; listing = c.self.inside.tally.listing; rows = c.self.inside.tally.rows; reports = c.self.inside.tally.due.reports; events = c.self.inside.events; state = c.self.inside.state; over = over_of c.self.inside.over; gate = c.self.inside.journal.gate; log = c.self.inside.log; last = c.self.inside.last }) _ c.self.inside.tally c.replay_keys.new.tally c.self.inside.journal c.read_packet.new.journal _ _ _ _
+    let len_is : c.self.inside.buffer.len ≡ length c.self.inside.buffer.items = omega (arith, c.self.inside.buffer.ok) in
+    broken_cone g.B.Bay.files g.B.Bay.leaves g.B.Faulty.faults (record {
+      bay = c.self.inside.bay;
+      made = c.self.inside.made.value;
+      listing = c.self.inside.tally.listing;
+      rows = c.self.inside.tally.rows;
+      reports = c.self.inside.tally.due.reports;
+      events = c.self.inside.events;
+      state = c.self.inside.state;
+      over = over_of c.self.inside.over;
+      gate = c.self.inside.journal.gate;
+      log = c.self.inside.log;
+      last = c.self.inside.last;
+    }) _ c.self.inside.tally c.replay_keys.new.tally c.self.inside.journal c.read_packet.new.journal _ _ _ _
     (ap is_broken c.broken_by-self-inside.ensures ∙ is_broken_by c.in-Err-replay_keys.fault) (λ same. not_replaying_by c.in-Err-replay_keys.fault (sym c.broken_by-self-inside.ensures ∙ same))
-    (ap (λ (l : Listing). l.settings) c.replay_keys.ensures.listing) refl refl ((c.read_packet.ensures.file ∙ ap (λ (j : Log). j.file) c.at_gate-self-inside.ensures) ∙ sym c.self.invariant.file) ((c.read_packet.ensures.most ∙ ap (λ (j : Log). j.most) c.at_gate-self-inside.ensures ∙ c.greatest_payload-most.ensures.value ∙ ap most_payload c.settings.ensures) ∙ sym c.self.invariant.most) (sym (length_refill c.self.inside.buffer.len (take c.self.inside.buffer.len (c.read_packet.new.buffer ++ drop (length c.read_packet.new.buffer) c.self.inside.buffer.items)) c.replay_keys.new.buffer (length_refill c.self.inside.buffer.len c.self.inside.buffer.items c.read_packet.new.buffer len_is)) ∙ len_is) c.read_packet.ensures.room
+    (ap (λ (l : Listing). l.settings) c.replay_keys.ensures.listing) refl refl ((c.read_packet.ensures.file ∙ ap (λ (j : Log). j.file) c.at_gate-self-inside.ensures) ∙ sym c.self.invariant.file)
+    ((c.read_packet.ensures.most ∙ ap (λ (j : Log). j.most) c.at_gate-self-inside.ensures ∙ c.greatest_payload-most.ensures.value ∙ ap most_payload c.settings.ensures)
+    ∙ sym c.self.invariant.most) (sym (length_refill c.self.inside.buffer.len (take c.self.inside.buffer.len (c.read_packet.new.buffer ++ drop
+    (length c.read_packet.new.buffer) c.self.inside.buffer.items)) c.replay_keys.new.buffer (length_refill c.self.inside.buffer.len c.self.inside.buffer.items c.read_packet.new.buffer len_is))
+    ∙ len_is) c.read_packet.ensures.room
     (omega (arith, c.read_packet.ensures.never_falls, c.replay_keys.ensures.keeps.never_falls))
     (λ same. risen_since (g.B.Faulty.faults c.self.inside.made.value) (g.B.Faulty.faults c.read_packet.new.bay) (g.B.Faulty.faults c.replay_keys.new.bay)
-    (omega (arith, c.self.invariant.never_falls, c.read_packet.ensures.never_falls)) c.replay_keys.ensures.keeps.never_falls (c.replay_keys.ensures.keeps.failed (c.in-Err-replay_keys.is ∙ ap Err (by_bay_of c.in-Err-replay_keys.fault (sym c.broken_by-self-inside.ensures ∙ same)))))
+    (omega (arith, c.self.invariant.never_falls, c.read_packet.ensures.never_falls)) c.replay_keys.ensures.keeps.never_falls (c.replay_keys.ensures.keeps.failed (c.in-Err-replay_keys.is ∙ ap Err
+    (by_bay_of c.in-Err-replay_keys.fault (sym c.broken_by-self-inside.ensures ∙ same)))))
     c.self.invariant
 
 pub returns-in-Err-replay_keys-clause-refused : goal.returns-in-Err-replay_keys-clause-refused
 returns-in-Err-replay_keys-clause-refused g c =
     let gate_is : c.at_gate-self-inside.result.gate ≡ c.args.gate = ap (λ (j : Log). j.gate) c.at_gate-self-inside.ensures in
-    let yes : IsTrue c.in-Ok-true.field-0 = search rules in
+    let yes : IsTrue c.in-Ok-true.field-0 = c.in-Ok-true.field-0-test in
     rw (← c.self.view_is) (λ seen told.
-    subst (λ (fault : ReplayFault). WhyRefused (record { bay = c.self.inside.bay; made = c.self.inside.made.value; listing = c.self.inside.tally.listing; rows = c.self.inside.tally.rows; reports = c.self.inside.tally.due.reports; events = c.self.inside.events; state = c.self.inside.state; over = over_of c.self.inside.over; gate = c.self.inside.journal.gate; log = c.self.inside.log; last = c.self.inside.last }) (seen 0) c.args.gate fault) (sym c.from.ensures)
-    (refused_keys (record { bay = c.self.inside.bay; made = c.self.inside.made.value; listing = c.self.inside.tally.listing; rows = c.self.inside.tally.rows; reports = c.self.inside.tally.due.reports; events = c.self.inside.events; state = c.self.inside.state; over = over_of c.self.inside.over; gate = c.self.inside.journal.gate; log = c.self.inside.log; last = c.self.inside.last }) (seen 0) c.args.gate c.in-Err-replay_keys.fault (record { packet = (packet_of c.read_packet.new.entry); stands = (subst (λ g. HoldsPacket c.self.inside.tally.listing.settings c.self.inside.tally.listing.cone (most_payload c.self.inside.tally.listing.settings) (seen 0) g (packet_of c.read_packet.new.entry)) gate_is (c.in-Ok-true.ensures.found seen told yes)); follows = c.in-Ok-true.ensures.follows yes })))
+    subst (λ (fault : ReplayFault). WhyRefused (record {
+      bay = c.self.inside.bay;
+      made = c.self.inside.made.value;
+      listing = c.self.inside.tally.listing;
+      rows = c.self.inside.tally.rows;
+      reports = c.self.inside.tally.due.reports;
+      events = c.self.inside.events;
+      state = c.self.inside.state;
+      over = over_of c.self.inside.over;
+      gate = c.self.inside.journal.gate;
+      log = c.self.inside.log;
+      last = c.self.inside.last;
+    }) (seen 0) c.args.gate fault) (sym c.from.ensures)
+    (refused_keys (record {
+      bay = c.self.inside.bay;
+      made = c.self.inside.made.value;
+      listing = c.self.inside.tally.listing;
+      rows = c.self.inside.tally.rows;
+      reports = c.self.inside.tally.due.reports;
+      events = c.self.inside.events;
+      state = c.self.inside.state;
+      over = over_of c.self.inside.over;
+      gate = c.self.inside.journal.gate;
+      log = c.self.inside.log;
+      last = c.self.inside.last;
+    }) (seen 0) c.args.gate c.in-Err-replay_keys.fault (record {
+      packet = (packet_of c.read_packet.new.entry);
+      stands = (subst
+          (λ g. HoldsPacket c.self.inside.tally.listing.settings c.self.inside.tally.listing.cone (most_payload c.self.inside.tally.listing.settings) (seen 0) g
+          (packet_of c.read_packet.new.entry)) gate_is (c.in-Ok-true.ensures.found seen told yes));
+      follows = c.in-Ok-true.ensures.follows yes;
+    })))
 
 pub returns-in-Err-replay_keys-clause-replays : goal.returns-in-Err-replay_keys-clause-replays
 returns-in-Err-replay_keys-clause-replays g c =
     let gate_is : c.at_gate-self-inside.result.gate ≡ c.args.gate = ap (λ (j : Log). j.gate) c.at_gate-self-inside.ensures in
-    let yes : IsTrue c.in-Ok-true.field-0 = search rules in
+    let yes : IsTrue c.in-Ok-true.field-0 = c.in-Ok-true.field-0-test in
     rw (← c.self.view_is) (λ seen told h done way gate_same.
     let past : IsPast h done c.self.inside.tally.listing.events c.args.gate = subst (λ g. IsPast h done c.self.inside.tally.listing.events g) (sym gate_same) way.past in
     let on_way = way.on_way seen told in
     let read = g.met.B.Bay.as_read c.self.inside.bay seen told in
-    let on_read = on_way_read (g.B.Bay.leaves c.self.inside.bay) seen h c.self.inside.tally.listing c.self.inside.tally.rows c.self.inside.tally.due.reports c.self.inside.log c.self.inside.last.n0 on_way (g.B.Bay.leaves c.read_packet.new.bay) (λ image may. (c.read_packet.ensures.images image).0 may) in
+    let on_read = on_way_read (g.B.Bay.leaves c.self.inside.bay) seen h c.self.inside.tally.listing c.self.inside.tally.rows c.self.inside.tally.due.reports c.self.inside.log
+    c.self.inside.last.n0 on_way (g.B.Bay.leaves c.read_packet.new.bay) (λ image may. (c.read_packet.ensures.images image).0 may) in
     let told_read : (g.B.Bay.files c.read_packet.new.bay) ≡ Some seen = c.read_packet.ensures.seen ∙ told in
-    let next = next_there (g.B.Bay.leaves c.self.inside.bay) seen h done c.self.inside.tally.listing c.self.inside.tally.rows c.self.inside.tally.due.reports c.self.inside.log c.self.inside.last.n0 c.args.gate (packet_of c.read_packet.new.entry) on_way read past (subst (λ g. HoldsPacket c.self.inside.tally.listing.settings c.self.inside.tally.listing.cone (most_payload c.self.inside.tally.listing.settings) (seen 0) g (packet_of c.read_packet.new.entry)) gate_is (c.in-Ok-true.ensures.found seen told yes)) in
-    let is : events_of h ≡ c.self.inside.tally.listing.events ++ (c.keys_of.result.now ++ events_of next.rest) = keys_next h done c.self.inside.tally.listing.events c.args.gate (packet_of c.read_packet.new.entry) past next ∙ ap (λ (keys : List ℕ). c.self.inside.tally.listing.events ++ (keys ++ events_of next.rest)) (sym c.keys_of.ensures.value) in
+    let next = next_there (g.B.Bay.leaves c.self.inside.bay) seen h done c.self.inside.tally.listing c.self.inside.tally.rows c.self.inside.tally.due.reports c.self.inside.log
+    c.self.inside.last.n0 c.args.gate (packet_of c.read_packet.new.entry) on_way read past (subst (λ g. HoldsPacket c.self.inside.tally.listing.settings c.self.inside.tally.listing.cone
+    (most_payload c.self.inside.tally.listing.settings) (seen 0) g (packet_of c.read_packet.new.entry)) gate_is (c.in-Ok-true.ensures.found seen told yes)) in
+    let is : events_of h ≡ c.self.inside.tally.listing.events ++ (c.keys_of.result.now ++ events_of next.rest) = keys_next h done c.self.inside.tally.listing.events c.args.gate
+    (packet_of c.read_packet.new.entry) past next ∙ ap (λ (keys : List ℕ). c.self.inside.tally.listing.events ++ (keys ++ events_of next.rest)) (sym c.keys_of.ensures.value) in
     subst (λ (fault : ReplayFault). (fault ≡ Failed) ⊎ (fault ≡ OutOfMemory)) (sym c.from.ensures)
     (only_by_bay c.in-Err-replay_keys.fault (λ file at same. c.replay_keys.ensures.sound seen told_read h (events_of next.rest) is on_read file at (c.in-Err-replay_keys.is ∙ ap Err same))))
 
 pub returns-in-Err-replay_keys-clause-journal : goal.returns-in-Err-replay_keys-clause-journal
-returns-in-Err-replay_keys-clause-journal g c = rw (← c.self.view_is) (leaves_on 0 (g.B.Bay.files c.self.inside.bay) (g.B.Bay.files c.read_packet.new.bay) (g.B.Bay.files c.replay_keys.new.bay) (g.B.Bay.leaves c.self.inside.bay) (g.B.Bay.leaves c.read_packet.new.bay) (g.B.Bay.leaves c.replay_keys.new.bay) (g.B.Bay.moment c.self.inside.bay) (g.B.Bay.moment c.read_packet.new.bay) (g.B.Bay.moment c.replay_keys.new.bay) (g.B.Bay.left_since c.self.inside.bay) (g.B.Bay.left_since c.read_packet.new.bay) (g.B.Bay.left_since c.replay_keys.new.bay) (leaves_read 0 (g.B.Bay.files c.self.inside.bay) (g.B.Bay.files c.read_packet.new.bay) (g.B.Bay.leaves c.self.inside.bay) (g.B.Bay.leaves c.read_packet.new.bay) (g.B.Bay.moment c.self.inside.bay) (g.B.Bay.moment c.read_packet.new.bay) (g.B.Bay.left_since c.self.inside.bay) (g.B.Bay.left_since c.read_packet.new.bay) (record { seen = c.read_packet.ensures.seen; images = c.read_packet.ensures.images; moments = c.read_packet.ensures.moments; time = c.read_packet.ensures.time }) (λ image may. g.met.B.Bay.since_earlier c.read_packet.new.bay (g.B.Bay.moment c.self.inside.bay) (g.B.Bay.moment c.read_packet.new.bay) image c.read_packet.ensures.time.later (g.met.B.Bay.since_now c.read_packet.new.bay image may))) c.replay_keys.ensures.keeps.journal (g.met.B.Bay.since_earlier c.replay_keys.new.bay))
+returns-in-Err-replay_keys-clause-journal g c = rw (← c.self.view_is) (leaves_on 0 (g.B.Bay.files c.self.inside.bay) (g.B.Bay.files c.read_packet.new.bay) (g.B.Bay.files c.replay_keys.new.bay)
+    (g.B.Bay.leaves c.self.inside.bay) (g.B.Bay.leaves c.read_packet.new.bay) (g.B.Bay.leaves c.replay_keys.new.bay) (g.B.Bay.moment c.self.inside.bay) (g.B.Bay.moment c.read_packet.new.bay)
+    (g.B.Bay.moment c.replay_keys.new.bay) (g.B.Bay.left_since c.self.inside.bay) (g.B.Bay.left_since c.read_packet.new.bay) (g.B.Bay.left_since c.replay_keys.new.bay) (leaves_read 0
+    (g.B.Bay.files c.self.inside.bay) (g.B.Bay.files c.read_packet.new.bay) (g.B.Bay.leaves c.self.inside.bay) (g.B.Bay.leaves c.read_packet.new.bay) (g.B.Bay.moment c.self.inside.bay)
+    (g.B.Bay.moment c.read_packet.new.bay) (g.B.Bay.left_since c.self.inside.bay) (g.B.Bay.left_since c.read_packet.new.bay) (record {
+      seen = c.read_packet.ensures.seen;
+      images = c.read_packet.ensures.images;
+      moments = c.read_packet.ensures.moments;
+      time = c.read_packet.ensures.time;
+    }) (λ image may. g.met.B.Bay.since_earlier c.read_packet.new.bay
+    (g.B.Bay.moment c.self.inside.bay) (g.B.Bay.moment c.read_packet.new.bay) image c.read_packet.ensures.time.later (g.met.B.Bay.since_now c.read_packet.new.bay image may)))
+    c.replay_keys.ensures.keeps.journal (g.met.B.Bay.since_earlier c.replay_keys.new.bay))
 
 -- the packet is taken
 pub invariant_of-self-in-Ok-true : goal.invariant_of-self-in-Ok-true
@@ -94,18 +157,39 @@ invariant_of-self-in-Ok-true g c =
     let replaying : c.self.inside.state ≡ Replaying = subst (λ (v : Standing g.row.B.Denot). v.state ≡ Replaying) (sym c.self.view_is) c.requires.replaying in
     let was = c.self.invariant.replaying replaying in
     let gate_is : c.at_gate-self-inside.result.gate ≡ c.args.gate = ap (λ (j : Log). j.gate) c.at_gate-self-inside.ensures in
-    let yes : IsTrue c.in-Ok-true.field-0 = search rules in
-    let len_is : c.self.inside.buffer.len ≡ length c.self.inside.buffer.items = search rules in
-    let listing_is = c.replay_keys.ensures.listing ∙ ap (λ (keys : List ℕ). record { settings = c.self.inside.tally.listing.settings; cone = c.self.inside.tally.listing.cone; events = keys; closed = c.self.inside.tally.listing.closed }) (c.in_default.ensures.taken ∙ ap (λ (keys : List ℕ). c.self.inside.tally.listing.events ++ keys) c.keys_of.ensures.value) in
-    let moved : c.read_packet.new.journal.gate ≡ next_gate c.args.gate (payload_of (packet_of c.read_packet.new.entry)) = ap (λ (j : Log). j.gate) (c.in-Ok-true.ensures.moved yes) ∙ ap (λ g. next_gate g (payload_of (packet_of c.read_packet.new.entry))) gate_is in
-    let events_is : c.len-self-inside.result ≡ c.self.inside.events + length c.read_packet.new.entry.keys.keys = omega (arith, c.len-self-inside.ensures, ap (λ (l : Listing). length l.events) listing_is, length-append c.self.inside.tally.listing.events c.read_packet.new.entry.keys.keys, was.counted) in
+    let yes : IsTrue c.in-Ok-true.field-0 = c.in-Ok-true.field-0-test in
+    let len_is : c.self.inside.buffer.len ≡ length c.self.inside.buffer.items = omega (arith, c.self.inside.buffer.ok) in
+    let listing_is = c.replay_keys.ensures.listing ∙ ap (λ (keys : List ℕ). record {
+      settings = c.self.inside.tally.listing.settings;
+      cone = c.self.inside.tally.listing.cone;
+      events = keys;
+      closed = c.self.inside.tally.listing.closed;
+    }) (c.in_default.ensures.taken ∙ ap (λ (keys : List ℕ). c.self.inside.tally.listing.events ++ keys) c.keys_of.ensures.value) in
+    let moved : c.read_packet.new.journal.gate ≡ next_gate c.args.gate (payload_of (packet_of c.read_packet.new.entry)) = ap (λ (j : Log). j.gate) (c.in-Ok-true.ensures.moved yes) ∙ ap
+    (λ g. next_gate g (payload_of (packet_of c.read_packet.new.entry))) gate_is in
+    let events_is : c.len-self-inside.result ≡ c.self.inside.events + length c.read_packet.new.entry.keys.keys = omega (
+      arith,
+      c.len-self-inside.ensures,
+      ap (λ
+          (l : Listing). length l.events) listing_is,
+      length-append c.self.inside.tally.listing.events c.read_packet.new.entry.keys.keys,
+      was.counted,
+    ) in
     let settings_are : c.replay_keys.new.tally.listing.settings ≡ c.self.inside.tally.listing.settings = ap (λ (l : Listing). l.settings) listing_is in
     let journaled = c.in-Ok-true.ensures.journaled yes in
-    let lent : length c.replay_keys.new.buffer ≡ length c.deref_mut-in-Ok-true.result.now = search rules in
-    let long : length c.replay_keys.new.buffer ≡ length (take c.self.inside.buffer.len (c.replay_keys.new.buffer ++ drop (length c.replay_keys.new.buffer) (take c.self.inside.buffer.len (c.read_packet.new.buffer ++ drop (length c.read_packet.new.buffer) c.self.inside.buffer.items)))) =
-    lent ∙ ap (length {A = ℕ}) c.deref_mut-in-Ok-true.ensures.value ∙ (sym (length_refill c.self.inside.buffer.len c.self.inside.buffer.items c.read_packet.new.buffer len_is) ∙ len_is) ∙ sym (sym (length_refill c.self.inside.buffer.len (take c.self.inside.buffer.len (c.read_packet.new.buffer ++ drop (length c.read_packet.new.buffer) c.self.inside.buffer.items)) c.replay_keys.new.buffer (length_refill c.self.inside.buffer.len c.self.inside.buffer.items c.read_packet.new.buffer len_is)) ∙ len_is) in
-    replaying_cone g.B.Bay.files g.B.Bay.leaves g.B.Faulty.faults _ _ _ _ _ replaying (c.read_packet.ensures.file ∙ ap (λ (j : Log). j.file) c.at_gate-self-inside.ensures) ((c.read_packet.ensures.most ∙ ap (λ (j : Log). j.most) c.at_gate-self-inside.ensures ∙ c.greatest_payload-most.ensures.value ∙ ap most_payload c.settings.ensures) ∙ ap most_payload (sym settings_are)) ((sym (length_refill c.self.inside.buffer.len (take c.self.inside.buffer.len (c.read_packet.new.buffer ++ drop (length c.read_packet.new.buffer) c.self.inside.buffer.items)) c.replay_keys.new.buffer (length_refill c.self.inside.buffer.len c.self.inside.buffer.items c.read_packet.new.buffer len_is)) ∙ len_is) ∙ c.self.invariant.roomy ∙ ap room_of (sym settings_are))
-    (c.read_packet.ensures.room ∙ c.self.invariant.keys_roomy ∙ ap (λ (s : Numbers). 4 * s.packet) (sym settings_are)) (omega (arith, c.in_default.ensures.recounted.fits, c.len-self-inside.ensures)) c.in_default.ensures.recounted.valid
+    let lent : length c.replay_keys.new.buffer ≡ length c.deref_mut-in-Ok-true.result.now = c.replay_keys.auto.buffer in
+    let long : length c.replay_keys.new.buffer ≡ length (take c.self.inside.buffer.len (c.replay_keys.new.buffer ++ drop (length c.replay_keys.new.buffer) (take c.self.inside.buffer.len
+    (c.read_packet.new.buffer ++ drop (length c.read_packet.new.buffer) c.self.inside.buffer.items)))) =
+    lent ∙ ap (length {A = ℕ}) c.deref_mut-in-Ok-true.ensures.value ∙ (sym (length_refill c.self.inside.buffer.len c.self.inside.buffer.items c.read_packet.new.buffer len_is) ∙ len_is) ∙ sym (sym
+    (length_refill c.self.inside.buffer.len (take c.self.inside.buffer.len (c.read_packet.new.buffer ++ drop (length c.read_packet.new.buffer) c.self.inside.buffer.items))
+    c.replay_keys.new.buffer (length_refill c.self.inside.buffer.len c.self.inside.buffer.items c.read_packet.new.buffer len_is)) ∙ len_is) in
+    replaying_cone g.B.Bay.files g.B.Bay.leaves g.B.Faulty.faults _ _ _ _ _ replaying (c.read_packet.ensures.file ∙ ap (λ (j : Log). j.file) c.at_gate-self-inside.ensures)
+    ((c.read_packet.ensures.most ∙ ap (λ (j : Log). j.most) c.at_gate-self-inside.ensures ∙ c.greatest_payload-most.ensures.value ∙ ap most_payload c.settings.ensures) ∙ ap most_payload
+    (sym settings_are)) ((sym (length_refill c.self.inside.buffer.len (take c.self.inside.buffer.len (c.read_packet.new.buffer ++ drop
+    (length c.read_packet.new.buffer) c.self.inside.buffer.items)) c.replay_keys.new.buffer (length_refill c.self.inside.buffer.len c.self.inside.buffer.items c.read_packet.new.buffer len_is))
+    ∙ len_is) ∙ c.self.invariant.roomy ∙ ap room_of (sym settings_are))
+    (c.read_packet.ensures.room ∙ c.self.invariant.keys_roomy ∙ ap (λ (s : Numbers). 4 * s.packet) (sym settings_are)) (omega
+    (arith, c.in_default.ensures.recounted.fits, c.len-self-inside.ensures)) c.in_default.ensures.recounted.valid
     (omega (arith, c.self.invariant.never_falls, c.read_packet.ensures.never_falls, c.replay_keys.ensures.keeps.never_falls))
     (record {
       none_over = was.none_over;
@@ -113,7 +197,10 @@ invariant_of-self-in-Ok-true g c =
       recounted = c.in_default.ensures.recounted;
       closed = ap (λ (l : Listing). l.closed) listing_is ∙ was.closed;
       near = near_then c.args.gate c.read_packet.new.journal.gate c.self.inside.events c.len-self-inside.result (packet_of c.read_packet.new.entry) c.requires.reach moved journaled.some events_is;
-      journal_settled = settled_then 0 (g.B.Bay.files c.read_packet.new.bay) (g.B.Bay.files c.replay_keys.new.bay) (g.B.Bay.leaves c.read_packet.new.bay) (g.B.Bay.leaves c.replay_keys.new.bay) (g.B.Bay.moment c.read_packet.new.bay) (g.B.Bay.moment c.replay_keys.new.bay) (g.B.Bay.left_since c.read_packet.new.bay) (g.B.Bay.left_since c.replay_keys.new.bay) c.replay_keys.ensures.keeps.journal (read_settled 0 (g.B.Bay.files c.self.inside.bay) (g.B.Bay.files c.read_packet.new.bay) (g.B.Bay.leaves c.self.inside.bay) (g.B.Bay.leaves c.read_packet.new.bay) c.read_packet.ensures.seen c.read_packet.ensures.images was.journal_settled);
+      journal_settled = settled_then 0 (g.B.Bay.files c.read_packet.new.bay) (g.B.Bay.files c.replay_keys.new.bay) (g.B.Bay.leaves c.read_packet.new.bay) (g.B.Bay.leaves c.replay_keys.new.bay)
+          (g.B.Bay.moment c.read_packet.new.bay) (g.B.Bay.moment c.replay_keys.new.bay) (g.B.Bay.left_since c.read_packet.new.bay)
+          (g.B.Bay.left_since c.replay_keys.new.bay) c.replay_keys.ensures.keeps.journal (read_settled 0 (g.B.Bay.files c.self.inside.bay) (g.B.Bay.files c.read_packet.new.bay)
+          (g.B.Bay.leaves c.self.inside.bay) (g.B.Bay.leaves c.read_packet.new.bay) c.read_packet.ensures.seen c.read_packet.ensures.images was.journal_settled);
       logging = subst (λ n. IsLogging c.replay_keys.new.tally c.replay_keys.new.log n) long c.in_default.ensures.can_log.logging;
       log_shut = c.in_default.ensures.can_log.log_shut;
     })
@@ -123,13 +210,27 @@ returns-in_default-clause-taken g c =
     let replaying : c.self.inside.state ≡ Replaying = subst (λ (v : Standing g.row.B.Denot). v.state ≡ Replaying) (sym c.self.view_is) c.requires.replaying in
     let was = c.self.invariant.replaying replaying in
     let gate_is : c.at_gate-self-inside.result.gate ≡ c.args.gate = ap (λ (j : Log). j.gate) c.at_gate-self-inside.ensures in
-    let yes : IsTrue c.in-Ok-true.field-0 = search rules in
-    let listing_is = c.replay_keys.ensures.listing ∙ ap (λ (keys : List ℕ). record { settings = c.self.inside.tally.listing.settings; cone = c.self.inside.tally.listing.cone; events = keys; closed = c.self.inside.tally.listing.closed }) (c.in_default.ensures.taken ∙ ap (λ (keys : List ℕ). c.self.inside.tally.listing.events ++ keys) c.keys_of.ensures.value) in
-    let moved : c.read_packet.new.journal.gate ≡ next_gate c.args.gate (payload_of (packet_of c.read_packet.new.entry)) = ap (λ (j : Log). j.gate) (c.in-Ok-true.ensures.moved yes) ∙ ap (λ g. next_gate g (payload_of (packet_of c.read_packet.new.entry))) gate_is in
-    let events_is : c.len-self-inside.result ≡ c.self.inside.events + length c.read_packet.new.entry.keys.keys = omega (arith, c.len-self-inside.ensures, ap (λ (l : Listing). length l.events) listing_is, length-append c.self.inside.tally.listing.events c.read_packet.new.entry.keys.keys, was.counted) in
+    let yes : IsTrue c.in-Ok-true.field-0 = c.in-Ok-true.field-0-test in
+    let listing_is = c.replay_keys.ensures.listing ∙ ap (λ (keys : List ℕ). record {
+      settings = c.self.inside.tally.listing.settings;
+      cone = c.self.inside.tally.listing.cone;
+      events = keys;
+      closed = c.self.inside.tally.listing.closed;
+    }) (c.in_default.ensures.taken ∙ ap (λ (keys : List ℕ). c.self.inside.tally.listing.events ++ keys) c.keys_of.ensures.value) in
+    let moved : c.read_packet.new.journal.gate ≡ next_gate c.args.gate (payload_of (packet_of c.read_packet.new.entry)) = ap (λ (j : Log). j.gate) (c.in-Ok-true.ensures.moved yes) ∙ ap
+    (λ g. next_gate g (payload_of (packet_of c.read_packet.new.entry))) gate_is in
+    let events_is : c.len-self-inside.result ≡ c.self.inside.events + length c.read_packet.new.entry.keys.keys = omega (
+      arith,
+      c.len-self-inside.ensures,
+      ap (λ
+          (l : Listing). length l.events) listing_is,
+      length-append c.self.inside.tally.listing.events c.read_packet.new.entry.keys.keys,
+      was.counted,
+    ) in
     rw (← c.self.view_is) (record {
       packet = (packet_of c.read_packet.new.entry);
-      stands = λ seen told. (subst (λ g. HoldsPacket c.self.inside.tally.listing.settings c.self.inside.tally.listing.cone (most_payload c.self.inside.tally.listing.settings) (seen 0) g (packet_of c.read_packet.new.entry)) gate_is (c.in-Ok-true.ensures.found seen told yes));
+      stands = λ seen told. (subst (λ g. HoldsPacket c.self.inside.tally.listing.settings c.self.inside.tally.listing.cone (most_payload c.self.inside.tally.listing.settings) (seen 0) g
+          (packet_of c.read_packet.new.entry)) gate_is (c.in-Ok-true.ensures.found seen told yes));
       journaled = c.in-Ok-true.ensures.journaled yes;
       follows = c.in-Ok-true.ensures.follows yes;
       next_is = c.gate.ensures.value ∙ moved;
@@ -152,28 +253,50 @@ pub returns-in_default-clause-replays : goal.returns-in_default-clause-replays
 returns-in_default-clause-replays g c =
     let replaying : c.self.inside.state ≡ Replaying = subst (λ (v : Standing g.row.B.Denot). v.state ≡ Replaying) (sym c.self.view_is) c.requires.replaying in
     let gate_is : c.at_gate-self-inside.result.gate ≡ c.args.gate = ap (λ (j : Log). j.gate) c.at_gate-self-inside.ensures in
-    let yes : IsTrue c.in-Ok-true.field-0 = search rules in
-    let listing_is = c.replay_keys.ensures.listing ∙ ap (λ (keys : List ℕ). record { settings = c.self.inside.tally.listing.settings; cone = c.self.inside.tally.listing.cone; events = keys; closed = c.self.inside.tally.listing.closed }) (c.in_default.ensures.taken ∙ ap (λ (keys : List ℕ). c.self.inside.tally.listing.events ++ keys) c.keys_of.ensures.value) in
-    let moved : c.read_packet.new.journal.gate ≡ next_gate c.args.gate (payload_of (packet_of c.read_packet.new.entry)) = ap (λ (j : Log). j.gate) (c.in-Ok-true.ensures.moved yes) ∙ ap (λ g. next_gate g (payload_of (packet_of c.read_packet.new.entry))) gate_is in
+    let yes : IsTrue c.in-Ok-true.field-0 = c.in-Ok-true.field-0-test in
+    let listing_is = c.replay_keys.ensures.listing ∙ ap (λ (keys : List ℕ). record {
+      settings = c.self.inside.tally.listing.settings;
+      cone = c.self.inside.tally.listing.cone;
+      events = keys;
+      closed = c.self.inside.tally.listing.closed;
+    }) (c.in_default.ensures.taken ∙ ap (λ (keys : List ℕ). c.self.inside.tally.listing.events ++ keys) c.keys_of.ensures.value) in
+    let moved : c.read_packet.new.journal.gate ≡ next_gate c.args.gate (payload_of (packet_of c.read_packet.new.entry)) = ap (λ (j : Log). j.gate) (c.in-Ok-true.ensures.moved yes) ∙ ap
+    (λ g. next_gate g (payload_of (packet_of c.read_packet.new.entry))) gate_is in
     rw (← c.self.view_is) (λ seen told h done way gate_same.
     let past : IsPast h done c.self.inside.tally.listing.events c.args.gate = subst (λ g. IsPast h done c.self.inside.tally.listing.events g) (sym gate_same) way.past in
     let on_way = way.on_way seen told in
     let read = g.met.B.Bay.as_read c.self.inside.bay seen told in
-    let on_read = on_way_read (g.B.Bay.leaves c.self.inside.bay) seen h c.self.inside.tally.listing c.self.inside.tally.rows c.self.inside.tally.due.reports c.self.inside.log c.self.inside.last.n0 on_way (g.B.Bay.leaves c.read_packet.new.bay) (λ image may. (c.read_packet.ensures.images image).0 may) in
+    let on_read = on_way_read (g.B.Bay.leaves c.self.inside.bay) seen h c.self.inside.tally.listing c.self.inside.tally.rows c.self.inside.tally.due.reports c.self.inside.log
+    c.self.inside.last.n0 on_way (g.B.Bay.leaves c.read_packet.new.bay) (λ image may. (c.read_packet.ensures.images image).0 may) in
     let told_read : (g.B.Bay.files c.read_packet.new.bay) ≡ Some seen = c.read_packet.ensures.seen ∙ told in
-    let next = next_there (g.B.Bay.leaves c.self.inside.bay) seen h done c.self.inside.tally.listing c.self.inside.tally.rows c.self.inside.tally.due.reports c.self.inside.log c.self.inside.last.n0 c.args.gate (packet_of c.read_packet.new.entry) on_way read past (subst (λ g. HoldsPacket c.self.inside.tally.listing.settings c.self.inside.tally.listing.cone (most_payload c.self.inside.tally.listing.settings) (seen 0) g (packet_of c.read_packet.new.entry)) gate_is (c.in-Ok-true.ensures.found seen told yes)) in
-    let is : events_of h ≡ c.self.inside.tally.listing.events ++ (c.keys_of.result.now ++ events_of next.rest) = keys_next h done c.self.inside.tally.listing.events c.args.gate (packet_of c.read_packet.new.entry) past next ∙ ap (λ (keys : List ℕ). c.self.inside.tally.listing.events ++ (keys ++ events_of next.rest)) (sym c.keys_of.ensures.value) in (
+    let next = next_there (g.B.Bay.leaves c.self.inside.bay) seen h done c.self.inside.tally.listing c.self.inside.tally.rows c.self.inside.tally.due.reports c.self.inside.log
+    c.self.inside.last.n0 c.args.gate (packet_of c.read_packet.new.entry) on_way read past (subst (λ g. HoldsPacket c.self.inside.tally.listing.settings c.self.inside.tally.listing.cone
+    (most_payload c.self.inside.tally.listing.settings) (seen 0) g (packet_of c.read_packet.new.entry)) gate_is (c.in-Ok-true.ensures.found seen told yes)) in
+    let is : events_of h ≡ c.self.inside.tally.listing.events ++ (c.keys_of.result.now ++ events_of next.rest) = keys_next h done c.self.inside.tally.listing.events c.args.gate
+    (packet_of c.read_packet.new.entry) past next ∙ ap (λ (keys : List ℕ). c.self.inside.tally.listing.events ++ (keys ++ events_of next.rest)) (sym c.keys_of.ensures.value) in (
       (packet_of c.read_packet.new.entry),
       record {
         state_is = replaying;
         past = subst (λ (l : Listing). IsPast h (done ++ (packet_of c.read_packet.new.entry) ∷ []) l.events c.read_packet.new.journal.gate) (sym listing_is)
-            (subst (λ g. IsPast h (done ++ (packet_of c.read_packet.new.entry) ∷ []) (c.self.inside.tally.listing.events ++ c.read_packet.new.entry.keys.keys) g) (sym moved) (past_more h done c.self.inside.tally.listing.events c.args.gate (packet_of c.read_packet.new.entry) past next));
+            (subst (λ g. IsPast h (done ++ (packet_of c.read_packet.new.entry) ∷ []) (c.self.inside.tally.listing.events ++ c.read_packet.new.entry.keys.keys) g) (sym moved)
+            (past_more h done c.self.inside.tally.listing.events c.args.gate (packet_of c.read_packet.new.entry) past next));
         on_way = c.in_default.ensures.on_way seen told_read h (events_of next.rest) is on_read;
       },
     ))
 
 pub returns-in_default-clause-journal : goal.returns-in_default-clause-journal
-returns-in_default-clause-journal g c = rw (← c.self.view_is) (leaves_on 0 (g.B.Bay.files c.self.inside.bay) (g.B.Bay.files c.read_packet.new.bay) (g.B.Bay.files c.replay_keys.new.bay) (g.B.Bay.leaves c.self.inside.bay) (g.B.Bay.leaves c.read_packet.new.bay) (g.B.Bay.leaves c.replay_keys.new.bay) (g.B.Bay.moment c.self.inside.bay) (g.B.Bay.moment c.read_packet.new.bay) (g.B.Bay.moment c.replay_keys.new.bay) (g.B.Bay.left_since c.self.inside.bay) (g.B.Bay.left_since c.read_packet.new.bay) (g.B.Bay.left_since c.replay_keys.new.bay) (leaves_read 0 (g.B.Bay.files c.self.inside.bay) (g.B.Bay.files c.read_packet.new.bay) (g.B.Bay.leaves c.self.inside.bay) (g.B.Bay.leaves c.read_packet.new.bay) (g.B.Bay.moment c.self.inside.bay) (g.B.Bay.moment c.read_packet.new.bay) (g.B.Bay.left_since c.self.inside.bay) (g.B.Bay.left_since c.read_packet.new.bay) (record { seen = c.read_packet.ensures.seen; images = c.read_packet.ensures.images; moments = c.read_packet.ensures.moments; time = c.read_packet.ensures.time }) (λ image may. g.met.B.Bay.since_earlier c.read_packet.new.bay (g.B.Bay.moment c.self.inside.bay) (g.B.Bay.moment c.read_packet.new.bay) image c.read_packet.ensures.time.later (g.met.B.Bay.since_now c.read_packet.new.bay image may))) c.replay_keys.ensures.keeps.journal (g.met.B.Bay.since_earlier c.replay_keys.new.bay))
+returns-in_default-clause-journal g c = rw (← c.self.view_is) (leaves_on 0 (g.B.Bay.files c.self.inside.bay) (g.B.Bay.files c.read_packet.new.bay) (g.B.Bay.files c.replay_keys.new.bay)
+    (g.B.Bay.leaves c.self.inside.bay) (g.B.Bay.leaves c.read_packet.new.bay) (g.B.Bay.leaves c.replay_keys.new.bay) (g.B.Bay.moment c.self.inside.bay) (g.B.Bay.moment c.read_packet.new.bay)
+    (g.B.Bay.moment c.replay_keys.new.bay) (g.B.Bay.left_since c.self.inside.bay) (g.B.Bay.left_since c.read_packet.new.bay) (g.B.Bay.left_since c.replay_keys.new.bay) (leaves_read 0
+    (g.B.Bay.files c.self.inside.bay) (g.B.Bay.files c.read_packet.new.bay) (g.B.Bay.leaves c.self.inside.bay) (g.B.Bay.leaves c.read_packet.new.bay) (g.B.Bay.moment c.self.inside.bay)
+    (g.B.Bay.moment c.read_packet.new.bay) (g.B.Bay.left_since c.self.inside.bay) (g.B.Bay.left_since c.read_packet.new.bay) (record {
+      seen = c.read_packet.ensures.seen;
+      images = c.read_packet.ensures.images;
+      moments = c.read_packet.ensures.moments;
+      time = c.read_packet.ensures.time;
+    }) (λ image may. g.met.B.Bay.since_earlier c.read_packet.new.bay
+    (g.B.Bay.moment c.self.inside.bay) (g.B.Bay.moment c.read_packet.new.bay) image c.read_packet.ensures.time.later (g.met.B.Bay.since_now c.read_packet.new.bay image may)))
+    c.replay_keys.ensures.keeps.journal (g.met.B.Bay.since_earlier c.replay_keys.new.bay))
 
 -- a closed gate
 pub invariant_of-self-in-Ok-false : goal.invariant_of-self-in-Ok-false
@@ -181,11 +304,15 @@ invariant_of-self-in-Ok-false g c =
     let replaying : c.self.inside.state ≡ Replaying = subst (λ (v : Standing g.row.B.Denot). v.state ≡ Replaying) (sym c.self.view_is) c.requires.replaying in
     let was = c.self.invariant.replaying replaying in
     let gate_is : c.at_gate-self-inside.result.gate ≡ c.args.gate = ap (λ (j : Log). j.gate) c.at_gate-self-inside.ensures in
-    let no_packet : IsFalse c.in-Ok-false.field-0 = search rules in
-    let len_is : c.self.inside.buffer.len ≡ length c.self.inside.buffer.items = search rules in
+    let no_packet : IsFalse c.in-Ok-false.field-0 = c.in-Ok-false.field-0-test in
+    let len_is : c.self.inside.buffer.len ≡ length c.self.inside.buffer.items = omega (arith, c.self.inside.buffer.ok) in
     let gate_at : c.read_packet.new.journal.gate ≡ c.args.gate = ap (λ (j : Log). j.gate) (c.in-Ok-false.ensures.waits no_packet).0 ∙ gate_is in
-    let long : length c.self.inside.buffer.items ≡ length (take c.self.inside.buffer.len (c.read_packet.new.buffer ++ drop (length c.read_packet.new.buffer) c.self.inside.buffer.items)) = sym (sym (length_refill c.self.inside.buffer.len c.self.inside.buffer.items c.read_packet.new.buffer len_is) ∙ len_is) in
-    replaying_cone g.B.Bay.files g.B.Bay.leaves g.B.Faulty.faults _ _ _ _ _ replaying (c.read_packet.ensures.file ∙ ap (λ (j : Log). j.file) c.at_gate-self-inside.ensures) (c.read_packet.ensures.most ∙ ap (λ (j : Log). j.most) c.at_gate-self-inside.ensures ∙ c.greatest_payload-most.ensures.value ∙ ap most_payload c.settings.ensures) ((sym (length_refill c.self.inside.buffer.len c.self.inside.buffer.items c.read_packet.new.buffer len_is) ∙ len_is) ∙ c.self.invariant.roomy) (c.read_packet.ensures.room ∙ c.self.invariant.keys_roomy) c.self.invariant.within c.self.invariant.valid
+    let long : length c.self.inside.buffer.items ≡ length (take c.self.inside.buffer.len (c.read_packet.new.buffer ++ drop (length c.read_packet.new.buffer) c.self.inside.buffer.items)) = sym (sym
+    (length_refill c.self.inside.buffer.len c.self.inside.buffer.items c.read_packet.new.buffer len_is) ∙ len_is) in
+    replaying_cone g.B.Bay.files g.B.Bay.leaves g.B.Faulty.faults _ _ _ _ _ replaying (c.read_packet.ensures.file ∙ ap (λ (j : Log). j.file) c.at_gate-self-inside.ensures)
+    (c.read_packet.ensures.most ∙ ap (λ (j : Log). j.most) c.at_gate-self-inside.ensures ∙ c.greatest_payload-most.ensures.value ∙ ap most_payload c.settings.ensures) ((sym
+    (length_refill c.self.inside.buffer.len c.self.inside.buffer.items c.read_packet.new.buffer len_is) ∙ len_is) ∙ c.self.invariant.roomy) (c.read_packet.ensures.room
+    ∙ c.self.invariant.keys_roomy) c.self.invariant.within c.self.invariant.valid
     (omega (arith, c.self.invariant.never_falls, c.read_packet.ensures.never_falls))
     (record {
       none_over = was.none_over;
@@ -193,9 +320,11 @@ invariant_of-self-in-Ok-false g c =
       recounted = was.recounted;
       closed = was.closed;
       near = omega (arith, gate_at, c.requires.reach);
-      journal_settled = read_settled 0 (g.B.Bay.files c.self.inside.bay) (g.B.Bay.files c.read_packet.new.bay) (g.B.Bay.leaves c.self.inside.bay) (g.B.Bay.leaves c.read_packet.new.bay) c.read_packet.ensures.seen c.read_packet.ensures.images was.journal_settled;
+      journal_settled = read_settled 0 (g.B.Bay.files c.self.inside.bay) (g.B.Bay.files c.read_packet.new.bay) (g.B.Bay.leaves c.self.inside.bay)
+          (g.B.Bay.leaves c.read_packet.new.bay) c.read_packet.ensures.seen c.read_packet.ensures.images was.journal_settled;
       logging = subst (λ n. IsLogging c.self.inside.tally c.self.inside.log n) long was.logging;
-      log_shut = read_shut 1 c.self.inside.log.gate (g.B.Bay.files c.self.inside.bay) (g.B.Bay.files c.read_packet.new.bay) (g.B.Bay.leaves c.self.inside.bay) (g.B.Bay.leaves c.read_packet.new.bay) c.read_packet.ensures.seen c.read_packet.ensures.images was.log_shut;
+      log_shut = read_shut 1 c.self.inside.log.gate (g.B.Bay.files c.self.inside.bay) (g.B.Bay.files c.read_packet.new.bay) (g.B.Bay.leaves c.self.inside.bay)
+          (g.B.Bay.leaves c.read_packet.new.bay) c.read_packet.ensures.seen c.read_packet.ensures.images was.log_shut;
     })
 
 pub returns-in-Ok-false-clause-ended : goal.returns-in-Ok-false-clause-ended
@@ -203,13 +332,15 @@ returns-in-Ok-false-clause-ended g c =
     let replaying : c.self.inside.state ≡ Replaying = subst (λ (v : Standing g.row.B.Denot). v.state ≡ Replaying) (sym c.self.view_is) c.requires.replaying in
     let was = c.self.invariant.replaying replaying in
     let gate_is : c.at_gate-self-inside.result.gate ≡ c.args.gate = ap (λ (j : Log). j.gate) c.at_gate-self-inside.ensures in
-    let no_packet : IsFalse c.in-Ok-false.field-0 = search rules in
+    let no_packet : IsFalse c.in-Ok-false.field-0 = c.in-Ok-false.field-0-test in
     let gate_at : c.read_packet.new.journal.gate ≡ c.args.gate = ap (λ (j : Log). j.gate) (c.in-Ok-false.ensures.waits no_packet).0 ∙ gate_is in
-    let settled = read_settled 0 (g.B.Bay.files c.self.inside.bay) (g.B.Bay.files c.read_packet.new.bay) (g.B.Bay.leaves c.self.inside.bay) (g.B.Bay.leaves c.read_packet.new.bay) c.read_packet.ensures.seen c.read_packet.ensures.images was.journal_settled in
+    let settled = read_settled 0 (g.B.Bay.files c.self.inside.bay) (g.B.Bay.files c.read_packet.new.bay) (g.B.Bay.leaves c.self.inside.bay)
+    (g.B.Bay.leaves c.read_packet.new.bay) c.read_packet.ensures.seen c.read_packet.ensures.images was.journal_settled in
     rw (← c.self.view_is) (record {
       enough = c.in-Ok-false.ensures.enough no_packet;
       stands = λ seen told. subst (IsClosed (seen 0)) gate_is (c.in-Ok-false.ensures.closed seen told no_packet);
-      shut = shut_there 0 c.args.gate (g.B.Bay.files c.read_packet.new.bay) (g.B.Bay.leaves c.read_packet.new.bay) settled (λ seen told. subst (IsClosed (seen 0)) gate_is (c.in-Ok-false.ensures.closed seen (sym c.read_packet.ensures.seen ∙ told) no_packet));
+      shut = shut_there 0 c.args.gate (g.B.Bay.files c.read_packet.new.bay) (g.B.Bay.leaves c.read_packet.new.bay) settled (λ seen told. subst (IsClosed (seen 0)) gate_is
+          (c.in-Ok-false.ensures.closed seen (sym c.read_packet.ensures.seen ∙ told) no_packet));
       seen = c.read_packet.ensures.seen;
       images = c.read_packet.ensures.images;
       is = λ i. record {
@@ -231,20 +362,24 @@ pub returns-in-Ok-false-clause-replays : goal.returns-in-Ok-false-clause-replays
 returns-in-Ok-false-clause-replays g c =
     let replaying : c.self.inside.state ≡ Replaying = subst (λ (v : Standing g.row.B.Denot). v.state ≡ Replaying) (sym c.self.view_is) c.requires.replaying in
     let gate_is : c.at_gate-self-inside.result.gate ≡ c.args.gate = ap (λ (j : Log). j.gate) c.at_gate-self-inside.ensures in
-    let no_packet : IsFalse c.in-Ok-false.field-0 = search rules in
+    let no_packet : IsFalse c.in-Ok-false.field-0 = c.in-Ok-false.field-0-test in
     let gate_at : c.read_packet.new.journal.gate ≡ c.args.gate = ap (λ (j : Log). j.gate) (c.in-Ok-false.ensures.waits no_packet).0 ∙ gate_is in
     rw (← c.self.view_is) (λ seen told h done way gate_same.
     let past : IsPast h done c.self.inside.tally.listing.events c.args.gate = subst (λ g. IsPast h done c.self.inside.tally.listing.events g) (sym gate_same) way.past in
     let on_way = way.on_way seen told in
     let read = g.met.B.Bay.as_read c.self.inside.bay seen told in
-    let on_read = on_way_read (g.B.Bay.leaves c.self.inside.bay) seen h c.self.inside.tally.listing c.self.inside.tally.rows c.self.inside.tally.due.reports c.self.inside.log c.self.inside.last.n0 on_way (g.B.Bay.leaves c.read_packet.new.bay) (λ image may. (c.read_packet.ensures.images image).0 may) in
+    let on_read = on_way_read (g.B.Bay.leaves c.self.inside.bay) seen h c.self.inside.tally.listing c.self.inside.tally.rows c.self.inside.tally.due.reports c.self.inside.log
+    c.self.inside.last.n0 on_way (g.B.Bay.leaves c.read_packet.new.bay) (λ image may. (c.read_packet.ensures.images image).0 may) in
     let told_read : (g.B.Bay.files c.read_packet.new.bay) ≡ Some seen = c.read_packet.ensures.seen ∙ told in
     let closed = subst (IsClosed (seen 0)) gate_is (c.in-Ok-false.ensures.closed seen told no_packet) in (
-      ends_there c.self.inside.tally.listing.settings c.self.inside.tally.listing.cone (seen 0) h done c.self.inside.tally.listing.events c.args.gate (journal_on_way (g.B.Bay.leaves c.self.inside.bay) seen h c.self.inside.tally.listing c.self.inside.tally.rows c.self.inside.tally.due.reports c.self.inside.log c.self.inside.last.n0 on_way read) past closed,
+      ends_there c.self.inside.tally.listing.settings c.self.inside.tally.listing.cone (seen 0) h done c.self.inside.tally.listing.events c.args.gate (journal_on_way
+          (g.B.Bay.leaves c.self.inside.bay) seen h c.self.inside.tally.listing c.self.inside.tally.rows c.self.inside.tally.due.reports c.self.inside.log c.self.inside.last.n0 on_way read) past
+          closed,
       record {
         state_is = replaying;
         past = subst (λ g. IsPast h done c.self.inside.tally.listing.events g) (sym gate_at) past;
-        on_way = λ after told_after. subst (λ (f : Files). IsOnWay (g.B.Bay.leaves c.read_packet.new.bay) f h c.self.inside.tally.listing c.self.inside.tally.rows c.self.inside.tally.due.reports c.self.inside.log c.self.inside.last.n0) (told_once (g.B.Bay.files c.read_packet.new.bay) seen after told_read told_after) on_read;
+        on_way = λ after told_after. subst (λ (f : Files). IsOnWay (g.B.Bay.leaves c.read_packet.new.bay) f h c.self.inside.tally.listing c.self.inside.tally.rows c.self.inside.tally.due.reports
+            c.self.inside.log c.self.inside.last.n0) (told_once (g.B.Bay.files c.read_packet.new.bay) seen after told_read told_after) on_read;
       },
     ))
 
@@ -253,9 +388,34 @@ pub returns-in-Err-clause-refused : goal.returns-in-Err-clause-refused
 returns-in-Err-clause-refused g c =
     let gate_is : c.at_gate-self-inside.result.gate ≡ c.args.gate = ap (λ (j : Log). j.gate) c.at_gate-self-inside.ensures in
     rw (← c.self.view_is) (λ seen told.
-    subst (λ (fault : ReplayFault). WhyRefused (record { bay = c.self.inside.bay; made = c.self.inside.made.value; listing = c.self.inside.tally.listing; rows = c.self.inside.tally.rows; reports = c.self.inside.tally.due.reports; events = c.self.inside.events; state = c.self.inside.state; over = over_of c.self.inside.over; gate = c.self.inside.journal.gate; log = c.self.inside.log; last = c.self.inside.last }) (seen 0) c.args.gate fault) (sym c.from-fault.ensures)
-    (refused_record (record { bay = c.self.inside.bay; made = c.self.inside.made.value; listing = c.self.inside.tally.listing; rows = c.self.inside.tally.rows; reports = c.self.inside.tally.due.reports; events = c.self.inside.events; state = c.self.inside.state; over = over_of c.self.inside.over; gate = c.self.inside.journal.gate; log = c.self.inside.log; last = c.self.inside.last }) (seen 0) c.args.gate c.in-Err.fault (λ at same.
-    subst (λ g. ReplayLeavesAt c.self.inside.tally.listing.settings c.self.inside.tally.listing.cone c.self.inside.last.n0 c.self.inside.last.closed (length c.self.inside.tally.listing.events) (seen 0) g at) gate_is (c.in-Err.ensures.malformed seen told at (ap Err same)))))
+    subst (λ (fault : ReplayFault). WhyRefused (record {
+      bay = c.self.inside.bay;
+      made = c.self.inside.made.value;
+      listing = c.self.inside.tally.listing;
+      rows = c.self.inside.tally.rows;
+      reports = c.self.inside.tally.due.reports;
+      events = c.self.inside.events;
+      state = c.self.inside.state;
+      over = over_of c.self.inside.over;
+      gate = c.self.inside.journal.gate;
+      log = c.self.inside.log;
+      last = c.self.inside.last;
+    }) (seen 0) c.args.gate fault) (sym c.from-fault.ensures)
+    (refused_record (record {
+      bay = c.self.inside.bay;
+      made = c.self.inside.made.value;
+      listing = c.self.inside.tally.listing;
+      rows = c.self.inside.tally.rows;
+      reports = c.self.inside.tally.due.reports;
+      events = c.self.inside.events;
+      state = c.self.inside.state;
+      over = over_of c.self.inside.over;
+      gate = c.self.inside.journal.gate;
+      log = c.self.inside.log;
+      last = c.self.inside.last;
+    }) (seen 0) c.args.gate c.in-Err.fault (λ at same.
+    subst (λ g. ReplayLeavesAt c.self.inside.tally.listing.settings c.self.inside.tally.listing.cone c.self.inside.last.n0 c.self.inside.last.closed (length c.self.inside.tally.listing.events)
+    (seen 0) g at) gate_is (c.in-Err.ensures.malformed seen told at (ap Err same)))))
 
 pub returns-in-Err-clause-replays : goal.returns-in-Err-clause-replays
 returns-in-Err-clause-replays g c =
@@ -267,9 +427,12 @@ returns-in-Err-clause-replays g c =
     let on_way = way.on_way seen told in
     let read = g.met.B.Bay.as_read c.self.inside.bay seen told in
     inl (c.from-fault.ensures ∙ only_failed c.in-Err.fault (λ at same.
-    never_on_way (g.B.Bay.leaves c.self.inside.bay) seen h c.self.inside.tally.listing c.self.inside.tally.rows c.self.inside.tally.due.reports c.self.inside.log c.self.inside.last.n0 on_way read done c.args.gate at past
-    (leaves_listing c.self.inside.tally.listing.settings c.self.inside.tally.listing.cone c.self.inside.last.n0 (length c.self.inside.tally.listing.events) c.args.gate at c.self.inside.tally.listing.closed c.self.inside.last.closed (seen 0) was.closed
-    (subst (λ g. ReplayLeavesAt c.self.inside.tally.listing.settings c.self.inside.tally.listing.cone c.self.inside.last.n0 c.self.inside.last.closed (length c.self.inside.tally.listing.events) (seen 0) g at) gate_is (c.in-Err.ensures.malformed seen told at (ap Err same)))))))
+    never_on_way (g.B.Bay.leaves c.self.inside.bay) seen h c.self.inside.tally.listing c.self.inside.tally.rows c.self.inside.tally.due.reports c.self.inside.log c.self.inside.last.n0 on_way read
+    done c.args.gate at past
+    (leaves_listing c.self.inside.tally.listing.settings c.self.inside.tally.listing.cone c.self.inside.last.n0 (length c.self.inside.tally.listing.events) c.args.gate at
+    c.self.inside.tally.listing.closed c.self.inside.last.closed (seen 0) was.closed
+    (subst (λ g. ReplayLeavesAt c.self.inside.tally.listing.settings c.self.inside.tally.listing.cone c.self.inside.last.n0 c.self.inside.last.closed (length c.self.inside.tally.listing.events)
+    (seen 0) g at) gate_is (c.in-Err.ensures.malformed seen told at (ap Err same)))))))
 
 pub returns-in-Err-replay_keys-clause-unsound : goal.returns-in-Err-replay_keys-clause-unsound
 returns-in-Err-replay_keys-clause-unsound g c = λ file at same.

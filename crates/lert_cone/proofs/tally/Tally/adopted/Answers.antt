@@ -7,5 +7,10 @@ use Rattle.lert_cone.proofs.tally.Tally.adopted.Goals as goal
 pub returns-clause-recounted : goal.returns-clause-recounted
 returns-clause-recounted g c = λ n0 fits at.
     let valid = subst IsValid c.numbers-valid.ensures.value c.numbers-valid.ensures.valid in
-    recounted_none (record { listing = record { settings = c.args.settings.now; cone = c.args.cone; events = c.new-2.result; closed = c.args.closed }; young = c.args.zero; rows = c.args.levels.rows; due = c.new.result })
+    recounted_none (record {
+      listing = record { settings = c.args.settings.now; cone = c.args.cone; events = c.new-2.result; closed = c.args.closed };
+      young = c.args.zero;
+      rows = c.args.levels.rows;
+      due = c.new.result;
+    })
     n0 valid c.new-2.ensures fits c.requires.zero at c.requires.are (ap (λ (d : Dues). d.settings) c.new.ensures) (ap (λ (d : Dues). d.cone) c.new.ensures)

@@ -14,5 +14,6 @@ adopted-requires-clause-are g c =
 
 pub returns-clause-counted : goal.returns-clause-counted
 returns-clause-counted g c =
-    let at = subst (λ (rows : List (List BinAt)). IsAt c.args.settings.now 0 rows) (sym (ap (λ (v : OnDisk). v.rows) c.requires.levels)) (rows_none c.args.settings.now (subst IsValid c.numbers-valid.ensures.value c.numbers-valid.ensures.valid)) in
+    let at = subst (λ (rows : List (List BinAt)). IsAt c.args.settings.now 0 rows) (sym (ap (λ (v : OnDisk). v.rows) c.requires.levels)) (rows_none c.args.settings.now
+    (subst IsValid c.numbers-valid.ensures.value c.numbers-valid.ensures.valid)) in
     counted_from_none c.adopted.result (c.adopted.ensures.recounted 0 (omega arith) at)

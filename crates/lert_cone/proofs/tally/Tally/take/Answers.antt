@@ -1,4 +1,4 @@
-use Rattle.std.proofs.Common.{◌≡◌, ℕ, ◌+◌, ◌<◌, suc, false, length, Option, ap, sym, ◌∙◌, subst, arith}
+use Rattle.std.proofs.Common.{◌≡◌, ◌+◌, ◌<◌, suc, false, length, Option, ap, sym, ◌∙◌, subst, arith}
 use Rattle.lert_spec.specs.Edges.{capacity}
 use Rattle.lert_spec.specs.Mix.{cone_of}
 use Rattle.lert_cone.specs.Due.{Dues, started}
@@ -14,23 +14,37 @@ bays g = record { faults = g.B.Faulty.faults; mark = g.B.Faulty.mark; files = g.
 
 pub bring-due-requires-clause-rows : goal.bring-due-requires-clause-rows
 bring-due-requires-clause-rows g c =
-    let t : Tallied = record { listing = record { settings = c.self.inside.settings; cone = c.self.inside.cone; events = c.self.inside.taken; closed = c.self.inside.closed }; young = c.self.inside.zero; rows = c.self.inside.levels.rows; due = due_in c.self.inside.due } in
+    let t : Tallied = record {
+      listing = record { settings = c.self.inside.settings; cone = c.self.inside.cone; events = c.self.inside.taken; closed = c.self.inside.closed };
+      young = c.self.inside.zero;
+      rows = c.self.inside.levels.rows;
+      due = due_in c.self.inside.due;
+    } in
     let counted : IsCounted t = subst (λ (v : Tallied). IsCounted v) (sym c.self.view_is) c.requires.counted in
     let fits : length c.self.inside.taken < capacity c.self.inside.settings = subst (λ (v : Tallied). length v.listing.events < capacity v.listing.settings) (sym c.self.view_is) c.requires.fits in
     let m_is : c.self.inside.len + 1 ≡ suc (length c.self.inside.taken) = omega (arith, c.self.invariant.len_is) in
-    rows_before t c.self.inside.levels.settings c.self.invariant.levels_settings c.self.invariant.valid c.self.invariant.named c.self.invariant.young_settings counted fits c.args.key c.tail_of-tail.result (c.self.inside.len + 1) c.tail_of-tail.ensures.value m_is c.add.new.self c.add.ensures
+    rows_before t c.self.inside.levels.settings c.self.invariant.levels_settings c.self.invariant.valid c.self.invariant.named c.self.invariant.young_settings counted fits c.args.key
+    c.tail_of-tail.result (c.self.inside.len + 1) c.tail_of-tail.ensures.value m_is c.add.new.self c.add.ensures
 
 pub returns-in_err-result : goal.returns-in_err-result
 returns-in_err-result g c =
-    let counted : IsCounted (record { listing = record { settings = c.self.inside.settings; cone = c.self.inside.cone; events = c.self.inside.taken; closed = c.self.inside.closed };
-        young = c.self.inside.zero; rows = c.self.inside.levels.rows; due = due_in c.self.inside.due }) = subst (λ (v : Tallied). IsCounted v) (sym c.self.view_is) c.requires.counted in
+    let counted : IsCounted (record {
+      listing = record { settings = c.self.inside.settings; cone = c.self.inside.cone; events = c.self.inside.taken; closed = c.self.inside.closed };
+      young = c.self.inside.zero;
+      rows = c.self.inside.levels.rows;
+      due = due_in c.self.inside.due;
+    }) = subst (λ (v : Tallied). IsCounted v) (sym c.self.view_is) c.requires.counted in
     let fits : length c.self.inside.taken < capacity c.self.inside.settings = subst (λ (v : Tallied). length v.listing.events < capacity v.listing.settings) (sym c.self.view_is) c.requires.fits in
     let m_is : c.self.inside.len + 1 ≡ suc (length c.self.inside.taken) = omega (arith, c.self.invariant.len_is) in
     let start_is : c.begin.new.self ≡ started (due_in c.self.inside.due) (c.self.inside.len + 1) =
     c.begin.ensures.begun ∙ ap (λ (d : Option Dues). started (due_in d) (c.self.inside.len + 1)) (sym c.in-Some.is ∙ c.take.ensures.value) in
     rw (← c.self.view_is) (not_counted (bays g)
-    (record { listing = record { settings = c.self.inside.settings; cone = c.self.inside.cone; events = c.self.inside.taken; closed = c.self.inside.closed };
-    young = c.self.inside.zero; rows = c.self.inside.levels.rows; due = due_in c.self.inside.due })
+    (record {
+      listing = record { settings = c.self.inside.settings; cone = c.self.inside.cone; events = c.self.inside.taken; closed = c.self.inside.closed };
+      young = c.self.inside.zero;
+      rows = c.self.inside.levels.rows;
+      due = due_in c.self.inside.due;
+    })
     c.self.inside.levels.settings c.self.invariant.levels_settings c.self.invariant.valid c.self.invariant.named c.self.invariant.young_settings counted fits
     c.args.key c.tail_of-tail.result (c.self.inside.len + 1) c.tail_of-tail.ensures.value m_is c.add.new.self c.add.ensures
     c.begin.new.self c.bring-due.result.0 start_is c.args.bay.now c.bring-due.new.bay c.bring-due.new.zero c.bring-due.new.levels
@@ -38,8 +52,12 @@ returns-in_err-result g c =
 
 pub returns-then-is_full : goal.returns-then-is_full
 returns-then-is_full g c =
-    let counted : IsCounted (record { listing = record { settings = c.self.inside.settings; cone = c.self.inside.cone; events = c.self.inside.taken; closed = c.self.inside.closed };
-        young = c.self.inside.zero; rows = c.self.inside.levels.rows; due = due_in c.self.inside.due }) = subst (λ (v : Tallied). IsCounted v) (sym c.self.view_is) c.requires.counted in
+    let counted : IsCounted (record {
+      listing = record { settings = c.self.inside.settings; cone = c.self.inside.cone; events = c.self.inside.taken; closed = c.self.inside.closed };
+      young = c.self.inside.zero;
+      rows = c.self.inside.levels.rows;
+      due = due_in c.self.inside.due;
+    }) = subst (λ (v : Tallied). IsCounted v) (sym c.self.view_is) c.requires.counted in
     let fits : length c.self.inside.taken < capacity c.self.inside.settings = subst (λ (v : Tallied). length v.listing.events < capacity v.listing.settings) (sym c.self.view_is) c.requires.fits in
     let m_is : c.self.inside.len + 1 ≡ suc (length c.self.inside.taken) = omega (arith, c.self.invariant.len_is) in
     let start_is : c.begin.new.self ≡ started (due_in c.self.inside.due) (c.self.inside.len + 1) =
@@ -48,8 +66,12 @@ returns-then-is_full g c =
     let still : c.self.inside.closed ≡ false = subst (λ (v : Tallied). v.listing.closed ≡ false) (sym c.self.view_is) c.requires.still in
     let brings = rw c.in_ok-result.was at c.bring-due.ensures in
     rw (← c.self.view_is) (no_room (bays g)
-    (record { listing = record { settings = c.self.inside.settings; cone = c.self.inside.cone; events = c.self.inside.taken; closed = c.self.inside.closed };
-    young = c.self.inside.zero; rows = c.self.inside.levels.rows; due = due_in c.self.inside.due })
+    (record {
+      listing = record { settings = c.self.inside.settings; cone = c.self.inside.cone; events = c.self.inside.taken; closed = c.self.inside.closed };
+      young = c.self.inside.zero;
+      rows = c.self.inside.levels.rows;
+      due = due_in c.self.inside.due;
+    })
     c.self.inside.levels.settings c.self.invariant.levels_settings c.self.invariant.valid c.self.invariant.named c.self.invariant.young_settings counted fits
     c.args.key c.tail_of-tail.result (c.self.inside.len + 1) c.tail_of-tail.ensures.value m_is c.add.new.self c.add.ensures
     c.begin.new.self c.bring-due.result.0 start_is c.args.bay.now c.bring-due.new.bay c.bring-due.new.zero c.bring-due.new.levels
@@ -57,8 +79,12 @@ returns-then-is_full g c =
 
 pub returns : goal.returns
 returns g c =
-    let counted : IsCounted (record { listing = record { settings = c.self.inside.settings; cone = c.self.inside.cone; events = c.self.inside.taken; closed = c.self.inside.closed };
-        young = c.self.inside.zero; rows = c.self.inside.levels.rows; due = due_in c.self.inside.due }) = subst (λ (v : Tallied). IsCounted v) (sym c.self.view_is) c.requires.counted in
+    let counted : IsCounted (record {
+      listing = record { settings = c.self.inside.settings; cone = c.self.inside.cone; events = c.self.inside.taken; closed = c.self.inside.closed };
+      young = c.self.inside.zero;
+      rows = c.self.inside.levels.rows;
+      due = due_in c.self.inside.due;
+    }) = subst (λ (v : Tallied). IsCounted v) (sym c.self.view_is) c.requires.counted in
     let fits : length c.self.inside.taken < capacity c.self.inside.settings = subst (λ (v : Tallied). length v.listing.events < capacity v.listing.settings) (sym c.self.view_is) c.requires.fits in
     let m_is : c.self.inside.len + 1 ≡ suc (length c.self.inside.taken) = omega (arith, c.self.invariant.len_is) in
     let start_is : c.begin.new.self ≡ started (due_in c.self.inside.due) (c.self.inside.len + 1) =
@@ -67,8 +93,12 @@ returns g c =
     let still : c.self.inside.closed ≡ false = subst (λ (v : Tallied). v.listing.closed ≡ false) (sym c.self.view_is) c.requires.still in
     let brings = rw c.in_ok-result.was at c.bring-due.ensures in
     rw (← c.self.view_is) (key_counted (bays g)
-    (record { listing = record { settings = c.self.inside.settings; cone = c.self.inside.cone; events = c.self.inside.taken; closed = c.self.inside.closed };
-    young = c.self.inside.zero; rows = c.self.inside.levels.rows; due = due_in c.self.inside.due })
+    (record {
+      listing = record { settings = c.self.inside.settings; cone = c.self.inside.cone; events = c.self.inside.taken; closed = c.self.inside.closed };
+      young = c.self.inside.zero;
+      rows = c.self.inside.levels.rows;
+      due = due_in c.self.inside.due;
+    })
     c.self.inside.levels.settings c.self.invariant.levels_settings c.self.invariant.valid c.self.invariant.named c.self.invariant.young_settings counted fits
     c.args.key c.tail_of-tail.result (c.self.inside.len + 1) c.tail_of-tail.ensures.value m_is c.add.new.self c.add.ensures
     c.begin.new.self c.bring-due.result.0 start_is c.args.bay.now c.bring-due.new.bay c.bring-due.new.zero c.bring-due.new.levels

@@ -28,29 +28,32 @@ pub returns-then-depth-eq0 : goal.returns-then-depth-eq0
 returns-then-depth-eq0 g c = record {
   young_settings = refl;
   settings = refl;
-  from =     c.requires.from ∙ sym (edge_still c.args.levels.now.settings c.requires.valid c.args.m (shallow c.depth.result c.args.m c.settings.result.now c.args.levels.now.settings c.depth.ensures.value (c.settings.ensures ∙ c.requires.settings) c.if-depth-eq0.true));
+  from = c.requires.from ∙ sym (edge_still c.args.levels.now.settings c.requires.valid c.args.m (shallow c.depth.result c.args.m c.settings.result.now c.args.levels.now.settings
+      c.depth.ensures.value (c.settings.ensures ∙ c.requires.settings) c.if-depth-eq0.true));
   to = c.requires.to;
   bins = λ events long bins.
-    let s = c.args.levels.now.settings in
-    let still = edge_still s c.requires.valid c.args.m (shallow c.depth.result c.args.m c.settings.result.now s c.depth.ensures.value (c.settings.ensures ∙ c.requires.settings) c.if-depth-eq0.true) in
-    record { is = bins.is ∙ ap (λ p. young_bins c.args.levels.now.settings events p) (c.requires.from ∙ sym still) };
-  rows =     rows_still c.args.levels.now.settings c.requires.valid c.args.m c.args.levels.now.rows (shallow c.depth.result c.args.m c.settings.result.now c.args.levels.now.settings c.depth.ensures.value (c.settings.ensures ∙ c.requires.settings) c.if-depth-eq0.true) c.requires.rows;
+      let s = c.args.levels.now.settings in
+      let still = edge_still s c.requires.valid c.args.m (shallow c.depth.result c.args.m c.settings.result.now s c.depth.ensures.value (c.settings.ensures ∙ c.requires.settings) c.if-depth-eq0.true) in
+      record { is = bins.is ∙ ap (λ p. young_bins c.args.levels.now.settings events p) (c.requires.from ∙ sym still) };
+  rows = rows_still c.args.levels.now.settings c.requires.valid c.args.m c.args.levels.now.rows (shallow c.depth.result c.args.m c.settings.result.now c.args.levels.now.settings
+      c.depth.ensures.value (c.settings.ensures ∙ c.requires.settings) c.if-depth-eq0.true) c.requires.rows;
   holds = λ events long bins seen told holds after told_after.
-    subst (λ (files : Files). HoldsBins c.args.levels.now.settings events c.args.levels.now.rows (files 2)) (same_Some seen after (sym told ∙ told_after)) holds;
+      subst (λ (files : Files). HoldsBins c.args.levels.now.settings events c.args.levels.now.rows (files 2)) (same_Some seen after (sym told ∙ told_after)) holds;
   totals = λ events long bins seen told holds.
-    let s = c.args.levels.now.settings in
-    let is = young_total s c.requires.valid events c.args.m c.args.tail c.count.result c.args.zero.now.from c.args.zero.now.bins long c.requires.from
-    (shallow c.depth.result c.args.m c.settings.result.now s c.depth.ensures.value (c.settings.ensures ∙ c.requires.settings) c.if-depth-eq0.true) bins c.count.ensures in
-    subst (λ (pieces : List Piece). TookFrom g.N.Begun.start c.total.new.self pieces) is
-    (c.total.ensures g.N.Begun.start [] c.requires.start (All-nil (λ (piece : Piece). piece.tail < c.args.tail)));
-  took =     (record { tail = c.args.tail; count = c.count.result } ∷ [], c.total.ensures g.N.Begun.start [] c.requires.start (All-nil (λ (piece : Piece). piece.tail < c.args.tail)));
+      let s = c.args.levels.now.settings in
+      let is = young_total s c.requires.valid events c.args.m c.args.tail c.count.result c.args.zero.now.from c.args.zero.now.bins long c.requires.from
+      (shallow c.depth.result c.args.m c.settings.result.now s c.depth.ensures.value (c.settings.ensures ∙ c.requires.settings) c.if-depth-eq0.true) bins c.count.ensures in
+      subst (λ (pieces : List Piece). TookFrom g.N.Begun.start c.total.new.self pieces) is
+      (c.total.ensures g.N.Begun.start [] c.requires.start (All-nil (λ (piece : Piece). piece.tail < c.args.tail)));
+  took = (record { tail = c.args.tail; count = c.count.result } ∷ [], c.total.ensures g.N.Begun.start [] c.requires.start (All-nil (λ (piece : Piece). piece.tail < c.args.tail)));
   sound = λ events long bins seen told holds at same. (let never : ⊥ = cc in never);
   malformed = λ seen told at same. absurd (let never : ⊥ = cc in never);
   unwritten = λ at same. refl;
   images = λ events long bins seen told holds each after told_after. each;
   are = λ are. are;
   still = λ stays. refl;
-  rest = rest_none (InNamed c.args.levels.now.settings c.args.levels.now.rows) (g.B.Bay.files c.args.bay.now) (g.B.Bay.leaves c.args.bay.now) (g.B.Bay.moment c.args.bay.now) (g.B.Bay.left_since c.args.bay.now) (g.met.B.Bay.only_now c.args.bay.now);
+  rest = rest_none (InNamed c.args.levels.now.settings c.args.levels.now.rows) (g.B.Bay.files c.args.bay.now) (g.B.Bay.leaves c.args.bay.now) (g.B.Bay.moment c.args.bay.now)
+      (g.B.Bay.left_since c.args.bay.now) (g.met.B.Bay.only_now c.args.bay.now);
   failed = λ same. absurd (let never : ⊥ = cc in never);
   never_falls = omega arith;
   mark = refl;
@@ -58,11 +61,13 @@ returns-then-depth-eq0 g c = record {
 
 pub flush_into-due-requires-clause-flushes : goal.flush_into-due-requires-clause-flushes
 flush_into-due-requires-clause-flushes g c =
-    flush_moves c.args.levels.now.settings c.requires.valid c.args.m (deep c.depth.result c.args.m c.settings.result.now c.args.levels.now.settings c.depth.ensures.value (c.settings.ensures ∙ c.requires.settings) c.if-depth-eq0.false)
+    flush_moves c.args.levels.now.settings c.requires.valid c.args.m (deep c.depth.result c.args.m c.settings.result.now c.args.levels.now.settings c.depth.ensures.value (c.settings.ensures
+    ∙ c.requires.settings) c.if-depth-eq0.false)
 
 pub drop_oldest-requires : goal.drop_oldest-requires
 drop_oldest-requires g c =
-    let next = dropped_edge c.args.levels.now.settings c.requires.valid c.args.m (deep c.depth.result c.args.m c.settings.result.now c.args.levels.now.settings c.depth.ensures.value (c.settings.ensures ∙ c.requires.settings) c.if-depth-eq0.false) in
+    let next = dropped_edge c.args.levels.now.settings c.requires.valid c.args.m (deep c.depth.result c.args.m c.settings.result.now c.args.levels.now.settings c.depth.ensures.value
+    (c.settings.ensures ∙ c.requires.settings) c.if-depth-eq0.false) in
     let wide : span c.args.zero.now.settings 0 ≡ span c.args.levels.now.settings 0 = ap (λ (t : Numbers). span t 0) c.requires.settings in
     omega (arith, next, wide, c.requires.from, c.requires.to, edge_within c.args.levels.now.settings 0 c.args.m)
 
@@ -70,46 +75,50 @@ pub returns-in-Ok : goal.returns-in-Ok
 returns-in-Ok g c = record {
   young_settings = ap (λ (y : Young). y.settings) c.drop_oldest.ensures;
   settings = (let flushed_ = rw c.in-Ok.is at c.flush_into-due.ensures.flushed in ap (λ (v : OnDisk). v.settings) flushed_);
-  from = (    let next = dropped_edge c.args.levels.now.settings c.requires.valid c.args.m (deep c.depth.result c.args.m c.settings.result.now c.args.levels.now.settings c.depth.ensures.value (c.settings.ensures ∙ c.requires.settings) c.if-depth-eq0.false) in
-    ap (λ (y : Young). y.from) c.drop_oldest.ensures
-    ∙ ap₂ (λ (from : ℕ) (t : Numbers). from + span t 0) c.requires.from c.requires.settings
-    ∙ sym next);
+  from = (let next = dropped_edge c.args.levels.now.settings c.requires.valid c.args.m (deep c.depth.result c.args.m c.settings.result.now c.args.levels.now.settings c.depth.ensures.value
+      (c.settings.ensures ∙ c.requires.settings) c.if-depth-eq0.false) in
+      ap (λ (y : Young). y.from) c.drop_oldest.ensures
+      ∙ ap₂ (λ (from : ℕ) (t : Numbers). from + span t 0) c.requires.from c.requires.settings
+      ∙ sym next);
   to = ap (λ (y : Young). y.to) c.drop_oldest.ensures ∙ c.requires.to;
   bins = λ events long bins.
-    let dropped = dropped_bins c.args.levels.now.settings c.requires.valid events c.args.m long (deep c.depth.result c.args.m c.settings.result.now c.args.levels.now.settings c.depth.ensures.value (c.settings.ensures ∙ c.requires.settings) c.if-depth-eq0.false) in
-    record {
-      is = ap (λ (y : Young). y.bins) c.drop_oldest.ensures
-          ∙ ap (drop 1) (bins.is ∙ ap (λ p. young_bins c.args.levels.now.settings events p) c.requires.from)
-          ∙ dropped;
-    };
-  rows = (    let moved_ = rw c.in-Ok.is at c.flush_into-due.ensures.flushed in
-    subst (λ (v : OnDisk). IsAt c.args.levels.now.settings c.args.m v.rows) (sym moved_)
-    (IsAt-moved c.args.levels.now.settings c.requires.valid c.args.m c.requires.first c.requires.last c.args.levels.now.rows c.requires.rows));
+      let dropped = dropped_bins c.args.levels.now.settings c.requires.valid events c.args.m long (deep c.depth.result c.args.m c.settings.result.now c.args.levels.now.settings c.depth.ensures.value
+      (c.settings.ensures ∙ c.requires.settings) c.if-depth-eq0.false) in
+      record {
+        is = ap (λ (y : Young). y.bins) c.drop_oldest.ensures
+            ∙ ap (drop 1) (bins.is ∙ ap (λ p. young_bins c.args.levels.now.settings events p) c.requires.from)
+            ∙ dropped;
+      };
+  rows = (let moved_ = rw c.in-Ok.is at c.flush_into-due.ensures.flushed in
+      subst (λ (v : OnDisk). IsAt c.args.levels.now.settings c.args.m v.rows) (sym moved_)
+      (IsAt-moved c.args.levels.now.settings c.requires.valid c.args.m c.requires.first c.requires.last c.args.levels.now.rows c.requires.rows));
   holds = λ events long bins seen told holds after told_after.
-    let moved_ = rw c.in-Ok.is at c.flush_into-due.ensures.flushed in
-    let held = rw c.in-Ok.is at (c.flush_into-due.ensures.holds events long bins seen told holds) in
-    subst (λ (t : Numbers). HoldsBins t events c.flush_into-due.new.levels.rows (after 2)) (ap (λ (v : OnDisk). v.settings) moved_) (held after told_after);
+      let moved_ = rw c.in-Ok.is at c.flush_into-due.ensures.flushed in
+      let held = rw c.in-Ok.is at (c.flush_into-due.ensures.holds events long bins seen told holds) in
+      subst (λ (t : Numbers). HoldsBins t events c.flush_into-due.new.levels.rows (after 2)) (ap (λ (v : OnDisk). v.settings) moved_) (held after told_after);
   totals = λ events long bins seen told holds.
-    let took = rw c.in-Ok.is at (c.flush_into-due.ensures.totals events long bins seen told holds) in
-    subst (λ (pieces : List Piece). TookFrom g.N.Begun.start c.flush_into-due.result.0 pieces)
-    (flush_total c.args.levels.now.settings c.requires.valid events c.args.m c.args.tail (deep c.depth.result c.args.m c.settings.result.now c.args.levels.now.settings c.depth.ensures.value (c.settings.ensures ∙ c.requires.settings) c.if-depth-eq0.false))
-    took;
+      let took = rw c.in-Ok.is at (c.flush_into-due.ensures.totals events long bins seen told holds) in
+      subst (λ (pieces : List Piece). TookFrom g.N.Begun.start c.flush_into-due.result.0 pieces)
+      (flush_total c.args.levels.now.settings c.requires.valid events c.args.m c.args.tail (deep c.depth.result c.args.m c.settings.result.now c.args.levels.now.settings c.depth.ensures.value
+      (c.settings.ensures ∙ c.requires.settings) c.if-depth-eq0.false))
+      took;
   took = (let took_ = rw c.in-Ok.is at c.flush_into-due.ensures.took in took_);
   sound = λ events long bins seen told holds at same. (let never : ⊥ = cc in never);
   malformed = λ seen told at same. absurd (let never : ⊥ = cc in never);
   unwritten = λ at same. absurd (let never : ⊥ = cc in never);
   images = λ events long bins seen told holds each after told_after image may.
-    let moved_ = rw c.in-Ok.is at c.flush_into-due.ensures.flushed in
-    let held = rw c.in-Ok.is at (c.flush_into-due.ensures.holds events long bins seen told holds) in
-    let durable = rw c.in-Ok.is at c.flush_into-due.ensures.durable in
-    subst (λ (bytes : List ℕ). HoldsBins c.args.levels.now.settings events c.flush_into-due.new.levels.rows bytes) (sym (durable after told_after image may))
-    (subst (λ (t : Numbers). HoldsBins t events c.flush_into-due.new.levels.rows (after 2)) (ap (λ (v : OnDisk). v.settings) moved_) (held after told_after));
+      let moved_ = rw c.in-Ok.is at c.flush_into-due.ensures.flushed in
+      let held = rw c.in-Ok.is at (c.flush_into-due.ensures.holds events long bins seen told holds) in
+      let durable = rw c.in-Ok.is at c.flush_into-due.ensures.durable in
+      subst (λ (bytes : List ℕ). HoldsBins c.args.levels.now.settings events c.flush_into-due.new.levels.rows bytes) (sym (durable after told_after image may))
+      (subst (λ (t : Numbers). HoldsBins t events c.flush_into-due.new.levels.rows (after 2)) (ap (λ (v : OnDisk). v.settings) moved_) (held after told_after));
   are = λ are.
-    let moved_ = rw c.in-Ok.is at c.flush_into-due.ensures.flushed in
-    subst (λ (v : OnDisk). AreRows c.args.levels.now.settings v.rows) (sym moved_)
-    (AreRows-moved c.args.levels.now.settings c.requires.valid c.args.m c.requires.first c.requires.last c.args.levels.now.rows c.requires.rows are);
+      let moved_ = rw c.in-Ok.is at c.flush_into-due.ensures.flushed in
+      subst (λ (v : OnDisk). AreRows c.args.levels.now.settings v.rows) (sym moved_)
+      (AreRows-moved c.args.levels.now.settings c.requires.valid c.args.m c.requires.first c.requires.last c.args.levels.now.rows c.requires.rows are);
   still = λ stays.
-    absurd (flush_moves c.args.levels.now.settings c.requires.valid c.args.m (deep c.depth.result c.args.m c.settings.result.now c.args.levels.now.settings c.depth.ensures.value (c.settings.ensures ∙ c.requires.settings) c.if-depth-eq0.false) stays);
+      absurd (flush_moves c.args.levels.now.settings c.requires.valid c.args.m (deep c.depth.result c.args.m c.settings.result.now c.args.levels.now.settings c.depth.ensures.value
+      (c.settings.ensures ∙ c.requires.settings) c.if-depth-eq0.false) stays);
   rest = c.flush_into-due.ensures.rest;
   failed = λ same. absurd (let never : ⊥ = cc in never);
   never_falls = c.flush_into-due.ensures.never_falls;
@@ -128,10 +137,10 @@ returns-in-Err g c = record {
   totals = λ events long bins seen told holds. tt;
   took = tt;
   sound = λ events long bins seen told holds at same.
-    c.flush_into-due.ensures.sound events long bins seen told holds at (c.in-Err.is ∙ same);
+      c.flush_into-due.ensures.sound events long bins seen told holds at (c.in-Err.is ∙ same);
   malformed = λ seen told at same.
-    let stays = rw c.in-Err.is at c.flush_into-due.ensures.refused in
-    subst (λ (v : OnDisk). OneBreaks v.settings v.rows (seen 2) at) (sym stays) (c.flush_into-due.ensures.malformed seen told at (c.in-Err.is ∙ same));
+      let stays = rw c.in-Err.is at c.flush_into-due.ensures.refused in
+      subst (λ (v : OnDisk). OneBreaks v.settings v.rows (seen 2) at) (sym stays) (c.flush_into-due.ensures.malformed seen told at (c.in-Err.is ∙ same));
   unwritten = λ at same. c.flush_into-due.ensures.unwritten at (c.in-Err.is ∙ same);
   images = λ events long bins seen told holds each. tt;
   are = tt;

@@ -1,5 +1,5 @@
 use Rattle.std.proofs.Common.{◌≡◌}
-use Rattle.lert_program.proofs.text_sink.TextSinkSink.write.Given as goal
+use Rattle.lert_host.proofs.text_sink.TextSinkSink.write.Given as goal
 
 -- a call that is made again counts no fault
 abbrev pub invariant-loop : goal.invariant-loop

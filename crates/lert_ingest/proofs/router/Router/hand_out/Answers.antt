@@ -137,3 +137,21 @@ returns-in-Err-clause-refused g c =
     (λ n len same. let why = (c.in-Err.ensures.full n len).0 (ap Err same) in (why.1, why.2 ∙ keys_are, why.3))
     (λ same. (c.in-Err.ensures.bay_failed (ap Err same)).1)
     (λ file place same. (c.in-Err.ensures.unsound file place (ap Err same)).1)
+
+pub returns-in-Ok-clause-rings : goal.returns-in-Ok-clause-rings
+returns-in-Ok-clause-rings g c = c.take.ensures.rings
+
+pub returns-in-Ok-clause-settings : goal.returns-in-Ok-clause-settings
+returns-in-Ok-clause-settings g c = refl
+
+pub returns-in-Ok-clause-keys : goal.returns-in-Ok-clause-keys
+returns-in-Ok-clause-keys g c = refl
+
+pub returns-in-Err-clause-rings : goal.returns-in-Err-clause-rings
+returns-in-Err-clause-rings g c = c.take.ensures.rings
+
+pub returns-in-Err-clause-settings : goal.returns-in-Err-clause-settings
+returns-in-Err-clause-settings g c = refl
+
+pub returns-in-Err-clause-keys : goal.returns-in-Err-clause-keys
+returns-in-Err-clause-keys g c = refl

@@ -1,0 +1,26 @@
+use Rattle.std.proofs.Common.{◌++◌, ap, sym, ◌∙◌, subst, arith, append-nil}
+use Rattle.lert_ingest.specs.Bays.{AreLater, bays_of}
+use Rattle.lert_top.specs.Recovered.{IsUnopened}
+use Rattle.lert_ingest.proofs.ConeLaws.{cones_and_left}
+use Rattle.lert_top.proofs.reopened_cones.reopen_cones.Goals as goal
+
+pub returns-in-Ok-reopen_rooms-clause-later : goal.returns-in-Ok-reopen_rooms-clause-later
+returns-in-Ok-reopen_rooms-clause-later g c =
+    let made = bays_of c.reopen_rooms.new.cones.items in
+    subst (AreLater g.B.Bay.files g.B.Faulty.faults g.B.Faulty.mark c.args.bays.now.items) (ap (λ xs. made ++ xs) c.in-Ok-reopen_rooms.ensures.emptied ∙ append-nil made) c.reopen_rooms.ensures.later
+
+pub bring_back-requires : goal.bring_back-requires
+bring_back-requires g c =
+    omega (
+      arith,
+      c.requires.room,
+      c.reopen_rooms.ensures.room,
+      cones_and_left g.B.Bay.files g.B.Faulty.faults g.B.Faulty.mark c.args.bays.now.items c.reopen_rooms.new.cones.items c.reopen_rooms.new.bays.items c.reopen_rooms.ensures.later,
+    )
+
+pub returns-clause-kept : goal.returns-clause-kept
+returns-clause-kept g c = subst (AreLater g.B.Bay.files g.B.Faulty.faults g.B.Faulty.mark c.args.bays.now.items) (sym c.bring_back.ensures.bays) c.reopen_rooms.ensures.later
+
+pub returns-clause-unopened : goal.returns-clause-unopened
+returns-clause-unopened g c =
+    subst (λ xs. IsUnopened g.B.Bay.files g.B.Faulty.faults c.args.settings.now c.args.bays.now.items xs c.in-Err.status) (sym c.bring_back.ensures.bays) c.in-Err.ensures.unopened
