@@ -1,6 +1,8 @@
 pub mod Admits
+pub mod AdmitsPacket
 pub mod AdoptLaws
 pub mod AppendLaws
+pub mod BreaksOff
 pub mod Calls
 pub mod DueLaws
 pub mod EndCounted

@@ -7,6 +7,7 @@ pub mod History
 pub mod InStep
 pub mod Listing
 pub mod Logged
+pub mod Reads
 pub mod Record
 pub mod Replay
 pub mod Replays

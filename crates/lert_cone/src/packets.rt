@@ -3,13 +3,13 @@
 ghost use Rattle.std.specs.Prelude.{◌≡◌, ℕ, ◌+◌, ◌*◌, ◌<◌, ◌≤◌, ◌^◌, length, IfOk, IsErrOf, IsFalse, IsTrue};
 ghost use Rattle.lert_base.specs.Entries.{packet_of};
 ghost use Rattle.lert_bay.specs.Files.{Files, IfTold};
-ghost use Rattle.lert_bay.specs.Images.{KeepsImages, Lasts};
 ghost use Rattle.lert_gatelog.specs.Gated.{IsClosed, next_gate};
 ghost use Rattle.lert_io.specs.Fault.{HasRisen};
 ghost use Rattle.lert_journal.specs.Journal.{HoldsPacket};
 ghost use Rattle.lert_journal.specs.Payload.{IsJournaled, payload_of};
 ghost use Rattle.lert_spec.specs.Edges.{capacity};
 ghost use Rattle.lert_cone.specs.History.{most_payload};
+ghost use Rattle.lert_cone.specs.Reads.{OnlyReadsJournal};
 ghost use Rattle.lert_cone.specs.Replay.{MayFollow, ReplayLeavesAt};
 
 use crate::keys::keys_of;
@@ -56,16 +56,8 @@ pub fn read_packet<B: Bay, T: CountTable>(
     ensures forward { IfOk result (λ found. IsTrue found →
         (journal.old.gate < journal.new.gate) × (journal.new.gate ≤ journal.old.gate + 13 + 32 * tally.now.listing.settings.packet)) }
     ensures waits { IfOk result (λ found. IsFalse found → (journal.new ≡ journal.old) × (entry.new ≡ entry.old)) }
-    ensures file { journal.new.file ≡ journal.old.file }
-    ensures most { journal.new.most ≡ journal.old.most }
-    ensures room { entry.new.keys.room ≡ entry.old.keys.room }
-    ensures seen { B.files bay.new ≡ B.files bay.old }
-    ensures images { KeepsImages (B.leaves bay.old) (B.leaves bay.new) }
-    ensures moments { (image : Files) → B.left_since bay.new (B.moment bay.old) image → B.leaves bay.old image }
-    ensures time { Lasts (B.moment bay.old) (B.moment bay.new) (B.left_since bay.old) (B.left_since bay.new) }
-    ensures never_falls { B.faults bay.old ≤ B.faults bay.new }
     ensures failed { IsErrOf result LogFault.Failed → HasRisen (B.faults bay.old) (B.faults bay.new) }
-    ensures mark { B.mark bay.new ≡ B.mark bay.old }
+    ensures keeps { OnlyReadsJournal B.Bay bay.old bay.new journal.old journal.new entry.old.keys.room entry.new.keys.room }
 {
     let settings = tally.settings();
     let capacity = settings.capacity();

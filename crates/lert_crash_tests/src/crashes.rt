@@ -98,7 +98,7 @@ fn stopped(rt: &impl Abort, alloc: Global, keys: &[u64], call: u64) -> Result<Op
     }))
 }
 
-// Opens what a crash leaves, which has the packets that were taken or one more, and goes on to the end.
+// Opens what a crash leaves, and goes on to the end.
 fn go_on(
     rt: &impl Abort,
     alloc: Global,
@@ -111,21 +111,39 @@ fn go_on(
     let Ok(mut cone) = reopen(room, 0, image) else {
         return Err(Fail::new("what a crash leaves is sound"));
     };
+    // The cone is lent, so that no later exit has to let it go.
+    check_rest(rt, alloc, &mut cone, keys, taken, reports)
+}
+
+// Goes on with a cone to the end, which has the packets that were taken or one more.
+fn check_rest(
+    rt: &impl Abort,
+    alloc: Global,
+    cone: &mut Cone<MemBay, PlainTable>,
+    keys: &[u64],
+    taken: usize,
+    reports: &[Report],
+) -> Result<(), Fail>
+    requires settings { cone.old.listing.settings ≡ SMALL }
+    requires cone { cone.old.listing.cone ≡ 0 }
+{
     let packets = cone.events() as usize / PACKET;
     assert_eq!(rt; cone.events() as usize % PACKET, 0);
     assert!(rt; taken <= packets);
     assert!(rt; packets - taken <= 1);
     if cone.state() == ConeState::Running {
-        assert_eq!(rt;
-            give(rt, alloc, &mut cone, keys, packets)?,
-            keys.len() / PACKET
-        );
+        assert_eq!(rt; give(rt, alloc, cone, keys, packets)?, keys.len() / PACKET);
         assert!(rt; cone.finish().is_ok());
     }
+    check_end(rt, cone, keys, reports);
+    Ok(())
+}
+
+// Wants a finished cone with these keys and reports.
+fn check_end(rt: &impl Abort, cone: &Cone<MemBay, PlainTable>, keys: &[u64], reports: &[Report]) {
     assert_eq!(rt; cone.state(), ConeState::Finished);
     assert_eq!(rt; cone.events() as usize, keys.len());
     assert_eq!(rt; cone.reports().list(), reports);
-    Ok(())
 }
 
 // Keys 1 to `last` of which those at these positions are 7, and each other is a key of its own.

@@ -24,12 +24,12 @@ fn main(rt: HostRuntime) -> ExitCode {
         Err(WordsFault::NotText) => Status::Usage { rule: 0 },
         Err(WordsFault::OutOfMemory) => Status::OutOfMemory,
     };
-    print_line(&rt, status);
+    print_line(&mut rt.stderr(), status);
     ExitCode::from(status.number())
 }
 
 // Prints the line of a status on standard error. `Done` has none.
-fn print_line(rt: &HostRuntime, status: Status) {
+fn print_line<W: Write>(errors: &mut W, status: Status) {
     let number = status.number();
     if number == 0 {
         return;
@@ -38,5 +38,5 @@ fn print_line(rt: &HostRuntime, status: Status) {
     let mut line = [0; LINE];
     let len = status_line(number, a, b, d, &mut line);
     // The exit status tells it too, where standard error is closed.
-    let _ = rt.stderr().write_all(&line[..len]);
+    let _ = errors.write_all(&line[..len]);
 }

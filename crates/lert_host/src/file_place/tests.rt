@@ -2,8 +2,8 @@
 
 use super::*;
 use lert_bay::{Bay, FRAMES, JOURNAL, LOG};
-use std::os::unix::fs::symlink;
 use lert_io::Source;
+use std::os::unix::fs::symlink;
 use std::process::Abort;
 use std::test::Fail;
 
@@ -119,7 +119,10 @@ fn a_trace_longer_than_a_block_is_read_to_its_end(rt: HostRuntime) -> Result<(),
     }
     fs::write(&rt, "trace_long/trace", bytes.as_slice())?;
     let mut trace = FilePlace::new(&rt).open_trace("trace_long/trace")?;
-    assert_eq!(rt; bytes_of(rt.alloc(), &mut trace)?.as_slice(), bytes.as_slice());
+    assert_eq!(rt;
+        bytes_of(rt.alloc(), &mut trace)?.as_slice(),
+        bytes.as_slice()
+    );
     fs::remove_dir_all(&rt, "trace_long")?;
     Ok(())
 }

@@ -12,7 +12,9 @@ use Rattle.lert_cone.specs.Bays.{Bays}
 use Rattle.lert_cone.specs.Listing.{Listing}
 use Rattle.lert_cone.specs.InStep.{IsLogging}
 use Rattle.lert_cone.specs.Stands.{Standing, over_of, is_broken, is_finished, cone_fault}
-use Rattle.lert_cone.proofs.Admits.{Admits, not_admitted, broken_off, admitted}
+use Rattle.lert_cone.proofs.Admits.{Admits, not_admitted}
+use Rattle.lert_cone.proofs.AdmitsPacket.{admitted}
+use Rattle.lert_cone.proofs.BreaksOff.{broken_off}
 use Rattle.lert_cone.proofs.Calls.{IsLawful}
 use Rattle.lert_cone.proofs.StandLaws.{broken_cone, more_cone}
 use Rattle.lert_cone.proofs.FaultLaws.{is_broken_by, not_replaying_by, by_bay_of}

@@ -47,7 +47,7 @@ replay_keys-requires g c =
       can_log = record {
         logging = subst (λ n. IsLogging c.self.inside.tally c.self.inside.log n) (sym room) was.logging;
         log_shut = read_shut 1 c.self.inside.log.gate (g.B.Bay.files c.self.inside.bay) (g.B.Bay.files c.read_packet.new.bay) (g.B.Bay.leaves c.self.inside.bay) (g.B.Bay.leaves c.read_packet.new.bay)
-            c.read_packet.ensures.seen c.read_packet.ensures.images was.log_shut;
+            c.read_packet.ensures.keeps.seen c.read_packet.ensures.keeps.images was.log_shut;
       };
     }
 
@@ -69,14 +69,14 @@ invariant_of-self g c =
       last = c.self.inside.last;
     }) _ c.self.inside.tally c.replay_keys.new.tally c.self.inside.journal c.read_packet.new.journal _ _ _ _
     (ap is_broken c.broken_by-self-inside.ensures ∙ is_broken_by c.in-Err-replay_keys.fault) (λ same. not_replaying_by c.in-Err-replay_keys.fault (sym c.broken_by-self-inside.ensures ∙ same))
-    (ap (λ (l : Listing). l.settings) c.replay_keys.ensures.listing) refl refl ((c.read_packet.ensures.file ∙ ap (λ (j : Log). j.file) c.at_gate-self-inside.ensures) ∙ sym c.self.invariant.file)
-    ((c.read_packet.ensures.most ∙ ap (λ (j : Log). j.most) c.at_gate-self-inside.ensures ∙ c.greatest_payload-most.ensures.value ∙ ap most_payload c.settings.ensures)
+    (ap (λ (l : Listing). l.settings) c.replay_keys.ensures.listing) refl refl ((c.read_packet.ensures.keeps.file ∙ ap (λ (j : Log). j.file) c.at_gate-self-inside.ensures) ∙ sym c.self.invariant.file)
+    ((c.read_packet.ensures.keeps.most ∙ ap (λ (j : Log). j.most) c.at_gate-self-inside.ensures ∙ c.greatest_payload-most.ensures.value ∙ ap most_payload c.settings.ensures)
     ∙ sym c.self.invariant.most) (sym (length_refill c.self.inside.buffer.len (take c.self.inside.buffer.len (c.read_packet.new.buffer ++ drop
     (length c.read_packet.new.buffer) c.self.inside.buffer.items)) c.replay_keys.new.buffer (length_refill c.self.inside.buffer.len c.self.inside.buffer.items c.read_packet.new.buffer len_is))
-    ∙ len_is) c.read_packet.ensures.room
-    (omega (arith, c.read_packet.ensures.never_falls, c.replay_keys.ensures.keeps.never_falls))
+    ∙ len_is) c.read_packet.ensures.keeps.roomy
+    (omega (arith, c.read_packet.ensures.keeps.never_falls, c.replay_keys.ensures.keeps.never_falls))
     (λ same. risen_since (g.B.Faulty.faults c.self.inside.made.value) (g.B.Faulty.faults c.read_packet.new.bay) (g.B.Faulty.faults c.replay_keys.new.bay)
-    (omega (arith, c.self.invariant.never_falls, c.read_packet.ensures.never_falls)) c.replay_keys.ensures.keeps.never_falls (c.replay_keys.ensures.keeps.failed (c.in-Err-replay_keys.is ∙ ap Err
+    (omega (arith, c.self.invariant.never_falls, c.read_packet.ensures.keeps.never_falls)) c.replay_keys.ensures.keeps.never_falls (c.replay_keys.ensures.keeps.failed (c.in-Err-replay_keys.is ∙ ap Err
     (by_bay_of c.in-Err-replay_keys.fault (sym c.broken_by-self-inside.ensures ∙ same)))))
     c.self.invariant
 
@@ -127,8 +127,8 @@ returns-in-Err-replay_keys-clause-replays g c =
     let on_way = way.on_way seen told in
     let read = g.met.B.Bay.as_read c.self.inside.bay seen told in
     let on_read = on_way_read (g.B.Bay.leaves c.self.inside.bay) seen h c.self.inside.tally.listing c.self.inside.tally.rows c.self.inside.tally.due.reports c.self.inside.log
-    c.self.inside.last.n0 on_way (g.B.Bay.leaves c.read_packet.new.bay) (λ image may. (c.read_packet.ensures.images image).0 may) in
-    let told_read : (g.B.Bay.files c.read_packet.new.bay) ≡ Some seen = c.read_packet.ensures.seen ∙ told in
+    c.self.inside.last.n0 on_way (g.B.Bay.leaves c.read_packet.new.bay) (λ image may. (c.read_packet.ensures.keeps.images image).0 may) in
+    let told_read : (g.B.Bay.files c.read_packet.new.bay) ≡ Some seen = c.read_packet.ensures.keeps.seen ∙ told in
     let next = next_there (g.B.Bay.leaves c.self.inside.bay) seen h done c.self.inside.tally.listing c.self.inside.tally.rows c.self.inside.tally.due.reports c.self.inside.log
     c.self.inside.last.n0 c.args.gate (packet_of c.read_packet.new.entry) on_way read past (subst (λ g. HoldsPacket c.self.inside.tally.listing.settings c.self.inside.tally.listing.cone
     (most_payload c.self.inside.tally.listing.settings) (seen 0) g (packet_of c.read_packet.new.entry)) gate_is (c.in-Ok-true.ensures.found seen told yes)) in
@@ -143,12 +143,12 @@ returns-in-Err-replay_keys-clause-journal g c = rw (← c.self.view_is) (leaves_
     (g.B.Bay.moment c.replay_keys.new.bay) (g.B.Bay.left_since c.self.inside.bay) (g.B.Bay.left_since c.read_packet.new.bay) (g.B.Bay.left_since c.replay_keys.new.bay) (leaves_read 0
     (g.B.Bay.files c.self.inside.bay) (g.B.Bay.files c.read_packet.new.bay) (g.B.Bay.leaves c.self.inside.bay) (g.B.Bay.leaves c.read_packet.new.bay) (g.B.Bay.moment c.self.inside.bay)
     (g.B.Bay.moment c.read_packet.new.bay) (g.B.Bay.left_since c.self.inside.bay) (g.B.Bay.left_since c.read_packet.new.bay) (record {
-      seen = c.read_packet.ensures.seen;
-      images = c.read_packet.ensures.images;
-      moments = c.read_packet.ensures.moments;
-      time = c.read_packet.ensures.time;
+      seen = c.read_packet.ensures.keeps.seen;
+      images = c.read_packet.ensures.keeps.images;
+      moments = c.read_packet.ensures.keeps.moments;
+      time = c.read_packet.ensures.keeps.time;
     }) (λ image may. g.met.B.Bay.since_earlier c.read_packet.new.bay
-    (g.B.Bay.moment c.self.inside.bay) (g.B.Bay.moment c.read_packet.new.bay) image c.read_packet.ensures.time.later (g.met.B.Bay.since_now c.read_packet.new.bay image may)))
+    (g.B.Bay.moment c.self.inside.bay) (g.B.Bay.moment c.read_packet.new.bay) image c.read_packet.ensures.keeps.time.later (g.met.B.Bay.since_now c.read_packet.new.bay image may)))
     c.replay_keys.ensures.keeps.journal (g.met.B.Bay.since_earlier c.replay_keys.new.bay))
 
 -- the packet is taken
@@ -183,14 +183,14 @@ invariant_of-self-in-Ok-true g c =
     lent ∙ ap (length {A = ℕ}) c.deref_mut-in-Ok-true.ensures.value ∙ (sym (length_refill c.self.inside.buffer.len c.self.inside.buffer.items c.read_packet.new.buffer len_is) ∙ len_is) ∙ sym (sym
     (length_refill c.self.inside.buffer.len (take c.self.inside.buffer.len (c.read_packet.new.buffer ++ drop (length c.read_packet.new.buffer) c.self.inside.buffer.items))
     c.replay_keys.new.buffer (length_refill c.self.inside.buffer.len c.self.inside.buffer.items c.read_packet.new.buffer len_is)) ∙ len_is) in
-    replaying_cone g.B.Bay.files g.B.Bay.leaves g.B.Faulty.faults _ _ _ _ _ replaying (c.read_packet.ensures.file ∙ ap (λ (j : Log). j.file) c.at_gate-self-inside.ensures)
-    ((c.read_packet.ensures.most ∙ ap (λ (j : Log). j.most) c.at_gate-self-inside.ensures ∙ c.greatest_payload-most.ensures.value ∙ ap most_payload c.settings.ensures) ∙ ap most_payload
+    replaying_cone g.B.Bay.files g.B.Bay.leaves g.B.Faulty.faults _ _ _ _ _ replaying (c.read_packet.ensures.keeps.file ∙ ap (λ (j : Log). j.file) c.at_gate-self-inside.ensures)
+    ((c.read_packet.ensures.keeps.most ∙ ap (λ (j : Log). j.most) c.at_gate-self-inside.ensures ∙ c.greatest_payload-most.ensures.value ∙ ap most_payload c.settings.ensures) ∙ ap most_payload
     (sym settings_are)) ((sym (length_refill c.self.inside.buffer.len (take c.self.inside.buffer.len (c.read_packet.new.buffer ++ drop
     (length c.read_packet.new.buffer) c.self.inside.buffer.items)) c.replay_keys.new.buffer (length_refill c.self.inside.buffer.len c.self.inside.buffer.items c.read_packet.new.buffer len_is))
     ∙ len_is) ∙ c.self.invariant.roomy ∙ ap room_of (sym settings_are))
-    (c.read_packet.ensures.room ∙ c.self.invariant.keys_roomy ∙ ap (λ (s : Numbers). 4 * s.packet) (sym settings_are)) (omega
+    (c.read_packet.ensures.keeps.roomy ∙ c.self.invariant.keys_roomy ∙ ap (λ (s : Numbers). 4 * s.packet) (sym settings_are)) (omega
     (arith, c.in_default.ensures.recounted.fits, c.len-self-inside.ensures)) c.in_default.ensures.recounted.valid
-    (omega (arith, c.self.invariant.never_falls, c.read_packet.ensures.never_falls, c.replay_keys.ensures.keeps.never_falls))
+    (omega (arith, c.self.invariant.never_falls, c.read_packet.ensures.keeps.never_falls, c.replay_keys.ensures.keeps.never_falls))
     (record {
       none_over = was.none_over;
       counted = sym c.len-self-inside.ensures;
@@ -200,7 +200,7 @@ invariant_of-self-in-Ok-true g c =
       journal_settled = settled_then 0 (g.B.Bay.files c.read_packet.new.bay) (g.B.Bay.files c.replay_keys.new.bay) (g.B.Bay.leaves c.read_packet.new.bay) (g.B.Bay.leaves c.replay_keys.new.bay)
           (g.B.Bay.moment c.read_packet.new.bay) (g.B.Bay.moment c.replay_keys.new.bay) (g.B.Bay.left_since c.read_packet.new.bay)
           (g.B.Bay.left_since c.replay_keys.new.bay) c.replay_keys.ensures.keeps.journal (read_settled 0 (g.B.Bay.files c.self.inside.bay) (g.B.Bay.files c.read_packet.new.bay)
-          (g.B.Bay.leaves c.self.inside.bay) (g.B.Bay.leaves c.read_packet.new.bay) c.read_packet.ensures.seen c.read_packet.ensures.images was.journal_settled);
+          (g.B.Bay.leaves c.self.inside.bay) (g.B.Bay.leaves c.read_packet.new.bay) c.read_packet.ensures.keeps.seen c.read_packet.ensures.keeps.images was.journal_settled);
       logging = subst (λ n. IsLogging c.replay_keys.new.tally c.replay_keys.new.log n) long c.in_default.ensures.can_log.logging;
       log_shut = c.in_default.ensures.can_log.log_shut;
     })
@@ -267,8 +267,8 @@ returns-in_default-clause-replays g c =
     let on_way = way.on_way seen told in
     let read = g.met.B.Bay.as_read c.self.inside.bay seen told in
     let on_read = on_way_read (g.B.Bay.leaves c.self.inside.bay) seen h c.self.inside.tally.listing c.self.inside.tally.rows c.self.inside.tally.due.reports c.self.inside.log
-    c.self.inside.last.n0 on_way (g.B.Bay.leaves c.read_packet.new.bay) (λ image may. (c.read_packet.ensures.images image).0 may) in
-    let told_read : (g.B.Bay.files c.read_packet.new.bay) ≡ Some seen = c.read_packet.ensures.seen ∙ told in
+    c.self.inside.last.n0 on_way (g.B.Bay.leaves c.read_packet.new.bay) (λ image may. (c.read_packet.ensures.keeps.images image).0 may) in
+    let told_read : (g.B.Bay.files c.read_packet.new.bay) ≡ Some seen = c.read_packet.ensures.keeps.seen ∙ told in
     let next = next_there (g.B.Bay.leaves c.self.inside.bay) seen h done c.self.inside.tally.listing c.self.inside.tally.rows c.self.inside.tally.due.reports c.self.inside.log
     c.self.inside.last.n0 c.args.gate (packet_of c.read_packet.new.entry) on_way read past (subst (λ g. HoldsPacket c.self.inside.tally.listing.settings c.self.inside.tally.listing.cone
     (most_payload c.self.inside.tally.listing.settings) (seen 0) g (packet_of c.read_packet.new.entry)) gate_is (c.in-Ok-true.ensures.found seen told yes)) in
@@ -290,12 +290,12 @@ returns-in_default-clause-journal g c = rw (← c.self.view_is) (leaves_on 0 (g.
     (g.B.Bay.moment c.replay_keys.new.bay) (g.B.Bay.left_since c.self.inside.bay) (g.B.Bay.left_since c.read_packet.new.bay) (g.B.Bay.left_since c.replay_keys.new.bay) (leaves_read 0
     (g.B.Bay.files c.self.inside.bay) (g.B.Bay.files c.read_packet.new.bay) (g.B.Bay.leaves c.self.inside.bay) (g.B.Bay.leaves c.read_packet.new.bay) (g.B.Bay.moment c.self.inside.bay)
     (g.B.Bay.moment c.read_packet.new.bay) (g.B.Bay.left_since c.self.inside.bay) (g.B.Bay.left_since c.read_packet.new.bay) (record {
-      seen = c.read_packet.ensures.seen;
-      images = c.read_packet.ensures.images;
-      moments = c.read_packet.ensures.moments;
-      time = c.read_packet.ensures.time;
+      seen = c.read_packet.ensures.keeps.seen;
+      images = c.read_packet.ensures.keeps.images;
+      moments = c.read_packet.ensures.keeps.moments;
+      time = c.read_packet.ensures.keeps.time;
     }) (λ image may. g.met.B.Bay.since_earlier c.read_packet.new.bay
-    (g.B.Bay.moment c.self.inside.bay) (g.B.Bay.moment c.read_packet.new.bay) image c.read_packet.ensures.time.later (g.met.B.Bay.since_now c.read_packet.new.bay image may)))
+    (g.B.Bay.moment c.self.inside.bay) (g.B.Bay.moment c.read_packet.new.bay) image c.read_packet.ensures.keeps.time.later (g.met.B.Bay.since_now c.read_packet.new.bay image may)))
     c.replay_keys.ensures.keeps.journal (g.met.B.Bay.since_earlier c.replay_keys.new.bay))
 
 -- a closed gate
@@ -309,11 +309,11 @@ invariant_of-self-in-Ok-false g c =
     let gate_at : c.read_packet.new.journal.gate ≡ c.args.gate = ap (λ (j : Log). j.gate) (c.in-Ok-false.ensures.waits no_packet).0 ∙ gate_is in
     let long : length c.self.inside.buffer.items ≡ length (take c.self.inside.buffer.len (c.read_packet.new.buffer ++ drop (length c.read_packet.new.buffer) c.self.inside.buffer.items)) = sym (sym
     (length_refill c.self.inside.buffer.len c.self.inside.buffer.items c.read_packet.new.buffer len_is) ∙ len_is) in
-    replaying_cone g.B.Bay.files g.B.Bay.leaves g.B.Faulty.faults _ _ _ _ _ replaying (c.read_packet.ensures.file ∙ ap (λ (j : Log). j.file) c.at_gate-self-inside.ensures)
-    (c.read_packet.ensures.most ∙ ap (λ (j : Log). j.most) c.at_gate-self-inside.ensures ∙ c.greatest_payload-most.ensures.value ∙ ap most_payload c.settings.ensures) ((sym
-    (length_refill c.self.inside.buffer.len c.self.inside.buffer.items c.read_packet.new.buffer len_is) ∙ len_is) ∙ c.self.invariant.roomy) (c.read_packet.ensures.room
+    replaying_cone g.B.Bay.files g.B.Bay.leaves g.B.Faulty.faults _ _ _ _ _ replaying (c.read_packet.ensures.keeps.file ∙ ap (λ (j : Log). j.file) c.at_gate-self-inside.ensures)
+    (c.read_packet.ensures.keeps.most ∙ ap (λ (j : Log). j.most) c.at_gate-self-inside.ensures ∙ c.greatest_payload-most.ensures.value ∙ ap most_payload c.settings.ensures) ((sym
+    (length_refill c.self.inside.buffer.len c.self.inside.buffer.items c.read_packet.new.buffer len_is) ∙ len_is) ∙ c.self.invariant.roomy) (c.read_packet.ensures.keeps.roomy
     ∙ c.self.invariant.keys_roomy) c.self.invariant.within c.self.invariant.valid
-    (omega (arith, c.self.invariant.never_falls, c.read_packet.ensures.never_falls))
+    (omega (arith, c.self.invariant.never_falls, c.read_packet.ensures.keeps.never_falls))
     (record {
       none_over = was.none_over;
       counted = was.counted;
@@ -321,10 +321,10 @@ invariant_of-self-in-Ok-false g c =
       closed = was.closed;
       near = omega (arith, gate_at, c.requires.reach);
       journal_settled = read_settled 0 (g.B.Bay.files c.self.inside.bay) (g.B.Bay.files c.read_packet.new.bay) (g.B.Bay.leaves c.self.inside.bay)
-          (g.B.Bay.leaves c.read_packet.new.bay) c.read_packet.ensures.seen c.read_packet.ensures.images was.journal_settled;
+          (g.B.Bay.leaves c.read_packet.new.bay) c.read_packet.ensures.keeps.seen c.read_packet.ensures.keeps.images was.journal_settled;
       logging = subst (λ n. IsLogging c.self.inside.tally c.self.inside.log n) long was.logging;
       log_shut = read_shut 1 c.self.inside.log.gate (g.B.Bay.files c.self.inside.bay) (g.B.Bay.files c.read_packet.new.bay) (g.B.Bay.leaves c.self.inside.bay)
-          (g.B.Bay.leaves c.read_packet.new.bay) c.read_packet.ensures.seen c.read_packet.ensures.images was.log_shut;
+          (g.B.Bay.leaves c.read_packet.new.bay) c.read_packet.ensures.keeps.seen c.read_packet.ensures.keeps.images was.log_shut;
     })
 
 pub returns-in-Ok-false-clause-ended : goal.returns-in-Ok-false-clause-ended
@@ -335,14 +335,14 @@ returns-in-Ok-false-clause-ended g c =
     let no_packet : IsFalse c.in-Ok-false.field-0 = c.in-Ok-false.field-0-test in
     let gate_at : c.read_packet.new.journal.gate ≡ c.args.gate = ap (λ (j : Log). j.gate) (c.in-Ok-false.ensures.waits no_packet).0 ∙ gate_is in
     let settled = read_settled 0 (g.B.Bay.files c.self.inside.bay) (g.B.Bay.files c.read_packet.new.bay) (g.B.Bay.leaves c.self.inside.bay)
-    (g.B.Bay.leaves c.read_packet.new.bay) c.read_packet.ensures.seen c.read_packet.ensures.images was.journal_settled in
+    (g.B.Bay.leaves c.read_packet.new.bay) c.read_packet.ensures.keeps.seen c.read_packet.ensures.keeps.images was.journal_settled in
     rw (← c.self.view_is) (record {
       enough = c.in-Ok-false.ensures.enough no_packet;
       stands = λ seen told. subst (IsClosed (seen 0)) gate_is (c.in-Ok-false.ensures.closed seen told no_packet);
       shut = shut_there 0 c.args.gate (g.B.Bay.files c.read_packet.new.bay) (g.B.Bay.leaves c.read_packet.new.bay) settled (λ seen told. subst (IsClosed (seen 0)) gate_is
-          (c.in-Ok-false.ensures.closed seen (sym c.read_packet.ensures.seen ∙ told) no_packet));
-      seen = c.read_packet.ensures.seen;
-      images = c.read_packet.ensures.images;
+          (c.in-Ok-false.ensures.closed seen (sym c.read_packet.ensures.keeps.seen ∙ told) no_packet));
+      seen = c.read_packet.ensures.keeps.seen;
+      images = c.read_packet.ensures.keeps.images;
       is = λ i. record {
         bay = c.read_packet.new.bay;
         made = c.self.inside.made.value;
@@ -369,8 +369,8 @@ returns-in-Ok-false-clause-replays g c =
     let on_way = way.on_way seen told in
     let read = g.met.B.Bay.as_read c.self.inside.bay seen told in
     let on_read = on_way_read (g.B.Bay.leaves c.self.inside.bay) seen h c.self.inside.tally.listing c.self.inside.tally.rows c.self.inside.tally.due.reports c.self.inside.log
-    c.self.inside.last.n0 on_way (g.B.Bay.leaves c.read_packet.new.bay) (λ image may. (c.read_packet.ensures.images image).0 may) in
-    let told_read : (g.B.Bay.files c.read_packet.new.bay) ≡ Some seen = c.read_packet.ensures.seen ∙ told in
+    c.self.inside.last.n0 on_way (g.B.Bay.leaves c.read_packet.new.bay) (λ image may. (c.read_packet.ensures.keeps.images image).0 may) in
+    let told_read : (g.B.Bay.files c.read_packet.new.bay) ≡ Some seen = c.read_packet.ensures.keeps.seen ∙ told in
     let closed = subst (IsClosed (seen 0)) gate_is (c.in-Ok-false.ensures.closed seen told no_packet) in (
       ends_there c.self.inside.tally.listing.settings c.self.inside.tally.listing.cone (seen 0) h done c.self.inside.tally.listing.events c.args.gate (journal_on_way
           (g.B.Bay.leaves c.self.inside.bay) seen h c.self.inside.tally.listing c.self.inside.tally.rows c.self.inside.tally.due.reports c.self.inside.log c.self.inside.last.n0 on_way read) past
@@ -450,7 +450,7 @@ pub returns-in-Err-replay_keys-clause-whole : goal.returns-in-Err-replay_keys-cl
 returns-in-Err-replay_keys-clause-whole g c = rw (← c.self.view_is) (λ seen told some at same.
     let answer : c.from.result ≡ Unsound 2 at = cc in
     let fault_is = unsound_keys c.in-Err-replay_keys.fault 2 at (sym c.from.ensures ∙ answer) in
-    c.replay_keys.ensures.whole seen (c.read_packet.ensures.seen ∙ told) some at (c.in-Err-replay_keys.is ∙ ap Err fault_is))
+    c.replay_keys.ensures.whole seen (c.read_packet.ensures.keeps.seen ∙ told) some at (c.in-Err-replay_keys.is ∙ ap Err fault_is))
 
 pub returns-in-Err-clause-whole : goal.returns-in-Err-clause-whole
 returns-in-Err-clause-whole g c = λ seen told some at same.
@@ -458,9 +458,9 @@ returns-in-Err-clause-whole g c = λ seen told some at same.
     never_unsound c.in-Err.fault 2 at (sym c.from-fault.ensures ∙ answer))
 
 pub returns-in_default-clause-framed : goal.returns-in_default-clause-framed
-returns-in_default-clause-framed g c = rw (← c.self.view_is) (λ seen told some. c.in_default.ensures.framed seen (c.read_packet.ensures.seen ∙ told) some)
+returns-in_default-clause-framed g c = rw (← c.self.view_is) (λ seen told some. c.in_default.ensures.framed seen (c.read_packet.ensures.keeps.seen ∙ told) some)
 
 pub returns-in-Ok-false-clause-framed : goal.returns-in-Ok-false-clause-framed
 returns-in-Ok-false-clause-framed g c = rw (← c.self.view_is) (λ seen told some after told_after.
     subst (λ (files : Files). HoldsSome c.self.inside.tally.listing.settings (max c.self.inside.last.n0 (length c.self.inside.tally.listing.events)) c.self.inside.tally.rows (files 2))
-    (told_once (g.B.Bay.files c.self.inside.bay) seen after told (sym c.read_packet.ensures.seen ∙ told_after)) some)
+    (told_once (g.B.Bay.files c.self.inside.bay) seen after told (sym c.read_packet.ensures.keeps.seen ∙ told_after)) some)

@@ -1,0 +1,295 @@
+-- What a cone answers to a packet that it takes.
+use Rattle.std.proofs.Common.{◌≡◌, ◌≢◌, ℕ, ◌+◌, ◌<◌, ◌≤◌, true, false, List, [], ◌∷◌, ◌++◌, length, Option, Ok, refl, sym, ap, ◌∙◌, subst, arith}
+use Rattle.std.proofs.lemmas.Bool.{false≢true}
+use Rattle.lert_base.specs.Packet.{Packet, events_of}
+use Rattle.lert_bay.specs.Files.{IfTold}
+use Rattle.lert_gatelog.specs.Gated.{Log, next_gate}
+use Rattle.lert_journal.specs.Payload.{payload_of}
+use Rattle.lert_spec.specs.declared.numbers.Numbers.{Numbers}
+use Rattle.lert_spec.specs.Edges.{capacity}
+use Rattle.lert_spec.specs.Look.{look}
+use Rattle.lert_spec.specs.Timely.{IsTimelySoFar}
+use Rattle.lert_reports.specs.declared.log_point.LogPoint.{LogPoint}
+use Rattle.lert_cone.specs.declared.state.ConeState.{ConeState}
+use Rattle.lert_cone.specs.declared.state.ConeState.TheVariants.{Running}
+use Rattle.lert_cone.specs.Bays.{Bays}
+use Rattle.lert_cone.specs.Listing.{Listing}
+use Rattle.lert_cone.specs.Record.{LogPlace}
+use Rattle.lert_cone.specs.Sound.{IsSound}
+use Rattle.lert_cone.specs.Stands.{Standing, StandsFor, WasSound, IsSameCone, is_broken, is_finished}
+use Rattle.lert_cone.specs.Takes.{TakesPacket}
+use Rattle.lert_cone.specs.Tally.{Tallied}
+use Rattle.lert_cone.specs.Wrote.{Anything}
+use Rattle.lert_cone.proofs.Calls.{IsLawful}
+use Rattle.lert_cone.proofs.SoundLaws.{turns_back, counted_more, end_more}
+use Rattle.lert_cone.proofs.AppendLaws.{whole_of, some_more, keys_more}
+use Rattle.lert_cone.proofs.StandLaws.{stands_whole, reports_running}
+use Rattle.lert_cone.proofs.TimeLaws.{timely_so_far}
+use Rattle.lert_cone.proofs.Admits.{Admits}
+
+module _ {B : Type 0} (bays : Bays B) (lawful : IsLawful bays) (packet : Packet) where
+  module _ (bay made bay_after : B) (tally after : Tallied) (events room room_after : ℕ) (state : ConeState) (over : Option Packet) (journal journal_after : Log) (log log_after : LogPlace)
+      (last : LogPoint)
+      (running : state ≡ Running) (within : events + length packet.keys ≤ capacity tally.listing.settings) where
+    -- with all its keys
+    module _ (events_after reports : ℕ) (events_are : events_after ≡ events + length packet.keys) (some : 0 < length packet.keys) (still : tally.listing.closed ≡ false)
+        (reports_are : reports ≡ length after.due.reports) (did : TakesPacket bays packet (record { bay = bay; counts = tally; log = log; room = room }) (record {
+          bay = bay_after;
+          counts = after;
+          log = log_after;
+          room = room_after;
+        }) journal journal_after (Ok tt)) where
+      is : after.listing ≡ record tally.listing { events = tally.listing.events ++ packet.keys }
+      is = did.listing ∙ ap (λ (keys : List ℕ). record { settings = tally.listing.settings; cone = tally.listing.cone; events = keys; closed = tally.listing.closed }) did.taken
+
+      same : IsSameCone (record {
+        bay = bay;
+        made = made;
+        listing = tally.listing;
+        rows = tally.rows;
+        reports = tally.due.reports;
+        events = events;
+        state = state;
+        over = over;
+        gate = journal.gate;
+        log = log;
+        last = last;
+      })
+          (record {
+            bay = bay_after;
+            made = made;
+            listing = after.listing;
+            rows = after.rows;
+            reports = after.due.reports;
+            events = events_after;
+            state = state;
+            over = over;
+            gate = journal_after.gate;
+            log = log_after;
+            last = last;
+          })
+      same = record { settings = ap (λ (l : Listing). l.settings) is; cone = ap (λ (l : Listing). l.cone) is; made = refl; last = refl }
+
+      stands_then : (h : List Packet) → StandsFor bays.files bays.leaves bays.faults (record {
+        bay = bay;
+        made = made;
+        listing = tally.listing;
+        rows = tally.rows;
+        reports = tally.due.reports;
+        events = events;
+        state = state;
+        over = over;
+        gate = journal.gate;
+        log = log;
+        last = last;
+      }) h →
+          StandsFor bays.files bays.leaves bays.faults (record {
+            bay = bay_after;
+            made = made;
+            listing = after.listing;
+            rows = after.rows;
+            reports = after.due.reports;
+            events = events_after;
+            state = state;
+            over = over;
+            gate = journal_after.gate;
+            log = log_after;
+            last = last;
+          }) (h ++ packet ∷ [])
+      stands_then h stands =
+          stands_whole bays.files bays.leaves bays.faults (record {
+            bay = bay;
+            made = made;
+            listing = tally.listing;
+            rows = tally.rows;
+            reports = tally.due.reports;
+            events = events;
+            state = state;
+            over = over;
+            gate = journal.gate;
+            log = log;
+            last = last;
+          })
+          (record {
+            bay = bay_after;
+            made = made;
+            listing = after.listing;
+            rows = after.rows;
+            reports = after.due.reports;
+            events = events_after;
+            state = state;
+            over = over;
+            gate = journal_after.gate;
+            log = log_after;
+            last = last;
+          }) h (h ++ packet ∷ []) same
+          (ap is_broken running) (stands.none_over (ap is_broken running)) (some_more h packet stands.some some) (omega (arith, counted_more h packet, stands.counted, events_are)) (omega
+          (arith, events_are, within))
+          (λ sound seen told.
+          let was = turns_back Anything (bays.files bay) (bays.files bay_after) did.seen seen told in
+          let whole = stands.whole (ap is_broken running) sound was.0 was.1 in
+          whole_of (bays.leaves bay_after) seen (h ++ packet ∷ []) after journal_after.gate log_after did.counted (did.in_step was.0 was.1 h whole seen told) (lawful.as_read bay_after seen told)
+          (ap (λ (l : Listing). l.events) is ∙ keys_more h packet tally.listing.events whole.keys)
+          (ap (λ (j : Log). j.gate) did.moved ∙ (ap (λ g. next_gate g (payload_of packet)) whole.gate_is ∙ end_more h packet)))
+          stands
+
+      new_is : ◌≡◌ {A = Standing B} (record {
+        bay = bay_after;
+        made = made;
+        listing = after.listing;
+        rows = after.rows;
+        reports = after.due.reports;
+        events = events_after;
+        state = state;
+        over = over;
+        gate = journal_after.gate;
+        log = log_after;
+        last = last;
+      })
+          (record {
+            bay = bay_after;
+            made = made;
+            listing = record tally.listing { events = tally.listing.events ++ packet.keys };
+            rows = after.rows;
+            reports = after.due.reports;
+            events = events + length packet.keys;
+            state = state;
+            over = over;
+            gate = next_gate journal.gate (payload_of packet);
+            log = log_after;
+            last = last;
+          })
+      new_is i = record {
+        bay = bay_after;
+        made = made;
+        listing = is i;
+        rows = after.rows;
+        reports = after.due.reports;
+        events = events_are i;
+        state = state;
+        over = over;
+        gate = (ap (λ
+            (j : Log). j.gate) did.moved) i;
+        log = log_after;
+        last = last;
+      }
+
+      timely_then : (h : List Packet) → StandsFor bays.files bays.leaves bays.faults (record {
+        bay = bay;
+        made = made;
+        listing = tally.listing;
+        rows = tally.rows;
+        reports = tally.due.reports;
+        events = events;
+        state = state;
+        over = over;
+        gate = journal.gate;
+        log = log;
+        last = last;
+      }) h →
+          WasSound bays.files (record {
+            bay = bay;
+            made = made;
+            listing = tally.listing;
+            rows = tally.rows;
+            reports = tally.due.reports;
+            events = events;
+            state = state;
+            over = over;
+            gate = journal.gate;
+            log = log;
+            last = last;
+          }) →
+          IfTold (bays.files bay) (λ _. IsTimelySoFar tally.listing.settings.threshold tally.listing.settings.bins (events_of (h ++ packet ∷ [])) after.due.reports)
+      timely_then h stands sound seen told =
+          let then = did.seen.told seen told in
+          let sound_then : WasSound bays.files (record {
+            bay = bay_after;
+            made = made;
+            listing = after.listing;
+            rows = after.rows;
+            reports = after.due.reports;
+            events = events_after;
+            state = state;
+            over = over;
+            gate = journal_after.gate;
+            log = log_after;
+            last = last;
+          }) =
+          subst (λ (l : Listing). IfTold (bays.files made) (λ first. (history : List Packet) × IsSound l.settings l.cone history first)) (sym is) sound in
+          subst (λ (settings : Numbers). IsTimelySoFar settings.threshold settings.bins (events_of (h ++ packet ∷ [])) after.due.reports) (ap (λ (l : Listing). l.settings) is)
+          (timely_so_far bays.files bays.leaves bays.faults (record {
+            bay = bay_after;
+            made = made;
+            listing = after.listing;
+            rows = after.rows;
+            reports = after.due.reports;
+            events = events_after;
+            state = state;
+            over = over;
+            gate = journal_after.gate;
+            log = log_after;
+            last = last;
+          })
+          (h ++ packet ∷ []) (ap is_broken running) (ap (λ (l : Listing). l.closed) is ∙ still) (stands_then h stands) sound_then then.0 then.1)
+
+      pub admitted : Admits bays packet (record {
+        bay = bay;
+        made = made;
+        listing = tally.listing;
+        rows = tally.rows;
+        reports = tally.due.reports;
+        events = events;
+        state = state;
+        over = over;
+        gate = journal.gate;
+        log = log;
+        last = last;
+      })
+          (record {
+            bay = bay_after;
+            made = made;
+            listing = after.listing;
+            rows = after.rows;
+            reports = after.due.reports;
+            events = events_after;
+            state = state;
+            over = over;
+            gate = journal_after.gate;
+            log = log_after;
+            last = last;
+          }) (Ok (record { from = events + 1; to = events_after; reports = reports }))
+      admitted = record {
+        stands_for = stands_then;
+        answers = λ h stands. record {
+          from_is = ap (λ n. n + 1) (sym stands.counted);
+          to_is = omega (arith, stands.counted, events_are);
+          reports_are = λ sound seen told.
+              let then = did.seen.told seen told in
+              let whole = stands.whole (ap is_broken running) sound seen told in
+              let up = did.in_step seen told h whole then.0 then.1 in
+              reports_are
+              ∙ ap length (up.reports_are ∙ reports_running after.listing (events_of (h ++ packet ∷ [])) (ap (λ (l : Listing). l.closed) is ∙ still) (ap (λ (l : Listing). l.events) is
+              ∙ keys_more h packet tally.listing.events whole.keys))
+              ∙ ap (λ (l : Listing). length (look l.settings (events_of (h ++ packet ∷ [])))) is;
+        };
+        acked = λ i. record { from = events + 1; to = events_are i; reports = reports_are i };
+        taken = new_is;
+        in_time_so_far = timely_then;
+        stays = tt;
+        unchanged = tt;
+        broke = tt;
+        same_cone = same;
+        closed = ((λ given. absurd (let never : ⊥ = cc in never)), (λ ended. absurd (false≢true (sym (ap is_finished running) ∙ ap is_finished ended))));
+        broken = ((λ given. absurd (let never : ⊥ = cc in never)), (λ broken. absurd (false≢true (sym (ap is_broken running) ∙ broken))));
+        full = λ n len. ((λ given. absurd (let never : ⊥ = cc in never)), (λ why. absurd (omega (arith, why.1, why.2, why.3, within))));
+        bay_failed = λ given. absurd (let never : ⊥ = cc in never);
+        unsound = λ file at given. absurd (let never : ⊥ = cc in never);
+        shows = λ file at given. absurd (let never : ⊥ = cc in never);
+        out_of_memory = λ given. absurd (let never : ⊥ = cc in never);
+        each_moment = λ unbroken sound seen told h stands image may. did.each_moment seen told h (stands.whole unbroken sound seen told) image may;
+        seen = did.seen;
+        time = did.time;
+        never_falls = did.never_falls;
+        mark = did.mark;
+      }

@@ -1,0 +1,177 @@
+-- What a cone answers to a packet in the middle of which it breaks off.
+use Rattle.std.proofs.Common.{◌≡◌, ◌≢◌, ℕ, ◌+◌, ◌≤◌, true, false, length, Option, Some, Err, refl, sym, ap, ◌∙◌, subst, arith}
+use Rattle.std.proofs.lemmas.Bool.{false≢true}
+use Rattle.lert_base.specs.Packet.{Packet}
+use Rattle.lert_gatelog.specs.Gated.{Log}
+use Rattle.lert_io.proofs.Rising.{risen_since}
+use Rattle.lert_spec.specs.Edges.{capacity}
+use Rattle.lert_reports.specs.declared.log_point.LogPoint.{LogPoint}
+use Rattle.lert_cone.specs.declared.refusal.ConeFault.TheVariants.{Closed, Broken, CapacityFull, BayFailed, Unsound, OutOfMemory}
+use Rattle.lert_cone.specs.declared.state.ConeState.{ConeState}
+use Rattle.lert_cone.specs.declared.state.ConeState.TheVariants.{Running}
+use Rattle.lert_cone.specs.declared.tally.TakeFault.{TakeFault}
+use Rattle.lert_cone.specs.Bays.{Bays}
+use Rattle.lert_cone.specs.Listing.{Listing}
+use Rattle.lert_cone.specs.Record.{LogPlace}
+use Rattle.lert_cone.specs.Sound.{IsKept, IsSoundOver}
+use Rattle.lert_cone.specs.Stands.{IsSameCone, is_broken, is_finished, is_refusal, broken_by, cone_fault}
+use Rattle.lert_cone.specs.Takes.{TakesPacket}
+use Rattle.lert_cone.specs.Tally.{Tallied}
+use Rattle.lert_cone.specs.Wrote.{Anything}
+use Rattle.lert_cone.proofs.Calls.{IsLawful}
+use Rattle.lert_cone.proofs.SoundLaws.{turns_back}
+use Rattle.lert_cone.proofs.StandLaws.{stands_broken}
+use Rattle.lert_cone.proofs.FaultLaws.{kept_since, turned_none, untold, is_broken_by, not_replaying_by, by_bay_of, by_read_of, failed_of, unsound_of, memory_of, no_refusal}
+use Rattle.lert_cone.proofs.Admits.{Admits}
+
+module _ {B : Type 0} (bays : Bays B) (lawful : IsLawful bays) (packet : Packet) where
+  module _ (bay made bay_after : B) (tally after : Tallied) (events room room_after : ℕ) (state : ConeState) (over : Option Packet) (journal journal_after : Log) (log log_after : LogPlace)
+      (last : LogPoint)
+      (running : state ≡ Running) (within : events + length packet.keys ≤ capacity tally.listing.settings) where
+    -- in the middle
+    pub broken_off : (state_after : ConeState) (over_after : Option Packet) (fault : TakeFault) → state_after ≡ broken_by fault → over_after ≡ Some packet → bays.faults made ≤ bays.faults bay →
+        TakesPacket bays packet (record { bay = bay; counts = tally; log = log; room = room }) (record {
+          bay = bay_after;
+          counts = after;
+          log = log_after;
+          room = room_after;
+        }) journal journal_after (Err fault) →
+        Admits bays packet (record {
+          bay = bay;
+          made = made;
+          listing = tally.listing;
+          rows = tally.rows;
+          reports = tally.due.reports;
+          events = events;
+          state = state;
+          over = over;
+          gate = journal.gate;
+          log = log;
+          last = last;
+        })
+        (record {
+          bay = bay_after;
+          made = made;
+          listing = after.listing;
+          rows = after.rows;
+          reports = after.due.reports;
+          events = events;
+          state = state_after;
+          over = over_after;
+          gate = journal_after.gate;
+          log = log_after;
+          last = last;
+        }) (Err (cone_fault fault))
+    broken_off state_after over_after fault state_is over_is risen did =
+        let same : IsSameCone (record {
+          bay = bay;
+          made = made;
+          listing = tally.listing;
+          rows = tally.rows;
+          reports = tally.due.reports;
+          events = events;
+          state = state;
+          over = over;
+          gate = journal.gate;
+          log = log;
+          last = last;
+        })
+        (record {
+          bay = bay_after;
+          made = made;
+          listing = after.listing;
+          rows = after.rows;
+          reports = after.due.reports;
+          events = events;
+          state = state_after;
+          over = over_after;
+          gate = journal_after.gate;
+          log = log_after;
+          last = last;
+        }) =
+        record { settings = ap (λ (l : Listing). l.settings) did.listing; cone = ap (λ (l : Listing). l.cone) did.listing; made = refl; last = refl } in
+        record {
+          stands_for = tt;
+          answers = tt;
+          acked = tt;
+          taken = tt;
+          in_time_so_far = tt;
+          stays = λ h stands.
+              stands_broken bays.files bays.leaves bays.faults (record {
+                bay = bay;
+                made = made;
+                listing = tally.listing;
+                rows = tally.rows;
+                reports = tally.due.reports;
+                events = events;
+                state = state;
+                over = over;
+                gate = journal.gate;
+                log = log;
+                last = last;
+              })
+              (record {
+                bay = bay_after;
+                made = made;
+                listing = after.listing;
+                rows = after.rows;
+                reports = after.due.reports;
+                events = events;
+                state = state_after;
+                over = over_after;
+                gate = journal_after.gate;
+                log = log_after;
+                last = last;
+              }) h same
+              (ap is_broken state_is ∙ is_broken_by fault) (λ never. not_replaying_by fault (sym state_is ∙ never)) refl
+              (λ by_bay. risen_since (bays.faults made) (bays.faults bay) (bays.faults bay_after) risen did.never_falls (did.failed (ap Err (by_bay_of fault (sym state_is ∙ by_bay)))))
+              (λ file at by_read sound. turned_none (bays.files bay) (bays.files bay_after) did.seen (untold (bays.files bay)
+              (λ seen told. did.sound seen told h (stands.whole (ap is_broken running) sound seen told) file at (ap Err (by_read_of fault file at (sym state_is ∙ by_read))))))
+              (λ sound seen told.
+              let was = turns_back Anything (bays.files bay) (bays.files bay_after) did.seen seen told in
+              subst (λ (l : Listing). IsKept (bays.leaves bay_after) seen (IsSoundOver l.settings l.cone h over_after)) (sym did.listing)
+              (subst (λ (o : Option Packet). IsKept (bays.leaves bay_after) seen (IsSoundOver tally.listing.settings tally.listing.cone h o)) (sym over_is)
+              (kept_since (bays.leaves bay_after) (bays.left_since bay_after (bays.moment bay)) seen (IsSoundOver tally.listing.settings tally.listing.cone h (Some packet))
+              (lawful.as_read bay_after seen told) did.now
+              (did.each_moment was.0 was.1 h (stands.whole (ap is_broken running) sound was.0 was.1)))))
+              stands;
+          unchanged = λ refusal. absurd (false≢true (sym (no_refusal fault) ∙ refusal));
+          broke = λ _ i. record {
+            bay = bay_after;
+            made = made;
+            listing = did.listing i;
+            rows = after.rows;
+            reports = after.due.reports;
+            events = events;
+            state = state_after;
+            over = over_is i;
+            gate = journal_after.gate;
+            log = log_after;
+            last = last;
+          };
+          same_cone = same;
+          closed = (
+            (λ given. absurd (let inner : cone_fault fault ≡ Closed = cc in false≢true (sym (no_refusal fault) ∙ ap is_refusal inner))),
+            (λ ended. absurd (false≢true (sym (ap is_finished running) ∙ ap is_finished ended))),
+          );
+          broken = (
+            (λ given. absurd (let inner : cone_fault fault ≡ Broken = cc in false≢true (sym (no_refusal fault) ∙ ap is_refusal inner))),
+            (λ is. absurd (false≢true (sym (ap is_broken running) ∙ is))),
+          );
+          full = λ n len. (
+            (λ given. absurd (let inner : cone_fault fault ≡ CapacityFull n len = cc in false≢true (sym (no_refusal fault) ∙ ap is_refusal inner))),
+            (λ why. absurd (omega (arith, why.1, why.2, why.3, within))),
+          );
+          bay_failed = λ given. (let inner : cone_fault fault ≡ BayFailed = cc in (state_is ∙ ap broken_by (failed_of fault inner), did.failed (ap Err (failed_of fault inner))));
+          unsound = λ file at given. (let inner : cone_fault fault ≡ Unsound file at = cc in (
+            state_is ∙ ap broken_by (unsound_of fault file at inner),
+            (λ h stands sound. untold (bays.files bay) (λ seen told. did.sound seen told h (stands.whole (ap is_broken running) sound seen told) file at (ap Err (unsound_of fault file at inner)))),
+          ));
+          shows = λ file at given seen told. (let inner : cone_fault fault ≡ Unsound file at = cc in did.shows seen told file at (ap Err (unsound_of fault file at inner)));
+          out_of_memory = λ given. (let inner : cone_fault fault ≡ OutOfMemory = cc in state_is ∙ ap broken_by (memory_of fault inner));
+          each_moment = λ still sound seen told h stands image may. did.each_moment seen told h (stands.whole still sound seen told) image may;
+          seen = did.seen;
+          time = did.time;
+          never_falls = did.never_falls;
+          mark = did.mark;
+        }
