@@ -9,7 +9,7 @@ use crate::file_bay::FileBay;
 use crate::file_source::FileSource;
 use crate::handed::Handed;
 use lert_io::{Failed, Faulty, Seen};
-use lert_top::{Opening, Place};
+use lert_place::{Opening, Place};
 use std::alloc::{AllocError, Global};
 use std::fs::{File, OpenOptions};
 use std::io::BufReader;
