@@ -1,18 +1,18 @@
 # Checks which program ./lert takes, and that the one in dist/ is made of these sources. tools/check reads it.
 
-# --- ./lert in a small repository, with stubs for the kit and the programs
+# --- ./lert in a small repository, with stand-ins for the kit and the programs
 
-small_told='lert: running dist/lert-x86_64-linux-gnu, which stub-kit proved and built from these sources\n'
+small_told='lert: running dist/lert-x86_64-linux-gnu, which toy-kit proved and built from these sources\n'
 small_builds='lert: proving and building: crate 1 of 2, 0 minutes so far\n'
 small_none='rt: no proof\nlert: there is no program to run: lert_low is not proved and built\n'
 
 # A program that says the word, and answers as the proved one where it is asked for nothing.
-stub() {
+stand_in() {
     printf '#!/bin/sh\n[ $# -eq 0 ] || { echo %s; exit; }\necho "lert: usage rule 0" >&2\nexit 1\n' "$1" >"$2"
     chmod +x "$2"
 }
 
-# What the stub of rt does, in the folder of a crate: it fails, or it builds.
+# What the stand-in for rt does, in the folder of a crate: it fails, or it builds.
 rt_fails() { printf 'echo rt: no proof; exit 1\n' >small/bin/answer; }
 rt_builds() {
     printf 'mkdir -p out/rlib; [ $1 = lib ] || { cp "%s" out/lert_program; exec out/lert_program; }\n' \
@@ -41,11 +41,11 @@ make_small() {
         mkdir -p small/crates/$crate/src small/crates/$crate/must-fail
         echo "// $crate" >small/crates/$crate/src/lib.rt
     done
-    printf '#!/bin/sh\n[ $1 != version ] || { echo stub-kit 1; exit; }\n. "$(dirname "$0")/answer"\n' >small/bin/rt
+    printf '#!/bin/sh\n[ $1 != version ] || { echo toy-kit 1; exit; }\n. "$(dirname "$0")/answer"\n' >small/bin/rt
     chmod +x small/bin/rt
     rt_fails
-    stub built small/bin/program
-    stub kept small/dist/lert-x86_64-linux-gnu
+    stand_in built small/bin/program
+    stand_in kept small/dist/lert-x86_64-linux-gnu
     note_made small/dist/lert-x86_64-linux-gnu
 }
 
@@ -97,9 +97,9 @@ check_choice() {
     rt_builds
     gives 'what is built in its place' 0 'built\n' \
         "lert: dist/lert-x86_64-linux-gnu doesn't run on this machine\n$small_builds" small_lert run
-    stub kept "$kept" && note_made "$kept" && rt_fails
+    stand_in kept "$kept" && note_made "$kept" && rt_fails
     gives 'what was built before what is kept' 0 'built\n' '' small_lert run
-    stub other "$out/lert_program"
+    stand_in other "$out/lert_program"
     gives 'nothing else that was built' 0 'kept\n' "$small_told" small_lert run
     rm "$kept"
     gives 'a build that fails' 126 '' "$small_builds$small_none" small_lert run
