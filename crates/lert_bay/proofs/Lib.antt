@@ -6,4 +6,5 @@ pub mod Steps
 pub mod Crashing
 pub mod Settling
 pub mod Lasting
+pub mod KeptLaws
 pub mod Copying

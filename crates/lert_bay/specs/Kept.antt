@@ -1,7 +1,35 @@
--- What several calls make of a bay, seen as one.
-use Rattle.std.specs.Prelude.{◌≡◌, ℕ, Option}
+-- What calls keep of a bay, one or several in turn, and what those keep that read alone.
+use Rattle.std.specs.Prelude.{◌≡◌, ℕ, ◌≤◌, Option}
 use Rattle.lert_bay.specs.Files.{Files}
 use Rattle.lert_bay.specs.Images.{KeepsImages, Lasts}
+use Rattle.lert_io.specs.Fault.{HasRisen}
+
+-- what bays of a type are seen by: the count of faults of each and its mark, its files, its images, its moment, and its images
+-- since a time
+abbrev pub Bays : Type 0 → Type 1
+Bays B = record {
+  faults : B → ℕ;
+  mark : B → ℕ;
+  files : B → Option Files;
+  leaves : B → Files → Type 0;
+  moment : B → ℕ;
+  left_since : B → ℕ → Files → Type 0;
+}
+
+-- Whatever the calls answer: time goes on, the count of faults doesn't fall, and rose where one of them is said to have failed,
+-- and the mark is the same.
+pub record KeepsBay {B : Type 0} (bays : Bays B) (before after : B) (Failed : Type 0) : Type 0 where
+  pub time : Lasts (bays.moment before) (bays.moment after) (bays.left_since before) (bays.left_since after)
+  pub never_falls : bays.faults before ≤ bays.faults after
+  pub failed : Failed → HasRisen (bays.faults before) (bays.faults after)
+  pub mark : bays.mark after ≡ bays.mark before
+
+-- The calls read alone: no file and no image changed, also at no moment between.
+pub record OnlyReads {B : Type 0} (bays : Bays B) (before after : B) (Failed : Type 0) : Type 0 where
+  pub kept : KeepsBay bays before after Failed
+  pub seen : bays.files after ≡ bays.files before
+  pub images : KeepsImages (bays.leaves before) (bays.leaves after)
+  pub moments : (image : Files) → bays.left_since after (bays.moment before) image → bays.leaves before image
 
 -- the calls read alone: no file and no image changed, also at no moment between
 pub record OnlyRead (files_before files_after : Option Files) (leaves_before leaves_after : Files → Type 0) (first last : ℕ) (since_before since_after : ℕ → Files → Type 0) : Type 0 where

@@ -16,12 +16,12 @@ use Rattle.lert_cone.specs.declared.acked.Acked.{Acked}
 use Rattle.lert_cone.specs.declared.refusal.ConeFault.{ConeFault}
 use Rattle.lert_cone.specs.declared.refusal.ConeFault.TheVariants.{Closed, Broken, CapacityFull, BayFailed, Unsound, OutOfMemory}
 use Rattle.lert_cone.specs.declared.state.ConeState.TheVariants.{Running, Finished, BrokenByBay, BrokenByRead, BrokenByMemory}
-use Rattle.lert_cone.specs.Bays.{Bays}
+use Rattle.lert_bay.specs.Kept.{Bays}
 use Rattle.lert_cone.specs.Sound.{IsSoundOver}
 use Rattle.lert_cone.specs.Stands.{Standing, StandsFor, WasSound, Answers, IsSameCone, is_broken, is_refusal}
 use Rattle.lert_cone.specs.Tally.{Shows}
 use Rattle.lert_cone.specs.Wrote.{Anything}
-use Rattle.lert_cone.proofs.Calls.{IsLawful}
+use Rattle.lert_bay.proofs.KeptLaws.{IsLawful}
 use Rattle.lert_cone.proofs.FaultLaws.{untold}
 use Rattle.lert_cone.proofs.TakeLaws.{handed_on}
 

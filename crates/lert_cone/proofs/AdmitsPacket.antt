@@ -12,7 +12,7 @@ use Rattle.lert_spec.specs.Timely.{IsTimelySoFar}
 use Rattle.lert_reports.specs.declared.log_point.LogPoint.{LogPoint}
 use Rattle.lert_cone.specs.declared.state.ConeState.{ConeState}
 use Rattle.lert_cone.specs.declared.state.ConeState.TheVariants.{Running}
-use Rattle.lert_cone.specs.Bays.{Bays}
+use Rattle.lert_bay.specs.Kept.{Bays}
 use Rattle.lert_cone.specs.Listing.{Listing}
 use Rattle.lert_cone.specs.Record.{LogPlace}
 use Rattle.lert_cone.specs.Sound.{IsSound}
@@ -20,7 +20,7 @@ use Rattle.lert_cone.specs.Stands.{Standing, StandsFor, WasSound, IsSameCone, is
 use Rattle.lert_cone.specs.Takes.{TakesPacket}
 use Rattle.lert_cone.specs.Tally.{Tallied}
 use Rattle.lert_cone.specs.Wrote.{Anything}
-use Rattle.lert_cone.proofs.Calls.{IsLawful}
+use Rattle.lert_bay.proofs.KeptLaws.{IsLawful}
 use Rattle.lert_cone.proofs.SoundLaws.{turns_back, counted_more, end_more}
 use Rattle.lert_cone.proofs.AppendLaws.{whole_of, some_more, keys_more}
 use Rattle.lert_cone.proofs.StandLaws.{stands_whole, reports_running}

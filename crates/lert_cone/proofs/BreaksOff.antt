@@ -10,7 +10,7 @@ use Rattle.lert_cone.specs.declared.refusal.ConeFault.TheVariants.{Closed, Broke
 use Rattle.lert_cone.specs.declared.state.ConeState.{ConeState}
 use Rattle.lert_cone.specs.declared.state.ConeState.TheVariants.{Running}
 use Rattle.lert_cone.specs.declared.tally.TakeFault.{TakeFault}
-use Rattle.lert_cone.specs.Bays.{Bays}
+use Rattle.lert_bay.specs.Kept.{Bays}
 use Rattle.lert_cone.specs.Listing.{Listing}
 use Rattle.lert_cone.specs.Record.{LogPlace}
 use Rattle.lert_cone.specs.Sound.{IsKept, IsSoundOver}
@@ -18,7 +18,7 @@ use Rattle.lert_cone.specs.Stands.{IsSameCone, is_broken, is_finished, is_refusa
 use Rattle.lert_cone.specs.Takes.{TakesPacket}
 use Rattle.lert_cone.specs.Tally.{Tallied}
 use Rattle.lert_cone.specs.Wrote.{Anything}
-use Rattle.lert_cone.proofs.Calls.{IsLawful}
+use Rattle.lert_bay.proofs.KeptLaws.{IsLawful}
 use Rattle.lert_cone.proofs.SoundLaws.{turns_back}
 use Rattle.lert_cone.proofs.StandLaws.{stands_broken}
 use Rattle.lert_cone.proofs.FaultLaws.{kept_since, turned_none, untold, is_broken_by, not_replaying_by, by_bay_of, by_read_of, failed_of, unsound_of, memory_of, no_refusal}

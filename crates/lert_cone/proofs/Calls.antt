@@ -1,6 +1,7 @@
 -- Calls of a bay in turn, over the states that it has between them.
 use Rattle.std.proofs.Common.{◌≡◌, ◌≢◌, ℕ, ◌≤◌, Some}
-use Rattle.lert_cone.specs.Bays.{Bays}
+use Rattle.lert_bay.specs.Kept.{Bays}
+use Rattle.lert_bay.proofs.KeptLaws.{IsLawful}
 use Rattle.lert_bay.specs.Files.{Files, IfTold, Turns}
 use Rattle.lert_bay.specs.Images.{Lasts}
 use Rattle.lert_bay.specs.Kept.{OnlyRead}
@@ -8,13 +9,6 @@ use Rattle.lert_gatelog.specs.Kept.{KeepsOthers, IsWhollySettled, OthersStay}
 use Rattle.lert_rows.specs.Landing.{KeepsRest}
 use Rattle.lert_cone.specs.Wrote.{LeavesAlone, IsShutIfTold}
 use Rattle.lert_cone.proofs.WroteLaws.{leaves_none, leaves_on, leaves_rest, leaves_others, leaves_read, settled_through, shut_through}
-
--- the laws that each bay keeps
-pub record IsLawful {B : Type 0} (bays : Bays B) : Type 0 where
-  pub as_read : (bay : B) (seen : Files) → bays.files bay ≡ Some seen → bays.leaves bay seen
-  pub since_now : (bay : B) (image : Files) → bays.leaves bay image → bays.left_since bay (bays.moment bay) image
-  pub only_now : (bay : B) (image : Files) → bays.left_since bay (bays.moment bay) image → bays.leaves bay image
-  pub since_earlier : (bay : B) (t u : ℕ) (image : Files) → t ≤ u → bays.left_since bay u image → bays.left_since bay t image
 
 module _ {B : Type 0} (bays : Bays B) (lawful : IsLawful bays) where
   -- what a crash may leave after calls it might have left since they began

@@ -12,7 +12,7 @@ use Rattle.lert_spec.specs.Bins.{tallied}
 use Rattle.lert_spec.specs.Limits.{IsValid}
 use Rattle.lert_cone.specs.declared.tally.TakeFault.{TakeFault}
 use Rattle.lert_cone.specs.declared.tally.TakeFault.TheVariants.{Failed, Unsound}
-use Rattle.lert_cone.specs.Bays.{Bays}
+use Rattle.lert_bay.specs.Kept.{Bays}
 use Rattle.lert_cone.specs.Counts.{CountsEnd, Scans}
 use Rattle.lert_cone.specs.Due.{Dues, TookFrom, started}
 use Rattle.lert_cone.specs.Tally.{Tallied, IsCounted, IsHeld, take_fault}

@@ -14,7 +14,7 @@ use Rattle.lert_spec.specs.declared.numbers.Numbers.{Numbers}
 use Rattle.lert_cone.specs.declared.tally.TakeFault.{TakeFault}
 use Rattle.lert_cone.specs.declared.tally.TakeFault.TheVariants.{Failed}
 use Rattle.lert_cone.specs.Appends.{AppendsRecord}
-use Rattle.lert_cone.specs.Bays.{Bays}
+use Rattle.lert_bay.specs.Kept.{Bays}
 use Rattle.lert_cone.specs.Counts.{CountsEnd}
 use Rattle.lert_cone.specs.Listing.{Listing}
 use Rattle.lert_cone.specs.Record.{LogPlace, payload_at}
@@ -22,7 +22,8 @@ use Rattle.lert_cone.specs.Sound.{IsSound}
 use Rattle.lert_cone.specs.Takes.{Workplace, CanLog, CanTake, AreInStep, TakesEnd}
 use Rattle.lert_cone.specs.Tally.{Tallied, IsHeld}
 use Rattle.lert_cone.specs.Wrote.{LeavesAlone}
-use Rattle.lert_cone.proofs.Calls.{IsLawful, now_since, alone_on, alone_others, alone_read, settled_alone, shut_alone}
+use Rattle.lert_bay.proofs.KeptLaws.{IsLawful}
+use Rattle.lert_cone.proofs.Calls.{now_since, alone_on, alone_others, alone_read, settled_alone, shut_alone}
 use Rattle.lert_cone.proofs.EndStep.{IsEnding, partway_all, late_all, ending_of, sound_close, up_closed}
 use Rattle.lert_cone.proofs.KeyStep.{held_of, sound_now}
 use Rattle.lert_cone.proofs.TakeLaws.{handed_on}

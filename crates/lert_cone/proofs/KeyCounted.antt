@@ -18,7 +18,7 @@ use Rattle.lert_spec.specs.Limits.{IsValid}
 use Rattle.lert_spec.specs.Mix.{cone_of, tail_of}
 use Rattle.lert_cone.specs.declared.tally.TakeFault.{TakeFault}
 use Rattle.lert_cone.specs.declared.tally.TakeFault.TheVariants.{Failed, Unsound}
-use Rattle.lert_cone.specs.Bays.{Bays}
+use Rattle.lert_bay.specs.Kept.{Bays}
 use Rattle.lert_cone.specs.Counts.{Brings, CountsKey}
 use Rattle.lert_cone.specs.Due.{Dues, started}
 use Rattle.lert_cone.specs.Framed.{HoldsSome}

@@ -1,6 +1,6 @@
 -- A key through the calls that it makes: it isn't counted, no flush comes with it, or a flush and its record.
 use Rattle.std.proofs.Common.{◌≡◌, ◌≢◌, ℕ, ◌+◌, ◌-◌, ◌≤◌, List, [], ◌∷◌, ◌++◌, length, map, Result, Ok, Err, Some, refl, sym, ap, ◌∙◌, subst, inl, inr, arith, length-append}
-use Rattle.lert_cone.specs.Bays.{Bays}
+use Rattle.lert_bay.specs.Kept.{Bays}
 use Rattle.lert_bay.specs.Files.{Files, IfTold}
 use Rattle.lert_gatelog.specs.Gated.{IsGated}
 use Rattle.lert_gatelog.specs.Kept.{InEach, IsWithOrWithout, OthersStay}
@@ -23,7 +23,8 @@ use Rattle.lert_cone.specs.Record.{LogPlace, payload_at}
 use Rattle.lert_cone.specs.Sound.{IsSound}
 use Rattle.lert_cone.specs.Takes.{Workplace, CanLog, CanTake, AreInStep, TakesKeys}
 use Rattle.lert_cone.specs.Tally.{Tallied, IsHeld}
-use Rattle.lert_cone.proofs.Calls.{IsLawful, now_since, alone_on, alone_rest, alone_others, settled_alone, shut_alone}
+use Rattle.lert_bay.proofs.KeptLaws.{IsLawful}
+use Rattle.lert_cone.proofs.Calls.{now_since, alone_on, alone_rest, alone_others, settled_alone, shut_alone}
 use Rattle.lert_cone.proofs.KeyStep.{IsTaken, held_of, sound_rest, taken_of, up_between, sound_append, up_flushed}
 use Rattle.lert_cone.proofs.RecordLaws.{record_fits, logging_more}
 use Rattle.lert_cone.proofs.SoundLaws.{turns_back}

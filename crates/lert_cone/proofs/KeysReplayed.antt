@@ -9,14 +9,15 @@ use Rattle.lert_spec.specs.declared.numbers.Numbers.{Numbers}
 use Rattle.lert_spec.specs.Edges.{capacity}
 use Rattle.lert_spec.specs.Mix.{cone_of}
 use Rattle.lert_cone.specs.declared.tally.TakeFault.{TakeFault}
-use Rattle.lert_cone.specs.Bays.{Bays}
+use Rattle.lert_bay.specs.Kept.{Bays}
 use Rattle.lert_cone.specs.Due.{Dues}
 use Rattle.lert_cone.specs.Framed.{HoldsSome}
 use Rattle.lert_cone.specs.Listing.{Listing}
 use Rattle.lert_cone.specs.Replay.{IsOnWay}
 use Rattle.lert_cone.specs.Takes.{Workplace, CanLog, CanTake, CanReplay, TakesKeys, ReplaysKeys}
 use Rattle.lert_cone.specs.Tally.{Tallied, IsRecounted}
-use Rattle.lert_cone.proofs.Calls.{IsLawful, alone_none}
+use Rattle.lert_bay.proofs.KeptLaws.{IsLawful}
+use Rattle.lert_cone.proofs.Calls.{alone_none}
 use Rattle.lert_cone.proofs.KeysTaken.{map_ok}
 use Rattle.lert_cone.proofs.RecountLaws.{recounted_behind}
 use Rattle.lert_cone.proofs.ReplayStep.{way_counted, way_in_step, way_taken, enough_counted, told_once}

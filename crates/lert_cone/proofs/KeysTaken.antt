@@ -11,12 +11,13 @@ use Rattle.lert_spec.specs.declared.numbers.Numbers.{Numbers}
 use Rattle.lert_spec.specs.Edges.{capacity}
 use Rattle.lert_spec.specs.Mix.{cone_of}
 use Rattle.lert_cone.specs.declared.tally.TakeFault.{TakeFault}
-use Rattle.lert_cone.specs.Bays.{Bays}
+use Rattle.lert_bay.specs.Kept.{Bays}
 use Rattle.lert_cone.specs.Framed.{HoldsSome}
 use Rattle.lert_cone.specs.InStep.{IsPartway}
 use Rattle.lert_cone.specs.Listing.{Listing}
 use Rattle.lert_cone.specs.Takes.{Workplace, CanTake, AreInStep, TakesKeys}
-use Rattle.lert_cone.proofs.Calls.{IsLawful, alone_none, alone_on}
+use Rattle.lert_bay.proofs.KeptLaws.{IsLawful}
+use Rattle.lert_cone.proofs.Calls.{alone_none, alone_on}
 use Rattle.lert_cone.proofs.KeyStep.{sound_now, sound_behind}
 use Rattle.lert_cone.proofs.FlushLaws.{last_flush_grows}
 use Rattle.lert_cone.proofs.TakeLaws.{handed_on}

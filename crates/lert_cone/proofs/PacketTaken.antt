@@ -14,13 +14,14 @@ use Rattle.lert_journal.specs.Payload.{payload_of}
 use Rattle.lert_spec.specs.Edges.{capacity}
 use Rattle.lert_cone.specs.declared.tally.TakeFault.{TakeFault}
 use Rattle.lert_cone.specs.declared.tally.TakeFault.TheVariants.{Failed}
-use Rattle.lert_cone.specs.Bays.{Bays}
+use Rattle.lert_bay.specs.Kept.{Bays}
 use Rattle.lert_cone.specs.History.{most_payload}
 use Rattle.lert_cone.specs.InStep.{IsInStep}
 use Rattle.lert_cone.specs.Sound.{IsSoundOver}
 use Rattle.lert_cone.specs.Takes.{Workplace, CanTake, CanTakePacket, IsWholeAt, TakesKeys, TakesPacket}
 use Rattle.lert_cone.specs.Wrote.{IsShutIfTold, LeavesAlone}
-use Rattle.lert_cone.proofs.Calls.{IsLawful, now_since, alone_others, settled_alone, shut_alone}
+use Rattle.lert_bay.proofs.KeptLaws.{IsLawful}
+use Rattle.lert_cone.proofs.Calls.{now_since, alone_others, settled_alone, shut_alone}
 use Rattle.lert_cone.proofs.KeysTaken.{ok_holds}
 use Rattle.lert_cone.proofs.SoundLaws.{turns_back}
 use Rattle.lert_cone.proofs.AppendLaws.{sound_appending, up_appended, records_there, each_there, partway_packet, appended_there}

@@ -17,7 +17,7 @@ use Rattle.lert_spec.specs.Limits.{IsValid}
 use Rattle.lert_spec.specs.declared.report.Report.{Report}
 use Rattle.std.specs.Result.{IsErrAnd}
 use Rattle.lert_cone.specs.Appends.{AppendsRecord}
-use Rattle.lert_cone.specs.Bays.{Bays}
+use Rattle.lert_bay.specs.Kept.{Bays}
 use Rattle.lert_cone.specs.InStep.{IsLogging}
 use Rattle.lert_cone.specs.Listing.{Listing}
 use Rattle.lert_cone.specs.Tally.{Tallied}

@@ -1,6 +1,6 @@
 -- What a key, and the end, make of a cone's counts and of its bay.
 use Rattle.std.specs.Prelude.{◌≡◌, ◌≢◌, ℕ, ◌+◌, ◌-◌, ◌≤◌, true, List, [], ◌∷◌, ◌++◌, length, slice_range, Result, Err, OnOk, OnErr, IsErrOf}
-use Rattle.lert_cone.specs.Bays.{Bays}
+use Rattle.lert_bay.specs.Kept.{Bays}
 use Rattle.lert_bay.specs.Files.{Files, IfTold}
 use Rattle.lert_bay.specs.Kept.{OnlyRead}
 use Rattle.lert_gatelog.specs.Kept.{InEach}

@@ -1,5 +1,4 @@
 pub mod Appends
-pub mod Bays
 pub mod Counts
 pub mod Due
 pub mod Framed

@@ -3,7 +3,7 @@ use Rattle.std.specs.Prelude.{◌≡◌, ℕ, ◌≤◌}
 use Rattle.lert_bay.specs.Files.{Files}
 use Rattle.lert_bay.specs.Images.{KeepsImages, Lasts}
 use Rattle.lert_gatelog.specs.Gated.{Log}
-use Rattle.lert_cone.specs.Bays.{Bays}
+use Rattle.lert_bay.specs.Kept.{Bays}
 
 -- the journal stays the same file with the same greatest payload, the entry keeps its room, no file and no image changed, also
 -- at no moment between, and the bay is the same one, whose count of faults doesn't fall

@@ -1,7 +1,7 @@
 -- What keys, a packet, and the end make of a cone's counts, its log and its bay.
 use Rattle.std.specs.Prelude.{◌≡◌, ◌≢◌, ℕ, ◌+◌, ◌*◌, ◌^◌, ◌<◌, ◌≤◌, max, true, false, List, [], ◌∷◌, ◌++◌, All, length, Some, Result, Err, OnOk, IsErrOf}
 use Rattle.lert_base.specs.Packet.{Packet, events_of}
-use Rattle.lert_cone.specs.Bays.{Bays}
+use Rattle.lert_bay.specs.Kept.{Bays}
 use Rattle.lert_bay.specs.Files.{Files, IfTold, Turns}
 use Rattle.lert_bay.specs.Images.{Lasts}
 use Rattle.lert_gatelog.specs.Gated.{Log, next_gate}

@@ -1,6 +1,6 @@
 -- What calls make of a bay that leave one of its files alone.
 use Rattle.std.specs.Prelude.{◌≡◌, ℕ, Option, Some}
-use Rattle.lert_cone.specs.Bays.{Bays}
+use Rattle.lert_bay.specs.Kept.{Bays}
 use Rattle.lert_bay.specs.Files.{Files, IfTold, Turns}
 use Rattle.lert_bay.specs.Images.{Lasts}
 use Rattle.lert_bay.specs.Settled.{Keeps, IsSettled}

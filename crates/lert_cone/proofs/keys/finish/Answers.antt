@@ -1,6 +1,6 @@
 use Rattle.std.proofs.Common.{length, rules}
-use Rattle.lert_cone.specs.Bays.{Bays}
-use Rattle.lert_cone.proofs.Calls.{IsLawful}
+use Rattle.lert_bay.specs.Kept.{Bays}
+use Rattle.lert_bay.proofs.KeptLaws.{IsLawful}
 use Rattle.lert_cone.proofs.EndTaken.{end_refused, can_log_end, close_failed, end_taken}
 use Rattle.lert_cone.proofs.keys.finish.Given as given
 use Rattle.lert_cone.proofs.keys.finish.Goals as goal

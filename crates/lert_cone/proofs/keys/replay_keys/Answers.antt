@@ -1,9 +1,9 @@
 use Rattle.std.proofs.Common.{◌≡◌, ◌∙◌, ℕ, ◌-◌, ◌<◌, ◌++◌, List, All, length, drop, min, ap, sym, subst, arith, rules}
 use Rattle.std.proofs.lemmas.List.Elements.{All-take}
 use Rattle.lert_spec.specs.Mix.{cone_of}
-use Rattle.lert_cone.specs.Bays.{Bays}
+use Rattle.lert_bay.specs.Kept.{Bays}
 use Rattle.lert_cone.specs.Takes.{CanTake, TakesKeys}
-use Rattle.lert_cone.proofs.Calls.{IsLawful}
+use Rattle.lert_bay.proofs.KeptLaws.{IsLawful}
 use Rattle.lert_cone.proofs.KeysReplayed.{all_again, can_take_ahead, others_ahead}
 use Rattle.lert_cone.proofs.keys.replay_keys.Given as given
 use Rattle.lert_cone.proofs.keys.replay_keys.Goals as goal

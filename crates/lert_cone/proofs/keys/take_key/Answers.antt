@@ -1,7 +1,7 @@
 use Rattle.std.proofs.Common.{ℕ, [], ◌∷◌, length, ap, arith, rules, length-append}
 use Rattle.lert_cone.proofs.KeyTaken.{key_refused, key_between, can_log_then, record_failed, key_flushed}
-use Rattle.lert_cone.specs.Bays.{Bays}
-use Rattle.lert_cone.proofs.Calls.{IsLawful}
+use Rattle.lert_bay.specs.Kept.{Bays}
+use Rattle.lert_bay.proofs.KeptLaws.{IsLawful}
 use Rattle.lert_cone.proofs.keys.take_key.Given as given
 use Rattle.lert_cone.proofs.keys.take_key.Goals as goal
 

@@ -3,7 +3,7 @@ use Rattle.lert_reports.specs.Stored.{Stored}
 use Rattle.lert_spec.specs.declared.numbers.Numbers.{Numbers}
 use Rattle.lert_spec.specs.declared.report.Report.{Report}
 use Rattle.lert_cone.proofs.RecordLaws.{record_fits, same_record}
-use Rattle.lert_cone.specs.Bays.{Bays}
+use Rattle.lert_bay.specs.Kept.{Bays}
 use Rattle.lert_cone.proofs.keys.write_record.Given as given
 use Rattle.lert_cone.proofs.keys.write_record.Goals as goal
 

@@ -8,14 +8,14 @@ use Rattle.lert_reports.specs.Stored.{Stored}
 use Rattle.lert_io.proofs.Rising.{risen_since}
 use Rattle.lert_cone.specs.declared.refusal.ConeFault.{ConeFault}
 use Rattle.lert_cone.specs.declared.state.ConeState.TheVariants.{Running}
-use Rattle.lert_cone.specs.Bays.{Bays}
+use Rattle.lert_bay.specs.Kept.{Bays}
 use Rattle.lert_cone.specs.Listing.{Listing}
 use Rattle.lert_cone.specs.InStep.{IsLogging}
 use Rattle.lert_cone.specs.Stands.{Standing, over_of, is_broken, is_finished, cone_fault}
 use Rattle.lert_cone.proofs.Admits.{Admits, not_admitted}
 use Rattle.lert_cone.proofs.AdmitsPacket.{admitted}
 use Rattle.lert_cone.proofs.BreaksOff.{broken_off}
-use Rattle.lert_cone.proofs.Calls.{IsLawful}
+use Rattle.lert_bay.proofs.KeptLaws.{IsLawful}
 use Rattle.lert_cone.proofs.StandLaws.{broken_cone, more_cone}
 use Rattle.lert_cone.proofs.FaultLaws.{is_broken_by, not_replaying_by, by_bay_of}
 use Rattle.lert_cone.proofs.cone.Cone.admit.Given as given

@@ -7,7 +7,7 @@ use Rattle.lert_gatelog.specs.Gated.{IsClosed, IsGated, Log, next_gate}
 use Rattle.lert_gatelog.specs.Kept.{InEach, IsWithOrWithout, IsWhollySettled, KeepsBefore, KeepsOthers, OthersStay}
 use Rattle.lert_cone.specs.Record.{LogPlace, payload_at, payload_len}
 use Rattle.lert_cone.proofs.RecordLaws.{refused_record, text_at, text_long, payload_long, is_appendix}
-use Rattle.lert_cone.specs.Bays.{Bays}
+use Rattle.lert_bay.specs.Kept.{Bays}
 use Rattle.lert_cone.proofs.report_log.ReportLog.append.Given as given
 use Rattle.lert_cone.proofs.report_log.ReportLog.append.Goals as goal
 

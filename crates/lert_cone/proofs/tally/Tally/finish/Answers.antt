@@ -1,5 +1,5 @@
 use Rattle.std.proofs.Common.{◌≡◌, false, Option, ap, sym, ◌∙◌, subst}
-use Rattle.lert_cone.specs.Bays.{Bays}
+use Rattle.lert_bay.specs.Kept.{Bays}
 use Rattle.lert_cone.specs.Due.{Dues, started}
 use Rattle.lert_cone.specs.Tally.{Tallied, IsCounted, due_in}
 use Rattle.lert_cone.proofs.EndCounted.{not_ended, no_room_left, all_counted}

@@ -5,7 +5,7 @@ use Rattle.lert_cone.specs.Due.{Dues, started}
 use Rattle.lert_cone.specs.Tally.{Tallied, IsCounted, due_in}
 use Rattle.lert_cone.proofs.KeyCounted.{not_counted, no_room, key_counted}
 use Rattle.lert_cone.proofs.TakeLaws.{rows_before}
-use Rattle.lert_cone.specs.Bays.{Bays}
+use Rattle.lert_bay.specs.Kept.{Bays}
 use Rattle.lert_cone.proofs.tally.Tally.take.Given as given
 use Rattle.lert_cone.proofs.tally.Tally.take.Goals as goal
 

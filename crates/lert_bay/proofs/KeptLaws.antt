@@ -1,0 +1,96 @@
+-- What calls in turn keep of a bay.
+use Rattle.std.proofs.Common.{◌≡◌, ℕ, ◌≤◌, ◌∙◌, Some, refl, inl, inr, arith}
+use Rattle.std.proofs.lemmas.Bool.{cases_lt}
+use Rattle.lert_bay.specs.Files.{Files}
+use Rattle.lert_bay.specs.Images.{Elapses, KeepsImages}
+use Rattle.lert_bay.specs.Kept.{Bays, KeepsBay, OnlyReads}
+use Rattle.lert_bay.proofs.Lasting.{lasts_none, lasts_on, lasts_more}
+use Rattle.lert_io.specs.Fault.{HasRisen, last_count}
+
+-- the laws that each bay keeps
+pub record IsLawful {B : Type 0} (bays : Bays B) : Type 0 where
+  pub as_read : (bay : B) (seen : Files) → bays.files bay ≡ Some seen → bays.leaves bay seen
+  pub since_now : (bay : B) (image : Files) → bays.leaves bay image → bays.left_since bay (bays.moment bay) image
+  pub only_now : (bay : B) (image : Files) → bays.left_since bay (bays.moment bay) image → bays.leaves bay image
+  pub since_earlier : (bay : B) (t u : ℕ) (image : Files) → t ≤ u → bays.left_since bay u image → bays.left_since bay t image
+
+-- a count that rose has risen at each later moment
+pub risen_then : (first middle last : ℕ) → middle ≤ last → HasRisen first middle → HasRisen first last
+risen_then first middle last later rose below = omega (arith, later, rose below)
+
+-- and since each earlier one
+pub risen_since : (first middle last : ℕ) → first ≤ middle → middle ≤ last → HasRisen middle last → HasRisen first last
+risen_since first middle last early later rose below = elim (cases_lt middle last_count) [
+  | inl under ↦ omega (arith, early, rose under)
+  | inr over ↦ omega (arith, over, later, below)
+]
+
+module _ {B : Type 0} (bays : Bays B) (lawful : IsLawful bays) where
+  -- no call
+  pub keeps_none : (bay : B) (Failed : Type 0) → (Failed → ⊥) → KeepsBay bays bay bay Failed
+  keeps_none bay Failed never = record {
+    time = lasts_none (bays.moment bay) (bays.left_since bay);
+    never_falls = omega arith;
+    failed = λ failed. absurd (never failed);
+    mark = refl;
+  }
+
+  -- calls behind others, of which the last one failed, if any did
+  pub keeps_on : (before between after : B) (First Failed : Type 0) → KeepsBay bays before between First → KeepsBay bays between after Failed → KeepsBay bays before after Failed
+  keeps_on before between after First Failed one two = record {
+    time = lasts_on (bays.moment before) (bays.moment between) (bays.moment after) (bays.left_since before) (bays.left_since between) (bays.left_since after)
+      one.time two.time (lawful.since_earlier after);
+    never_falls = omega (arith, one.never_falls, two.never_falls);
+    failed = λ failed. risen_since (bays.faults before) (bays.faults between) (bays.faults after) one.never_falls two.never_falls (two.failed failed);
+    mark = two.mark ∙ one.mark;
+  }
+
+  -- the same calls, seen as failed in other words
+  pub keeps_as : (before after : B) (First Failed : Type 0) → (Failed → First) → KeepsBay bays before after First → KeepsBay bays before after Failed
+  keeps_as before after First Failed turned one = record { time = one.time; never_falls = one.never_falls; failed = λ failed. one.failed (turned failed); mark = one.mark }
+
+  pub reads_none : (bay : B) (Failed : Type 0) → (Failed → ⊥) → OnlyReads bays bay bay Failed
+  reads_none bay Failed never = record {
+    kept = keeps_none bay Failed never;
+    seen = refl;
+    images = λ image. (λ may. may, λ may. may);
+    moments = lawful.only_now bay;
+  }
+
+  pub reads_on : (before between after : B) (First Failed : Type 0) → OnlyReads bays before between First → OnlyReads bays between after Failed → OnlyReads bays before after Failed
+  reads_on before between after First Failed one two = record {
+    kept = keeps_on before between after First Failed one.kept two.kept;
+    seen = two.seen ∙ one.seen;
+    images = λ image. (λ may. (one.images image).0 ((two.images image).0 may), λ may. (two.images image).1 ((one.images image).1 may));
+    moments = λ image since. elim (two.kept.time.known (bays.moment before) image one.kept.time.later since) [
+      | inl past ↦ one.moments image past
+      | inr now ↦ (one.images image).0 (two.moments image now)
+    ];
+  }
+
+  pub reads_as : (before after : B) (First Failed : Type 0) → (Failed → First) → OnlyReads bays before after First → OnlyReads bays before after Failed
+  reads_as before after First Failed turned one = record { kept = keeps_as before after First Failed turned one.kept; seen = one.seen; images = one.images; moments = one.moments }
+
+  -- one call
+  pub keeps_call : (before after : B) (Failed : Type 0) → Elapses (bays.moment before) (bays.moment after) (bays.left_since before) (bays.left_since after) (bays.leaves after) →
+      bays.faults before ≤ bays.faults after → (Failed → HasRisen (bays.faults before) (bays.faults after)) → bays.mark after ≡ bays.mark before → KeepsBay bays before after Failed
+  keeps_call before after Failed elapsed never_falls failed mark = record {
+    time = lasts_more (bays.moment before) (bays.moment before) (bays.moment after) (bays.left_since before) (bays.left_since before) (bays.left_since after) (bays.leaves after)
+      (lasts_none (bays.moment before) (bays.left_since before)) elapsed;
+    never_falls = never_falls;
+    failed = failed;
+    mark = mark;
+  }
+
+  pub reads_call : (before after : B) (Failed : Type 0) → Elapses (bays.moment before) (bays.moment after) (bays.left_since before) (bays.left_since after) (bays.leaves after) →
+      bays.faults before ≤ bays.faults after → (Failed → HasRisen (bays.faults before) (bays.faults after)) → bays.mark after ≡ bays.mark before →
+      bays.files after ≡ bays.files before → KeepsImages (bays.leaves before) (bays.leaves after) → OnlyReads bays before after Failed
+  reads_call before after Failed elapsed never_falls failed mark seen images = record {
+    kept = keeps_call before after Failed elapsed never_falls failed mark;
+    seen = seen;
+    images = images;
+    moments = λ image since. elim (elapsed.known (bays.moment before) image (omega arith) since) [
+      | inl past ↦ lawful.only_now before image past
+      | inr now ↦ (images image).0 now
+    ];
+  }
