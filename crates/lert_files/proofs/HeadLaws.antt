@@ -8,6 +8,7 @@ use Rattle.std.proofs.lemmas.List.{drop_more, get_or-drop, length-drop, take_all
 use Rattle.std.proofs.lemmas.Option.{none-some}
 use Rattle.byteorder.specs.Endian.{little_bytes}
 use Rattle.lert_base.specs.declared.kept.Kept.{Kept}
+use Rattle.lert_bay.specs.declared.bay.TheConstants.{JOURNAL}
 use Rattle.lert_spec.specs.declared.numbers.Numbers.{Numbers}
 use Rattle.lert_spec.specs.Limits.{IsInLimits}
 use Rattle.lert_spec.specs.Trace.{agreed}
@@ -100,8 +101,8 @@ module _ (s : Numbers) (cone : ℕ) (limits : IsInLimits s) (below : cone < 2 ^ 
   other_or_left kept at has (inl left) = none-some at (sym has.whole ∙ left)
   other_or_left kept at has (inr (gateless, is)) = has.other (has.kept_is ∙ gateless.own)
 
-  left_fault : (fault : ReopenFault) (at : ℕ) → BeginningLeaves s cone file at → IsHeaderFault s cone file fault → fault ≡ Malformed 0 at
-  left_fault fault at left (inl (other, is, too)) = is ∙ ap (Malformed 0) (one_beginning other at too left)
+  left_fault : (fault : ReopenFault) (at : ℕ) → BeginningLeaves s cone file at → IsHeaderFault s cone file fault → fault ≡ Malformed JOURNAL at
+  left_fault fault at left (inl (other, is, too)) = is ∙ ap (Malformed JOURNAL) (one_beginning other at too left)
   left_fault fault at left (inr (kept, is, other)) = absurd (other_or_left kept at other left)
 
   other_fault : (fault : ReopenFault) (kept : Kept) → HasOther s cone file kept → IsHeaderFault s cone file fault → fault ≡ OtherSettings kept
@@ -123,12 +124,14 @@ module _ (s : Numbers) (cone : ℕ) (limits : IsInLimits s) (below : cone < 2 ^ 
     headed_back (Err fault) (inl failed) headed = failed
     headed_back (Err fault) (inr is) headed = absurd (headed_or_fault fault headed is)
 
-    pub left_back : (result : Result T ReopenFault) → Told result → (at : ℕ) → BeginningLeaves s cone file at → IsErrAnd result (λ fault. (fault ≡ Failed) ⊎ (fault ≡ Malformed 0 at))
+    pub left_back : (result : Result T ReopenFault) → Told result → (at : ℕ) → BeginningLeaves s cone file at →
+        IsErrAnd result (λ fault. (fault ≡ Failed) ⊎ (fault ≡ Malformed JOURNAL at))
     left_back (Ok x) is at left = headed_whole is at left
     left_back (Err fault) (inl failed) at left = inl failed
     left_back (Err fault) (inr is) at left = inr (left_fault fault at left is)
 
-    pub other_back : (result : Result T ReopenFault) → Told result → (kept : Kept) → HasOther s cone file kept → IsErrAnd result (λ fault. (fault ≡ Failed) ⊎ (fault ≡ OtherSettings kept))
+    pub other_back : (result : Result T ReopenFault) → Told result → (kept : Kept) → HasOther s cone file kept →
+        IsErrAnd result (λ fault. (fault ≡ Failed) ⊎ (fault ≡ OtherSettings kept))
     other_back (Ok x) is kept has = has.other (has.kept_is ∙ headed_says is)
     other_back (Err fault) (inl failed) kept has = inl failed
     other_back (Err fault) (inr is) kept has = inr (other_fault fault kept has is)
@@ -153,15 +156,29 @@ read_whole count head file long few is whole =
 pub whole_file : (count : ℕ) (head file : List ℕ) → take count head ≡ take 32 file → 32 ≤ length (take count head) → 32 ≤ length file
 whole_file count head file is whole = omega (arith, whole, ap (λ (xs : List ℕ). length xs) is, length-take 32 file)
 
-pub gateless_there : (s : Numbers) (cone at : ℕ) (head file : List ℕ) (kept : Kept) → head ≡ take 32 file → take 8 head ≡ magic → 32 ≤ length file → at ≡ length file → at ≤ 32 → kept ≡ kept_in head →
-    kept ≡ record { cone = cone; numbers = s } → IsHeaderFault s cone file (Malformed 0 at)
+pub gateless_there : (s : Numbers) (cone at : ℕ) (head file : List ℕ) (kept : Kept) → head ≡ take 32 file → take 8 head ≡ magic → 32 ≤ length file → at ≡ length file → at ≤ 32 →
+    kept ≡ kept_in head →
+    kept ≡ record { cone = cone; numbers = s } → IsHeaderFault s cone file (Malformed JOURNAL at)
 gateless_there s cone at head file kept is begun long at_is short kept_is own =
-    inl (at, refl, inr (record { whole = whole_header file (first_eight file head is begun) long; own = sym (ap kept_in is) ∙ (sym kept_is ∙ own); short = omega (arith, at_is, short) }, at_is))
+    inl (
+      at,
+      refl,
+      inr (
+        record {
+          whole = whole_header file (first_eight file head is begun) long;
+          own = sym (ap kept_in is) ∙ (sym kept_is ∙ own);
+          short = omega (arith, at_is, short);
+        },
+        at_is,
+      ),
+    )
 
-pub fault_there : (s : Numbers) (cone : ℕ) (head file : List ℕ) (kept : Kept) → head ≡ take 32 file → take 8 head ≡ magic → 32 ≤ length file → kept ≡ kept_in head → kept ≢ record { cone = cone; numbers = s } → IsHeaderFault s cone file (OtherSettings kept)
+pub fault_there : (s : Numbers) (cone : ℕ) (head file : List ℕ) (kept : Kept) → head ≡ take 32 file → take 8 head ≡ magic → 32 ≤ length file → kept ≡ kept_in head →
+    kept ≢ record { cone = cone; numbers = s } → IsHeaderFault s cone file (OtherSettings kept)
 fault_there s cone head file kept is begun long kept_is other =
     inr (kept, refl, record { whole = whole_header file (first_eight file head is begun) long; kept_is = kept_is ∙ ap kept_in is; other = other })
 
-pub headed_there : (s : Numbers) (cone : ℕ) (head file : List ℕ) (kept : Kept) → ((k : ℕ) → slice_index head k < 256) → length head ≡ 32 → head ≡ take 32 file → take 8 head ≡ magic → 32 < length file → kept ≡ kept_in head → kept ≡ record { cone = cone; numbers = s } → IsHeaded s cone file
+pub headed_there : (s : Numbers) (cone : ℕ) (head file : List ℕ) (kept : Kept) → ((k : ℕ) → slice_index head k < 256) → length head ≡ 32 → head ≡ take 32 file →
+    take 8 head ≡ magic → 32 < length file → kept ≡ kept_in head → kept ≡ record { cone = cone; numbers = s } → IsHeaded s cone file
 headed_there s cone head file kept small long is begun gate kept_is own =
     record { headed = sym is ∙ header_of head small long s cone begun (sym kept_is ∙ own); gate = gate }

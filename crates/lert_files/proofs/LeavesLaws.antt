@@ -45,7 +45,8 @@ module _ (s : Numbers) (payload : List ℕ) (start : ℕ) (start_is : start ≡ 
         there = ap₂ (λ p reports. is_listed (number_in 8 payload p) (listed ++ reports)) (sym at) (sym (reports_there k)) ∙ repeated.listed_before;
       }
 
-  repeats : (listed : List Report) (k : ℕ) → k < reports_in s payload → start + 16 * k + 8 ≤ length payload → IsListedThere listed payload start k → IsRepeatedAt s listed payload (start + 16 * k)
+  repeats : (listed : List Report) (k : ℕ) → k < reports_in s payload → start + 16 * k + 8 ≤ length payload → IsListedThere listed payload start k →
+      IsRepeatedAt s listed payload (start + 16 * k)
   repeats listed k some whole there = record {
     k = k;
     some = some;
@@ -58,7 +59,8 @@ module _ (s : Numbers) (payload : List ℕ) (start : ℕ) (start_is : start ≡ 
   not_again listed n k new below there = true≢false (sym there ∙ new k below)
 
   -- a repeated key comes first, in a payload whose fields break at no place before it, or nowhere
-  pub first_again : (cone : ℕ) (records : List LogRecord) (k : ℕ) → ((place : ℕ) → log_left s cone (before_of records) payload ≡ Some place → start + 16 * k ≤ place) → k < reports_in s payload → start + 16 * k + 8 ≤ length payload →
+  pub first_again : (cone : ℕ) (records : List LogRecord) (k : ℕ) → ((place : ℕ) → log_left s cone (before_of records) payload ≡ Some place → start + 16 * k ≤ place) →
+      k < reports_in s payload → start + 16 * k + 8 ≤ length payload →
       IsListedThere (listed_in records) payload start k → AreNewThere (listed_in records) payload start k → PayloadLeavesAt s cone records payload (start + 16 * k)
   first_again cone records k before some whole there new = record {
     leaves = inr (repeats (listed_in records) k some whole there);
@@ -77,7 +79,8 @@ module _ (s : Numbers) (payload : List ℕ) (start : ℕ) (start_is : start ≡ 
 
     module _ (n : ℕ) (reports : ReportsBefore s cone (before_of records) payload place n) (new : AreNewThere (listed_in records) payload start n) where
       -- right behind some new reports
-      pub behind_new : (place ≡ start + 16 * n + 8 → is_listed (number_in 8 payload (start + 16 * n)) (listed_in records ++ reports_from payload start n) ≡ false) → PayloadLeavesAt s cone records payload place
+      pub behind_new : (place ≡ start + 16 * n + 8 → is_listed (number_in 8 payload (start + 16 * n)) (listed_in records ++ reports_from payload start n) ≡ false) →
+          PayloadLeavesAt s cone records payload place
       behind_new key = record {
         leaves = inl is;
         first_broken = λ other left. omega (arith, same_left other left);
@@ -105,17 +108,21 @@ module _ (s : Numbers) (payload : List ℕ) (start : ℕ) (start_is : start ≡ 
       ]
 
     -- at one of those that stand wholly before the place
-    pub among : (n k : ℕ) → ReportsBefore s cone (before_of records) payload place n → k < n → IsListedThere (listed_in records) payload start k → AreNewThere (listed_in records) payload start k → PayloadLeavesAt s cone records payload (start + 16 * k)
+    pub among : (n k : ℕ) → ReportsBefore s cone (before_of records) payload place n → k < n → IsListedThere (listed_in records) payload start k →
+        AreNewThere (listed_in records) payload start k → PayloadLeavesAt s cone records payload (start + 16 * k)
     among n k reports below there new =
-        first_again cone records k (λ other left. omega (arith, same_left other left, place_behind reports.place_is)) (omega (arith, reports.few, below)) (omega (arith, reports.there, start_is, below)) there new
+        first_again cone records k (λ other left. omega (arith, same_left other left, place_behind reports.place_is)) (omega (arith, reports.few, below))
+        (omega (arith, reports.there, start_is, below)) there new
       where
-        place_behind : (place ≡ reports_place s (n0_in payload) + 4 + 16 * n) ⊎ ((place ≡ reports_place s (n0_in payload) + 4 + 16 * n + 8) × (n < reports_in s payload) × HasKey s cone (before_of records) payload n) → start + 16 * k ≤ place
+        place_behind : (place ≡ reports_place s (n0_in payload) + 4 + 16 * n) ⊎
+            ((place ≡ reports_place s (n0_in payload) + 4 + 16 * n + 8) × (n < reports_in s payload) × HasKey s cone (before_of records) payload n) → start + 16 * k ≤ place
         place_behind (inl at) = omega (arith, at, start_is, below)
         place_behind (inr at) = omega (arith, at.0, start_is, below)
 
   -- ---- how many reports stand before the place
 
-  pub before_there : (cone : ℕ) (before : LogBefore) (place : ℕ) → log_left s cone before payload ≡ Some place → start ≤ place → ReportsBefore s cone before payload place ((place - start) / 16)
+  pub before_there : (cone : ℕ) (before : LogBefore) (place : ℕ) → log_left s cone before payload ≡ Some place → start ≤ place → ReportsBefore s cone before payload place
+      ((place - start) / 16)
   before_there cone before place is behind =
       subst (λ st. ReportsBefore s cone before payload place ((place - st) / 16)) (sym start_is) (reports_before s cone before payload place is (omega (arith, behind, start_is)))
 
@@ -132,13 +139,15 @@ module _ (s : Numbers) (payload : List ℕ) (start : ℕ) (start_is : start ≡ 
     pub key_of_cone : (k : ℕ) → HasKey s cone before payload k → cone_of s (number_in 8 payload (start + 16 * k)) ≡ cone
     key_of_cone k key = subst (λ st. cone_of s (number_in 8 payload (st + 16 * k)) ≡ cone) (sym start_is) key.of_cone
 
-    pub all_of_cone : (listed : List Report) (n : ℕ) → All (λ report. cone_of s report.key ≡ cone) listed → ((k : ℕ) → k < n → HasKey s cone before payload k) → All (λ report. cone_of s report.key ≡ cone) (listed ++ reports_from payload start n)
+    pub all_of_cone : (listed : List Report) (n : ℕ) → All (λ report. cone_of s report.key ≡ cone) listed → ((k : ℕ) → k < n → HasKey s cone before payload k) →
+        All (λ report. cone_of s report.key ≡ cone) (listed ++ reports_from payload start n)
     all_of_cone listed n are keys =
         let there : ℕ → Report = λ k. report_in payload (start + 16 * k) in
         All-append (λ (report : Report). cone_of s report.key ≡ cone) listed (reports_from payload start n) are
         (λ k d below.
         let among_n : k < n = omega (arith, below, length_from payload start n) in
-        subst (λ (report : Report). cone_of s report.key ≡ cone) (sym (get_or-map-range_with_len there 0 n k k d among_n (let same : 0 + k ≡ k = omega arith in same))) (key_of_cone k (keys k among_n)))
+        subst (λ (report : Report). cone_of s report.key ≡ cone) (sym (get_or-map-range_with_len there 0 n k k d among_n (let same : 0 + k ≡ k = omega arith in same)))
+        (key_of_cone k (keys k among_n)))
 
   pub place_small : (cone : ℕ) (before : LogBefore) (place n : ℕ) → ReportsBefore s cone before payload place n → place ≤ length payload + 8
   place_small cone before place n reports = elim reports.place_is [

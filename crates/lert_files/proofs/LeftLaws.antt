@@ -29,7 +29,8 @@ below_append : (limit : ℕ) (fields others : List Field) → AreBelow limit fie
 below_append limit [] others are more = more
 below_append limit (field ∷ fields) others are more = (are.0, below_append limit fields others are.1 more)
 
-below_flat : (limit : ℕ) (fields_of : ℕ → List Field) (n from : ℕ) → ((k : ℕ) → from ≤ k → k < from + n → AreBelow limit (fields_of k)) → AreBelow limit (flat_map fields_of (range_with_len from n))
+below_flat : (limit : ℕ) (fields_of : ℕ → List Field) (n from : ℕ) → ((k : ℕ) → from ≤ k → k < from + n → AreBelow limit (fields_of k)) →
+    AreBelow limit (flat_map fields_of (range_with_len from n))
 below_flat limit fields_of zero from each = tt
 below_flat limit fields_of (suc n) from each =
     below_append limit (fields_of from) (flat_map fields_of (range_with_len (from + 1) n)) (each from (omega arith) (omega arith))
@@ -45,7 +46,8 @@ module _ (payload : List ℕ) where
       ]
 
   -- a place is among the first fields, or none of them breaks and it is among the others
-  split_left : (fields others : List Field) (place : ℕ) → left_at payload (fields ++ others) ≡ Some place → (left_at payload fields ≡ Some place) ⊎ ((left_at payload fields ≡ None) × (left_at payload others ≡ Some place))
+  split_left : (fields others : List Field) (place : ℕ) → left_at payload (fields ++ others) ≡ Some place → (left_at payload fields ≡ Some place) ⊎
+      ((left_at payload fields ≡ None) × (left_at payload others ≡ Some place))
   split_left fields others place is =
       elim (cases_option (left_at payload fields)) [
         | inl none ↦ inr (none, sym (goes_on payload fields others (left_at payload others) none refl) ∙ is)
@@ -133,7 +135,8 @@ module _ (s : Numbers) (cone : ℕ) (before : LogBefore) (payload : List ℕ) wh
         elim (cases_option (left_at payload (head_fields s before payload))) [
           | inl none ↦ none
           | inr found ↦ (
-              let here = in_first payload (head_fields s before payload) (directory_fields s payload) (count_field s before payload ∷ []) (all_report_fields s cone before payload) (end_field s payload ∷ []) found.0 found.1 in
+              let here = in_first payload (head_fields s before payload) (directory_fields s payload) (count_field s before payload ∷ [])
+              (all_report_fields s cone before payload) (end_field s payload ∷ []) found.0 found.1 in
               absurd (omega (arith, behind, left_below payload 25 (head_fields s before payload) found.0 head_below found.1, some_place found.0 place (sym here ∙ is))))
         ]
 
@@ -154,7 +157,8 @@ module _ (s : Numbers) (cone : ℕ) (before : LogBefore) (payload : List ℕ) wh
         let one = first_kept payload (kind_field payload) fields none in
         let two = first_kept payload (n0_field s before payload) (offset_field payload ∷ first_field s payload ∷ []) one.1 in
         let keeps = keeps_rule payload (n0_field s before payload) two.0 in
-        let parts = and_parts (nat_le n0 (capacity s)) (if slice_index payload 0 == 1 then n0 == next_flush s before.flushes else nat_le before.n0 n0 && nat_lt n0 (next_flush s before.flushes)) keeps in
+        let parts = and_parts (nat_le n0 (capacity s)) (if slice_index payload 0 == 1 then n0 == next_flush s before.flushes else nat_le before.n0 n0 && nat_lt n0
+        (next_flush s before.flushes)) keeps in
         leb-true n0 (capacity s) parts.0
 
   -- ---- the reports before the place
@@ -224,7 +228,12 @@ module _ (s : Numbers) (cone : ℕ) (before : LogBefore) (payload : List ℕ) wh
     before_reports : left_at payload (head ++ directory ++ count) ≡ Some place → ⊥
     before_reports here =
         elim (split_left payload (head ++ directory) count place here) [
-          | inl early ↦ omega (arith, behind, left_below payload (reports_place s n0) (head ++ directory) place (below_append (reports_place s n0) head directory head_before directory_below) early)
+          | inl early ↦ omega (
+            arith,
+            behind,
+            left_below payload (reports_place s n0) (head ++ directory) place
+                (below_append (reports_place s n0) head directory head_before directory_below) early,
+          )
           | inr late ↦ omega (arith, behind, one_left payload (count_field s before payload) place late.1)
         ]
 
@@ -250,11 +259,13 @@ module _ (s : Numbers) (cone : ℕ) (before : LogBefore) (payload : List ℕ) wh
           },
         )
 
-    at_end : left_at payload (head ++ directory ++ count) ≡ None → left_at payload reports ≡ None → left_at payload (end_field s payload ∷ []) ≡ Some place → (n : ℕ) × ReportsBefore place n
+    at_end : left_at payload (head ++ directory ++ count) ≡ None → left_at payload reports ≡ None → left_at payload (end_field s payload ∷ []) ≡ Some place →
+        (n : ℕ) × ReportsBefore place n
     at_end none whole_reports here =
         let good = count_there (count_good none) in
         let n = reports_in s payload in
-        let fine : (k : ℕ) → k < n → HasKey k × (start + 16 * k + 16 ≤ length payload) = λ k below. report_fine k (each_none payload (report_fields s cone before payload) n 0 whole_reports k (omega arith) (omega (arith, below))) in (
+        let fine : (k : ℕ) → k < n → HasKey k × (start + 16 * k + 16 ≤ length payload) = λ k below. report_fine k
+        (each_none payload (report_fields s cone before payload) n 0 whole_reports k (omega arith) (omega (arith, below))) in (
           n,
           record {
             few = omega arith;

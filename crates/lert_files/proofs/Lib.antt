@@ -1,5 +1,4 @@
 pub mod AgreedLaws
-pub mod CallLaws
 mod Examples
 pub mod GateLaws
 pub mod HeadLaws

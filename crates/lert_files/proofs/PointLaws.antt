@@ -28,7 +28,8 @@ PointsOn s records = IsPoint s (last_n0 records) (last_offset records) (last_fir
 point_none : (s : Numbers) → PointsOn s []
 point_none s = record { within = omega arith; offset_from = omega arith; offset_to = lit≤ tt; first_from = omega arith; first_to = omega arith }
 
-point_more : (s : Numbers) (cone : ℕ) (front : List LogRecord) (one : LogRecord) → KeepsRules s cone (before_of front) one → is_closed front ≡ false → PointsOn s front → PointsOn s (front ++ one ∷ [])
+point_more : (s : Numbers) (cone : ℕ) (front : List LogRecord) (one : LogRecord) → KeepsRules s cone (before_of front) one → is_closed front ≡ false → PointsOn s front →
+    PointsOn s (front ++ one ∷ [])
 point_more s cone front one keeps still_open points =
     let n0 = last_n0-push front one in
     let offset = last_offset-push front one in
@@ -67,7 +68,8 @@ module _ (s : Numbers) (valid : IsValid s) where
       directory_of_frames s valid 0 (omega arith) (replicate s.levels []) (length-replicate {A = List ℕ} s.levels [])
       (λ k below. subst (AreFramesAt s 0 (k + 1)) (sym (get_or-replicate s.levels k [] [] below)) (no_frames s (k + 1)))
 
-  directed_more : (cone : ℕ) (front : List LogRecord) (one : LogRecord) → KeepsRules s cone (before_of front) one → is_closed front ≡ false → Directed front → Directed (front ++ one ∷ [])
+  directed_more : (cone : ℕ) (front : List LogRecord) (one : LogRecord) → KeepsRules s cone (before_of front) one → is_closed front ≡ false → Directed front →
+      Directed (front ++ one ∷ [])
   directed_more cone front one keeps still_open directed =
       subst (λ n. IsDirectory s n (directory_bytes (last_directory s (front ++ one ∷ [])))) (sym (last_n0-push front one))
       (subst (λ levels. IsDirectory s one.n0 (directory_bytes levels)) (sym (last_directory-push s front one))
@@ -80,7 +82,8 @@ module _ (s : Numbers) (valid : IsValid s) where
 
 -- ---- what was read of records that keep the rules
 
-module _ (s : Numbers) (cone : ℕ) (reports : List Report) (directory : List ℕ) (n0 offset first : ℕ) (closed : Bool) (records : List LogRecord) (is : IsReadOf s cone n0 offset first closed reports directory records) where
+module _ (s : Numbers) (cone : ℕ) (reports : List Report) (directory : List ℕ) (n0 offset first : ℕ) (closed : Bool) (records : List LogRecord)
+    (is : IsReadOf s cone n0 offset first closed reports directory records) where
   pub point_of : IsPoint s n0 offset first
   point_of =
       subst (λ n. IsPoint s n offset first) (sym is.n0_is)
@@ -96,7 +99,8 @@ module _ (s : Numbers) (cone : ℕ) (reports : List Report) (directory : List �
 
 -- of an answer
 abbrev pub Reads : Numbers → ℕ → List Report → List ℕ → (List LogRecord → ℕ → Type 0) → Result LogPoint ReopenFault → Type 0
-Reads s cone reports directory Q result = IfOk result (λ end. (records : List LogRecord) × IsReadOf s cone end.n0 end.offset end.first end.closed reports directory records × Q records end.log_end)
+Reads s cone reports directory Q result = IfOk result (λ end. (records : List LogRecord) × IsReadOf s cone end.n0 end.offset end.first end.closed reports directory records × Q
+    records end.log_end)
 
 module _ (s : Numbers) (cone : ℕ) (reports : List Report) (directory : List ℕ) (Q : List LogRecord → ℕ → Type 0) where
   pub points : (result : Result LogPoint ReopenFault) → Reads s cone reports directory Q result → IfOk result (λ end. IsPoint s end.n0 end.offset end.first)

@@ -22,7 +22,8 @@ use Rattle.lert_files.specs.Read.{AreReportsUpTo}
 
 -- ---- record by record
 
-module _ (s : Numbers) (cone : ℕ) (P : List LogRecord → Type 0) (more : (front : List LogRecord) (one : LogRecord) → KeepsRules s cone (before_of front) one → is_closed front ≡ false → P front → P (front ++ one ∷ [])) where
+module _ (s : Numbers) (cone : ℕ) (P : List LogRecord → Type 0) (more : (front : List LogRecord) (one : LogRecord) → KeepsRules s cone (before_of front) one →
+    is_closed front ≡ false → P front → P (front ++ one ∷ [])) where
   from_here : (front rest : List LogRecord) → P front → AreRecords s cone (front ++ rest) → P (front ++ rest)
   from_here front [] here are = subst P (sym (append-nil front)) here
   from_here front (one ∷ rest) here are =
@@ -53,7 +54,8 @@ rising : (least : ℕ) (reports : List Report) → AllPairs (λ one other. one.a
 rising least [] ascending behind = record { no_less = omega arith; most = λ k d below. absurd (omega (arith, below)) }
 rising least (report ∷ reports) ascending behind =
     let first : least ≤ report.at = All-head (λ (r : Report). least ≤ r.at) report reports behind in
-    let rest = rising report.at reports (λ i j d less below. ascending (suc i) (suc j) d (omega (arith, less)) (omega (arith, below))) (λ j d below. ascending 0 (suc j) d (omega arith) (omega (arith, below))) in
+    let rest = rising report.at reports (λ i j d less below. ascending (suc i) (suc j) d (omega (arith, less)) (omega (arith, below)))
+    (λ j d below. ascending 0 (suc j) d (omega arith) (omega (arith, below))) in
     record {
       no_less = omega (arith, first, rest.no_less);
       most = All-cons (λ (r : Report). r.at ≤ last_at_from report.at reports) report reports rest.no_less rest.most;
@@ -77,11 +79,13 @@ module _ (s : Numbers) (cone : ℕ) (valid : IsValid s) where
   next_later : (flushes : ℕ) → next_flush s flushes ≤ next_flush s (flushes + 1)
   next_later flushes = omega arith
 
-  before_next_more : (before : LogBefore) (kind : LogKind) (n0 : ℕ) → IsInTurn s before kind n0 → is_closing kind ≡ false → n0 ≤ next_flush s (before.flushes + cond (is_flush kind) 1 0)
+  before_next_more : (before : LogBefore) (kind : LogKind) (n0 : ℕ) → IsInTurn s before kind n0 → is_closing kind ≡ false →
+      n0 ≤ next_flush s (before.flushes + cond (is_flush kind) 1 0)
   before_next_more before LogKind.Flush n0 turn flush = omega (arith, turn, next_later before.flushes)
   before_next_more before LogKind.Closing n0 turn flush = absurd (true≢false flush)
 
-  few_more : (before : LogBefore) (kind : LogKind) (n0 : ℕ) → IsInTurn s before kind n0 → n0 ≤ capacity s → before.flushes ≤ capacity s → before.flushes + cond (is_flush kind) 1 0 ≤ capacity s
+  few_more : (before : LogBefore) (kind : LogKind) (n0 : ℕ) → IsInTurn s before kind n0 → n0 ≤ capacity s → before.flushes ≤ capacity s →
+      before.flushes + cond (is_flush kind) 1 0 ≤ capacity s
   few_more before LogKind.Flush n0 turn within few =
       let product = le-mul_of_pos_right {m = s.base} (s.bins + before.flushes) (omega (arith, valid.limits.base_from)) in
       omega (arith, turn, within, product, valid.limits.bins_from)

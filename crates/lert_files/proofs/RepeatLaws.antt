@@ -22,7 +22,8 @@ module _ (payload : List ℕ) (start : ℕ) where
   from_more n = map-range_with_len_more there 0 n n (let same : 0 + n ≡ n = omega arith in same)
 
   -- behind those that are listed
-  pub listed_more : (listed : List Report) (n : ℕ) → listed ++ reports_from payload start (n + 1) ≡ (listed ++ reports_from payload start n) ++ report_in payload (start + 16 * n) ∷ []
+  pub listed_more : (listed : List Report) (n : ℕ) → listed ++ reports_from payload start (n + 1) ≡ (listed ++ reports_from payload start n) ++ report_in payload
+      (start + 16 * n) ∷ []
   listed_more listed n = ap (λ more. listed ++ more) (from_more n) ∙ sym (append_assoc listed (reports_from payload start n) (report_in payload (start + 16 * n) ∷ []))
 
   listed_first : (listed : List Report) (n count : ℕ) → n ≤ count → take (length listed + n) (listed ++ reports_from payload start count) ≡ listed ++ reports_from payload start n
@@ -31,12 +32,14 @@ module _ (payload : List ℕ) (start : ℕ) where
       ∙ ap (λ more. listed ++ more) (take-map-range_with_len there 0 count n within)
 
   -- keys of one cone, among all those that are to come
-  module _ (s : Numbers) (listed : List Report) (cone n count : ℕ) (are : All (λ report. cone_of s report.key ≡ cone) (listed ++ reports_from payload start count)) (within : n < count) where
+  module _ (s : Numbers) (listed : List Report) (cone n count : ℕ) (are : All (λ report. cone_of s report.key ≡ cone) (listed ++ reports_from payload start count))
+      (within : n < count) where
     of_cone_here : cone_of s (number_in 8 payload (start + 16 * n)) ≡ cone
     of_cone_here =
         let other = there n in
         let long = length-append listed (reports_from payload start count) in
-        let here = All-get_or (λ (report : Report). cone_of s report.key ≡ cone) (listed ++ reports_from payload start count) (length listed + n) other (omega (arith, long, length_from count, within)) are in
+        let here = All-get_or (λ (report : Report). cone_of s report.key ≡ cone) (listed ++ reports_from payload start count) (length listed + n) other
+        (omega (arith, long, length_from count, within)) are in
         let is : get_or (listed ++ reports_from payload start count) (length listed + n) other ≡ there n =
         get_or-append-add listed (reports_from payload start count) n other
         ∙ get_or-map-range_with_len there 0 count n n other within (let same : 0 + n ≡ n = omega arith in same) in

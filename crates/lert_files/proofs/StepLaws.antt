@@ -40,11 +40,13 @@ not_there : (key : ℕ) (xs : List Report) → is_listed key xs ≡ false → (k
 not_there key xs new k d below same =
     true≢false (sym (list_any_at (λ (report : Report). eqb report.key key) xs k d below (eq-eqb (get_or xs k d).key key same)) ∙ new)
 
-pub all_new : (listed : List Report) (payload : List ℕ) (start n : ℕ) → AllPairs (λ one other. one.key ≢ other.key) listed → AreNewThere listed payload start n → AllPairs (λ one other. one.key ≢ other.key) (listed ++ reports_from payload start n)
+pub all_new : (listed : List Report) (payload : List ℕ) (start n : ℕ) → AllPairs (λ one other. one.key ≢ other.key) listed → AreNewThere listed payload start n →
+    AllPairs (λ one other. one.key ≢ other.key) (listed ++ reports_from payload start n)
 all_new listed payload start zero once new = subst (AllPairs (λ (one other : Report). one.key ≢ other.key)) (sym (append-nil listed)) once
 all_new listed payload start (suc n) once new =
     let front = listed ++ reports_from payload start n in
-    let more = all_pairs_push (λ (one other : Report). one.key ≢ other.key) front _ (all_new listed payload start n once (λ k below. new k (omega (arith, below)))) (not_there _ front (new n (omega arith))) in
+    let more = all_pairs_push (λ (one other : Report). one.key ≢ other.key) front _ (all_new listed payload start n once (λ k below. new k (omega (arith, below))))
+    (not_there _ front (new n (omega arith))) in
     let next : n + 1 ≡ suc n = omega arith in
     subst (λ m. AllPairs (λ (one other : Report). one.key ≢ other.key) (listed ++ reports_from payload start m)) next
     (subst (AllPairs (λ (one other : Report). one.key ≢ other.key)) (sym (listed_more payload start listed n)) more)
@@ -59,7 +61,8 @@ frames_few s level n frames are =
     let found = Any-from_list_any (eqb q) frames listed in
     omega (arith, are.known found.0 found.1 found.2, found.3, eqb-true q found.1 found.4))
 
-bytes_few : (levels : List (List ℕ)) (most : ℕ) → ((k : ℕ) → k < length levels → length (slice_index_or levels k []) ≤ most) → length (directory_bytes levels) ≤ length levels * (1 + most)
+bytes_few : (levels : List (List ℕ)) (most : ℕ) → ((k : ℕ) → k < length levels → length (slice_index_or levels k []) ≤ most) → length (directory_bytes levels) ≤ length levels *
+    (1 + most)
 bytes_few [] most each = omega arith
 bytes_few (frames ∷ levels) most each =
     let rest = bytes_few levels most (λ k below. each (suc k) (omega (arith, below))) in
@@ -69,7 +72,8 @@ bytes_few (frames ∷ levels) most each =
 
 pub directory_fits : (s : Numbers) (cone : ℕ) (before : LogBefore) (one : LogRecord) → KeepsRules s cone before one → length (directory_bytes one.directory) ≤ most_directory s
 directory_fits s cone before one keeps =
-    let few = bytes_few one.directory (s.bins + 1) (λ k below. frames_few s (k + 1) one.n0 (slice_index_or one.directory k []) (keeps.frames k (omega (arith, below, keeps.levels)))) in
+    let few = bytes_few one.directory (s.bins + 1) (λ k below. frames_few s (k + 1) one.n0 (slice_index_or one.directory k [])
+    (keeps.frames k (omega (arith, below, keeps.levels)))) in
     omega (arith, few, ap (λ n. n * (1 + (s.bins + 1))) keeps.levels)
 
 -- and finds room
@@ -80,7 +84,8 @@ most_directory_fits s valid =
     mul-le-mul levels frames
 
 -- it stands behind the four fields that begin the payload
-pub directory_there : (one : LogRecord) (payload : List ℕ) (n : ℕ) → payload ≡ log_payload_of one → n ≡ length (directory_bytes one.directory) → take n (drop 25 payload) ≡ directory_bytes one.directory
+pub directory_there : (one : LogRecord) (payload : List ℕ) (n : ℕ) → payload ≡ log_payload_of one → n ≡ length (directory_bytes one.directory) →
+    take n (drop 25 payload) ≡ directory_bytes one.directory
 directory_there one payload n is n_is =
     let directory = directory_bytes one.directory in
     let count = little_bytes 4 (length one.reports) in
@@ -103,7 +108,8 @@ pub record IsAfter (progress next : Progress) (reports : List Report) (one : Log
   pub first_is : next.first ≡ one.first
   pub closed_is : next.closed ≡ is_closing one.kind
 
-module _ (s : Numbers) (cone : ℕ) (progress next : Progress) (listed now : List Report) (directory bytes : List ℕ) (records : List LogRecord) (one : LogRecord) (has : HasRead s cone progress listed directory records) (still_open : progress.closed ≡ false)
+module _ (s : Numbers) (cone : ℕ) (progress next : Progress) (listed now : List Report) (directory bytes : List ℕ) (records : List LogRecord) (one : LogRecord)
+    (has : HasRead s cone progress listed directory records) (still_open : progress.closed ≡ false)
     (keeps : KeepsRules s cone progress.before one) where
   pub keeps_behind : KeepsRules s cone (before_of records) one
   keeps_behind = subst (λ before. KeepsRules s cone before one) has.before_is keeps
@@ -142,7 +148,8 @@ module _ (s : Numbers) (cone : ℕ) (progress next : Progress) (listed now : Lis
         before_is = before_now;
       }
 
-pub steps_more : (progress next : Progress) (reports : List Report) (one : LogRecord) → progress.closed ≡ false → IsAfter progress next reports one → steps next ≡ steps progress + 1
+pub steps_more : (progress next : Progress) (reports : List Report) (one : LogRecord) → progress.closed ≡ false → IsAfter progress next reports one →
+    steps next ≡ steps progress + 1
 steps_more progress next reports one still_open after =
     let flushes = ap (λ (before : LogBefore). before.flushes) after.before_is in
     one_step one.kind
@@ -150,7 +157,8 @@ steps_more progress next reports one still_open after =
     (ap (λ c. cond {A = ℕ} c 1 0) after.closed_is)
     (ap (λ c. cond {A = ℕ} c 1 0) still_open)
   where
-    one_step : (kind : LogKind) → next.before.flushes ≡ progress.before.flushes + cond (is_flush kind) 1 0 → cond {A = ℕ} next.closed 1 0 ≡ cond (is_closing kind) 1 0 → cond {A = ℕ} progress.closed 1 0 ≡ 0 → steps next ≡ steps progress + 1
+    one_step : (kind : LogKind) → next.before.flushes ≡ progress.before.flushes + cond (is_flush kind) 1 0 → cond {A = ℕ} next.closed 1 0 ≡ cond (is_closing kind) 1 0 →
+        cond {A = ℕ} progress.closed 1 0 ≡ 0 → steps next ≡ steps progress + 1
     one_step LogKind.Flush flushes closed shut = omega (arith, flushes, closed, shut)
     one_step LogKind.Closing flushes closed shut = omega (arith, flushes, closed, shut)
 
@@ -161,7 +169,8 @@ no_frames zero = refl
 no_frames (suc levels) = ap (λ bytes. 0 ∷ bytes) (no_frames levels)
 
 pub read_none : (s : Numbers) (cone : ℕ) (progress : Progress) (reports : List Report) (directory : List ℕ) →
-    progress ≡ record { before = record { flushes = 0; n0 = 0; reports = 0; at = 0 }; offset = 32; first = 1; closed = false } → reports ≡ [] → directory ≡ replicate s.levels 0 → HasRead s cone progress reports directory []
+    progress ≡ record { before = record { flushes = 0; n0 = 0; reports = 0; at = 0 }; offset = 32; first = 1; closed = false } → reports ≡ [] →
+    directory ≡ replicate s.levels 0 → HasRead s cone progress reports directory []
 read_none s cone progress reports directory is empty bytes = record {
   is_read = record {
     rules = records_none s cone;
@@ -176,14 +185,16 @@ read_none s cone progress reports directory is empty bytes = record {
 }
 
 -- nothing more was read
-pub read_still : (s : Numbers) (cone : ℕ) (progress now : Progress) (reports reports_now : List Report) (directory directory_now : List ℕ) (records : List LogRecord) → now ≡ progress → reports_now ≡ reports → directory_now ≡ directory →
+pub read_still : (s : Numbers) (cone : ℕ) (progress now : Progress) (reports reports_now : List Report) (directory directory_now : List ℕ) (records : List LogRecord) →
+    now ≡ progress → reports_now ≡ reports → directory_now ≡ directory →
     HasRead s cone progress reports directory records → HasRead s cone now reports_now directory_now records
 read_still s cone progress now reports reports_now directory directory_now records same reports_are bytes_are has =
     subst (λ (p : Progress). HasRead s cone p reports_now directory_now records) (sym same)
     (subst (λ rs. HasRead s cone progress rs directory_now records) (sym reports_are) (subst (λ bytes. HasRead s cone progress reports bytes records) (sym bytes_are) has))
 
 -- records up to a closed gate are a log
-pub whole_log : (s : Numbers) (cone : ℕ) (bytes : List ℕ) (records : List LogRecord) (gate end : ℕ) → HasLogUpTo s cone bytes records gate → IsClosed bytes gate → end ≡ gate → HasLog s cone bytes records end
+pub whole_log : (s : Numbers) (cone : ℕ) (bytes : List ℕ) (records : List LogRecord) (gate end : ℕ) → HasLogUpTo s cone bytes records gate → IsClosed bytes gate → end ≡ gate →
+    HasLog s cone bytes records end
 whole_log s cone bytes records gate end up shut same =
     subst (HasLog s cone bytes records) (sym same) (record { headed = up.headed; records_stand = record { records = up.records_stand; closed = shut }; rules = up.rules })
 
@@ -192,7 +203,8 @@ up_none s cone bytes gate headed gate_is = record { headed = headed; records_sta
 
 -- ---- what every reading says of the next record
 
-module _ (s : Numbers) (cone : ℕ) (valid : IsValid s) (progress : Progress) (listed : List Report) (directory : List ℕ) (records : List LogRecord) (has : HasRead s cone progress listed directory records) where
+module _ (s : Numbers) (cone : ℕ) (valid : IsValid s) (progress : Progress) (listed : List Report) (directory : List ℕ) (records : List LogRecord)
+    (has : HasRead s cone progress listed directory records) where
   pub counted : progress.before.reports ≡ length listed
   counted = ap (λ (before : LogBefore). before.reports) has.before_is ∙ ap (length {A = Report}) (sym has.is_read.reports_are)
 
@@ -219,11 +231,13 @@ module _ (s : Numbers) (cone : ℕ) (valid : IsValid s) (progress : Progress) (l
 
 -- ---- the records in the file
 
-records_stand : (most gate : ℕ) (payloads : List (List ℕ)) (payload bytes : List ℕ) (end : ℕ) → Records most bytes gate payloads end → IsOpen most bytes end payload → Records most bytes gate (payloads ++ payload ∷ []) (next_gate end payload)
+records_stand : (most gate : ℕ) (payloads : List (List ℕ)) (payload bytes : List ℕ) (end : ℕ) → Records most bytes gate payloads end → IsOpen most bytes end payload →
+    Records most bytes gate (payloads ++ payload ∷ []) (next_gate end payload)
 records_stand most gate [] payload bytes end stand opened = (subst (λ g. IsOpen most bytes g payload) stand opened, ap (λ g. next_gate g payload) stand)
 records_stand most gate (first ∷ payloads) payload bytes end stand opened = (stand.0, records_stand most (next_gate gate first) payloads payload bytes end stand.1 opened)
 
-pub up_more : (s : Numbers) (cone : ℕ) (bytes : List ℕ) (records : List LogRecord) (one : LogRecord) (gate : ℕ) → HasLogUpTo s cone bytes records gate → IsOpen (most_record s) bytes gate (log_payload_of one) → AreRecords s cone (records ++ one ∷ []) →
+pub up_more : (s : Numbers) (cone : ℕ) (bytes : List ℕ) (records : List LogRecord) (one : LogRecord) (gate : ℕ) → HasLogUpTo s cone bytes records gate →
+    IsOpen (most_record s) bytes gate (log_payload_of one) → AreRecords s cone (records ++ one ∷ []) →
     HasLogUpTo s cone bytes (records ++ one ∷ []) (next_gate gate (log_payload_of one))
 up_more s cone bytes records one gate up opened rules = record {
   headed = up.headed;

@@ -3,6 +3,7 @@
 use Rattle.std.specs.Prelude.{◌≡◌, ◌≢◌, ℕ, ◌<◌, List, length, take, Some, None}
 use Rattle.std.proofs.Common.{◌⊎◌}
 use Rattle.lert_base.specs.declared.kept.Kept.{Kept}
+use Rattle.lert_bay.specs.declared.bay.TheConstants.{JOURNAL}
 use Rattle.lert_journal.specs.Header.{header, header_left, kept_in}
 use Rattle.lert_files.specs.declared.fault.ReopenFault.{ReopenFault}
 use Rattle.lert_files.specs.declared.fault.ReopenFault.TheVariants.{Malformed, OtherSettings}
@@ -33,9 +34,9 @@ pub record HasOther (s : Numbers) (cone : ℕ) (bytes : List ℕ) (kept : Kept) 
 -- why the beginning of a journal is refused: it leaves the format, or it is another's
 abbrev pub IsHeaderFault : Numbers → ℕ → List ℕ → ReopenFault → Type 0
 IsHeaderFault s cone bytes fault =
-    ((at : ℕ) × (fault ≡ Malformed 0 at) × BeginningLeaves s cone bytes at)
+    ((at : ℕ) × (fault ≡ Malformed JOURNAL at) × BeginningLeaves s cone bytes at)
     ⊎ ((kept : Kept) × (fault ≡ OtherSettings kept) × HasOther s cone bytes kept)
 
 -- a place of the journal, or other numbers
 abbrev pub IsOfHeader : ReopenFault → Type 0
-IsOfHeader fault = ((at : ℕ) × (fault ≡ Malformed 0 at)) ⊎ ((kept : Kept) × (fault ≡ OtherSettings kept))
+IsOfHeader fault = ((at : ℕ) × (fault ≡ Malformed JOURNAL at)) ⊎ ((kept : Kept) × (fault ≡ OtherSettings kept))

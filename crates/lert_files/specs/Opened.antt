@@ -1,8 +1,9 @@
 -- What stands in a cone's files before the records of its journal, and where they first leave their format.
-use Rattle.std.specs.Prelude.{◌≡◌, ℕ, List, Option, Some, None}
+use Rattle.std.specs.Prelude.{◌≡◌, ℕ, List, Some, None}
 use Rattle.lert_base.specs.declared.kept.Kept.{Kept}
-use Rattle.lert_bay.specs.Files.{Files}
-use Rattle.lert_bay.specs.Images.{Lasts}
+use Rattle.lert_bay.specs.declared.bay.TheConstants.{JOURNAL, LOG, FRAMES}
+use Rattle.lert_bay.specs.Files.{Files, IfTold}
+use Rattle.lert_bay.specs.Kept.{Bays, KeepsBay}
 use Rattle.lert_rows.specs.declared.bin_at.BinAt.{BinAt}
 use Rattle.lert_rows.specs.declared.fault.FlushFault.{FlushFault}
 use Rattle.lert_rows.specs.declared.fault.FlushFault.TheVariants.{Failed as CheckFailed, Malformed as CheckMalformed, OutOfMemory as CheckOutOfMemory}
@@ -21,44 +22,44 @@ AreLastRows s records rows = AreNamed s (last_n0 records) (directory_bytes (last
 
 -- the journal has the cone's header, the log is whole, and the frames that its last record names are in their format
 pub record AreOpened (s : Numbers) (cone : ℕ) (seen : Files) (records : List LogRecord) (log_end : ℕ) (rows : List (List BinAt)) : Type 0 where
-  pub headed : IsHeaded s cone (seen 0)
-  pub log : HasLog s cone (seen 1) records log_end
+  pub headed : IsHeaded s cone (seen JOURNAL)
+  pub log : HasLog s cone (seen LOG) records log_end
   pub named : AreLastRows s records rows
-  pub frames : rows_left s (seen 2) rows ≡ None
+  pub frames : rows_left s (seen FRAMES) rows ≡ None
 
 -- the files first leave their format at this place, in the order in which they are read: the beginning of the journal,
 -- behind the right one the log, and behind a whole log the frames that its last record names
 pub data LeaveAt (s : Numbers) (cone : ℕ) (seen : Files) (file at : ℕ) : Type 0 where
-  In_beginning : file ≡ 0 → BeginningLeaves s cone (seen 0) at → LeaveAt s cone seen file at
-  In_log : IsHeaded s cone (seen 0) → file ≡ 1 → LogLeavesAt s cone (seen 1) at → LeaveAt s cone seen file at
-  In_frame : IsHeaded s cone (seen 0) → (records : List LogRecord) (log_end : ℕ) → HasLog s cone (seen 1) records log_end →
-      (rows : List (List BinAt)) → AreLastRows s records rows → file ≡ 2 → rows_left s (seen 2) rows ≡ Some at → LeaveAt s cone seen file at
+  In_beginning : file ≡ JOURNAL → BeginningLeaves s cone (seen JOURNAL) at → LeaveAt s cone seen file at
+  In_log : IsHeaded s cone (seen JOURNAL) → file ≡ LOG → LogLeavesAt s cone (seen LOG) at → LeaveAt s cone seen file at
+  In_frame : IsHeaded s cone (seen JOURNAL) → (records : List LogRecord) (log_end : ℕ) → HasLog s cone (seen LOG) records log_end →
+      (rows : List (List BinAt)) → AreLastRows s records rows → file ≡ FRAMES → rows_left s (seen FRAMES) rows ≡ Some at → LeaveAt s cone seen file at
 
 -- why files aren't read: a call or memory failed, or what stands in them
 pub data IsRefused (s : Numbers) (cone : ℕ) (seen : Files) (fault : ReopenFault) : Type 0 where
   By_call : fault ≡ Failed → IsRefused s cone seen fault
   By_memory : fault ≡ OutOfMemory → IsRefused s cone seen fault
   By_place : (file at : ℕ) → fault ≡ Malformed file at → LeaveAt s cone seen file at → IsRefused s cone seen fault
-  By_header : (kept : Kept) → fault ≡ OtherSettings kept → HasOther s cone (seen 0) kept → IsRefused s cone seen fault
+  By_header : (kept : Kept) → fault ≡ OtherSettings kept → HasOther s cone (seen JOURNAL) kept → IsRefused s cone seen fault
 
 -- what a refused check of the frames is
 abbrev pub checked_fault : FlushFault → ReopenFault
 checked_fault CheckFailed = Failed
-checked_fault (CheckMalformed at) = Malformed 2 at
+checked_fault (CheckMalformed at) = Malformed FRAMES at
 checked_fault CheckOutOfMemory = OutOfMemory
 
 -- ---- the bay
 
 -- an image has in each file what a read gives
 pub record IsAsRead (seen image : Files) : Type 0 where
-  pub journal : image 0 ≡ seen 0
-  pub log : image 1 ≡ seen 1
-  pub frames : image 2 ≡ seen 2
+  pub journal : image JOURNAL ≡ seen JOURNAL
+  pub log : image LOG ≡ seen LOG
+  pub frames : image FRAMES ≡ seen FRAMES
 
 -- Calls that write nothing: the files read as before. Where they are told, each image of each moment was one before, though
 -- there may be fewer afterwards, since a sync leaves fewer.
-pub record WritesNothing (files_before files_after : Option Files) (leaves_before leaves_after : Files → Type 0) (first last : ℕ) (since_before since_after : ℕ → Files → Type 0) : Type 0 where
-  pub seen : files_after ≡ files_before
-  pub images : (seen : Files) → files_before ≡ Some seen → (image : Files) → leaves_after image → leaves_before image
-  pub moments : (seen : Files) → files_before ≡ Some seen → (image : Files) → since_after first image → leaves_before image
-  pub time : Lasts first last since_before since_after
+pub record WritesNothing {B : Type 0} (bays : Bays B) (before after : B) (Failed : Type 0) : Type 0 where
+  pub kept : KeepsBay bays before after Failed
+  pub seen : bays.files after ≡ bays.files before
+  pub images : IfTold (bays.files before) (λ _. (image : Files) → bays.leaves after image → bays.leaves before image)
+  pub moments : IfTold (bays.files before) (λ _. (image : Files) → bays.left_since after (bays.moment before) image → bays.leaves before image)

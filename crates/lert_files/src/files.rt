@@ -1,9 +1,9 @@
 //! What is read of a cone's files before the records of its journal.
 
-ghost use Rattle.std.specs.Prelude.{◌≡◌, ◌⊎◌, ℕ, ◌≤◌, ◌^◌, List, [], Some, None, length, IfOk, IfErr, OnOk, MatchResult, IsErrOf, IsErrAnd};
+ghost use Rattle.std.specs.Prelude.{◌≡◌, ◌⊎◌, ℕ, ◌≤◌, ◌^◌, List, [], Some, None, length, IfOk, IfErr, OnOk, MatchResult, IsErr, IsErrOf, IsErrAnd};
 ghost use Rattle.lert_base.specs.declared.kept.Kept.{Kept as KeptOf};
+ghost use Rattle.lert_bay.specs.declared.bay.TheConstants.{JOURNAL, FRAMES};
 ghost use Rattle.lert_bay.specs.Files.{Files, IfTold};
-ghost use Rattle.lert_io.specs.Fault.{HasRisen, HasCause};
 ghost use Rattle.lert_rows.specs.declared.bin_at.BinAt.{BinAt};
 ghost use Rattle.lert_rows.specs.Checked.{EachStands};
 ghost use Rattle.lert_rows.specs.Rows.{IsAt, AreRows, directory_text};
@@ -52,12 +52,12 @@ pub fn read_files<B: Bay, T: CountTable>(
     ensures opened { IfTold (B.files bay.old) (λ seen. IfOk result (λ end. (records : List LogRecord)
         × IsReadOf settings.now cone end.n0 end.offset end.first end.closed store.new.reports (directory_text levels.new.rows) records
         × AreOpened settings.now cone seen records end.log_end levels.new.rows)) }
-    ensures stand { IfTold (B.files bay.old) (λ seen. OnOk result (EachStands settings.now (seen 2) levels.new.rows)) }
+    ensures stand { IfTold (B.files bay.old) (λ seen. OnOk result (EachStands settings.now (seen FRAMES) levels.new.rows)) }
     ensures durable { IfTold (B.files bay.old) (λ seen. OnOk result ((image : Files) → B.leaves bay.new image → IsAsRead seen image)) }
     ensures malformed { IfTold (B.files bay.old) (λ seen. (file at : ℕ) → IsErrOf result (ReopenFault.Malformed file at) →
         LeaveAt settings.now cone seen file at) }
     ensures other { IfTold (B.files bay.old) (λ seen. (kept : KeptOf) → IsErrOf result (ReopenFault.OtherSettings kept) →
-        HasOther settings.now cone (seen 0) kept) }
+        HasOther settings.now cone (seen JOURNAL) kept) }
 
     // And what stands in them is the answer, but where a call of the bay or memory fails.
     ensures passes { IfTold (B.files bay.old) (λ seen. (records : List LogRecord) (log_end : ℕ) (rows : List (List BinAt)) →
@@ -68,13 +68,10 @@ pub fn read_files<B: Bay, T: CountTable>(
         (λ fault. (fault ≡ ReopenFault.Failed) ⊎ (fault ≡ ReopenFault.OutOfMemory))) }
     ensures refuses { IfTold (B.files bay.old) (λ seen. (file at : ℕ) → LeaveAt settings.now cone seen file at →
         IsErrAnd result (λ fault. ((fault ≡ ReopenFault.Failed) ⊎ (fault ≡ ReopenFault.OutOfMemory)) ⊎ (fault ≡ ReopenFault.Malformed file at))) }
-    ensures differs { IfTold (B.files bay.old) (λ seen. (kept : KeptOf) → HasOther settings.now cone (seen 0) kept →
+    ensures differs { IfTold (B.files bay.old) (λ seen. (kept : KeptOf) → HasOther settings.now cone (seen JOURNAL) kept →
         IsErrAnd result (λ fault. ((fault ≡ ReopenFault.Failed) ⊎ (fault ≡ ReopenFault.OutOfMemory)) ⊎ (fault ≡ ReopenFault.OtherSettings kept))) }
     ensures same { (levels.new.settings ≡ levels.old.settings) × (store.new.settings ≡ store.old.settings) }
-    ensures quiet { WritesNothing (B.files bay.old) (B.files bay.new) (B.leaves bay.old) (B.leaves bay.new) (B.moment bay.old) (B.moment bay.new) (B.left_since bay.old) (B.left_since bay.new) }
-    ensures never_falls { B.faults bay.old ≤ B.faults bay.new }
-    ensures failed { IsErrOf result ReopenFault.Failed → HasRisen (B.faults bay.old) (B.faults bay.new) }
-    ensures mark { B.mark bay.new ≡ B.mark bay.old }
+    ensures quiet { WritesNothing B.Bay bay.old bay.new (IsErrOf result ReopenFault.Failed) }
 {
     // Its clause says that the numbers are valid.
     let _ = settings.numbers();
@@ -104,13 +101,10 @@ fn read_in_order<B: Bay, T: CountTable>(
         × IsReadOf settings.now cone end.n0 end.offset end.first end.closed store.new.reports (directory_text levels.new.rows) records
         × AreOpened settings.now cone seen records end.log_end levels.new.rows)
         (IsRefused settings.now cone seen)) }
-    ensures stand { IfTold (B.files bay.old) (λ seen. OnOk result (EachStands settings.now (seen 2) levels.new.rows)) }
+    ensures stand { IfTold (B.files bay.old) (λ seen. OnOk result (EachStands settings.now (seen FRAMES) levels.new.rows)) }
     ensures durable { IfTold (B.files bay.old) (λ seen. OnOk result ((image : Files) → B.leaves bay.new image → IsAsRead seen image)) }
     ensures same { (levels.new.settings ≡ levels.old.settings) × (store.new.settings ≡ store.old.settings) }
-    ensures quiet { WritesNothing (B.files bay.old) (B.files bay.new) (B.leaves bay.old) (B.leaves bay.new) (B.moment bay.old) (B.moment bay.new) (B.left_since bay.old) (B.left_since bay.new) }
-    ensures never_falls { B.faults bay.old ≤ B.faults bay.new }
-    ensures failed { IsErrOf result ReopenFault.Failed → HasRisen (B.faults bay.old) (B.faults bay.new) }
-    ensures mark { B.mark bay.new ≡ B.mark bay.old }
+    ensures quiet { WritesNothing B.Bay bay.old bay.new (IsErrOf result ReopenFault.Failed) }
 {
     let mut directory = Directory::new();
     // Durable first: a second stop takes nothing back of what is read here.
@@ -126,9 +120,7 @@ fn read_in_order<B: Bay, T: CountTable>(
 // Makes the three files durable.
 fn sync_files<B: Bay>(bay: &mut B) -> Result<(), Failed>
     ensures durable { IfTold (B.files bay.old) (λ seen. OnOk result ((image : Files) → B.leaves bay.new image → IsAsRead seen image)) }
-    ensures quiet { WritesNothing (B.files bay.old) (B.files bay.new) (B.leaves bay.old) (B.leaves bay.new) (B.moment bay.old) (B.moment bay.new) (B.left_since bay.old) (B.left_since bay.new) }
-    ensures cause { HasCause (B.faults bay.old) (B.faults bay.new) result }
-    ensures mark { B.mark bay.new ≡ B.mark bay.old }
+    ensures quiet { WritesNothing B.Bay bay.old bay.new (IsErr result) }
 {
     bay.sync(JOURNAL)?;
     bay.sync(LOG)?;

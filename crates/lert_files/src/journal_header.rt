@@ -2,9 +2,9 @@
 
 ghost use Rattle.std.specs.Prelude.{◌≡◌, ◌≢◌, ◌⊎◌, ℕ, ◌≤◌, List, Some, length, take, IsTrue, IsFalse, IfErr, MatchResult, IsErrOf, IsErrAnd};
 ghost use Rattle.lert_base.specs.declared.kept.Kept.{Kept as KeptOf};
-ghost use Rattle.lert_bay.specs.Files.{Files, IfTold};
-ghost use Rattle.lert_bay.specs.Images.{KeepsImages, Lasts};
-ghost use Rattle.lert_io.specs.Fault.{HasRisen};
+ghost use Rattle.lert_bay.specs.declared.bay.TheConstants.{JOURNAL};
+ghost use Rattle.lert_bay.specs.Files.{IfTold};
+ghost use Rattle.lert_bay.specs.Kept.{OnlyReads};
 ghost use Rattle.lert_files.specs.Headed.{BeginningLeaves, IsHeaded, HasOther, IsHeaderFault, IsOfHeader};
 
 use crate::fault::ReopenFault;
@@ -20,26 +20,20 @@ pub fn read_journal_header<B: Bay>(
     cone: u32,
 ) -> Result<(), ReopenFault>
     // Where the file is told, the answer is what stands there.
-    ensures told { IfTold (B.files bay.old) (λ seen. MatchResult result (λ _. IsHeaded settings.now cone (seen 0))
-        (λ fault. (fault ≡ ReopenFault.Failed) ⊎ IsHeaderFault settings.now cone (seen 0) fault)) }
+    ensures told { IfTold (B.files bay.old) (λ seen. MatchResult result (λ _. IsHeaded settings.now cone (seen JOURNAL))
+        (λ fault. (fault ≡ ReopenFault.Failed) ⊎ IsHeaderFault settings.now cone (seen JOURNAL) fault)) }
 
     // And what stands there is the answer, but where a call of the bay fails.
-    ensures reads_back { IfTold (B.files bay.old) (λ seen. IsHeaded settings.now cone (seen 0) →
+    ensures reads_back { IfTold (B.files bay.old) (λ seen. IsHeaded settings.now cone (seen JOURNAL) →
         MatchResult result (λ _. Unit {0}) (λ fault. fault ≡ ReopenFault.Failed)) }
-    ensures refuses { IfTold (B.files bay.old) (λ seen. (at : ℕ) → BeginningLeaves settings.now cone (seen 0) at →
-        IsErrAnd result (λ fault. (fault ≡ ReopenFault.Failed) ⊎ (fault ≡ ReopenFault.Malformed 0 at))) }
-    ensures differs { IfTold (B.files bay.old) (λ seen. (kept : KeptOf) → HasOther settings.now cone (seen 0) kept →
+    ensures refuses { IfTold (B.files bay.old) (λ seen. (at : ℕ) → BeginningLeaves settings.now cone (seen JOURNAL) at →
+        IsErrAnd result (λ fault. (fault ≡ ReopenFault.Failed) ⊎ (fault ≡ ReopenFault.Malformed JOURNAL at))) }
+    ensures differs { IfTold (B.files bay.old) (λ seen. (kept : KeptOf) → HasOther settings.now cone (seen JOURNAL) kept →
         IsErrAnd result (λ fault. (fault ≡ ReopenFault.Failed) ⊎ (fault ≡ ReopenFault.OtherSettings kept))) }
 
     // Told or not, it is the bay or the journal that is refused.
     ensures fault { IfErr result (λ fault. (fault ≡ ReopenFault.Failed) ⊎ IsOfHeader fault) }
-    ensures seen { B.files bay.new ≡ B.files bay.old }
-    ensures images { KeepsImages (B.leaves bay.old) (B.leaves bay.new) }
-    ensures moments { (image : Files) → B.left_since bay.new (B.moment bay.old) image → B.leaves bay.old image }
-    ensures time { Lasts (B.moment bay.old) (B.moment bay.new) (B.left_since bay.old) (B.left_since bay.new) }
-    ensures never_falls { B.faults bay.old ≤ B.faults bay.new }
-    ensures failed { IsErrOf result ReopenFault.Failed → HasRisen (B.faults bay.old) (B.faults bay.new) }
-    ensures mark { B.mark bay.new ≡ B.mark bay.old }
+    ensures only_reads { OnlyReads B.Bay bay.old bay.new (IsErrOf result ReopenFault.Failed) }
 {
     // Its clause says that the numbers are valid.
     let _ = settings.numbers();

@@ -1,11 +1,10 @@
 //! The whole log of a cone.
 
 ghost use Rattle.std.specs.Prelude.{◌≡◌, ◌⊎◌, ℕ, ◌<◌, ◌≤◌, ◌^◌, List, [], length, IfOk, IfErr, MatchResult, IsErrOf, IsErrAnd};
-ghost use Rattle.lert_bay.specs.Files.{Files, IfTold};
-ghost use Rattle.lert_bay.specs.Images.{KeepsImages, Lasts};
+ghost use Rattle.lert_bay.specs.declared.bay.TheConstants.{LOG};
+ghost use Rattle.lert_bay.specs.Files.{IfTold};
+ghost use Rattle.lert_bay.specs.Kept.{OnlyReads};
 ghost use Rattle.lert_bay.specs.Settled.{part};
-ghost use Rattle.lert_bay.specs.Kept.{OnlyRead};
-ghost use Rattle.lert_io.specs.Fault.{HasRisen};
 ghost use Rattle.lert_rows.specs.Named.{IsDirectory};
 ghost use Rattle.lert_files.specs.Read.{IsReadOf, IsPoint, AreReportsUpTo};
 ghost use Rattle.lert_reports.specs.Log.{log_header, most_record, HasLog, LogLeavesAt};
@@ -38,32 +37,26 @@ pub fn read_whole_log<B: Bay, T: CountTable>(
     // Told or not, what was read is that of some records that keep the rules. Where the file is told, they are its log.
     ensures read { IfOk result (λ end. (records : List LogRecord)
         × IsReadOf settings.now cone end.n0 end.offset end.first end.closed store.new.reports directory.new records
-        × IfTold (B.files bay.old) (λ seen. HasLog settings.now cone (seen 1) records end.log_end)) }
+        × IfTold (B.files bay.old) (λ seen. HasLog settings.now cone (seen LOG) records end.log_end)) }
     ensures reports { IfOk result (λ end. AreReportsUpTo settings.now cone end.n0 store.new.reports) }
     ensures point { IfOk result (λ end. IsPoint settings.now end.n0 end.offset end.first) }
     ensures directory { IfOk result (λ end. IsDirectory settings.now end.n0 directory.new) }
     ensures reach { IfOk result (λ end. end.log_end ≤ 2 ^ 62) }
     ensures malformed { IfTold (B.files bay.old) (λ seen. (file at : ℕ) → IsErrOf result (ReopenFault.Malformed file at) →
-        (file ≡ 1) × LogLeavesAt settings.now cone (seen 1) at) }
+        (file ≡ LOG) × LogLeavesAt settings.now cone (seen LOG) at) }
 
     // And what stands in the file is the answer, but where a call of the bay fails.
-    ensures reads_back { IfTold (B.files bay.old) (λ seen. (records : List LogRecord) (log_end : ℕ) → HasLog settings.now cone (seen 1) records log_end →
+    ensures reads_back { IfTold (B.files bay.old) (λ seen. (records : List LogRecord) (log_end : ℕ) → HasLog settings.now cone (seen LOG) records log_end →
         MatchResult result
         (λ end. (end.log_end ≡ log_end) × IsReadOf settings.now cone end.n0 end.offset end.first end.closed store.new.reports directory.new records)
         (λ fault. fault ≡ ReopenFault.Failed)) }
-    ensures refuses { IfTold (B.files bay.old) (λ seen. (at : ℕ) → LogLeavesAt settings.now cone (seen 1) at →
-        IsErrAnd result (λ fault. (fault ≡ ReopenFault.Failed) ⊎ (fault ≡ ReopenFault.Malformed 1 at))) }
+    ensures refuses { IfTold (B.files bay.old) (λ seen. (at : ℕ) → LogLeavesAt settings.now cone (seen LOG) at →
+        IsErrAnd result (λ fault. (fault ≡ ReopenFault.Failed) ⊎ (fault ≡ ReopenFault.Malformed LOG at))) }
 
     // Told or not, it is the bay or the log that is refused.
-    ensures fault { IfErr result (λ fault. (fault ≡ ReopenFault.Failed) ⊎ ((at : ℕ) × (fault ≡ ReopenFault.Malformed 1 at))) }
+    ensures fault { IfErr result (λ fault. (fault ≡ ReopenFault.Failed) ⊎ ((at : ℕ) × (fault ≡ ReopenFault.Malformed LOG at))) }
     ensures same { store.new.settings ≡ store.old.settings }
-    ensures seen { B.files bay.new ≡ B.files bay.old }
-    ensures images { KeepsImages (B.leaves bay.old) (B.leaves bay.new) }
-    ensures moments { (image : Files) → B.left_since bay.new (B.moment bay.old) image → B.leaves bay.old image }
-    ensures time { Lasts (B.moment bay.old) (B.moment bay.new) (B.left_since bay.old) (B.left_since bay.new) }
-    ensures never_falls { B.faults bay.old ≤ B.faults bay.new }
-    ensures failed { IsErrOf result ReopenFault.Failed → HasRisen (B.faults bay.old) (B.faults bay.new) }
-    ensures mark { B.mark bay.new ≡ B.mark bay.old }
+    ensures only_reads { OnlyReads B.Bay bay.old bay.new (IsErrOf result ReopenFault.Failed) }
 {
     // Its clause says that the numbers are valid.
     let _ = settings.numbers();
@@ -85,16 +78,13 @@ fn read_records<B: Bay, T: CountTable>(
     requires room { most_record settings.now ≤ length buffer.old }
     ensures read { IfOk result (λ end. (records : List LogRecord)
         × IsReadOf settings.now cone end.n0 end.offset end.first end.closed store.new.reports directory.new records
-        × IfTold (B.files bay.old) (λ seen. part (seen 1) 0 8 ≡ log_header → HasLog settings.now cone (seen 1) records end.log_end)) }
-    ensures malformed { IfTold (B.files bay.old) (λ seen. part (seen 1) 0 8 ≡ log_header → (file at : ℕ) → IsErrOf result (ReopenFault.Malformed file at) →
-        LogLeavesAt settings.now cone (seen 1) at) }
+        × IfTold (B.files bay.old) (λ seen. part (seen LOG) 0 8 ≡ log_header → HasLog settings.now cone (seen LOG) records end.log_end)) }
+    ensures malformed { IfTold (B.files bay.old) (λ seen. part (seen LOG) 0 8 ≡ log_header → (file at : ℕ) → IsErrOf result (ReopenFault.Malformed file at) →
+        LogLeavesAt settings.now cone (seen LOG) at) }
     ensures reach { IfOk result (λ end. end.log_end ≤ 2 ^ 62) }
     ensures same { store.new.settings ≡ store.old.settings }
-    ensures fault { IfErr result (λ fault. (fault ≡ ReopenFault.Failed) ⊎ ((at : ℕ) × (fault ≡ ReopenFault.Malformed 1 at))) }
-    ensures only_read { OnlyRead (B.files bay.old) (B.files bay.new) (B.leaves bay.old) (B.leaves bay.new) (B.moment bay.old) (B.moment bay.new) (B.left_since bay.old) (B.left_since bay.new) }
-    ensures never_falls { B.faults bay.old ≤ B.faults bay.new }
-    ensures failed { IsErrOf result ReopenFault.Failed → HasRisen (B.faults bay.old) (B.faults bay.new) }
-    ensures mark { B.mark bay.new ≡ B.mark bay.old }
+    ensures fault { IfErr result (λ fault. (fault ≡ ReopenFault.Failed) ⊎ ((at : ℕ) × (fault ≡ ReopenFault.Malformed LOG at))) }
+    ensures only_reads { OnlyReads B.Bay bay.old bay.new (IsErrOf result ReopenFault.Failed) }
 {
     let mut log = GateLog::at_gate(LOG, LOG_HEADER_LEN as u64, greatest_record(settings));
     let mut progress = Progress::new();

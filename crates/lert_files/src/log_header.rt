@@ -1,10 +1,10 @@
 //! The bytes that begin a log.
 
 ghost use Rattle.std.specs.Prelude.{◌≡◌, ◌⊎◌, ℕ, ◌<◌, ◌≤◌, List, length, OnOk, IfErr, IsErrOf};
-ghost use Rattle.lert_bay.specs.Files.{Files, IfTold};
+ghost use Rattle.lert_bay.specs.declared.bay.TheConstants.{LOG};
+ghost use Rattle.lert_bay.specs.Files.{IfTold};
+ghost use Rattle.lert_bay.specs.Kept.{OnlyReads};
 ghost use Rattle.lert_bay.specs.Settled.{part};
-ghost use Rattle.lert_bay.specs.Kept.{OnlyRead};
-ghost use Rattle.lert_io.specs.Fault.{HasRisen};
 ghost use Rattle.lert_reports.specs.Log.{log_header};
 ghost use Rattle.lert_spec.specs.Trace.{agreed};
 
@@ -20,14 +20,11 @@ const LOG_HEADER: [u8; LOG_HEADER_LEN] = [0x4c, 0x45, 0x52, 0x54, 0x4c, 0x01, 0x
 
 /// Reads the header of the log.
 pub fn read_log_header<B: Bay>(bay: &mut B) -> Result<(), ReopenFault>
-    ensures headed { IfTold (B.files bay.old) (λ seen. OnOk result (part (seen 1) 0 8 ≡ log_header)) }
+    ensures headed { IfTold (B.files bay.old) (λ seen. OnOk result (part (seen LOG) 0 8 ≡ log_header)) }
     ensures left { IfTold (B.files bay.old) (λ seen. (file at : ℕ) → IsErrOf result (ReopenFault.Malformed file at) →
-        (at ≡ agreed log_header (seen 1)) × (at < 8)) }
-    ensures fault { IfErr result (λ fault. (fault ≡ ReopenFault.Failed) ⊎ ((at : ℕ) × (fault ≡ ReopenFault.Malformed 1 at))) }
-    ensures only_read { OnlyRead (B.files bay.old) (B.files bay.new) (B.leaves bay.old) (B.leaves bay.new) (B.moment bay.old) (B.moment bay.new) (B.left_since bay.old) (B.left_since bay.new) }
-    ensures never_falls { B.faults bay.old ≤ B.faults bay.new }
-    ensures failed { IsErrOf result ReopenFault.Failed → HasRisen (B.faults bay.old) (B.faults bay.new) }
-    ensures mark { B.mark bay.new ≡ B.mark bay.old }
+        (at ≡ agreed log_header (seen LOG)) × (at < 8)) }
+    ensures fault { IfErr result (λ fault. (fault ≡ ReopenFault.Failed) ⊎ ((at : ℕ) × (fault ≡ ReopenFault.Malformed LOG at))) }
+    ensures only_reads { OnlyReads B.Bay bay.old bay.new (IsErrOf result ReopenFault.Failed) }
 {
     let mut head = [0; LOG_HEADER_LEN];
     let count = bay.read_at(LOG, 0, &mut head)?;

@@ -1,10 +1,10 @@
 //! One record of the log more.
 
 ghost use Rattle.std.specs.Prelude.{◌≡◌, ◌⊎◌, ℕ, ◌+◌, ◌*◌, ◌<◌, ◌≤◌, ◌^◌, true, false, List, [], ◌∷◌, ◌++◌, length, IfOk, IfErr, MatchResult, IsTrue, IsFalse, IsErrOf, cond};
-ghost use Rattle.lert_bay.specs.Files.{Files, IfTold};
-ghost use Rattle.lert_bay.specs.Kept.{OnlyRead};
+ghost use Rattle.lert_bay.specs.declared.bay.TheConstants.{LOG};
+ghost use Rattle.lert_bay.specs.Files.{IfTold};
+ghost use Rattle.lert_bay.specs.Kept.{OnlyReads};
 ghost use Rattle.lert_gatelog.specs.Gated.{IsOpen, IsClosed, next_gate};
-ghost use Rattle.lert_io.specs.Fault.{HasRisen};
 ghost use Rattle.lert_files.specs.Read.{HasRead, steps};
 ghost use Rattle.lert_reports.specs.Log.{is_closing, is_flush, last_at, most_record, PayloadLeavesAt, HasLogUpTo, LogLeavesAt};
 ghost use Rattle.lert_reports.specs.LogText.{LogRecord, log_payload_of};
@@ -57,7 +57,7 @@ pub fn read_log_record<B: Bay, T: CountTable>(
     directory: &mut Directory,
     buffer: &mut [u8],
 ) -> Result<bool, ReopenFault>
-    requires file { log.old.file ≡ 1 }
+    requires file { log.old.file ≡ LOG }
     requires most { log.old.most ≡ most_record settings.now }
     requires reach { log.old.gate ≤ 2 ^ 62 }
     requires room { most_record settings.now ≤ length buffer.old }
@@ -66,22 +66,19 @@ pub fn read_log_record<B: Bay, T: CountTable>(
     ensures more { (records : List LogRecord) → HasRead settings.now cone progress.old store.old.reports directory.old records →
         IfOk result (λ more. IsTrue more → (one : LogRecord)
         × HasRead settings.now cone progress.new store.new.reports directory.new (records ++ one ∷ [])
-        × IfTold (B.files bay.old) (λ seen. HasLogUpTo settings.now cone (seen 1) records log.old.gate → HasLogUpTo settings.now cone (seen 1) (records ++ one ∷ []) log.new.gate)) }
-    ensures closed { IfTold (B.files bay.old) (λ seen. IfOk result (λ more. IsFalse more → IsClosed (seen 1) log.old.gate)) }
+        × IfTold (B.files bay.old) (λ seen. HasLogUpTo settings.now cone (seen LOG) records log.old.gate → HasLogUpTo settings.now cone (seen LOG) (records ++ one ∷ []) log.new.gate)) }
+    ensures closed { IfTold (B.files bay.old) (λ seen. IfOk result (λ more. IsFalse more → IsClosed (seen LOG) log.old.gate)) }
     ensures malformed { IfTold (B.files bay.old) (λ seen. (records : List LogRecord) →
-        HasRead settings.now cone progress.old store.old.reports directory.old records → HasLogUpTo settings.now cone (seen 1) records log.old.gate →
-        (file at : ℕ) → IsErrOf result (ReopenFault.Malformed file at) → LogLeavesAt settings.now cone (seen 1) at) }
+        HasRead settings.now cone progress.old store.old.reports directory.old records → HasLogUpTo settings.now cone (seen LOG) records log.old.gate →
+        (file at : ℕ) → IsErrOf result (ReopenFault.Malformed file at) → LogLeavesAt settings.now cone (seen LOG) at) }
     ensures waits { IfOk result (λ more. IsFalse more → (log.new ≡ log.old) × (progress.new ≡ progress.old)
         × (store.new ≡ store.old) × (directory.new ≡ directory.old)) }
     ensures steps { IfOk result (λ more. IsTrue more → steps progress.new ≡ steps progress.old + 1) }
     ensures forward { IfOk result (λ more. IsTrue more → log.new.gate ≤ log.old.gate + 5 + most_record settings.now) }
     ensures log { IfOk result (λ _. (log.new.file ≡ log.old.file) × (log.new.most ≡ log.old.most)) }
     ensures same { store.new.settings ≡ store.old.settings }
-    ensures fault { IfErr result (λ fault. (fault ≡ ReopenFault.Failed) ⊎ ((at : ℕ) × (fault ≡ ReopenFault.Malformed 1 at))) }
-    ensures only_read { OnlyRead (B.files bay.old) (B.files bay.new) (B.leaves bay.old) (B.leaves bay.new) (B.moment bay.old) (B.moment bay.new) (B.left_since bay.old) (B.left_since bay.new) }
-    ensures never_falls { B.faults bay.old ≤ B.faults bay.new }
-    ensures failed { IsErrOf result ReopenFault.Failed → HasRisen (B.faults bay.old) (B.faults bay.new) }
-    ensures mark { B.mark bay.new ≡ B.mark bay.old }
+    ensures fault { IfErr result (λ fault. (fault ≡ ReopenFault.Failed) ⊎ ((at : ℕ) × (fault ≡ ReopenFault.Malformed LOG at))) }
+    ensures only_reads { OnlyReads B.Bay bay.old bay.new (IsErrOf result ReopenFault.Failed) }
 {
     let gate = log.gate();
     let Some(count) = read_payload(log, bay, progress.closed, buffer)? else {

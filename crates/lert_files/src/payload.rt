@@ -1,10 +1,10 @@
 //! What stands at a gate of the log.
 
 ghost use Rattle.std.specs.Prelude.{◌≡◌, ◌⊎◌, ℕ, ◌+◌, ◌<◌, ◌≤◌, ◌^◌, true, false, length, take, IfOk, IfSome, IfNone, IfErr, MatchOption, OnErr, IsErrOf};
-ghost use Rattle.lert_bay.specs.Files.{Files, IfTold};
-ghost use Rattle.lert_bay.specs.Kept.{OnlyRead};
+ghost use Rattle.lert_bay.specs.declared.bay.TheConstants.{LOG};
+ghost use Rattle.lert_bay.specs.Files.{IfTold};
+ghost use Rattle.lert_bay.specs.Kept.{OnlyReads};
 ghost use Rattle.lert_gatelog.specs.Gated.{IsOpen, IsClosed};
-ghost use Rattle.lert_io.specs.Fault.{HasRisen};
 ghost use Rattle.lert_files.specs.Read.{GateLeavesAt};
 
 use crate::fault::ReopenFault;
@@ -19,22 +19,19 @@ pub fn read_payload<B: Bay>(
     closed: bool,
     into: &mut [u8],
 ) -> Result<Option<usize>, ReopenFault>
-    requires file { log.old.file ≡ 1 }
+    requires file { log.old.file ≡ LOG }
     requires room { log.old.most ≤ length into.old }
     requires reach { log.old.gate ≤ 2 ^ 62 }
     ensures opened { IfTold (B.files bay.old) (λ seen. IfOk result (λ found. IfSome found (λ count.
         IsOpen log.old.most (seen 1) log.old.gate (take count into.new)))) }
-    ensures shut { IfTold (B.files bay.old) (λ seen. IfOk result (λ found. IfNone found (IsClosed (seen 1) log.old.gate))) }
+    ensures shut { IfTold (B.files bay.old) (λ seen. IfOk result (λ found. IfNone found (IsClosed (seen LOG) log.old.gate))) }
     ensures malformed { IfTold (B.files bay.old) (λ seen. (file at : ℕ) → IsErrOf result (ReopenFault.Malformed file at) →
-        GateLeavesAt log.old.most closed (seen 1) log.old.gate at) }
+        GateLeavesAt log.old.most closed (seen LOG) log.old.gate at) }
     ensures still_open { IfOk result (λ found. IfSome found (λ _. closed ≡ false)) }
     ensures counted { IfOk result (λ found. IfSome found (λ count. (0 < count) × (count ≤ log.old.most))) }
     ensures moved { IfOk result (λ found. MatchOption found (log.new ≡ log.old) (λ count. log.new ≡ record log.old { gate = log.old.gate + 5 + count })) }
-    ensures fault { IfErr result (λ fault. (fault ≡ ReopenFault.Failed) ⊎ ((at : ℕ) × (fault ≡ ReopenFault.Malformed 1 at))) }
-    ensures only_read { OnlyRead (B.files bay.old) (B.files bay.new) (B.leaves bay.old) (B.leaves bay.new) (B.moment bay.old) (B.moment bay.new) (B.left_since bay.old) (B.left_since bay.new) }
-    ensures never_falls { B.faults bay.old ≤ B.faults bay.new }
-    ensures failed { IsErrOf result ReopenFault.Failed → HasRisen (B.faults bay.old) (B.faults bay.new) }
-    ensures mark { B.mark bay.new ≡ B.mark bay.old }
+    ensures fault { IfErr result (λ fault. (fault ≡ ReopenFault.Failed) ⊎ ((at : ℕ) × (fault ≡ ReopenFault.Malformed LOG at))) }
+    ensures only_reads { OnlyReads B.Bay bay.old bay.new (IsErrOf result ReopenFault.Failed) }
 {
     let gate = log.gate();
     match log.next(bay, into) {

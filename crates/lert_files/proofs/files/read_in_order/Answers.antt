@@ -1,15 +1,24 @@
-use Rattle.std.proofs.Common.{Err, refl, ap, sym, ◌∙◌, subst, arith}
+use Rattle.std.proofs.Common.{Err, refl, ap, sym, ◌∙◌, subst}
 use Rattle.std.proofs.lemmas.Result.{err_from_is_err_and}
-use Rattle.lert_io.proofs.Rising.{risen_since}
 use Rattle.lert_rows.specs.Checked.{EachStands}
 use Rattle.lert_levels.specs.OnDisk.{OnDisk}
 use Rattle.lert_rows.specs.Rows.{IsAt, AreRows}
 use Rattle.lert_spec.specs.declared.numbers.Numbers.{Numbers}
+use Rattle.lert_bay.specs.declared.bay.TheConstants.{FRAMES}
+use Rattle.lert_bay.specs.Kept.{Bays, OnlyReads}
+use Rattle.lert_bay.proofs.KeptLaws.{IsLawful, reads_as}
 use Rattle.lert_files.specs.Opened.{By_call}
 use Rattle.lert_files.proofs.GateLaws.{err_is, not_err, same_fault}
 use Rattle.lert_files.proofs.OpenedLaws.{check_failed, check_refused, header_refused, log_refused, opened_of}
-use Rattle.lert_files.proofs.QuietLaws.{quiet_then}
+use Rattle.lert_files.proofs.QuietLaws.{quiet_as, quiet_on, quiet_reads}
+use Rattle.lert_files.proofs.files.read_in_order.Given as given
 use Rattle.lert_files.proofs.files.read_in_order.Goals as goal
+
+abbrev bays : (g : given.Over) → Bays g.row.B.Denot
+bays g = record { faults = g.B.Faulty.faults; mark = g.B.Faulty.mark; files = g.B.Bay.files; leaves = g.B.Bay.leaves; moment = g.B.Bay.moment; left_since = g.B.Bay.left_since }
+
+lawful : (g : given.Over) → IsLawful (bays g)
+lawful g = record { as_read = g.met.B.Bay.as_read; since_now = g.met.B.Bay.since_now; only_now = g.met.B.Bay.only_now; since_earlier = g.met.B.Bay.since_earlier }
 
 pub returns-in_err-sync_files : goal.returns-in_err-sync_files
 returns-in_err-sync_files g c =
@@ -25,16 +34,12 @@ returns-in_err-sync_files g c =
       stand = λ seen told. tt;
       durable = λ seen told. tt;
       same = (refl, refl);
-      quiet = synced.quiet;
-      never_falls = synced.cause.never_falls;
-      failed = λ is. synced.cause.failed refl;
-      mark = synced.mark;
+      quiet = quiet_as (bays g) (lawful g) c.args.bay.now c.sync_files.new.bay _ _ (λ is. refl) synced.quiet;
     })
 
 pub returns-in_err-read_journal_header : goal.returns-in_err-read_journal_header
 returns-in_err-read_journal_header g c =
     let p = err_from_is_err_and c.from_residual-in_err-read_journal_header.result c.from_residual-in_err-read_journal_header.ensures.1 in
-    let faults = g.B.Faulty.faults in
     let synced = c.sync_files.ensures in
     let header = c.in_err-read_journal_header.ensures in
     rw (p.1, p.2) (record {
@@ -47,16 +52,14 @@ returns-in_err-read_journal_header g c =
       stand = λ seen told. tt;
       durable = λ seen told. tt;
       same = (refl, refl);
-      quiet = quiet_then synced.quiet (record { seen = header.seen; images = header.images; moments = header.moments; time = header.time }) (g.met.B.Bay.since_earlier c.read_journal_header.new.bay);
-      never_falls = omega (arith, synced.cause.never_falls, header.never_falls);
-      failed = λ is. risen_since (faults c.args.bay.now) (faults c.sync_files.new.bay) (faults c.read_journal_header.new.bay) synced.cause.never_falls header.never_falls (header.failed (same_fault _ _ is));
-      mark = header.mark ∙ synced.mark;
+      quiet = quiet_on (bays g) (lawful g) c.args.bay.now c.sync_files.new.bay c.read_journal_header.new.bay _ _ synced.quiet
+          (quiet_reads (bays g) (lawful g) c.sync_files.new.bay c.read_journal_header.new.bay _
+          (reads_as (bays g) (lawful g) c.sync_files.new.bay c.read_journal_header.new.bay _ _ (λ is. same_fault _ _ is) header.only_reads));
     })
 
 pub returns-in_err-end : goal.returns-in_err-end
 returns-in_err-end g c =
     let p = err_from_is_err_and c.from_residual-in_err-end.result c.from_residual-in_err-end.ensures.1 in
-    let faults = g.B.Faulty.faults in
     let synced = c.sync_files.ensures in
     let header = c.read_journal_header.ensures in
     let log = c.in_err-end.ensures in
@@ -69,27 +72,31 @@ returns-in_err-end g c =
       told = λ seen told.
           let there = synced.quiet.seen ∙ told in
           log_refused c.args.settings.now c.args.cone seen _ (c.in_ok-read_journal_header.ensures.told seen there) log.fault
-          (λ file at is. log.malformed seen (header.seen ∙ there) file at (ap Err is));
+          (λ file at is. log.malformed seen (header.only_reads.seen ∙ there) file at (ap Err is));
       stand = λ seen told. tt;
       durable = λ seen told. tt;
       same = (refl, log.same);
-      quiet = quiet_then
-          (quiet_then synced.quiet (record { seen = header.seen; images = header.images; moments = header.moments; time = header.time }) (g.met.B.Bay.since_earlier c.read_journal_header.new.bay))
-          (record { seen = log.seen; images = log.images; moments = log.moments; time = log.time }) (g.met.B.Bay.since_earlier c.read_whole_log.new.bay);
-      never_falls = omega (arith, synced.cause.never_falls, header.never_falls, log.never_falls);
-      failed = λ is. risen_since (faults c.args.bay.now) (faults c.read_journal_header.new.bay) (faults c.read_whole_log.new.bay) (omega (arith, synced.cause.never_falls, header.never_falls)) log.never_falls (log.failed (same_fault _ _ is));
-      mark = log.mark ∙ (header.mark ∙ synced.mark);
+      quiet = quiet_on (bays g) (lawful g) c.args.bay.now c.read_journal_header.new.bay c.read_whole_log.new.bay _ _
+          (quiet_on (bays g) (lawful g) c.args.bay.now c.sync_files.new.bay c.read_journal_header.new.bay _ _ synced.quiet
+          (quiet_reads (bays g) (lawful g) c.sync_files.new.bay c.read_journal_header.new.bay _ header.only_reads))
+          (quiet_reads (bays g) (lawful g) c.read_journal_header.new.bay c.read_whole_log.new.bay _
+          (reads_as (bays g) (lawful g) c.read_journal_header.new.bay c.read_whole_log.new.bay _ _ (λ is. same_fault _ _ is) log.only_reads));
     })
 
 pub returns-in_err-check : goal.returns-in_err-check
 returns-in_err-check g c =
     let p = err_from_is_err_and c.from_residual-in_err-check.result c.from_residual-in_err-check.ensures.1 in
-    let faults = g.B.Faulty.faults in
     let synced = c.sync_files.ensures in
     let header = c.read_journal_header.ensures in
     let log = c.in_ok-end.ensures in
     let restored = c.restore.ensures in
     let check = c.in_err-check.ensures in
+    let checked : OnlyReads (bays g) c.read_whole_log.new.bay c.check.new.bay _ = record {
+      kept = record { time = check.only_read.time; never_falls = check.never_falls; failed = check.failed; mark = check.mark };
+      seen = check.only_read.seen;
+      images = check.only_read.images;
+      moments = check.only_read.moments;
+    } in
     let end = c.in_ok-end.end in
     rw p.1 (record {
       point = tt;
@@ -99,22 +106,22 @@ returns-in_err-check g c =
       reports = tt;
       told = λ seen told.
           let there = synced.quiet.seen ∙ told in
-          let before = header.seen ∙ there in
-          check_refused c.args.settings.now c.args.cone seen end.n0 end.offset end.first end.closed c.read_whole_log.new.store.reports c.read_whole_log.new.directory log.read.0 end.log_end
-          (c.in_ok-read_journal_header.ensures.told seen there) log.read.1 (log.read.2 seen before) c.restore.new.self (restored.settings ∙ c.requires.levels) restored.at restored.rows (restored.directory ∙ c.bytes.ensures)
-          p.0 c.in_err-check.field-0.0 p.2 (λ at is. check.malformed seen (log.seen ∙ before) at (ap Err is));
+          let before = header.only_reads.seen ∙ there in
+          check_refused c.args.settings.now c.args.cone seen end.n0 end.offset end.first end.closed c.read_whole_log.new.store.reports c.read_whole_log.new.directory log.read.0
+          end.log_end
+          (c.in_ok-read_journal_header.ensures.told seen there) log.read.1 (log.read.2 seen before) c.restore.new.self (restored.settings ∙ c.requires.levels) restored.at
+          restored.rows (restored.directory ∙ c.bytes.ensures)
+          p.0 c.in_err-check.field-0.0 p.2 (λ at is. check.malformed seen (log.only_reads.seen ∙ before) at (ap Err is));
       stand = λ seen told. tt;
       durable = λ seen told. tt;
       same = (ap (λ (disk : OnDisk). disk.settings) check.same ∙ restored.settings, log.same);
-      quiet = quiet_then
-          (quiet_then
-          (quiet_then synced.quiet (record { seen = header.seen; images = header.images; moments = header.moments; time = header.time }) (g.met.B.Bay.since_earlier c.read_journal_header.new.bay))
-          (record { seen = log.seen; images = log.images; moments = log.moments; time = log.time }) (g.met.B.Bay.since_earlier c.read_whole_log.new.bay))
-          check.only_read (g.met.B.Bay.since_earlier c.check.new.bay);
-      never_falls = omega (arith, synced.cause.never_falls, header.never_falls, log.never_falls, check.never_falls);
-      failed = λ is. risen_since (faults c.args.bay.now) (faults c.read_whole_log.new.bay) (faults c.check.new.bay) (omega (arith, synced.cause.never_falls, header.never_falls, log.never_falls)) check.never_falls
-          (check.failed (ap Err (check_failed _ (sym p.2 ∙ err_is _ _ is))));
-      mark = check.mark ∙ (log.mark ∙ (header.mark ∙ synced.mark));
+      quiet = quiet_on (bays g) (lawful g) c.args.bay.now c.read_whole_log.new.bay c.check.new.bay _ _
+          (quiet_on (bays g) (lawful g) c.args.bay.now c.read_journal_header.new.bay c.read_whole_log.new.bay _ _
+          (quiet_on (bays g) (lawful g) c.args.bay.now c.sync_files.new.bay c.read_journal_header.new.bay _ _ synced.quiet
+          (quiet_reads (bays g) (lawful g) c.sync_files.new.bay c.read_journal_header.new.bay _ header.only_reads))
+          (quiet_reads (bays g) (lawful g) c.read_journal_header.new.bay c.read_whole_log.new.bay _ log.only_reads))
+          (quiet_reads (bays g) (lawful g) c.read_whole_log.new.bay c.check.new.bay _
+          (reads_as (bays g) (lawful g) c.read_whole_log.new.bay c.check.new.bay _ _ (λ is. ap Err (check_failed _ (sym p.2 ∙ err_is _ _ is))) checked));
     })
 
 pub returns : goal.returns
@@ -124,6 +131,12 @@ returns g c =
     let log = c.in_ok-end.ensures in
     let restored = c.restore.ensures in
     let check = c.in_ok-check.ensures in
+    let checked : OnlyReads (bays g) c.read_whole_log.new.bay c.check.new.bay _ = record {
+      kept = record { time = check.only_read.time; never_falls = check.never_falls; failed = check.failed; mark = check.mark };
+      seen = check.only_read.seen;
+      images = check.only_read.images;
+      moments = check.only_read.moments;
+    } in
     let end = c.in_ok-end.end in
     let s = c.args.settings.now in
     let own = restored.settings ∙ c.requires.levels in
@@ -137,23 +150,24 @@ returns g c =
       reports = log.reports;
       told = λ seen told.
           let there = synced.quiet.seen ∙ told in
-          let before = header.seen ∙ there in
-          let opened = opened_of c.args.settings.now c.args.cone seen end.n0 end.offset end.first end.closed c.read_whole_log.new.store.reports c.read_whole_log.new.directory log.read.0 end.log_end
-          (c.in_ok-read_journal_header.ensures.told seen there) log.read.1 (log.read.2 seen before) c.restore.new.self own restored.at restored.rows (restored.directory ∙ c.bytes.ensures)
-          c.check.new.self check.same (check.whole seen (log.seen ∙ before)) in
+          let before = header.only_reads.seen ∙ there in
+          let opened = opened_of c.args.settings.now c.args.cone seen end.n0 end.offset end.first end.closed c.read_whole_log.new.store.reports c.read_whole_log.new.directory
+          log.read.0 end.log_end
+          (c.in_ok-read_journal_header.ensures.told seen there) log.read.1 (log.read.2 seen before) c.restore.new.self own restored.at restored.rows
+          (restored.directory ∙ c.bytes.ensures)
+          c.check.new.self check.same (check.whole seen (log.only_reads.seen ∙ before)) in
           (log.read.0, opened.0, opened.1);
       stand = λ seen told.
-          let stands = check.stand seen (log.seen ∙ (header.seen ∙ (synced.quiet.seen ∙ told))) in
-          subst (λ (disk : OnDisk). EachStands s (seen 2) disk.rows) after (subst (λ (numbers : Numbers). EachStands numbers (seen 2) rows) own stands);
+          let stands = check.stand seen (log.only_reads.seen ∙ (header.only_reads.seen ∙ (synced.quiet.seen ∙ told))) in
+          subst (λ (disk : OnDisk). EachStands s (seen FRAMES) disk.rows) after (subst (λ (numbers : Numbers). EachStands numbers (seen FRAMES) rows) own stands);
       durable = λ seen told image may.
-          c.in_ok-sync_files.ensures.durable seen told image ((header.images image).0 ((log.images image).0 ((check.only_read.images image).0 may)));
+          c.in_ok-sync_files.ensures.durable seen told image ((header.only_reads.images image).0 ((log.only_reads.images image).0 ((checked.images image).0 may)));
       same = (ap (λ (disk : OnDisk). disk.settings) check.same ∙ restored.settings, log.same);
-      quiet = quiet_then
-          (quiet_then
-          (quiet_then synced.quiet (record { seen = header.seen; images = header.images; moments = header.moments; time = header.time }) (g.met.B.Bay.since_earlier c.read_journal_header.new.bay))
-          (record { seen = log.seen; images = log.images; moments = log.moments; time = log.time }) (g.met.B.Bay.since_earlier c.read_whole_log.new.bay))
-          check.only_read (g.met.B.Bay.since_earlier c.check.new.bay);
-      never_falls = omega (arith, synced.cause.never_falls, header.never_falls, log.never_falls, check.never_falls);
-      failed = λ is. absurd (not_err _ _ is);
-      mark = check.mark ∙ (log.mark ∙ (header.mark ∙ synced.mark));
+      quiet = quiet_on (bays g) (lawful g) c.args.bay.now c.read_whole_log.new.bay c.check.new.bay _ _
+          (quiet_on (bays g) (lawful g) c.args.bay.now c.read_journal_header.new.bay c.read_whole_log.new.bay _ _
+          (quiet_on (bays g) (lawful g) c.args.bay.now c.sync_files.new.bay c.read_journal_header.new.bay _ _ synced.quiet
+          (quiet_reads (bays g) (lawful g) c.sync_files.new.bay c.read_journal_header.new.bay _ header.only_reads))
+          (quiet_reads (bays g) (lawful g) c.read_journal_header.new.bay c.read_whole_log.new.bay _ log.only_reads))
+          (quiet_reads (bays g) (lawful g) c.read_whole_log.new.bay c.check.new.bay _
+          (reads_as (bays g) (lawful g) c.read_whole_log.new.bay c.check.new.bay _ _ (λ is. absurd (not_err _ _ is)) checked));
     }

@@ -1,6 +1,16 @@
-use Rattle.std.proofs.Common.{◌∙◌}
-use Rattle.lert_files.proofs.QuietLaws.{all_durable, fewer_images, quiet_more, quiet_none}
+use Rattle.std.proofs.Common.{refl, ◌∙◌}
+use Rattle.lert_bay.specs.declared.bay.TheConstants.{JOURNAL, LOG, FRAMES}
+use Rattle.lert_bay.specs.Kept.{Bays}
+use Rattle.lert_bay.proofs.KeptLaws.{IsLawful}
+use Rattle.lert_files.proofs.QuietLaws.{all_durable, quiet_on, quiet_sync}
+use Rattle.lert_files.proofs.files.sync_files.Given as given
 use Rattle.lert_files.proofs.files.sync_files.Goals as goal
+
+abbrev bays : (g : given.Over) → Bays g.row.B.Denot
+bays g = record { faults = g.B.Faulty.faults; mark = g.B.Faulty.mark; files = g.B.Bay.files; leaves = g.B.Bay.leaves; moment = g.B.Bay.moment; left_since = g.B.Bay.left_since }
+
+lawful : (g : given.Over) → IsLawful (bays g)
+lawful g = record { as_read = g.met.B.Bay.as_read; since_now = g.met.B.Bay.since_now; only_now = g.met.B.Bay.only_now; since_earlier = g.met.B.Bay.since_earlier }
 
 pub returns-clause-durable : goal.returns-clause-durable
 returns-clause-durable g c seen told =
@@ -8,35 +18,29 @@ returns-clause-durable g c seen told =
     all_durable c.sync-3.result seen (g.B.Bay.leaves c.args.bay.now) (g.B.Bay.leaves c.sync.new.self) (g.B.Bay.leaves c.sync-2.new.self) (g.B.Bay.leaves c.sync-3.new.self)
     (c.in_ok-sync.ensures.durable seen told) (c.in_ok-sync-2.ensures.durable seen then) (c.sync-3.ensures.durable seen (c.sync-2.ensures.seen ∙ then))
 
+pub returns-in_err-sync-clause-quiet : goal.returns-in_err-sync-clause-quiet
+returns-in_err-sync-clause-quiet g c = quiet_sync (bays g) (lawful g) c.sync.result JOURNAL c.args.bay.now c.sync.new.self _ c.sync.ensures.seen c.sync.ensures.durable
+    c.sync.ensures.failed c.sync.ensures.time c.sync.ensures.cause.never_falls
+    (λ is. c.in_err-sync.ensures.cause.failed refl) c.sync.ensures.mark
+
 pub returns-in_err-sync-2-clause-quiet : goal.returns-in_err-sync-2-clause-quiet
-returns-in_err-sync-2-clause-quiet g c =
-    let files = g.B.Bay.files in
-    let leaves = g.B.Bay.leaves in
-    let moment = g.B.Bay.moment in
-    let since = g.B.Bay.left_since in
-    let start = c.args.bay.now in
-    let one = c.sync.new.self in
-    let two = c.sync-2.new.self in
-    quiet_more (files start) (files one) (files two) (leaves start) (leaves one) (leaves two) (moment start) (moment one) (moment two) (since start) (since one) (since two)
-    (quiet_more (files start) (files start) (files one) (leaves start) (leaves start) (leaves one) (moment start) (moment start) (moment one) (since start) (since start) (since one)
-    (quiet_none (files start) (leaves start) (moment start) (since start) (g.met.B.Bay.only_now start))
-    c.sync.ensures.seen (λ seen told. fewer_images c.sync.result 0 (seen 0) (leaves start) (leaves one) (c.sync.ensures.durable seen told) c.sync.ensures.failed) c.sync.ensures.time)
-    c.sync-2.ensures.seen (λ seen told. fewer_images c.sync-2.result 1 (seen 1) (leaves one) (leaves two) (c.sync-2.ensures.durable seen told) c.sync-2.ensures.failed) c.sync-2.ensures.time
+returns-in_err-sync-2-clause-quiet g c = quiet_on (bays g) (lawful g) c.args.bay.now c.sync.new.self c.sync-2.new.self ⊥ _
+    (quiet_sync (bays g) (lawful g) c.sync.result JOURNAL c.args.bay.now c.sync.new.self ⊥ c.sync.ensures.seen c.sync.ensures.durable c.sync.ensures.failed c.sync.ensures.time
+    c.sync.ensures.cause.never_falls
+    (λ is. absurd is) c.sync.ensures.mark)
+    (quiet_sync (bays g) (lawful g) c.sync-2.result LOG c.sync.new.self c.sync-2.new.self _ c.sync-2.ensures.seen c.sync-2.ensures.durable c.sync-2.ensures.failed
+    c.sync-2.ensures.time c.sync-2.ensures.cause.never_falls
+    (λ is. c.in_err-sync-2.ensures.cause.failed refl) c.sync-2.ensures.mark)
 
 pub returns-clause-quiet : goal.returns-clause-quiet
-returns-clause-quiet g c =
-    let files = g.B.Bay.files in
-    let leaves = g.B.Bay.leaves in
-    let moment = g.B.Bay.moment in
-    let since = g.B.Bay.left_since in
-    let start = c.args.bay.now in
-    let one = c.sync.new.self in
-    let two = c.sync-2.new.self in
-    let three = c.sync-3.new.self in
-    quiet_more (files start) (files two) (files three) (leaves start) (leaves two) (leaves three) (moment start) (moment two) (moment three) (since start) (since two) (since three)
-    (quiet_more (files start) (files one) (files two) (leaves start) (leaves one) (leaves two) (moment start) (moment one) (moment two) (since start) (since one) (since two)
-    (quiet_more (files start) (files start) (files one) (leaves start) (leaves start) (leaves one) (moment start) (moment start) (moment one) (since start) (since start) (since one)
-    (quiet_none (files start) (leaves start) (moment start) (since start) (g.met.B.Bay.only_now start))
-    c.sync.ensures.seen (λ seen told. fewer_images c.sync.result 0 (seen 0) (leaves start) (leaves one) (c.sync.ensures.durable seen told) c.sync.ensures.failed) c.sync.ensures.time)
-    c.sync-2.ensures.seen (λ seen told. fewer_images c.sync-2.result 1 (seen 1) (leaves one) (leaves two) (c.sync-2.ensures.durable seen told) c.sync-2.ensures.failed) c.sync-2.ensures.time)
-    c.sync-3.ensures.seen (λ seen told. fewer_images c.sync-3.result 2 (seen 2) (leaves two) (leaves three) (c.sync-3.ensures.durable seen told) c.sync-3.ensures.failed) c.sync-3.ensures.time
+returns-clause-quiet g c = quiet_on (bays g) (lawful g) c.args.bay.now c.sync-2.new.self c.sync-3.new.self ⊥ _
+    (quiet_on (bays g) (lawful g) c.args.bay.now c.sync.new.self c.sync-2.new.self ⊥ ⊥
+    (quiet_sync (bays g) (lawful g) c.sync.result JOURNAL c.args.bay.now c.sync.new.self ⊥ c.sync.ensures.seen c.sync.ensures.durable c.sync.ensures.failed c.sync.ensures.time
+    c.sync.ensures.cause.never_falls
+    (λ is. absurd is) c.sync.ensures.mark)
+    (quiet_sync (bays g) (lawful g) c.sync-2.result LOG c.sync.new.self c.sync-2.new.self ⊥ c.sync-2.ensures.seen c.sync-2.ensures.durable c.sync-2.ensures.failed
+    c.sync-2.ensures.time c.sync-2.ensures.cause.never_falls
+    (λ is. absurd is) c.sync-2.ensures.mark))
+    (quiet_sync (bays g) (lawful g) c.sync-3.result FRAMES c.sync-2.new.self c.sync-3.new.self _ c.sync-3.ensures.seen c.sync-3.ensures.durable c.sync-3.ensures.failed
+    c.sync-3.ensures.time c.sync-3.ensures.cause.never_falls
+    (λ is. c.sync-3.ensures.cause.failed is) c.sync-3.ensures.mark)

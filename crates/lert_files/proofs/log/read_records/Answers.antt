@@ -1,31 +1,35 @@
 use Rattle.std.proofs.Common.{◌+◌, ◌-◌, ◌*◌, ◌<◌, [], ◌∷◌, ◌++◌, ap, ◌∙◌, arith, replicate, refl}
 use Rattle.std.proofs.lemmas.Result.{err_from_is_err_and}
 use Rattle.lert_gatelog.specs.Gated.{Log}
-use Rattle.lert_io.proofs.Rising.{risen_since}
 use Rattle.lert_spec.specs.declared.numbers.Numbers.{Numbers}
 use Rattle.lert_spec.specs.Edges.{capacity}
 use Rattle.lert_reports.specs.Log.{most_record}
 use Rattle.lert_reports.specs.Stored.{Stored}
+use Rattle.lert_bay.specs.declared.bay.TheConstants.{LOG}
+use Rattle.lert_bay.proofs.KeptLaws.{IsLawful, reads_as, reads_none, reads_on}
 use Rattle.lert_files.specs.Read.{steps}
-use Rattle.lert_files.proofs.CallLaws.{only_read_none, only_read_on}
 use Rattle.lert_files.proofs.GateLaws.{not_err, same_fault}
 use Rattle.lert_files.proofs.StepLaws.{near, read_none, read_still, up_none, steps_few, whole_log}
+use Rattle.lert_files.proofs.log.read_records.Given as given
+use Rattle.lert_files.proofs.log.read_records.Invariants.{bays}
 use Rattle.lert_files.proofs.log.read_records.Goals as goal
+
+lawful : (g : given.Over) → IsLawful (bays g)
+lawful g = record { as_read = g.met.B.Bay.as_read; since_now = g.met.B.Bay.since_now; only_now = g.met.B.Bay.only_now; since_earlier = g.met.B.Bay.since_earlier }
 
 pub records-init : goal.records-init
 records-init g c =
     let log = c.at_gate-log.ensures in
     record {
       records = [];
-      has = read_none c.args.settings.now c.args.cone c.new-progress.result c.args.store.now.reports c.clear.new.self c.new-progress.ensures c.requires.empty (c.clear.ensures ∙ ap (λ (n : Numbers). replicate n.levels 0) c.numbers.ensures.value);
-      up = λ seen told headed. up_none c.args.settings.now c.args.cone (seen 1) c.at_gate-log.result.gate headed (ap (λ (log : Log). log.gate) log);
+      has = read_none c.args.settings.now c.args.cone c.new-progress.result c.args.store.now.reports c.clear.new.self c.new-progress.ensures c.requires.empty
+          (c.clear.ensures ∙ ap (λ (n : Numbers). replicate n.levels 0) c.numbers.ensures.value);
+      up = λ seen told headed. up_none c.args.settings.now c.args.cone (seen LOG) c.at_gate-log.result.gate headed (ap (λ (log : Log). log.gate) log);
       file = ap (λ (log : Log). log.file) log;
       most = ap (λ (log : Log). log.most) log ∙ c.greatest_record.ensures.value;
       reach = omega (arith, ap (λ (log : Log). log.gate) log);
       same = refl;
-      only_read = only_read_none (g.B.Bay.files c.args.bay.now) (g.B.Bay.leaves c.args.bay.now) (g.B.Bay.moment c.args.bay.now) (g.B.Bay.left_since c.args.bay.now) (g.met.B.Bay.only_now c.args.bay.now);
-      never_falls = omega arith;
-      mark = refl;
+      only_reads = reads_none (bays g) (lawful g) c.args.bay.now ⊥ (λ never. never);
     }
 
 pub read_log_record-requires-clause-file : goal.read_log_record-requires-clause-file
@@ -64,32 +68,28 @@ records-preserved g c =
     record {
       records = now.records ++ more.0 ∷ [];
       has = more.1;
-      up = λ seen told headed. more.2 seen (now.only_read.seen ∙ told) (now.up seen told headed);
+      up = λ seen told headed. more.2 seen (now.only_reads.seen ∙ told) (now.up seen told headed);
       file = read.log.0 ∙ now.file;
       most = read.log.1 ∙ now.most;
       reach = omega (arith, now.reach, read.forward c.if-not-branch.false, one_more);
       same = read.same ∙ now.same;
-      only_read = only_read_on now.only_read read.only_read (g.met.B.Bay.since_earlier c.read_log_record.new.bay);
-      never_falls = omega (arith, now.never_falls, read.never_falls);
-      mark = read.mark ∙ now.mark;
+      only_reads = reads_on (bays g) (lawful g) c.args.bay.now c.records.bay c.read_log_record.new.bay ⊥ ⊥ now.only_reads
+          (reads_as (bays g) (lawful g) c.records.bay c.read_log_record.new.bay _ ⊥ (λ is. absurd is) read.only_reads);
     }
 
 pub returns-in_err-read_log_record : goal.returns-in_err-read_log_record
 returns-in_err-read_log_record g c =
     let p = err_from_is_err_and c.from_residual.result c.from_residual.ensures.1 in
-    let faults = g.B.Faulty.faults in
     let now = c.records.invariant in
     let read = c.in_err-read_log_record.ensures in
     rw (p.1, p.2) (record {
       read = tt;
-      malformed = λ seen told headed file at is. read.malformed seen (now.only_read.seen ∙ told) now.records now.has (now.up seen told headed) file at (same_fault _ _ is);
+      malformed = λ seen told headed file at is. read.malformed seen (now.only_reads.seen ∙ told) now.records now.has (now.up seen told headed) file at (same_fault _ _ is);
       reach = tt;
       same = read.same ∙ now.same;
       fault = read.fault;
-      only_read = only_read_on now.only_read read.only_read (g.met.B.Bay.since_earlier c.read_log_record.new.bay);
-      never_falls = omega (arith, now.never_falls, read.never_falls);
-      failed = λ is. risen_since (faults c.args.bay.now) (faults c.records.bay) (faults c.read_log_record.new.bay) now.never_falls read.never_falls (read.failed (same_fault _ _ is));
-      mark = read.mark ∙ now.mark;
+      only_reads = reads_on (bays g) (lawful g) c.args.bay.now c.records.bay c.read_log_record.new.bay ⊥ _ now.only_reads
+          (reads_as (bays g) (lawful g) c.records.bay c.read_log_record.new.bay _ _ (λ is. same_fault _ _ is) read.only_reads);
     })
 
 pub returns-then-not-branch : goal.returns-then-not-branch
@@ -100,7 +100,8 @@ returns-then-not-branch g c =
     let read = c.in_ok-read_log_record.ensures in
     let waits = read.waits c.if-not-branch.true in
     let gate = c.gate.ensures.value ∙ ap (λ (log : Log). log.gate) waits.0 in
-    let has = read_still s cone c.records.progress c.read_log_record.new.progress c.records.store.reports c.read_log_record.new.store.reports c.records.directory c.read_log_record.new.directory now.records
+    let has = read_still s cone c.records.progress c.read_log_record.new.progress c.records.store.reports c.read_log_record.new.store.reports c.records.directory
+    c.read_log_record.new.directory now.records
     waits.1 (ap (λ (store : Stored). store.reports) waits.2) waits.3 now.has in
     let here = near s cone c.greatest_record.ensures.valid c.records.progress c.records.store.reports c.records.directory now.records now.has
     c.records.log.gate now.reach (omega (arith, c.greatest_record.ensures.most, c.greatest_record.ensures.value)) in
@@ -108,14 +109,13 @@ returns-then-not-branch g c =
       read = (
         now.records,
         has.is_read,
-        λ seen told headed. whole_log s cone (seen 1) now.records c.records.log.gate c.gate.result (now.up seen told headed) (read.closed seen (now.only_read.seen ∙ told) c.if-not-branch.true) gate,
+        λ seen told headed. whole_log s cone (seen LOG) now.records c.records.log.gate c.gate.result (now.up seen told headed)
+            (read.closed seen (now.only_reads.seen ∙ told) c.if-not-branch.true) gate,
       );
       malformed = λ seen told headed file at is. absurd (not_err _ _ is);
       reach = omega (arith, here, gate);
       same = read.same ∙ now.same;
       fault = tt;
-      only_read = only_read_on now.only_read read.only_read (g.met.B.Bay.since_earlier c.read_log_record.new.bay);
-      never_falls = omega (arith, now.never_falls, read.never_falls);
-      failed = λ is. absurd (not_err _ _ is);
-      mark = read.mark ∙ now.mark;
+      only_reads = reads_on (bays g) (lawful g) c.args.bay.now c.records.bay c.read_log_record.new.bay ⊥ _ now.only_reads
+          (reads_as (bays g) (lawful g) c.records.bay c.read_log_record.new.bay _ _ (λ is. absurd (not_err _ _ is)) read.only_reads);
     }

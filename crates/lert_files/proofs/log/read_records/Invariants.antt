@@ -1,26 +1,28 @@
 use Rattle.std.proofs.Common.{◌≡◌, ◌+◌, ◌-◌, ◌*◌, ◌≤◌, Some, List}
+use Rattle.lert_bay.specs.declared.bay.TheConstants.{LOG}
 use Rattle.lert_bay.specs.Files.{Files}
 use Rattle.lert_bay.specs.Settled.{part}
-use Rattle.lert_bay.specs.Kept.{OnlyRead}
+use Rattle.lert_bay.specs.Kept.{Bays, OnlyReads}
 use Rattle.lert_spec.specs.Edges.{capacity}
 use Rattle.lert_reports.specs.Log.{log_header, most_record, HasLogUpTo}
 use Rattle.lert_reports.specs.LogText.{LogRecord}
 use Rattle.lert_files.specs.Read.{steps, HasRead}
 use Rattle.lert_files.proofs.log.read_records.Given as goal
 
+abbrev pub bays : (g : goal.Over) → Bays g.row.B.Denot
+bays g = record { faults = g.B.Faulty.faults; mark = g.B.Faulty.mark; files = g.B.Bay.files; leaves = g.B.Bay.leaves; moment = g.B.Bay.moment; left_since = g.B.Bay.left_since }
+
 -- what was read so far is that of some records, which stand up to this gate where the file is told
 abbrev pub invariant-records : goal.invariant-records
 invariant-records g l = record {
   records : List LogRecord;
   has : HasRead l.settings l.cone l.progress l.store.reports l.directory records;
-  up : (seen : Files) → g.B.Bay.files l.fn.bay ≡ Some seen → part (seen 1) 0 8 ≡ log_header → HasLogUpTo l.settings l.cone (seen 1) records l.log.gate;
-  file : l.log.file ≡ 1;
+  up : (seen : Files) → g.B.Bay.files l.fn.bay ≡ Some seen → part (seen LOG) 0 8 ≡ log_header → HasLogUpTo l.settings l.cone (seen LOG) records l.log.gate;
+  file : l.log.file ≡ LOG;
   most : l.log.most ≡ most_record l.settings;
   reach : l.log.gate ≤ 8 + steps l.progress * (5 + most_record l.settings);
   same : l.store.settings ≡ l.fn.store.settings;
-  only_read : OnlyRead (g.B.Bay.files l.fn.bay) (g.B.Bay.files l.bay) (g.B.Bay.leaves l.fn.bay) (g.B.Bay.leaves l.bay) (g.B.Bay.moment l.fn.bay) (g.B.Bay.moment l.bay) (g.B.Bay.left_since l.fn.bay) (g.B.Bay.left_since l.bay);
-  never_falls : g.B.Faulty.faults l.fn.bay ≤ g.B.Faulty.faults l.bay;
-  mark : g.B.Faulty.mark l.bay ≡ g.B.Faulty.mark l.fn.bay;
+  only_reads : OnlyReads (bays g) l.fn.bay l.bay ⊥;
 }
 
 -- a log has at most a record for each position at which a flush may come, and one more

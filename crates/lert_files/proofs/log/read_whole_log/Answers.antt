@@ -1,16 +1,24 @@
-use Rattle.std.proofs.Common.{◌≡◌, Some, Err, List, ℕ, refl, ap, ◌∙◌, subst, arith}
+use Rattle.std.proofs.Common.{◌≡◌, Some, Err, List, ℕ, refl, ap, ◌∙◌, subst}
 use Rattle.std.proofs.lemmas.Result.{err_from_is_err_and, IfOk-weaker}
+use Rattle.lert_bay.specs.declared.bay.TheConstants.{LOG}
 use Rattle.lert_bay.specs.Files.{Files}
 use Rattle.lert_bay.specs.Settled.{part}
-use Rattle.lert_io.proofs.Rising.{risen_since}
 use Rattle.lert_spec.specs.Limits.{IsValid}
 use Rattle.lert_reports.specs.Log.{log_header, HasLog, In_header}
 use Rattle.lert_reports.specs.LogText.{LogRecord}
-use Rattle.lert_files.proofs.CallLaws.{only_read_on}
+use Rattle.lert_bay.specs.Kept.{Bays}
+use Rattle.lert_bay.proofs.KeptLaws.{IsLawful, reads_as, reads_on}
 use Rattle.lert_files.proofs.GateLaws.{same_fault}
 use Rattle.lert_files.proofs.PointLaws.{directs, points}
 use Rattle.lert_files.proofs.WholeLaws.{header_back, header_refuses, left_back, log_refused, up_to, whole_back}
+use Rattle.lert_files.proofs.log.read_whole_log.Given as given
 use Rattle.lert_files.proofs.log.read_whole_log.Goals as goal
+
+abbrev bays : (g : given.Over) → Bays g.row.B.Denot
+bays g = record { faults = g.B.Faulty.faults; mark = g.B.Faulty.mark; files = g.B.Bay.files; leaves = g.B.Bay.leaves; moment = g.B.Bay.moment; left_since = g.B.Bay.left_since }
+
+lawful : (g : given.Over) → IsLawful (bays g)
+lawful g = record { as_read = g.met.B.Bay.as_read; since_now = g.met.B.Bay.since_now; only_now = g.met.B.Bay.only_now; since_earlier = g.met.B.Bay.since_earlier }
 
 pub returns-in_err-read_log_header : goal.returns-in_err-read_log_header
 returns-in_err-read_log_header g c =
@@ -27,17 +35,13 @@ returns-in_err-read_log_header g c =
       malformed = λ seen told file at is.
           let left = head.left seen told file at (same_fault _ _ is) in
           (log_refused _ file at head.fault is, In_header left.0 left.1);
-      reads_back = λ seen told records log_end log. header_back s c.args.cone valid (seen 1) _ records log_end head.fault (λ file other is. let left = head.left seen told file other (ap Err is) in In_header left.0 left.1) log;
-      refuses = λ seen told at leaves. header_refuses s c.args.cone valid (seen 1) _ at head.fault (λ file other is. let left = head.left seen told file other (ap Err is) in In_header left.0 left.1) leaves;
+      reads_back = λ seen told records log_end log. header_back s c.args.cone valid (seen LOG) _ records log_end head.fault
+          (λ file other is. let left = head.left seen told file other (ap Err is) in In_header left.0 left.1) log;
+      refuses = λ seen told at leaves. header_refuses s c.args.cone valid (seen LOG) _ at head.fault
+          (λ file other is. let left = head.left seen told file other (ap Err is) in In_header left.0 left.1) leaves;
       fault = head.fault;
       same = refl;
-      seen = head.only_read.seen;
-      images = head.only_read.images;
-      moments = head.only_read.moments;
-      time = head.only_read.time;
-      never_falls = head.never_falls;
-      failed = λ is. head.failed (same_fault _ _ is);
-      mark = head.mark;
+      only_reads = reads_as (bays g) (lawful g) c.args.bay.now c.read_log_header.new.bay _ _ (λ is. same_fault _ _ is) head.only_reads;
     })
 
 pub returns : goal.returns
@@ -45,40 +49,38 @@ returns g c =
     let s = c.args.settings.now in
     let cone = c.args.cone in
     let valid = subst IsValid c.numbers.ensures.value c.numbers.ensures.valid in
-    let faults = g.B.Faulty.faults in
     let head = c.read_log_header.ensures in
     let then = c.read_records.ensures in
     let reports = c.read_records.new.store.reports in
     let directory = c.read_records.new.directory in
-    let both = only_read_on head.only_read then.only_read (g.met.B.Bay.since_earlier c.read_records.new.bay) in
-    let Q = λ (records : List LogRecord) (end : ℕ). (seen : Files) → g.B.Bay.files c.read_log_header.new.bay ≡ Some seen → part (seen 1) 0 8 ≡ log_header → HasLog s cone (seen 1) records end in
+    let Q = λ (records : List LogRecord) (end : ℕ). (seen : Files) → g.B.Bay.files c.read_log_header.new.bay ≡ Some seen → part (seen LOG) 0 8 ≡ log_header →
+    HasLog s cone (seen LOG) records end in
     record {
-      read = IfOk-weaker c.read_records.result _ _ (λ end are. (are.0, are.1, λ seen told. are.2 seen (head.only_read.seen ∙ told) (c.in_ok-read_log_header.ensures.headed seen told))) then.read;
+      read = IfOk-weaker c.read_records.result _ _ (λ end are. (
+        are.0,
+        are.1,
+        λ seen told. are.2 seen (head.only_reads.seen ∙ told)
+            (c.in_ok-read_log_header.ensures.headed seen told),
+      )) then.read;
       reports = up_to s cone valid reports directory Q c.read_records.result then.read;
       point = points s cone reports directory Q c.read_records.result then.read;
       directory = directs s cone reports directory Q valid c.read_records.result then.read;
       reach = then.reach;
       malformed = λ seen told file at is. (
         log_refused c.read_records.result file at then.fault is,
-        then.malformed seen (head.only_read.seen ∙ told) (c.in_ok-read_log_header.ensures.headed seen told) file at is,
+        then.malformed seen (head.only_reads.seen ∙ told) (c.in_ok-read_log_header.ensures.headed seen told) file at is,
       );
       reads_back = λ seen told records log_end log.
-          let there = head.only_read.seen ∙ told in
+          let there = head.only_reads.seen ∙ told in
           let headed = c.in_ok-read_log_header.ensures.headed seen told in
-          whole_back s cone valid (seen 1) reports directory Q (λ records end has. has seen there headed)
+          whole_back s cone valid (seen LOG) reports directory Q (λ records end has. has seen there headed)
           c.read_records.result records log_end then.read then.fault (then.malformed seen there headed) log;
       refuses = λ seen told at leaves.
-          let there = head.only_read.seen ∙ told in
+          let there = head.only_reads.seen ∙ told in
           let headed = c.in_ok-read_log_header.ensures.headed seen told in
-          left_back s cone valid (seen 1) reports directory Q (λ records end has. has seen there headed)
+          left_back s cone valid (seen LOG) reports directory Q (λ records end has. has seen there headed)
           c.read_records.result at then.read then.fault (then.malformed seen there headed) leaves;
       fault = then.fault;
       same = then.same;
-      seen = both.seen;
-      images = both.images;
-      moments = both.moments;
-      time = both.time;
-      never_falls = omega (arith, head.never_falls, then.never_falls);
-      failed = λ is. risen_since (faults c.args.bay.now) (faults c.read_log_header.new.bay) (faults c.read_records.new.bay) head.never_falls then.never_falls (then.failed is);
-      mark = then.mark ∙ head.mark;
+      only_reads = reads_on (bays g) (lawful g) c.args.bay.now c.read_log_header.new.bay c.read_records.new.bay _ _ head.only_reads then.only_reads;
     }

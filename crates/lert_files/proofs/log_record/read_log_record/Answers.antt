@@ -5,9 +5,19 @@ use Rattle.std.proofs.lemmas.Result.{err_from_is_err_and}
 use Rattle.lert_gatelog.specs.Gated.{IsOpen, Log}
 use Rattle.lert_reports.specs.Log.{most_record, HasLogUpTo}
 use Rattle.lert_reports.specs.LogText.{log_payload_of}
+use Rattle.lert_bay.specs.declared.bay.TheConstants.{LOG}
+use Rattle.lert_bay.specs.Kept.{Bays}
+use Rattle.lert_bay.proofs.KeptLaws.{IsLawful, reads_as}
 use Rattle.lert_files.proofs.GateLaws.{same_place, same_fault, not_err, malformed_or_failed, gate_leaves, payload_leaves}
 use Rattle.lert_files.proofs.StepLaws.{up_more}
+use Rattle.lert_files.proofs.log_record.read_log_record.Given as given
 use Rattle.lert_files.proofs.log_record.read_log_record.Goals as goal
+
+abbrev bays : (g : given.Over) → Bays g.row.B.Denot
+bays g = record { faults = g.B.Faulty.faults; mark = g.B.Faulty.mark; files = g.B.Bay.files; leaves = g.B.Bay.leaves; moment = g.B.Bay.moment; left_since = g.B.Bay.left_since }
+
+lawful : (g : given.Over) → IsLawful (bays g)
+lawful g = record { as_read = g.met.B.Bay.as_read; since_now = g.met.B.Bay.since_now; only_now = g.met.B.Bay.only_now; since_earlier = g.met.B.Bay.since_earlier }
 
 pub returns-in_err-count : goal.returns-in_err-count
 returns-in_err-count g c =
@@ -17,7 +27,8 @@ returns-in_err-count g c =
       more = λ records has. tt;
       closed = λ seen told. tt;
       malformed = λ seen told records has up file at is.
-          gate_leaves c.args.settings.now c.args.cone c.args.log.now.most c.args.progress.now.closed (seen 1) records c.args.log.now.gate at c.requires.most has.is_read.closed_is up
+          gate_leaves c.args.settings.now c.args.cone c.args.log.now.most c.args.progress.now.closed (seen LOG) records c.args.log.now.gate at c.requires.most
+          has.is_read.closed_is up
           (read.malformed seen told file at (same_fault _ _ is));
       waits = tt;
       steps = tt;
@@ -25,10 +36,7 @@ returns-in_err-count g c =
       log = tt;
       same = refl;
       fault = read.fault;
-      only_read = read.only_read;
-      never_falls = read.never_falls;
-      failed = λ is. read.failed (same_fault _ _ is);
-      mark = read.mark;
+      only_reads = reads_as (bays g) (lawful g) c.args.bay.now c.read_payload.new.bay _ _ (λ is. same_fault _ _ is) read.only_reads;
     })
 
 pub returns-in_default : goal.returns-in_default
@@ -45,10 +53,7 @@ returns-in_default g c =
       log = (ap (λ (log : Log). log.file) moved, ap (λ (log : Log). log.most) moved);
       same = refl;
       fault = tt;
-      only_read = read.only_read;
-      never_falls = read.never_falls;
-      failed = λ is. absurd (not_err false _ is);
-      mark = read.mark;
+      only_reads = reads_as (bays g) (lawful g) c.args.bay.now c.read_payload.new.bay _ _ (λ is. absurd (not_err false _ is)) read.only_reads;
     }
 
 pub returns-in-Err : goal.returns-in-Err
@@ -60,10 +65,10 @@ returns-in-Err g c =
       closed = λ seen told. tt;
       malformed = λ seen told records has up file at is.
           let opened = rw c.in-Some.is at (read.opened seen told) in
-          let stands = subst (λ (most : ℕ). IsOpen most (seen 1) c.args.log.now.gate payload) c.requires.most opened in
+          let stands = subst (λ (most : ℕ). IsOpen most (seen LOG) c.args.log.now.gate payload) c.requires.most opened in
           let still_open = rw c.in-Some.is at read.still_open in
-          let at_is = sym (same_place 1 (c.gate-gate.result + 5 + c.in-Err.place) file at is) ∙ ap (λ gate. gate + 5 + c.in-Err.place) c.gate-gate.ensures.value in
-          payload_leaves c.args.settings.now c.args.cone (seen 1) records c.args.log.now.gate at c.in-Err.place payload up stands
+          let at_is = sym (same_place LOG (c.gate-gate.result + 5 + c.in-Err.place) file at is) ∙ ap (λ gate. gate + 5 + c.in-Err.place) c.gate-gate.ensures.value in
+          payload_leaves c.args.settings.now c.args.cone (seen LOG) records c.args.log.now.gate at c.in-Err.place payload up stands
           (sym has.is_read.closed_is ∙ still_open) (c.in-Err.ensures.taken records has) at_is;
       waits = tt;
       steps = tt;
@@ -71,10 +76,7 @@ returns-in-Err g c =
       log = tt;
       same = c.take_record.ensures.same;
       fault = inr (c.gate-gate.result + 5 + c.in-Err.place, refl);
-      only_read = read.only_read;
-      never_falls = read.never_falls;
-      failed = λ is. absurd (malformed_or_failed 1 _ is);
-      mark = read.mark;
+      only_reads = reads_as (bays g) (lawful g) c.args.bay.now c.read_payload.new.bay _ _ (λ is. absurd (malformed_or_failed LOG _ is)) read.only_reads;
     }
 
 pub returns : goal.returns
@@ -97,10 +99,10 @@ returns g c =
             taken.1,
             λ seen told up.
                 let opened = rw c.in-Some.is at (read.opened seen told) in
-                let stands = subst (λ (most : ℕ). IsOpen most (seen 1) c.args.log.now.gate payload) c.requires.most opened in
-                let stands_one = subst (IsOpen (most_record s) (seen 1) c.args.log.now.gate) taken.2 stands in
-                subst (HasLogUpTo s c.args.cone (seen 1) _) (sym gate_is)
-                (up_more s c.args.cone (seen 1) records one c.args.log.now.gate up stands_one taken.1.is_read.rules),
+                let stands = subst (λ (most : ℕ). IsOpen most (seen LOG) c.args.log.now.gate payload) c.requires.most opened in
+                let stands_one = subst (IsOpen (most_record s) (seen LOG) c.args.log.now.gate) taken.2 stands in
+                subst (HasLogUpTo s c.args.cone (seen LOG) _) (sym gate_is)
+                (up_more s c.args.cone (seen LOG) records one c.args.log.now.gate up stands_one taken.1.is_read.rules),
           );
       closed = λ seen told waits. absurd (true≢false waits);
       malformed = λ seen told records has up file at is. absurd (not_err true _ is);
@@ -110,8 +112,5 @@ returns g c =
       log = (ap (λ (log : Log). log.file) moved, ap (λ (log : Log). log.most) moved);
       same = c.take_record.ensures.same;
       fault = tt;
-      only_read = read.only_read;
-      never_falls = read.never_falls;
-      failed = λ is. absurd (not_err true _ is);
-      mark = read.mark;
+      only_reads = reads_as (bays g) (lawful g) c.args.bay.now c.read_payload.new.bay _ _ (λ is. absurd (not_err true _ is)) read.only_reads;
     }

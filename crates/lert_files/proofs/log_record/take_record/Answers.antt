@@ -22,7 +22,13 @@ put_reports-requires-clause-room g c =
     let valid = subst IsValid c.numbers.ensures.value c.numbers.ensures.valid in
     let keeps = c.in-Ok.ensures.found.0 in
     let read = c.requires.read in
-    omega (arith, keeps.room, length_from c.args.payload.now c.in-Ok.parts.reports_at c.in-Ok.parts.reports, counted s c.args.cone valid c.args.progress.now c.args.store.now.reports c.args.directory.now read.0 read.1, ap (λ (n : Numbers). n.room) c.requires.same)
+    omega (
+      arith,
+      keeps.room,
+      length_from c.args.payload.now c.in-Ok.parts.reports_at c.in-Ok.parts.reports,
+      counted s c.args.cone valid c.args.progress.now c.args.store.now.reports c.args.directory.now read.0 read.1,
+      ap (λ (n : Numbers). n.room) c.requires.same,
+    )
 
 pub put_reports-requires-clause-of_cone : goal.put_reports-requires-clause-of_cone
 put_reports-requires-clause-of_cone g c =
@@ -121,7 +127,8 @@ returns-in_default g c =
           let listed_once = subst (AllPairs (λ (earlier later : Report). earlier.key ≢ later.key)) (sym has.is_read.reports_are) has.is_read.rules.once in
           let once = all_new listed payload parts.reports_at parts.reports listed_once found.1 in (
             one,
-            read_more s c.args.cone progress c.after.result listed c.put_reports.new.store.reports c.args.directory.now c.replace.new.self records one has c.requires.still_open keeps once later found.0 (c.replace.ensures ∙ bytes),
+            read_more s c.args.cone progress c.after.result listed c.put_reports.new.store.reports c.args.directory.now c.replace.new.self records one has c.requires.still_open
+                keeps once later found.0 (c.replace.ensures ∙ bytes),
             is,
           );
       steps = steps_more progress c.after.result c.put_reports.new.store.reports one c.requires.still_open later;

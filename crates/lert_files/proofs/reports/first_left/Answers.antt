@@ -46,7 +46,8 @@ put_reports-requires-clause-of_cone g c =
     let n = (c.args.place - c.reports_start-start.result) / 16 in
     let reports = before_there s c.args.payload.now c.reports_start-start.result start_is left.0 left.1 c.args.place left.2 c.if-place-start.false in (
       left.0,
-      subst (λ (numbers : Numbers). All (λ report. cone_of numbers report.key ≡ left.0) (c.args.store.now.reports ++ reports_from c.args.payload.now c.reports_start-start.result n)) (sym c.requires.same)
+      subst (λ (numbers : Numbers). All (λ report. cone_of numbers report.key ≡ left.0)
+          (c.args.store.now.reports ++ reports_from c.args.payload.now c.reports_start-start.result n)) (sym c.requires.same)
           (all_of_cone s c.args.payload.now c.reports_start-start.result start_is left.0 left.1 c.args.store.now.reports n left.4 reports.keys),
     )
 
@@ -97,7 +98,11 @@ returns-then-place-next-clause-within g c =
     let left = c.requires.left in
     let start_is = c.reports_start-start.ensures.value ∙ ap (λ n. reports_place s n + 4) c.number_in.ensures in
     let reports = before_there s c.args.payload.now c.reports_start-start.result start_is left.0 left.1 c.args.place left.2 c.if-place-start.false in
-    omega (arith, place_small s c.args.payload.now c.reports_start-start.result start_is left.0 left.1 c.args.place ((c.args.place - c.reports_start-start.result) / 16) reports, c.requires.short)
+    omega (
+      arith,
+      place_small s c.args.payload.now c.reports_start-start.result start_is left.0 left.1 c.args.place ((c.args.place - c.reports_start-start.result) / 16) reports,
+      c.requires.short,
+    )
 
 pub number_in-requires-2 : goal.number_in-requires-2
 number_in-requires-2 g c =
@@ -168,4 +173,8 @@ returns-clause-within g c =
     let left = c.requires.left in
     let start_is = c.reports_start-start.ensures.value ∙ ap (λ n. reports_place s n + 4) c.number_in.ensures in
     let reports = before_there s c.args.payload.now c.reports_start-start.result start_is left.0 left.1 c.args.place left.2 c.if-place-start.false in
-    omega (arith, place_small s c.args.payload.now c.reports_start-start.result start_is left.0 left.1 c.args.place ((c.args.place - c.reports_start-start.result) / 16) reports, c.requires.short)
+    omega (
+      arith,
+      place_small s c.args.payload.now c.reports_start-start.result start_is left.0 left.1 c.args.place ((c.args.place - c.reports_start-start.result) / 16) reports,
+      c.requires.short,
+    )

@@ -19,7 +19,8 @@ has-requires g c =
     let key_is = ap (λ (report : Report). report.key) c.report_there-report.ensures in
     subst (λ (s : Numbers). All (λ report. cone_of s report.key ≡ cone_of s c.report_there-report.result.key) c.loop-number.store.reports) (sym now.settings)
     (subst (λ (key : ℕ). All (λ report. cone_of c.args.store.now.settings report.key ≡ cone_of c.args.store.now.settings key) c.loop-number.store.reports) (sym key_is)
-    (subst (All (λ report. cone_of c.args.store.now.settings report.key ≡ cone_of c.args.store.now.settings (number_in 8 c.args.payload.now (c.args.start + 16 * n)))) (sym now.stored) those))
+    (subst (All (λ report. cone_of c.args.store.now.settings report.key ≡ cone_of c.args.store.now.settings (number_in 8 c.args.payload.now (c.args.start + 16 * n))))
+    (sym now.stored) those))
 
 pub put-requires : goal.put-requires
 put-requires g c =
