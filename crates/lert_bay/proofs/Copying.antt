@@ -20,7 +20,8 @@ before_by (write ∷ rest) place now =
     ap (λ byte. if covers write place then slice_index write.old.items (place - write.at) else byte) (before_by rest place now)
 
 -- it is what the writes keep
-alike_pending : (now synced : List ℕ) (written : List Extent) (least : ℕ) (unsynced copies : List Overwrite) → map kept_by copies ≡ map kept_by unsynced → IsPending now synced written least unsynced → IsPending now synced written least copies
+alike_pending : (now synced : List ℕ) (written : List Extent) (least : ℕ) (unsynced copies : List Overwrite) → map kept_by copies ≡ map kept_by unsynced →
+    IsPending now synced written least unsynced → IsPending now synced written least copies
 alike_pending now synced written least unsynced copies same pending = record {
   as_read = pending.as_read;
   least_is = pending.least_is;
@@ -35,7 +36,9 @@ alike_pending now synced written least unsynced copies same pending = record {
 }
 
 -- a copy keeps what the file kept
-pub pending_copied : (now copied synced synced_copied : List ℕ) (written written_copied : List Extent) (least : ℕ) (unsynced copies : List Overwrite) → copied ≡ now → synced_copied ≡ synced → written_copied ≡ written → map kept_by copies ≡ map kept_by unsynced → IsPending now synced written least unsynced → IsPending copied synced_copied written_copied least copies
+pub pending_copied : (now copied synced synced_copied : List ℕ) (written written_copied : List Extent) (least : ℕ) (unsynced copies : List Overwrite) → copied ≡ now →
+    synced_copied ≡ synced → written_copied ≡ written → map kept_by copies ≡ map kept_by unsynced → IsPending now synced written least unsynced →
+    IsPending copied synced_copied written_copied least copies
 pending_copied now copied synced synced_copied written written_copied least unsynced copies now_is synced_is written_is same pending =
     subst (λ (bytes : List ℕ). IsPending bytes synced_copied written_copied least copies) (sym now_is)
     (subst (λ (bytes : List ℕ). IsPending now bytes written_copied least copies) (sym synced_is)

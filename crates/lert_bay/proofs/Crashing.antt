@@ -31,12 +31,19 @@ pub left_one : (pick index : ℕ) (old new : List FileState) (found file : FileS
 left_one pick index old new found file below within lost as_read torn at_rest =
     let was : slice_index_or new index found ≡ file_of old index = get_or_default new index found untouched within ∙ below.rest index (omega arith) in
     let here : file_of (slice_set new index file) index ≡ file = get_or-set_same new index file untouched within in
-    let other : (number : ℕ) → number ≢ index → file_of (slice_set new index file) number ≡ file_of new number = λ number apart. get_or-set_other new index number file untouched apart in
-    let one : IsLeft pick (file_of old index) file = record { lost = λ picked. lost picked ∙ ap (λ f. f.synced) was; as_read = λ picked. as_read picked ∙ ap (λ f. f.now) was; torn = subst (λ (f : FileState). IsTornSince f.synced f.written file.now) was torn; at_rest = at_rest } in
+    let other : (number : ℕ) → number ≢ index → file_of (slice_set new index file) number ≡ file_of new number = λ number apart. get_or-set_other new index number file untouched
+    apart in
+    let one : IsLeft pick (file_of old index) file = record {
+      lost = λ picked. lost picked ∙ ap (λ f. f.synced) was;
+      as_read = λ picked. as_read picked ∙ ap (λ f. f.now) was;
+      torn = subst (λ (f : FileState). IsTornSince f.synced f.written file.now) was torn;
+      at_rest = at_rest;
+    } in
     record {
       long = length-set new index file ∙ below.long;
       left = λ number under. elim (cases_eq number index) [
-        | inl same ↦ subst (λ (n : ℕ). IsLeft pick (file_of old n) (file_of (slice_set new index file) n)) (sym same) (subst (λ (f : FileState). IsLeft pick (file_of old index) f) (sym here) one)
+        | inl same ↦ subst (λ (n : ℕ). IsLeft pick (file_of old n) (file_of (slice_set new index file) n)) (sym same)
+            (subst (λ (f : FileState). IsLeft pick (file_of old index) f) (sym here) one)
         | inr apart ↦ subst (λ (f : FileState). IsLeft pick (file_of old number) f) (sym (other number apart)) (below.left number (below_index number under apart))
       ];
       rest = λ number from. other number (λ same. absurd (omega (arith, same, from))) ∙ below.rest number (omega (arith, from));

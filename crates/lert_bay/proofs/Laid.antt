@@ -33,7 +33,8 @@ drop_zeros end old n is =
     (λ i below. get_or-drop end _ i 0 ∙ (zeros_past old (n - length old) (end + i) ∙ sym (get_or-drop end old i 0)))
 
 -- what `put` makes of the bytes
-pub put_holds : (at : ℕ) (piece old grown laid : List ℕ) (count n len : ℕ) → count ≡ length old → n ≡ max count (at + length piece) → grown ≡ take n old ++ replicate {A = ℕ} (n - count) 0 → laid ≡ take at grown ++ piece ++ drop (at + length piece) grown → len ≡ n → Holds at piece old (take len (laid ++ drop (length laid) grown))
+pub put_holds : (at : ℕ) (piece old grown laid : List ℕ) (count n len : ℕ) → count ≡ length old → n ≡ max count (at + length piece) → grown ≡ take n old ++ replicate {A = ℕ}
+    (n - count) 0 → laid ≡ take at grown ++ piece ++ drop (at + length piece) grown → len ≡ n → Holds at piece old (take len (laid ++ drop (length laid) grown))
 put_holds at piece old grown laid count n len counts is_max grew lays same =
     let is : n ≡ max (length old) (at + length piece) = is_max ∙ ap (λ k. max k (at + length piece)) counts in
     let grows : grown ≡ take n old ++ replicate {A = ℕ} (n - length old) 0 = grew ∙ ap (λ k. take n old ++ replicate {A = ℕ} (n - k) 0) counts in
@@ -41,7 +42,8 @@ put_holds at piece old grown laid count n len counts is_max grew lays same =
     let longer : grown ≡ old ++ replicate {A = ℕ} (n - length old) 0 = grows ∙ ap (λ xs. xs ++ replicate {A = ℕ} (n - length old) 0) all in
     let front : take at grown ≡ take at (padded old at) = ap (take at) longer ∙ take_zeros at old n (omega (arith, is)) (omega (arith, is)) in
     let back : drop (at + length piece) grown ≡ drop (at + length piece) old = ap (drop (at + length piece)) longer ∙ drop_zeros (at + length piece) old n is in
-    let length_grown : length grown ≡ n = ap length longer ∙ (length-append old (replicate {A = ℕ} (n - length old) 0) ∙ omega (arith, is, length-replicate {A = ℕ} (n - length old) 0)) in
+    let length_grown : length grown ≡ n = ap length longer ∙ (length-append old (replicate {A = ℕ} (n - length old) 0) ∙ omega
+    (arith, is, length-replicate {A = ℕ} (n - length old) 0)) in
     let length_laid : length laid ≡ n = ap length lays ∙ simp (length-append, length-take, length-drop) (omega (arith, is, length_grown)) in
     take-append-le len laid _ (omega (arith, same, length_laid))
     ∙ (take_all len laid (omega (arith, same, length_laid))
@@ -55,13 +57,15 @@ length_held at piece old new held =
 -- outside of the bytes laid over it a file reads as before
 pub elsewhere_held : (at : ℕ) (piece old new : List ℕ) → Holds at piece old new → (place : ℕ) → IsOutside at (length piece) place → get_or new place 0 ≡ get_or old place 0
 elsewhere_held at piece old new held place (inl before) =
-    let front : length (take at (padded old at)) ≡ at = length-take-le at (padded old at) (omega (arith, length-append old (replicate {A = ℕ} (at - length old) 0), length-replicate {A = ℕ} (at - length old) 0)) in
+    let front : length (take at (padded old at)) ≡ at = length-take-le at (padded old at)
+    (omega (arith, length-append old (replicate {A = ℕ} (at - length old) 0), length-replicate {A = ℕ} (at - length old) 0)) in
     ap (λ xs. get_or xs place 0) held
     ∙ (get_or_append_left (take at (padded old at) ++ piece) (drop (at + length piece) old) 0 place (omega (arith, length-append (take at (padded old at)) piece, front, before))
     ∙ (get_or_append_left (take at (padded old at)) piece 0 place (omega (arith, front, before))
     ∙ (get_or-take at (padded old at) place 0 before ∙ zeros_past old (at - length old) place)))
 elsewhere_held at piece old new held place (inr behind) =
-    let front : length (take at (padded old at)) ≡ at = length-take-le at (padded old at) (omega (arith, length-append old (replicate {A = ℕ} (at - length old) 0), length-replicate {A = ℕ} (at - length old) 0)) in
+    let front : length (take at (padded old at)) ≡ at = length-take-le at (padded old at)
+    (omega (arith, length-append old (replicate {A = ℕ} (at - length old) 0), length-replicate {A = ℕ} (at - length old) 0)) in
     let both : length (take at (padded old at) ++ piece) ≡ at + length piece = length-append (take at (padded old at)) piece ∙ ap (λ k. k + length piece) front in
     ap (λ xs. get_or xs place 0) held
     ∙ (get_or-append_right (take at (padded old at) ++ piece) (drop (at + length piece) old) (at + length piece) place 0 both behind

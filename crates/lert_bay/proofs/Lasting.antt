@@ -8,7 +8,8 @@ pub lasts_none : (now : ℕ) (since : ℕ → Files → Type 0) → Lasts now no
 lasts_none now since = record { later = omega arith; known = λ t image early past. inl past; kept = λ t image early past. past }
 
 -- one call more
-pub lasts_more : (first middle last : ℕ) (since_first since_middle since_last : ℕ → Files → Type 0) (leaves : Files → Type 0) → Lasts first middle since_first since_middle → Elapses middle last since_middle since_last leaves → Lasts first last since_first since_last
+pub lasts_more : (first middle last : ℕ) (since_first since_middle since_last : ℕ → Files → Type 0) (leaves : Files → Type 0) → Lasts first middle since_first since_middle →
+    Elapses middle last since_middle since_last leaves → Lasts first last since_first since_last
 lasts_more first middle last since_first since_middle since_last leaves lasts elapsed = record {
   later = omega (arith, lasts.later, elapsed.later);
   known = λ t image early since. elim (elapsed.known t image (omega (arith, early, lasts.later)) since) [
@@ -19,7 +20,8 @@ lasts_more first middle last since_first since_middle since_last leaves lasts el
 }
 
 -- calls after calls
-pub lasts_on : (first middle last : ℕ) (since_first since_middle since_last : ℕ → Files → Type 0) → Lasts first middle since_first since_middle → Lasts middle last since_middle since_last → ((t u : ℕ) (image : Files) → t ≤ u → since_last u image → since_last t image) → Lasts first last since_first since_last
+pub lasts_on : (first middle last : ℕ) (since_first since_middle since_last : ℕ → Files → Type 0) → Lasts first middle since_first since_middle →
+    Lasts middle last since_middle since_last → ((t u : ℕ) (image : Files) → t ≤ u → since_last u image → since_last t image) → Lasts first last since_first since_last
 lasts_on first middle last since_first since_middle since_last one two earlier = record {
   later = omega (arith, one.later, two.later);
   known = λ t image early since. elim (two.known t image (omega (arith, early, one.later)) since) [
@@ -30,6 +32,8 @@ lasts_on first middle last since_first since_middle since_last one two earlier =
 }
 
 -- what each image now has, and each since the first moment had before the call, each since then has after it
-pub always_more : (first middle last : ℕ) (since_middle since_last : ℕ → Files → Type 0) (leaves : Files → Type 0) (P : Files → Type 0) → first ≤ middle → Elapses middle last since_middle since_last leaves → ((image : Files) → since_middle first image → P image) → ((image : Files) → leaves image → P image) → (image : Files) → since_last first image → P image
+pub always_more : (first middle last : ℕ) (since_middle since_last : ℕ → Files → Type 0) (leaves : Files → Type 0) (P : Files → Type 0) → first ≤ middle →
+    Elapses middle last since_middle since_last leaves → ((image : Files) → since_middle first image → P image) → ((image : Files) → leaves image → P image) → (image : Files) →
+    since_last first image → P image
 always_more first middle last since_middle since_last leaves P early elapsed before now image since =
     elim (elapsed.known first image early since) [ inl past ↦ before image past | inr present ↦ now image present ]

@@ -19,7 +19,8 @@ pub part_at : (bytes : List ℕ) (from to k : ℕ) → from + k < to → get_or 
 part_at bytes from to k within = get_or-drop from (take to bytes) k 0 ∙ get_or-take to bytes (from + k) 0 within
 
 -- two files with the same bytes in a range
-pub part_same : (xs ys : List ℕ) (from to : ℕ) → to ≤ length xs → to ≤ length ys → ((place : ℕ) → from ≤ place → place < to → get_or xs place 0 ≡ get_or ys place 0) → part xs from to ≡ part ys from to
+pub part_same : (xs ys : List ℕ) (from to : ℕ) → to ≤ length xs → to ≤ length ys → ((place : ℕ) → from ≤ place → place < to → get_or xs place 0 ≡ get_or ys place 0) →
+    part xs from to ≡ part ys from to
 part_same xs ys from to within_xs within_ys each =
     ext_get_or 0 (part xs from to) (part ys from to) (length_part xs from to within_xs ∙ sym (length_part ys from to within_ys))
     (λ k below.
@@ -32,7 +33,8 @@ reaches xs ys from to same within some =
     omega (arith, ap length same, length_part ys from to within, length-drop from (take to xs), length-take to xs)
 
 -- a torn write leaves a range alone that it doesn't touch
-pub part_torn : (at count : ℕ) (old new seen : List ℕ) (from to : ℕ) → Torn at count old new → part old from to ≡ part seen from to → to ≤ length seen → (to ≤ at) ⊎ (at + count ≤ from) → part new from to ≡ part seen from to
+pub part_torn : (at count : ℕ) (old new seen : List ℕ) (from to : ℕ) → Torn at count old new → part old from to ≡ part seen from to → to ≤ length seen →
+    (to ≤ at) ⊎ (at + count ≤ from) → part new from to ≡ part seen from to
 part_torn at count old new seen from to torn same within apart = elim (cases_lt from to) [
   | inr empty ↦ part_none new from to empty ∙ sym (part_none seen from to empty)
   | inl some ↦
@@ -46,28 +48,34 @@ part_torn at count old new seen from to torn same within apart = elim (cases_lt 
     outside place above below (inr before) = inr (omega (arith, above, before))
 
 -- a write keeps what is settled in the other files, and in its own file outside of its range
-pub keeps_write : (before after : Files → Type 0) (seen : Files) (file number at count from to : ℕ) → Follow (Changes (Torn at count) file) before after → Keeps before seen number from to → to ≤ length (seen number) → (number ≢ file) ⊎ ((to ≤ at) ⊎ (at + count ≤ from)) → Keeps after seen number from to
+pub keeps_write : (before after : Files → Type 0) (seen : Files) (file number at count from to : ℕ) → Follow (Changes (Torn at count) file) before after →
+    Keeps before seen number from to → to ≤ length (seen number) → (number ≢ file) ⊎ ((to ≤ at) ⊎ (at + count ≤ from)) → Keeps after seen number from to
 keeps_write before after seen file number at count from to follow keeps within apart image may =
     let came = follow.comes image may in
     elim apart [
       | inl other ↦ ap (λ bytes. part bytes from to) (came.2.others number other) ∙ keeps came.0 came.1
       | inr clear ↦ elim (cases_eq number file) [
         | inr other ↦ ap (λ bytes. part bytes from to) (came.2.others number other) ∙ keeps came.0 came.1
-        | inl same ↦ part_torn at count (came.0 number) (image number) (seen number) from to (subst (λ (n : ℕ). Torn at count (came.0 n) (image n)) (sym same) came.2.here) (keeps came.0 came.1) within clear
+        | inl same ↦ part_torn at count (came.0 number) (image number) (seen number) from to (subst (λ (n : ℕ). Torn at count (came.0 n) (image n)) (sym same) came.2.here)
+            (keeps came.0 came.1) within clear
       ]
     ]
 
 -- a sync keeps what is settled, and settles its file as far as it reaches
-pub keeps_sync : (before after : Files → Type 0) (seen : Files) (file number from to : ℕ) (bytes : List ℕ) → Settles file bytes before after → Keeps before seen number from to → Keeps after seen number from to
+pub keeps_sync : (before after : Files → Type 0) (seen : Files) (file number from to : ℕ) (bytes : List ℕ) → Settles file bytes before after → Keeps before seen number from to →
+    Keeps after seen number from to
 keeps_sync before after seen file number from to bytes settles keeps image may = keeps image (settles.was image may)
 
-pub settled_by_sync : (before after : Files → Type 0) (seen : Files) (file from to : ℕ) → Settles file (seen file) before after → to ≤ length (seen file) → IsSettled after seen file from to
+pub settled_by_sync : (before after : Files → Type 0) (seen : Files) (file from to : ℕ) → Settles file (seen file) before after → to ≤ length (seen file) →
+    IsSettled after seen file from to
 settled_by_sync before after seen file from to settles within = record {
   within = within;
   same = λ image may. ap (λ bytes. part bytes from to) (settles.durable image may);
 }
 
 -- what each image of each earlier moment and each image now keeps, each image since keeps
-pub keeps_time : (before after : ℕ) (since_before since_after : ℕ → Files → Type 0) (leaves : Files → Type 0) (t : ℕ) (seen : Files) (number from to : ℕ) → Elapses before after since_before since_after leaves → t ≤ before → Keeps (since_before t) seen number from to → Keeps leaves seen number from to → Keeps (since_after t) seen number from to
+pub keeps_time : (before after : ℕ) (since_before since_after : ℕ → Files → Type 0) (leaves : Files → Type 0) (t : ℕ) (seen : Files) (number from to : ℕ) →
+    Elapses before after since_before since_after leaves → t ≤ before → Keeps (since_before t) seen number from to → Keeps leaves seen number from to →
+    Keeps (since_after t) seen number from to
 keeps_time before after since_before since_after leaves t seen number from to elapsed early earlier now image since =
     elim (elapsed.known t image early since) [ inl past ↦ earlier image past | inr present ↦ now image present ]

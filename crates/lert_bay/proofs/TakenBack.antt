@@ -10,20 +10,25 @@ use Rattle.lert_bay.proofs.Laid.{zeros_past}
 use Rattle.lert_bay.proofs.Tearing.{inside_not, inside_cases}
 
 -- one write more at the end
-pub before_append : (writes : List Overwrite) (last : Overwrite) (place now : ℕ) → before_all (writes ++ last ∷ []) place now ≡ before_all writes place (before_all (last ∷ []) place now)
+pub before_append : (writes : List Overwrite) (last : Overwrite) (place now : ℕ) → before_all (writes ++ last ∷ []) place now ≡ before_all writes place
+    (before_all (last ∷ []) place now)
 before_append [] last place now = refl
 before_append (write ∷ rest) last place now = ap (λ (byte : ℕ). cond (covers write place) (get_or write.old.items (place - write.at) 0) byte) (before_append rest last place now)
 
 -- where the first write doesn't cover the place
-pub before_outside : (write : Overwrite) (rest : List Overwrite) (place now : ℕ) → IsOutside write.at (length write.old.items) place → before_all (write ∷ rest) place now ≡ before_all rest place now
-before_outside write rest place now outside = ap (λ b. cond b (get_or write.old.items (place - write.at) 0) (before_all rest place now)) (inside_not write.at (length write.old.items) place outside)
+pub before_outside : (write : Overwrite) (rest : List Overwrite) (place now : ℕ) → IsOutside write.at (length write.old.items) place →
+    before_all (write ∷ rest) place now ≡ before_all rest place now
+before_outside write rest place now outside = ap (λ b. cond b (get_or write.old.items (place - write.at) 0) (before_all rest place now))
+    (inside_not write.at (length write.old.items) place outside)
 
 -- and where it does
-pub before_covered : (write : Overwrite) (rest : List Overwrite) (place now : ℕ) → covers write place ≡ true → before_all (write ∷ rest) place now ≡ get_or write.old.items (place - write.at) 0
+pub before_covered : (write : Overwrite) (rest : List Overwrite) (place now : ℕ) → covers write place ≡ true → before_all (write ∷ rest) place now ≡ get_or write.old.items
+    (place - write.at) 0
 before_covered write rest place now is = ap (λ b. cond b (get_or write.old.items (place - write.at) 0) (before_all rest place now)) is
 
 -- a byte that differs only where some write covers it
-pub before_same : (writes : List Overwrite) (place x y : ℕ) → (All (λ w. IsOutside w.at (length w.old.items) place) writes → x ≡ y) → before_all writes place x ≡ before_all writes place y
+pub before_same : (writes : List Overwrite) (place x y : ℕ) → (All (λ w. IsOutside w.at (length w.old.items) place) writes → x ≡ y) →
+    before_all writes place x ≡ before_all writes place y
 before_same [] place x y same = same (All-nil (λ w. IsOutside w.at (length w.old.items) place))
 before_same (write ∷ rest) place x y same = elim (inside_cases write.at (length write.old.items) place) [
   | inl is ↦ before_covered write rest place x is ∙ sym (before_covered write rest place y is)
@@ -34,7 +39,9 @@ before_same (write ∷ rest) place x y same = elim (inside_cases write.at (lengt
 ]
 
 -- a write that keeps what it covers takes a byte back to what it was
-pub before_kept : (write : Overwrite) (now new : List ℕ) (count place : ℕ) → write.old.items ≡ take count (drop write.at now) ++ replicate {A = ℕ} (count - length (take count (drop write.at now))) 0 → length write.old.items ≡ count → place < length now → (IsOutside write.at count place → get_or new place 0 ≡ get_or now place 0) → before_all (write ∷ []) place (get_or new place 0) ≡ get_or now place 0
+pub before_kept : (write : Overwrite) (now new : List ℕ) (count place : ℕ) → write.old.items ≡ take count (drop write.at now) ++ replicate {A = ℕ}
+    (count - length (take count (drop write.at now))) 0 → length write.old.items ≡ count → place < length now →
+    (IsOutside write.at count place → get_or new place 0 ≡ get_or now place 0) → before_all (write ∷ []) place (get_or new place 0) ≡ get_or now place 0
 before_kept write now new count place kept long within same = elim (inside_cases write.at (length write.old.items) place) [
   | inl is ↦
       before_covered write [] place (get_or new place 0) is

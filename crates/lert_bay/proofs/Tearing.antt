@@ -1,5 +1,6 @@
 -- Torn files: what a write does to the images of one file, and how these steps join since a sync.
-use Rattle.std.proofs.Common.{◌≡◌, ℕ, ◌+◌, ◌<◌, ◌≤◌, List, [], ◌∷◌, ◌++◌, length, take, get_or, min, max, map, Some, Bool, true, false, cond, ◌&&◌, nat_le, nat_lt, refl, sym, ap, ◌∙◌, ◌⊎◌, subst, inl, inr, arith, append-nil, append_assoc, ◌↔◌}
+use Rattle.std.proofs.Common.{◌≡◌, ℕ, ◌+◌, ◌<◌, ◌≤◌, List, [], ◌∷◌, ◌++◌, length, take, get_or, min, max, map, Some, Bool, true, false}
+use Rattle.std.proofs.Common.{cond, ◌&&◌, nat_le, nat_lt, refl, sym, ap, ◌∙◌, ◌⊎◌, subst, inl, inr, arith, append-nil, append_assoc, ◌↔◌}
 use Rattle.std.specs.List.{range_with_len}
 use Rattle.std.proofs.lemmas.Bool.{cases_lt, and_from, and_left, and_right, le-leb, lt-leb, lt-ltb, le-ltb}
 use Rattle.std.proofs.lemmas.List.{get_or-take, get_or_past, take_all, ext_get_or, length-take-le}
@@ -41,7 +42,8 @@ pub left_by_part : (at part : ℕ) (bytes old new : List ℕ) → part ≤ lengt
 left_by_part at part bytes old new fewer held =
     let counted : length (take part bytes) ≡ part = length-take-le part bytes fewer in
     let long : length new ≡ max (length old) (at + part) = length_held at (take part bytes) old new held ∙ ap (λ k. max (length old) (at + k)) counted in
-    let outside : (place : ℕ) → IsOutside at (length bytes) place → IsOutside at (length (take part bytes)) place = λ place apart. outside_part at (length bytes) (length (take part bytes)) place (omega (arith, counted, fewer)) apart in
+    let outside : (place : ℕ) → IsOutside at (length bytes) place → IsOutside at (length (take part bytes)) place = λ place apart. outside_part at (length bytes)
+    (length (take part bytes)) place (omega (arith, counted, fewer)) apart in
     record {
       torn = record {
         no_shorter = omega (arith, long);
@@ -80,7 +82,8 @@ only_synced synced image torn =
     (λ place within. torn.elsewhere place (omega (arith, within, torn.no_longer)) (λ k d below. absurd (omega (arith, below))))
 
 -- one write more
-pub torn_more : (synced : List ℕ) (written : List Extent) (last : Extent) (earlier image : List ℕ) → IsTornSince synced written earlier → Torn last.at last.count earlier image → IsTornSince synced (written ++ last ∷ []) image
+pub torn_more : (synced : List ℕ) (written : List Extent) (last : Extent) (earlier image : List ℕ) → IsTornSince synced written earlier → Torn last.at last.count earlier image →
+    IsTornSince synced (written ++ last ∷ []) image
 torn_more synced written last earlier image was torn =
     let longer = longest_last (length synced) written last in
     record {
@@ -118,22 +121,28 @@ mended synced at count image most = map (λ place. cond (inside at count place) 
 
 length_mended : (synced : List ℕ) (at count : ℕ) (image : List ℕ) (most : ℕ) → length (mended synced at count image most) ≡ min (length image) most
 unfolding mended
-length_mended synced at count image most = length-map-range_with_len (λ place. cond (inside at count place) (get_or synced place 0) (get_or image place 0)) 0 (min (length image) most)
+length_mended synced at count image most = length-map-range_with_len (λ place. cond (inside at count place) (get_or synced place 0) (get_or image place 0)) 0
+    (min (length image) most)
 
-mended_at : (synced : List ℕ) (at count : ℕ) (image : List ℕ) (most place : ℕ) → place < min (length image) most → get_or (mended synced at count image most) place 0 ≡ cond (inside at count place) (get_or synced place 0) (get_or image place 0)
+mended_at : (synced : List ℕ) (at count : ℕ) (image : List ℕ) (most place : ℕ) → place < min (length image) most → get_or (mended synced at count image most) place 0 ≡ cond
+    (inside at count place) (get_or synced place 0) (get_or image place 0)
 unfolding mended
-mended_at synced at count image most place within = get_or-map-range_with_len (λ place. cond (inside at count place) (get_or synced place 0) (get_or image place 0)) 0 (min (length image) most) place place 0 within (omega arith)
+mended_at synced at count image most place within = get_or-map-range_with_len (λ place. cond (inside at count place) (get_or synced place 0) (get_or image place 0)) 0
+    (min (length image) most) place place 0 within (omega arith)
 
-mended_outside : (synced : List ℕ) (at count : ℕ) (image : List ℕ) (most place : ℕ) → place < min (length image) most → IsOutside at count place → get_or (mended synced at count image most) place 0 ≡ get_or image place 0
+mended_outside : (synced : List ℕ) (at count : ℕ) (image : List ℕ) (most place : ℕ) → place < min (length image) most → IsOutside at count place →
+    get_or (mended synced at count image most) place 0 ≡ get_or image place 0
 mended_outside synced at count image most place within outside =
     mended_at synced at count image most place within ∙ ap (λ b. cond b (get_or synced place 0) (get_or image place 0)) (inside_not at count place outside)
 
-mended_inside : (synced : List ℕ) (at count : ℕ) (image : List ℕ) (most place : ℕ) → place < min (length image) most → inside at count place ≡ true → get_or (mended synced at count image most) place 0 ≡ get_or synced place 0
+mended_inside : (synced : List ℕ) (at count : ℕ) (image : List ℕ) (most place : ℕ) → place < min (length image) most → inside at count place ≡ true →
+    get_or (mended synced at count image most) place 0 ≡ get_or synced place 0
 mended_inside synced at count image most place within is =
     mended_at synced at count image most place within ∙ ap (λ b. cond b (get_or synced place 0) (get_or image place 0)) is
 
 -- one write less: what may be left after it came by a torn write from what might be left before it
-pub torn_less : (synced : List ℕ) (written : List Extent) (last : Extent) (image : List ℕ) → IsTornSince synced (written ++ last ∷ []) image → (earlier : List ℕ) × IsTornSince synced written earlier × Torn last.at last.count earlier image
+pub torn_less : (synced : List ℕ) (written : List Extent) (last : Extent) (image : List ℕ) → IsTornSince synced (written ++ last ∷ []) image →
+    (earlier : List ℕ) × IsTornSince synced written earlier × Torn last.at last.count earlier image
 torn_less synced written last image torn =
     let least : length synced ≤ longest (length synced) written = longest_least (length synced) written in
     let longer = longest_last (length synced) written last in
@@ -159,17 +168,21 @@ torn_less synced written last image torn =
     )
 
 -- what the writes may tear one after the other, they may tear together
-turns_join : (synced : List ℕ) (before rest : List Extent) (middle image : List ℕ) → IsTornSince synced before middle → TornInTurn rest middle image → IsTornSince synced (before ++ rest) image
-turns_join synced before [] middle image was same = subst (λ (ranges : List Extent). IsTornSince synced ranges image) (sym (append-nil before)) (subst (λ (bytes : List ℕ). IsTornSince synced before bytes) (sym same) was)
+turns_join : (synced : List ℕ) (before rest : List Extent) (middle image : List ℕ) → IsTornSince synced before middle → TornInTurn rest middle image →
+    IsTornSince synced (before ++ rest) image
+turns_join synced before [] middle image was same = subst (λ (ranges : List Extent). IsTornSince synced ranges image) (sym (append-nil before))
+    (subst (λ (bytes : List ℕ). IsTornSince synced before bytes) (sym same) was)
 turns_join synced before (first ∷ rest) middle image was torn =
     subst (λ (ranges : List Extent). IsTornSince synced ranges image) (append_assoc before (first ∷ []) rest)
     (turns_join synced (before ++ first ∷ []) rest torn.0 image (torn_more synced before first middle torn.0 was torn.1) torn.2)
 
 -- and what they may tear together comes in turn
-joint_turns : (synced : List ℕ) (before rest : List Extent) (image : List ℕ) → IsTornSince synced (before ++ rest) image → (middle : List ℕ) × IsTornSince synced before middle × TornInTurn rest middle image
+joint_turns : (synced : List ℕ) (before rest : List Extent) (image : List ℕ) → IsTornSince synced (before ++ rest) image →
+    (middle : List ℕ) × IsTornSince synced before middle × TornInTurn rest middle image
 joint_turns synced before [] image torn = (image, subst (λ (ranges : List Extent). IsTornSince synced ranges image) (append-nil before) torn, refl)
 joint_turns synced before (first ∷ rest) image torn =
-    let later = joint_turns synced (before ++ first ∷ []) rest image (subst (λ (ranges : List Extent). IsTornSince synced ranges image) (sym (append_assoc before (first ∷ []) rest)) torn) in
+    let later = joint_turns synced (before ++ first ∷ []) rest image
+    (subst (λ (ranges : List Extent). IsTornSince synced ranges image) (sym (append_assoc before (first ∷ []) rest)) torn) in
     let last = torn_less synced before first later.0 later.1 in
     (last.0, last.1, (later.0, last.2, later.2))
 
@@ -181,7 +194,8 @@ turns_since synced written image = (
 )
 
 -- bytes changed in written ranges alone
-pub torn_changed : (synced : List ℕ) (written : List Extent) (image changed : List ℕ) → IsTornSince synced written image → length changed ≡ length image → ((place : ℕ) → IsUnwritten written place → get_or changed place 0 ≡ get_or image place 0) → IsTornSince synced written changed
+pub torn_changed : (synced : List ℕ) (written : List Extent) (image changed : List ℕ) → IsTornSince synced written image → length changed ≡ length image →
+    ((place : ℕ) → IsUnwritten written place → get_or changed place 0 ≡ get_or image place 0) → IsTornSince synced written changed
 torn_changed synced written image changed torn long elsewhere = record {
   no_shorter = omega (arith, torn.no_shorter, long);
   no_longer = omega (arith, torn.no_longer, long);
@@ -189,7 +203,8 @@ torn_changed synced written image changed torn long elsewhere = record {
 }
 
 -- a shorter file, but no shorter than at the last sync
-pub torn_cut : (synced : List ℕ) (written : List Extent) (image : List ℕ) (n : ℕ) → IsTornSince synced written image → length synced ≤ n → n ≤ length image → IsTornSince synced written (take n image)
+pub torn_cut : (synced : List ℕ) (written : List Extent) (image : List ℕ) (n : ℕ) → IsTornSince synced written image → length synced ≤ n → n ≤ length image →
+    IsTornSince synced written (take n image)
 torn_cut synced written image n torn least most = record {
   no_shorter = omega (arith, length-take-le n image most);
   no_longer = omega (arith, length-take-le n image most, torn.no_longer);

@@ -7,7 +7,9 @@ pub returns-clause-time : goal.returns-clause-time
 returns-clause-time c = elapses c.args.self.now c.settle.new.self (ap (λ d. d.past) c.settle.ensures.settled ∙ ap (λ d. d.past) c.begin.ensures.begun)
 
 pub returns-clause-seen : goal.returns-clause-seen
-returns-clause-seen c = ap (λ files. Some files) (settled_seen c.begin.new.self.files c.settle.new.self.files c.args.file c.settle.ensures.within (ap (λ d. d.files) c.settle.ensures.settled) ∙ ap (λ d. seen_of d.files) c.begin.ensures.begun)
+returns-clause-seen c = ap (λ files. Some files) (settled_seen c.begin.new.self.files c.settle.new.self.files c.args.file c.settle.ensures.within
+    (ap (λ d. d.files) c.settle.ensures.settled) ∙ ap (λ d. seen_of d.files) c.begin.ensures.begun)
 
 pub returns-clause-durable : goal.returns-clause-durable
-returns-clause-durable c = settled_images c.args.self.now.files c.begin.new.self.files c.settle.new.self.files c.args.file (ap (λ d. d.files) c.begin.ensures.begun) c.settle.ensures.within (ap (λ d. d.files) c.settle.ensures.settled)
+returns-clause-durable c = settled_images c.args.self.now.files c.begin.new.self.files c.settle.new.self.files c.args.file (ap (λ d. d.files) c.begin.ensures.begun)
+    c.settle.ensures.within (ap (λ d. d.files) c.settle.ensures.settled)

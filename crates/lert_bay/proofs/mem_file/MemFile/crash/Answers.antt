@@ -12,7 +12,8 @@ invariant_of-self c =
     let short : c.length_left-length.result ≤ length c.take_back.new.bytes = search rules in
     pending_crashed c.self.inside.bytes.items (bytes_of c.self.inside.synced) c.self.inside.written c.self.inside.least c.self.inside.unsynced.items
     c.take_back.new.bytes c.truncate.new.self.items c.length_left-length.result c.self.invariant long
-    (λ place outside. c.take_back.ensures.elsewhere place (subst (λ (ws : List Overwrite). All (λ w. IsOutside w.at (length w.old.items) place) ws) (sym c.deref.ensures.value) outside) ∙ ap (λ bytes. get_or bytes place 0) c.deref_mut.ensures.value)
+    (λ place outside. c.take_back.ensures.elsewhere place (subst (λ (ws : List Overwrite). All (λ w. IsOutside w.at (length w.old.items) place) ws)
+    (sym c.deref.ensures.value) outside) ∙ ap (λ bytes. get_or bytes place 0) c.deref_mut.ensures.value)
     c.length_left-length.ensures.least short
     (c.truncate.ensures.items ∙ take_back_is c.length_left-length.result c.self.inside.bytes.len c.take_back.new.bytes c.self.inside.bytes.items (search rules) short)
 
@@ -25,7 +26,8 @@ returns-clause-image c =
     (subst (λ (bytes : List ℕ). IsTornSince (bytes_of c.self.inside.synced) c.self.inside.written bytes) (sym now_is)
     (pending_crashed c.self.inside.bytes.items (bytes_of c.self.inside.synced) c.self.inside.written c.self.inside.least c.self.inside.unsynced.items
     c.take_back.new.bytes c.truncate.new.self.items c.length_left-length.result c.self.invariant long
-    (λ place outside. c.take_back.ensures.elsewhere place (subst (λ (ws : List Overwrite). All (λ w. IsOutside w.at (length w.old.items) place) ws) (sym c.deref.ensures.value) outside) ∙ ap (λ bytes. get_or bytes place 0) c.deref_mut.ensures.value)
+    (λ place outside. c.take_back.ensures.elsewhere place (subst (λ (ws : List Overwrite). All (λ w. IsOutside w.at (length w.old.items) place) ws)
+    (sym c.deref.ensures.value) outside) ∙ ap (λ bytes. get_or bytes place 0) c.deref_mut.ensures.value)
     c.length_left-length.ensures.least short
     (c.truncate.ensures.items ∙ take_back_is c.length_left-length.result c.self.inside.bytes.len c.take_back.new.bytes c.self.inside.bytes.items (search rules) short)).as_read)
 
