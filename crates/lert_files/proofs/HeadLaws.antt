@@ -1,6 +1,7 @@
 -- What the first bytes of a journal say is one of three: the header of this cone, another one, or a place at which they leave
 -- the format.
-use Rattle.std.proofs.Common.{ℕ, ◌≡◌, ◌≢◌, ◌+◌, ◌<◌, ◌≤◌, ◌^◌, min, nat_lt, Some, None, Result, Ok, Err, List, [], ◌∷◌, ◌++◌, length, take, drop, refl, ap, ap₂, sym, ◌∙◌, subst, arith, inl, inr, ◌⊎◌, length-take}
+use Rattle.std.proofs.Common.{ℕ, ◌≡◌, ◌≢◌, ◌+◌, ◌<◌, ◌≤◌, ◌^◌, min, nat_lt, Some, None, Result, Ok, Err, List, [], ◌∷◌}
+use Rattle.std.proofs.Common.{◌++◌, length, take, drop, refl, ap, ap₂, sym, ◌∙◌, subst, arith, inl, inr, ◌⊎◌, length-take}
 use Rattle.std.specs.Prelude.{slice_index, if◌then◌else◌, MatchResult, IsErrAnd}
 use Rattle.std.proofs.Math.Seq.{take-add}
 use Rattle.std.proofs.lemmas.Bool.{cases_lt, le-ltb}

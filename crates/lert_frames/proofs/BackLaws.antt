@@ -1,5 +1,6 @@
 -- The text of a bin's pieces reads back as these pieces.
-use Rattle.std.proofs.Common.{◌≡◌, ℕ, zero, suc, ◌+◌, ◌-◌, ◌*◌, ◌<◌, ◌≤◌, ◌^◌, ◌⊎◌, List, [], ◌∷◌, ◌++◌, length, take, drop, get_or, map, Result, Option, Some, None, refl, sym, ap, ◌∙◌, subst, inl, inr, arith, append-nil, length-take, length-drop, nat_lt, false}
+use Rattle.std.proofs.Common.{◌≡◌, ℕ, zero, suc, ◌+◌, ◌-◌, ◌*◌, ◌<◌, ◌≤◌, ◌^◌, ◌⊎◌, List, [], ◌∷◌, ◌++◌, length, take, drop, get_or, map, Result}
+use Rattle.std.proofs.Common.{Option, Some, None, refl, sym, ap, ◌∙◌, subst, inl, inr, arith, append-nil, length-take, length-drop, nat_lt, false}
 use Rattle.std.specs.Prelude.{flat_map, if◌then◌else◌, Ok, Err, MatchResult, IsErrAnd, IfOk, OnOk, IsErrOf}
 use Rattle.std.specs.Int.{bytes_low_first, byte_at}
 use Rattle.std.specs.List.{range_with_len}

@@ -1,5 +1,6 @@
 -- Gated texts: what writes behind a closed gate and at it leave of the records.
-use Rattle.std.proofs.Common.{◌≡◌, ℕ, ◌+◌, ◌-◌, ◌<◌, ◌≤◌, List, [], ◌∷◌, ◌++◌, length, take, drop, replicate, get_or, refl, sym, ap, ◌∙◌, subst, inl, inr, arith, length-append, length-take, length-drop, append-nil}
+use Rattle.std.proofs.Common.{◌≡◌, ℕ, ◌+◌, ◌-◌, ◌<◌, ◌≤◌, List, [], ◌∷◌, ◌++◌, length, take, drop, replicate, get_or, refl}
+use Rattle.std.proofs.Common.{sym, ap, ◌∙◌, subst, inl, inr, arith, length-append, length-take, length-drop, append-nil}
 use Rattle.std.proofs.lemmas.Bool.{cases_eq}
 use Rattle.std.proofs.lemmas.List.{get_or_at, ext_get_or, take_at, drop_at, take-append-le, length-take-le}
 use Rattle.byteorder.specs.Endian.{little_number, little_bytes}

@@ -1,5 +1,6 @@
 -- A payload reads back as the packet that it was laid from, and keeps the format where the packet may stand in a journal.
-use Rattle.std.proofs.Common.{◌≡◌, ℕ, suc, ◌+◌, ◌-◌, ◌*◌, ◌/◌, ◌%◌, ◌<◌, ◌≤◌, ◌^◌, ◌&&◌, ◌==◌, not, cond, true, nat_lt, Option, Some, None, List, [], ◌∷◌, ◌++◌, length, drop, map, refl, sym, ap, ap₂, arith, ◌∙◌, append_assoc, length-append}
+use Rattle.std.proofs.Common.{◌≡◌, ℕ, suc, ◌+◌, ◌-◌, ◌*◌, ◌/◌, ◌%◌, ◌<◌, ◌≤◌, ◌^◌, ◌&&◌, ◌==◌, not, cond, true, nat_lt, Option, Some}
+use Rattle.std.proofs.Common.{None, List, [], ◌∷◌, ◌++◌, length, drop, map, refl, sym, ap, ap₂, arith, ◌∙◌, append_assoc, length-append}
 use Rattle.std.specs.Prelude.{flat_map, All, option_map, if◌then◌else◌}
 use Rattle.std.specs.List.{range_with_len, position_from}
 use Rattle.std.proofs.lemmas.List.{drop_at}
