@@ -16,7 +16,7 @@ use Rattle.lert_cone.specs.declared.tally.TakeFault.{TakeFault}
 use Rattle.lert_cone.specs.declared.tally.TakeFault.TheVariants.{Failed}
 use Rattle.lert_cone.specs.Appends.{AppendsRecord}
 use Rattle.lert_cone.specs.Counts.{CountsKey}
-use Rattle.lert_cone.specs.Framed.{HoldsSome}
+use Rattle.lert_cone.specs.Framed.{HoldsSome, last_flush}
 use Rattle.lert_cone.specs.InStep.{IsLogging, IsPartway}
 use Rattle.lert_cone.specs.Listing.{Listing}
 use Rattle.lert_cone.specs.Record.{LogPlace, payload_at}
@@ -25,6 +25,7 @@ use Rattle.lert_cone.specs.Takes.{Workplace, CanLog, CanTake, AreInStep, TakesKe
 use Rattle.lert_cone.specs.Tally.{Tallied, IsHeld}
 use Rattle.lert_bay.proofs.KeptLaws.{IsLawful}
 use Rattle.lert_cone.proofs.Calls.{now_since, alone_on, alone_rest, alone_others, settled_alone, shut_alone}
+use Rattle.lert_cone.proofs.FlushLaws.{flush_passed}
 use Rattle.lert_cone.proofs.KeyStep.{IsTaken, held_of, sound_rest, taken_of, up_between, sound_append, up_flushed}
 use Rattle.lert_cone.proofs.RecordLaws.{record_fits, logging_more}
 use Rattle.lert_cone.proofs.SoundLaws.{turns_back}
@@ -58,6 +59,7 @@ module _ {B : Type 0} (bays : Bays B) (lawful : IsLawful bays) (old : Workplace 
     sound = λ seen told history up. did.sound seen told (held (Err fault) did seen told history up);
     framed = λ seen told some. tt;
     whole = did.whole;
+    unflushed = λ passed. did.unflushed (flush_passed old.counts.listing.settings (length old.counts.listing.events) passed);
     keeps = record {
       shows = did.shows;
       journal = alone_rest bays lawful (InNamed old.counts.listing.settings old.counts.rows) 0 (λ same. absurd (omega (arith, same))) old.bay bay did.rest;
@@ -131,6 +133,7 @@ module _ {B : Type 0} (bays : Bays B) (lawful : IsLawful bays) (old : Workplace 
           sound = λ seen told history up. did.sound seen told (held (Ok tt) did seen told history up);
           framed = did.framed;
           whole = did.whole;
+          unflushed = λ passed. did.unflushed (flush_passed old.counts.listing.settings (length old.counts.listing.events) passed);
           keeps = record {
             shows = did.shows;
             journal = alone_rest bays lawful (InNamed old.counts.listing.settings old.counts.rows) 0 (λ same. absurd (omega (arith, same))) old.bay bay did.rest;
@@ -151,6 +154,12 @@ module _ {B : Type 0} (bays : Bays B) (lawful : IsLawful bays) (old : Workplace 
 
       few_here : length counts.due.reports ≤ old.counts.listing.settings.room
       few_here = omega (arith, few, ap (λ (s : Numbers). s.room) settings_are)
+
+      never_passed : last_flush old.counts.listing.settings (length old.counts.listing.events + 1) ≤ length old.counts.listing.events → ⊥
+      never_passed passed =
+          let before : length counts.listing.events - 1 ≡ length old.counts.listing.events = omega (arith, long) in
+          moves (ap (edge old.counts.listing.settings 0) long ∙ flush_passed old.counts.listing.settings (length old.counts.listing.events) passed
+          ∙ ap (edge old.counts.listing.settings 0) (sym before))
 
       abbrev payload : List ℕ
       payload = payload_at old.log LogKind.Flush (length counts.listing.events) (directory_text counts.rows) counts.due.reports
@@ -204,6 +213,7 @@ module _ {B : Type 0} (bays : Bays B) (lawful : IsLawful bays) (old : Workplace 
       sound = λ seen told history up file at same. (let never : ⊥ = cc in never);
       framed = λ seen told some. tt;
       whole = λ seen told some at same. (let never : ⊥ = cc in never);
+      unflushed = λ passed. absurd (never_passed moves_now few (Err failed) bay_after log_after appends passed);
       keeps = record {
         shows = λ seen told file at same. absurd (let never : ⊥ = cc in never);
         journal = journal_then moves_now few (Err failed) bay_after log_after appends;
@@ -257,6 +267,7 @@ module _ {B : Type 0} (bays : Bays B) (lawful : IsLawful bays) (old : Workplace 
           subst (λ (bytes : List ℕ). HoldsSome counts.listing.settings (length counts.listing.events) counts.rows bytes) (sym (was.2 2 (λ same. absurd (omega (arith, same)))))
           (did.framed seen told some was.0 was.1);
       whole = did.whole;
+      unflushed = λ passed. absurd (never_passed moves_now few (Ok tt) bay_after log_after appends passed);
       keeps = record {
         shows = λ seen told file at same. absurd (let never : ⊥ = cc in never);
         journal = journal_then moves_now few (Ok tt) bay_after log_after appends;

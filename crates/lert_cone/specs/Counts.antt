@@ -70,6 +70,7 @@ pub record Brings {B : Type 0} (bays : Bays B) (start : Dues) (m tail : ℕ) (ba
       OnOk result (IfTold (bays.files bay_after) (λ _. InEach (bays.leaves bay_after) 2 (HoldsBins levels.settings events levels_after.rows))))
   pub are : OnOk result (AreRows levels.settings levels.rows → AreRows levels.settings levels_after.rows)
   pub still : edge levels.settings 0 m ≡ edge levels.settings 0 (m - 1) → OnOk result (levels_after.rows ≡ levels.rows)
+  pub unflushed : edge levels.settings 0 m ≡ edge levels.settings 0 (m - 1) → bay_after ≡ bay
   pub rest : KeepsRest (InNamed levels.settings levels.rows) (bays.files bay) (bays.files bay_after) (bays.leaves bay) (bays.moment bay) (bays.moment bay_after) (bays.left_since bay)
       (bays.left_since bay_after)
   pub failed : IsErrOf result FlushFailed → HasRisen (bays.faults bay) (bays.faults bay_after)
@@ -92,7 +93,7 @@ pub record Scans {B : Type 0} (bays : Bays B) (start : Dues) (bay bay_after : B)
   pub never_falls : bays.faults bay ≤ bays.faults bay_after
   pub mark : bays.mark bay_after ≡ bays.mark bay
 
--- A key is counted. Where the edge of level 0 stays the rows stay, and the frames that the rows named stay in any case. Where
+-- A key is counted. Where the edge of level 0 stays the rows stay, and no call of the bay is made; the frames that the rows named stay in any case. Where
 -- the files are told, and the frames and reports are those of the keys so far, they are so again, in every image too, and no
 -- frame is found malformed; that holds too where the frames hold the bins of some events, whatever these are.
 pub record CountsKey {B : Type 0} (bays : Bays B) (key : ℕ) (bay bay_after : B) (old new : Tallied) (result : Result (Unit {0}) TakeFault) : Type 0 where
@@ -101,6 +102,7 @@ pub record CountsKey {B : Type 0} (bays : Bays B) (key : ℕ) (bay bay_after : B
   pub counted : OnOk result (IsCounted new)
   pub grows : OnOk result (length old.due.reports ≤ length new.due.reports)
   pub still : edge old.listing.settings 0 (length old.listing.events + 1) ≡ edge old.listing.settings 0 (length old.listing.events) → OnOk result (new.rows ≡ old.rows)
+  pub unflushed : edge old.listing.settings 0 (length old.listing.events + 1) ≡ edge old.listing.settings 0 (length old.listing.events) → bay_after ≡ bay
   pub held : IfTold (bays.files bay) (λ seen. IsHeld old seen → OnOk result (IfTold (bays.files bay_after) (λ after. IsHeld new after)))
   pub sound : IfTold (bays.files bay) (λ seen. IsHeld old seen → (file at : ℕ) → result ≢ Err (Unsound file at))
   pub shows : IfTold (bays.files bay_after) (λ seen. (file at : ℕ) → IsErrOf result (Unsound file at) → Shows new.listing.settings new.rows new.due.reports (seen 2) file at)

@@ -11,7 +11,7 @@ use Rattle.lert_spec.specs.Edges.{capacity}
 use Rattle.lert_spec.specs.Mix.{cone_of}
 use Rattle.lert_cone.specs.declared.tally.TakeFault.{TakeFault}
 use Rattle.lert_cone.specs.declared.tally.TakeFault.TheVariants.{Failed, Unsound}
-use Rattle.lert_cone.specs.Framed.{HoldsSome}
+use Rattle.lert_cone.specs.Framed.{HoldsSome, last_flush}
 use Rattle.lert_cone.specs.History.{most_payload}
 use Rattle.lert_cone.specs.InStep.{IsInStep, IsLogging, IsPartway}
 use Rattle.lert_cone.specs.Record.{LogPlace}
@@ -61,7 +61,7 @@ pub record KeepsJournal {B : Type 0} (bays : Bays B) (old new : Workplace B) (re
 
 -- Keys are taken. Where the bay tells its files, and these went together with memory, they do so again, and they are sound in
 -- each image of each moment; no frame is found malformed then, nor where the frames hold the bins of some events, whatever
--- these are, as they do again.
+-- these are, as they do again. Where no flush position lies among the keys no call of the bay is made.
 pub record TakesKeys {B : Type 0} (bays : Bays B) (keys : List ℕ) (old new : Workplace B) (result : Result (Unit {0}) TakeFault) : Type 0 where
   pub listing : new.counts.listing ≡ record old.counts.listing { events = new.counts.listing.events }
   pub taken : OnOk result (new.counts.listing.events ≡ old.counts.listing.events ++ keys)
@@ -75,6 +75,7 @@ pub record TakesKeys {B : Type 0} (bays : Bays B) (keys : List ℕ) (old new : W
   pub framed : IfTold (bays.files old.bay) (λ seen. HoldsSome old.counts.listing.settings (length old.counts.listing.events) old.counts.rows (seen 2) →
       OnOk result (IfTold (bays.files new.bay) (λ after. HoldsSome new.counts.listing.settings (length new.counts.listing.events) new.counts.rows (after 2))))
   pub whole : IfTold (bays.files old.bay) (λ seen. HoldsSome old.counts.listing.settings (length old.counts.listing.events) old.counts.rows (seen 2) → (at : ℕ) → result ≢ Err (Unsound 2 at))
+  pub unflushed : last_flush old.counts.listing.settings (length old.counts.listing.events + length keys) ≤ length old.counts.listing.events → new.bay ≡ old.bay
   pub keeps : KeepsJournal bays old new result
 
 -- a packet may be taken: the journal may hold it, its gate is closed in every image, and its keys may be taken
@@ -125,7 +126,9 @@ pub record CanReplay {B : Type 0} (bays : Bays B) (n0 : ℕ) (keys : List ℕ) (
   pub can_log : CanLog bays at
 
 -- They are taken. Where the bay tells its files, and these and memory were on their way through a journal that has these keys
--- next, they are so behind them, and no frame is found malformed; nor is one where the frames hold the bins of some events.
+-- next, they are so behind them, the files are sound for its packets in each image of each moment, and no frame is found
+-- malformed; nor is one where the frames hold the bins of some events. Where no flush position behind n0 lies among the keys
+-- no call of the bay is made.
 pub record ReplaysKeys {B : Type 0} (bays : Bays B) (n0 : ℕ) (keys : List ℕ) (old new : Workplace B) (result : Result (Unit {0}) TakeFault) : Type 0 where
   pub listing : new.counts.listing ≡ record old.counts.listing { events = new.counts.listing.events }
   pub taken : OnOk result (new.counts.listing.events ≡ old.counts.listing.events ++ keys)
@@ -136,6 +139,10 @@ pub record ReplaysKeys {B : Type 0} (bays : Bays B) (n0 : ℕ) (keys : List ℕ)
       OnOk result (IfTold (bays.files new.bay) (λ after. IsOnWay (bays.leaves new.bay) after history new.counts.listing new.counts.rows new.counts.due.reports new.log n0)))
   pub sound : IfTold (bays.files old.bay) (λ seen. (history : List Packet) (rest : List ℕ) → events_of history ≡ old.counts.listing.events ++ (keys ++ rest) →
       IsOnWay (bays.leaves old.bay) seen history old.counts.listing old.counts.rows old.counts.due.reports old.log n0 → (file at : ℕ) → result ≢ Err (Unsound file at))
+  pub each_moment : IfTold (bays.files old.bay) (λ seen. (history : List Packet) (rest : List ℕ) → events_of history ≡ old.counts.listing.events ++ (keys ++ rest) →
+      IsOnWay (bays.leaves old.bay) seen history old.counts.listing old.counts.rows old.counts.due.reports old.log n0 →
+      (image : Files) → bays.left_since new.bay (bays.moment old.bay) image → IsSound old.counts.listing.settings old.counts.listing.cone history image)
+  pub unflushed : last_flush old.counts.listing.settings (length old.counts.listing.events + length keys) ≤ max n0 (length old.counts.listing.events) → new.bay ≡ old.bay
   pub framed : IfTold (bays.files old.bay) (λ seen. HoldsSome old.counts.listing.settings (max n0 (length old.counts.listing.events)) old.counts.rows (seen 2) →
       OnOk result (IfTold (bays.files new.bay) (λ after. HoldsSome new.counts.listing.settings (max n0 (length new.counts.listing.events)) new.counts.rows (after 2))))
   pub whole : IfTold (bays.files old.bay) (λ seen. HoldsSome old.counts.listing.settings (max n0 (length old.counts.listing.events)) old.counts.rows (seen 2) → (at : ℕ) → result ≢ Err (Unsound 2 at))

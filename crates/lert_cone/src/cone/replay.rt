@@ -11,9 +11,9 @@ ghost use Rattle.lert_reports.specs.Log.{HasLog, most_record};
 ghost use Rattle.lert_reports.specs.LogText.{LogRecord};
 ghost use Rattle.lert_cone.specs.Framed.{HoldsSome};
 ghost use Rattle.lert_cone.specs.Replay.{IsLastOf};
-ghost use Rattle.lert_cone.specs.Replays.{HasEnded, HasTaken, LeavesBehind, GoesOn, Replays, WhyRefused, broken_after};
+ghost use Rattle.lert_cone.specs.Replays.{BringsNoFlush, HasEnded, HasTaken, IsUnwritten, LeavesBehind, GoesOn, Replays, WhyRefused, broken_after};
 ghost use Rattle.lert_cone.specs.Room.{IsPointOf, IsRestored};
-ghost use Rattle.lert_cone.specs.Sound.{IsSound};
+ghost use Rattle.lert_cone.specs.Sound.{IsSound, StaysSound};
 ghost use Rattle.lert_cone.specs.Stands.{IsSameCone, StandsFor, WasSound};
 ghost use Rattle.lert_cone.specs.Tally.{Shows};
 ghost use Rattle.lert_cone.specs.Wrote.{IsShutIfTold, LeavesFile};
@@ -118,6 +118,12 @@ impl<B: Bay, T: CountTable> Cone<B, T> {
         // or memory, may keep it from that.
         ensures replays { IfTold (B.files self.old.bay) (λ _. (h done : List Packet) → Replays B.files B.leaves self.old h done → gate ≡ self.old.gate →
             GoesOn B.files B.leaves self.new h done result) }
+
+        // Whatever it answers, the files stay sound for that list, at each moment of the call and as the bay then reads them; and
+        // they are as they were where no packet stands at the gate that brings a flush, also where it refuses.
+        ensures stays_sound { IfTold (B.files self.old.bay) (λ _. (h done : List Packet) → Replays B.files B.leaves self.old h done → gate ≡ self.old.gate →
+            StaysSound B.Bay self.old.listing.settings self.old.listing.cone h self.old.bay self.new.bay) }
+        ensures unflushed { IfTold (B.files self.old.bay) (λ seen. BringsNoFlush self.old (seen 0) gate → IsUnwritten B.Bay self.old.bay self.new.bay) }
 
         // Where the frames hold the bins of some events, whatever these are, they do so again, and none is found malformed.
         ensures framed { IfTold (B.files self.old.bay) (λ seen. HoldsSome self.old.listing.settings (max self.old.last.n0 (length self.old.listing.events)) self.old.rows (seen 2) →

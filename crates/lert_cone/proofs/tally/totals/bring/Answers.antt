@@ -52,6 +52,7 @@ returns-then-depth-eq0 g c = record {
   images = λ events long bins seen told holds each after told_after. each;
   are = λ are. are;
   still = λ stays. refl;
+  unflushed = λ stays. refl;
   rest = rest_none (InNamed c.args.levels.now.settings c.args.levels.now.rows) (g.B.Bay.files c.args.bay.now) (g.B.Bay.leaves c.args.bay.now) (g.B.Bay.moment c.args.bay.now)
       (g.B.Bay.left_since c.args.bay.now) (g.met.B.Bay.only_now c.args.bay.now);
   failed = λ same. absurd (let never : ⊥ = cc in never);
@@ -119,6 +120,9 @@ returns-in-Ok g c = record {
   still = λ stays.
       absurd (flush_moves c.args.levels.now.settings c.requires.valid c.args.m (deep c.depth.result c.args.m c.settings.result.now c.args.levels.now.settings c.depth.ensures.value
       (c.settings.ensures ∙ c.requires.settings) c.if-depth-eq0.false) stays);
+  unflushed = λ stays.
+      absurd (flush_moves c.args.levels.now.settings c.requires.valid c.args.m (deep c.depth.result c.args.m c.settings.result.now c.args.levels.now.settings c.depth.ensures.value
+      (c.settings.ensures ∙ c.requires.settings) c.if-depth-eq0.false) stays);
   rest = c.flush_into-due.ensures.rest;
   failed = λ same. absurd (let never : ⊥ = cc in never);
   never_falls = c.flush_into-due.ensures.never_falls;
@@ -145,6 +149,9 @@ returns-in-Err g c = record {
   images = λ events long bins seen told holds each. tt;
   are = tt;
   still = λ stays. tt;
+  unflushed = λ stays.
+      absurd (flush_moves c.args.levels.now.settings c.requires.valid c.args.m (deep c.depth.result c.args.m c.settings.result.now c.args.levels.now.settings c.depth.ensures.value
+      (c.settings.ensures ∙ c.requires.settings) c.if-depth-eq0.false) stays);
   rest = c.flush_into-due.ensures.rest;
   failed = λ same. c.flush_into-due.ensures.failed (c.in-Err.is ∙ same);
   never_falls = c.flush_into-due.ensures.never_falls;
