@@ -19,6 +19,7 @@ use Rattle.lert_spec.specs.Mix.{cone_of, tail_of}
 use Rattle.lert_cone.specs.declared.tally.TakeFault.{TakeFault}
 use Rattle.lert_cone.specs.declared.tally.TakeFault.TheVariants.{Failed, Unsound}
 use Rattle.lert_bay.specs.Kept.{Bays}
+use Rattle.lert_bay.proofs.KeptLaws.{IsLawful, keeps_as}
 use Rattle.lert_cone.specs.Counts.{Brings, CountsKey}
 use Rattle.lert_cone.specs.Due.{Dues, started}
 use Rattle.lert_cone.specs.Framed.{HoldsSome}
@@ -31,7 +32,7 @@ failed_flush FlushFailed same = refl
 failed_flush (Malformed at) same = absurd (let never : ⊥ = cc in never)
 failed_flush NoMemory same = absurd (let never : ⊥ = cc in never)
 
-module _ {B : Type 0} (bays : Bays B) (t : Tallied) (ls : Numbers) (levels_are : ls ≡ t.listing.settings) (valid : IsValid t.listing.settings)
+module _ {B : Type 0} (bays : Bays B) (lawful : IsLawful bays) (t : Tallied) (ls : Numbers) (levels_are : ls ≡ t.listing.settings) (valid : IsValid t.listing.settings)
     (named : t.listing.cone < 2 ^ t.listing.settings.cone_bits)
     (young_settings : t.young.settings ≡ t.listing.settings) (counted : IsCounted t) (fits : length t.listing.events < capacity t.listing.settings)
     (key tail m : ℕ) (tail_is : tail ≡ tail_of t.listing.settings key) (m_is : m ≡ suc (length t.listing.events)) (young : Young) (added : young ≡ with_event t.young tail m)
@@ -97,9 +98,7 @@ module _ {B : Type 0} (bays : Bays B) (t : Tallied) (ls : Numbers) (levels_are :
         sound_fault fault (λ place is. never_malformed_some (Err fault) brings seen told some place (ap Err is)) 2 at (let inner : take_fault fault ≡ Unsound 2 at = cc in inner);
     images = λ seen told held each. tt;
     rest = rest_here (Err fault) brings;
-    failed = λ same. brings.failed (ap Err (failed_flush fault (let inner : take_fault fault ≡ Failed = cc in inner)));
-    never_falls = brings.never_falls;
-    mark = brings.mark;
+    kept = keeps_as bays lawful bay bay_after _ _ (λ same. ap Err (failed_flush fault (let inner : take_fault fault ≡ Failed = cc in inner))) brings.kept;
   }
 
   pub not_counted : (result : Result (Unit {0}) FlushFault) (fault : FlushFault) → result ≡ Err fault → Brings bays start m tail bay bay_after young young_after (record {
@@ -140,9 +139,7 @@ module _ {B : Type 0} (bays : Bays B) (t : Tallied) (ls : Numbers) (levels_are :
       whole = λ seen told some at same. (let never : ⊥ = cc in never);
       images = λ seen told held each. tt;
       rest = rest_here (Ok tt) brings;
-      failed = λ same. absurd (let never : ⊥ = cc in never);
-      never_falls = brings.never_falls;
-      mark = brings.mark;
+      kept = keeps_as bays lawful bay bay_after _ _ (λ same. absurd (let never : ⊥ = cc in never)) brings.kept;
     }
 
     -- the key is counted
@@ -203,7 +200,5 @@ module _ {B : Type 0} (bays : Bays B) (t : Tallied) (ls : Numbers) (levels_are :
               subst (λ (keys : List ℕ). InEach (bays.leaves bay_after) 2 (HoldsBins t.listing.settings keys levels_after.rows)) (sym events_are)
               (subst (λ (v : Numbers). InEach (bays.leaves bay_after) 2 (HoldsBins v (t.listing.events ++ key ∷ []) levels_after.rows)) levels_are (stay after_files told_after));
           rest = rest_here (Ok tt) brings;
-          failed = λ same. absurd (let never : ⊥ = cc in never);
-          never_falls = brings.never_falls;
-          mark = brings.mark;
+          kept = keeps_as bays lawful bay bay_after _ _ (λ same. absurd (let never : ⊥ = cc in never)) brings.kept;
         }

@@ -23,7 +23,7 @@ use Rattle.lert_cone.specs.Record.{LogPlace, payload_at}
 use Rattle.lert_cone.specs.Sound.{IsSound}
 use Rattle.lert_cone.specs.Takes.{Workplace, CanLog, CanTake, AreInStep, TakesKeys}
 use Rattle.lert_cone.specs.Tally.{Tallied, IsHeld}
-use Rattle.lert_bay.proofs.KeptLaws.{IsLawful}
+use Rattle.lert_bay.proofs.KeptLaws.{IsLawful, keeps_as, keeps_on}
 use Rattle.lert_cone.proofs.Calls.{now_since, alone_on, alone_rest, alone_others, settled_alone, shut_alone}
 use Rattle.lert_cone.proofs.FlushLaws.{flush_passed}
 use Rattle.lert_cone.proofs.KeyStep.{IsTaken, held_of, sound_rest, taken_of, up_between, sound_append, up_flushed}
@@ -64,9 +64,7 @@ module _ {B : Type 0} (bays : Bays B) (lawful : IsLawful bays) (old : Workplace 
       shows = did.shows;
       journal = alone_rest bays lawful (InNamed old.counts.listing.settings old.counts.rows) 0 (λ same. absurd (omega (arith, same))) old.bay bay did.rest;
       most = refl;
-      failed = did.failed;
-      never_falls = did.never_falls;
-      mark = did.mark;
+      kept = did.kept;
     };
   }
 
@@ -138,9 +136,7 @@ module _ {B : Type 0} (bays : Bays B) (lawful : IsLawful bays) (old : Workplace 
             shows = did.shows;
             journal = alone_rest bays lawful (InNamed old.counts.listing.settings old.counts.rows) 0 (λ same. absurd (omega (arith, same))) old.bay bay did.rest;
             most = refl;
-            failed = did.failed;
-            never_falls = did.never_falls;
-            mark = did.mark;
+            kept = did.kept;
           };
         }
 
@@ -167,7 +163,7 @@ module _ {B : Type 0} (bays : Bays B) (lawful : IsLawful bays) (old : Workplace 
       journal_then : LeavesAlone bays 0 old.bay bay_after
       journal_then =
           alone_on bays lawful 0 old.bay bay bay_after (alone_rest bays lawful (InNamed old.counts.listing.settings old.counts.rows) 0 (λ same. absurd (omega (arith, same))) old.bay bay did.rest)
-          (alone_others bays lawful 1 0 (λ same. absurd (omega (arith, same))) bay bay_after appends.seen appends.others appends.time)
+          (alone_others bays lawful 1 0 (λ same. absurd (omega (arith, same))) bay bay_after appends.seen appends.others appends.kept.time)
 
       -- in each image of each moment
       sound_flush : IfTold (bays.files old.bay) (λ seen. (history : List Packet) → IsPartway old.counts.listing.settings history old.counts.listing.events (key ∷ []) →
@@ -181,7 +177,7 @@ module _ {B : Type 0} (bays : Bays B) (lawful : IsLawful bays) (old : Workplace 
           let each : InEach (bays.left_since bay_after (bays.moment bay)) 1 (IsWithOrWithout (most_record old.counts.listing.settings) 8 (map log_payload_of up.logged) old.log.gate payload) =
           λ earlier left. subst (λ (m : ℕ). IsWithOrWithout m 8 (map log_payload_of up.logged) old.log.gate payload (earlier 1)) can.can_log.logging.most
           (appends.each_moment mid.0 mid.1 8 (map log_payload_of up.logged) all earlier left) in
-          elim (appends.time.known (bays.moment old.bay) image did.rest.time.later may) [
+          elim (appends.kept.time.known (bays.moment old.bay) image did.rest.time.later may) [
             | inl past ↦ sound_key (Ok tt) did seen told history partway up image past
             | inr here ↦ sound_append (bays.leaves bay) mid.0 history old.counts counts old.log up.logged key can.still can.counted did.counted taken_then moves few_here
                 (bays.left_since bay_after (bays.moment bay)) payload refl (appends.others mid.0 mid.1) (appends.before mid.0 mid.1) each partway image here
@@ -218,9 +214,7 @@ module _ {B : Type 0} (bays : Bays B) (lawful : IsLawful bays) (old : Workplace 
         shows = λ seen told file at same. absurd (let never : ⊥ = cc in never);
         journal = journal_then moves_now few (Err failed) bay_after log_after appends;
         most = ap (λ (l : LogPlace). l.most) appends.stayed;
-        failed = λ _. risen_since (bays.faults old.bay) (bays.faults bay) (bays.faults bay_after) did.never_falls appends.cause.never_falls (appends.cause.failed refl);
-        never_falls = omega (arith, did.never_falls, appends.cause.never_falls);
-        mark = appends.mark ∙ did.mark;
+        kept = keeps_as bays lawful old.bay bay_after _ _ (λ _. refl) (keeps_on bays lawful old.bay bay bay_after _ _ did.kept appends.kept);
       };
     })
 
@@ -256,8 +250,8 @@ module _ {B : Type 0} (bays : Bays B) (lawful : IsLawful bays) (old : Workplace 
           up_flushed (bays.leaves bay) mid.0 history old.counts counts old.log up.logged key can.still can.counted did.counted taken_then
           (moves moves_now few (Ok tt) bay_after log_after appends) (few_here moves_now few (Ok tt) bay_after log_after appends)
           (bays.left_since bay_after (bays.moment bay)) pay refl (appends.others mid.0 mid.1) (appends.before mid.0 mid.1) (bays.leaves bay_after) after log_after
-          (now_since bays lawful bay bay_after appends.time.later) (ap (λ (l : LogPlace). l.named) appends.moved) stands
-          (settled_alone bays lawful 0 bay bay_after (alone_others bays lawful 1 0 (λ same. absurd (omega (arith, same))) bay bay_after appends.seen appends.others appends.time)
+          (now_since bays lawful bay bay_after appends.kept.time.later) (ap (λ (l : LogPlace). l.named) appends.moved) stands
+          (settled_alone bays lawful 0 bay bay_after (alone_others bays lawful 1 0 (λ same. absurd (omega (arith, same))) bay bay_after appends.seen appends.others appends.kept.time)
           mid.0 mid.1 taken_then.journal_settled after told_after)
           (appends.settled after told_after);
       each_moment = sound_flush moves_now few (Ok tt) bay_after log_after appends;
@@ -272,8 +266,6 @@ module _ {B : Type 0} (bays : Bays B) (lawful : IsLawful bays) (old : Workplace 
         shows = λ seen told file at same. absurd (let never : ⊥ = cc in never);
         journal = journal_then moves_now few (Ok tt) bay_after log_after appends;
         most = ap (λ (l : LogPlace). l.most) appends.moved;
-        failed = λ same. absurd (let never : ⊥ = cc in never);
-        never_falls = omega (arith, did.never_falls, appends.cause.never_falls);
-        mark = appends.mark ∙ did.mark;
+        kept = keeps_as bays lawful old.bay bay_after _ _ (λ same. absurd (let never : ⊥ = cc in never)) (keeps_on bays lawful old.bay bay bay_after _ _ did.kept appends.kept);
       };
     }

@@ -16,7 +16,7 @@ use Rattle.lert_cone.specs.Listing.{Listing}
 use Rattle.lert_cone.specs.Replay.{IsOnWay}
 use Rattle.lert_cone.specs.Takes.{Workplace, CanLog, CanTake, CanReplay, TakesKeys, ReplaysKeys}
 use Rattle.lert_cone.specs.Tally.{Tallied, IsRecounted}
-use Rattle.lert_bay.proofs.KeptLaws.{IsLawful}
+use Rattle.lert_bay.proofs.KeptLaws.{IsLawful, keeps_none}
 use Rattle.lert_cone.proofs.Calls.{alone_none}
 use Rattle.lert_cone.proofs.KeysTaken.{map_ok}
 use Rattle.lert_cone.proofs.KeyStep.{sound_behind}
@@ -84,9 +84,7 @@ module _ {B : Type 0} (bays : Bays B) (lawful : IsLawful bays) (old : Workplace 
           shows = λ seen told file at same. absurd (let never : ⊥ = cc in never);
           journal = alone_none bays lawful 0 old.bay;
           most = refl;
-          failed = λ same. absurd (let never : ⊥ = cc in never);
-          never_falls = omega arith;
-          mark = refl;
+          kept = keeps_none bays lawful old.bay _ (λ same. (let never : ⊥ = cc in never));
         };
       }
 
@@ -165,8 +163,6 @@ module _ {B : Type 0} (bays : Bays B) (lawful : IsLawful bays) (old : Workplace 
             shows = did.keeps.shows;
             journal = did.keeps.journal;
             most = did.keeps.most;
-            failed = did.keeps.failed;
-            never_falls = did.keeps.never_falls;
-            mark = did.keeps.mark;
+            kept = did.keeps.kept;
           };
         }

@@ -16,7 +16,7 @@ use Rattle.lert_cone.specs.Framed.{HoldsSome, last_flush}
 use Rattle.lert_cone.specs.InStep.{IsPartway}
 use Rattle.lert_cone.specs.Listing.{Listing}
 use Rattle.lert_cone.specs.Takes.{Workplace, CanTake, AreInStep, TakesKeys}
-use Rattle.lert_bay.proofs.KeptLaws.{IsLawful}
+use Rattle.lert_bay.proofs.KeptLaws.{IsLawful, keeps_none, keeps_on}
 use Rattle.lert_cone.proofs.Calls.{alone_none, alone_on}
 use Rattle.lert_cone.proofs.KeyStep.{sound_now, sound_behind}
 use Rattle.lert_cone.proofs.FlushLaws.{last_flush_grows}
@@ -72,9 +72,7 @@ module _ {B : Type 0} (bays : Bays B) (lawful : IsLawful bays) where
       shows = λ seen told file at same. absurd (let never : ⊥ = cc in never);
       journal = alone_none bays lawful 0 at.bay;
       most = refl;
-      failed = λ same. absurd (let never : ⊥ = cc in never);
-      never_falls = omega arith;
-      mark = refl;
+      kept = keeps_none bays lawful at.bay _ (λ same. (let never : ⊥ = cc in never));
     };
   }
 
@@ -127,9 +125,7 @@ module _ {B : Type 0} (bays : Bays B) (lawful : IsLawful bays) where
         shows = second.keeps.shows;
         journal = alone_on bays lawful 0 old.bay mid.bay new.bay first.keeps.journal second.keeps.journal;
         most = second.keeps.most ∙ first.keeps.most;
-        failed = λ same. risen_since (bays.faults old.bay) (bays.faults mid.bay) (bays.faults new.bay) first.keeps.never_falls second.keeps.never_falls (second.keeps.failed same);
-        never_falls = omega (arith, first.keeps.never_falls, second.keeps.never_falls);
-        mark = second.keeps.mark ∙ first.keeps.mark;
+        kept = keeps_on bays lawful old.bay mid.bay new.bay _ _ first.keeps.kept second.keeps.kept;
       };
     }
 

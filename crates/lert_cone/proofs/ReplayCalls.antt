@@ -88,15 +88,16 @@ module _ {B : Type 0} (bays : Bays B) (lawful : IsLawful bays) where
   }
 
   -- a record is read at the gate
-  module _ (bay bay_read : B) (journal journal_read : Log) (room room_read : ℕ) (read : OnlyReadsJournal bays bay bay_read journal journal_read room room_read) where
+  module _ (bay bay_read : B) (journal journal_read : Log) (room room_read : ℕ) (Failed : Type 0)
+      (read : OnlyReadsJournal bays bay bay_read journal journal_read room room_read Failed) where
     pub read_unwritten : IsUnwritten bays bay bay_read
-    read_unwritten = record { seen = read.seen; images = read.images; moments = read.moments }
+    read_unwritten = record { seen = read.reads.seen; images = read.reads.images; moments = read.reads.moments }
 
     -- and calls behind that leave a file alone
     pub alone_behind : (file : ℕ) (after : B) → LeavesAlone bays file bay_read after → LeavesAlone bays file bay after
     alone_behind file after left =
         alone_on bays lawful file bay bay_read after
-        (alone_read bays lawful file bay bay_read (record { seen = read.seen; images = read.images; moments = read.moments; time = read.time })) left
+        (alone_read bays lawful file bay bay_read _ read.reads) left
 
     -- no flush comes with its keys
     pub keys_unwritten : (s : Numbers) (n n0 : ℕ) (packet : Packet) (keys : List ℕ) (new : B) → keys ≡ packet.keys → last_flush s (n + length packet.keys) ≤ max n0 n →
@@ -112,10 +113,10 @@ module _ {B : Type 0} (bays : Bays B) (lawful : IsLawful bays) where
       enough = enough;
       stands = closed;
       shut = shut_there 0 at (bays.files bay_read) (bays.leaves bay_read)
-          (read_settled 0 (bays.files bay) (bays.files bay_read) (bays.leaves bay) (bays.leaves bay_read) read.seen read.images settled)
-          (λ seen told. closed seen (sym read.seen ∙ told));
-      seen = read.seen;
-      images = read.images;
+          (read_settled 0 (bays.files bay) (bays.files bay_read) (bays.leaves bay) (bays.leaves bay_read) read.reads.seen read.reads.images settled)
+          (λ seen told. closed seen (sym read.reads.seen ∙ told));
+      seen = read.reads.seen;
+      images = read.reads.images;
       is = λ i. record {
         bay = bay_read;
         made = made;
@@ -140,9 +141,9 @@ module _ {B : Type 0} (bays : Bays B) (lawful : IsLawful bays) where
           IsOnWay (bays.leaves bay_read) seen history t.listing t.rows t.due.reports log last.n0 → X) → X
       with_keys packet holds keys keys_are goes =
           let next = next_there (bays.leaves bay) seen history done t.listing t.rows t.due.reports log last.n0 gate packet on_way (lawful.as_read bay seen told) past holds in
-          goes (read.seen ∙ told) next
+          goes (read.reads.seen ∙ told) next
           (keys_next history done t.listing.events gate packet past next ∙ ap (λ (ks : List ℕ). t.listing.events ++ (ks ++ events_of next.rest)) (sym keys_are))
-          (on_way_read (bays.leaves bay) seen history t.listing t.rows t.due.reports log last.n0 on_way (bays.leaves bay_read) (λ image may. (read.images image).0 may))
+          (on_way_read (bays.leaves bay) seen history t.listing t.rows t.due.reports log last.n0 on_way (bays.leaves bay_read) (λ image may. (read.reads.images image).0 may))
 
       -- a closed gate that stands there is behind the last packet
       pub ended_replays : (made : B) (events : ℕ) (state : ConeState) (over : Option Packet) (after : ℕ) → state ≡ Replaying → after ≡ gate → IsClosed (seen 0) gate →
@@ -155,22 +156,22 @@ module _ {B : Type 0} (bays : Bays B) (lawful : IsLawful bays) where
           past = subst (λ at. IsPast history done t.listing.events at) (sym after_is) past;
           on_way = λ seen_after told_after.
               subst (λ (files : Files). IsOnWay (bays.leaves bay_read) files history t.listing t.rows t.due.reports log last.n0)
-              (told_once (bays.files bay_read) seen seen_after (read.seen ∙ told) told_after)
-              (on_way_read (bays.leaves bay) seen history t.listing t.rows t.due.reports log last.n0 on_way (bays.leaves bay_read) (λ image may. (read.images image).0 may));
+              (told_once (bays.files bay_read) seen seen_after (read.reads.seen ∙ told) told_after)
+              (on_way_read (bays.leaves bay) seen history t.listing t.rows t.due.reports log last.n0 on_way (bays.leaves bay_read) (λ image may. (read.reads.images image).0 may));
         },
       )
 
       module _ (recounted : IsRecounted t last.n0) where
         pub read_stays : StaysSound bays t.listing.settings t.listing.cone history bay bay_read
         read_stays =
-            stays_by t.listing.settings t.listing.cone history bay bay_read read.time.later
+            stays_by t.listing.settings t.listing.cone history bay bay_read read.reads.kept.time.later
             (λ image may. sound_recounted (bays.leaves bay) seen history t log last.n0 recounted on_way (events_of past.rest) (keys_past history done t.listing.events gate past) image
-            (read.moments image may))
+            (read.reads.moments image may))
 
         pub keys_stay : (packet : Packet) → HoldsPacket t.listing.settings t.listing.cone (most_payload t.listing.settings) (seen 0) gate packet → (keys : List ℕ) → keys ≡ packet.keys →
             (buffer : ℕ) (new : Workplace B) (result : Result (Unit {0}) TakeFault) → ReplaysKeys bays last.n0 keys (record { bay = bay_read; counts = t; log = log; room = buffer }) new result →
             StaysSound bays t.listing.settings t.listing.cone history bay new.bay
         keys_stay packet holds keys keys_are buffer new result did =
             with_keys packet holds keys keys_are (λ told_read next is on_read.
-            stays_on t.listing.settings t.listing.cone history bay bay_read new.bay read.time.later did.keeps.journal.time read_stays
+            stays_on t.listing.settings t.listing.cone history bay bay_read new.bay read.reads.kept.time.later did.keeps.journal.time read_stays
             (stays_by t.listing.settings t.listing.cone history bay_read new.bay did.keeps.journal.time.later (did.each_moment seen told_read history (events_of next.rest) is on_read)))

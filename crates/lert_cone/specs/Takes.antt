@@ -1,12 +1,10 @@
 -- What keys, a packet, and the end make of a cone's counts, its log and its bay.
 use Rattle.std.specs.Prelude.{◌≡◌, ◌≢◌, ℕ, ◌+◌, ◌*◌, ◌^◌, ◌<◌, ◌≤◌, max, true, false, List, [], ◌∷◌, ◌++◌, All, length, Some, Result, Err, OnOk, IsErrOf}
 use Rattle.lert_base.specs.Packet.{Packet, events_of}
-use Rattle.lert_bay.specs.Kept.{Bays}
+use Rattle.lert_bay.specs.Kept.{Bays, KeepsBay}
 use Rattle.lert_bay.specs.Files.{Files, IfTold, Turns}
-use Rattle.lert_bay.specs.Images.{Lasts}
 use Rattle.lert_gatelog.specs.Gated.{Log, next_gate}
 use Rattle.lert_journal.specs.Payload.{IsJournaled, payload_of}
-use Rattle.lert_io.specs.Fault.{HasRisen}
 use Rattle.lert_spec.specs.Edges.{capacity}
 use Rattle.lert_spec.specs.Mix.{cone_of}
 use Rattle.lert_cone.specs.declared.tally.TakeFault.{TakeFault}
@@ -49,15 +47,13 @@ AreInStep bays at seen history = IsInStep (bays.leaves at.bay) seen history at.c
 abbrev pub IsWholeAt : {B : Type 0} → Bays B → Workplace B → Log → Files → List Packet → Type 0
 IsWholeAt bays at journal seen history = IsWhole (bays.leaves at.bay) seen at.counts.listing at.counts.rows at.counts.due.reports journal.gate at.log history
 
--- the journal stays as it is, no frame is found malformed but where it shows so, a failed call has its cause, and the bay is the same one
+-- the journal stays as it is, and no frame is found malformed but where it shows so
 pub record KeepsJournal {B : Type 0} (bays : Bays B) (old new : Workplace B) (result : Result (Unit {0}) TakeFault) : Type 0 where
   pub shows : IfTold (bays.files new.bay) (λ seen. (file at : ℕ) → IsErrOf result (Unsound file at) →
       Shows new.counts.listing.settings new.counts.rows new.counts.due.reports (seen 2) file at)
   pub journal : LeavesAlone bays 0 old.bay new.bay
   pub most : new.log.most ≡ old.log.most
-  pub failed : IsErrOf result Failed → HasRisen (bays.faults old.bay) (bays.faults new.bay)
-  pub never_falls : bays.faults old.bay ≤ bays.faults new.bay
-  pub mark : bays.mark new.bay ≡ bays.mark old.bay
+  pub kept : KeepsBay bays old.bay new.bay (IsErrOf result Failed)
 
 -- Keys are taken. Where the bay tells its files, and these went together with memory, they do so again, and they are sound in
 -- each image of each moment; no frame is found malformed then, nor where the frames hold the bins of some events, whatever
@@ -112,10 +108,7 @@ pub record TakesPacket {B : Type 0} (bays : Bays B) (packet : Packet) (old new :
       Shows new.counts.listing.settings new.counts.rows new.counts.due.reports (seen 2) file at)
   pub seen : Turns Anything (bays.files old.bay) (bays.files new.bay)
   pub now : (image : Files) → bays.leaves new.bay image → bays.left_since new.bay (bays.moment old.bay) image
-  pub time : Lasts (bays.moment old.bay) (bays.moment new.bay) (bays.left_since old.bay) (bays.left_since new.bay)
-  pub failed : IsErrOf result Failed → HasRisen (bays.faults old.bay) (bays.faults new.bay)
-  pub never_falls : bays.faults old.bay ≤ bays.faults new.bay
-  pub mark : bays.mark new.bay ≡ bays.mark old.bay
+  pub kept : KeepsBay bays old.bay new.bay (IsErrOf result Failed)
 
 -- these keys of a journal may be taken again, of which those up to n0, the place of the log's last record, are counted again
 pub record CanReplay {B : Type 0} (bays : Bays B) (n0 : ℕ) (keys : List ℕ) (at : Workplace B) : Type 0 where

@@ -16,7 +16,7 @@ ghost use Rattle.lert_cone.specs.Room.{IsPointOf, IsRestored};
 ghost use Rattle.lert_cone.specs.Sound.{IsSound, StaysSound};
 ghost use Rattle.lert_cone.specs.Stands.{IsSameCone, StandsFor, WasSound};
 ghost use Rattle.lert_cone.specs.Tally.{Shows};
-ghost use Rattle.lert_cone.specs.Wrote.{IsShutIfTold, LeavesFile};
+ghost use Rattle.lert_cone.specs.Wrote.{IsShutIfTold, LeavesAlone};
 
 use crate::cone::{Cone, broken_by};
 use crate::headers::greatest_payload;
@@ -136,7 +136,7 @@ impl<B: Bay, T: CountTable> Cone<B, T> {
             IfTold (B.files self.new.bay) (λ seen. Shows self.new.listing.settings self.new.rows self.new.reports (seen 2) file at) }
         ensures failed { IsErrOf result ReplayFault.Failed → HasRisen (B.faults self.old.bay) (B.faults self.new.bay) }
         ensures same_cone { IsSameCone self.old self.new }
-        ensures journal { LeavesFile 0 (B.files self.old.bay) (B.files self.new.bay) (B.leaves self.old.bay) (B.leaves self.new.bay) (B.moment self.old.bay) (B.moment self.new.bay) (B.left_since self.old.bay) (B.left_since self.new.bay) }
+        ensures journal { LeavesAlone B.Bay 0 self.old.bay self.new.bay }
         ensures never_falls { B.faults self.old.bay ≤ B.faults self.new.bay }
         ensures mark { B.mark self.new.bay ≡ B.mark self.old.bay }
     {

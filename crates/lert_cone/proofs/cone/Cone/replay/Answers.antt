@@ -57,7 +57,7 @@ replay_keys-requires g c =
       can_log = record {
         logging = subst (λ n. IsLogging c.self.inside.tally c.self.inside.log n) (sym room) was.logging;
         log_shut = read_shut 1 c.self.inside.log.gate (g.B.Bay.files c.self.inside.bay) (g.B.Bay.files c.read_packet.new.bay) (g.B.Bay.leaves c.self.inside.bay) (g.B.Bay.leaves c.read_packet.new.bay)
-            c.read_packet.ensures.keeps.seen c.read_packet.ensures.keeps.images was.log_shut;
+            c.read_packet.ensures.keeps.reads.seen c.read_packet.ensures.keeps.reads.images was.log_shut;
       };
     }
 
@@ -73,9 +73,9 @@ invariant_of-self g c =
     ∙ sym c.self.invariant.most) (sym (length_refill c.self.inside.buffer.len (take c.self.inside.buffer.len (c.read_packet.new.buffer ++ drop
     (length c.read_packet.new.buffer) c.self.inside.buffer.items)) c.replay_keys.new.buffer (length_refill c.self.inside.buffer.len c.self.inside.buffer.items c.read_packet.new.buffer len_is))
     ∙ len_is) c.read_packet.ensures.keeps.roomy
-    (omega (arith, c.read_packet.ensures.keeps.never_falls, c.replay_keys.ensures.keeps.never_falls))
+    (omega (arith, c.read_packet.ensures.keeps.reads.kept.never_falls, c.replay_keys.ensures.keeps.kept.never_falls))
     (λ same. risen_since (g.B.Faulty.faults c.self.inside.made.value) (g.B.Faulty.faults c.read_packet.new.bay) (g.B.Faulty.faults c.replay_keys.new.bay)
-    (omega (arith, c.self.invariant.never_falls, c.read_packet.ensures.keeps.never_falls)) c.replay_keys.ensures.keeps.never_falls (c.replay_keys.ensures.keeps.failed (c.in-Err-replay_keys.is ∙ ap Err
+    (omega (arith, c.self.invariant.never_falls, c.read_packet.ensures.keeps.reads.kept.never_falls)) c.replay_keys.ensures.keeps.kept.never_falls (c.replay_keys.ensures.keeps.kept.failed (c.in-Err-replay_keys.is ∙ ap Err
     (by_bay_of c.in-Err-replay_keys.fault (sym c.broken_by-self-inside.ensures ∙ same)))))
     c.self.invariant
 
@@ -100,14 +100,14 @@ returns-in-Err-replay_keys-clause-replays g c =
     rw (← c.self.view_is) (λ seen told h done way gate_same.
     subst (λ (fault : ReplayFault). (fault ≡ Failed) ⊎ (fault ≡ OutOfMemory)) (sym c.from.ensures)
     (only_by_bay c.in-Err-replay_keys.fault (λ file at same.
-    with_keys (bays g) (lawful g) c.self.inside.bay c.read_packet.new.bay _ _ _ _ c.read_packet.ensures.keeps c.self.inside.tally c.self.inside.log c.self.inside.last
+    with_keys (bays g) (lawful g) c.self.inside.bay c.read_packet.new.bay _ _ _ _ _ c.read_packet.ensures.keeps c.self.inside.tally c.self.inside.log c.self.inside.last
     seen told h done c.args.gate (way.on_way seen told) (subst (λ g. IsPast h done c.self.inside.tally.listing.events g) (sym gate_same) way.past)
     (packet_of c.read_packet.new.entry) (held_at gate_is (c.in-Ok-true.ensures.found seen told yes)) c.keys_of.result.now c.keys_of.ensures.value
     (λ told_read next is on_read. c.replay_keys.ensures.sound seen told_read h (events_of next.rest) is on_read file at (c.in-Err-replay_keys.is ∙ ap Err same)))))
 
 pub returns-in-Err-replay_keys-clause-journal : goal.returns-in-Err-replay_keys-clause-journal
 returns-in-Err-replay_keys-clause-journal g c = rw (← c.self.view_is)
-    (alone_behind (bays g) (lawful g) c.self.inside.bay c.read_packet.new.bay _ _ _ _ c.read_packet.ensures.keeps 0 c.replay_keys.new.bay
+    (alone_behind (bays g) (lawful g) c.self.inside.bay c.read_packet.new.bay _ _ _ _ _ c.read_packet.ensures.keeps 0 c.replay_keys.new.bay
     c.replay_keys.ensures.keeps.journal)
 
 -- the packet is taken
@@ -146,7 +146,7 @@ invariant_of-self-in-Ok-true g c =
     ∙ len_is) ∙ c.self.invariant.roomy ∙ ap room_of (sym settings_are))
     (c.read_packet.ensures.keeps.roomy ∙ c.self.invariant.keys_roomy ∙ ap (λ (s : Numbers). 4 * s.packet) (sym settings_are)) (omega
     (arith, c.in_default.ensures.recounted.fits, c.len-self-inside.ensures)) c.in_default.ensures.recounted.valid
-    (omega (arith, c.self.invariant.never_falls, c.read_packet.ensures.keeps.never_falls, c.replay_keys.ensures.keeps.never_falls))
+    (omega (arith, c.self.invariant.never_falls, c.read_packet.ensures.keeps.reads.kept.never_falls, c.replay_keys.ensures.keeps.kept.never_falls))
     (record {
       none_over = was.none_over;
       counted = sym c.len-self-inside.ensures;
@@ -156,7 +156,7 @@ invariant_of-self-in-Ok-true g c =
       journal_settled = settled_then 0 (g.B.Bay.files c.read_packet.new.bay) (g.B.Bay.files c.replay_keys.new.bay) (g.B.Bay.leaves c.read_packet.new.bay) (g.B.Bay.leaves c.replay_keys.new.bay)
           (g.B.Bay.moment c.read_packet.new.bay) (g.B.Bay.moment c.replay_keys.new.bay) (g.B.Bay.left_since c.read_packet.new.bay)
           (g.B.Bay.left_since c.replay_keys.new.bay) c.replay_keys.ensures.keeps.journal (read_settled 0 (g.B.Bay.files c.self.inside.bay) (g.B.Bay.files c.read_packet.new.bay)
-          (g.B.Bay.leaves c.self.inside.bay) (g.B.Bay.leaves c.read_packet.new.bay) c.read_packet.ensures.keeps.seen c.read_packet.ensures.keeps.images was.journal_settled);
+          (g.B.Bay.leaves c.self.inside.bay) (g.B.Bay.leaves c.read_packet.new.bay) c.read_packet.ensures.keeps.reads.seen c.read_packet.ensures.keeps.reads.images was.journal_settled);
       logging = subst (λ n. IsLogging c.replay_keys.new.tally c.replay_keys.new.log n) long c.in_default.ensures.can_log.logging;
       log_shut = c.in_default.ensures.can_log.log_shut;
     })
@@ -211,8 +211,9 @@ returns-in_default-clause-replays g c =
     moved_on (payload_of (packet_of c.read_packet.new.entry)) (c.in-Ok-true.ensures.moved yes) gate_is in
     rw (← c.self.view_is) (λ seen told h done way gate_same.
     let past : IsPast h done c.self.inside.tally.listing.events c.args.gate = subst (λ g. IsPast h done c.self.inside.tally.listing.events g) (sym gate_same) way.past in
-    with_keys (bays g) (lawful g) c.self.inside.bay c.read_packet.new.bay _ _ _ _ c.read_packet.ensures.keeps c.self.inside.tally c.self.inside.log c.self.inside.last
-    seen told h done c.args.gate (way.on_way seen told) past (packet_of c.read_packet.new.entry) (held_at gate_is (c.in-Ok-true.ensures.found seen told yes)) c.keys_of.result.now c.keys_of.ensures.value
+    with_keys (bays g) (lawful g) c.self.inside.bay c.read_packet.new.bay _ _ _ _ _ c.read_packet.ensures.keeps c.self.inside.tally c.self.inside.log c.self.inside.last
+    seen told h done c.args.gate (way.on_way seen told) past
+    (packet_of c.read_packet.new.entry) (held_at gate_is (c.in-Ok-true.ensures.found seen told yes)) c.keys_of.result.now c.keys_of.ensures.value
     (λ told_read next is on_read. (
       (packet_of c.read_packet.new.entry),
       record {
@@ -226,7 +227,7 @@ returns-in_default-clause-replays g c =
 
 pub returns-in_default-clause-journal : goal.returns-in_default-clause-journal
 returns-in_default-clause-journal g c = rw (← c.self.view_is)
-    (alone_behind (bays g) (lawful g) c.self.inside.bay c.read_packet.new.bay _ _ _ _ c.read_packet.ensures.keeps 0 c.replay_keys.new.bay
+    (alone_behind (bays g) (lawful g) c.self.inside.bay c.read_packet.new.bay _ _ _ _ _ c.read_packet.ensures.keeps 0 c.replay_keys.new.bay
     c.replay_keys.ensures.keeps.journal)
 
 -- a closed gate
@@ -238,11 +239,13 @@ invariant_of-self-in-Ok-false g c =
     let no_packet : IsFalse c.in-Ok-false.field-0 = c.in-Ok-false.field-0-test in
     let len_is : c.self.inside.buffer.len ≡ length c.self.inside.buffer.items = omega (arith, c.self.inside.buffer.ok) in
     let gate_at : c.read_packet.new.journal.gate ≡ c.args.gate = ap (λ (j : Log). j.gate) (c.in-Ok-false.ensures.waits no_packet).0 ∙ gate_is in
-    let long : length c.self.inside.buffer.items ≡ length (take c.self.inside.buffer.len (c.read_packet.new.buffer ++ drop (length c.read_packet.new.buffer) c.self.inside.buffer.items)) = sym (refilled c.self.inside.buffer.len c.self.inside.buffer.items c.read_packet.new.buffer len_is) in
+    let long : length c.self.inside.buffer.items ≡ length (take c.self.inside.buffer.len (c.read_packet.new.buffer ++ drop (length c.read_packet.new.buffer) c.self.inside.buffer.items)) =
+    sym (refilled c.self.inside.buffer.len c.self.inside.buffer.items c.read_packet.new.buffer len_is) in
     replaying_cone g.B.Bay.files g.B.Bay.leaves g.B.Faulty.faults _ _ _ _ _ replaying (c.read_packet.ensures.keeps.file ∙ ap (λ (j : Log). j.file) c.at_gate-self-inside.ensures)
-    (c.read_packet.ensures.keeps.most ∙ ap (λ (j : Log). j.most) c.at_gate-self-inside.ensures ∙ c.greatest_payload-most.ensures.value ∙ ap most_payload c.settings.ensures) ((refilled c.self.inside.buffer.len c.self.inside.buffer.items c.read_packet.new.buffer len_is) ∙ c.self.invariant.roomy) (c.read_packet.ensures.keeps.roomy
+    (c.read_packet.ensures.keeps.most ∙ ap (λ (j : Log). j.most) c.at_gate-self-inside.ensures ∙ c.greatest_payload-most.ensures.value ∙ ap most_payload c.settings.ensures)
+    (refilled c.self.inside.buffer.len c.self.inside.buffer.items c.read_packet.new.buffer len_is ∙ c.self.invariant.roomy) (c.read_packet.ensures.keeps.roomy
     ∙ c.self.invariant.keys_roomy) c.self.invariant.within c.self.invariant.valid
-    (omega (arith, c.self.invariant.never_falls, c.read_packet.ensures.keeps.never_falls))
+    (omega (arith, c.self.invariant.never_falls, c.read_packet.ensures.keeps.reads.kept.never_falls))
     (record {
       none_over = was.none_over;
       counted = was.counted;
@@ -250,10 +253,10 @@ invariant_of-self-in-Ok-false g c =
       closed = was.closed;
       near = omega (arith, gate_at, c.requires.reach);
       journal_settled = read_settled 0 (g.B.Bay.files c.self.inside.bay) (g.B.Bay.files c.read_packet.new.bay) (g.B.Bay.leaves c.self.inside.bay)
-          (g.B.Bay.leaves c.read_packet.new.bay) c.read_packet.ensures.keeps.seen c.read_packet.ensures.keeps.images was.journal_settled;
+          (g.B.Bay.leaves c.read_packet.new.bay) c.read_packet.ensures.keeps.reads.seen c.read_packet.ensures.keeps.reads.images was.journal_settled;
       logging = subst (λ n. IsLogging c.self.inside.tally c.self.inside.log n) long was.logging;
       log_shut = read_shut 1 c.self.inside.log.gate (g.B.Bay.files c.self.inside.bay) (g.B.Bay.files c.read_packet.new.bay) (g.B.Bay.leaves c.self.inside.bay)
-          (g.B.Bay.leaves c.read_packet.new.bay) c.read_packet.ensures.keeps.seen c.read_packet.ensures.keeps.images was.log_shut;
+          (g.B.Bay.leaves c.read_packet.new.bay) c.read_packet.ensures.keeps.reads.seen c.read_packet.ensures.keeps.reads.images was.log_shut;
     })
 
 pub returns-in-Ok-false-clause-ended : goal.returns-in-Ok-false-clause-ended
@@ -263,7 +266,7 @@ returns-in-Ok-false-clause-ended g c =
     let no_packet : IsFalse c.in-Ok-false.field-0 = c.in-Ok-false.field-0-test in
     let gate_at : c.read_packet.new.journal.gate ≡ c.args.gate = ap (λ (j : Log). j.gate) (c.in-Ok-false.ensures.waits no_packet).0 ∙ gate_is in
     rw (← c.self.view_is)
-    (ended_at (bays g) (lawful g) c.self.inside.bay c.read_packet.new.bay _ _ _ _ c.read_packet.ensures.keeps c.self.inside.made.value c.self.inside.tally
+    (ended_at (bays g) (lawful g) c.self.inside.bay c.read_packet.new.bay _ _ _ _ _ c.read_packet.ensures.keeps c.self.inside.made.value c.self.inside.tally
     c.self.inside.events c.self.inside.state (over_of c.self.inside.over) c.self.inside.journal.gate c.read_packet.new.journal.gate c.args.gate c.self.inside.log c.self.inside.last
     gate_at (c.in-Ok-false.ensures.enough no_packet) (c.self.invariant.replaying replaying).journal_settled
     (λ seen told. subst (IsClosed (seen 0)) gate_is (c.in-Ok-false.ensures.closed seen told no_packet)))
@@ -275,7 +278,7 @@ returns-in-Ok-false-clause-replays g c =
     let no_packet : IsFalse c.in-Ok-false.field-0 = c.in-Ok-false.field-0-test in
     let gate_at : c.read_packet.new.journal.gate ≡ c.args.gate = ap (λ (j : Log). j.gate) (c.in-Ok-false.ensures.waits no_packet).0 ∙ gate_is in
     rw (← c.self.view_is) (λ seen told h done way gate_same.
-    ended_replays (bays g) (lawful g) c.self.inside.bay c.read_packet.new.bay _ _ _ _ c.read_packet.ensures.keeps c.self.inside.tally c.self.inside.log c.self.inside.last
+    ended_replays (bays g) (lawful g) c.self.inside.bay c.read_packet.new.bay _ _ _ _ _ c.read_packet.ensures.keeps c.self.inside.tally c.self.inside.log c.self.inside.last
     seen told h done c.args.gate (way.on_way seen told) (subst (λ g. IsPast h done c.self.inside.tally.listing.events g) (sym gate_same) way.past)
     c.self.inside.made.value c.self.inside.events c.self.inside.state (over_of c.self.inside.over) c.read_packet.new.journal.gate replaying gate_at
     (subst (IsClosed (seen 0)) gate_is (c.in-Ok-false.ensures.closed seen told no_packet)))
@@ -325,7 +328,7 @@ pub returns-in-Err-replay_keys-clause-whole : goal.returns-in-Err-replay_keys-cl
 returns-in-Err-replay_keys-clause-whole g c = rw (← c.self.view_is) (λ seen told some at same.
     let answer : c.from.result ≡ Unsound 2 at = cc in
     let fault_is = unsound_keys c.in-Err-replay_keys.fault 2 at (sym c.from.ensures ∙ answer) in
-    c.replay_keys.ensures.whole seen (c.read_packet.ensures.keeps.seen ∙ told) some at (c.in-Err-replay_keys.is ∙ ap Err fault_is))
+    c.replay_keys.ensures.whole seen (c.read_packet.ensures.keeps.reads.seen ∙ told) some at (c.in-Err-replay_keys.is ∙ ap Err fault_is))
 
 pub returns-in-Err-clause-whole : goal.returns-in-Err-clause-whole
 returns-in-Err-clause-whole g c = λ seen told some at same.
@@ -333,12 +336,12 @@ returns-in-Err-clause-whole g c = λ seen told some at same.
     never_unsound c.in-Err.fault 2 at (sym c.from-fault.ensures ∙ answer))
 
 pub returns-in_default-clause-framed : goal.returns-in_default-clause-framed
-returns-in_default-clause-framed g c = rw (← c.self.view_is) (λ seen told some. c.in_default.ensures.framed seen (c.read_packet.ensures.keeps.seen ∙ told) some)
+returns-in_default-clause-framed g c = rw (← c.self.view_is) (λ seen told some. c.in_default.ensures.framed seen (c.read_packet.ensures.keeps.reads.seen ∙ told) some)
 
 pub returns-in-Ok-false-clause-framed : goal.returns-in-Ok-false-clause-framed
 returns-in-Ok-false-clause-framed g c = rw (← c.self.view_is) (λ seen told some after told_after.
     subst (λ (files : Files). HoldsSome c.self.inside.tally.listing.settings (max c.self.inside.last.n0 (length c.self.inside.tally.listing.events)) c.self.inside.tally.rows (files 2))
-    (told_once (g.B.Bay.files c.self.inside.bay) seen after told (sym c.read_packet.ensures.keeps.seen ∙ told_after)) some)
+    (told_once (g.B.Bay.files c.self.inside.bay) seen after told (sym c.read_packet.ensures.keeps.reads.seen ∙ told_after)) some)
 
 -- what the files are behind it
 pub returns-in-Err-replay_keys-clause-stays_sound : goal.returns-in-Err-replay_keys-clause-stays_sound
@@ -347,7 +350,7 @@ returns-in-Err-replay_keys-clause-stays_sound g c =
     let gate_is : c.at_gate-self-inside.result.gate ≡ c.args.gate = ap (λ (j : Log). j.gate) c.at_gate-self-inside.ensures in
     let yes : IsTrue c.in-Ok-true.field-0 = c.in-Ok-true.field-0-test in
     rw (← c.self.view_is) (λ seen told h done way gate_same.
-    keys_stay (bays g) (lawful g) c.self.inside.bay c.read_packet.new.bay _ _ _ _ c.read_packet.ensures.keeps c.self.inside.tally c.self.inside.log c.self.inside.last
+    keys_stay (bays g) (lawful g) c.self.inside.bay c.read_packet.new.bay _ _ _ _ _ c.read_packet.ensures.keeps c.self.inside.tally c.self.inside.log c.self.inside.last
     seen told h done c.args.gate (way.on_way seen told) (subst (λ g. IsPast h done c.self.inside.tally.listing.events g) (sym gate_same) way.past)
     (c.self.invariant.replaying replaying).recounted
     (packet_of c.read_packet.new.entry) (held_at gate_is (c.in-Ok-true.ensures.found seen told yes)) c.keys_of.result.now c.keys_of.ensures.value _ _ _ c.replay_keys.ensures)
@@ -357,7 +360,7 @@ returns-in-Err-replay_keys-clause-unflushed g c =
     let gate_is : c.at_gate-self-inside.result.gate ≡ c.args.gate = ap (λ (j : Log). j.gate) c.at_gate-self-inside.ensures in
     let yes : IsTrue c.in-Ok-true.field-0 = c.in-Ok-true.field-0-test in
     rw (← c.self.view_is) (λ seen told none.
-    keys_unwritten (bays g) (lawful g) c.self.inside.bay c.read_packet.new.bay _ _ _ _ c.read_packet.ensures.keeps c.self.inside.tally.listing.settings
+    keys_unwritten (bays g) (lawful g) c.self.inside.bay c.read_packet.new.bay _ _ _ _ _ c.read_packet.ensures.keeps c.self.inside.tally.listing.settings
     (length c.self.inside.tally.listing.events) c.self.inside.last.n0 (packet_of c.read_packet.new.entry) c.keys_of.result.now _ c.keys_of.ensures.value
     (none (packet_of c.read_packet.new.entry) (held_at gate_is (c.in-Ok-true.ensures.found seen told yes))) c.replay_keys.ensures.unflushed)
 
@@ -367,7 +370,7 @@ returns-in_default-clause-stays_sound g c =
     let gate_is : c.at_gate-self-inside.result.gate ≡ c.args.gate = ap (λ (j : Log). j.gate) c.at_gate-self-inside.ensures in
     let yes : IsTrue c.in-Ok-true.field-0 = c.in-Ok-true.field-0-test in
     rw (← c.self.view_is) (λ seen told h done way gate_same.
-    keys_stay (bays g) (lawful g) c.self.inside.bay c.read_packet.new.bay _ _ _ _ c.read_packet.ensures.keeps c.self.inside.tally c.self.inside.log c.self.inside.last
+    keys_stay (bays g) (lawful g) c.self.inside.bay c.read_packet.new.bay _ _ _ _ _ c.read_packet.ensures.keeps c.self.inside.tally c.self.inside.log c.self.inside.last
     seen told h done c.args.gate (way.on_way seen told) (subst (λ g. IsPast h done c.self.inside.tally.listing.events g) (sym gate_same) way.past)
     (c.self.invariant.replaying replaying).recounted
     (packet_of c.read_packet.new.entry) (held_at gate_is (c.in-Ok-true.ensures.found seen told yes)) c.keys_of.result.now c.keys_of.ensures.value _ _ _ c.replay_keys.ensures)
@@ -377,7 +380,7 @@ returns-in_default-clause-unflushed g c =
     let gate_is : c.at_gate-self-inside.result.gate ≡ c.args.gate = ap (λ (j : Log). j.gate) c.at_gate-self-inside.ensures in
     let yes : IsTrue c.in-Ok-true.field-0 = c.in-Ok-true.field-0-test in
     rw (← c.self.view_is) (λ seen told none.
-    keys_unwritten (bays g) (lawful g) c.self.inside.bay c.read_packet.new.bay _ _ _ _ c.read_packet.ensures.keeps c.self.inside.tally.listing.settings
+    keys_unwritten (bays g) (lawful g) c.self.inside.bay c.read_packet.new.bay _ _ _ _ _ c.read_packet.ensures.keeps c.self.inside.tally.listing.settings
     (length c.self.inside.tally.listing.events) c.self.inside.last.n0 (packet_of c.read_packet.new.entry) c.keys_of.result.now _ c.keys_of.ensures.value
     (none (packet_of c.read_packet.new.entry) (held_at gate_is (c.in-Ok-true.ensures.found seen told yes))) c.replay_keys.ensures.unflushed)
 
@@ -385,20 +388,20 @@ pub returns-in-Ok-false-clause-stays_sound : goal.returns-in-Ok-false-clause-sta
 returns-in-Ok-false-clause-stays_sound g c =
     let replaying : c.self.inside.state ≡ Replaying = subst (λ (v : Standing g.row.B.Denot). v.state ≡ Replaying) (sym c.self.view_is) c.requires.replaying in
     rw (← c.self.view_is) (λ seen told h done way gate_same.
-    read_stays (bays g) (lawful g) c.self.inside.bay c.read_packet.new.bay _ _ _ _ c.read_packet.ensures.keeps c.self.inside.tally c.self.inside.log c.self.inside.last
+    read_stays (bays g) (lawful g) c.self.inside.bay c.read_packet.new.bay _ _ _ _ _ c.read_packet.ensures.keeps c.self.inside.tally c.self.inside.log c.self.inside.last
     seen told h done c.args.gate (way.on_way seen told) (subst (λ g. IsPast h done c.self.inside.tally.listing.events g) (sym gate_same) way.past)
     (c.self.invariant.replaying replaying).recounted)
 
 pub returns-in-Ok-false-clause-unflushed : goal.returns-in-Ok-false-clause-unflushed
-returns-in-Ok-false-clause-unflushed g c = rw (← c.self.view_is) (λ seen told none. read_unwritten (bays g) (lawful g) c.self.inside.bay c.read_packet.new.bay _ _ _ _ c.read_packet.ensures.keeps)
+returns-in-Ok-false-clause-unflushed g c = rw (← c.self.view_is) (λ seen told none. read_unwritten (bays g) (lawful g) c.self.inside.bay c.read_packet.new.bay _ _ _ _ _ c.read_packet.ensures.keeps)
 
 pub returns-in-Err-clause-stays_sound : goal.returns-in-Err-clause-stays_sound
 returns-in-Err-clause-stays_sound g c =
     let replaying : c.self.inside.state ≡ Replaying = subst (λ (v : Standing g.row.B.Denot). v.state ≡ Replaying) (sym c.self.view_is) c.requires.replaying in
     rw (← c.self.view_is) (λ seen told h done way gate_same.
-    read_stays (bays g) (lawful g) c.self.inside.bay c.read_packet.new.bay _ _ _ _ c.read_packet.ensures.keeps c.self.inside.tally c.self.inside.log c.self.inside.last
+    read_stays (bays g) (lawful g) c.self.inside.bay c.read_packet.new.bay _ _ _ _ _ c.read_packet.ensures.keeps c.self.inside.tally c.self.inside.log c.self.inside.last
     seen told h done c.args.gate (way.on_way seen told) (subst (λ g. IsPast h done c.self.inside.tally.listing.events g) (sym gate_same) way.past)
     (c.self.invariant.replaying replaying).recounted)
 
 pub returns-in-Err-clause-unflushed : goal.returns-in-Err-clause-unflushed
-returns-in-Err-clause-unflushed g c = rw (← c.self.view_is) (λ seen told none. read_unwritten (bays g) (lawful g) c.self.inside.bay c.read_packet.new.bay _ _ _ _ c.read_packet.ensures.keeps)
+returns-in-Err-clause-unflushed g c = rw (← c.self.view_is) (λ seen told none. read_unwritten (bays g) (lawful g) c.self.inside.bay c.read_packet.new.bay _ _ _ _ _ c.read_packet.ensures.keeps)
