@@ -289,7 +289,7 @@ module _ {B : Type 0} (bays : Bays B) (lawful : IsLawful bays) (packet : Packet)
         out_of_memory = λ given. absurd (let never : ⊥ = cc in never);
         each_moment = λ unbroken sound seen told h stands image may. did.each_moment seen told h (stands.whole unbroken sound seen told) image may;
         seen = did.seen;
-        time = did.time;
-        never_falls = did.never_falls;
-        mark = did.mark;
+        time = did.kept.time;
+        never_falls = did.kept.never_falls;
+        mark = did.kept.mark;
       }

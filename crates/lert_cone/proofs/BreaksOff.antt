@@ -124,7 +124,7 @@ module _ {B : Type 0} (bays : Bays B) (lawful : IsLawful bays) (packet : Packet)
                 last = last;
               }) h same
               (ap is_broken state_is ∙ is_broken_by fault) (λ never. not_replaying_by fault (sym state_is ∙ never)) refl
-              (λ by_bay. risen_since (bays.faults made) (bays.faults bay) (bays.faults bay_after) risen did.never_falls (did.failed (ap Err (by_bay_of fault (sym state_is ∙ by_bay)))))
+              (λ by_bay. risen_since (bays.faults made) (bays.faults bay) (bays.faults bay_after) risen did.kept.never_falls (did.kept.failed (ap Err (by_bay_of fault (sym state_is ∙ by_bay)))))
               (λ file at by_read sound. turned_none (bays.files bay) (bays.files bay_after) did.seen (untold (bays.files bay)
               (λ seen told. did.sound seen told h (stands.whole (ap is_broken running) sound seen told) file at (ap Err (by_read_of fault file at (sym state_is ∙ by_read))))))
               (λ sound seen told.
@@ -162,7 +162,7 @@ module _ {B : Type 0} (bays : Bays B) (lawful : IsLawful bays) (packet : Packet)
             (λ given. absurd (let inner : cone_fault fault ≡ CapacityFull n len = cc in false≢true (sym (no_refusal fault) ∙ ap is_refusal inner))),
             (λ why. absurd (omega (arith, why.1, why.2, why.3, within))),
           );
-          bay_failed = λ given. (let inner : cone_fault fault ≡ BayFailed = cc in (state_is ∙ ap broken_by (failed_of fault inner), did.failed (ap Err (failed_of fault inner))));
+          bay_failed = λ given. (let inner : cone_fault fault ≡ BayFailed = cc in (state_is ∙ ap broken_by (failed_of fault inner), did.kept.failed (ap Err (failed_of fault inner))));
           unsound = λ file at given. (let inner : cone_fault fault ≡ Unsound file at = cc in (
             state_is ∙ ap broken_by (unsound_of fault file at inner),
             (λ h stands sound. untold (bays.files bay) (λ seen told. did.sound seen told h (stands.whole (ap is_broken running) sound seen told) file at (ap Err (unsound_of fault file at inner)))),
@@ -171,7 +171,7 @@ module _ {B : Type 0} (bays : Bays B) (lawful : IsLawful bays) (packet : Packet)
           out_of_memory = λ given. (let inner : cone_fault fault ≡ OutOfMemory = cc in state_is ∙ ap broken_by (memory_of fault inner));
           each_moment = λ still sound seen told h stands image may. did.each_moment seen told h (stands.whole still sound seen told) image may;
           seen = did.seen;
-          time = did.time;
-          never_falls = did.never_falls;
-          mark = did.mark;
+          time = did.kept.time;
+          never_falls = did.kept.never_falls;
+          mark = did.kept.mark;
         }

@@ -1,10 +1,9 @@
 -- Calls of a bay in turn, over the states that it has between them.
 use Rattle.std.proofs.Common.{◌≡◌, ◌≢◌, ℕ, ◌≤◌, Some}
-use Rattle.lert_bay.specs.Kept.{Bays}
+use Rattle.lert_bay.specs.Kept.{Bays, OnlyReads}
 use Rattle.lert_bay.proofs.KeptLaws.{IsLawful}
 use Rattle.lert_bay.specs.Files.{Files, IfTold, Turns}
 use Rattle.lert_bay.specs.Images.{Lasts}
-use Rattle.lert_bay.specs.Kept.{OnlyRead}
 use Rattle.lert_gatelog.specs.Kept.{KeepsOthers, IsWhollySettled, OthersStay}
 use Rattle.lert_rows.specs.Landing.{KeepsRest}
 use Rattle.lert_cone.specs.Wrote.{LeavesAlone, IsShutIfTold}
@@ -40,12 +39,10 @@ module _ {B : Type 0} (bays : Bays B) (lawful : IsLawful bays) where
       (bays.left_since after)
       turns keeps time (now_since before after time.later)
 
-  pub alone_read : (file : ℕ) (before after : B) →
-      OnlyRead (bays.files before) (bays.files after) (bays.leaves before) (bays.leaves after) (bays.moment before) (bays.moment after) (bays.left_since before) (bays.left_since after) →
-      LeavesAlone bays file before after
-  alone_read file before after read =
+  pub alone_read : (file : ℕ) (before after : B) (Failed : Type 0) → OnlyReads bays before after Failed → LeavesAlone bays file before after
+  alone_read file before after Failed read =
       leaves_read file (bays.files before) (bays.files after) (bays.leaves before) (bays.leaves after) (bays.moment before) (bays.moment after) (bays.left_since before) (bays.left_since after)
-      read (now_since before after read.time.later)
+      (record { seen = read.seen; images = read.images; moments = read.moments; time = read.kept.time }) (now_since before after read.kept.time.later)
 
   pub settled_alone : (file : ℕ) (before after : B) → LeavesAlone bays file before after → (old : Files) → bays.files before ≡ Some old → IsWhollySettled (bays.leaves before) old file →
       (new : Files) → bays.files after ≡ Some new → IsWhollySettled (bays.leaves after) new file

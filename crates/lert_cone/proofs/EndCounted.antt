@@ -13,13 +13,14 @@ use Rattle.lert_spec.specs.Limits.{IsValid}
 use Rattle.lert_cone.specs.declared.tally.TakeFault.{TakeFault}
 use Rattle.lert_cone.specs.declared.tally.TakeFault.TheVariants.{Failed, Unsound}
 use Rattle.lert_bay.specs.Kept.{Bays}
+use Rattle.lert_bay.proofs.KeptLaws.{IsLawful, reads_as}
 use Rattle.lert_cone.specs.Counts.{CountsEnd, Scans}
 use Rattle.lert_cone.specs.Due.{Dues, TookFrom, started}
 use Rattle.lert_cone.specs.Tally.{Tallied, IsCounted, IsHeld, take_fault}
 use Rattle.lert_cone.proofs.KeyCounted.{failed_flush}
 use Rattle.lert_cone.proofs.TakeLaws.{rows_end, fits_end, from_end, young_end, frames_end, counted_end, held_end, never_full_end, sound_fault, shows_frame, shows_full, handed_on}
 
-module _ {B : Type 0} (bays : Bays B) (t : Tallied) (ls : Numbers) (levels_are : ls ≡ t.listing.settings) (valid : IsValid t.listing.settings)
+module _ {B : Type 0} (bays : Bays B) (lawful : IsLawful bays) (t : Tallied) (ls : Numbers) (levels_are : ls ≡ t.listing.settings) (valid : IsValid t.listing.settings)
     (named : t.listing.cone < 2 ^ t.listing.settings.cone_bits) (counted : IsCounted t)
     (m : ℕ) (m_is : m ≡ length t.listing.events) (start due : Dues) (start_is : start ≡ started t.due m) (bay bay_after : B) (levels_after : OnDisk) where
   with_rows : (result : Result (Unit {0}) FlushFault) → Scans bays start bay bay_after t.young (record { settings = ls; rows = t.rows }) levels_after due result → (closed : Bool) (given : Result
@@ -65,11 +66,8 @@ module _ {B : Type 0} (bays : Bays B) (t : Tallied) (ls : Numbers) (levels_are :
         sound_fault fault (λ place is. fine place (ap Err is)) file at (let inner : take_fault fault ≡ Unsound file at = cc in inner);
     shows = λ seen told file at same.
         shows_frame (Err (take_fault fault)) fault refl t.listing.settings t.rows due.reports (seen 2)
-        (λ place is. subst (λ (v : Numbers). OneBreaks v t.rows (seen 2) place) levels_are (scans.malformed seen (sym scans.only_read.seen ∙ told) place (ap Err is))) file at same;
-    only_read = scans.only_read;
-    failed = λ same. scans.failed (ap Err (failed_flush fault (let inner : take_fault fault ≡ Failed = cc in inner)));
-    never_falls = scans.never_falls;
-    mark = scans.mark;
+        (λ place is. subst (λ (v : Numbers). OneBreaks v t.rows (seen 2) place) levels_are (scans.malformed seen (sym scans.reads.seen ∙ told) place (ap Err is))) file at same;
+    reads = reads_as bays lawful bay bay_after _ _ (λ same. ap Err (failed_flush fault (let inner : take_fault fault ≡ Failed = cc in inner))) scans.reads;
   }
 
   -- the totals don't come
@@ -111,10 +109,7 @@ module _ {B : Type 0} (bays : Bays B) (t : Tallied) (ls : Numbers) (levels_are :
       shows = λ seen told file at same.
           shows_full t.listing.settings t.rows due.reports (seen 2)
           (filled ∙ ap (λ (s : Numbers). s.room) (scans.took.1.settings_are ∙ ap (λ (d : Dues). d.settings) start_is ∙ counted.due_settings)) file at same;
-      only_read = scans.only_read;
-      failed = λ same. absurd (let never : ⊥ = cc in never);
-      never_falls = scans.never_falls;
-      mark = scans.mark;
+      reads = reads_as bays lawful bay bay_after _ _ (λ same. absurd (let never : ⊥ = cc in never)) scans.reads;
     })
 
     -- all reports are listed
@@ -135,8 +130,5 @@ module _ {B : Type 0} (bays : Bays B) (t : Tallied) (ls : Numbers) (levels_are :
       held = λ seen told held. held_end t ls levels_are valid named counted m m_is start due start_is still seen held (took_all seen told held) room;
       sound = λ seen told held file at same. (let never : ⊥ = cc in never);
       shows = λ seen told file at same. absurd (let never : ⊥ = cc in never);
-      only_read = scans.only_read;
-      failed = λ same. absurd (let never : ⊥ = cc in never);
-      never_falls = scans.never_falls;
-      mark = scans.mark;
+      reads = reads_as bays lawful bay bay_after _ _ (λ same. absurd (let never : ⊥ = cc in never)) scans.reads;
     })

@@ -22,7 +22,7 @@ use Rattle.lert_cone.specs.Sound.{IsSound}
 use Rattle.lert_cone.specs.Takes.{Workplace, CanLog, CanTake, AreInStep, TakesEnd}
 use Rattle.lert_cone.specs.Tally.{Tallied, IsHeld}
 use Rattle.lert_cone.specs.Wrote.{LeavesAlone}
-use Rattle.lert_bay.proofs.KeptLaws.{IsLawful}
+use Rattle.lert_bay.proofs.KeptLaws.{IsLawful, keeps_as, keeps_on}
 use Rattle.lert_cone.proofs.Calls.{now_since, alone_on, alone_others, alone_read, settled_alone, shut_alone}
 use Rattle.lert_cone.proofs.EndStep.{IsEnding, partway_all, late_all, ending_of, sound_close, up_closed}
 use Rattle.lert_cone.proofs.KeyStep.{held_of, sound_now}
@@ -45,16 +45,14 @@ module _ {B : Type 0} (bays : Bays B) (lawful : IsLawful bays) (old : Workplace 
     closed = tt;
     counted = tt;
     in_step = λ seen told history all up. tt;
-    each_moment = λ seen told history all up image may. sound_before seen history all up image (did.only_read.moments image may);
+    each_moment = λ seen told history all up image may. sound_before seen history all up image (did.reads.moments image may);
     sound = λ seen told history up. did.sound seen told (held seen told history up);
     room = refl;
     keeps = record {
       shows = did.shows;
-      journal = alone_read bays lawful 0 old.bay bay did.only_read;
+      journal = alone_read bays lawful 0 old.bay bay _ did.reads;
       most = refl;
-      failed = did.failed;
-      never_falls = did.never_falls;
-      mark = did.mark;
+      kept = did.reads.kept;
     };
   }
 
@@ -80,14 +78,14 @@ module _ {B : Type 0} (bays : Bays B) (lawful : IsLawful bays) (old : Workplace 
         near = omega (arith, can.can_log.logging.near, ap (λ (l : Listing). length l.events) is);
         roomy = can.can_log.logging.roomy;
       };
-      log_shut = shut_alone bays lawful 1 old.log.gate old.bay bay (alone_read bays lawful 1 old.bay bay did.only_read) can.can_log.log_shut;
+      log_shut = shut_alone bays lawful 1 old.log.gate old.bay bay (alone_read bays lawful 1 old.bay bay _ did.reads) can.can_log.log_shut;
     }
 
     ending : (seen : Files) → bays.files old.bay ≡ Some seen → (history : List Packet) → old.counts.listing.events ≡ events_of history → (up : AreInStep bays old seen history) →
         IsEnding (bays.leaves bay) seen history old.counts counts old.log up.logged
     ending seen told history all up =
-        ending_of (bays.leaves old.bay) (bays.leaves bay) seen history old.counts counts old.log can.still up is did.rows (λ image may. (did.only_read.images image).0 may)
-        (lawful.as_read bay seen (did.only_read.seen ∙ told)) (did.held seen told (held seen told history up)).reports all
+        ending_of (bays.leaves old.bay) (bays.leaves bay) seen history old.counts counts old.log can.still up is did.rows (λ image may. (did.reads.images image).0 may)
+        (lawful.as_read bay seen (did.reads.seen ∙ told)) (did.held seen told (held seen told history up)).reports all
 
     all_there : (history : List Packet) (logged : List LogRecord) (seen : Files) → IsEnding (bays.leaves bay) seen history old.counts counts old.log logged →
         InEach (bays.leaves bay) 1 (λ bytes. IsGated old.log.most bytes 8 (map log_payload_of logged) old.log.gate)
@@ -100,22 +98,22 @@ module _ {B : Type 0} (bays : Bays B) (lawful : IsLawful bays) (old : Workplace 
       few_here = omega (arith, few, ap (λ (s : Numbers). s.room) settings_are)
 
       beside : LeavesAlone bays 0 bay bay_after
-      beside = alone_others bays lawful 1 0 (λ same. absurd (omega (arith, same))) bay bay_after appends.seen appends.others appends.time
+      beside = alone_others bays lawful 1 0 (λ same. absurd (omega (arith, same))) bay bay_after appends.seen appends.others appends.kept.time
 
       journal_then : LeavesAlone bays 0 old.bay bay_after
-      journal_then = alone_on bays lawful 0 old.bay bay bay_after (alone_read bays lawful 0 old.bay bay did.only_read) beside
+      journal_then = alone_on bays lawful 0 old.bay bay bay_after (alone_read bays lawful 0 old.bay bay _ did.reads) beside
 
       sound_end : IfTold (bays.files old.bay) (λ seen. (history : List Packet) → old.counts.listing.events ≡ events_of history → AreInStep bays old seen history →
           (image : Files) → bays.left_since bay_after (bays.moment old.bay) image → IsSound old.counts.listing.settings old.counts.listing.cone history image)
       sound_end seen told history all up image may =
-          let told_then = did.only_read.seen ∙ told in
+          let told_then = did.reads.seen ∙ told in
           let ends = ending seen told history all up in
           let payload = payload_at old.log LogKind.Closing (length counts.listing.events) (directory_text counts.rows) counts.due.reports in
           let each : InEach (bays.left_since bay_after (bays.moment bay)) 1 (IsWithOrWithout (most_record old.counts.listing.settings) 8 (map log_payload_of up.logged) old.log.gate payload) =
           λ earlier left. subst (λ (m : ℕ). IsWithOrWithout m 8 (map log_payload_of up.logged) old.log.gate payload (earlier 1)) can.can_log.logging.most
           (appends.each_moment seen told_then 8 (map log_payload_of up.logged) (all_there history up.logged seen ends) earlier left) in
-          elim (appends.time.known (bays.moment old.bay) image did.only_read.time.later may) [
-            | inl past ↦ sound_before seen history all up image (did.only_read.moments image past)
+          elim (appends.kept.time.known (bays.moment old.bay) image did.reads.kept.time.later may) [
+            | inl past ↦ sound_before seen history all up image (did.reads.moments image past)
             | inr here ↦ sound_close (bays.leaves bay) seen history old.counts counts old.log up.logged can.counted ends few_here (bays.left_since bay_after (bays.moment bay)) payload refl
                 (appends.others seen told_then) (appends.before seen told_then) each image here
           ]
@@ -138,9 +136,7 @@ module _ {B : Type 0} (bays : Bays B) (lawful : IsLawful bays) (old : Workplace 
             shows = λ seen told file at same. absurd (let never : ⊥ = cc in never);
             journal = journal_then few (Err failed) bay_after log_after appends;
             most = ap (λ (l : LogPlace). l.most) appends.stayed;
-            failed = λ _. risen_since (bays.faults old.bay) (bays.faults bay) (bays.faults bay_after) did.never_falls appends.cause.never_falls (appends.cause.failed refl);
-            never_falls = omega (arith, did.never_falls, appends.cause.never_falls);
-            mark = appends.mark ∙ did.mark;
+            kept = keeps_as bays lawful old.bay bay_after _ _ (λ _. refl) (keeps_on bays lawful old.bay bay bay_after _ _ did.reads.kept appends.kept);
           };
         })
 
@@ -154,7 +150,7 @@ module _ {B : Type 0} (bays : Bays B) (lawful : IsLawful bays) (old : Workplace 
       closed = did.closed;
       counted = did.counted;
       in_step = λ seen told history all up after told_after.
-          let told_then = did.only_read.seen ∙ told in
+          let told_then = did.reads.seen ∙ told in
           let ends = ending seen told history all up in
           let payload = payload_at old.log LogKind.Closing (length counts.listing.events) (directory_text counts.rows) counts.due.reports in
           let stands : InEach (bays.leaves bay_after) 1 (λ bytes. IsGated (most_record old.counts.listing.settings) bytes 8 (map log_payload_of up.logged ++ payload ∷ []) log_after.gate) =
@@ -162,7 +158,7 @@ module _ {B : Type 0} (bays : Bays B) (lawful : IsLawful bays) (old : Workplace 
           (appends.appended seen told_then 8 (map log_payload_of up.logged) (all_there history up.logged seen ends) later left) in
           up_closed (bays.leaves bay) seen history old.counts counts old.log up.logged can.counted ends (few_here few (Ok tt) bay_after log_after appends) (bays.left_since bay_after
           (bays.moment bay)) payload refl
-          (appends.others seen told_then) (appends.before seen told_then) (bays.leaves bay_after) after log_after (now_since bays lawful bay bay_after appends.time.later)
+          (appends.others seen told_then) (appends.before seen told_then) (bays.leaves bay_after) after log_after (now_since bays lawful bay bay_after appends.kept.time.later)
           (ap (λ (l : LogPlace). l.named) appends.moved) stands
           (settled_alone bays lawful 0 bay bay_after (beside few (Ok tt) bay_after log_after appends) seen told_then ends.journal_settled after told_after)
           (appends.settled after told_after);
@@ -173,8 +169,6 @@ module _ {B : Type 0} (bays : Bays B) (lawful : IsLawful bays) (old : Workplace 
         shows = λ seen told file at same. absurd (let never : ⊥ = cc in never);
         journal = journal_then few (Ok tt) bay_after log_after appends;
         most = ap (λ (l : LogPlace). l.most) appends.moved;
-        failed = λ same. absurd (let never : ⊥ = cc in never);
-        never_falls = omega (arith, did.never_falls, appends.cause.never_falls);
-        mark = appends.mark ∙ did.mark;
+        kept = keeps_as bays lawful old.bay bay_after _ _ (λ same. absurd (let never : ⊥ = cc in never)) (keeps_on bays lawful old.bay bay bay_after _ _ did.reads.kept appends.kept);
       };
     }

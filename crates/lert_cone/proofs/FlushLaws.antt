@@ -36,6 +36,15 @@ module _ (s : Numbers) where
         | inr moves ↦ omega (arith, flush_there n moves)
       ]
 
+  -- where no flush position is left behind n, the next one is none
+  pub flush_passed : (n : ℕ) → last_flush s (n + 1) ≤ n → edge s 0 (n + 1) ≡ edge s 0 n
+  flush_passed n passed =
+      let next : n + 1 ≡ suc n = omega arith in
+      elim (cases_eq (edge s 0 (suc n)) (edge s 0 n)) [
+        | inl stays ↦ ap (edge s 0) next ∙ stays
+        | inr moves ↦ absurd (omega (arith, passed, ap (last_flush s) next, flush_there n moves))
+      ]
+
 pub longer : (events : List ℕ) (key : ℕ) → length (events ++ key ∷ []) ≡ suc (length events)
 longer events key = omega (arith, length-append events (key ∷ []))
 

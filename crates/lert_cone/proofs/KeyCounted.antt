@@ -19,6 +19,7 @@ use Rattle.lert_spec.specs.Mix.{cone_of, tail_of}
 use Rattle.lert_cone.specs.declared.tally.TakeFault.{TakeFault}
 use Rattle.lert_cone.specs.declared.tally.TakeFault.TheVariants.{Failed, Unsound}
 use Rattle.lert_bay.specs.Kept.{Bays}
+use Rattle.lert_bay.proofs.KeptLaws.{IsLawful, keeps_as}
 use Rattle.lert_cone.specs.Counts.{Brings, CountsKey}
 use Rattle.lert_cone.specs.Due.{Dues, started}
 use Rattle.lert_cone.specs.Framed.{HoldsSome}
@@ -31,7 +32,7 @@ failed_flush FlushFailed same = refl
 failed_flush (Malformed at) same = absurd (let never : ⊥ = cc in never)
 failed_flush NoMemory same = absurd (let never : ⊥ = cc in never)
 
-module _ {B : Type 0} (bays : Bays B) (t : Tallied) (ls : Numbers) (levels_are : ls ≡ t.listing.settings) (valid : IsValid t.listing.settings)
+module _ {B : Type 0} (bays : Bays B) (lawful : IsLawful bays) (t : Tallied) (ls : Numbers) (levels_are : ls ≡ t.listing.settings) (valid : IsValid t.listing.settings)
     (named : t.listing.cone < 2 ^ t.listing.settings.cone_bits)
     (young_settings : t.young.settings ≡ t.listing.settings) (counted : IsCounted t) (fits : length t.listing.events < capacity t.listing.settings)
     (key tail m : ℕ) (tail_is : tail ≡ tail_of t.listing.settings key) (m_is : m ≡ suc (length t.listing.events)) (young : Young) (added : young ≡ with_event t.young tail m)
@@ -47,6 +48,11 @@ module _ {B : Type 0} (bays : Bays B) (t : Tallied) (ls : Numbers) (levels_are :
 
   now_frames : (seen : Files) → IsHeld t seen → HoldsBins ls (t.listing.events ++ key ∷ []) t.rows (seen 2)
   now_frames = frames_now t ls levels_are valid named young_settings counted fits key tail m tail_is m_is young added
+
+  -- an edge that stays, said of the levels and of the key's position
+  levels_stay : edge t.listing.settings 0 (length t.listing.events + 1) ≡ edge t.listing.settings 0 (length t.listing.events) → edge ls 0 m ≡ edge ls 0 (m - 1)
+  levels_stay stays = ap (λ (s : Numbers). edge s 0 m) levels_are ∙ ap (edge t.listing.settings 0) (m_is ∙ omega arith) ∙ stays ∙ ap (edge t.listing.settings 0) (omega (arith, m_is))
+      ∙ ap (λ (s : Numbers). edge s 0 (m - 1)) (sym levels_are)
 
   module _ (result : Result (Unit {0}) FlushFault) (brings : Brings bays start m tail bay bay_after young young_after (record { settings = ls; rows = t.rows }) levels_after due result) where
     never_malformed_held : (seen : Files) → bays.files bay ≡ Some seen → IsHeld t seen → (at : ℕ) → result ≢ Err (Malformed at)
@@ -64,6 +70,9 @@ module _ {B : Type 0} (bays : Bays B) (t : Tallied) (ls : Numbers) (levels_are :
     rest_here = subst (λ (s : Numbers). KeepsRest (InNamed s t.rows) (bays.files bay) (bays.files bay_after) (bays.leaves bay) (bays.moment bay) (bays.moment bay_after) (bays.left_since bay)
         (bays.left_since bay_after)) levels_are brings.rest
 
+    unflushed_here : edge t.listing.settings 0 (length t.listing.events + 1) ≡ edge t.listing.settings 0 (length t.listing.events) → bay_after ≡ bay
+    unflushed_here stays = brings.unflushed (levels_stay stays)
+
   -- the totals don't come
   refused_by : (fault : FlushFault) → Brings bays start m tail bay bay_after young young_after (record { settings = ls; rows = t.rows }) levels_after due (Err fault) →
       CountsKey bays key bay bay_after t (record { listing = t.listing; young = young_after; rows = levels_after.rows; due = due }) (Err (take_fault fault))
@@ -73,6 +82,7 @@ module _ {B : Type 0} (bays : Bays B) (t : Tallied) (ls : Numbers) (levels_are :
     counted = tt;
     grows = tt;
     still = λ stays. tt;
+    unflushed = unflushed_here (Err fault) brings;
     held = λ seen told held. tt;
     sound = λ seen told held file at same.
         sound_fault fault (λ place is. never_malformed_held (Err fault) brings seen told held place (ap Err is)) file at (let inner : take_fault fault ≡ Unsound file at = cc in inner);
@@ -88,9 +98,7 @@ module _ {B : Type 0} (bays : Bays B) (t : Tallied) (ls : Numbers) (levels_are :
         sound_fault fault (λ place is. never_malformed_some (Err fault) brings seen told some place (ap Err is)) 2 at (let inner : take_fault fault ≡ Unsound 2 at = cc in inner);
     images = λ seen told held each. tt;
     rest = rest_here (Err fault) brings;
-    failed = λ same. brings.failed (ap Err (failed_flush fault (let inner : take_fault fault ≡ Failed = cc in inner)));
-    never_falls = brings.never_falls;
-    mark = brings.mark;
+    kept = keeps_as bays lawful bay bay_after _ _ (λ same. ap Err (failed_flush fault (let inner : take_fault fault ≡ Failed = cc in inner))) brings.kept;
   }
 
   pub not_counted : (result : Result (Unit {0}) FlushFault) (fault : FlushFault) → result ≡ Err fault → Brings bays start m tail bay bay_after young young_after (record {
@@ -119,6 +127,7 @@ module _ {B : Type 0} (bays : Bays B) (t : Tallied) (ls : Numbers) (levels_are :
       counted = tt;
       grows = tt;
       still = λ stays. tt;
+      unflushed = unflushed_here (Ok tt) brings;
       held = λ seen told held. tt;
       sound = λ seen told held file at same.
           never_full t ls levels_are valid named young_settings counted fits key tail m tail_is m_is young added below own start due start_is still seen held
@@ -130,9 +139,7 @@ module _ {B : Type 0} (bays : Bays B) (t : Tallied) (ls : Numbers) (levels_are :
       whole = λ seen told some at same. (let never : ⊥ = cc in never);
       images = λ seen told held each. tt;
       rest = rest_here (Ok tt) brings;
-      failed = λ same. absurd (let never : ⊥ = cc in never);
-      never_falls = brings.never_falls;
-      mark = brings.mark;
+      kept = keeps_as bays lawful bay bay_after _ _ (λ same. absurd (let never : ⊥ = cc in never)) brings.kept;
     }
 
     -- the key is counted
@@ -169,8 +176,8 @@ module _ {B : Type 0} (bays : Bays B) (t : Tallied) (ls : Numbers) (levels_are :
               brings.from brings.to (brings.bins (t.listing.events ++ key ∷ []) long now_young) brings.rows (brings.are (subst (λ (v : Numbers). AreRows v t.rows)
               (sym levels_are) counted.are)) brings.took;
           grows = omega (arith, brings.took.1.grows, ap (λ (d : Dues). length d.before) start_is, ap (length {A = Report}) brings.took.1.before_is);
-          still = λ stays. brings.still (ap (λ (s : Numbers). edge s 0 m) levels_are ∙ ap (edge t.listing.settings 0) (m_is ∙ omega arith) ∙ stays ∙ ap (edge t.listing.settings 0) (omega
-              (arith, m_is)) ∙ ap (λ (s : Numbers). edge s 0 (m - 1)) (sym levels_are));
+          still = λ stays. brings.still (levels_stay stays);
+          unflushed = unflushed_here (Ok tt) brings;
           held = λ seen told held after_files told_after.
               held_next t ls levels_are valid named young_settings counted fits key tail m tail_is m_is young added below own start due start_is still seen held
               (brings.totals (t.listing.events ++ key ∷ []) long now_young seen told (now_frames seen held)) young_after levels_after.rows after after_files after_is room
@@ -193,7 +200,5 @@ module _ {B : Type 0} (bays : Bays B) (t : Tallied) (ls : Numbers) (levels_are :
               subst (λ (keys : List ℕ). InEach (bays.leaves bay_after) 2 (HoldsBins t.listing.settings keys levels_after.rows)) (sym events_are)
               (subst (λ (v : Numbers). InEach (bays.leaves bay_after) 2 (HoldsBins v (t.listing.events ++ key ∷ []) levels_after.rows)) levels_are (stay after_files told_after));
           rest = rest_here (Ok tt) brings;
-          failed = λ same. absurd (let never : ⊥ = cc in never);
-          never_falls = brings.never_falls;
-          mark = brings.mark;
+          kept = keeps_as bays lawful bay bay_after _ _ (λ same. absurd (let never : ⊥ = cc in never)) brings.kept;
         }

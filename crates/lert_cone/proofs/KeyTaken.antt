@@ -16,15 +16,16 @@ use Rattle.lert_cone.specs.declared.tally.TakeFault.{TakeFault}
 use Rattle.lert_cone.specs.declared.tally.TakeFault.TheVariants.{Failed}
 use Rattle.lert_cone.specs.Appends.{AppendsRecord}
 use Rattle.lert_cone.specs.Counts.{CountsKey}
-use Rattle.lert_cone.specs.Framed.{HoldsSome}
+use Rattle.lert_cone.specs.Framed.{HoldsSome, last_flush}
 use Rattle.lert_cone.specs.InStep.{IsLogging, IsPartway}
 use Rattle.lert_cone.specs.Listing.{Listing}
 use Rattle.lert_cone.specs.Record.{LogPlace, payload_at}
 use Rattle.lert_cone.specs.Sound.{IsSound}
 use Rattle.lert_cone.specs.Takes.{Workplace, CanLog, CanTake, AreInStep, TakesKeys}
 use Rattle.lert_cone.specs.Tally.{Tallied, IsHeld}
-use Rattle.lert_bay.proofs.KeptLaws.{IsLawful}
+use Rattle.lert_bay.proofs.KeptLaws.{IsLawful, keeps_as, keeps_on}
 use Rattle.lert_cone.proofs.Calls.{now_since, alone_on, alone_rest, alone_others, settled_alone, shut_alone}
+use Rattle.lert_cone.proofs.FlushLaws.{flush_passed}
 use Rattle.lert_cone.proofs.KeyStep.{IsTaken, held_of, sound_rest, taken_of, up_between, sound_append, up_flushed}
 use Rattle.lert_cone.proofs.RecordLaws.{record_fits, logging_more}
 use Rattle.lert_cone.proofs.SoundLaws.{turns_back}
@@ -58,13 +59,12 @@ module _ {B : Type 0} (bays : Bays B) (lawful : IsLawful bays) (old : Workplace 
     sound = λ seen told history up. did.sound seen told (held (Err fault) did seen told history up);
     framed = λ seen told some. tt;
     whole = did.whole;
+    unflushed = λ passed. did.unflushed (flush_passed old.counts.listing.settings (length old.counts.listing.events) passed);
     keeps = record {
       shows = did.shows;
       journal = alone_rest bays lawful (InNamed old.counts.listing.settings old.counts.rows) 0 (λ same. absurd (omega (arith, same))) old.bay bay did.rest;
       most = refl;
-      failed = did.failed;
-      never_falls = did.never_falls;
-      mark = did.mark;
+      kept = did.kept;
     };
   }
 
@@ -131,13 +131,12 @@ module _ {B : Type 0} (bays : Bays B) (lawful : IsLawful bays) (old : Workplace 
           sound = λ seen told history up. did.sound seen told (held (Ok tt) did seen told history up);
           framed = did.framed;
           whole = did.whole;
+          unflushed = λ passed. did.unflushed (flush_passed old.counts.listing.settings (length old.counts.listing.events) passed);
           keeps = record {
             shows = did.shows;
             journal = alone_rest bays lawful (InNamed old.counts.listing.settings old.counts.rows) 0 (λ same. absurd (omega (arith, same))) old.bay bay did.rest;
             most = refl;
-            failed = did.failed;
-            never_falls = did.never_falls;
-            mark = did.mark;
+            kept = did.kept;
           };
         }
 
@@ -152,13 +151,19 @@ module _ {B : Type 0} (bays : Bays B) (lawful : IsLawful bays) (old : Workplace 
       few_here : length counts.due.reports ≤ old.counts.listing.settings.room
       few_here = omega (arith, few, ap (λ (s : Numbers). s.room) settings_are)
 
+      never_passed : last_flush old.counts.listing.settings (length old.counts.listing.events + 1) ≤ length old.counts.listing.events → ⊥
+      never_passed passed =
+          let before : length counts.listing.events - 1 ≡ length old.counts.listing.events = omega (arith, long) in
+          moves (ap (edge old.counts.listing.settings 0) long ∙ flush_passed old.counts.listing.settings (length old.counts.listing.events) passed
+          ∙ ap (edge old.counts.listing.settings 0) (sym before))
+
       abbrev payload : List ℕ
       payload = payload_at old.log LogKind.Flush (length counts.listing.events) (directory_text counts.rows) counts.due.reports
 
       journal_then : LeavesAlone bays 0 old.bay bay_after
       journal_then =
           alone_on bays lawful 0 old.bay bay bay_after (alone_rest bays lawful (InNamed old.counts.listing.settings old.counts.rows) 0 (λ same. absurd (omega (arith, same))) old.bay bay did.rest)
-          (alone_others bays lawful 1 0 (λ same. absurd (omega (arith, same))) bay bay_after appends.seen appends.others appends.time)
+          (alone_others bays lawful 1 0 (λ same. absurd (omega (arith, same))) bay bay_after appends.seen appends.others appends.kept.time)
 
       -- in each image of each moment
       sound_flush : IfTold (bays.files old.bay) (λ seen. (history : List Packet) → IsPartway old.counts.listing.settings history old.counts.listing.events (key ∷ []) →
@@ -172,7 +177,7 @@ module _ {B : Type 0} (bays : Bays B) (lawful : IsLawful bays) (old : Workplace 
           let each : InEach (bays.left_since bay_after (bays.moment bay)) 1 (IsWithOrWithout (most_record old.counts.listing.settings) 8 (map log_payload_of up.logged) old.log.gate payload) =
           λ earlier left. subst (λ (m : ℕ). IsWithOrWithout m 8 (map log_payload_of up.logged) old.log.gate payload (earlier 1)) can.can_log.logging.most
           (appends.each_moment mid.0 mid.1 8 (map log_payload_of up.logged) all earlier left) in
-          elim (appends.time.known (bays.moment old.bay) image did.rest.time.later may) [
+          elim (appends.kept.time.known (bays.moment old.bay) image did.rest.time.later may) [
             | inl past ↦ sound_key (Ok tt) did seen told history partway up image past
             | inr here ↦ sound_append (bays.leaves bay) mid.0 history old.counts counts old.log up.logged key can.still can.counted did.counted taken_then moves few_here
                 (bays.left_since bay_after (bays.moment bay)) payload refl (appends.others mid.0 mid.1) (appends.before mid.0 mid.1) each partway image here
@@ -204,13 +209,12 @@ module _ {B : Type 0} (bays : Bays B) (lawful : IsLawful bays) (old : Workplace 
       sound = λ seen told history up file at same. (let never : ⊥ = cc in never);
       framed = λ seen told some. tt;
       whole = λ seen told some at same. (let never : ⊥ = cc in never);
+      unflushed = λ passed. absurd (never_passed moves_now few (Err failed) bay_after log_after appends passed);
       keeps = record {
         shows = λ seen told file at same. absurd (let never : ⊥ = cc in never);
         journal = journal_then moves_now few (Err failed) bay_after log_after appends;
         most = ap (λ (l : LogPlace). l.most) appends.stayed;
-        failed = λ _. risen_since (bays.faults old.bay) (bays.faults bay) (bays.faults bay_after) did.never_falls appends.cause.never_falls (appends.cause.failed refl);
-        never_falls = omega (arith, did.never_falls, appends.cause.never_falls);
-        mark = appends.mark ∙ did.mark;
+        kept = keeps_as bays lawful old.bay bay_after _ _ (λ _. refl) (keeps_on bays lawful old.bay bay bay_after _ _ did.kept appends.kept);
       };
     })
 
@@ -246,8 +250,8 @@ module _ {B : Type 0} (bays : Bays B) (lawful : IsLawful bays) (old : Workplace 
           up_flushed (bays.leaves bay) mid.0 history old.counts counts old.log up.logged key can.still can.counted did.counted taken_then
           (moves moves_now few (Ok tt) bay_after log_after appends) (few_here moves_now few (Ok tt) bay_after log_after appends)
           (bays.left_since bay_after (bays.moment bay)) pay refl (appends.others mid.0 mid.1) (appends.before mid.0 mid.1) (bays.leaves bay_after) after log_after
-          (now_since bays lawful bay bay_after appends.time.later) (ap (λ (l : LogPlace). l.named) appends.moved) stands
-          (settled_alone bays lawful 0 bay bay_after (alone_others bays lawful 1 0 (λ same. absurd (omega (arith, same))) bay bay_after appends.seen appends.others appends.time)
+          (now_since bays lawful bay bay_after appends.kept.time.later) (ap (λ (l : LogPlace). l.named) appends.moved) stands
+          (settled_alone bays lawful 0 bay bay_after (alone_others bays lawful 1 0 (λ same. absurd (omega (arith, same))) bay bay_after appends.seen appends.others appends.kept.time)
           mid.0 mid.1 taken_then.journal_settled after told_after)
           (appends.settled after told_after);
       each_moment = sound_flush moves_now few (Ok tt) bay_after log_after appends;
@@ -257,12 +261,11 @@ module _ {B : Type 0} (bays : Bays B) (lawful : IsLawful bays) (old : Workplace 
           subst (λ (bytes : List ℕ). HoldsSome counts.listing.settings (length counts.listing.events) counts.rows bytes) (sym (was.2 2 (λ same. absurd (omega (arith, same)))))
           (did.framed seen told some was.0 was.1);
       whole = did.whole;
+      unflushed = λ passed. absurd (never_passed moves_now few (Ok tt) bay_after log_after appends passed);
       keeps = record {
         shows = λ seen told file at same. absurd (let never : ⊥ = cc in never);
         journal = journal_then moves_now few (Ok tt) bay_after log_after appends;
         most = ap (λ (l : LogPlace). l.most) appends.moved;
-        failed = λ same. absurd (let never : ⊥ = cc in never);
-        never_falls = omega (arith, did.never_falls, appends.cause.never_falls);
-        mark = appends.mark ∙ did.mark;
+        kept = keeps_as bays lawful old.bay bay_after _ _ (λ same. absurd (let never : ⊥ = cc in never)) (keeps_on bays lawful old.bay bay bay_after _ _ did.kept appends.kept);
       };
     }

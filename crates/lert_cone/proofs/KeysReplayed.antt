@@ -11,16 +11,18 @@ use Rattle.lert_spec.specs.Mix.{cone_of}
 use Rattle.lert_cone.specs.declared.tally.TakeFault.{TakeFault}
 use Rattle.lert_bay.specs.Kept.{Bays}
 use Rattle.lert_cone.specs.Due.{Dues}
-use Rattle.lert_cone.specs.Framed.{HoldsSome}
+use Rattle.lert_cone.specs.Framed.{HoldsSome, last_flush}
 use Rattle.lert_cone.specs.Listing.{Listing}
 use Rattle.lert_cone.specs.Replay.{IsOnWay}
 use Rattle.lert_cone.specs.Takes.{Workplace, CanLog, CanTake, CanReplay, TakesKeys, ReplaysKeys}
 use Rattle.lert_cone.specs.Tally.{Tallied, IsRecounted}
-use Rattle.lert_bay.proofs.KeptLaws.{IsLawful}
+use Rattle.lert_bay.proofs.KeptLaws.{IsLawful, keeps_none}
 use Rattle.lert_cone.proofs.Calls.{alone_none}
 use Rattle.lert_cone.proofs.KeysTaken.{map_ok}
+use Rattle.lert_cone.proofs.KeyStep.{sound_behind}
 use Rattle.lert_cone.proofs.RecountLaws.{recounted_behind}
-use Rattle.lert_cone.proofs.ReplayStep.{way_counted, way_in_step, way_taken, enough_counted, told_once}
+use Rattle.lert_cone.proofs.ReplayLaws.{sound_recounted}
+use Rattle.lert_cone.proofs.ReplayStep.{way_counted, way_in_step, way_partway, way_taken, enough_counted, told_once}
 use Rattle.lert_cone.proofs.SomeLaws.{some_counted}
 use Rattle.lert_cone.proofs.TakeLaws.{on_ok}
 
@@ -67,6 +69,9 @@ module _ {B : Type 0} (bays : Bays B) (lawful : IsLawful bays) (old : Workplace 
             subst (λ (files : Files). IsOnWay (bays.leaves old.bay) files history counts.listing counts.rows counts.due.reports old.log n0) (told_once (bays.files old.bay) seen after told told_after)
             (way_counted (bays.leaves old.bay) seen history old.counts counts old.log n0 count keys rest on_way is early listing_is rows_are due_is);
         sound = λ seen told history rest is on_way file at same. (let never : ⊥ = cc in never);
+        each_moment = λ seen told history rest is on_way image may.
+            sound_recounted (bays.leaves old.bay) seen history old.counts old.log n0 can.recounted on_way (keys ++ rest) is image (lawful.only_now old.bay image may);
+        unflushed = λ passed. refl;
         framed = λ seen told some after told_after.
             let same : max n0 (length old.counts.listing.events) ≡ max n0 (length counts.listing.events) = omega (arith, count_is, counted, none, length-take count keys, length-drop count keys) in
             subst (λ (s : Numbers). HoldsSome s (max n0 (length counts.listing.events)) counts.rows (after 2)) (sym settings_are)
@@ -79,9 +84,7 @@ module _ {B : Type 0} (bays : Bays B) (lawful : IsLawful bays) (old : Workplace 
           shows = λ seen told file at same. absurd (let never : ⊥ = cc in never);
           journal = alone_none bays lawful 0 old.bay;
           most = refl;
-          failed = λ same. absurd (let never : ⊥ = cc in never);
-          never_falls = omega arith;
-          mark = refl;
+          kept = keeps_none bays lawful old.bay _ (λ same. (let never : ⊥ = cc in never));
         };
       }
 
@@ -140,6 +143,15 @@ module _ {B : Type 0} (bays : Bays B) (lawful : IsLawful bays) (old : Workplace 
               (did.listing ∙ ap (λ (ks : List ℕ). record { settings = counts.listing.settings; cone = counts.listing.cone; events = ks; closed = counts.listing.closed }) took) (up after told_after));
           sound = λ seen told history rest is on_way.
               did.sound seen told history (way_in_step (bays.leaves old.bay) seen history old.counts counts old.log n0 count keys rest on_way is early listing_is rows_are due_is enough);
+          each_moment = λ seen told history rest is on_way image may.
+              let step = way_in_step (bays.leaves old.bay) seen history old.counts counts old.log n0 count keys rest on_way is early listing_is rows_are due_is enough in
+              let partway = way_partway (bays.leaves old.bay) seen history old.counts counts old.log n0 count keys rest on_way is early listing_is rows_are due_is enough in
+              sound_behind counts.listing old.counts.listing history image settings_are (ap (λ (l : Listing). l.cone) listing_is) (did.each_moment seen told history partway step image may);
+          unflushed = λ passed.
+              let same : length counts.listing.events + length (drop count keys) ≡ length old.counts.listing.events + length keys =
+              omega (arith, count_is, counted, length-take count keys, length-drop count keys) in
+              did.unflushed (subst (λ (s : Numbers). last_flush s (length counts.listing.events + length (drop count keys)) ≤ length counts.listing.events) (sym settings_are)
+              (omega (arith, passed, up_to, ap (last_flush old.counts.listing.settings) same)));
           framed = λ seen told holds.
               let here = some_counted old.counts counts (max n0 (length old.counts.listing.events)) (seen 2) settings_are rows_are up_to holds in
               on_ok _ _ (IfTold (bays.files new.bay) (λ after. HoldsSome new.counts.listing.settings (max n0 (length new.counts.listing.events)) new.counts.rows (after 2))) result
@@ -151,8 +163,6 @@ module _ {B : Type 0} (bays : Bays B) (lawful : IsLawful bays) (old : Workplace 
             shows = did.keeps.shows;
             journal = did.keeps.journal;
             most = did.keeps.most;
-            failed = did.keeps.failed;
-            never_falls = did.keeps.never_falls;
-            mark = did.keeps.mark;
+            kept = did.keeps.kept;
           };
         }

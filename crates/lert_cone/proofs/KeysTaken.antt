@@ -12,11 +12,11 @@ use Rattle.lert_spec.specs.Edges.{capacity}
 use Rattle.lert_spec.specs.Mix.{cone_of}
 use Rattle.lert_cone.specs.declared.tally.TakeFault.{TakeFault}
 use Rattle.lert_bay.specs.Kept.{Bays}
-use Rattle.lert_cone.specs.Framed.{HoldsSome}
+use Rattle.lert_cone.specs.Framed.{HoldsSome, last_flush}
 use Rattle.lert_cone.specs.InStep.{IsPartway}
 use Rattle.lert_cone.specs.Listing.{Listing}
 use Rattle.lert_cone.specs.Takes.{Workplace, CanTake, AreInStep, TakesKeys}
-use Rattle.lert_bay.proofs.KeptLaws.{IsLawful}
+use Rattle.lert_bay.proofs.KeptLaws.{IsLawful, keeps_none, keeps_on}
 use Rattle.lert_cone.proofs.Calls.{alone_none, alone_on}
 use Rattle.lert_cone.proofs.KeyStep.{sound_now, sound_behind}
 use Rattle.lert_cone.proofs.FlushLaws.{last_flush_grows}
@@ -48,6 +48,10 @@ partway_back s history events front back partway = record {
   late = omega (arith, partway.late, last_flush_grows s (length events) (length (events ++ front)) (omega (arith, length-append events front)));
 }
 
+-- where no flush position lies among some keys none lies among the first of them
+front_passed : (s : Numbers) (n : ℕ) (front back : List ℕ) → last_flush s (n + length (front ++ back)) ≤ n → last_flush s (n + length front) ≤ n
+front_passed s n front back passed = omega (arith, passed, last_flush_grows s (n + length front) (n + length (front ++ back)) (omega (arith, length-append front back)))
+
 module _ {B : Type 0} (bays : Bays B) (lawful : IsLawful bays) where
   -- no key
   pub takes_none : (at : Workplace B) (keys : List ℕ) → CanTake bays keys at → TakesKeys bays [] at at (Ok tt)
@@ -63,13 +67,12 @@ module _ {B : Type 0} (bays : Bays B) (lawful : IsLawful bays) where
     framed = λ seen told some after told_after.
         subst (λ (files : Files). HoldsSome at.counts.listing.settings (length at.counts.listing.events) at.counts.rows (files 2)) (same_Some seen after (sym told ∙ told_after)) some;
     whole = λ seen told some at same. (let never : ⊥ = cc in never);
+    unflushed = λ passed. refl;
     keeps = record {
       shows = λ seen told file at same. absurd (let never : ⊥ = cc in never);
       journal = alone_none bays lawful 0 at.bay;
       most = refl;
-      failed = λ same. absurd (let never : ⊥ = cc in never);
-      never_falls = omega arith;
-      mark = refl;
+      kept = keeps_none bays lawful at.bay _ (λ same. (let never : ⊥ = cc in never));
     };
   }
 
@@ -77,6 +80,16 @@ module _ {B : Type 0} (bays : Bays B) (lawful : IsLawful bays) where
   module _ (old mid new : Workplace B) (front back : List ℕ) (result : Result (Unit {0}) TakeFault) (first : TakesKeys bays front old mid (Ok tt)) (second : TakesKeys bays back mid new result) where
     mid_is : mid.counts.listing ≡ record old.counts.listing { events = old.counts.listing.events ++ front }
     mid_is = first.listing ∙ ap (λ (keys : List ℕ). record { settings = old.counts.listing.settings; cone = old.counts.listing.cone; events = keys; closed = old.counts.listing.closed }) first.taken
+
+    mid_long : length mid.counts.listing.events ≡ length old.counts.listing.events + length front
+    mid_long = ap (length {A = ℕ}) first.taken ∙ length-append old.counts.listing.events front
+
+    back_passed : last_flush old.counts.listing.settings (length old.counts.listing.events + length (front ++ back)) ≤ length old.counts.listing.events →
+        last_flush mid.counts.listing.settings (length mid.counts.listing.events + length back) ≤ length mid.counts.listing.events
+    back_passed passed =
+        let same : length mid.counts.listing.events + length back ≡ length old.counts.listing.events + length (front ++ back) = omega (arith, mid_long, length-append front back) in
+        subst (λ (s : Numbers). last_flush s (length mid.counts.listing.events + length back) ≤ length mid.counts.listing.events) (sym (ap (λ (l : Listing). l.settings) mid_is))
+        (omega (arith, passed, mid_long, ap (last_flush old.counts.listing.settings) same))
 
     pub takes_more : TakesKeys bays (front ++ back) old new result
     takes_more = record {
@@ -107,13 +120,12 @@ module _ {B : Type 0} (bays : Bays B) (lawful : IsLawful bays) where
       whole = λ seen told some.
           let came = first.keeps.journal.seen.told seen told in
           second.whole came.0 came.1 (first.framed seen told some came.0 came.1);
+      unflushed = λ passed. second.unflushed (back_passed passed) ∙ first.unflushed (front_passed old.counts.listing.settings (length old.counts.listing.events) front back passed);
       keeps = record {
         shows = second.keeps.shows;
         journal = alone_on bays lawful 0 old.bay mid.bay new.bay first.keeps.journal second.keeps.journal;
         most = second.keeps.most ∙ first.keeps.most;
-        failed = λ same. risen_since (bays.faults old.bay) (bays.faults mid.bay) (bays.faults new.bay) first.keeps.never_falls second.keeps.never_falls (second.keeps.failed same);
-        never_falls = omega (arith, first.keeps.never_falls, second.keeps.never_falls);
-        mark = second.keeps.mark ∙ first.keeps.mark;
+        kept = keeps_on bays lawful old.bay mid.bay new.bay _ _ first.keeps.kept second.keeps.kept;
       };
     }
 
@@ -130,6 +142,7 @@ module _ {B : Type 0} (bays : Bays B) (lawful : IsLawful bays) where
     sound = did.sound;
     framed = λ seen told some. tt;
     whole = did.whole;
+    unflushed = λ passed. did.unflushed (front_passed old.counts.listing.settings (length old.counts.listing.events) front back passed);
     keeps = did.keeps;
   }
 

@@ -24,6 +24,7 @@ pub mod MadeReports
 pub mod PacketTaken
 pub mod RecordLaws
 pub mod ReplayLaws
+pub mod ReplayCalls
 pub mod ReplayStands
 pub mod ReplayStep
 pub mod RecountLaws

@@ -1,4 +1,5 @@
 -- A packet through the calls that it makes: it isn't appended, or it is, and its keys are taken.
+use Rattle.std.specs.Prelude.{IsErr}
 use Rattle.std.proofs.Common.{◌≡◌, ℕ, ◌+◌, ◌^◌, ◌<◌, ◌≤◌, List, [], ◌∷◌, ◌++◌, All, length, Result, Ok, Err, OnOk, OnErr, Some, refl, ap, ◌∙◌, subst, inl, inr, arith}
 use Rattle.std.specs.Result.{IsErrAnd}
 use Rattle.lert_base.specs.Packet.{Packet, events_of}
@@ -7,20 +8,19 @@ use Rattle.lert_bay.specs.Images.{Lasts}
 use Rattle.lert_bay.proofs.Lasting.{lasts_on}
 use Rattle.lert_gatelog.specs.Gated.{IsClosed, Log, next_gate}
 use Rattle.lert_gatelog.specs.Kept.{InEach, KeepsOthers, KeepsBefore, IsWhollySettled, OthersStay}
-use Rattle.lert_io.specs.Fault.{HasCause}
 use Rattle.lert_io.proofs.Rising.{risen_since}
 use Rattle.lert_journal.specs.Journal.{HasPackets, HasPacketsOrOneMore}
 use Rattle.lert_journal.specs.Payload.{payload_of}
 use Rattle.lert_spec.specs.Edges.{capacity}
 use Rattle.lert_cone.specs.declared.tally.TakeFault.{TakeFault}
 use Rattle.lert_cone.specs.declared.tally.TakeFault.TheVariants.{Failed}
-use Rattle.lert_bay.specs.Kept.{Bays}
+use Rattle.lert_bay.specs.Kept.{Bays, KeepsBay}
 use Rattle.lert_cone.specs.History.{most_payload}
 use Rattle.lert_cone.specs.InStep.{IsInStep}
 use Rattle.lert_cone.specs.Sound.{IsSoundOver}
 use Rattle.lert_cone.specs.Takes.{Workplace, CanTake, CanTakePacket, IsWholeAt, TakesKeys, TakesPacket}
 use Rattle.lert_cone.specs.Wrote.{IsShutIfTold, LeavesAlone}
-use Rattle.lert_bay.proofs.KeptLaws.{IsLawful}
+use Rattle.lert_bay.proofs.KeptLaws.{IsLawful, keeps_on}
 use Rattle.lert_cone.proofs.Calls.{now_since, alone_others, settled_alone, shut_alone}
 use Rattle.lert_cone.proofs.KeysTaken.{ok_holds}
 use Rattle.lert_cone.proofs.SoundLaws.{turns_back}
@@ -41,9 +41,7 @@ pub record AppendsPacket {B E : Type 0} (bays : Bays B) (packet : Packet) (bay b
   pub before : IfTold (bays.files bay) (λ seen. KeepsBefore (bays.leaves bay) (bays.left_since bay_after (bays.moment bay)) seen old.file old.gate)
   pub others : IfTold (bays.files bay) (λ seen. KeepsOthers (bays.leaves bay) (bays.left_since bay_after (bays.moment bay)) seen old.file)
   pub seen : Turns (OthersStay old.file) (bays.files bay) (bays.files bay_after)
-  pub time : Lasts (bays.moment bay) (bays.moment bay_after) (bays.left_since bay) (bays.left_since bay_after)
-  pub cause : HasCause (bays.faults bay) (bays.faults bay_after) result
-  pub mark : bays.mark bay_after ≡ bays.mark bay
+  pub kept : KeepsBay bays bay bay_after (IsErr result)
 
 pub appends_ok : {B E : Type 0} (bays : Bays B) (packet : Packet) (bay bay_after : B) (old new : Log) (result : Result (Unit {0}) E) → result ≡ Ok tt →
     AppendsPacket bays packet bay bay_after old new result →
@@ -55,7 +53,7 @@ module _ {B : Type 0} (bays : Bays B) (lawful : IsLawful bays) (old : Workplace 
   -- whatever comes of the append
   module _ {E : Type 0} (result : Result (Unit {0}) E) (appends : AppendsPacket bays packet old.bay bay journal journal_after result) where
     now : (image : Files) → bays.leaves bay image → bays.left_since bay (bays.moment old.bay) image
-    now = now_since bays lawful old.bay bay appends.time.later
+    now = now_since bays lawful old.bay bay appends.kept.time.later
 
     others_here : IfTold (bays.files old.bay) (λ seen. KeepsOthers (bays.leaves old.bay) (bays.left_since bay (bays.moment old.bay)) seen 0)
     others_here seen told = subst (λ (f : ℕ). KeepsOthers (bays.leaves old.bay) (bays.left_since bay (bays.moment old.bay)) seen f) can.file (appends.others seen told)
@@ -83,7 +81,7 @@ module _ {B : Type 0} (bays : Bays B) (lawful : IsLawful bays) (old : Workplace 
         (appends.each_moment seen told 32 history) (there seen told history whole)) image may
 
     log_alone : LeavesAlone bays 1 old.bay bay
-    log_alone = alone_others bays lawful journal.file 1 (λ same. absurd (omega (arith, same, can.file))) old.bay bay appends.seen appends.others appends.time
+    log_alone = alone_others bays lawful journal.file 1 (λ same. absurd (omega (arith, same, can.file))) old.bay bay appends.seen appends.others appends.kept.time
 
   refused_by : {E : Type 0} (failed : E) (room : ℕ) → AppendsPacket bays packet old.bay bay journal journal_after (Err failed) →
       TakesPacket bays packet old (record { bay = bay; counts = old.counts; log = old.log; room = room }) journal journal_after (Err Failed)
@@ -102,10 +100,7 @@ module _ {B : Type 0} (bays : Bays B) (lawful : IsLawful bays) (old : Workplace 
     shows = λ seen told file at same. absurd (let never : ⊥ = cc in never);
     seen = any_turn (OthersStay journal.file) (bays.files old.bay) (bays.files bay) appends.seen;
     now = now (Err failed) appends;
-    time = appends.time;
-    failed = λ _. appends.cause.failed refl;
-    never_falls = appends.cause.never_falls;
-    mark = appends.mark;
+    kept = record { time = appends.kept.time; never_falls = appends.kept.never_falls; failed = λ _. appends.kept.failed refl; mark = appends.kept.mark };
   }
 
   -- it isn't appended
@@ -182,7 +177,7 @@ module _ {B : Type 0} (bays : Bays B) (lawful : IsLawful bays) (old : Workplace 
           did.in_step mid.0 mid.1 (history ++ packet ∷ []) (up_then seen told history whole mid.0 mid.1);
       each_moment = λ seen told history whole image may.
           let mid = appends.seen.told seen told in
-          elim (did.keeps.journal.time.known (bays.moment old.bay) image appends.time.later may) [
+          elim (did.keeps.journal.time.known (bays.moment old.bay) image appends.kept.time.later may) [
             | inl past ↦ sound_append (Ok tt) appends seen told history whole image past
             | inr here ↦ inr (
               packet,
@@ -196,10 +191,6 @@ module _ {B : Type 0} (bays : Bays B) (lawful : IsLawful bays) (old : Workplace 
           did.sound mid.0 mid.1 (history ++ packet ∷ []) (up_then seen told history whole mid.0 mid.1);
       shows = did.keeps.shows;
       seen = turns_on (OthersStay journal.file) (λ before after. after 0 ≡ before 0) (bays.files old.bay) (bays.files bay) (bays.files new.bay) appends.seen did.keeps.journal.seen;
-      now = λ image may. lawful.since_earlier new.bay (bays.moment old.bay) (bays.moment bay) image appends.time.later (did.keeps.journal.now image may);
-      time = lasts_on (bays.moment old.bay) (bays.moment bay) (bays.moment new.bay) (bays.left_since old.bay) (bays.left_since bay) (bays.left_since new.bay) appends.time did.keeps.journal.time
-          (lawful.since_earlier new.bay);
-      failed = λ same. risen_since (bays.faults old.bay) (bays.faults bay) (bays.faults new.bay) appends.cause.never_falls did.keeps.never_falls (did.keeps.failed same);
-      never_falls = omega (arith, appends.cause.never_falls, did.keeps.never_falls);
-      mark = did.keeps.mark ∙ appends.mark;
+      now = λ image may. lawful.since_earlier new.bay (bays.moment old.bay) (bays.moment bay) image appends.kept.time.later (did.keeps.journal.now image may);
+      kept = keeps_on bays lawful old.bay bay new.bay _ _ appends.kept did.keeps.kept;
     }

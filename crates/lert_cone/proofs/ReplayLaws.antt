@@ -1,7 +1,7 @@
 -- What a cone keeps on its way through its journal: up to n0 events the files go together with memory as after n0 events, and
 -- from then on as after the keys so far.
 use Rattle.std.proofs.Common.{◌≡◌, ℕ, zero, suc, ◌+◌, ◌-◌, ◌<◌, ◌≤◌, true, false, cond, List, [], ◌++◌, length, take, drop, min, max, refl, sym, ap, ◌∙◌, subst, inl, inr, arith, length-append, length-take, length-drop, append-nil, append_assoc}
-use Rattle.std.proofs.lemmas.Bool.{cases_eq, cases_Bool, eq-eqb, ne_eqb}
+use Rattle.std.proofs.lemmas.Bool.{cases_eq, cases_lt, cases_Bool, eq-eqb, ne_eqb}
 use Rattle.std.proofs.lemmas.List.{take_at, take_all, take-append-drop, length-take-le}
 use Rattle.lert_base.specs.Packet.{Packet, events_of}
 use Rattle.lert_bay.specs.Files.{Files}
@@ -18,7 +18,7 @@ use Rattle.lert_cone.specs.Record.{LogPlace}
 use Rattle.lert_cone.specs.Replay.{IsOnWay, IsPast, IsNext, MayFollow, ReplayLeavesAt}
 use Rattle.lert_cone.specs.Sound.{IsJournal, IsSound, but_last}
 use Rattle.lert_cone.specs.Stands.{IsWhole}
-use Rattle.lert_cone.specs.Tally.{Tallied, IsCounted}
+use Rattle.lert_cone.specs.Tally.{Tallied, IsCounted, IsRecounted}
 use Rattle.lert_cone.proofs.GateLaws.{keys_next, keys_cut, never_leaves}
 use Rattle.lert_cone.proofs.FlushLaws.{last_flush_grows}
 use Rattle.lert_cone.proofs.AppendLaws.{whole_of}
@@ -136,6 +136,22 @@ module _ (leaves : Files → Type 0) (seen : Files) (history : List Packet) (lis
       (length listing.events) (seen 0) gate at → ⊥
   never_on_way read done gate at past =
       never_leaves listing.settings listing.cone (seen 0) history done listing.events gate (journal_on_way read) past n0 listing.closed at on_way.n0_most on_way.closed_behind
+
+-- the rows stand where n0 events are there, or those so far
+rows_there : (t : Tallied) (n0 : ℕ) → IsRecounted t n0 → IsAt t.listing.settings (max n0 (length t.listing.events)) t.rows
+rows_there t n0 recounted =
+    elim (cases_lt (length t.listing.events) n0) [
+      | inl early ↦ subst (λ n. IsAt t.listing.settings n t.rows) (omega (arith, early)) (recounted.rows (omega (arith, early)))
+      | inr there ↦ subst (λ n. IsAt t.listing.settings n t.rows) (omega (arith, there)) (recounted.behind there).rows
+    ]
+
+-- in every image the files of a cone that counts its keys again are sound for the history
+pub sound_recounted : (leaves : Files → Type 0) (seen : Files) (history : List Packet) (t : Tallied) (log : LogPlace) (n0 : ℕ) → IsRecounted t n0 →
+    IsOnWay leaves seen history t.listing t.rows t.due.reports log n0 → (rest : List ℕ) → events_of history ≡ t.listing.events ++ rest → (image : Files) → leaves image →
+    IsSound t.listing.settings t.listing.cone history image
+sound_recounted leaves seen history t log n0 recounted on_way rest is =
+    sound_on_way leaves seen history t.listing t.rows t.due.reports log n0 on_way recounted.valid (rows_there t n0 recounted)
+    (omega (arith, ap (length {A = ℕ}) is, length-append t.listing.events rest))
 
 -- ---- a packet that is cut at n0
 

@@ -1,11 +1,9 @@
 -- What the append of a record makes of a cone's log and of its bay.
-use Rattle.std.specs.Prelude.{◌≡◌, ℕ, ◌+◌, List, [], ◌∷◌, ◌++◌, length, Result, OnOk, OnErr}
-use Rattle.lert_bay.specs.Kept.{Bays}
+use Rattle.std.specs.Prelude.{◌≡◌, ℕ, ◌+◌, List, [], ◌∷◌, ◌++◌, length, Result, OnOk, OnErr, IsErr}
+use Rattle.lert_bay.specs.Kept.{Bays, KeepsBay}
 use Rattle.lert_bay.specs.Files.{IfTold, Turns}
-use Rattle.lert_bay.specs.Images.{Lasts}
 use Rattle.lert_gatelog.specs.Gated.{IsClosed, IsGated, next_gate}
 use Rattle.lert_gatelog.specs.Kept.{InEach, KeepsOthers, KeepsBefore, IsWhollySettled, IsWithOrWithout, OthersStay}
-use Rattle.lert_io.specs.Fault.{HasCause}
 use Rattle.lert_reports.specs.declared.log.LogKind.{LogKind}
 use Rattle.lert_spec.specs.declared.report.Report.{Report}
 use Rattle.lert_cone.specs.Record.{LogPlace, payload_at, payload_len}
@@ -26,6 +24,4 @@ pub record AppendsRecord {B E : Type 0} (bays : Bays B) (kind : LogKind) (n0 : �
   pub before : IfTold (bays.files bay) (λ seen. KeepsBefore (bays.leaves bay) (bays.left_since bay_after (bays.moment bay)) seen 1 old.gate)
   pub others : IfTold (bays.files bay) (λ seen. KeepsOthers (bays.leaves bay) (bays.left_since bay_after (bays.moment bay)) seen 1)
   pub seen : Turns (OthersStay 1) (bays.files bay) (bays.files bay_after)
-  pub time : Lasts (bays.moment bay) (bays.moment bay_after) (bays.left_since bay) (bays.left_since bay_after)
-  pub cause : HasCause (bays.faults bay) (bays.faults bay_after) result
-  pub mark : bays.mark bay_after ≡ bays.mark bay
+  pub kept : KeepsBay bays bay bay_after (IsErr result)

@@ -1,10 +1,8 @@
 -- What a key, and the end, make of a cone's counts and of its bay.
 use Rattle.std.specs.Prelude.{◌≡◌, ◌≢◌, ℕ, ◌+◌, ◌-◌, ◌≤◌, true, List, [], ◌∷◌, ◌++◌, length, slice_range, Result, Err, OnOk, OnErr, IsErrOf}
-use Rattle.lert_bay.specs.Kept.{Bays}
+use Rattle.lert_bay.specs.Kept.{Bays, KeepsBay, OnlyReads}
 use Rattle.lert_bay.specs.Files.{Files, IfTold}
-use Rattle.lert_bay.specs.Kept.{OnlyRead}
 use Rattle.lert_gatelog.specs.Kept.{InEach}
-use Rattle.lert_io.specs.Fault.{HasRisen}
 use Rattle.lert_rows.specs.declared.fault.FlushFault.{FlushFault}
 use Rattle.lert_rows.specs.declared.fault.FlushFault.TheVariants.{Failed as FlushFailed, Malformed}
 use Rattle.lert_levels.specs.Flushed.{InNamed}
@@ -41,9 +39,7 @@ pub record Flushes {B : Type 0} (bays : Bays B) (start : Dues) (m : ℕ) (bay ba
   pub durable : OnOk result (IfTold (bays.files bay_after) (λ seen. (image : Files) → bays.leaves bay_after image → image 2 ≡ seen 2))
   pub rest : KeepsRest (InNamed levels.settings levels.rows) (bays.files bay) (bays.files bay_after) (bays.leaves bay) (bays.moment bay) (bays.moment bay_after) (bays.left_since bay)
       (bays.left_since bay_after)
-  pub failed : IsErrOf result FlushFailed → HasRisen (bays.faults bay) (bays.faults bay_after)
-  pub never_falls : bays.faults bay ≤ bays.faults bay_after
-  pub mark : bays.mark bay_after ≡ bays.mark bay
+  pub kept : KeepsBay bays bay bay_after (IsErrOf result FlushFailed)
 
 -- The totals come to the reports that the event at position m brings, which level 0 has, its tail being this one: the levels
 -- are flushed where an edge moves, and the oldest bin of level 0 is dropped.
@@ -70,11 +66,10 @@ pub record Brings {B : Type 0} (bays : Bays B) (start : Dues) (m tail : ℕ) (ba
       OnOk result (IfTold (bays.files bay_after) (λ _. InEach (bays.leaves bay_after) 2 (HoldsBins levels.settings events levels_after.rows))))
   pub are : OnOk result (AreRows levels.settings levels.rows → AreRows levels.settings levels_after.rows)
   pub still : edge levels.settings 0 m ≡ edge levels.settings 0 (m - 1) → OnOk result (levels_after.rows ≡ levels.rows)
+  pub unflushed : edge levels.settings 0 m ≡ edge levels.settings 0 (m - 1) → bay_after ≡ bay
   pub rest : KeepsRest (InNamed levels.settings levels.rows) (bays.files bay) (bays.files bay_after) (bays.leaves bay) (bays.moment bay) (bays.moment bay_after) (bays.left_since bay)
       (bays.left_since bay_after)
-  pub failed : IsErrOf result FlushFailed → HasRisen (bays.faults bay) (bays.faults bay_after)
-  pub never_falls : bays.faults bay ≤ bays.faults bay_after
-  pub mark : bays.mark bay_after ≡ bays.mark bay
+  pub kept : KeepsBay bays bay bay_after (IsErrOf result FlushFailed)
 
 -- all levels are scanned, with the reports as the taker of the totals
 pub record Scans {B : Type 0} (bays : Bays B) (start : Dues) (bay bay_after : B) (zero : Young) (levels levels_after : OnDisk) (due : Dues) (result : Result (Unit {0}) FlushFault) : Type 0 where
@@ -87,12 +82,9 @@ pub record Scans {B : Type 0} (bays : Bays B) (start : Dues) (bay bay_after : B)
       zero.from ≡ edge levels.settings 0 (length events) → AreYoung levels.settings events zero.from zero.bins →
       IfTold (bays.files bay) (λ seen. HoldsBins levels.settings events levels.rows (seen 2) → (at : ℕ) → result ≢ Err (Malformed at))
   pub malformed : IfTold (bays.files bay) (λ seen. (at : ℕ) → IsErrOf result (Malformed at) → OneBreaks levels.settings levels.rows (seen 2) at)
-  pub only_read : OnlyRead (bays.files bay) (bays.files bay_after) (bays.leaves bay) (bays.leaves bay_after) (bays.moment bay) (bays.moment bay_after) (bays.left_since bay) (bays.left_since bay_after)
-  pub failed : IsErrOf result FlushFailed → HasRisen (bays.faults bay) (bays.faults bay_after)
-  pub never_falls : bays.faults bay ≤ bays.faults bay_after
-  pub mark : bays.mark bay_after ≡ bays.mark bay
+  pub reads : OnlyReads bays bay bay_after (IsErrOf result FlushFailed)
 
--- A key is counted. Where the edge of level 0 stays the rows stay, and the frames that the rows named stay in any case. Where
+-- A key is counted. Where the edge of level 0 stays the rows stay, and no call of the bay is made; the frames that the rows named stay in any case. Where
 -- the files are told, and the frames and reports are those of the keys so far, they are so again, in every image too, and no
 -- frame is found malformed; that holds too where the frames hold the bins of some events, whatever these are.
 pub record CountsKey {B : Type 0} (bays : Bays B) (key : ℕ) (bay bay_after : B) (old new : Tallied) (result : Result (Unit {0}) TakeFault) : Type 0 where
@@ -101,6 +93,7 @@ pub record CountsKey {B : Type 0} (bays : Bays B) (key : ℕ) (bay bay_after : B
   pub counted : OnOk result (IsCounted new)
   pub grows : OnOk result (length old.due.reports ≤ length new.due.reports)
   pub still : edge old.listing.settings 0 (length old.listing.events + 1) ≡ edge old.listing.settings 0 (length old.listing.events) → OnOk result (new.rows ≡ old.rows)
+  pub unflushed : edge old.listing.settings 0 (length old.listing.events + 1) ≡ edge old.listing.settings 0 (length old.listing.events) → bay_after ≡ bay
   pub held : IfTold (bays.files bay) (λ seen. IsHeld old seen → OnOk result (IfTold (bays.files bay_after) (λ after. IsHeld new after)))
   pub sound : IfTold (bays.files bay) (λ seen. IsHeld old seen → (file at : ℕ) → result ≢ Err (Unsound file at))
   pub shows : IfTold (bays.files bay_after) (λ seen. (file at : ℕ) → IsErrOf result (Unsound file at) → Shows new.listing.settings new.rows new.due.reports (seen 2) file at)
@@ -111,9 +104,7 @@ pub record CountsKey {B : Type 0} (bays : Bays B) (key : ℕ) (bay bay_after : B
       OnOk result (IfTold (bays.files bay_after) (λ _. InEach (bays.leaves bay_after) 2 (HoldsBins new.listing.settings new.listing.events new.rows))))
   pub rest : KeepsRest (InNamed old.listing.settings old.rows) (bays.files bay) (bays.files bay_after) (bays.leaves bay) (bays.moment bay) (bays.moment bay_after) (bays.left_since bay)
       (bays.left_since bay_after)
-  pub failed : IsErrOf result Failed → HasRisen (bays.faults bay) (bays.faults bay_after)
-  pub never_falls : bays.faults bay ≤ bays.faults bay_after
-  pub mark : bays.mark bay_after ≡ bays.mark bay
+  pub kept : KeepsBay bays bay bay_after (IsErrOf result Failed)
 
 -- All levels are scanned, and the reports listed that are left. It writes nothing.
 pub record CountsEnd {B : Type 0} (bays : Bays B) (bay bay_after : B) (old new : Tallied) (result : Result (Unit {0}) TakeFault) : Type 0 where
@@ -126,7 +117,4 @@ pub record CountsEnd {B : Type 0} (bays : Bays B) (bay bay_after : B) (old new :
   pub held : IfTold (bays.files bay) (λ seen. IsHeld old seen → OnOk result (IsHeld new seen))
   pub sound : IfTold (bays.files bay) (λ seen. IsHeld old seen → (file at : ℕ) → result ≢ Err (Unsound file at))
   pub shows : IfTold (bays.files bay_after) (λ seen. (file at : ℕ) → IsErrOf result (Unsound file at) → Shows new.listing.settings new.rows new.due.reports (seen 2) file at)
-  pub only_read : OnlyRead (bays.files bay) (bays.files bay_after) (bays.leaves bay) (bays.leaves bay_after) (bays.moment bay) (bays.moment bay_after) (bays.left_since bay) (bays.left_since bay_after)
-  pub failed : IsErrOf result Failed → HasRisen (bays.faults bay) (bays.faults bay_after)
-  pub never_falls : bays.faults bay ≤ bays.faults bay_after
-  pub mark : bays.mark bay_after ≡ bays.mark bay
+  pub reads : OnlyReads bays bay bay_after (IsErrOf result Failed)

@@ -1,8 +1,9 @@
 -- A cone that is given the packets of its journal again, and what the record at a gate makes of it.
-use Rattle.std.specs.Prelude.{◌≡◌, ◌⊎◌, ℕ, ◌+◌, ◌≤◌, List, [], ◌∷◌, ◌++◌, length, Option, Some, None, Result, Ok, Err}
+use Rattle.std.specs.Prelude.{◌≡◌, ◌⊎◌, ℕ, ◌+◌, ◌≤◌, max, List, [], ◌∷◌, ◌++◌, length, Option, Some, None, Result, Ok, Err}
 use Rattle.lert_base.specs.Packet.{Packet}
 use Rattle.lert_bay.specs.Files.{Files, IfTold}
 use Rattle.lert_bay.specs.Images.{KeepsImages}
+use Rattle.lert_bay.specs.Kept.{Bays}
 use Rattle.lert_gatelog.specs.declared.fault.LogFault.{LogFault}
 use Rattle.lert_gatelog.specs.declared.fault.LogFault.TheVariants.{Failed as LogFailed, Malformed as LogMalformed}
 use Rattle.lert_gatelog.specs.Gated.{IsClosed, next_gate}
@@ -16,6 +17,7 @@ use Rattle.lert_cone.specs.declared.state.ConeState.{ConeState}
 use Rattle.lert_cone.specs.declared.state.ConeState.TheVariants.{BrokenByBay, BrokenByRead, BrokenByMemory, Replaying}
 use Rattle.lert_cone.specs.declared.tally.TakeFault.{TakeFault}
 use Rattle.lert_cone.specs.declared.tally.TakeFault.TheVariants.{Failed as TakeFailed, Unsound as TakeUnsound, OutOfMemory as TakeOutOfMemory}
+use Rattle.lert_cone.specs.Framed.{last_flush}
 use Rattle.lert_cone.specs.History.{most_payload}
 use Rattle.lert_cone.specs.Record.{LogPlace}
 use Rattle.lert_cone.specs.Replay.{IsOnWay, IsPast, MayFollow, ReplayLeavesAt}
@@ -70,6 +72,19 @@ pub record HasEnded {B : Type 0} (files : B → Option Files) (leaves : B → Fi
   pub seen : files new.bay ≡ files old.bay
   pub images : KeepsImages (leaves old.bay) (leaves new.bay)
   pub is : new ≡ record old { bay = new.bay; gate = gate }
+
+-- No flush comes with what stands at a gate of told files: behind the keys of a packet there the last flush position is n0 at
+-- most, or one of the keys so far.
+abbrev pub BringsNoFlush : {B : Type 0} → Standing B → List ℕ → ℕ → Type 0
+BringsNoFlush cone bytes gate = (packet : Packet) → HoldsNext cone bytes gate packet →
+    last_flush cone.listing.settings (length cone.listing.events + length packet.keys) ≤ max cone.last.n0 (length cone.listing.events)
+
+-- from one state of a bay to another the files are as they were, byte for byte, and so are the images, also at each moment
+-- between
+pub record IsUnwritten {B : Type 0} (bays : Bays B) (before after : B) : Type 0 where
+  pub seen : bays.files after ≡ bays.files before
+  pub images : KeepsImages (bays.leaves before) (bays.leaves after)
+  pub moments : (image : Files) → bays.left_since after (bays.moment before) image → bays.leaves before image
 
 -- a packet stands at a gate that the cone may take
 pub record IsThere {B : Type 0} (cone : Standing B) (bytes : List ℕ) (gate : ℕ) : Type 0 where

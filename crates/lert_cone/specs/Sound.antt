@@ -2,7 +2,8 @@
 use Rattle.std.specs.Prelude.{◌≡◌, ℕ, ◌-◌, ◌^◌, ◌<◌, ◌≤◌, Bool, true, List, [], ◌∷◌, ◌++◌, length, take, All, Option, Some, slice_index_or, if◌then◌else◌}
 use Rattle.std.proofs.Common.{◌⊎◌}
 use Rattle.lert_base.specs.Packet.{Packet, events_of}
-use Rattle.lert_bay.specs.Files.{Files}
+use Rattle.lert_bay.specs.Files.{Files, IfTold}
+use Rattle.lert_bay.specs.Kept.{Bays}
 use Rattle.lert_bay.specs.Settled.{part}
 use Rattle.lert_frames.specs.Frame.{HoldsFrame}
 use Rattle.lert_frames.specs.Place.{frame_place}
@@ -99,6 +100,12 @@ pub record IsKeptWhole (leaves : Files → Type 0) (seen : Files) (P : Files →
   pub kept : IsKept leaves seen P
   pub journal : IsWhollySettled leaves seen 0
   pub log : IsWhollySettled leaves seen 1
+
+-- from one state of a bay to another the files stay sound for a list: in each image of each moment between, and as the bay then
+-- reads them
+pub record StaysSound {B : Type 0} (bays : Bays B) (s : Numbers) (cone : ℕ) (history : List Packet) (before after : B) : Type 0 where
+  pub each_moment : (image : Files) → bays.left_since after (bays.moment before) image → IsSound s cone history image
+  pub as_read : IfTold (bays.files after) (IsSound s cone history)
 
 -- all three files are empty
 pub record AreEmpty (seen : Files) : Type 0 where

@@ -9,6 +9,7 @@ use Rattle.lert_gatelog.specs.Gated.{Log}
 use Rattle.lert_gatelog.specs.Kept.{IsWhollySettled}
 use Rattle.lert_io.specs.Fault.{HasRisen}
 use Rattle.lert_rows.specs.declared.bin_at.BinAt.{BinAt}
+use Rattle.lert_spec.specs.declared.numbers.Numbers.{Numbers}
 use Rattle.lert_spec.specs.declared.report.Report.{Report}
 use Rattle.lert_spec.specs.Edges.{capacity}
 use Rattle.lert_spec.specs.Limits.{IsValid}
@@ -94,9 +95,25 @@ pub record IsSameCone {B : Type 0} (old new : Standing B) : Type 0 where
   pub made : new.made ≡ old.made
   pub last : new.last ≡ old.last
 
--- when the cone was made, its files were sound for a list, where its bay told them
+-- What a cone shows of itself under a lock, and no packet changes: its settings, its number, whether it is finished, and its bay
+-- as it was when the cone was made. Whether that told its files, its count of faults and its mark are read off it
+pub record Terms (B : Type 0) : Type 0 where
+  pub settings : Numbers
+  pub cone : ℕ
+  pub finished : Bool
+  pub made : B
+
+abbrev pub terms_of : {B : Type 0} → Standing B → Terms B
+terms_of cone = record { settings = cone.listing.settings; cone = cone.listing.cone; finished = is_finished cone.state; made = cone.made }
+
+-- when a cone of these terms was made, its files were sound for a list, where its bay told them. There may be such a list or not,
+-- which is no value that a program can keep; so it is said of the terms
+abbrev pub WereSound : {B : Type 0} → (B → Option Files) → Terms B → Type 0
+WereSound files terms = IfTold (files terms.made) (λ first. (history : List Packet) × IsSound terms.settings terms.cone history first)
+
+-- so of a cone, by its terms
 abbrev pub WasSound : {B : Type 0} → (B → Option Files) → Standing B → Type 0
-WasSound files cone = IfTold (files cone.made) (λ first. (history : List Packet) × IsSound cone.listing.settings cone.listing.cone history first)
+WasSound files cone = WereSound files (terms_of cone)
 
 -- A cone that isn't broken stands for a list, where its bay tells its files. As a read gives them, and in every image, they
 -- are sound for it, with a closing record exactly where the cone is finished, and with the last record of a running one

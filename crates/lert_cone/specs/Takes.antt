@@ -1,17 +1,15 @@
 -- What keys, a packet, and the end make of a cone's counts, its log and its bay.
 use Rattle.std.specs.Prelude.{◌≡◌, ◌≢◌, ℕ, ◌+◌, ◌*◌, ◌^◌, ◌<◌, ◌≤◌, max, true, false, List, [], ◌∷◌, ◌++◌, All, length, Some, Result, Err, OnOk, IsErrOf}
 use Rattle.lert_base.specs.Packet.{Packet, events_of}
-use Rattle.lert_bay.specs.Kept.{Bays}
+use Rattle.lert_bay.specs.Kept.{Bays, KeepsBay}
 use Rattle.lert_bay.specs.Files.{Files, IfTold, Turns}
-use Rattle.lert_bay.specs.Images.{Lasts}
 use Rattle.lert_gatelog.specs.Gated.{Log, next_gate}
 use Rattle.lert_journal.specs.Payload.{IsJournaled, payload_of}
-use Rattle.lert_io.specs.Fault.{HasRisen}
 use Rattle.lert_spec.specs.Edges.{capacity}
 use Rattle.lert_spec.specs.Mix.{cone_of}
 use Rattle.lert_cone.specs.declared.tally.TakeFault.{TakeFault}
 use Rattle.lert_cone.specs.declared.tally.TakeFault.TheVariants.{Failed, Unsound}
-use Rattle.lert_cone.specs.Framed.{HoldsSome}
+use Rattle.lert_cone.specs.Framed.{HoldsSome, last_flush}
 use Rattle.lert_cone.specs.History.{most_payload}
 use Rattle.lert_cone.specs.InStep.{IsInStep, IsLogging, IsPartway}
 use Rattle.lert_cone.specs.Record.{LogPlace}
@@ -49,19 +47,17 @@ AreInStep bays at seen history = IsInStep (bays.leaves at.bay) seen history at.c
 abbrev pub IsWholeAt : {B : Type 0} → Bays B → Workplace B → Log → Files → List Packet → Type 0
 IsWholeAt bays at journal seen history = IsWhole (bays.leaves at.bay) seen at.counts.listing at.counts.rows at.counts.due.reports journal.gate at.log history
 
--- the journal stays as it is, no frame is found malformed but where it shows so, a failed call has its cause, and the bay is the same one
+-- the journal stays as it is, and no frame is found malformed but where it shows so
 pub record KeepsJournal {B : Type 0} (bays : Bays B) (old new : Workplace B) (result : Result (Unit {0}) TakeFault) : Type 0 where
   pub shows : IfTold (bays.files new.bay) (λ seen. (file at : ℕ) → IsErrOf result (Unsound file at) →
       Shows new.counts.listing.settings new.counts.rows new.counts.due.reports (seen 2) file at)
   pub journal : LeavesAlone bays 0 old.bay new.bay
   pub most : new.log.most ≡ old.log.most
-  pub failed : IsErrOf result Failed → HasRisen (bays.faults old.bay) (bays.faults new.bay)
-  pub never_falls : bays.faults old.bay ≤ bays.faults new.bay
-  pub mark : bays.mark new.bay ≡ bays.mark old.bay
+  pub kept : KeepsBay bays old.bay new.bay (IsErrOf result Failed)
 
 -- Keys are taken. Where the bay tells its files, and these went together with memory, they do so again, and they are sound in
 -- each image of each moment; no frame is found malformed then, nor where the frames hold the bins of some events, whatever
--- these are, as they do again.
+-- these are, as they do again. Where no flush position lies among the keys no call of the bay is made.
 pub record TakesKeys {B : Type 0} (bays : Bays B) (keys : List ℕ) (old new : Workplace B) (result : Result (Unit {0}) TakeFault) : Type 0 where
   pub listing : new.counts.listing ≡ record old.counts.listing { events = new.counts.listing.events }
   pub taken : OnOk result (new.counts.listing.events ≡ old.counts.listing.events ++ keys)
@@ -75,6 +71,7 @@ pub record TakesKeys {B : Type 0} (bays : Bays B) (keys : List ℕ) (old new : W
   pub framed : IfTold (bays.files old.bay) (λ seen. HoldsSome old.counts.listing.settings (length old.counts.listing.events) old.counts.rows (seen 2) →
       OnOk result (IfTold (bays.files new.bay) (λ after. HoldsSome new.counts.listing.settings (length new.counts.listing.events) new.counts.rows (after 2))))
   pub whole : IfTold (bays.files old.bay) (λ seen. HoldsSome old.counts.listing.settings (length old.counts.listing.events) old.counts.rows (seen 2) → (at : ℕ) → result ≢ Err (Unsound 2 at))
+  pub unflushed : last_flush old.counts.listing.settings (length old.counts.listing.events + length keys) ≤ length old.counts.listing.events → new.bay ≡ old.bay
   pub keeps : KeepsJournal bays old new result
 
 -- a packet may be taken: the journal may hold it, its gate is closed in every image, and its keys may be taken
@@ -111,10 +108,7 @@ pub record TakesPacket {B : Type 0} (bays : Bays B) (packet : Packet) (old new :
       Shows new.counts.listing.settings new.counts.rows new.counts.due.reports (seen 2) file at)
   pub seen : Turns Anything (bays.files old.bay) (bays.files new.bay)
   pub now : (image : Files) → bays.leaves new.bay image → bays.left_since new.bay (bays.moment old.bay) image
-  pub time : Lasts (bays.moment old.bay) (bays.moment new.bay) (bays.left_since old.bay) (bays.left_since new.bay)
-  pub failed : IsErrOf result Failed → HasRisen (bays.faults old.bay) (bays.faults new.bay)
-  pub never_falls : bays.faults old.bay ≤ bays.faults new.bay
-  pub mark : bays.mark new.bay ≡ bays.mark old.bay
+  pub kept : KeepsBay bays old.bay new.bay (IsErrOf result Failed)
 
 -- these keys of a journal may be taken again, of which those up to n0, the place of the log's last record, are counted again
 pub record CanReplay {B : Type 0} (bays : Bays B) (n0 : ℕ) (keys : List ℕ) (at : Workplace B) : Type 0 where
@@ -125,7 +119,9 @@ pub record CanReplay {B : Type 0} (bays : Bays B) (n0 : ℕ) (keys : List ℕ) (
   pub can_log : CanLog bays at
 
 -- They are taken. Where the bay tells its files, and these and memory were on their way through a journal that has these keys
--- next, they are so behind them, and no frame is found malformed; nor is one where the frames hold the bins of some events.
+-- next, they are so behind them, the files are sound for its packets in each image of each moment, and no frame is found
+-- malformed; nor is one where the frames hold the bins of some events. Where no flush position behind n0 lies among the keys
+-- no call of the bay is made.
 pub record ReplaysKeys {B : Type 0} (bays : Bays B) (n0 : ℕ) (keys : List ℕ) (old new : Workplace B) (result : Result (Unit {0}) TakeFault) : Type 0 where
   pub listing : new.counts.listing ≡ record old.counts.listing { events = new.counts.listing.events }
   pub taken : OnOk result (new.counts.listing.events ≡ old.counts.listing.events ++ keys)
@@ -136,6 +132,10 @@ pub record ReplaysKeys {B : Type 0} (bays : Bays B) (n0 : ℕ) (keys : List ℕ)
       OnOk result (IfTold (bays.files new.bay) (λ after. IsOnWay (bays.leaves new.bay) after history new.counts.listing new.counts.rows new.counts.due.reports new.log n0)))
   pub sound : IfTold (bays.files old.bay) (λ seen. (history : List Packet) (rest : List ℕ) → events_of history ≡ old.counts.listing.events ++ (keys ++ rest) →
       IsOnWay (bays.leaves old.bay) seen history old.counts.listing old.counts.rows old.counts.due.reports old.log n0 → (file at : ℕ) → result ≢ Err (Unsound file at))
+  pub each_moment : IfTold (bays.files old.bay) (λ seen. (history : List Packet) (rest : List ℕ) → events_of history ≡ old.counts.listing.events ++ (keys ++ rest) →
+      IsOnWay (bays.leaves old.bay) seen history old.counts.listing old.counts.rows old.counts.due.reports old.log n0 →
+      (image : Files) → bays.left_since new.bay (bays.moment old.bay) image → IsSound old.counts.listing.settings old.counts.listing.cone history image)
+  pub unflushed : last_flush old.counts.listing.settings (length old.counts.listing.events + length keys) ≤ max n0 (length old.counts.listing.events) → new.bay ≡ old.bay
   pub framed : IfTold (bays.files old.bay) (λ seen. HoldsSome old.counts.listing.settings (max n0 (length old.counts.listing.events)) old.counts.rows (seen 2) →
       OnOk result (IfTold (bays.files new.bay) (λ after. HoldsSome new.counts.listing.settings (max n0 (length new.counts.listing.events)) new.counts.rows (after 2))))
   pub whole : IfTold (bays.files old.bay) (λ seen. HoldsSome old.counts.listing.settings (max n0 (length old.counts.listing.events)) old.counts.rows (seen 2) → (at : ℕ) → result ≢ Err (Unsound 2 at))

@@ -37,6 +37,9 @@ use std::snapshot::Snapshot;
 
 mod end;
 mod replay;
+mod terms;
+
+pub use terms::ConeTerms;
 
 /// A cone that acknowledges a packet only when its record is on the disk.
 ///

@@ -1,8 +1,9 @@
 //! The first bytes of a cone's files.
 
-ghost use Rattle.std.specs.Prelude.{◌≡◌, ◌↔◌, ◌<◌, ◌≤◌, ◌^◌, [], IsTrue, IfOk, OnOk, OnErr};
+ghost use Rattle.std.specs.Prelude.{◌≡◌, ◌↔◌, ◌<◌, ◌≤◌, ◌^◌, [], IsTrue, IfOk, OnOk, OnErr, IsErr};
 ghost use Rattle.lert_bay.specs.Files.{Files, IfTold, Turns};
 ghost use Rattle.lert_bay.specs.Images.{KeepsImages, Lasts};
+ghost use Rattle.lert_bay.specs.Kept.{KeepsBay};
 ghost use Rattle.lert_io.specs.Fault.{HasCause};
 ghost use Rattle.lert_cone.specs.History.{most_payload};
 ghost use Rattle.lert_reports.specs.Log.{most_record};
@@ -63,9 +64,7 @@ pub fn write_headers<B: Bay>(
     ensures log { IfOk result (λ logs. logs.1 ≡ record { gate = 8; most = most_record settings.now; named = 0 }) }
     ensures begun { OnOk result (IfTold (B.files bay.new) (λ seen. AreNew settings.now cone (B.leaves bay.new) seen)) }
     ensures frames { Turns FramesStay (B.files bay.old) (B.files bay.new) }
-    ensures time { Lasts (B.moment bay.old) (B.moment bay.new) (B.left_since bay.old) (B.left_since bay.new) }
-    ensures cause { HasCause (B.faults bay.old) (B.faults bay.new) result }
-    ensures mark { B.mark bay.new ≡ B.mark bay.old }
+    ensures kept { KeepsBay B.Bay bay.old bay.new (IsErr result) }
 {
     let mut header = [0; HEADER_LEN];
     write_header(settings, cone, &mut header);

@@ -22,7 +22,7 @@ mod state;
 mod tally;
 
 pub use acked::Acked;
-pub use cone::Cone;
+pub use cone::{Cone, ConeTerms};
 pub use headers::is_fresh;
 pub use lert_reports::{LogPoint, greatest_record};
 pub use refusal::{ConeFault, CreateFault, CreateRefused, ReplayFault};

@@ -4,7 +4,6 @@ ghost use Rattle.std.specs.Prelude.{◌≡◌, ℕ, ◌+◌, ◌*◌, ◌<◌, �
 ghost use Rattle.lert_base.specs.Entries.{packet_of};
 ghost use Rattle.lert_bay.specs.Files.{Files, IfTold};
 ghost use Rattle.lert_gatelog.specs.Gated.{IsClosed, next_gate};
-ghost use Rattle.lert_io.specs.Fault.{HasRisen};
 ghost use Rattle.lert_journal.specs.Journal.{HoldsPacket};
 ghost use Rattle.lert_journal.specs.Payload.{IsJournaled, payload_of};
 ghost use Rattle.lert_spec.specs.Edges.{capacity};
@@ -56,8 +55,7 @@ pub fn read_packet<B: Bay, T: CountTable>(
     ensures forward { IfOk result (λ found. IsTrue found →
         (journal.old.gate < journal.new.gate) × (journal.new.gate ≤ journal.old.gate + 13 + 32 * tally.now.listing.settings.packet)) }
     ensures waits { IfOk result (λ found. IsFalse found → (journal.new ≡ journal.old) × (entry.new ≡ entry.old)) }
-    ensures failed { IsErrOf result LogFault.Failed → HasRisen (B.faults bay.old) (B.faults bay.new) }
-    ensures keeps { OnlyReadsJournal B.Bay bay.old bay.new journal.old journal.new entry.old.keys.room entry.new.keys.room }
+    ensures keeps { OnlyReadsJournal B.Bay bay.old bay.new journal.old journal.new entry.old.keys.room entry.new.keys.room (IsErrOf result LogFault.Failed) }
 {
     let settings = tally.settings();
     let capacity = settings.capacity();

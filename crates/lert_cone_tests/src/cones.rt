@@ -6,7 +6,7 @@ ghost use Rattle.lert_journal.specs.Payload.{IsJournaled};
 
 use lert_base::{Entry, KeyList, Numbers, Settings};
 use lert_bay::Bay;
-use lert_cone::{Cone, ConeRoom};
+use lert_cone::{Acked, Cone, ConeFault, ConeRoom, CreateFault, CreateRefused};
 use lert_mixer::cone_of;
 use lert_plain::PlainTable;
 use std::alloc::{AllocError, Global};
@@ -68,6 +68,43 @@ where
     )
 }
 
+// Why a cone isn't made over a bay, with what was handed in: the packet size of the room's settings, and the bay.
+pub fn refusal<B: Bay>(
+    alloc: Global,
+    settings: &Settings,
+    bay: B,
+) -> Result<(CreateFault, u64, B), Fail>
+where
+    B: Drop,
+{
+    let room = ConeRoom::<PlainTable>::new(alloc, settings)?;
+    let Err(refused) = Cone::create(room, 0, bay) else {
+        return Err(Fail::new("the cone is made"));
+    };
+    let CreateRefused { fault, bay, room } = refused;
+    Ok((fault, room.settings.numbers().packet, bay))
+}
+
+// Gives these keys to the only cone in one packet, and tells what it answers.
+pub fn give<B: Bay>(
+    rt: &impl Abort,
+    alloc: Global,
+    settings: &Settings,
+    cone: &mut Cone<B, PlainTable>,
+    keys: &[u64],
+) -> Result<Result<Acked, ConeFault>, Fail>
+    requires some { 0 < length keys.now }
+    requires few { length keys.now ≤ 32 }
+    requires eight { settings.now.packet ≡ 8 }
+    requires settings { cone.old.listing.settings ≡ settings.now }
+    requires cone { cone.old.listing.cone ≡ 0 }
+    ensures settings { cone.new.listing.settings ≡ settings.now }
+    ensures cone { cone.new.listing.cone ≡ 0 }
+{
+    let packet = entry(rt, alloc, settings, keys)?;
+    Ok(cone.admit(&packet))
+}
+
 // Gives each key to the only cone in a packet of its own, which it takes.
 pub fn give_all<B: Bay>(
     rt: &impl Abort,
@@ -83,10 +120,18 @@ pub fn give_all<B: Bay>(
     ensures cone { cone.new.listing.cone ≡ 0 }
 {
     for key in keys {
-        let packet = entry(rt, alloc, settings, &[*key])?;
-        assert!(rt; cone.admit(&packet).is_ok());
+        let answer = give(rt, alloc, settings, cone, &[*key])?;
+        assert!(rt; answer.is_ok());
     }
     Ok(())
+}
+
+// Ends the cone. Its callers want no more than these clauses, and their proofs are short so.
+pub fn end<B: Bay>(cone: &mut Cone<B, PlainTable>) -> Result<u64, ConeFault>
+    ensures settings { cone.new.listing.settings ≡ cone.old.listing.settings }
+    ensures cone { cone.new.listing.cone ≡ cone.old.listing.cone }
+{
+    cone.finish()
 }
 
 // Keys 1 to `last` of which those at these positions are 7, and each other is a key of its own.

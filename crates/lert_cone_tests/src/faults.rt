@@ -1,29 +1,85 @@
 //! What failed calls and a frame that leaves its format make of a cone.
 
-use crate::cones::{created, entry, give_all, sevens_at, small};
+ghost use Rattle.std.specs.Prelude.{◌≡◌, ◌<◌, ◌≤◌, length};
+
+use crate::cones::{created, end, give, give_all, refusal, sevens_at, small};
 use crate::files::JOURNAL_TEXT;
 use crate::garbled::GarbledBay;
-use lert_bay::{FRAMES, JOURNAL, MemBay};
-use lert_cone::{Cone, ConeFault, ConeRoom, ConeState, CreateFault};
+use lert_base::Settings;
+use lert_bay::{Bay, FRAMES, JOURNAL, MemBay};
+use lert_cone::{Cone, ConeFault, ConeState, CreateFault};
 use lert_plain::PlainTable;
+use std::alloc::Global;
+use std::process::Abort;
 use std::test::Fail;
+
+// A bay in memory with a call that fails.
+fn failing(alloc: Global, call: u64) -> Result<MemBay, Fail> {
+    let mut bay = MemBay::new(alloc)?;
+    bay.fail_at(call);
+    Ok(bay)
+}
+
+// A cone over this bay takes each of these keys, and breaks at the last packet. Answers the bay that it leaves.
+fn broken<B: Bay>(
+    rt: &impl Abort,
+    alloc: Global,
+    bay: B,
+    keys: &[u64],
+    last: &[u64],
+    fault: ConeFault,
+    state: ConeState,
+) -> Result<B, Fail>
+where
+    B: Drop,
+    requires some { 0 < length last.now }
+    requires few { length last.now ≤ 32 }
+{
+    let settings = small(32)?;
+    let mut cone = created(alloc, &settings, bay)?;
+    // The cone is lent, and gone before the answer is looked at, so that no exit has to let it go.
+    let checked = check_broken(rt, alloc, &settings, &mut cone, keys, last, fault, state);
+    let bay = cone.into_bay();
+    checked?;
+    Ok(bay)
+}
+
+fn check_broken<B: Bay>(
+    rt: &impl Abort,
+    alloc: Global,
+    settings: &Settings,
+    cone: &mut Cone<B, PlainTable>,
+    keys: &[u64],
+    last: &[u64],
+    fault: ConeFault,
+    state: ConeState,
+) -> Result<(), Fail>
+    requires some { 0 < length last.now }
+    requires few { length last.now ≤ 32 }
+    requires eight { settings.now.packet ≡ 8 }
+    requires settings { cone.old.listing.settings ≡ settings.now }
+    requires cone { cone.old.listing.cone ≡ 0 }
+{
+    give_all(rt, alloc, settings, cone, keys)?;
+    let first = give(rt, alloc, settings, cone, last)?;
+    let second = give(rt, alloc, settings, cone, last)?;
+    assert_eq!(rt; [first, second], [Err(fault), Err(ConeFault::Broken)]);
+    assert_eq!(rt; end(cone), Err(ConeFault::Broken));
+    assert_eq!(rt; cone.state(), state);
+    assert_eq!(rt; cone.events(), keys.len() as u64);
+    Ok(())
+}
 
 #[test]
 fn a_failed_call_breaks_the_cone(rt: HostRuntime) -> Result<(), Fail> {
-    let settings = small(32)?;
-    let sevens = entry(&rt, rt.alloc(), &settings, &[7, 7, 7])?;
     for (call, gate) in [(8, 0), (9, 0), (10, 0), (11, 1)] {
-        let mut bay = MemBay::new(rt.alloc())?;
-        bay.fail_at(call);
-        let mut cone = created(rt.alloc(), &settings, bay)?;
-        assert_eq!(rt; cone.admit(&sevens), Err(ConeFault::BayFailed));
-        assert_eq!(rt; cone.state(), ConeState::BrokenByBay);
-        assert_eq!(rt; cone.admit(&sevens), Err(ConeFault::Broken));
-        assert_eq!(rt; cone.finish(), Err(ConeFault::Broken));
-        assert_eq!(rt; cone.events(), 0);
-        let bay = cone.into_bay();
-        assert!(rt; bay.bytes(JOURNAL).starts_with(&JOURNAL_TEXT[..32]));
-        assert_eq!(rt; bay.bytes(JOURNAL).get(32).copied(), Some(gate));
+        let bay = failing(rt.alloc(), call)?;
+        let fault = ConeFault::BayFailed;
+        let state = ConeState::BrokenByBay;
+        let bay = broken(&rt, rt.alloc(), bay, &[], &[7, 7, 7], fault, state)?;
+        let journal = bay.bytes(JOURNAL);
+        assert!(rt; journal.starts_with(&JOURNAL_TEXT[..32]));
+        assert_eq!(rt; journal.get(32).copied(), Some(gate));
     }
     Ok(())
 }
@@ -32,43 +88,32 @@ fn a_failed_call_breaks_the_cone(rt: HostRuntime) -> Result<(), Fail> {
 fn a_failed_flush_or_record_breaks_the_cone_and_leaves_the_packet(
     rt: HostRuntime,
 ) -> Result<(), Fail> {
-    let settings = small(32)?;
     let keys = sevens_at(rt.alloc(), 11, &[])?;
-    let last = entry(&rt, rt.alloc(), &settings, &[7])?;
     // Seven calls make the cone, and four append each packet. Behind them stand those of the first flush, and then the
     // four that append its record.
     for call in [56, 57, 58, 59, 60, 61, 62] {
-        let mut bay = MemBay::new(rt.alloc())?;
-        bay.fail_at(call);
-        let mut cone = created(rt.alloc(), &settings, bay)?;
-        give_all(&rt, rt.alloc(), &settings, &mut cone, &keys)?;
-        assert_eq!(rt; cone.admit(&last), Err(ConeFault::BayFailed));
-        assert_eq!(rt; cone.state(), ConeState::BrokenByBay);
-        assert_eq!(rt; cone.events(), 11);
-        assert_eq!(rt; cone.into_bay().bytes(JOURNAL).len(), 33 + 12 * 21);
+        let bay = failing(rt.alloc(), call)?;
+        let fault = ConeFault::BayFailed;
+        let state = ConeState::BrokenByBay;
+        let bay = broken(&rt, rt.alloc(), bay, &keys, &[7], fault, state)?;
+        assert_eq!(rt; bay.bytes(JOURNAL).len(), 33 + 12 * 21);
     }
     Ok(())
 }
 
 #[test]
 fn a_frame_that_leaves_its_format_breaks_the_cone(rt: HostRuntime) -> Result<(), Fail> {
-    let settings = small(32)?;
     let keys = sevens_at(rt.alloc(), 15, &[])?;
-    let last = entry(&rt, rt.alloc(), &settings, &[7])?;
     let bay = GarbledBay::new(MemBay::new(rt.alloc())?);
-    let mut cone = created(rt.alloc(), &settings, bay)?;
-    give_all(&rt, rt.alloc(), &settings, &mut cone, &keys)?;
-    let unsound = ConeFault::Unsound {
+    let fault = ConeFault::Unsound {
         file: FRAMES,
         at: 0,
     };
-    assert_eq!(rt; cone.admit(&last), Err(unsound));
-    let broken = ConeState::BrokenByRead {
+    let state = ConeState::BrokenByRead {
         file: FRAMES,
         at: 0,
     };
-    assert_eq!(rt; cone.state(), broken);
-    assert_eq!(rt; cone.admit(&last), Err(ConeFault::Broken));
+    let _bay = broken(&rt, rt.alloc(), bay, &keys, &[7], fault, state)?;
     Ok(())
 }
 
@@ -76,14 +121,10 @@ fn a_frame_that_leaves_its_format_breaks_the_cone(rt: HostRuntime) -> Result<(),
 fn a_cone_is_not_made_where_a_call_fails(rt: HostRuntime) -> Result<(), Fail> {
     let settings = small(32)?;
     for call in 1..8 {
-        let mut bay = MemBay::new(rt.alloc())?;
-        bay.fail_at(call);
-        let room = ConeRoom::<PlainTable>::new(rt.alloc(), &settings)?;
-        let Err(refused) = Cone::create(room, 0, bay) else {
-            return Err(Fail::new("a call failed"));
-        };
-        assert_eq!(rt; refused.fault, CreateFault::Failed);
-        assert_eq!(rt; refused.room.settings.numbers().packet, 8);
+        let bay = failing(rt.alloc(), call)?;
+        let (fault, packet, _bay) = refusal(rt.alloc(), &settings, bay)?;
+        assert_eq!(rt; fault, CreateFault::Failed);
+        assert_eq!(rt; packet, 8);
     }
     Ok(())
 }

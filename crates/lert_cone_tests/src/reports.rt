@@ -1,29 +1,70 @@
 //! When keys are reported, and how a cone fills.
 
-use crate::cones::{created, entry, give_all, sevens_at, small};
-use lert_base::Report;
-use lert_bay::MemBay;
-use lert_cone::{ConeFault, ConeState};
+ghost use Rattle.std.specs.Prelude.{◌≡◌};
+
+use crate::cones::{created, end, give, give_all, sevens_at, small};
+use lert_base::{Report, Settings};
+use lert_bay::{Bay, MemBay};
+use lert_cone::{Cone, ConeFault, ConeState};
+use lert_plain::PlainTable;
+use std::alloc::Global;
+use std::process::Abort;
 use std::test::Fail;
+
+// A cone over this bay takes these keys, one a packet. It has the first reports then, and the others behind its end.
+fn reported<B: Bay>(
+    rt: &impl Abort,
+    alloc: Global,
+    bay: B,
+    keys: &[u64],
+    early: &[Report],
+    closing: &[Report],
+) -> Result<(), Fail>
+where
+    B: Drop,
+{
+    let settings = small(32)?;
+    let mut cone = created(alloc, &settings, bay)?;
+    let checked = check_reports(rt, alloc, &settings, &mut cone, keys, early, closing);
+    let _bay = cone.into_bay();
+    checked
+}
+
+fn check_reports<B: Bay>(
+    rt: &impl Abort,
+    alloc: Global,
+    settings: &Settings,
+    cone: &mut Cone<B, PlainTable>,
+    keys: &[u64],
+    early: &[Report],
+    closing: &[Report],
+) -> Result<(), Fail>
+    requires eight { settings.now.packet ≡ 8 }
+    requires settings { cone.old.listing.settings ≡ settings.now }
+    requires cone { cone.old.listing.cone ≡ 0 }
+{
+    give_all(rt, alloc, settings, cone, keys)?;
+    assert_eq!(rt; cone.reports().list(), early);
+    assert_eq!(rt; end(cone), Ok(closing.len() as u64));
+    assert_eq!(rt; cone.reports().list(), closing);
+    Ok(())
+}
 
 #[test]
 fn a_key_is_reported_at_the_first_flush_whose_window_holds_it(rt: HostRuntime) -> Result<(), Fail> {
-    let rows: [(u64, &[u64], u64, usize); 5] = [
-        (16, &[1, 2, 13], 16, 1),
-        (16, &[1, 2, 16], 16, 1),
-        (40, &[1, 2, 33], 40, 1),
-        (35, &[1, 33, 34, 35], 35, 1),
-        (34, &[1, 2, 33], 34, 0),
+    let rows: [(u64, &[u64], u64, &[Report]); 5] = [
+        (16, &[1, 2, 13], 16, &[Report { key: 7, at: 16 }]),
+        (16, &[1, 2, 16], 16, &[Report { key: 7, at: 16 }]),
+        (40, &[1, 2, 33], 40, &[Report { key: 7, at: 40 }]),
+        (35, &[1, 33, 34, 35], 35, &[Report { key: 7, at: 35 }]),
+        (34, &[1, 2, 33], 34, &[]),
     ];
     for (last, places, at, early) in rows {
         assert!(rt; last < 1_000);
-        let settings = small(32)?;
         let keys = sevens_at(rt.alloc(), last, places)?;
-        let mut cone = created(rt.alloc(), &settings, MemBay::new(rt.alloc())?)?;
-        give_all(&rt, rt.alloc(), &settings, &mut cone, &keys)?;
-        assert_eq!(rt; cone.reports().len(), early);
-        assert_eq!(rt; cone.finish(), Ok(1));
-        assert_eq!(rt; cone.reports().list(), [Report { key: 7, at }].as_slice());
+        let bay = MemBay::new(rt.alloc())?;
+        let closing = [Report { key: 7, at }];
+        reported(&rt, rt.alloc(), bay, &keys, early, &closing)?;
     }
     Ok(())
 }
@@ -34,27 +75,56 @@ fn reports_of_one_flush_stand_in_the_order_of_mixed_values(rt: HostRuntime) -> R
     let keys = [
         1, 1, M, M, 1_001, 1_002, 1_003, 1_004, 1_005, 1_006, 1_007, 1_008, 1, M, 1_009, 1_010,
     ];
-    let settings = small(32)?;
-    let mut cone = created(rt.alloc(), &settings, MemBay::new(rt.alloc())?)?;
-    give_all(&rt, rt.alloc(), &settings, &mut cone, &keys)?;
+    let bay = MemBay::new(rt.alloc())?;
     let reports = [Report { key: M, at: 16 }, Report { key: 1, at: 16 }];
-    assert_eq!(rt; cone.reports().list(), reports.as_slice());
+    reported(&rt, rt.alloc(), bay, &keys, &reports, &reports)
+}
+
+// A cone over this bay, with a room of so many reports, takes so many keys, one a packet, and no more.
+fn filled<B: Bay>(
+    rt: &impl Abort,
+    alloc: Global,
+    bay: B,
+    room: u64,
+    keys: &[u64],
+) -> Result<(), Fail>
+where
+    B: Drop,
+{
+    let settings = small(room)?;
+    let mut cone = created(alloc, &settings, bay)?;
+    let checked = check_full(rt, alloc, &settings, &mut cone, keys);
+    let _bay = cone.into_bay();
+    checked
+}
+
+fn check_full<B: Bay>(
+    rt: &impl Abort,
+    alloc: Global,
+    settings: &Settings,
+    cone: &mut Cone<B, PlainTable>,
+    keys: &[u64],
+) -> Result<(), Fail>
+    requires eight { settings.now.packet ≡ 8 }
+    requires settings { cone.old.listing.settings ≡ settings.now }
+    requires cone { cone.old.listing.cone ≡ 0 }
+{
+    let n = keys.len() as u64;
+    give_all(rt, alloc, settings, cone, keys)?;
+    let answer = give(rt, alloc, settings, cone, &[901])?;
+    assert_eq!(rt; answer, Err(ConeFault::CapacityFull { n, len: 1 }));
+    assert_eq!(rt; cone.state(), ConeState::Running);
+    assert_eq!(rt; cone.reports().len(), 0);
+    assert_eq!(rt; cone.events(), n);
     Ok(())
 }
 
 #[test]
 fn a_full_cone_refuses_the_next_packet(rt: HostRuntime) -> Result<(), Fail> {
     for (room, most) in [(32, 71), (16, 48)] {
-        let settings = small(room)?;
-        let mut cone = created(rt.alloc(), &settings, MemBay::new(rt.alloc())?)?;
         let keys = sevens_at(rt.alloc(), most, &[])?;
-        give_all(&rt, rt.alloc(), &settings, &mut cone, &keys)?;
-        let last = entry(&rt, rt.alloc(), &settings, &[901])?;
-        let full = ConeFault::CapacityFull { n: most, len: 1 };
-        assert_eq!(rt; cone.admit(&last), Err(full));
-        assert_eq!(rt; cone.state(), ConeState::Running);
-        assert_eq!(rt; cone.reports().len(), 0);
-        assert_eq!(rt; cone.events(), most);
+        let bay = MemBay::new(rt.alloc())?;
+        filled(&rt, rt.alloc(), bay, room, &keys)?;
     }
     Ok(())
 }

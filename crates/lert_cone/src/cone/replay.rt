@@ -11,12 +11,12 @@ ghost use Rattle.lert_reports.specs.Log.{HasLog, most_record};
 ghost use Rattle.lert_reports.specs.LogText.{LogRecord};
 ghost use Rattle.lert_cone.specs.Framed.{HoldsSome};
 ghost use Rattle.lert_cone.specs.Replay.{IsLastOf};
-ghost use Rattle.lert_cone.specs.Replays.{HasEnded, HasTaken, LeavesBehind, GoesOn, Replays, WhyRefused, broken_after};
+ghost use Rattle.lert_cone.specs.Replays.{BringsNoFlush, HasEnded, HasTaken, IsUnwritten, LeavesBehind, GoesOn, Replays, WhyRefused, broken_after};
 ghost use Rattle.lert_cone.specs.Room.{IsPointOf, IsRestored};
-ghost use Rattle.lert_cone.specs.Sound.{IsSound};
+ghost use Rattle.lert_cone.specs.Sound.{IsSound, StaysSound};
 ghost use Rattle.lert_cone.specs.Stands.{IsSameCone, StandsFor, WasSound};
 ghost use Rattle.lert_cone.specs.Tally.{Shows};
-ghost use Rattle.lert_cone.specs.Wrote.{IsShutIfTold, LeavesFile};
+ghost use Rattle.lert_cone.specs.Wrote.{IsShutIfTold, LeavesAlone};
 
 use crate::cone::{Cone, broken_by};
 use crate::headers::greatest_payload;
@@ -119,6 +119,12 @@ impl<B: Bay, T: CountTable> Cone<B, T> {
         ensures replays { IfTold (B.files self.old.bay) (λ _. (h done : List Packet) → Replays B.files B.leaves self.old h done → gate ≡ self.old.gate →
             GoesOn B.files B.leaves self.new h done result) }
 
+        // Whatever it answers, the files stay sound for that list, at each moment of the call and as the bay then reads them; and
+        // they are as they were where no packet stands at the gate that brings a flush, also where it refuses.
+        ensures stays_sound { IfTold (B.files self.old.bay) (λ _. (h done : List Packet) → Replays B.files B.leaves self.old h done → gate ≡ self.old.gate →
+            StaysSound B.Bay self.old.listing.settings self.old.listing.cone h self.old.bay self.new.bay) }
+        ensures unflushed { IfTold (B.files self.old.bay) (λ seen. BringsNoFlush self.old (seen 0) gate → IsUnwritten B.Bay self.old.bay self.new.bay) }
+
         // Where the frames hold the bins of some events, whatever these are, they do so again, and none is found malformed.
         ensures framed { IfTold (B.files self.old.bay) (λ seen. HoldsSome self.old.listing.settings (max self.old.last.n0 (length self.old.listing.events)) self.old.rows (seen 2) →
             OnOk result (IfTold (B.files self.new.bay) (λ after. HoldsSome self.new.listing.settings (max self.new.last.n0 (length self.new.listing.events)) self.new.rows (after 2)))) }
@@ -130,7 +136,7 @@ impl<B: Bay, T: CountTable> Cone<B, T> {
             IfTold (B.files self.new.bay) (λ seen. Shows self.new.listing.settings self.new.rows self.new.reports (seen 2) file at) }
         ensures failed { IsErrOf result ReplayFault.Failed → HasRisen (B.faults self.old.bay) (B.faults self.new.bay) }
         ensures same_cone { IsSameCone self.old self.new }
-        ensures journal { LeavesFile 0 (B.files self.old.bay) (B.files self.new.bay) (B.leaves self.old.bay) (B.leaves self.new.bay) (B.moment self.old.bay) (B.moment self.new.bay) (B.left_since self.old.bay) (B.left_since self.new.bay) }
+        ensures journal { LeavesAlone B.Bay 0 self.old.bay self.new.bay }
         ensures never_falls { B.faults self.old.bay ≤ B.faults self.new.bay }
         ensures mark { B.mark self.new.bay ≡ B.mark self.old.bay }
     {

@@ -1,14 +1,22 @@
 use Rattle.std.proofs.Common.{◌∙◌, ◌++◌, ◌∷◌, [], ap, refl}
-use Rattle.lert_bay.proofs.Lasting.{lasts_on}
+use Rattle.std.proofs.lemmas.Bool.{false≢true}
+use Rattle.lert_bay.specs.Kept.{Bays}
+use Rattle.lert_bay.proofs.KeptLaws.{IsLawful, keeps_as, keeps_on}
 use Rattle.lert_gatelog.specs.Kept.{OthersStay}
 use Rattle.lert_cone.proofs.SoundLaws.{turns_back, begun_new}
+use Rattle.lert_cone.proofs.headers.write_headers.Given as given
 use Rattle.lert_cone.proofs.headers.write_headers.Goals as goal
 
-pub returns-clause-time : goal.returns-clause-time
-returns-clause-time g c =
-    lasts_on (g.B.Bay.moment c.args.bay.now) (g.B.Bay.moment c.create.new.bay) (g.B.Bay.moment c.create-2.new.bay) (g.B.Bay.left_since c.args.bay.now) (g.B.Bay.left_since c.create.new.bay)
-    (g.B.Bay.left_since c.create-2.new.bay)
-    c.create.ensures.time c.create-2.ensures.time (g.met.B.Bay.since_earlier c.create-2.new.bay)
+abbrev bays : (g : given.Over) → Bays g.row.B.Denot
+bays g = record { faults = g.B.Faulty.faults; mark = g.B.Faulty.mark; files = g.B.Bay.files; leaves = g.B.Bay.leaves; moment = g.B.Bay.moment; left_since = g.B.Bay.left_since }
+
+lawful : (g : given.Over) → IsLawful (bays g)
+lawful g = record { as_read = g.met.B.Bay.as_read; since_now = g.met.B.Bay.since_now; only_now = g.met.B.Bay.only_now; since_earlier = g.met.B.Bay.since_earlier }
+
+pub returns-clause-kept : goal.returns-clause-kept
+returns-clause-kept g c =
+    keeps_as (bays g) (lawful g) c.args.bay.now c.create-2.new.bay _ _ (λ never. absurd (false≢true never))
+    (keeps_on (bays g) (lawful g) c.args.bay.now c.create.new.bay c.create-2.new.bay _ _ c.create.ensures.kept c.create-2.ensures.kept)
 
 pub returns-clause-begun : goal.returns-clause-begun
 returns-clause-begun g c = λ seen told.
@@ -21,7 +29,7 @@ returns-clause-begun g c = λ seen told.
       journal_settled = c.in_ok-journal.ensures.settled one.0 one.1;
       first_read = g.met.B.Bay.as_read c.create.new.bay one.0 one.1;
       others = c.in_ok-log.ensures.others one.0 one.1;
-      now = λ image may. g.met.B.Bay.since_earlier c.create-2.new.bay (g.B.Bay.moment c.create.new.bay) (g.B.Bay.moment c.create-2.new.bay) image c.create-2.ensures.time.later
+      now = λ image may. g.met.B.Bay.since_earlier c.create-2.new.bay (g.B.Bay.moment c.create.new.bay) (g.B.Bay.moment c.create-2.new.bay) image c.create-2.ensures.kept.time.later
           (g.met.B.Bay.since_now c.create-2.new.bay image may);
       stay = one.2;
       log = c.in_ok-log.ensures.text one.0 one.1;

@@ -45,9 +45,7 @@ returns-in_err-append_entry g c = packet_refused (bays g) (lawful g)
       before = c.append_entry.ensures.before;
       others = c.append_entry.ensures.others;
       seen = c.append_entry.ensures.seen;
-      time = c.append_entry.ensures.time;
-      cause = c.append_entry.ensures.cause;
-      mark = c.append_entry.ensures.mark;
+      kept = c.append_entry.ensures.kept;
     })
     (length c.append_entry.new.buffer) c.from_residual.result c.from_residual.ensures.1
 
@@ -64,9 +62,7 @@ take_keys-requires g c =
       before = c.append_entry.ensures.before;
       others = c.append_entry.ensures.others;
       seen = c.append_entry.ensures.seen;
-      time = c.append_entry.ensures.time;
-      cause = c.append_entry.ensures.cause;
-      mark = c.append_entry.ensures.mark;
+      kept = c.append_entry.ensures.kept;
     }) in
     subst (λ (keys : List ℕ). CanTake (bays g) keys (record { bay = c.append_entry.new.bay; counts = c.args.tally.now; log = c.args.log.now; room = length c.append_entry.new.buffer }))
     (sym c.keys_of-keys.ensures.value)
@@ -90,9 +86,7 @@ returns g c =
       before = c.append_entry.ensures.before;
       others = c.append_entry.ensures.others;
       seen = c.append_entry.ensures.seen;
-      time = c.append_entry.ensures.time;
-      cause = c.append_entry.ensures.cause;
-      mark = c.append_entry.ensures.mark;
+      kept = c.append_entry.ensures.kept;
     }) in
     packet_taken (bays g) (lawful g)
     (record { bay = c.args.bay.now; counts = c.args.tally.now; log = c.args.log.now; room = length c.args.buffer.now })

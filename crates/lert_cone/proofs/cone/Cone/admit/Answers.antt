@@ -98,10 +98,10 @@ invariant_of-self g c =
     _ c.self.inside.tally c.take_packet.new.tally c.self.inside.journal c.take_packet.new.journal _ _ _ _
     (ap is_broken c.broken_by-self-inside.ensures ∙ is_broken_by c.in-Err.fault) (λ same. not_replaying_by c.in-Err.fault (sym c.broken_by-self-inside.ensures ∙ same))
     (ap (λ (l : Listing). l.settings) c.take_packet.ensures.listing) refl refl c.take_packet.ensures.file c.take_packet.ensures.most
-    (sym (length_refill c.self.inside.buffer.len c.self.inside.buffer.items c.take_packet.new.buffer len_is) ∙ len_is) refl c.take_packet.ensures.never_falls
+    (sym (length_refill c.self.inside.buffer.len c.self.inside.buffer.items c.take_packet.new.buffer len_is) ∙ len_is) refl c.take_packet.ensures.kept.never_falls
     (λ same. risen_since (g.B.Faulty.faults c.self.inside.made.value) (g.B.Faulty.faults c.self.inside.bay) (g.B.Faulty.faults c.take_packet.new.bay) c.self.invariant.never_falls
-    c.take_packet.ensures.never_falls
-    (c.take_packet.ensures.failed (c.in-Err.is ∙ ap Err (by_bay_of c.in-Err.fault (sym c.broken_by-self-inside.ensures ∙ same)))))
+    c.take_packet.ensures.kept.never_falls
+    (c.take_packet.ensures.kept.failed (c.in-Err.is ∙ ap Err (by_bay_of c.in-Err.fault (sym c.broken_by-self-inside.ensures ∙ same)))))
     c.self.invariant
 
 pub returns-in-Err : goal.returns-in-Err
@@ -183,7 +183,7 @@ invariant_of-self-2 g c =
     let long : length c.take_packet.new.buffer ≡ length c.self.inside.buffer.items = c.take_packet.auto.buffer ∙ ap (length {A = ℕ}) c.deref_mut.ensures.value in
     more_cone g.B.Bay.files g.B.Bay.leaves g.B.Faulty.faults c.self.inside.bay c.self.inside.made.value c.take_packet.new.bay c.self.inside.tally c.take_packet.new.tally c.self.inside.events _ _ _ _
     c.self.inside.state (over_of c.self.inside.over) c.self.inside.journal c.take_packet.new.journal c.self.inside.log c.take_packet.new.log c.self.inside.last (packet_of c.args.entry.now)
-    ok.0 is did.counted (ap (λ n. c.self.inside.events + n) c.len-len.ensures) did.moved room_is journaled.some (omega (arith, ok.1, c.len-len.ensures)) did.never_falls did.shut
+    ok.0 is did.counted (ap (λ n. c.self.inside.events + n) c.len-len.ensures) did.moved room_is journaled.some (omega (arith, ok.1, c.len-len.ensures)) did.kept.never_falls did.shut
     (subst (λ n. IsLogging c.take_packet.new.tally c.take_packet.new.log n) (long ∙ sym room_is) did.can_log.logging) did.can_log.log_shut c.self.invariant
 
 pub returns : goal.returns

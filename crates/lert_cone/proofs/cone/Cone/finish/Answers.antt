@@ -66,8 +66,8 @@ returns-in-Err-clause-stays g c = rw (← c.self.view_is) (λ h stands.
     }) (ap is_broken c.broken_by-self-inside.ensures ∙ is_broken_by c.in-Err.fault)
     (λ same. not_replaying_by c.in-Err.fault (sym c.broken_by-self-inside.ensures ∙ same)) refl
     (λ same. risen_since (g.B.Faulty.faults c.self.inside.made.value) (g.B.Faulty.faults c.self.inside.bay) (g.B.Faulty.faults c.finish.new.bay) c.self.invariant.never_falls
-    c.finish.ensures.keeps.never_falls
-    (c.finish.ensures.keeps.failed (c.in-Err.is ∙ ap Err (by_bay_of c.in-Err.fault (sym c.broken_by-self-inside.ensures ∙ same)))))
+    c.finish.ensures.keeps.kept.never_falls
+    (c.finish.ensures.keeps.kept.failed (c.in-Err.is ∙ ap Err (by_bay_of c.in-Err.fault (sym c.broken_by-self-inside.ensures ∙ same)))))
     (λ file at same sound. turned_none (g.B.Bay.files c.self.inside.bay) (g.B.Bay.files c.finish.new.bay) c.finish.ensures.keeps.journal.seen (untold (g.B.Bay.files c.self.inside.bay)
     (λ seen told. c.finish.ensures.sound seen told h (stands.whole (ap is_broken running) sound seen told).in_step file at (c.in-Err.is ∙ ap Err (by_read_of c.in-Err.fault file at
     (sym c.broken_by-self-inside.ensures ∙ same))))))
@@ -99,10 +99,10 @@ invariant_of-self g c =
     }) _ c.self.inside.tally c.finish.new.tally c.self.inside.journal c.self.inside.journal _ _ _ _
     (ap is_broken c.broken_by-self-inside.ensures ∙ is_broken_by c.in-Err.fault) (λ same. not_replaying_by c.in-Err.fault (sym c.broken_by-self-inside.ensures ∙ same)) (ap (λ
     (l : Listing). l.settings) c.finish.ensures.listing) refl refl refl refl (sym (length_refill c.self.inside.buffer.len c.self.inside.buffer.items c.finish.new.buffer len_is)
-    ∙ len_is) refl c.finish.ensures.keeps.never_falls
+    ∙ len_is) refl c.finish.ensures.keeps.kept.never_falls
     (λ same. risen_since (g.B.Faulty.faults c.self.inside.made.value) (g.B.Faulty.faults c.self.inside.bay) (g.B.Faulty.faults c.finish.new.bay) c.self.invariant.never_falls
-    c.finish.ensures.keeps.never_falls
-    (c.finish.ensures.keeps.failed (c.in-Err.is ∙ ap Err (by_bay_of c.in-Err.fault (sym c.broken_by-self-inside.ensures ∙ same)))))
+    c.finish.ensures.keeps.kept.never_falls
+    (c.finish.ensures.keeps.kept.failed (c.in-Err.is ∙ ap Err (by_bay_of c.in-Err.fault (sym c.broken_by-self-inside.ensures ∙ same)))))
     c.self.invariant
 
 pub returns-in-Err-clause-unsound : goal.returns-in-Err-clause-unsound
@@ -139,7 +139,7 @@ invariant_of-self-2 g c =
       events = c.self.inside.tally.listing.events;
       closed = closed;
     }) c.in_default.ensures.closed) c.in_default.ensures.counted (sym
-    (length_refill c.self.inside.buffer.len c.self.inside.buffer.items c.finish.new.buffer len_is) ∙ len_is) c.finish.ensures.keeps.never_falls c.self.invariant
+    (length_refill c.self.inside.buffer.len c.self.inside.buffer.items c.finish.new.buffer len_is) ∙ len_is) c.finish.ensures.keeps.kept.never_falls c.self.invariant
 
 pub returns-clause-stands_for : goal.returns-clause-stands_for
 returns-clause-stands_for g c = rw (← c.self.view_is) (λ h stands.

@@ -3,6 +3,8 @@ use Rattle.std.specs.List.{length_refill}
 use Rattle.lert_base.specs.Entries.{packet_of}
 use Rattle.lert_base.specs.Packet.{events_of}
 use Rattle.lert_bay.specs.Files.{Files}
+use Rattle.lert_bay.specs.Kept.{Bays}
+use Rattle.lert_bay.proofs.KeptLaws.{IsLawful}
 use Rattle.lert_gatelog.specs.Gated.{IsClosed, Log, next_gate}
 use Rattle.lert_journal.specs.Journal.{HoldsPacket}
 use Rattle.lert_journal.specs.Payload.{payload_of}
@@ -21,13 +23,21 @@ use Rattle.lert_cone.specs.Room.{room_of}
 use Rattle.lert_cone.specs.Stands.{Standing, is_broken, over_of}
 use Rattle.lert_cone.proofs.GateLaws.{keys_next, past_more, ends_there}
 use Rattle.lert_cone.proofs.ReplayLaws.{journal_on_way, never_on_way, on_way_read}
+use Rattle.lert_cone.proofs.ReplayCalls.{alone_behind, ended_at, ended_replays, held_at, keys_stay, keys_unwritten, listing_more, moved_on, read_stays, read_unwritten, refilled, seen_as, with_keys}
 use Rattle.lert_cone.proofs.ReplayStands.{leaves_listing, near_then, never_unsound, next_there, unsound_keys, only_by_bay, only_failed, read_settled, read_shut, refused_keys, refused_record, replaying_cone, settled_then, shut_there}
 use Rattle.lert_cone.proofs.ReplayStep.{told_once}
 use Rattle.lert_io.proofs.Rising.{risen_since}
 use Rattle.lert_cone.proofs.StandLaws.{broken_cone}
 use Rattle.lert_cone.proofs.FaultLaws.{by_bay_of, is_broken_by, not_replaying_by}
 use Rattle.lert_cone.proofs.WroteLaws.{leaves_on, leaves_read}
+use Rattle.lert_cone.proofs.cone.Cone.replay.Given as given
 use Rattle.lert_cone.proofs.cone.Cone.replay.Goals as goal
+
+abbrev bays : (g : given.Over) → Bays g.row.B.Denot
+bays g = record { faults = g.B.Faulty.faults; mark = g.B.Faulty.mark; files = g.B.Bay.files; leaves = g.B.Bay.leaves; moment = g.B.Bay.moment; left_since = g.B.Bay.left_since }
+
+lawful : (g : given.Over) → IsLawful (bays g)
+lawful g = record { as_read = g.met.B.Bay.as_read; since_now = g.met.B.Bay.since_now; only_now = g.met.B.Bay.only_now; since_earlier = g.met.B.Bay.since_earlier }
 
 pub replay_keys-requires : goal.replay_keys-requires
 replay_keys-requires g c =
@@ -36,7 +46,7 @@ replay_keys-requires g c =
     let yes : IsTrue c.in-Ok-true.field-0 = c.in-Ok-true.field-0-test in
     let len_is : c.self.inside.buffer.len ≡ length c.self.inside.buffer.items = omega (arith, c.self.inside.buffer.ok) in
     let room : length c.deref_mut-in-Ok-true.result.now ≡ length c.self.inside.buffer.items =
-    ap (length {A = ℕ}) c.deref_mut-in-Ok-true.ensures.value ∙ (sym (length_refill c.self.inside.buffer.len c.self.inside.buffer.items c.read_packet.new.buffer len_is) ∙ len_is) in
+    ap (length {A = ℕ}) c.deref_mut-in-Ok-true.ensures.value ∙ (refilled c.self.inside.buffer.len c.self.inside.buffer.items c.read_packet.new.buffer len_is) in
     let journaled = c.in-Ok-true.ensures.journaled yes in
     let follows = c.in-Ok-true.ensures.follows yes in
     record {
@@ -47,7 +57,7 @@ replay_keys-requires g c =
       can_log = record {
         logging = subst (λ n. IsLogging c.self.inside.tally c.self.inside.log n) (sym room) was.logging;
         log_shut = read_shut 1 c.self.inside.log.gate (g.B.Bay.files c.self.inside.bay) (g.B.Bay.files c.read_packet.new.bay) (g.B.Bay.leaves c.self.inside.bay) (g.B.Bay.leaves c.read_packet.new.bay)
-            c.read_packet.ensures.keeps.seen c.read_packet.ensures.keeps.images was.log_shut;
+            c.read_packet.ensures.keeps.reads.seen c.read_packet.ensures.keeps.reads.images was.log_shut;
       };
     }
 
@@ -55,28 +65,17 @@ replay_keys-requires g c =
 pub invariant_of-self : goal.invariant_of-self
 invariant_of-self g c =
     let len_is : c.self.inside.buffer.len ≡ length c.self.inside.buffer.items = omega (arith, c.self.inside.buffer.ok) in
-    broken_cone g.B.Bay.files g.B.Bay.leaves g.B.Faulty.faults (record {
-      bay = c.self.inside.bay;
-      made = c.self.inside.made.value;
-      listing = c.self.inside.tally.listing;
-      rows = c.self.inside.tally.rows;
-      reports = c.self.inside.tally.due.reports;
-      events = c.self.inside.events;
-      state = c.self.inside.state;
-      over = over_of c.self.inside.over;
-      gate = c.self.inside.journal.gate;
-      log = c.self.inside.log;
-      last = c.self.inside.last;
-    }) _ c.self.inside.tally c.replay_keys.new.tally c.self.inside.journal c.read_packet.new.journal _ _ _ _
+    broken_cone g.B.Bay.files g.B.Bay.leaves g.B.Faulty.faults (seen_as c.self.inside.bay c.self.inside.made.value c.self.inside.tally c.self.inside.events c.self.inside.state
+    (over_of c.self.inside.over) c.self.inside.journal.gate c.self.inside.log c.self.inside.last) _ c.self.inside.tally c.replay_keys.new.tally c.self.inside.journal c.read_packet.new.journal _ _ _ _
     (ap is_broken c.broken_by-self-inside.ensures ∙ is_broken_by c.in-Err-replay_keys.fault) (λ same. not_replaying_by c.in-Err-replay_keys.fault (sym c.broken_by-self-inside.ensures ∙ same))
     (ap (λ (l : Listing). l.settings) c.replay_keys.ensures.listing) refl refl ((c.read_packet.ensures.keeps.file ∙ ap (λ (j : Log). j.file) c.at_gate-self-inside.ensures) ∙ sym c.self.invariant.file)
     ((c.read_packet.ensures.keeps.most ∙ ap (λ (j : Log). j.most) c.at_gate-self-inside.ensures ∙ c.greatest_payload-most.ensures.value ∙ ap most_payload c.settings.ensures)
     ∙ sym c.self.invariant.most) (sym (length_refill c.self.inside.buffer.len (take c.self.inside.buffer.len (c.read_packet.new.buffer ++ drop
     (length c.read_packet.new.buffer) c.self.inside.buffer.items)) c.replay_keys.new.buffer (length_refill c.self.inside.buffer.len c.self.inside.buffer.items c.read_packet.new.buffer len_is))
     ∙ len_is) c.read_packet.ensures.keeps.roomy
-    (omega (arith, c.read_packet.ensures.keeps.never_falls, c.replay_keys.ensures.keeps.never_falls))
+    (omega (arith, c.read_packet.ensures.keeps.reads.kept.never_falls, c.replay_keys.ensures.keeps.kept.never_falls))
     (λ same. risen_since (g.B.Faulty.faults c.self.inside.made.value) (g.B.Faulty.faults c.read_packet.new.bay) (g.B.Faulty.faults c.replay_keys.new.bay)
-    (omega (arith, c.self.invariant.never_falls, c.read_packet.ensures.keeps.never_falls)) c.replay_keys.ensures.keeps.never_falls (c.replay_keys.ensures.keeps.failed (c.in-Err-replay_keys.is ∙ ap Err
+    (omega (arith, c.self.invariant.never_falls, c.read_packet.ensures.keeps.reads.kept.never_falls)) c.replay_keys.ensures.keeps.kept.never_falls (c.replay_keys.ensures.keeps.kept.failed (c.in-Err-replay_keys.is ∙ ap Err
     (by_bay_of c.in-Err-replay_keys.fault (sym c.broken_by-self-inside.ensures ∙ same)))))
     c.self.invariant
 
@@ -85,36 +84,12 @@ returns-in-Err-replay_keys-clause-refused g c =
     let gate_is : c.at_gate-self-inside.result.gate ≡ c.args.gate = ap (λ (j : Log). j.gate) c.at_gate-self-inside.ensures in
     let yes : IsTrue c.in-Ok-true.field-0 = c.in-Ok-true.field-0-test in
     rw (← c.self.view_is) (λ seen told.
-    subst (λ (fault : ReplayFault). WhyRefused (record {
-      bay = c.self.inside.bay;
-      made = c.self.inside.made.value;
-      listing = c.self.inside.tally.listing;
-      rows = c.self.inside.tally.rows;
-      reports = c.self.inside.tally.due.reports;
-      events = c.self.inside.events;
-      state = c.self.inside.state;
-      over = over_of c.self.inside.over;
-      gate = c.self.inside.journal.gate;
-      log = c.self.inside.log;
-      last = c.self.inside.last;
-    }) (seen 0) c.args.gate fault) (sym c.from.ensures)
-    (refused_keys (record {
-      bay = c.self.inside.bay;
-      made = c.self.inside.made.value;
-      listing = c.self.inside.tally.listing;
-      rows = c.self.inside.tally.rows;
-      reports = c.self.inside.tally.due.reports;
-      events = c.self.inside.events;
-      state = c.self.inside.state;
-      over = over_of c.self.inside.over;
-      gate = c.self.inside.journal.gate;
-      log = c.self.inside.log;
-      last = c.self.inside.last;
-    }) (seen 0) c.args.gate c.in-Err-replay_keys.fault (record {
+    subst (λ (fault : ReplayFault). WhyRefused (seen_as c.self.inside.bay c.self.inside.made.value c.self.inside.tally c.self.inside.events c.self.inside.state
+    (over_of c.self.inside.over) c.self.inside.journal.gate c.self.inside.log c.self.inside.last) (seen 0) c.args.gate fault) (sym c.from.ensures)
+    (refused_keys (seen_as c.self.inside.bay c.self.inside.made.value c.self.inside.tally c.self.inside.events c.self.inside.state
+    (over_of c.self.inside.over) c.self.inside.journal.gate c.self.inside.log c.self.inside.last) (seen 0) c.args.gate c.in-Err-replay_keys.fault (record {
       packet = (packet_of c.read_packet.new.entry);
-      stands = (subst
-          (λ g. HoldsPacket c.self.inside.tally.listing.settings c.self.inside.tally.listing.cone (most_payload c.self.inside.tally.listing.settings) (seen 0) g
-          (packet_of c.read_packet.new.entry)) gate_is (c.in-Ok-true.ensures.found seen told yes));
+      stands = (held_at gate_is (c.in-Ok-true.ensures.found seen told yes));
       follows = c.in-Ok-true.ensures.follows yes;
     })))
 
@@ -123,33 +98,17 @@ returns-in-Err-replay_keys-clause-replays g c =
     let gate_is : c.at_gate-self-inside.result.gate ≡ c.args.gate = ap (λ (j : Log). j.gate) c.at_gate-self-inside.ensures in
     let yes : IsTrue c.in-Ok-true.field-0 = c.in-Ok-true.field-0-test in
     rw (← c.self.view_is) (λ seen told h done way gate_same.
-    let past : IsPast h done c.self.inside.tally.listing.events c.args.gate = subst (λ g. IsPast h done c.self.inside.tally.listing.events g) (sym gate_same) way.past in
-    let on_way = way.on_way seen told in
-    let read = g.met.B.Bay.as_read c.self.inside.bay seen told in
-    let on_read = on_way_read (g.B.Bay.leaves c.self.inside.bay) seen h c.self.inside.tally.listing c.self.inside.tally.rows c.self.inside.tally.due.reports c.self.inside.log
-    c.self.inside.last.n0 on_way (g.B.Bay.leaves c.read_packet.new.bay) (λ image may. (c.read_packet.ensures.keeps.images image).0 may) in
-    let told_read : (g.B.Bay.files c.read_packet.new.bay) ≡ Some seen = c.read_packet.ensures.keeps.seen ∙ told in
-    let next = next_there (g.B.Bay.leaves c.self.inside.bay) seen h done c.self.inside.tally.listing c.self.inside.tally.rows c.self.inside.tally.due.reports c.self.inside.log
-    c.self.inside.last.n0 c.args.gate (packet_of c.read_packet.new.entry) on_way read past (subst (λ g. HoldsPacket c.self.inside.tally.listing.settings c.self.inside.tally.listing.cone
-    (most_payload c.self.inside.tally.listing.settings) (seen 0) g (packet_of c.read_packet.new.entry)) gate_is (c.in-Ok-true.ensures.found seen told yes)) in
-    let is : events_of h ≡ c.self.inside.tally.listing.events ++ (c.keys_of.result.now ++ events_of next.rest) = keys_next h done c.self.inside.tally.listing.events c.args.gate
-    (packet_of c.read_packet.new.entry) past next ∙ ap (λ (keys : List ℕ). c.self.inside.tally.listing.events ++ (keys ++ events_of next.rest)) (sym c.keys_of.ensures.value) in
     subst (λ (fault : ReplayFault). (fault ≡ Failed) ⊎ (fault ≡ OutOfMemory)) (sym c.from.ensures)
-    (only_by_bay c.in-Err-replay_keys.fault (λ file at same. c.replay_keys.ensures.sound seen told_read h (events_of next.rest) is on_read file at (c.in-Err-replay_keys.is ∙ ap Err same))))
+    (only_by_bay c.in-Err-replay_keys.fault (λ file at same.
+    with_keys (bays g) (lawful g) c.self.inside.bay c.read_packet.new.bay _ _ _ _ _ c.read_packet.ensures.keeps c.self.inside.tally c.self.inside.log c.self.inside.last
+    seen told h done c.args.gate (way.on_way seen told) (subst (λ g. IsPast h done c.self.inside.tally.listing.events g) (sym gate_same) way.past)
+    (packet_of c.read_packet.new.entry) (held_at gate_is (c.in-Ok-true.ensures.found seen told yes)) c.keys_of.result.now c.keys_of.ensures.value
+    (λ told_read next is on_read. c.replay_keys.ensures.sound seen told_read h (events_of next.rest) is on_read file at (c.in-Err-replay_keys.is ∙ ap Err same)))))
 
 pub returns-in-Err-replay_keys-clause-journal : goal.returns-in-Err-replay_keys-clause-journal
-returns-in-Err-replay_keys-clause-journal g c = rw (← c.self.view_is) (leaves_on 0 (g.B.Bay.files c.self.inside.bay) (g.B.Bay.files c.read_packet.new.bay) (g.B.Bay.files c.replay_keys.new.bay)
-    (g.B.Bay.leaves c.self.inside.bay) (g.B.Bay.leaves c.read_packet.new.bay) (g.B.Bay.leaves c.replay_keys.new.bay) (g.B.Bay.moment c.self.inside.bay) (g.B.Bay.moment c.read_packet.new.bay)
-    (g.B.Bay.moment c.replay_keys.new.bay) (g.B.Bay.left_since c.self.inside.bay) (g.B.Bay.left_since c.read_packet.new.bay) (g.B.Bay.left_since c.replay_keys.new.bay) (leaves_read 0
-    (g.B.Bay.files c.self.inside.bay) (g.B.Bay.files c.read_packet.new.bay) (g.B.Bay.leaves c.self.inside.bay) (g.B.Bay.leaves c.read_packet.new.bay) (g.B.Bay.moment c.self.inside.bay)
-    (g.B.Bay.moment c.read_packet.new.bay) (g.B.Bay.left_since c.self.inside.bay) (g.B.Bay.left_since c.read_packet.new.bay) (record {
-      seen = c.read_packet.ensures.keeps.seen;
-      images = c.read_packet.ensures.keeps.images;
-      moments = c.read_packet.ensures.keeps.moments;
-      time = c.read_packet.ensures.keeps.time;
-    }) (λ image may. g.met.B.Bay.since_earlier c.read_packet.new.bay
-    (g.B.Bay.moment c.self.inside.bay) (g.B.Bay.moment c.read_packet.new.bay) image c.read_packet.ensures.keeps.time.later (g.met.B.Bay.since_now c.read_packet.new.bay image may)))
-    c.replay_keys.ensures.keeps.journal (g.met.B.Bay.since_earlier c.replay_keys.new.bay))
+returns-in-Err-replay_keys-clause-journal g c = rw (← c.self.view_is)
+    (alone_behind (bays g) (lawful g) c.self.inside.bay c.read_packet.new.bay _ _ _ _ _ c.read_packet.ensures.keeps 0 c.replay_keys.new.bay
+    c.replay_keys.ensures.keeps.journal)
 
 -- the packet is taken
 pub invariant_of-self-in-Ok-true : goal.invariant_of-self-in-Ok-true
@@ -159,14 +118,10 @@ invariant_of-self-in-Ok-true g c =
     let gate_is : c.at_gate-self-inside.result.gate ≡ c.args.gate = ap (λ (j : Log). j.gate) c.at_gate-self-inside.ensures in
     let yes : IsTrue c.in-Ok-true.field-0 = c.in-Ok-true.field-0-test in
     let len_is : c.self.inside.buffer.len ≡ length c.self.inside.buffer.items = omega (arith, c.self.inside.buffer.ok) in
-    let listing_is = c.replay_keys.ensures.listing ∙ ap (λ (keys : List ℕ). record {
-      settings = c.self.inside.tally.listing.settings;
-      cone = c.self.inside.tally.listing.cone;
-      events = keys;
-      closed = c.self.inside.tally.listing.closed;
-    }) (c.in_default.ensures.taken ∙ ap (λ (keys : List ℕ). c.self.inside.tally.listing.events ++ keys) c.keys_of.ensures.value) in
-    let moved : c.read_packet.new.journal.gate ≡ next_gate c.args.gate (payload_of (packet_of c.read_packet.new.entry)) = ap (λ (j : Log). j.gate) (c.in-Ok-true.ensures.moved yes) ∙ ap
-    (λ g. next_gate g (payload_of (packet_of c.read_packet.new.entry))) gate_is in
+    let listing_is = listing_more c.self.inside.tally.listing c.replay_keys.new.tally.listing c.read_packet.new.entry.keys.keys c.keys_of.result.now
+    c.replay_keys.ensures.listing c.in_default.ensures.taken c.keys_of.ensures.value in
+    let moved : c.read_packet.new.journal.gate ≡ next_gate c.args.gate (payload_of (packet_of c.read_packet.new.entry)) =
+    moved_on (payload_of (packet_of c.read_packet.new.entry)) (c.in-Ok-true.ensures.moved yes) gate_is in
     let events_is : c.len-self-inside.result ≡ c.self.inside.events + length c.read_packet.new.entry.keys.keys = omega (
       arith,
       c.len-self-inside.ensures,
@@ -178,11 +133,12 @@ invariant_of-self-in-Ok-true g c =
     let settings_are : c.replay_keys.new.tally.listing.settings ≡ c.self.inside.tally.listing.settings = ap (λ (l : Listing). l.settings) listing_is in
     let journaled = c.in-Ok-true.ensures.journaled yes in
     let lent : length c.replay_keys.new.buffer ≡ length c.deref_mut-in-Ok-true.result.now = c.replay_keys.auto.buffer in
-    let long : length c.replay_keys.new.buffer ≡ length (take c.self.inside.buffer.len (c.replay_keys.new.buffer ++ drop (length c.replay_keys.new.buffer) (take c.self.inside.buffer.len
-    (c.read_packet.new.buffer ++ drop (length c.read_packet.new.buffer) c.self.inside.buffer.items)))) =
-    lent ∙ ap (length {A = ℕ}) c.deref_mut-in-Ok-true.ensures.value ∙ (sym (length_refill c.self.inside.buffer.len c.self.inside.buffer.items c.read_packet.new.buffer len_is) ∙ len_is) ∙ sym (sym
-    (length_refill c.self.inside.buffer.len (take c.self.inside.buffer.len (c.read_packet.new.buffer ++ drop (length c.read_packet.new.buffer) c.self.inside.buffer.items))
-    c.replay_keys.new.buffer (length_refill c.self.inside.buffer.len c.self.inside.buffer.items c.read_packet.new.buffer len_is)) ∙ len_is) in
+    let read_long = refilled c.self.inside.buffer.len c.self.inside.buffer.items c.read_packet.new.buffer len_is in
+    let then_long = refilled c.self.inside.buffer.len (take c.self.inside.buffer.len (c.read_packet.new.buffer ++ drop (length c.read_packet.new.buffer) c.self.inside.buffer.items))
+    c.replay_keys.new.buffer (len_is ∙ sym read_long) ∙ read_long in
+    let long : length c.replay_keys.new.buffer ≡ length (take c.self.inside.buffer.len (c.replay_keys.new.buffer ++ drop (length c.replay_keys.new.buffer)
+    (take c.self.inside.buffer.len (c.read_packet.new.buffer ++ drop (length c.read_packet.new.buffer) c.self.inside.buffer.items)))) =
+    lent ∙ ap (length {A = ℕ}) c.deref_mut-in-Ok-true.ensures.value ∙ read_long ∙ sym then_long in
     replaying_cone g.B.Bay.files g.B.Bay.leaves g.B.Faulty.faults _ _ _ _ _ replaying (c.read_packet.ensures.keeps.file ∙ ap (λ (j : Log). j.file) c.at_gate-self-inside.ensures)
     ((c.read_packet.ensures.keeps.most ∙ ap (λ (j : Log). j.most) c.at_gate-self-inside.ensures ∙ c.greatest_payload-most.ensures.value ∙ ap most_payload c.settings.ensures) ∙ ap most_payload
     (sym settings_are)) ((sym (length_refill c.self.inside.buffer.len (take c.self.inside.buffer.len (c.read_packet.new.buffer ++ drop
@@ -190,7 +146,7 @@ invariant_of-self-in-Ok-true g c =
     ∙ len_is) ∙ c.self.invariant.roomy ∙ ap room_of (sym settings_are))
     (c.read_packet.ensures.keeps.roomy ∙ c.self.invariant.keys_roomy ∙ ap (λ (s : Numbers). 4 * s.packet) (sym settings_are)) (omega
     (arith, c.in_default.ensures.recounted.fits, c.len-self-inside.ensures)) c.in_default.ensures.recounted.valid
-    (omega (arith, c.self.invariant.never_falls, c.read_packet.ensures.keeps.never_falls, c.replay_keys.ensures.keeps.never_falls))
+    (omega (arith, c.self.invariant.never_falls, c.read_packet.ensures.keeps.reads.kept.never_falls, c.replay_keys.ensures.keeps.kept.never_falls))
     (record {
       none_over = was.none_over;
       counted = sym c.len-self-inside.ensures;
@@ -200,7 +156,7 @@ invariant_of-self-in-Ok-true g c =
       journal_settled = settled_then 0 (g.B.Bay.files c.read_packet.new.bay) (g.B.Bay.files c.replay_keys.new.bay) (g.B.Bay.leaves c.read_packet.new.bay) (g.B.Bay.leaves c.replay_keys.new.bay)
           (g.B.Bay.moment c.read_packet.new.bay) (g.B.Bay.moment c.replay_keys.new.bay) (g.B.Bay.left_since c.read_packet.new.bay)
           (g.B.Bay.left_since c.replay_keys.new.bay) c.replay_keys.ensures.keeps.journal (read_settled 0 (g.B.Bay.files c.self.inside.bay) (g.B.Bay.files c.read_packet.new.bay)
-          (g.B.Bay.leaves c.self.inside.bay) (g.B.Bay.leaves c.read_packet.new.bay) c.read_packet.ensures.keeps.seen c.read_packet.ensures.keeps.images was.journal_settled);
+          (g.B.Bay.leaves c.self.inside.bay) (g.B.Bay.leaves c.read_packet.new.bay) c.read_packet.ensures.keeps.reads.seen c.read_packet.ensures.keeps.reads.images was.journal_settled);
       logging = subst (λ n. IsLogging c.replay_keys.new.tally c.replay_keys.new.log n) long c.in_default.ensures.can_log.logging;
       log_shut = c.in_default.ensures.can_log.log_shut;
     })
@@ -211,14 +167,10 @@ returns-in_default-clause-taken g c =
     let was = c.self.invariant.replaying replaying in
     let gate_is : c.at_gate-self-inside.result.gate ≡ c.args.gate = ap (λ (j : Log). j.gate) c.at_gate-self-inside.ensures in
     let yes : IsTrue c.in-Ok-true.field-0 = c.in-Ok-true.field-0-test in
-    let listing_is = c.replay_keys.ensures.listing ∙ ap (λ (keys : List ℕ). record {
-      settings = c.self.inside.tally.listing.settings;
-      cone = c.self.inside.tally.listing.cone;
-      events = keys;
-      closed = c.self.inside.tally.listing.closed;
-    }) (c.in_default.ensures.taken ∙ ap (λ (keys : List ℕ). c.self.inside.tally.listing.events ++ keys) c.keys_of.ensures.value) in
-    let moved : c.read_packet.new.journal.gate ≡ next_gate c.args.gate (payload_of (packet_of c.read_packet.new.entry)) = ap (λ (j : Log). j.gate) (c.in-Ok-true.ensures.moved yes) ∙ ap
-    (λ g. next_gate g (payload_of (packet_of c.read_packet.new.entry))) gate_is in
+    let listing_is = listing_more c.self.inside.tally.listing c.replay_keys.new.tally.listing c.read_packet.new.entry.keys.keys c.keys_of.result.now
+    c.replay_keys.ensures.listing c.in_default.ensures.taken c.keys_of.ensures.value in
+    let moved : c.read_packet.new.journal.gate ≡ next_gate c.args.gate (payload_of (packet_of c.read_packet.new.entry)) =
+    moved_on (payload_of (packet_of c.read_packet.new.entry)) (c.in-Ok-true.ensures.moved yes) gate_is in
     let events_is : c.len-self-inside.result ≡ c.self.inside.events + length c.read_packet.new.entry.keys.keys = omega (
       arith,
       c.len-self-inside.ensures,
@@ -229,8 +181,7 @@ returns-in_default-clause-taken g c =
     ) in
     rw (← c.self.view_is) (record {
       packet = (packet_of c.read_packet.new.entry);
-      stands = λ seen told. (subst (λ g. HoldsPacket c.self.inside.tally.listing.settings c.self.inside.tally.listing.cone (most_payload c.self.inside.tally.listing.settings) (seen 0) g
-          (packet_of c.read_packet.new.entry)) gate_is (c.in-Ok-true.ensures.found seen told yes));
+      stands = λ seen told. (held_at gate_is (c.in-Ok-true.ensures.found seen told yes));
       journaled = c.in-Ok-true.ensures.journaled yes;
       follows = c.in-Ok-true.ensures.follows yes;
       next_is = c.gate.ensures.value ∙ moved;
@@ -254,26 +205,16 @@ returns-in_default-clause-replays g c =
     let replaying : c.self.inside.state ≡ Replaying = subst (λ (v : Standing g.row.B.Denot). v.state ≡ Replaying) (sym c.self.view_is) c.requires.replaying in
     let gate_is : c.at_gate-self-inside.result.gate ≡ c.args.gate = ap (λ (j : Log). j.gate) c.at_gate-self-inside.ensures in
     let yes : IsTrue c.in-Ok-true.field-0 = c.in-Ok-true.field-0-test in
-    let listing_is = c.replay_keys.ensures.listing ∙ ap (λ (keys : List ℕ). record {
-      settings = c.self.inside.tally.listing.settings;
-      cone = c.self.inside.tally.listing.cone;
-      events = keys;
-      closed = c.self.inside.tally.listing.closed;
-    }) (c.in_default.ensures.taken ∙ ap (λ (keys : List ℕ). c.self.inside.tally.listing.events ++ keys) c.keys_of.ensures.value) in
-    let moved : c.read_packet.new.journal.gate ≡ next_gate c.args.gate (payload_of (packet_of c.read_packet.new.entry)) = ap (λ (j : Log). j.gate) (c.in-Ok-true.ensures.moved yes) ∙ ap
-    (λ g. next_gate g (payload_of (packet_of c.read_packet.new.entry))) gate_is in
+    let listing_is = listing_more c.self.inside.tally.listing c.replay_keys.new.tally.listing c.read_packet.new.entry.keys.keys c.keys_of.result.now
+    c.replay_keys.ensures.listing c.in_default.ensures.taken c.keys_of.ensures.value in
+    let moved : c.read_packet.new.journal.gate ≡ next_gate c.args.gate (payload_of (packet_of c.read_packet.new.entry)) =
+    moved_on (payload_of (packet_of c.read_packet.new.entry)) (c.in-Ok-true.ensures.moved yes) gate_is in
     rw (← c.self.view_is) (λ seen told h done way gate_same.
     let past : IsPast h done c.self.inside.tally.listing.events c.args.gate = subst (λ g. IsPast h done c.self.inside.tally.listing.events g) (sym gate_same) way.past in
-    let on_way = way.on_way seen told in
-    let read = g.met.B.Bay.as_read c.self.inside.bay seen told in
-    let on_read = on_way_read (g.B.Bay.leaves c.self.inside.bay) seen h c.self.inside.tally.listing c.self.inside.tally.rows c.self.inside.tally.due.reports c.self.inside.log
-    c.self.inside.last.n0 on_way (g.B.Bay.leaves c.read_packet.new.bay) (λ image may. (c.read_packet.ensures.keeps.images image).0 may) in
-    let told_read : (g.B.Bay.files c.read_packet.new.bay) ≡ Some seen = c.read_packet.ensures.keeps.seen ∙ told in
-    let next = next_there (g.B.Bay.leaves c.self.inside.bay) seen h done c.self.inside.tally.listing c.self.inside.tally.rows c.self.inside.tally.due.reports c.self.inside.log
-    c.self.inside.last.n0 c.args.gate (packet_of c.read_packet.new.entry) on_way read past (subst (λ g. HoldsPacket c.self.inside.tally.listing.settings c.self.inside.tally.listing.cone
-    (most_payload c.self.inside.tally.listing.settings) (seen 0) g (packet_of c.read_packet.new.entry)) gate_is (c.in-Ok-true.ensures.found seen told yes)) in
-    let is : events_of h ≡ c.self.inside.tally.listing.events ++ (c.keys_of.result.now ++ events_of next.rest) = keys_next h done c.self.inside.tally.listing.events c.args.gate
-    (packet_of c.read_packet.new.entry) past next ∙ ap (λ (keys : List ℕ). c.self.inside.tally.listing.events ++ (keys ++ events_of next.rest)) (sym c.keys_of.ensures.value) in (
+    with_keys (bays g) (lawful g) c.self.inside.bay c.read_packet.new.bay _ _ _ _ _ c.read_packet.ensures.keeps c.self.inside.tally c.self.inside.log c.self.inside.last
+    seen told h done c.args.gate (way.on_way seen told) past
+    (packet_of c.read_packet.new.entry) (held_at gate_is (c.in-Ok-true.ensures.found seen told yes)) c.keys_of.result.now c.keys_of.ensures.value
+    (λ told_read next is on_read. (
       (packet_of c.read_packet.new.entry),
       record {
         state_is = replaying;
@@ -282,21 +223,12 @@ returns-in_default-clause-replays g c =
             (past_more h done c.self.inside.tally.listing.events c.args.gate (packet_of c.read_packet.new.entry) past next));
         on_way = c.in_default.ensures.on_way seen told_read h (events_of next.rest) is on_read;
       },
-    ))
+    )))
 
 pub returns-in_default-clause-journal : goal.returns-in_default-clause-journal
-returns-in_default-clause-journal g c = rw (← c.self.view_is) (leaves_on 0 (g.B.Bay.files c.self.inside.bay) (g.B.Bay.files c.read_packet.new.bay) (g.B.Bay.files c.replay_keys.new.bay)
-    (g.B.Bay.leaves c.self.inside.bay) (g.B.Bay.leaves c.read_packet.new.bay) (g.B.Bay.leaves c.replay_keys.new.bay) (g.B.Bay.moment c.self.inside.bay) (g.B.Bay.moment c.read_packet.new.bay)
-    (g.B.Bay.moment c.replay_keys.new.bay) (g.B.Bay.left_since c.self.inside.bay) (g.B.Bay.left_since c.read_packet.new.bay) (g.B.Bay.left_since c.replay_keys.new.bay) (leaves_read 0
-    (g.B.Bay.files c.self.inside.bay) (g.B.Bay.files c.read_packet.new.bay) (g.B.Bay.leaves c.self.inside.bay) (g.B.Bay.leaves c.read_packet.new.bay) (g.B.Bay.moment c.self.inside.bay)
-    (g.B.Bay.moment c.read_packet.new.bay) (g.B.Bay.left_since c.self.inside.bay) (g.B.Bay.left_since c.read_packet.new.bay) (record {
-      seen = c.read_packet.ensures.keeps.seen;
-      images = c.read_packet.ensures.keeps.images;
-      moments = c.read_packet.ensures.keeps.moments;
-      time = c.read_packet.ensures.keeps.time;
-    }) (λ image may. g.met.B.Bay.since_earlier c.read_packet.new.bay
-    (g.B.Bay.moment c.self.inside.bay) (g.B.Bay.moment c.read_packet.new.bay) image c.read_packet.ensures.keeps.time.later (g.met.B.Bay.since_now c.read_packet.new.bay image may)))
-    c.replay_keys.ensures.keeps.journal (g.met.B.Bay.since_earlier c.replay_keys.new.bay))
+returns-in_default-clause-journal g c = rw (← c.self.view_is)
+    (alone_behind (bays g) (lawful g) c.self.inside.bay c.read_packet.new.bay _ _ _ _ _ c.read_packet.ensures.keeps 0 c.replay_keys.new.bay
+    c.replay_keys.ensures.keeps.journal)
 
 -- a closed gate
 pub invariant_of-self-in-Ok-false : goal.invariant_of-self-in-Ok-false
@@ -307,13 +239,13 @@ invariant_of-self-in-Ok-false g c =
     let no_packet : IsFalse c.in-Ok-false.field-0 = c.in-Ok-false.field-0-test in
     let len_is : c.self.inside.buffer.len ≡ length c.self.inside.buffer.items = omega (arith, c.self.inside.buffer.ok) in
     let gate_at : c.read_packet.new.journal.gate ≡ c.args.gate = ap (λ (j : Log). j.gate) (c.in-Ok-false.ensures.waits no_packet).0 ∙ gate_is in
-    let long : length c.self.inside.buffer.items ≡ length (take c.self.inside.buffer.len (c.read_packet.new.buffer ++ drop (length c.read_packet.new.buffer) c.self.inside.buffer.items)) = sym (sym
-    (length_refill c.self.inside.buffer.len c.self.inside.buffer.items c.read_packet.new.buffer len_is) ∙ len_is) in
+    let long : length c.self.inside.buffer.items ≡ length (take c.self.inside.buffer.len (c.read_packet.new.buffer ++ drop (length c.read_packet.new.buffer) c.self.inside.buffer.items)) =
+    sym (refilled c.self.inside.buffer.len c.self.inside.buffer.items c.read_packet.new.buffer len_is) in
     replaying_cone g.B.Bay.files g.B.Bay.leaves g.B.Faulty.faults _ _ _ _ _ replaying (c.read_packet.ensures.keeps.file ∙ ap (λ (j : Log). j.file) c.at_gate-self-inside.ensures)
-    (c.read_packet.ensures.keeps.most ∙ ap (λ (j : Log). j.most) c.at_gate-self-inside.ensures ∙ c.greatest_payload-most.ensures.value ∙ ap most_payload c.settings.ensures) ((sym
-    (length_refill c.self.inside.buffer.len c.self.inside.buffer.items c.read_packet.new.buffer len_is) ∙ len_is) ∙ c.self.invariant.roomy) (c.read_packet.ensures.keeps.roomy
+    (c.read_packet.ensures.keeps.most ∙ ap (λ (j : Log). j.most) c.at_gate-self-inside.ensures ∙ c.greatest_payload-most.ensures.value ∙ ap most_payload c.settings.ensures)
+    (refilled c.self.inside.buffer.len c.self.inside.buffer.items c.read_packet.new.buffer len_is ∙ c.self.invariant.roomy) (c.read_packet.ensures.keeps.roomy
     ∙ c.self.invariant.keys_roomy) c.self.invariant.within c.self.invariant.valid
-    (omega (arith, c.self.invariant.never_falls, c.read_packet.ensures.keeps.never_falls))
+    (omega (arith, c.self.invariant.never_falls, c.read_packet.ensures.keeps.reads.kept.never_falls))
     (record {
       none_over = was.none_over;
       counted = was.counted;
@@ -321,42 +253,23 @@ invariant_of-self-in-Ok-false g c =
       closed = was.closed;
       near = omega (arith, gate_at, c.requires.reach);
       journal_settled = read_settled 0 (g.B.Bay.files c.self.inside.bay) (g.B.Bay.files c.read_packet.new.bay) (g.B.Bay.leaves c.self.inside.bay)
-          (g.B.Bay.leaves c.read_packet.new.bay) c.read_packet.ensures.keeps.seen c.read_packet.ensures.keeps.images was.journal_settled;
+          (g.B.Bay.leaves c.read_packet.new.bay) c.read_packet.ensures.keeps.reads.seen c.read_packet.ensures.keeps.reads.images was.journal_settled;
       logging = subst (λ n. IsLogging c.self.inside.tally c.self.inside.log n) long was.logging;
       log_shut = read_shut 1 c.self.inside.log.gate (g.B.Bay.files c.self.inside.bay) (g.B.Bay.files c.read_packet.new.bay) (g.B.Bay.leaves c.self.inside.bay)
-          (g.B.Bay.leaves c.read_packet.new.bay) c.read_packet.ensures.keeps.seen c.read_packet.ensures.keeps.images was.log_shut;
+          (g.B.Bay.leaves c.read_packet.new.bay) c.read_packet.ensures.keeps.reads.seen c.read_packet.ensures.keeps.reads.images was.log_shut;
     })
 
 pub returns-in-Ok-false-clause-ended : goal.returns-in-Ok-false-clause-ended
 returns-in-Ok-false-clause-ended g c =
     let replaying : c.self.inside.state ≡ Replaying = subst (λ (v : Standing g.row.B.Denot). v.state ≡ Replaying) (sym c.self.view_is) c.requires.replaying in
-    let was = c.self.invariant.replaying replaying in
     let gate_is : c.at_gate-self-inside.result.gate ≡ c.args.gate = ap (λ (j : Log). j.gate) c.at_gate-self-inside.ensures in
     let no_packet : IsFalse c.in-Ok-false.field-0 = c.in-Ok-false.field-0-test in
     let gate_at : c.read_packet.new.journal.gate ≡ c.args.gate = ap (λ (j : Log). j.gate) (c.in-Ok-false.ensures.waits no_packet).0 ∙ gate_is in
-    let settled = read_settled 0 (g.B.Bay.files c.self.inside.bay) (g.B.Bay.files c.read_packet.new.bay) (g.B.Bay.leaves c.self.inside.bay)
-    (g.B.Bay.leaves c.read_packet.new.bay) c.read_packet.ensures.keeps.seen c.read_packet.ensures.keeps.images was.journal_settled in
-    rw (← c.self.view_is) (record {
-      enough = c.in-Ok-false.ensures.enough no_packet;
-      stands = λ seen told. subst (IsClosed (seen 0)) gate_is (c.in-Ok-false.ensures.closed seen told no_packet);
-      shut = shut_there 0 c.args.gate (g.B.Bay.files c.read_packet.new.bay) (g.B.Bay.leaves c.read_packet.new.bay) settled (λ seen told. subst (IsClosed (seen 0)) gate_is
-          (c.in-Ok-false.ensures.closed seen (sym c.read_packet.ensures.keeps.seen ∙ told) no_packet));
-      seen = c.read_packet.ensures.keeps.seen;
-      images = c.read_packet.ensures.keeps.images;
-      is = λ i. record {
-        bay = c.read_packet.new.bay;
-        made = c.self.inside.made.value;
-        listing = c.self.inside.tally.listing;
-        rows = c.self.inside.tally.rows;
-        reports = c.self.inside.tally.due.reports;
-        events = c.self.inside.events;
-        state = c.self.inside.state;
-        over = over_of c.self.inside.over;
-        gate = gate_at i;
-        log = c.self.inside.log;
-        last = c.self.inside.last;
-      };
-    })
+    rw (← c.self.view_is)
+    (ended_at (bays g) (lawful g) c.self.inside.bay c.read_packet.new.bay _ _ _ _ _ c.read_packet.ensures.keeps c.self.inside.made.value c.self.inside.tally
+    c.self.inside.events c.self.inside.state (over_of c.self.inside.over) c.self.inside.journal.gate c.read_packet.new.journal.gate c.args.gate c.self.inside.log c.self.inside.last
+    gate_at (c.in-Ok-false.ensures.enough no_packet) (c.self.invariant.replaying replaying).journal_settled
+    (λ seen told. subst (IsClosed (seen 0)) gate_is (c.in-Ok-false.ensures.closed seen told no_packet)))
 
 pub returns-in-Ok-false-clause-replays : goal.returns-in-Ok-false-clause-replays
 returns-in-Ok-false-clause-replays g c =
@@ -365,55 +278,20 @@ returns-in-Ok-false-clause-replays g c =
     let no_packet : IsFalse c.in-Ok-false.field-0 = c.in-Ok-false.field-0-test in
     let gate_at : c.read_packet.new.journal.gate ≡ c.args.gate = ap (λ (j : Log). j.gate) (c.in-Ok-false.ensures.waits no_packet).0 ∙ gate_is in
     rw (← c.self.view_is) (λ seen told h done way gate_same.
-    let past : IsPast h done c.self.inside.tally.listing.events c.args.gate = subst (λ g. IsPast h done c.self.inside.tally.listing.events g) (sym gate_same) way.past in
-    let on_way = way.on_way seen told in
-    let read = g.met.B.Bay.as_read c.self.inside.bay seen told in
-    let on_read = on_way_read (g.B.Bay.leaves c.self.inside.bay) seen h c.self.inside.tally.listing c.self.inside.tally.rows c.self.inside.tally.due.reports c.self.inside.log
-    c.self.inside.last.n0 on_way (g.B.Bay.leaves c.read_packet.new.bay) (λ image may. (c.read_packet.ensures.keeps.images image).0 may) in
-    let told_read : (g.B.Bay.files c.read_packet.new.bay) ≡ Some seen = c.read_packet.ensures.keeps.seen ∙ told in
-    let closed = subst (IsClosed (seen 0)) gate_is (c.in-Ok-false.ensures.closed seen told no_packet) in (
-      ends_there c.self.inside.tally.listing.settings c.self.inside.tally.listing.cone (seen 0) h done c.self.inside.tally.listing.events c.args.gate (journal_on_way
-          (g.B.Bay.leaves c.self.inside.bay) seen h c.self.inside.tally.listing c.self.inside.tally.rows c.self.inside.tally.due.reports c.self.inside.log c.self.inside.last.n0 on_way read) past
-          closed,
-      record {
-        state_is = replaying;
-        past = subst (λ g. IsPast h done c.self.inside.tally.listing.events g) (sym gate_at) past;
-        on_way = λ after told_after. subst (λ (f : Files). IsOnWay (g.B.Bay.leaves c.read_packet.new.bay) f h c.self.inside.tally.listing c.self.inside.tally.rows c.self.inside.tally.due.reports
-            c.self.inside.log c.self.inside.last.n0) (told_once (g.B.Bay.files c.read_packet.new.bay) seen after told_read told_after) on_read;
-      },
-    ))
+    ended_replays (bays g) (lawful g) c.self.inside.bay c.read_packet.new.bay _ _ _ _ _ c.read_packet.ensures.keeps c.self.inside.tally c.self.inside.log c.self.inside.last
+    seen told h done c.args.gate (way.on_way seen told) (subst (λ g. IsPast h done c.self.inside.tally.listing.events g) (sym gate_same) way.past)
+    c.self.inside.made.value c.self.inside.events c.self.inside.state (over_of c.self.inside.over) c.read_packet.new.journal.gate replaying gate_at
+    (subst (IsClosed (seen 0)) gate_is (c.in-Ok-false.ensures.closed seen told no_packet)))
 
 -- what stands there isn't taken
 pub returns-in-Err-clause-refused : goal.returns-in-Err-clause-refused
 returns-in-Err-clause-refused g c =
     let gate_is : c.at_gate-self-inside.result.gate ≡ c.args.gate = ap (λ (j : Log). j.gate) c.at_gate-self-inside.ensures in
     rw (← c.self.view_is) (λ seen told.
-    subst (λ (fault : ReplayFault). WhyRefused (record {
-      bay = c.self.inside.bay;
-      made = c.self.inside.made.value;
-      listing = c.self.inside.tally.listing;
-      rows = c.self.inside.tally.rows;
-      reports = c.self.inside.tally.due.reports;
-      events = c.self.inside.events;
-      state = c.self.inside.state;
-      over = over_of c.self.inside.over;
-      gate = c.self.inside.journal.gate;
-      log = c.self.inside.log;
-      last = c.self.inside.last;
-    }) (seen 0) c.args.gate fault) (sym c.from-fault.ensures)
-    (refused_record (record {
-      bay = c.self.inside.bay;
-      made = c.self.inside.made.value;
-      listing = c.self.inside.tally.listing;
-      rows = c.self.inside.tally.rows;
-      reports = c.self.inside.tally.due.reports;
-      events = c.self.inside.events;
-      state = c.self.inside.state;
-      over = over_of c.self.inside.over;
-      gate = c.self.inside.journal.gate;
-      log = c.self.inside.log;
-      last = c.self.inside.last;
-    }) (seen 0) c.args.gate c.in-Err.fault (λ at same.
+    subst (λ (fault : ReplayFault). WhyRefused (seen_as c.self.inside.bay c.self.inside.made.value c.self.inside.tally c.self.inside.events c.self.inside.state
+    (over_of c.self.inside.over) c.self.inside.journal.gate c.self.inside.log c.self.inside.last) (seen 0) c.args.gate fault) (sym c.from-fault.ensures)
+    (refused_record (seen_as c.self.inside.bay c.self.inside.made.value c.self.inside.tally c.self.inside.events c.self.inside.state
+    (over_of c.self.inside.over) c.self.inside.journal.gate c.self.inside.log c.self.inside.last) (seen 0) c.args.gate c.in-Err.fault (λ at same.
     subst (λ g. ReplayLeavesAt c.self.inside.tally.listing.settings c.self.inside.tally.listing.cone c.self.inside.last.n0 c.self.inside.last.closed (length c.self.inside.tally.listing.events)
     (seen 0) g at) gate_is (c.in-Err.ensures.malformed seen told at (ap Err same)))))
 
@@ -450,7 +328,7 @@ pub returns-in-Err-replay_keys-clause-whole : goal.returns-in-Err-replay_keys-cl
 returns-in-Err-replay_keys-clause-whole g c = rw (← c.self.view_is) (λ seen told some at same.
     let answer : c.from.result ≡ Unsound 2 at = cc in
     let fault_is = unsound_keys c.in-Err-replay_keys.fault 2 at (sym c.from.ensures ∙ answer) in
-    c.replay_keys.ensures.whole seen (c.read_packet.ensures.keeps.seen ∙ told) some at (c.in-Err-replay_keys.is ∙ ap Err fault_is))
+    c.replay_keys.ensures.whole seen (c.read_packet.ensures.keeps.reads.seen ∙ told) some at (c.in-Err-replay_keys.is ∙ ap Err fault_is))
 
 pub returns-in-Err-clause-whole : goal.returns-in-Err-clause-whole
 returns-in-Err-clause-whole g c = λ seen told some at same.
@@ -458,9 +336,72 @@ returns-in-Err-clause-whole g c = λ seen told some at same.
     never_unsound c.in-Err.fault 2 at (sym c.from-fault.ensures ∙ answer))
 
 pub returns-in_default-clause-framed : goal.returns-in_default-clause-framed
-returns-in_default-clause-framed g c = rw (← c.self.view_is) (λ seen told some. c.in_default.ensures.framed seen (c.read_packet.ensures.keeps.seen ∙ told) some)
+returns-in_default-clause-framed g c = rw (← c.self.view_is) (λ seen told some. c.in_default.ensures.framed seen (c.read_packet.ensures.keeps.reads.seen ∙ told) some)
 
 pub returns-in-Ok-false-clause-framed : goal.returns-in-Ok-false-clause-framed
 returns-in-Ok-false-clause-framed g c = rw (← c.self.view_is) (λ seen told some after told_after.
     subst (λ (files : Files). HoldsSome c.self.inside.tally.listing.settings (max c.self.inside.last.n0 (length c.self.inside.tally.listing.events)) c.self.inside.tally.rows (files 2))
-    (told_once (g.B.Bay.files c.self.inside.bay) seen after told (sym c.read_packet.ensures.keeps.seen ∙ told_after)) some)
+    (told_once (g.B.Bay.files c.self.inside.bay) seen after told (sym c.read_packet.ensures.keeps.reads.seen ∙ told_after)) some)
+
+-- what the files are behind it
+pub returns-in-Err-replay_keys-clause-stays_sound : goal.returns-in-Err-replay_keys-clause-stays_sound
+returns-in-Err-replay_keys-clause-stays_sound g c =
+    let replaying : c.self.inside.state ≡ Replaying = subst (λ (v : Standing g.row.B.Denot). v.state ≡ Replaying) (sym c.self.view_is) c.requires.replaying in
+    let gate_is : c.at_gate-self-inside.result.gate ≡ c.args.gate = ap (λ (j : Log). j.gate) c.at_gate-self-inside.ensures in
+    let yes : IsTrue c.in-Ok-true.field-0 = c.in-Ok-true.field-0-test in
+    rw (← c.self.view_is) (λ seen told h done way gate_same.
+    keys_stay (bays g) (lawful g) c.self.inside.bay c.read_packet.new.bay _ _ _ _ _ c.read_packet.ensures.keeps c.self.inside.tally c.self.inside.log c.self.inside.last
+    seen told h done c.args.gate (way.on_way seen told) (subst (λ g. IsPast h done c.self.inside.tally.listing.events g) (sym gate_same) way.past)
+    (c.self.invariant.replaying replaying).recounted
+    (packet_of c.read_packet.new.entry) (held_at gate_is (c.in-Ok-true.ensures.found seen told yes)) c.keys_of.result.now c.keys_of.ensures.value _ _ _ c.replay_keys.ensures)
+
+pub returns-in-Err-replay_keys-clause-unflushed : goal.returns-in-Err-replay_keys-clause-unflushed
+returns-in-Err-replay_keys-clause-unflushed g c =
+    let gate_is : c.at_gate-self-inside.result.gate ≡ c.args.gate = ap (λ (j : Log). j.gate) c.at_gate-self-inside.ensures in
+    let yes : IsTrue c.in-Ok-true.field-0 = c.in-Ok-true.field-0-test in
+    rw (← c.self.view_is) (λ seen told none.
+    keys_unwritten (bays g) (lawful g) c.self.inside.bay c.read_packet.new.bay _ _ _ _ _ c.read_packet.ensures.keeps c.self.inside.tally.listing.settings
+    (length c.self.inside.tally.listing.events) c.self.inside.last.n0 (packet_of c.read_packet.new.entry) c.keys_of.result.now _ c.keys_of.ensures.value
+    (none (packet_of c.read_packet.new.entry) (held_at gate_is (c.in-Ok-true.ensures.found seen told yes))) c.replay_keys.ensures.unflushed)
+
+pub returns-in_default-clause-stays_sound : goal.returns-in_default-clause-stays_sound
+returns-in_default-clause-stays_sound g c =
+    let replaying : c.self.inside.state ≡ Replaying = subst (λ (v : Standing g.row.B.Denot). v.state ≡ Replaying) (sym c.self.view_is) c.requires.replaying in
+    let gate_is : c.at_gate-self-inside.result.gate ≡ c.args.gate = ap (λ (j : Log). j.gate) c.at_gate-self-inside.ensures in
+    let yes : IsTrue c.in-Ok-true.field-0 = c.in-Ok-true.field-0-test in
+    rw (← c.self.view_is) (λ seen told h done way gate_same.
+    keys_stay (bays g) (lawful g) c.self.inside.bay c.read_packet.new.bay _ _ _ _ _ c.read_packet.ensures.keeps c.self.inside.tally c.self.inside.log c.self.inside.last
+    seen told h done c.args.gate (way.on_way seen told) (subst (λ g. IsPast h done c.self.inside.tally.listing.events g) (sym gate_same) way.past)
+    (c.self.invariant.replaying replaying).recounted
+    (packet_of c.read_packet.new.entry) (held_at gate_is (c.in-Ok-true.ensures.found seen told yes)) c.keys_of.result.now c.keys_of.ensures.value _ _ _ c.replay_keys.ensures)
+
+pub returns-in_default-clause-unflushed : goal.returns-in_default-clause-unflushed
+returns-in_default-clause-unflushed g c =
+    let gate_is : c.at_gate-self-inside.result.gate ≡ c.args.gate = ap (λ (j : Log). j.gate) c.at_gate-self-inside.ensures in
+    let yes : IsTrue c.in-Ok-true.field-0 = c.in-Ok-true.field-0-test in
+    rw (← c.self.view_is) (λ seen told none.
+    keys_unwritten (bays g) (lawful g) c.self.inside.bay c.read_packet.new.bay _ _ _ _ _ c.read_packet.ensures.keeps c.self.inside.tally.listing.settings
+    (length c.self.inside.tally.listing.events) c.self.inside.last.n0 (packet_of c.read_packet.new.entry) c.keys_of.result.now _ c.keys_of.ensures.value
+    (none (packet_of c.read_packet.new.entry) (held_at gate_is (c.in-Ok-true.ensures.found seen told yes))) c.replay_keys.ensures.unflushed)
+
+pub returns-in-Ok-false-clause-stays_sound : goal.returns-in-Ok-false-clause-stays_sound
+returns-in-Ok-false-clause-stays_sound g c =
+    let replaying : c.self.inside.state ≡ Replaying = subst (λ (v : Standing g.row.B.Denot). v.state ≡ Replaying) (sym c.self.view_is) c.requires.replaying in
+    rw (← c.self.view_is) (λ seen told h done way gate_same.
+    read_stays (bays g) (lawful g) c.self.inside.bay c.read_packet.new.bay _ _ _ _ _ c.read_packet.ensures.keeps c.self.inside.tally c.self.inside.log c.self.inside.last
+    seen told h done c.args.gate (way.on_way seen told) (subst (λ g. IsPast h done c.self.inside.tally.listing.events g) (sym gate_same) way.past)
+    (c.self.invariant.replaying replaying).recounted)
+
+pub returns-in-Ok-false-clause-unflushed : goal.returns-in-Ok-false-clause-unflushed
+returns-in-Ok-false-clause-unflushed g c = rw (← c.self.view_is) (λ seen told none. read_unwritten (bays g) (lawful g) c.self.inside.bay c.read_packet.new.bay _ _ _ _ _ c.read_packet.ensures.keeps)
+
+pub returns-in-Err-clause-stays_sound : goal.returns-in-Err-clause-stays_sound
+returns-in-Err-clause-stays_sound g c =
+    let replaying : c.self.inside.state ≡ Replaying = subst (λ (v : Standing g.row.B.Denot). v.state ≡ Replaying) (sym c.self.view_is) c.requires.replaying in
+    rw (← c.self.view_is) (λ seen told h done way gate_same.
+    read_stays (bays g) (lawful g) c.self.inside.bay c.read_packet.new.bay _ _ _ _ _ c.read_packet.ensures.keeps c.self.inside.tally c.self.inside.log c.self.inside.last
+    seen told h done c.args.gate (way.on_way seen told) (subst (λ g. IsPast h done c.self.inside.tally.listing.events g) (sym gate_same) way.past)
+    (c.self.invariant.replaying replaying).recounted)
+
+pub returns-in-Err-clause-unflushed : goal.returns-in-Err-clause-unflushed
+returns-in-Err-clause-unflushed g c = rw (← c.self.view_is) (λ seen told none. read_unwritten (bays g) (lawful g) c.self.inside.bay c.read_packet.new.bay _ _ _ _ _ c.read_packet.ensures.keeps)

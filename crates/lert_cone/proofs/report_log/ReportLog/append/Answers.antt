@@ -54,9 +54,12 @@ returns-in_err-append g c =
       others = λ seen told. subst (λ (f : ℕ). KeepsOthers (g.B.Bay.leaves c.args.bay.now) (g.B.Bay.left_since c.append.new.bay (g.B.Bay.moment c.args.bay.now)) seen f) c.self.invariant
           (c.append.ensures.others seen told);
       seen = subst (λ (f : ℕ). Turns (OthersStay f) (g.B.Bay.files c.args.bay.now) (g.B.Bay.files c.append.new.bay)) c.self.invariant c.append.ensures.seen;
-      time = c.append.ensures.time;
-      cause = record { never_falls = c.append.ensures.cause.never_falls; failed = λ _. c.append.ensures.cause.failed (ap is_err c.in_err-append.was) };
-      mark = c.append.ensures.mark;
+      kept = record {
+        time = c.append.ensures.kept.time;
+        never_falls = c.append.ensures.kept.never_falls;
+        failed = λ _. c.append.ensures.kept.failed (ap is_err c.in_err-append.was);
+        mark = c.append.ensures.kept.mark;
+      };
     })
 
 pub returns : goal.returns
@@ -109,7 +112,10 @@ returns g c = record {
   others = λ seen told. subst (λ (f : ℕ). KeepsOthers (g.B.Bay.leaves c.args.bay.now) (g.B.Bay.left_since c.append.new.bay (g.B.Bay.moment c.args.bay.now)) seen f) c.self.invariant
       (c.append.ensures.others seen told);
   seen = subst (λ (f : ℕ). Turns (OthersStay f) (g.B.Bay.files c.args.bay.now) (g.B.Bay.files c.append.new.bay)) c.self.invariant c.append.ensures.seen;
-  time = c.append.ensures.time;
-  cause = record { never_falls = c.append.ensures.cause.never_falls; failed = λ never. absurd (false≢true never) };
-  mark = c.append.ensures.mark;
+  kept = record {
+    time = c.append.ensures.kept.time;
+    never_falls = c.append.ensures.kept.never_falls;
+    failed = λ never. absurd (false≢true never);
+    mark = c.append.ensures.kept.mark;
+  };
 }

@@ -1,5 +1,6 @@
 use Rattle.std.proofs.Common.{◌≡◌, false, Option, ap, sym, ◌∙◌, subst}
 use Rattle.lert_bay.specs.Kept.{Bays}
+use Rattle.lert_bay.proofs.KeptLaws.{IsLawful}
 use Rattle.lert_cone.specs.Due.{Dues, started}
 use Rattle.lert_cone.specs.Tally.{Tallied, IsCounted, due_in}
 use Rattle.lert_cone.proofs.EndCounted.{not_ended, no_room_left, all_counted}
@@ -8,6 +9,9 @@ use Rattle.lert_cone.proofs.tally.Tally.finish.Goals as goal
 
 abbrev bays : (g : given.Over) → Bays g.row.B.Denot
 bays g = record { faults = g.B.Faulty.faults; mark = g.B.Faulty.mark; files = g.B.Bay.files; leaves = g.B.Bay.leaves; moment = g.B.Bay.moment; left_since = g.B.Bay.left_since }
+
+lawful : (g : given.Over) → IsLawful (bays g)
+lawful g = record { as_read = g.met.B.Bay.as_read; since_now = g.met.B.Bay.since_now; only_now = g.met.B.Bay.only_now; since_earlier = g.met.B.Bay.since_earlier }
 
 pub returns-in_err-result : goal.returns-in_err-result
 returns-in_err-result g c =
@@ -19,7 +23,7 @@ returns-in_err-result g c =
     }) = subst (λ (v : Tallied). IsCounted v) (sym c.self.view_is) c.requires.counted in
     let start_is : c.begin.new.self ≡ started (due_in c.self.inside.due) c.self.inside.len =
     c.begin.ensures.begun ∙ ap (λ (d : Option Dues). started (due_in d) c.self.inside.len) (sym c.in-Some.is ∙ c.take.ensures.value) in
-    rw (← c.self.view_is) (not_ended (bays g)
+    rw (← c.self.view_is) (not_ended (bays g) (lawful g)
     (record {
       listing = record { settings = c.self.inside.settings; cone = c.self.inside.cone; events = c.self.inside.taken; closed = c.self.inside.closed };
       young = c.self.inside.zero;
@@ -42,7 +46,7 @@ returns-then-is_full g c =
     c.begin.ensures.begun ∙ ap (λ (d : Option Dues). started (due_in d) c.self.inside.len) (sym c.in-Some.is ∙ c.take.ensures.value) in
     let still : c.self.inside.closed ≡ false = subst (λ (v : Tallied). v.listing.closed ≡ false) (sym c.self.view_is) c.requires.still in
     let scans = rw c.in_ok-result.was at c.scan_into-due.ensures in
-    rw (← c.self.view_is) (no_room_left (bays g)
+    rw (← c.self.view_is) (no_room_left (bays g) (lawful g)
     (record {
       listing = record { settings = c.self.inside.settings; cone = c.self.inside.cone; events = c.self.inside.taken; closed = c.self.inside.closed };
       young = c.self.inside.zero;
@@ -65,7 +69,7 @@ returns g c =
     c.begin.ensures.begun ∙ ap (λ (d : Option Dues). started (due_in d) c.self.inside.len) (sym c.in-Some.is ∙ c.take.ensures.value) in
     let still : c.self.inside.closed ≡ false = subst (λ (v : Tallied). v.listing.closed ≡ false) (sym c.self.view_is) c.requires.still in
     let scans = rw c.in_ok-result.was at c.scan_into-due.ensures in
-    rw (← c.self.view_is) (all_counted (bays g)
+    rw (← c.self.view_is) (all_counted (bays g) (lawful g)
     (record {
       listing = record { settings = c.self.inside.settings; cone = c.self.inside.cone; events = c.self.inside.taken; closed = c.self.inside.closed };
       young = c.self.inside.zero;

@@ -6,11 +6,15 @@ use Rattle.lert_cone.specs.Tally.{Tallied, IsCounted, due_in}
 use Rattle.lert_cone.proofs.KeyCounted.{not_counted, no_room, key_counted}
 use Rattle.lert_cone.proofs.TakeLaws.{rows_before}
 use Rattle.lert_bay.specs.Kept.{Bays}
+use Rattle.lert_bay.proofs.KeptLaws.{IsLawful}
 use Rattle.lert_cone.proofs.tally.Tally.take.Given as given
 use Rattle.lert_cone.proofs.tally.Tally.take.Goals as goal
 
 abbrev bays : (g : given.Over) → Bays g.row.B.Denot
 bays g = record { faults = g.B.Faulty.faults; mark = g.B.Faulty.mark; files = g.B.Bay.files; leaves = g.B.Bay.leaves; moment = g.B.Bay.moment; left_since = g.B.Bay.left_since }
+
+lawful : (g : given.Over) → IsLawful (bays g)
+lawful g = record { as_read = g.met.B.Bay.as_read; since_now = g.met.B.Bay.since_now; only_now = g.met.B.Bay.only_now; since_earlier = g.met.B.Bay.since_earlier }
 
 pub bring-due-requires-clause-rows : goal.bring-due-requires-clause-rows
 bring-due-requires-clause-rows g c =
@@ -38,7 +42,7 @@ returns-in_err-result g c =
     let m_is : c.self.inside.len + 1 ≡ suc (length c.self.inside.taken) = omega (arith, c.self.invariant.len_is) in
     let start_is : c.begin.new.self ≡ started (due_in c.self.inside.due) (c.self.inside.len + 1) =
     c.begin.ensures.begun ∙ ap (λ (d : Option Dues). started (due_in d) (c.self.inside.len + 1)) (sym c.in-Some.is ∙ c.take.ensures.value) in
-    rw (← c.self.view_is) (not_counted (bays g)
+    rw (← c.self.view_is) (not_counted (bays g) (lawful g)
     (record {
       listing = record { settings = c.self.inside.settings; cone = c.self.inside.cone; events = c.self.inside.taken; closed = c.self.inside.closed };
       young = c.self.inside.zero;
@@ -65,7 +69,7 @@ returns-then-is_full g c =
     let own : cone_of c.self.inside.settings c.args.key ≡ c.self.inside.cone = subst (λ (v : Tallied). cone_of v.listing.settings c.args.key ≡ v.listing.cone) (sym c.self.view_is) c.requires.own in
     let still : c.self.inside.closed ≡ false = subst (λ (v : Tallied). v.listing.closed ≡ false) (sym c.self.view_is) c.requires.still in
     let brings = rw c.in_ok-result.was at c.bring-due.ensures in
-    rw (← c.self.view_is) (no_room (bays g)
+    rw (← c.self.view_is) (no_room (bays g) (lawful g)
     (record {
       listing = record { settings = c.self.inside.settings; cone = c.self.inside.cone; events = c.self.inside.taken; closed = c.self.inside.closed };
       young = c.self.inside.zero;
@@ -92,7 +96,7 @@ returns g c =
     let own : cone_of c.self.inside.settings c.args.key ≡ c.self.inside.cone = subst (λ (v : Tallied). cone_of v.listing.settings c.args.key ≡ v.listing.cone) (sym c.self.view_is) c.requires.own in
     let still : c.self.inside.closed ≡ false = subst (λ (v : Tallied). v.listing.closed ≡ false) (sym c.self.view_is) c.requires.still in
     let brings = rw c.in_ok-result.was at c.bring-due.ensures in
-    rw (← c.self.view_is) (key_counted (bays g)
+    rw (← c.self.view_is) (key_counted (bays g) (lawful g)
     (record {
       listing = record { settings = c.self.inside.settings; cone = c.self.inside.cone; events = c.self.inside.taken; closed = c.self.inside.closed };
       young = c.self.inside.zero;

@@ -2,6 +2,7 @@ use Rattle.std.proofs.Common.{◌≡◌, ◌≢◌, ℕ, ◌+◌, ◌<◌, List,
 use Rattle.std.proofs.lemmas.List.Elements.{All-nil}
 use Rattle.std.proofs.lemmas.Option.{same_Some}
 use Rattle.lert_bay.specs.Files.{Files}
+use Rattle.lert_bay.proofs.Lasting.{lasts_none}
 use Rattle.lert_spec.specs.declared.numbers.Numbers.{Numbers}
 use Rattle.lert_spec.specs.declared.piece.Piece.{Piece}
 use Rattle.lert_spec.specs.Edges.{span, depth}
@@ -52,11 +53,15 @@ returns-then-depth-eq0 g c = record {
   images = λ events long bins seen told holds each after told_after. each;
   are = λ are. are;
   still = λ stays. refl;
+  unflushed = λ stays. refl;
   rest = rest_none (InNamed c.args.levels.now.settings c.args.levels.now.rows) (g.B.Bay.files c.args.bay.now) (g.B.Bay.leaves c.args.bay.now) (g.B.Bay.moment c.args.bay.now)
       (g.B.Bay.left_since c.args.bay.now) (g.met.B.Bay.only_now c.args.bay.now);
-  failed = λ same. absurd (let never : ⊥ = cc in never);
-  never_falls = omega arith;
-  mark = refl;
+  kept = record {
+    time = lasts_none (g.B.Bay.moment c.args.bay.now) (g.B.Bay.left_since c.args.bay.now);
+    never_falls = omega arith;
+    failed = λ same. absurd (let never : ⊥ = cc in never);
+    mark = refl;
+  };
 }
 
 pub flush_into-due-requires-clause-flushes : goal.flush_into-due-requires-clause-flushes
@@ -119,10 +124,16 @@ returns-in-Ok g c = record {
   still = λ stays.
       absurd (flush_moves c.args.levels.now.settings c.requires.valid c.args.m (deep c.depth.result c.args.m c.settings.result.now c.args.levels.now.settings c.depth.ensures.value
       (c.settings.ensures ∙ c.requires.settings) c.if-depth-eq0.false) stays);
+  unflushed = λ stays.
+      absurd (flush_moves c.args.levels.now.settings c.requires.valid c.args.m (deep c.depth.result c.args.m c.settings.result.now c.args.levels.now.settings c.depth.ensures.value
+      (c.settings.ensures ∙ c.requires.settings) c.if-depth-eq0.false) stays);
   rest = c.flush_into-due.ensures.rest;
-  failed = λ same. absurd (let never : ⊥ = cc in never);
-  never_falls = c.flush_into-due.ensures.never_falls;
-  mark = c.flush_into-due.ensures.mark;
+  kept = record {
+    time = c.flush_into-due.ensures.kept.time;
+    never_falls = c.flush_into-due.ensures.kept.never_falls;
+    failed = λ same. absurd (let never : ⊥ = cc in never);
+    mark = c.flush_into-due.ensures.kept.mark;
+  };
 }
 
 pub returns-in-Err : goal.returns-in-Err
@@ -145,8 +156,14 @@ returns-in-Err g c = record {
   images = λ events long bins seen told holds each. tt;
   are = tt;
   still = λ stays. tt;
+  unflushed = λ stays.
+      absurd (flush_moves c.args.levels.now.settings c.requires.valid c.args.m (deep c.depth.result c.args.m c.settings.result.now c.args.levels.now.settings c.depth.ensures.value
+      (c.settings.ensures ∙ c.requires.settings) c.if-depth-eq0.false) stays);
   rest = c.flush_into-due.ensures.rest;
-  failed = λ same. c.flush_into-due.ensures.failed (c.in-Err.is ∙ same);
-  never_falls = c.flush_into-due.ensures.never_falls;
-  mark = c.flush_into-due.ensures.mark;
+  kept = record {
+    time = c.flush_into-due.ensures.kept.time;
+    never_falls = c.flush_into-due.ensures.kept.never_falls;
+    failed = λ same. c.flush_into-due.ensures.kept.failed (c.in-Err.is ∙ same);
+    mark = c.flush_into-due.ensures.kept.mark;
+  };
 }

@@ -74,7 +74,10 @@ returns g c = record {
   unwritten = c.flush-result.ensures.unwritten;
   durable = c.flush-result.ensures.durable;
   rest = c.flush-result.ensures.rest;
-  failed = c.flush-result.ensures.failed;
-  never_falls = c.flush-result.ensures.never_falls;
-  mark = c.flush-result.ensures.mark;
+  kept = record {
+    time = c.flush-result.ensures.rest.time;
+    never_falls = c.flush-result.ensures.never_falls;
+    failed = c.flush-result.ensures.failed;
+    mark = c.flush-result.ensures.mark;
+  };
 }

@@ -1,0 +1,177 @@
+-- A record of the journal through the calls that a cone makes for it: it is read, and then its keys are taken.
+use Rattle.std.proofs.Common.{◌≡◌, ℕ, ◌+◌, ◌≤◌, List, ◌++◌, length, take, drop, max, Option, Some, Result, sym, ap, ◌∙◌, subst, inl, inr, arith}
+use Rattle.std.specs.List.{length_refill}
+use Rattle.lert_base.specs.Packet.{Packet, events_of}
+use Rattle.lert_bay.specs.Files.{Files, IfTold}
+use Rattle.lert_bay.specs.Images.{Lasts}
+use Rattle.lert_bay.specs.Kept.{Bays}
+use Rattle.lert_bay.proofs.KeptLaws.{IsLawful}
+use Rattle.lert_gatelog.specs.Gated.{IsClosed, Log, next_gate}
+use Rattle.lert_gatelog.specs.Kept.{IsWhollySettled}
+use Rattle.lert_journal.specs.Journal.{HoldsPacket}
+use Rattle.lert_reports.specs.declared.log_point.LogPoint.{LogPoint}
+use Rattle.lert_spec.specs.declared.numbers.Numbers.{Numbers}
+use Rattle.lert_cone.specs.declared.state.ConeState.{ConeState}
+use Rattle.lert_cone.specs.declared.state.ConeState.TheVariants.{Replaying}
+use Rattle.lert_cone.specs.declared.tally.TakeFault.{TakeFault}
+use Rattle.lert_cone.specs.Framed.{last_flush}
+use Rattle.lert_cone.specs.History.{most_payload}
+use Rattle.lert_cone.specs.Listing.{Listing}
+use Rattle.lert_cone.specs.Reads.{OnlyReadsJournal}
+use Rattle.lert_cone.specs.Record.{LogPlace}
+use Rattle.lert_cone.specs.Replay.{IsOnWay, IsPast, IsNext}
+use Rattle.lert_cone.specs.Replays.{HasEnded, IsUnwritten, Replays}
+use Rattle.lert_cone.specs.Sound.{IsSound, StaysSound}
+use Rattle.lert_cone.specs.Stands.{Standing}
+use Rattle.lert_cone.specs.Takes.{Workplace, ReplaysKeys}
+use Rattle.lert_cone.specs.Tally.{Tallied, IsRecounted}
+use Rattle.lert_cone.specs.Wrote.{LeavesAlone}
+use Rattle.lert_cone.proofs.Calls.{now_since, alone_on, alone_read}
+use Rattle.lert_cone.proofs.GateLaws.{ends_there, keys_past, keys_next}
+use Rattle.lert_cone.proofs.ReplayLaws.{journal_on_way, on_way_read, sound_recounted}
+use Rattle.lert_cone.proofs.ReplayStands.{next_there, read_settled, shut_there}
+use Rattle.lert_cone.proofs.ReplayStep.{told_once}
+
+-- what a cone is seen as
+abbrev pub seen_as : {B : Type 0} → B → B → Tallied → ℕ → ConeState → Option Packet → ℕ → LogPlace → LogPoint → Standing B
+seen_as bay made tally events state over gate log last = record {
+  bay = bay;
+  made = made;
+  listing = tally.listing;
+  rows = tally.rows;
+  reports = tally.due.reports;
+  events = events;
+  state = state;
+  over = over;
+  gate = gate;
+  log = log;
+  last = last;
+}
+
+-- a packet that stands at a gate, said of another name of it
+pub held_at : {s : Numbers} {cone most gate at : ℕ} {bytes : List ℕ} {packet : Packet} → gate ≡ at → HoldsPacket s cone most bytes gate packet → HoldsPacket s cone most bytes at packet
+held_at {s} {cone} {most} {gate} {at} {bytes} {packet} is holds = subst (λ g. HoldsPacket s cone most bytes g packet) is holds
+
+-- a journal that moved on
+pub moved_on : {journal after : Log} {at : ℕ} (payload : List ℕ) → after ≡ record journal { gate = next_gate journal.gate payload } → journal.gate ≡ at → after.gate ≡ next_gate at payload
+moved_on payload moved gate_is = ap (λ (j : Log). j.gate) moved ∙ ap (λ gate. next_gate gate payload) gate_is
+
+-- a listing with keys more
+pub listing_more : (old new : Listing) (keys taken : List ℕ) → new ≡ record old { events = new.events } → new.events ≡ old.events ++ taken → taken ≡ keys →
+    new ≡ record { settings = old.settings; cone = old.cone; events = old.events ++ keys; closed = old.closed }
+listing_more old new keys taken is took same =
+    is ∙ ap (λ (ks : List ℕ). record { settings = old.settings; cone = old.cone; events = ks; closed = old.closed }) (took ∙ ap (λ ks. old.events ++ ks) same)
+
+-- a buffer that was lent keeps its length
+pub refilled : (len : ℕ) (items new : List ℕ) → len ≡ length items → length (take len (new ++ drop (length new) items)) ≡ length items
+refilled len items new len_is = sym (length_refill len items new len_is) ∙ len_is
+
+module _ {B : Type 0} (bays : Bays B) (lawful : IsLawful bays) where
+  -- what is sound in each image of each moment is so as the bay then reads
+  pub stays_by : (s : Numbers) (cone : ℕ) (history : List Packet) (before after : B) → bays.moment before ≤ bays.moment after →
+      ((image : Files) → bays.left_since after (bays.moment before) image → IsSound s cone history image) → StaysSound bays s cone history before after
+  stays_by s cone history before after later each = record {
+    each_moment = each;
+    as_read = λ seen told. each seen (now_since bays lawful before after later seen (lawful.as_read after seen told));
+  }
+
+  -- calls behind others
+  pub stays_on : (s : Numbers) (cone : ℕ) (history : List Packet) (before between after : B) → bays.moment before ≤ bays.moment between →
+      Lasts (bays.moment between) (bays.moment after) (bays.left_since between) (bays.left_since after) → StaysSound bays s cone history before between →
+      StaysSound bays s cone history between after → StaysSound bays s cone history before after
+  stays_on s cone history before between after later time one two = record {
+    each_moment = λ image may. elim (time.known (bays.moment before) image later may) [
+      | inl past ↦ one.each_moment image past
+      | inr here ↦ two.each_moment image here
+    ];
+    as_read = two.as_read;
+  }
+
+  -- a record is read at the gate
+  module _ (bay bay_read : B) (journal journal_read : Log) (room room_read : ℕ) (Failed : Type 0)
+      (read : OnlyReadsJournal bays bay bay_read journal journal_read room room_read Failed) where
+    pub read_unwritten : IsUnwritten bays bay bay_read
+    read_unwritten = record { seen = read.reads.seen; images = read.reads.images; moments = read.reads.moments }
+
+    -- and calls behind that leave a file alone
+    pub alone_behind : (file : ℕ) (after : B) → LeavesAlone bays file bay_read after → LeavesAlone bays file bay after
+    alone_behind file after left =
+        alone_on bays lawful file bay bay_read after
+        (alone_read bays lawful file bay bay_read _ read.reads) left
+
+    -- no flush comes with its keys
+    pub keys_unwritten : (s : Numbers) (n n0 : ℕ) (packet : Packet) (keys : List ℕ) (new : B) → keys ≡ packet.keys → last_flush s (n + length packet.keys) ≤ max n0 n →
+        (last_flush s (n + length keys) ≤ max n0 n → new ≡ bay_read) → IsUnwritten bays bay new
+    keys_unwritten s n n0 packet keys new keys_are passed unflushed =
+        subst (λ (b : B). IsUnwritten bays bay b) (sym (unflushed (omega (arith, passed, ap (λ (ks : List ℕ). last_flush s (n + length ks)) keys_are)))) read_unwritten
+
+    -- a closed gate stands there
+    pub ended_at : (made : B) (t : Tallied) (events : ℕ) (state : ConeState) (over : Option Packet) (before after at : ℕ) (log : LogPlace) (last : LogPoint) → after ≡ at →
+        last.n0 ≤ length t.listing.events → IfTold (bays.files bay) (λ seen. IsWhollySettled (bays.leaves bay) seen 0) → IfTold (bays.files bay) (λ seen. IsClosed (seen 0) at) →
+        HasEnded bays.files bays.leaves (seen_as bay made t events state over before log last) (seen_as bay_read made t events state over after log last) at
+    ended_at made t events state over before after at log last after_is enough settled closed = record {
+      enough = enough;
+      stands = closed;
+      shut = shut_there 0 at (bays.files bay_read) (bays.leaves bay_read)
+          (read_settled 0 (bays.files bay) (bays.files bay_read) (bays.leaves bay) (bays.leaves bay_read) read.reads.seen read.reads.images settled)
+          (λ seen told. closed seen (sym read.reads.seen ∙ told));
+      seen = read.reads.seen;
+      images = read.reads.images;
+      is = λ i. record {
+        bay = bay_read;
+        made = made;
+        listing = t.listing;
+        rows = t.rows;
+        reports = t.due.reports;
+        events = events;
+        state = state;
+        over = over;
+        gate = after_is i;
+        log = log;
+        last = last;
+      };
+    }
+
+    -- the cone is on its way through the journal of a history
+    module _ (t : Tallied) (log : LogPlace) (last : LogPoint) (seen : Files) (told : bays.files bay ≡ Some seen) (history done : List Packet) (gate : ℕ)
+        (on_way : IsOnWay (bays.leaves bay) seen history t.listing t.rows t.due.reports log last.n0) (past : IsPast history done t.listing.events gate) where
+      -- a packet that stands there is the next one, and memory and files are where they were
+      pub with_keys : (packet : Packet) → HoldsPacket t.listing.settings t.listing.cone (most_payload t.listing.settings) (seen 0) gate packet → (keys : List ℕ) → keys ≡ packet.keys →
+          {X : Type 0} → (bays.files bay_read ≡ Some seen → (next : IsNext history done packet) → events_of history ≡ t.listing.events ++ (keys ++ events_of next.rest) →
+          IsOnWay (bays.leaves bay_read) seen history t.listing t.rows t.due.reports log last.n0 → X) → X
+      with_keys packet holds keys keys_are goes =
+          let next = next_there (bays.leaves bay) seen history done t.listing t.rows t.due.reports log last.n0 gate packet on_way (lawful.as_read bay seen told) past holds in
+          goes (read.reads.seen ∙ told) next
+          (keys_next history done t.listing.events gate packet past next ∙ ap (λ (ks : List ℕ). t.listing.events ++ (ks ++ events_of next.rest)) (sym keys_are))
+          (on_way_read (bays.leaves bay) seen history t.listing t.rows t.due.reports log last.n0 on_way (bays.leaves bay_read) (λ image may. (read.reads.images image).0 may))
+
+      -- a closed gate that stands there is behind the last packet
+      pub ended_replays : (made : B) (events : ℕ) (state : ConeState) (over : Option Packet) (after : ℕ) → state ≡ Replaying → after ≡ gate → IsClosed (seen 0) gate →
+          (done ≡ history) × Replays bays.files bays.leaves (seen_as bay_read made t events state over after log last) history done
+      ended_replays made events state over after state_is after_is closed = (
+        ends_there t.listing.settings t.listing.cone (seen 0) history done t.listing.events gate
+            (journal_on_way (bays.leaves bay) seen history t.listing t.rows t.due.reports log last.n0 on_way (lawful.as_read bay seen told)) past closed,
+        record {
+          state_is = state_is;
+          past = subst (λ at. IsPast history done t.listing.events at) (sym after_is) past;
+          on_way = λ seen_after told_after.
+              subst (λ (files : Files). IsOnWay (bays.leaves bay_read) files history t.listing t.rows t.due.reports log last.n0)
+              (told_once (bays.files bay_read) seen seen_after (read.reads.seen ∙ told) told_after)
+              (on_way_read (bays.leaves bay) seen history t.listing t.rows t.due.reports log last.n0 on_way (bays.leaves bay_read) (λ image may. (read.reads.images image).0 may));
+        },
+      )
+
+      module _ (recounted : IsRecounted t last.n0) where
+        pub read_stays : StaysSound bays t.listing.settings t.listing.cone history bay bay_read
+        read_stays =
+            stays_by t.listing.settings t.listing.cone history bay bay_read read.reads.kept.time.later
+            (λ image may. sound_recounted (bays.leaves bay) seen history t log last.n0 recounted on_way (events_of past.rest) (keys_past history done t.listing.events gate past) image
+            (read.reads.moments image may))
+
+        pub keys_stay : (packet : Packet) → HoldsPacket t.listing.settings t.listing.cone (most_payload t.listing.settings) (seen 0) gate packet → (keys : List ℕ) → keys ≡ packet.keys →
+            (buffer : ℕ) (new : Workplace B) (result : Result (Unit {0}) TakeFault) → ReplaysKeys bays last.n0 keys (record { bay = bay_read; counts = t; log = log; room = buffer }) new result →
+            StaysSound bays t.listing.settings t.listing.cone history bay new.bay
+        keys_stay packet holds keys keys_are buffer new result did =
+            with_keys packet holds keys keys_are (λ told_read next is on_read.
+            stays_on t.listing.settings t.listing.cone history bay bay_read new.bay read.reads.kept.time.later did.keeps.journal.time read_stays
+            (stays_by t.listing.settings t.listing.cone history bay_read new.bay did.keeps.journal.time.later (did.each_moment seen told_read history (events_of next.rest) is on_read)))
