@@ -5,12 +5,13 @@ use Rattle.std.specs.Prelude.{All, MatchResult, IfErr, IfOk, IsErrAnd}
 use Rattle.std.proofs.lemmas.Option.{same_Some}
 use Rattle.lert_base.specs.declared.kept.Kept.{Kept}
 use Rattle.lert_base.specs.Packet.{Packet, events_of}
+use Rattle.lert_bay.specs.declared.bay.TheConstants.{JOURNAL, LOG}
 use Rattle.lert_bay.specs.Files.{Files}
 use Rattle.lert_cone.specs.History.{most_payload, end_of}
 use Rattle.lert_cone.specs.Sound.{IsSound, IsJournal}
 use Rattle.lert_journal.proofs.OneAnswer.{one_history}
 use Rattle.lert_rows.specs.declared.bin_at.BinAt.{BinAt}
-use Rattle.lert_reports.specs.Log.{is_closed, last_n0}
+use Rattle.lert_reports.specs.Log.{is_closed, last_n0, HasLog}
 use Rattle.lert_reports.specs.LogText.{LogRecord}
 use Rattle.lert_reports.proofs.LogOnce.{one_log}
 use Rattle.lert_spec.specs.declared.numbers.Numbers.{Numbers}
@@ -27,25 +28,27 @@ use Rattle.lert_recover.proofs.ReplayedLaws.{ends_from_start, ends_here, ends_or
 module _ (s : Numbers) (cone : ℕ) (valid : IsValid s) (below : cone < 2 ^ 32) (seen : Files) where
   -- ---- the records of one log
 
-  same_records : (records others : List LogRecord) (log_end other_end : ℕ) (rows other_rows : List (List BinAt)) → AreOpened s cone seen records log_end rows → AreOpened s cone seen others other_end other_rows → records ≡ others
-  same_records records others log_end other_end rows other_rows opened too = (one_log s cone valid (seen 1) records others log_end other_end opened.log too.log).0
+  same_records : (records others : List LogRecord) (log_end other_end : ℕ) (rows other_rows : List (List BinAt)) → AreOpened s cone seen records log_end rows →
+      AreOpened s cone seen others other_end other_rows → records ≡ others
+  same_records records others log_end other_end rows other_rows opened too = (one_log s cone valid (seen LOG) records others log_end other_end opened.log too.log).0
 
-  leaves_of : (records others : List LogRecord) (at : ℕ) → records ≡ others → JournalLeavesAt s cone (last_n0 records) (is_closed records) (seen 0) 0 32 at → JournalLeavesAt s cone (last_n0 others) (is_closed others) (seen 0) 0 32 at
-  leaves_of records others at same leaves = subst (λ (rs : List LogRecord). JournalLeavesAt s cone (last_n0 rs) (is_closed rs) (seen 0) 0 32 at) same leaves
+  leaves_of : (records others : List LogRecord) (at : ℕ) → records ≡ others → JournalLeavesAt s cone (last_n0 records) (is_closed records) (seen JOURNAL) 0 32 at →
+      JournalLeavesAt s cone (last_n0 others) (is_closed others) (seen JOURNAL) 0 32 at
+  leaves_of records others at same leaves = subst (λ (rs : List LogRecord). JournalLeavesAt s cone (last_n0 rs) (is_closed rs) (seen JOURNAL) 0 32 at) same leaves
 
   -- ---- one of the three, and one place
 
   module _ (closed : Bool) (events : List ℕ) (gate : ℕ) (reopened : IsReopened s cone seen closed events gate) where
-    ends : JournalEnds s cone (last_n0 reopened.records) (is_closed reopened.records) (seen 0) 0 32
+    ends : JournalEnds s cone (last_n0 reopened.records) (is_closed reopened.records) (seen JOURNAL) 0 32
     ends =
-        ends_from_start s cone (last_n0 reopened.records) (is_closed reopened.records) (seen 0) gate events reopened.replayed
-        (ends_here s cone (last_n0 reopened.records) (is_closed reopened.records) (seen 0) gate (length events) reopened.shut reopened.enough)
+        ends_from_start s cone (last_n0 reopened.records) (is_closed reopened.records) (seen JOURNAL) gate events reopened.replayed
+        (ends_here s cone (last_n0 reopened.records) (is_closed reopened.records) (seen JOURNAL) gate (length events) reopened.shut reopened.enough)
 
     -- the packets of the journal
-    pub reopened_journal : (h : List Packet) × IsJournal s cone h (seen 0) × (events ≡ events_of h)
+    pub reopened_journal : (h : List Packet) × IsJournal s cone h (seen JOURNAL) × (events ≡ events_of h)
     reopened_journal = (
       reopened.replayed.packets,
-      journal_of s cone (last_n0 reopened.records) (is_closed reopened.records) (seen 0) gate events reopened.opened.headed reopened.shut reopened.replayed,
+      journal_of s cone (last_n0 reopened.records) (is_closed reopened.records) (seen JOURNAL) gate events reopened.opened.headed reopened.shut reopened.replayed,
       reopened.replayed.events_are,
     )
 
@@ -53,36 +56,44 @@ module _ (s : Numbers) (cone : ℕ) (valid : IsValid s) (below : cone < 2 ^ 32) 
     pub reopened_events : (history : List Packet) → IsSound s cone history seen → events ≡ events_of history
     reopened_events history sound =
         let own = reopened_journal.1 in
-        let same = one_history s cone (most_payload s) (seen 0) 32 reopened_journal.0 history (end_of reopened_journal.0) (end_of history)
+        let same = one_history s cone (most_payload s) (seen JOURNAL) 32 reopened_journal.0 history (end_of reopened_journal.0) (end_of history)
         own.journaled sound.journal.journaled own.fit sound.journal.fit own.records sound.journal.records in
         reopened_journal.2 ∙ ap events_of same.0
 
     pub reopened_closed : (history : List Packet) (sound : IsSound s cone history seen) → closed ≡ is_closed sound.logged
     reopened_closed history sound =
-        reopened.closed_is ∙ ap is_closed (one_log s cone valid (seen 1) reopened.records sound.logged reopened.log_end sound.log_end reopened.opened.log sound.log).0
+        reopened.closed_is ∙ ap is_closed (one_log s cone valid (seen LOG) reopened.records sound.logged reopened.log_end sound.log_end reopened.opened.log sound.log).0
 
   -- files that are in their format to their end
   pub whole_or_left : (file at : ℕ) → AreInFormat s cone seen → FirstLeaves s cone seen file at → ⊥
   whole_or_left file at whole (Before_records leaves) = opened_or_left s cone valid below seen whole.records whole.log_end whole.rows file at whole.opened leaves
   whole_or_left file at whole (In_records records log_end rows opened file_is leaves) =
-      ends_or_leaves s cone (last_n0 whole.records) (is_closed whole.records) (seen 0) 0 32 at whole.journal
+      ends_or_leaves s cone (last_n0 whole.records) (is_closed whole.records) (seen JOURNAL) 0 32 at whole.journal
       (leaves_of records whole.records at (same_records records whole.records log_end whole.log_end rows whole.rows opened whole.opened) leaves)
 
   pub reopened_or_left : (closed : Bool) (events : List ℕ) (gate : ℕ) → IsReopened s cone seen closed events gate → (file at : ℕ) → FirstLeaves s cone seen file at → ⊥
   reopened_or_left closed events gate reopened file at leaves =
-      whole_or_left file at (record { records = reopened.records; log_end = reopened.log_end; rows = reopened.rows; opened = reopened.opened; journal = ends closed events gate reopened }) leaves
+      whole_or_left file at (record {
+        records = reopened.records;
+        log_end = reopened.log_end;
+        rows = reopened.rows;
+        opened = reopened.opened;
+        journal = ends closed events gate reopened;
+      }) leaves
 
-  first_or_other : (file at : ℕ) (kept : Kept) → FirstLeaves s cone seen file at → HasOther s cone (seen 0) kept → ⊥
+  first_or_other : (file at : ℕ) (kept : Kept) → FirstLeaves s cone seen file at → HasOther s cone (seen JOURNAL) kept → ⊥
   first_or_other file at kept (Before_records leaves) has = left_or_other s cone valid below seen file at kept leaves has
   first_or_other file at kept (In_records records log_end rows opened file_is leaves) has = no_other s cone valid below seen opened.headed kept has
 
   pub one_first : (file at other_file other : ℕ) → FirstLeaves s cone seen file at → FirstLeaves s cone seen other_file other → (file ≡ other_file) × (at ≡ other)
   one_first file at other_file other (Before_records leaves) (Before_records too) = one_place s cone valid below seen file at other_file other leaves too
-  one_first file at other_file other (Before_records leaves) (In_records records log_end rows opened file_is too) = absurd (opened_or_left s cone valid below seen records log_end rows file at opened leaves)
-  one_first file at other_file other (In_records records log_end rows opened file_is leaves) (Before_records too) = absurd (opened_or_left s cone valid below seen records log_end rows other_file other opened too)
+  one_first file at other_file other (Before_records leaves) (In_records records log_end rows opened file_is too) =
+      absurd (opened_or_left s cone valid below seen records log_end rows file at opened leaves)
+  one_first file at other_file other (In_records records log_end rows opened file_is leaves) (Before_records too) =
+      absurd (opened_or_left s cone valid below seen records log_end rows other_file other opened too)
   one_first file at other_file other (In_records records log_end rows opened file_is leaves) (In_records others other_end other_rows opened_too other_is too) = (
     file_is ∙ sym other_is,
-    one_journal_place s cone (last_n0 others) (is_closed others) (seen 0) 0 32 at other
+    one_journal_place s cone (last_n0 others) (is_closed others) (seen JOURNAL) 0 32 at other
         (leaves_of records others at (same_records records others log_end other_end rows other_rows opened opened_too) leaves) too,
   )
 
@@ -112,18 +123,19 @@ module _ (s : Numbers) (cone : ℕ) (valid : IsValid s) (below : cone < 2 ^ 32) 
       let at_is : at ≡ other = cc in
       subst (λ a. P other_file a) at_is (subst (λ f. P f at) file_is p)
 
-  pub by_place : (fault : ReopenFault) (file at : ℕ) → fault ≡ Malformed file at → IsReopenRefused s cone seen fault → FirstLeaves s cone seen file at ⊎ IsUnsoundAt s cone seen file at
+  pub by_place : (fault : ReopenFault) (file at : ℕ) → fault ≡ Malformed file at → IsReopenRefused s cone seen fault →
+      FirstLeaves s cone seen file at ⊎ IsUnsoundAt s cone seen file at
   by_place fault file at is (Of_call failed) = absurd (failed_or_place file at (sym failed ∙ is))
   by_place fault file at is (Of_memory short) = absurd (memory_or_place file at (sym short ∙ is))
   by_place fault file at is (Of_place other_file other same leaves) = inl (place_of (FirstLeaves s cone seen) other_file other file at (sym same ∙ is) leaves)
   by_place fault file at is (Of_header kept same has) = absurd (header_or_place kept file at (sym same ∙ is))
   by_place fault file at is (Of_sight other_file other same unsound) = inr (place_of (IsUnsoundAt s cone seen) other_file other file at (sym same ∙ is) unsound)
 
-  pub by_header : (fault : ReopenFault) (kept : Kept) → fault ≡ OtherSettings kept → IsReopenRefused s cone seen fault → HasOther s cone (seen 0) kept
+  pub by_header : (fault : ReopenFault) (kept : Kept) → fault ≡ OtherSettings kept → IsReopenRefused s cone seen fault → HasOther s cone (seen JOURNAL) kept
   by_header fault kept is (Of_call failed) = absurd (failed_or_header kept (sym failed ∙ is))
   by_header fault kept is (Of_memory short) = absurd (memory_or_header kept (sym short ∙ is))
   by_header fault kept is (Of_place file at same leaves) = absurd (header_or_place kept file at (sym is ∙ same))
-  by_header fault kept is (Of_header other same has) = subst (HasOther s cone (seen 0)) (header_of other kept (sym same ∙ is)) has
+  by_header fault kept is (Of_header other same has) = subst (HasOther s cone (seen JOURNAL)) (header_of other kept (sym same ∙ is)) has
   by_header fault kept is (Of_sight file at same unsound) = absurd (header_or_place kept file at (sym is ∙ same))
 
   -- an answer where the files leave their format there
@@ -139,7 +151,7 @@ module _ (s : Numbers) (cone : ℕ) (valid : IsValid s) (below : cone < 2 ^ 32) 
   left_there fault file at (Of_header kept is has) leaves = absurd (first_or_other file at kept leaves has)
   left_there fault file at (Of_sight other place is unsound) leaves = absurd (whole_or_left file at unsound.whole leaves)
 
-  pub other_there : (fault : ReopenFault) (kept : Kept) → IsReopenRefused s cone seen fault → HasOther s cone (seen 0) kept → IsOutside fault ⊎ (fault ≡ OtherSettings kept)
+  pub other_there : (fault : ReopenFault) (kept : Kept) → IsReopenRefused s cone seen fault → HasOther s cone (seen JOURNAL) kept → IsOutside fault ⊎ (fault ≡ OtherSettings kept)
   other_there fault kept (Of_call is) has = inl (inl is)
   other_there fault kept (Of_memory is) has = inl (inr is)
   other_there fault kept (Of_place file at is leaves) has = absurd (first_or_other file at kept leaves has)
@@ -152,15 +164,22 @@ module _ (s : Numbers) (cone : ℕ) (valid : IsValid s) (below : cone < 2 ^ 32) 
     abbrev pub Told : Result K E → Type 0
     Told result = MatchResult result (λ now. IsReopened s cone seen (closed_in now) (events_in now) (gate_in now)) (λ refused. IsReopenRefused s cone seen (fault_in refused))
 
-    pub journal_told : (result : Result K E) → Told result → IfOk result (λ now. (h : List Packet) × IsJournal s cone h (seen 0) × (events_in now ≡ events_of h))
+    pub journal_told : (result : Result K E) → Told result → IfOk result (λ now. (h : List Packet) × IsJournal s cone h (seen JOURNAL) × (events_in now ≡ events_of h))
     journal_told (Ok now) told = reopened_journal (closed_in now) (events_in now) (gate_in now) told
     journal_told (Err refused) told = tt
 
-    pub malformed_told : (result : Result K E) → Told result → IfErr result (λ refused. (file at : ℕ) → fault_in refused ≡ Malformed file at → FirstLeaves s cone seen file at ⊎ IsUnsoundAt s cone seen file at)
+    -- the cone is closed exactly where the log is
+    pub closed_told : (result : Result K E) → Told result →
+        IfOk result (λ now. (records : List LogRecord) × (log_end : ℕ) × HasLog s cone (seen LOG) records log_end × (closed_in now ≡ is_closed records))
+    closed_told (Ok now) told = (told.records, told.log_end, told.opened.log, told.closed_is)
+    closed_told (Err refused) told = tt
+
+    pub malformed_told : (result : Result K E) → Told result → IfErr result (λ refused. (file at : ℕ) → fault_in refused ≡ Malformed file at →
+        FirstLeaves s cone seen file at ⊎ IsUnsoundAt s cone seen file at)
     malformed_told (Ok now) told = tt
     malformed_told (Err refused) told = λ file at is. by_place (fault_in refused) file at is told
 
-    pub other_told : (result : Result K E) → Told result → IfErr result (λ refused. (kept : Kept) → fault_in refused ≡ OtherSettings kept → HasOther s cone (seen 0) kept)
+    pub other_told : (result : Result K E) → Told result → IfErr result (λ refused. (kept : Kept) → fault_in refused ≡ OtherSettings kept → HasOther s cone (seen JOURNAL) kept)
     other_told (Ok now) told = tt
     other_told (Err refused) told = λ kept is. by_header (fault_in refused) kept is told
 
@@ -168,7 +187,8 @@ module _ (s : Numbers) (cone : ℕ) (valid : IsValid s) (below : cone < 2 ^ 32) 
     refuses_told (Ok now) told file at leaves = reopened_or_left (closed_in now) (events_in now) (gate_in now) told file at leaves
     refuses_told (Err refused) told file at leaves = left_there (fault_in refused) file at told leaves
 
-    pub differs_told : (result : Result K E) → Told result → (kept : Kept) → HasOther s cone (seen 0) kept → IsErrAnd result (λ refused. IsOutside (fault_in refused) ⊎ (fault_in refused ≡ OtherSettings kept))
+    pub differs_told : (result : Result K E) → Told result → (kept : Kept) → HasOther s cone (seen JOURNAL) kept →
+        IsErrAnd result (λ refused. IsOutside (fault_in refused) ⊎ (fault_in refused ≡ OtherSettings kept))
     differs_told (Ok now) told kept has = no_other s cone valid below seen told.opened.headed kept has
     differs_told (Err refused) told kept has = other_there (fault_in refused) kept told has
 

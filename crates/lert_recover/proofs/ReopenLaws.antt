@@ -4,6 +4,7 @@ use Rattle.std.specs.Prelude.{MatchResult, IfErr, IfOk}
 use Rattle.std.proofs.lemmas.List.{append_cancel_left, length-map, length-replicate, length-take-le, take_all, take_at}
 use Rattle.lert_base.specs.declared.kept.Kept.{Kept}
 use Rattle.lert_base.specs.Packet.{Packet, events_of}
+use Rattle.lert_bay.specs.declared.bay.TheConstants.{JOURNAL, LOG, FRAMES}
 use Rattle.lert_bay.specs.Files.{Files}
 use Rattle.lert_bay.specs.Settled.{part, IsSettled}
 use Rattle.lert_cone.specs.Logged.{frames_of}
@@ -37,16 +38,16 @@ use Rattle.lert_files.proofs.RecordsLaws.{walk}
 -- ---- every image is what a read gives
 
 module _ (leaves : Files → Type 0) (seen : Files) (durable : (image : Files) → leaves image → IsAsRead seen image) where
-  pub journal_settled : IsSettled leaves seen 0 0 (length (seen 0))
-  journal_settled = record { within = omega arith; same = λ image may. ap (λ bytes. part bytes 0 (length (seen 0))) (durable image may).journal }
+  pub journal_settled : IsSettled leaves seen JOURNAL 0 (length (seen JOURNAL))
+  journal_settled = record { within = omega arith; same = λ image may. ap (λ bytes. part bytes 0 (length (seen JOURNAL))) (durable image may).journal }
 
-  pub log_shut : (gate : ℕ) → IsClosed (seen 1) gate → IsShut leaves seen 1 gate
+  pub log_shut : (gate : ℕ) → IsClosed (seen LOG) gate → IsShut leaves seen LOG gate
   log_shut gate shut = record {
-    settled = record { within = omega arith; same = λ image may. ap (λ bytes. part bytes 0 (length (seen 1))) (durable image may).log };
+    settled = record { within = omega arith; same = λ image may. ap (λ bytes. part bytes 0 (length (seen LOG))) (durable image may).log };
     closed = λ image may. subst (λ bytes. IsClosed bytes gate) (sym (durable image may).log) shut;
   }
 
-  pub frames_settled : (from to : ℕ) → to ≤ length (seen 2) → IsSettled leaves seen 2 from to
+  pub frames_settled : (from to : ℕ) → to ≤ length (seen FRAMES) → IsSettled leaves seen FRAMES from to
   frames_settled from to within = record { within = within; same = λ image may. ap (λ bytes. part bytes from to) (durable image may).frames }
 
 -- ---- the frames of the log's last record
@@ -84,7 +85,8 @@ module _ (s : Numbers) (cone : ℕ) where
       (many_frames s cone records are ∙ sym named.at.levels ∙ sym (length-map rows (λ row. map (λ (bin : BinAt). bin.frame) row)))
       (sym named.text_is ∙ text_is rows)
 
-  pub last_of : (n0 offset first : ℕ) (closed : Bool) (reports : List Report) (rows : List (List BinAt)) (records : List LogRecord) → IsReadOf s cone n0 offset first closed reports (directory_text rows) records → AreLastRows s records rows →
+  pub last_of : (n0 offset first : ℕ) (closed : Bool) (reports : List Report) (rows : List (List BinAt)) (records : List LogRecord) →
+      IsReadOf s cone n0 offset first closed reports (directory_text rows) records → AreLastRows s records rows →
       IsLastOf s n0 closed rows reports records
   last_of n0 offset first closed reports rows records read named = record {
     n0_is = read.n0_is;
@@ -95,7 +97,7 @@ module _ (s : Numbers) (cone : ℕ) where
 
   -- ---- files that are sound for a list are in their format up to the journal's records
 
-  pub sound_headed : (seen : Files) (history : List Packet) → IsSound s cone history seen → IsHeaded s cone (seen 0)
+  pub sound_headed : (seen : Files) (history : List Packet) → IsSound s cone history seen → IsHeaded s cone (seen JOURNAL)
   sound_headed seen history sound = record { headed = sound.journal.headed; gate = omega (arith, sound.journal.records.closed.within) }
 
   pub record SoundRows (seen : Files) (history : List Packet) (sound : IsSound s cone history seen) : Type 0 where
@@ -111,41 +113,53 @@ module _ (s : Numbers) (cone : ℕ) where
       let n0 = last_n0 records in
       let events = take n0 (events_of history) in
       let long : length events ≡ n0 = length-take-le n0 (events_of history) sound.n0_most in
-      let holds = bins_there s events rows (last_directory s records) (seen 2) (subst (λ n. IsAt s n rows) (sym long) named.at) (frames_named records rows sound.log.rules named) sound.frames in
-      let stand = rows_stand s events n0 rows (seen 2) named.at named.are (omega (arith, long)) holds s.levels (omega arith) in
+      let holds = bins_there s events rows (last_directory s records) (seen FRAMES) (subst (λ n. IsAt s n rows) (sym long) named.at)
+      (frames_named records rows sound.log.rules named) sound.frames in
+      let stand = rows_stand s events n0 rows (seen FRAMES) named.at named.are (omega (arith, long)) holds s.levels (omega arith) in
       record {
         rows = rows;
         opened = record {
           headed = sound_headed seen history sound;
           log = sound.log;
           named = named;
-          frames = all_whole s rows (seen 2) (tallied_in s events) named.are
-              (subst (λ (rs : List (List BinAt)). AllStand s (seen 2) (tallied_in s events) rs) (take_all s.levels rows (omega (arith, named.at.levels))) stand);
+          frames = all_whole s rows (seen FRAMES) (tallied_in s events) named.are
+              (subst (λ (rs : List (List BinAt)). AllStand s (seen FRAMES) (tallied_in s events) rs) (take_all s.levels rows (omega (arith, named.at.levels))) stand);
         };
       }
 
 -- ---- why a cone isn't made
 
 module _ (s : Numbers) (cone : ℕ) (seen : Files) where
-  pub refused_before : (fault : ReopenFault) → ((file at : ℕ) → fault ≡ Malformed file at → LeaveAt s cone seen file at) → ((kept : Kept) → fault ≡ OtherSettings kept → HasOther s cone (seen 0) kept) → IsReopenRefused s cone seen fault
+  pub refused_before : (fault : ReopenFault) → ((file at : ℕ) → fault ≡ Malformed file at → LeaveAt s cone seen file at) →
+      ((kept : Kept) → fault ≡ OtherSettings kept → HasOther s cone (seen JOURNAL) kept) → IsReopenRefused s cone seen fault
   refused_before Failed place other = Of_call refl
   refused_before OutOfMemory place other = Of_memory refl
   refused_before (Malformed file at) place other = Of_place file at refl (Before_records (place file at refl))
   refused_before (OtherSettings kept) place other = Of_header kept refl (other kept refl)
 
   -- by the journal, behind files that are in their format before its records
-  pub refused_behind : (records : List LogRecord) (log_end : ℕ) (rows : List (List BinAt)) (n0 : ℕ) (closed : Bool) (fault : ReopenFault) → AreOpened s cone seen records log_end rows → n0 ≡ last_n0 records → closed ≡ is_closed records →
-      ((history : List Packet) → IsSound s cone history seen → (fault ≡ Failed) ⊎ (fault ≡ OutOfMemory)) → IsStopped s cone n0 closed (seen 0) fault → IsReopenRefused s cone seen fault
+  pub refused_behind : (records : List LogRecord) (log_end : ℕ) (rows : List (List BinAt)) (n0 : ℕ) (closed : Bool) (fault : ReopenFault) →
+      AreOpened s cone seen records log_end rows → n0 ≡ last_n0 records → closed ≡ is_closed records →
+      ((history : List Packet) → IsSound s cone history seen → (fault ≡ Failed) ⊎ (fault ≡ OutOfMemory)) → IsStopped s cone n0 closed (seen JOURNAL) fault →
+      IsReopenRefused s cone seen fault
   refused_behind records log_end rows n0 closed fault opened n0_is closed_is fails (At_call is) = Of_call is
   refused_behind records log_end rows n0 closed fault opened n0_is closed_is fails (At_memory is) = Of_memory is
   refused_behind records log_end rows n0 closed fault opened n0_is closed_is fails (At_place at is leaves) =
       Of_place 0 at is
       (In_records records log_end rows opened refl
-      (subst (λ (c : Bool). JournalLeavesAt s cone (last_n0 records) c (seen 0) 0 32 at) closed_is (subst (λ n. JournalLeavesAt s cone n closed (seen 0) 0 32 at) n0_is leaves)))
+      (subst (λ (c : Bool). JournalLeavesAt s cone (last_n0 records) c (seen JOURNAL) 0 32 at) closed_is
+      (subst (λ n. JournalLeavesAt s cone n closed (seen JOURNAL) 0 32 at) n0_is leaves)))
   refused_behind records log_end rows n0 closed fault opened n0_is closed_is fails (At_sight file at is ends file_is at_is) =
       Of_sight file at is
       (record {
-        whole = record { records = records; log_end = log_end; rows = rows; opened = opened; journal = subst (λ (c : Bool). JournalEnds s cone (last_n0 records) c (seen 0) 0 32) closed_is (subst (λ n. JournalEnds s cone n closed (seen 0) 0 32) n0_is ends) };
+        whole = record {
+          records = records;
+          log_end = log_end;
+          rows = rows;
+          opened = opened;
+          journal = subst (λ (c : Bool). JournalEnds s cone (last_n0 records) c (seen JOURNAL) 0 32) closed_is
+              (subst (λ n. JournalEnds s cone n closed (seen JOURNAL) 0 32) n0_is ends);
+        };
         none = λ history sound. neither file at (sym is) (fails history sound);
         file_is = file_is;
         at_is = at_is;
@@ -167,18 +181,22 @@ pub ok_on : {K E : Type 0} (P Q : K → Type 0) (result : Result K E) → ((now 
 ok_on P Q (Ok now) more is = more now is
 ok_on P Q (Err refused) more is = tt
 
-pub fails_on : {K E L : Type 0} (R S : L → Type 0) (O : E → Type 0) (result : Result K E) → ((h : L) → S h → R h) → IfErr result (λ refused. (h : L) → R h → O refused) → IfErr result (λ refused. (h : L) → S h → O refused)
+pub fails_on : {K E L : Type 0} (R S : L → Type 0) (O : E → Type 0) (result : Result K E) → ((h : L) → S h → R h) → IfErr result (λ refused. (h : L) → R h → O refused) →
+    IfErr result (λ refused. (h : L) → S h → O refused)
 fails_on R S O (Ok now) more fails = tt
 fails_on R S O (Err refused) more fails = λ h is. fails h (more h is)
 
-pub stands_on : {K E L : Type 0} (A : L → Type 0) (C : L → K → Type 0) (R S : L → Type 0) (T : K → L → Type 0) (result : Result K E) → ((h : L) → S h → R h) → IfOk result (λ now. (h : L) → A h → C h now → R h → T now h) → IfOk result (λ now. (h : L) → A h → C h now → S h → T now h)
+pub stands_on : {K E L : Type 0} (A : L → Type 0) (C : L → K → Type 0) (R S : L → Type 0) (T : K → L → Type 0) (result : Result K E) → ((h : L) → S h → R h) →
+    IfOk result (λ now. (h : L) → A h → C h now → R h → T now h) → IfOk result (λ now. (h : L) → A h → C h now → S h → T now h)
 stands_on A C R S T (Ok now) more stands = λ h some count is. stands h some count (more h is)
 stands_on A C R S T (Err refused) more stands = tt
 
 module _ {K E : Type 0} (closed_in : K → Bool) (events_in : K → List ℕ) (gate_in : K → ℕ) (fault_in : E → ReopenFault) where
-  pub reopened_of : (s : Numbers) (cone : ℕ) (seen : Files) (records : List LogRecord) (log_end : ℕ) (rows : List (List BinAt)) (n0 : ℕ) (closed : Bool) → AreOpened s cone seen records log_end rows → n0 ≡ last_n0 records → closed ≡ is_closed records →
+  pub reopened_of : (s : Numbers) (cone : ℕ) (seen : Files) (records : List LogRecord) (log_end : ℕ) (rows : List (List BinAt)) (n0 : ℕ) (closed : Bool) →
+      AreOpened s cone seen records log_end rows → n0 ≡ last_n0 records → closed ≡ is_closed records →
       (result : Result K E) →
-      MatchResult result (λ now. HasReplayed s cone n0 closed (seen 0) (gate_in now) (events_in now) × IsClosed (seen 0) (gate_in now)) (λ refused. IsStopped s cone n0 closed (seen 0) (fault_in refused)) →
+      MatchResult result (λ now. HasReplayed s cone n0 closed (seen JOURNAL) (gate_in now) (events_in now) × IsClosed (seen JOURNAL) (gate_in now))
+      (λ refused. IsStopped s cone n0 closed (seen JOURNAL) (fault_in refused)) →
       IfOk result (λ now. n0 ≤ length (events_in now)) → IfOk result (λ now. closed_in now ≡ closed) →
       IfErr result (λ refused. (history : List Packet) → IsSound s cone history seen → (fault_in refused ≡ Failed) ⊎ (fault_in refused ≡ OutOfMemory)) →
       MatchResult result (λ now. IsReopened s cone seen (closed_in now) (events_in now) (gate_in now)) (λ refused. IsReopenRefused s cone seen (fault_in refused))
@@ -188,7 +206,8 @@ module _ {K E : Type 0} (closed_in : K → Bool) (events_in : K → List ℕ) (g
     rows = rows;
     opened = opened;
     closed_is = same ∙ closed_is;
-    replayed = subst (λ (c : Bool). HasReplayed s cone (last_n0 records) c (seen 0) (gate_in now) (events_in now)) closed_is (subst (λ (n : ℕ). HasReplayed s cone n closed (seen 0) (gate_in now) (events_in now)) n0_is told.0);
+    replayed = subst (λ (c : Bool). HasReplayed s cone (last_n0 records) c (seen JOURNAL) (gate_in now) (events_in now)) closed_is
+        (subst (λ (n : ℕ). HasReplayed s cone n closed (seen JOURNAL) (gate_in now) (events_in now)) n0_is told.0);
     shut = told.1;
     enough = subst (λ (n : ℕ). n ≤ length (events_in now)) n0_is enough;
   }

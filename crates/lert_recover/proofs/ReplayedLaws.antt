@@ -4,19 +4,20 @@ use Rattle.std.proofs.Common.{ℕ, ◌≡◌, ◌+◌, ◌<◌, ◌≤◌, ◌^�
 use Rattle.std.specs.Prelude.{All}
 use Rattle.std.proofs.lemmas.List.Elements.{All-cons, All-nil}
 use Rattle.lert_base.specs.Packet.{Packet, events_of}
+use Rattle.lert_cone.specs.Framed.{last_flush}
 use Rattle.lert_cone.specs.History.{most_payload, end_of}
 use Rattle.lert_cone.specs.Replay.{MayFollow, ReplayLeavesAt}
 use Rattle.lert_cone.specs.Sound.{IsJournal, KeysFit}
 use Rattle.lert_cone.proofs.GateLaws.{closed_or_leaves, one_packet, one_replay_place, packet_or_leaves}
 use Rattle.lert_cone.proofs.SoundLaws.{end_more, events_more}
-use Rattle.lert_gatelog.specs.Gated.{IsClosed, Records, next_gate}
+use Rattle.lert_gatelog.specs.Gated.{IsClosed, IsOpen, Records, next_gate}
 use Rattle.lert_gatelog.proofs.Deciding.{open_or_closed}
 use Rattle.lert_journal.specs.Journal.{HoldsPacket, HasPackets}
 use Rattle.lert_journal.specs.Payload.{payload_of, IsJournaled}
 use Rattle.lert_spec.specs.declared.numbers.Numbers.{Numbers}
 use Rattle.lert_spec.specs.Edges.{capacity}
 use Rattle.lert_files.specs.Headed.{IsHeaded}
-use Rattle.lert_recover.specs.Replayed.{AreReplayed, HasReplayed, JournalEnds, JournalLeavesAt}
+use Rattle.lert_recover.specs.Replayed.{AreReplayed, FlushesNothing, HasReplayed, JournalEnds, JournalLeavesAt}
 
 module _ (s : Numbers) (cone n0 : ℕ) (closed : Bool) (bytes : List ℕ) where
   abbrev Stand : ℕ → ℕ → List Packet → ℕ → Type 0
@@ -41,7 +42,8 @@ module _ (s : Numbers) (cone n0 : ℕ) (closed : Bool) (bytes : List ℕ) where
   here n gate at leaves = record { packets = []; end = gate; stand = refl; leaves = subst (λ m. Here m gate at) (let same : n ≡ n + 0 = omega arith in same) leaves }
 
   -- behind a packet
-  pub later : (n gate at : ℕ) (packet : Packet) → Holds gate packet → MayFollow s n0 closed n packet → Leaves (n + length packet.keys) (next_gate gate (payload_of packet)) at → Leaves n gate at
+  pub later : (n gate at : ℕ) (packet : Packet) → Holds gate packet → MayFollow s n0 closed n packet → Leaves (n + length packet.keys) (next_gate gate (payload_of packet)) at →
+      Leaves n gate at
   later n gate at packet holds may rest = record {
     packets = packet ∷ rest.packets;
     end = rest.end;
@@ -101,10 +103,13 @@ module _ (s : Numbers) (cone n0 : ℕ) (closed : Bool) (bytes : List ℕ) where
   one_journal_place n gate at other leaves too = one_from leaves.packets n gate leaves.end at other leaves.stand leaves.leaves too
 
   -- an end behind some packets is one from the start on
-  pub ends_behind : (packets : List Packet) (n gate end : ℕ) → Stand n gate packets end → JournalEnds s cone n0 closed bytes (n + length (events_of packets)) end → JournalEnds s cone n0 closed bytes n gate
-  ends_behind [] n gate end stand ends = subst (λ g. JournalEnds s cone n0 closed bytes n g) stand (subst (λ m. JournalEnds s cone n0 closed bytes m end) (let same : n + 0 ≡ n = omega arith in same) ends)
+  pub ends_behind : (packets : List Packet) (n gate end : ℕ) → Stand n gate packets end → JournalEnds s cone n0 closed bytes (n + length (events_of packets)) end →
+      JournalEnds s cone n0 closed bytes n gate
+  ends_behind [] n gate end stand ends = subst (λ g. JournalEnds s cone n0 closed bytes n g) stand
+      (subst (λ m. JournalEnds s cone n0 closed bytes m end) (let same : n + 0 ≡ n = omega arith in same) ends)
   ends_behind (packet ∷ rest) n gate end stand ends =
-      let further = ends_behind rest (n + length packet.keys) (next_gate gate (payload_of packet)) end stand.2 (subst (λ m. JournalEnds s cone n0 closed bytes m end) (sym (counts n packet rest)) ends) in
+      let further = ends_behind rest (n + length packet.keys) (next_gate gate (payload_of packet)) end stand.2
+      (subst (λ m. JournalEnds s cone n0 closed bytes m end) (sym (counts n packet rest)) ends) in
       record {
         packets = packet ∷ further.packets;
         end = further.end;
@@ -117,21 +122,47 @@ module _ (s : Numbers) (cone n0 : ℕ) (closed : Bool) (bytes : List ℕ) where
 
   more : (packets : List Packet) (n gate end : ℕ) (packet : Packet) → Stand n gate packets end → Holds end packet → MayFollow s n0 closed (n + length (events_of packets)) packet →
       Stand n gate (packets ++ packet ∷ []) (next_gate end (payload_of packet))
-  more [] n gate end packet stand holds may =
-      (subst (λ g. Holds g packet) stand holds, subst (λ m. MayFollow s n0 closed m packet) (let same : n + 0 ≡ n = omega arith in same) may, ap (λ g. next_gate g (payload_of packet)) stand)
-  more (first ∷ rest) n gate end packet stand holds may =
-      (stand.0, stand.1, more rest (n + length first.keys) (next_gate gate (payload_of first)) end packet stand.2 holds (subst (λ m. MayFollow s n0 closed m packet) (sym (counts n first rest)) may))
+  more [] n gate end packet stand holds may = (
+    subst (λ g. Holds g packet) stand holds,
+    subst (λ m. MayFollow s n0 closed m packet) (let same : n + 0 ≡ n = omega arith in same) may,
+    ap (λ g. next_gate g (payload_of packet)) stand,
+  )
+  more (first ∷ rest) n gate end packet stand holds may = (
+    stand.0,
+    stand.1,
+    more rest (n + length first.keys) (next_gate gate (payload_of first)) end packet stand.2 holds
+        (subst (λ m. MayFollow s n0 closed m packet) (sym (counts n first rest)) may),
+  )
 
   pub replayed_none : HasReplayed s cone n0 closed bytes 32 []
   replayed_none = record { packets = []; stand = refl; events_are = refl }
 
-  pub replayed_more : (gate : ℕ) (events : List ℕ) (packet : Packet) → HasReplayed s cone n0 closed bytes gate events → Holds gate packet → MayFollow s n0 closed (length events) packet →
+  pub replayed_more : (gate : ℕ) (events : List ℕ) (packet : Packet) → HasReplayed s cone n0 closed bytes gate events → Holds gate packet →
+      MayFollow s n0 closed (length events) packet →
       HasReplayed s cone n0 closed bytes (next_gate gate (payload_of packet)) (events ++ packet.keys)
   replayed_more gate events packet has holds may = record {
     packets = has.packets ++ packet ∷ [];
-    stand = more has.packets 0 32 gate packet has.stand holds (subst (λ m. MayFollow s n0 closed m packet) (ap length has.events_are ∙ (let same : length (events_of has.packets) ≡ 0 + length (events_of has.packets) = omega arith in same)) may);
+    stand = more has.packets 0 32 gate packet has.stand holds (subst (λ m. MayFollow s n0 closed m packet)
+        (ap length has.events_are ∙ (let same : length (events_of has.packets) ≡ 0 + length (events_of has.packets) = omega arith in same)) may);
     events_are = ap (λ keys. keys ++ packet.keys) has.events_are ∙ sym (events_more has.packets packet);
   }
+
+  -- the records of these packets, and of one more
+  records_behind : (packets : List Packet) (n gate end : ℕ) (packet : Packet) → Stand n gate packets end → IsOpen (most_payload s) bytes end (payload_of packet) →
+      Records (most_payload s) bytes gate (map payload_of (packets ++ packet ∷ [])) (next_gate end (payload_of packet))
+  records_behind [] n gate end packet stand opened =
+      (subst (λ g. IsOpen (most_payload s) bytes g (payload_of packet)) stand opened, ap (λ g. next_gate g (payload_of packet)) stand)
+  records_behind (first ∷ rest) n gate end packet stand opened =
+      (stand.0.stands, records_behind rest (n + length first.keys) (next_gate gate (payload_of first)) end packet stand.2 opened)
+
+  -- no flush comes with the next packet of a journal that brings none
+  pub none_flushed : (gate : ℕ) (events : List ℕ) (packet : Packet) → HasReplayed s cone n0 closed bytes gate events → FlushesNothing s n0 bytes →
+      IsOpen (most_payload s) bytes gate (payload_of packet) → last_flush s (length events + length packet.keys) ≤ n0
+  none_flushed gate events packet has nothing opened =
+      let count : length (events_of (has.packets ++ packet ∷ [])) ≡ length events + length packet.keys =
+      ap length (events_more has.packets packet) ∙ (length-append (events_of has.packets) packet.keys ∙ ap (λ xs. length xs + length packet.keys) (sym has.events_are)) in
+      subst (λ n. last_flush s n ≤ n0) count
+      (nothing (has.packets ++ packet ∷ []) (next_gate gate (payload_of packet)) (records_behind has.packets 0 32 gate packet has.stand opened))
 
   -- what was replayed is the beginning of the journal
   pub leaves_from_start : (gate : ℕ) (events : List ℕ) (at : ℕ) → HasReplayed s cone n0 closed bytes gate events → Leaves (length events) gate at → Leaves 0 32 at
@@ -139,10 +170,12 @@ module _ (s : Numbers) (cone n0 : ℕ) (closed : Bool) (bytes : List ℕ) where
       leaves_behind has.packets 0 32 gate at has.stand
       (subst (λ m. Leaves m gate at) (ap length has.events_are ∙ (let same : length (events_of has.packets) ≡ 0 + length (events_of has.packets) = omega arith in same)) leaves)
 
-  pub ends_from_start : (gate : ℕ) (events : List ℕ) → HasReplayed s cone n0 closed bytes gate events → JournalEnds s cone n0 closed bytes (length events) gate → JournalEnds s cone n0 closed bytes 0 32
+  pub ends_from_start : (gate : ℕ) (events : List ℕ) → HasReplayed s cone n0 closed bytes gate events → JournalEnds s cone n0 closed bytes (length events) gate →
+      JournalEnds s cone n0 closed bytes 0 32
   ends_from_start gate events has ends =
       ends_behind has.packets 0 32 gate has.stand
-      (subst (λ m. JournalEnds s cone n0 closed bytes m gate) (ap length has.events_are ∙ (let same : length (events_of has.packets) ≡ 0 + length (events_of has.packets) = omega arith in same)) ends)
+      (subst (λ m. JournalEnds s cone n0 closed bytes m gate) (ap length has.events_are ∙ (let same : length (events_of has.packets) ≡ 0 + length (events_of has.packets) =
+      omega arith in same)) ends)
 
   pub ends_here : (gate : ℕ) (n : ℕ) → IsClosed bytes gate → n0 ≤ n → JournalEnds s cone n0 closed bytes n gate
   ends_here gate n shut enough = record { packets = []; end = gate; stand = refl; shut = shut; enough = omega (arith, enough) }
@@ -155,11 +188,13 @@ module _ (s : Numbers) (cone n0 : ℕ) (closed : Bool) (bytes : List ℕ) where
 
   journaled_of : (packets : List Packet) (n gate end : ℕ) → Stand n gate packets end → All (IsJournaled s cone) packets
   journaled_of [] n gate end stand = All-nil (IsJournaled s cone)
-  journaled_of (packet ∷ rest) n gate end stand = All-cons (IsJournaled s cone) packet rest stand.0.journaled (journaled_of rest (n + length packet.keys) (next_gate gate (payload_of packet)) end stand.2)
+  journaled_of (packet ∷ rest) n gate end stand = All-cons (IsJournaled s cone) packet rest stand.0.journaled
+      (journaled_of rest (n + length packet.keys) (next_gate gate (payload_of packet)) end stand.2)
 
   fit_of : (packets : List Packet) (n gate end : ℕ) → Stand n gate packets end → KeysFit packets
   fit_of [] n gate end stand = All-nil (λ (packet : Packet). All (λ key. key < 2 ^ 64) packet.keys)
-  fit_of (packet ∷ rest) n gate end stand = All-cons (λ (p : Packet). All (λ key. key < 2 ^ 64) p.keys) packet rest stand.0.fits (fit_of rest (n + length packet.keys) (next_gate gate (payload_of packet)) end stand.2)
+  fit_of (packet ∷ rest) n gate end stand = All-cons (λ (p : Packet). All (λ key. key < 2 ^ 64) p.keys) packet rest stand.0.fits
+      (fit_of rest (n + length packet.keys) (next_gate gate (payload_of packet)) end stand.2)
 
   within_of : (packets : List Packet) (n gate end : ℕ) → n ≤ capacity s → Stand n gate packets end → n + length (events_of packets) ≤ capacity s
   within_of [] n gate end start stand = omega (arith, start)
@@ -169,10 +204,12 @@ module _ (s : Numbers) (cone n0 : ℕ) (closed : Bool) (bytes : List ℕ) where
   end_is : (front packets : List Packet) (n gate end : ℕ) → gate ≡ end_of front → Stand n gate packets end → end ≡ end_of (front ++ packets)
   end_is front [] n gate end start stand = stand ∙ start ∙ ap end_of (sym (append-nil front))
   end_is front (packet ∷ rest) n gate end start stand =
-      end_is (front ++ packet ∷ []) rest (n + length packet.keys) (next_gate gate (payload_of packet)) end (ap (λ g. next_gate g (payload_of packet)) start ∙ end_more front packet) stand.2
+      end_is (front ++ packet ∷ []) rest (n + length packet.keys) (next_gate gate (payload_of packet)) end
+      (ap (λ g. next_gate g (payload_of packet)) start ∙ end_more front packet) stand.2
       ∙ ap end_of (append_assoc front (packet ∷ []) rest)
 
-  pub journal_of : (gate : ℕ) (events : List ℕ) → IsHeaded s cone bytes → IsClosed bytes gate → (has : HasReplayed s cone n0 closed bytes gate events) → IsJournal s cone has.packets bytes
+  pub journal_of : (gate : ℕ) (events : List ℕ) → IsHeaded s cone bytes → IsClosed bytes gate → (has : HasReplayed s cone n0 closed bytes gate events) →
+      IsJournal s cone has.packets bytes
   journal_of gate events headed shut has =
       let end = end_is [] has.packets 0 32 gate refl has.stand in
       record {

@@ -1,20 +1,25 @@
 -- A cone that replays one packet more, or stops.
-use Rattle.std.proofs.Common.{ℕ, ◌≡◌, Bool, Some, Option, List, [], ◌++◌, length, max, refl, ap, sym, ◌∙◌, subst, arith}
+use Rattle.std.proofs.Common.{ℕ, ◌≡◌, ◌+◌, ◌≤◌, Bool, Some, Option, List, [], ◌++◌, length, max, refl, ap, sym, ◌∙◌, subst, arith}
 use Rattle.lert_base.specs.Packet.{Packet}
-use Rattle.lert_bay.specs.Files.{Files}
+use Rattle.lert_bay.specs.declared.bay.TheConstants.{JOURNAL, FRAMES}
+use Rattle.lert_bay.specs.Files.{Files, IfTold}
+use Rattle.lert_bay.specs.Kept.{Bays, KeepsBay}
 use Rattle.lert_reports.specs.declared.log_point.LogPoint.{LogPoint}
-use Rattle.lert_cone.specs.Framed.{HoldsSome}
+use Rattle.lert_cone.specs.Framed.{HoldsSome, last_flush}
 use Rattle.lert_cone.specs.History.{most_payload}
 use Rattle.lert_cone.specs.Listing.{Listing}
 use Rattle.lert_cone.specs.Replay.{MayFollow, ReplayLeavesAt}
+use Rattle.lert_cone.specs.Replays.{BringsNoFlush, IsUnwritten}
+use Rattle.lert_cone.specs.Sound.{IsSound}
 use Rattle.lert_cone.specs.Stands.{IsSameCone, Standing}
-use Rattle.lert_gatelog.specs.Gated.{IsClosed, next_gate}
+use Rattle.lert_files.specs.Opened.{WritesNothing}
+use Rattle.lert_gatelog.specs.Gated.{IsClosed, IsOpen, next_gate}
 use Rattle.lert_journal.specs.Journal.{HoldsPacket}
 use Rattle.lert_journal.specs.Payload.{payload_of}
 use Rattle.lert_rows.specs.declared.bin_at.BinAt.{BinAt}
 use Rattle.lert_spec.specs.declared.numbers.Numbers.{Numbers}
-use Rattle.lert_recover.specs.Replayed.{HasReplayed, IsJournalSame}
-use Rattle.lert_recover.proofs.ReplayedLaws.{replayed_more}
+use Rattle.lert_recover.specs.Replayed.{FlushesNothing, HasReplayed, IsJournalSame}
+use Rattle.lert_recover.proofs.ReplayedLaws.{none_flushed, replayed_more}
 
 -- the journal through several calls
 pub journal_none : (files : Option Files) → IsJournalSame files files
@@ -36,11 +41,12 @@ journal_on first middle last one two = record {
 pub read_none : (s : Numbers) (cone n0 : ℕ) (closed : Bool) (bytes events : List ℕ) → events ≡ [] → HasReplayed s cone n0 closed bytes 32 events
 read_none s cone n0 closed bytes events none = record { packets = []; stand = refl; events_are = none }
 
-pub framed_none : (files : Option Files) (s : Numbers) (n0 : ℕ) (rows : List (List BinAt)) (events : List ℕ) → events ≡ [] → (seen there : Files) → files ≡ Some seen → files ≡ Some there → HoldsSome s n0 rows (seen 2) → HoldsSome s (max n0 (length events)) rows (there 2)
+pub framed_none : (files : Option Files) (s : Numbers) (n0 : ℕ) (rows : List (List BinAt)) (events : List ℕ) → events ≡ [] → (seen there : Files) → files ≡ Some seen →
+    files ≡ Some there → HoldsSome s n0 rows (seen FRAMES) → HoldsSome s (max n0 (length events)) rows (there FRAMES)
 framed_none files s n0 rows events none seen there told told_there some =
     let n_is : n0 ≡ max n0 (length events) = omega (arith, ap (length {A = ℕ}) none) in
     let same : seen ≡ there = one_told seen there (sym told ∙ told_there) in
-    subst (λ (n : ℕ). HoldsSome s n rows (there 2)) n_is (subst (λ (f : Files). HoldsSome s n0 rows (f 2)) same some)
+    subst (λ (n : ℕ). HoldsSome s n rows (there FRAMES)) n_is (subst (λ (f : Files). HoldsSome s n0 rows (f FRAMES)) same some)
   where
     one_told : (one other : Files) → Some one ≡ Some other → one ≡ other
     one_told one other is = cc
@@ -59,13 +65,13 @@ module _ {B : Type 0} (files : B → Option Files) (start old new : Standing B) 
 
   module _ (seen : Files) (told : files start.bay ≡ Some seen) (same : IsSameCone start old) (journal : IsJournalSame (files start.bay) (files old.bay)) (gate : ℕ) where
     abbrev Read : ℕ → List ℕ → Type 0
-    Read end events = HasReplayed start.listing.settings start.listing.cone start.last.n0 start.last.closed (seen 0) end events
+    Read end events = HasReplayed start.listing.settings start.listing.cone start.last.n0 start.last.closed (seen JOURNAL) end events
 
     -- what a call took
     abbrev pub Takes : Files → ℕ → Type 0
     Takes now next =
         (packet : Packet)
-        × HoldsPacket old.listing.settings old.listing.cone (most_payload old.listing.settings) (now 0) gate packet
+        × HoldsPacket old.listing.settings old.listing.cone (most_payload old.listing.settings) (now JOURNAL) gate packet
         × MayFollow old.listing.settings old.last.n0 old.last.closed (length old.listing.events) packet
         × (next ≡ next_gate gate (payload_of packet))
         × (new.listing ≡ record old.listing { events = old.listing.events ++ packet.keys })
@@ -77,32 +83,64 @@ module _ {B : Type 0} (files : B → Option Files) (start old new : Standing B) 
         let took = taken now there.1 in
         let packet = took.0 in
         let s = start.listing.settings in
-        let own : HoldsPacket s start.listing.cone (most_payload s) (seen 0) gate packet =
+        let own : HoldsPacket s start.listing.cone (most_payload s) (seen JOURNAL) gate packet =
         subst (λ (bytes : List ℕ). HoldsPacket s start.listing.cone (most_payload s) bytes gate packet) there.2
-        (subst (λ (cone : ℕ). HoldsPacket s cone (most_payload s) (now 0) gate packet) same.cone
-        (subst (λ (t : Numbers). HoldsPacket t old.listing.cone (most_payload t) (now 0) gate packet) same.settings took.1)) in
+        (subst (λ (cone : ℕ). HoldsPacket s cone (most_payload s) (now JOURNAL) gate packet) same.cone
+        (subst (λ (t : Numbers). HoldsPacket t old.listing.cone (most_payload t) (now JOURNAL) gate packet) same.settings took.1)) in
         let may : MayFollow s start.last.n0 start.last.closed (length old.listing.events) packet =
         subst (λ (last : LogPoint). MayFollow s last.n0 last.closed (length old.listing.events) packet) same.last
         (subst (λ (t : Numbers). MayFollow t old.last.n0 old.last.closed (length old.listing.events) packet) same.settings took.2) in
         subst (Read next) (sym (ap (λ (l : Listing). l.events) took.4))
         (subst (λ (g : ℕ). Read g (old.listing.events ++ packet.keys)) (sym took.3)
-        (replayed_more s start.listing.cone start.last.n0 start.last.closed (seen 0) gate old.listing.events packet has own may))
+        (replayed_more s start.listing.cone start.last.n0 start.last.closed (seen JOURNAL) gate old.listing.events packet has own may))
 
     -- where a call found the format left
-    pub left_on : (at n : ℕ) → n ≡ length old.listing.events → ((now : Files) → files old.bay ≡ Some now → ReplayLeavesAt old.listing.settings old.listing.cone old.last.n0 old.last.closed (length old.listing.events) (now 0) gate at) →
-        ReplayLeavesAt start.listing.settings start.listing.cone start.last.n0 start.last.closed n (seen 0) gate at
+    pub left_on : (at n : ℕ) → n ≡ length old.listing.events → ((now : Files) → files old.bay ≡ Some now →
+        ReplayLeavesAt old.listing.settings old.listing.cone old.last.n0 old.last.closed (length old.listing.events) (now JOURNAL) gate at) →
+        ReplayLeavesAt start.listing.settings start.listing.cone start.last.n0 start.last.closed n (seen JOURNAL) gate at
     left_on at n n_is left =
         let there = journal.told seen told in
         let now = there.0 in
         let s = start.listing.settings in
-        subst (λ (m : ℕ). ReplayLeavesAt s start.listing.cone start.last.n0 start.last.closed m (seen 0) gate at) (sym n_is)
+        subst (λ (m : ℕ). ReplayLeavesAt s start.listing.cone start.last.n0 start.last.closed m (seen JOURNAL) gate at) (sym n_is)
         (subst (λ (bytes : List ℕ). ReplayLeavesAt s start.listing.cone start.last.n0 start.last.closed (length old.listing.events) bytes gate at) there.2
-        (subst (λ (last : LogPoint). ReplayLeavesAt s start.listing.cone last.n0 last.closed (length old.listing.events) (now 0) gate at) same.last
-        (subst (λ (cone : ℕ). ReplayLeavesAt s cone old.last.n0 old.last.closed (length old.listing.events) (now 0) gate at) same.cone
-        (subst (λ (t : Numbers). ReplayLeavesAt t old.listing.cone old.last.n0 old.last.closed (length old.listing.events) (now 0) gate at) same.settings (left now there.1)))))
+        (subst (λ (last : LogPoint). ReplayLeavesAt s start.listing.cone last.n0 last.closed (length old.listing.events) (now JOURNAL) gate at) same.last
+        (subst (λ (cone : ℕ). ReplayLeavesAt s cone old.last.n0 old.last.closed (length old.listing.events) (now JOURNAL) gate at) same.cone
+        (subst (λ (t : Numbers). ReplayLeavesAt t old.listing.cone old.last.n0 old.last.closed (length old.listing.events) (now JOURNAL) gate at) same.settings
+        (left now there.1)))))
 
     -- and where it found a closed gate
-    pub shut_on : ((now : Files) → files old.bay ≡ Some now → IsClosed (now 0) gate) → IsClosed (seen 0) gate
+    pub shut_on : ((now : Files) → files old.bay ≡ Some now → IsClosed (now JOURNAL) gate) → IsClosed (seen JOURNAL) gate
     shut_on shut =
         let there = journal.told seen told in
         subst (λ (bytes : List ℕ). IsClosed bytes gate) there.2 (shut there.0 there.1)
+
+    -- and where no flush comes with what stands at the gate
+    pub still_on : Read gate old.listing.events → FlushesNothing start.listing.settings start.last.n0 (seen JOURNAL) → BringsNoFlush old ((journal.told seen told).0 JOURNAL) gate
+    still_on has nothing packet holds =
+        let there = journal.told seen told in
+        let s = start.listing.settings in
+        let n = length old.listing.events in
+        let opened : IsOpen (most_payload s) (seen JOURNAL) gate (payload_of packet) =
+        subst (λ (bytes : List ℕ). IsOpen (most_payload s) bytes gate (payload_of packet)) there.2
+        (subst (λ (t : Numbers). IsOpen (most_payload t) (there.0 JOURNAL) gate (payload_of packet)) same.settings holds.stands) in
+        let none = none_flushed s start.listing.cone start.last.n0 start.last.closed (seen JOURNAL) gate old.listing.events packet has nothing opened in
+        subst (λ (t : Numbers). last_flush t (n + length packet.keys) ≤ max old.last.n0 n) (sym same.settings)
+        (omega (arith, none, ap (λ (last : LogPoint). last.n0) same.last))
+
+-- what is told of soundness in the words of the cone as it is, in those of the cone as it was
+pub sound_on : {B : Type 0} (start old : Standing B) (told : Option Files) (h : List Packet) → IsSameCone start old →
+    IfTold told (IsSound old.listing.settings old.listing.cone h) → IfTold told (IsSound start.listing.settings start.listing.cone h)
+sound_on start old told h same sound seen is =
+    subst (λ (s : Numbers). IsSound s start.listing.cone h seen) same.settings
+    (subst (λ (cone : ℕ). IsSound old.listing.settings cone h seen) same.cone (sound seen is))
+
+-- calls that leave the files as they were
+pub quiet_of : {B : Type 0} (bays : Bays B) (before after : B) (Failed : Type 0) → KeepsBay bays before after Failed → IsUnwritten bays before after →
+    WritesNothing bays before after Failed
+quiet_of bays before after Failed kept unwritten = record {
+  kept = kept;
+  seen = unwritten.seen;
+  images = λ seen told image may. (unwritten.images image).0 may;
+  moments = λ seen told image since. unwritten.moments image since;
+}

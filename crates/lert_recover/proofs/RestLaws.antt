@@ -48,7 +48,8 @@ module _ (payload : List ℕ) (small : (k : ℕ) → slice_index payload k < 256
       let whole = whole_packet s cone payload none in
       (whole.1, omega (arith, whole.2.some, length-map-range_with_len (key_in payload) 0 ((length payload - 8) / 8)))
 
-  module _ (s : Numbers) (cone n0 : ℕ) (closed : Bool) (n : ℕ) (bytes : List ℕ) (gate keys : ℕ) (none : left s cone payload ≡ None) (keys_is : keys ≡ (length payload - 8) / 8) (opened : IsOpen (most_payload s) bytes gate payload) where
+  module _ (s : Numbers) (cone n0 : ℕ) (closed : Bool) (n : ℕ) (bytes : List ℕ) (gate keys : ℕ) (none : left s cone payload ≡ None) (keys_is : keys ≡ (length payload - 8) / 8)
+      (opened : IsOpen (most_payload s) bytes gate payload) where
     -- it may follow
     pub found_packet : n + keys ≤ capacity s → (closed ≡ true → n + keys ≤ n0) → IsFound s cone n0 closed n bytes gate (next_gate gate payload) (Followed keys)
     found_packet within before =
@@ -74,11 +75,14 @@ module _ (payload : List ℕ) (small : (k : ℕ) → slice_index payload k < 256
         Too_many (packet_in payload) there.holds running (omega (arith, many, keys_is, there.count)) refl
 
 -- a payload that leaves it, and bytes that are no record
-pub found_spoiled : (s : Numbers) (cone n0 : ℕ) (closed : Bool) (n : ℕ) (bytes : List ℕ) (gate at place : ℕ) (payload : List ℕ) → left s cone payload ≡ Some place → IsOpen (most_payload s) bytes gate payload → at ≡ gate + 1 + place →
+pub found_spoiled : (s : Numbers) (cone n0 : ℕ) (closed : Bool) (n : ℕ) (bytes : List ℕ) (gate at place : ℕ) (payload : List ℕ) → left s cone payload ≡ Some place →
+    IsOpen (most_payload s) bytes gate payload → at ≡ gate + 1 + place →
     ReplayLeavesAt s cone n0 closed n bytes gate at
-found_spoiled s cone n0 closed n bytes gate at place payload first opened at_is = In_record (inr (record { payload = payload; place = place; stands = opened; first = first; at_is = at_is }))
+found_spoiled s cone n0 closed n bytes gate at place payload first opened at_is = In_record
+    (inr (record { payload = payload; place = place; stands = opened; first = first; at_is = at_is }))
 
-pub found_broken : (s : Numbers) (cone n0 : ℕ) (closed : Bool) (n most : ℕ) (bytes : List ℕ) (gate at : ℕ) → most ≡ most_payload s → BreaksAt most bytes gate at → ReplayLeavesAt s cone n0 closed n bytes gate at
+pub found_broken : (s : Numbers) (cone n0 : ℕ) (closed : Bool) (n most : ℕ) (bytes : List ℕ) (gate at : ℕ) → most ≡ most_payload s → BreaksAt most bytes gate at →
+    ReplayLeavesAt s cone n0 closed n bytes gate at
 found_broken s cone n0 closed n most bytes gate at most_is breaks = In_record (inl (subst (λ m. BreaksAt m bytes gate at) most_is breaks))
 
 -- ---- behind a packet
@@ -87,7 +91,8 @@ module _ (s : Numbers) (cone n0 : ℕ) (closed : Bool) (n : ℕ) (bytes : List �
   pub onward_packet : (at : ℕ) → JournalLeavesAt s cone n0 closed bytes (n + keys) next at → JournalLeavesAt s cone n0 closed bytes n gate at
   onward_packet at leaves =
       later s cone n0 closed bytes n gate at found.0 found.1 found.2
-      (subst (λ g. JournalLeavesAt s cone n0 closed bytes (n + length found.0.keys) g at) found.4 (subst (λ k. JournalLeavesAt s cone n0 closed bytes (n + k) next at) found.3 leaves))
+      (subst (λ g. JournalLeavesAt s cone n0 closed bytes (n + length found.0.keys) g at) found.4
+      (subst (λ k. JournalLeavesAt s cone n0 closed bytes (n + k) next at) found.3 leaves))
 
   pub ends_packet : JournalEnds s cone n0 closed bytes (n + keys) next → JournalEnds s cone n0 closed bytes n gate
   ends_packet ends =

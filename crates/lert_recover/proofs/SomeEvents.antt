@@ -1,5 +1,6 @@
 -- Frames in the format hold the bins of some events: keys with the counts of each bin, put together in the order of positions.
-use Rattle.std.proofs.Common.{ℕ, ◌≡◌, ◌+◌, ◌-◌, ◌*◌, ◌/◌, ◌%◌, ◌^◌, ◌<◌, ◌≤◌, zero, suc, cond, eqb, List, [], ◌∷◌, ◌++◌, length, map, get_or, take, drop, replicate, refl, ap, ap₂, sym, ◌∙◌, arith, lit<, inl, inr, subst, flat_map, slice_range, append_assoc}
+use Rattle.std.proofs.Common.{ℕ, ◌≡◌, ◌+◌, ◌-◌, ◌*◌, ◌/◌, ◌%◌, ◌^◌, ◌<◌, ◌≤◌, zero, suc, cond, eqb, List, [], ◌∷◌, ◌++◌, length, map, get_or}
+use Rattle.std.proofs.Common.{take, drop, replicate, refl, ap, ap₂, sym, ◌∙◌, arith, lit<, inl, inr, subst, flat_map, slice_range, append_assoc}
 use Rattle.std.specs.List.{All}
 use Rattle.std.proofs.Math.Nat.{mul-le-mul_right, mod-eq_of_lt, pow-le-pow_right}
 use Rattle.std.proofs.Math.Seq.{take-append_seam, drop-append_seam}
@@ -137,7 +138,8 @@ All-right : {X : Type 0} (P : X → Type 0) (xs ys : List X) → All P (xs ++ ys
 All-right P xs ys all = subst (All P) (drop-append_seam xs ys) (All-drop P (length xs) (xs ++ ys) all)
 
 -- the keys of bins without gaps stand at the bins' positions
-keys_stand : (keys : BinAt → List ℕ) (front : List ℕ) (bins : List BinAt) (to : ℕ) → IsGapless (length front) (map range_of bins) to → All (λ (bin : BinAt). length (keys bin) ≡ width_of bin) bins →
+keys_stand : (keys : BinAt → List ℕ) (front : List ℕ) (bins : List BinAt) (to : ℕ) → IsGapless (length front) (map range_of bins) to →
+    All (λ (bin : BinAt). length (keys bin) ≡ width_of bin) bins →
     All (λ (bin : BinAt). slice_range (front ++ flat_map keys bins) bin.from bin.to ≡ keys bin) bins
 keys_stand keys front [] to gapless widths = All-nil (λ (bin : BinAt). slice_range (front ++ flat_map keys []) bin.from bin.to ≡ keys bin)
 keys_stand keys front (bin ∷ bins) to gapless widths =
@@ -198,7 +200,8 @@ module _ (s : Numbers) (base : 1 ≤ s.base) (ratio : 1 ≤ s.ratio) (n : ℕ) (
       (joined_gapless level (omega arith)))
 
 -- frames in the format hold the bins of some events
-pub some_events : (s : Numbers) → IsValid s → (n : ℕ) → n ≤ capacity s → (rows : List (List BinAt)) → IsAt s n rows → (file : List ℕ) → EachStands s file rows → HoldsSome s n rows file
+pub some_events : (s : Numbers) → IsValid s → (n : ℕ) → n ≤ capacity s → (rows : List (List BinAt)) → IsAt s n rows → (file : List ℕ) → EachStands s file rows →
+    HoldsSome s n rows file
 some_events s valid n fits rows at file stand =
     let base : 1 ≤ s.base = omega (arith, valid.limits.base_from) in
     let ratio : 1 ≤ s.ratio = omega (arith, valid.limits.ratio_from) in

@@ -1,5 +1,6 @@
 -- Why a replay stopped, and what was so of a cone when it was made.
 use Rattle.std.proofs.Common.{ℕ, ◌≡◌, Bool, Option, List, length, refl, ap, ◌∙◌, subst, inl, inr, ◌⊎◌}
+use Rattle.lert_bay.specs.declared.bay.TheConstants.{LOG, FRAMES}
 use Rattle.lert_bay.specs.Files.{Files}
 use Rattle.lert_cone.specs.declared.refusal.ReplayFault.{ReplayFault}
 use Rattle.lert_cone.specs.declared.refusal.ReplayFault.TheVariants.{Failed as ReplayFailed, Malformed as ReplayMalformed, Unsound as ReplayUnsound, OutOfMemory as ReplayOutOfMemory}
@@ -17,14 +18,16 @@ use Rattle.lert_recover.specs.Reopened.{IsStopped, IsWhy, At_call, At_memory, At
 use Rattle.lert_recover.proofs.ReplayedLaws.{ends_from_start, here, leaves_from_start}
 
 -- a replay that stopped at a gate behind what it had replayed
-module _ (s : Numbers) (cone n0 : ℕ) (closed : Bool) (bytes : List ℕ) (gate n : ℕ) (events : List ℕ) (has : HasReplayed s cone n0 closed bytes gate events) (n_is : n ≡ length events) where
+module _ (s : Numbers) (cone n0 : ℕ) (closed : Bool) (bytes : List ℕ) (gate n : ℕ) (events : List ℕ) (has : HasReplayed s cone n0 closed bytes gate events)
+    (n_is : n ≡ length events) where
   start_leaves : (at : ℕ) → JournalLeavesAt s cone n0 closed bytes n gate at → JournalLeavesAt s cone n0 closed bytes 0 32 at
   start_leaves at leaves = leaves_from_start s cone n0 closed bytes gate events at has (subst (λ (m : ℕ). JournalLeavesAt s cone n0 closed bytes m gate at) n_is leaves)
 
   start_ends : JournalEnds s cone n0 closed bytes n gate → JournalEnds s cone n0 closed bytes 0 32
   start_ends ends = ends_from_start s cone n0 closed bytes gate events has (subst (λ (m : ℕ). JournalEnds s cone n0 closed bytes m gate) n_is ends)
 
-  pub stopped_of : (fault : ReopenFault) (replay : ReplayFault) → IsWhy s cone n0 closed bytes n gate replay fault → ((at : ℕ) → replay ≡ ReplayMalformed at → ReplayLeavesAt s cone n0 closed n bytes gate at) → ((file at : ℕ) → replay ≡ ReplayUnsound file at → (file ≡ 1) × (at ≡ 0)) →
+  pub stopped_of : (fault : ReopenFault) (replay : ReplayFault) → IsWhy s cone n0 closed bytes n gate replay fault →
+      ((at : ℕ) → replay ≡ ReplayMalformed at → ReplayLeavesAt s cone n0 closed n bytes gate at) → ((file at : ℕ) → replay ≡ ReplayUnsound file at → (file ≡ LOG) × (at ≡ 0)) →
       IsStopped s cone n0 closed bytes fault
   stopped_of fault ReplayFailed why left shown = At_call why
   stopped_of fault ReplayOutOfMemory why left shown = At_memory why
@@ -45,7 +48,8 @@ failed_or_malformed at is = cc
 memory_or_malformed : (at : ℕ) → ReplayMalformed at ≡ ReplayOutOfMemory → ⊥
 memory_or_malformed at is = cc
 
-pub outside_of : (s : Numbers) (cone n0 : ℕ) (closed : Bool) (bytes : List ℕ) (n gate : ℕ) (fault : ReopenFault) (replay : ReplayFault) → IsWhy s cone n0 closed bytes n gate replay fault → IsOutsideReplay replay → (fault ≡ Failed) ⊎ (fault ≡ OutOfMemory)
+pub outside_of : (s : Numbers) (cone n0 : ℕ) (closed : Bool) (bytes : List ℕ) (n gate : ℕ) (fault : ReopenFault) (replay : ReplayFault) →
+    IsWhy s cone n0 closed bytes n gate replay fault → IsOutsideReplay replay → (fault ≡ Failed) ⊎ (fault ≡ OutOfMemory)
 outside_of s cone n0 closed bytes n gate fault ReplayFailed why outside = inl why
 outside_of s cone n0 closed bytes n gate fault ReplayOutOfMemory why outside = inr why
 outside_of s cone n0 closed bytes n gate fault (ReplayMalformed at) why (inl failed) = absurd (failed_or_malformed at failed)
@@ -63,6 +67,7 @@ was_before files start now same was first told =
     )
 
 -- where no frame shows that files are sound for no list, the store is full
-pub full_alone : (s : Numbers) (rows : List (List BinAt)) (reports : List Report) (frames : List ℕ) (file at : ℕ) → Shows s rows reports frames file at → (file ≡ 2 → ⊥) → (file ≡ 1) × (at ≡ 0)
+pub full_alone : (s : Numbers) (rows : List (List BinAt)) (reports : List Report) (frames : List ℕ) (file at : ℕ) → Shows s rows reports frames file at → (file ≡ FRAMES → ⊥) →
+    (file ≡ LOG) × (at ≡ 0)
 full_alone s rows reports frames file at (inl broken) never = absurd (never broken.0)
 full_alone s rows reports frames file at (inr full) never = (full.0, full.1)

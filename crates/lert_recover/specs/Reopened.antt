@@ -3,6 +3,7 @@ use Rattle.std.specs.Prelude.{◌≡◌, ℕ, ◌≤◌, Bool, List, length}
 use Rattle.std.proofs.Common.{◌⊎◌}
 use Rattle.lert_base.specs.declared.kept.Kept.{Kept}
 use Rattle.lert_base.specs.Packet.{Packet}
+use Rattle.lert_bay.specs.declared.bay.TheConstants.{JOURNAL, LOG}
 use Rattle.lert_bay.specs.Files.{Files}
 use Rattle.lert_cone.specs.declared.refusal.ReplayFault.{ReplayFault}
 use Rattle.lert_cone.specs.declared.refusal.ReplayFault.TheVariants.{Failed as ReplayFailed, Malformed as ReplayMalformed, Unsound as ReplayUnsound, OutOfMemory as ReplayOutOfMemory}
@@ -25,8 +26,8 @@ pub record IsReopened (s : Numbers) (cone : ℕ) (seen : Files) (closed : Bool) 
   pub rows : List (List BinAt)
   pub opened : AreOpened s cone seen records log_end rows
   pub closed_is : closed ≡ is_closed records
-  pub replayed : HasReplayed s cone (last_n0 records) (is_closed records) (seen 0) gate events
-  pub shut : IsClosed (seen 0) gate
+  pub replayed : HasReplayed s cone (last_n0 records) (is_closed records) (seen JOURNAL) gate events
+  pub shut : IsClosed (seen JOURNAL) gate
   pub enough : last_n0 records ≤ length events
 
 -- Files that are in their format to their end, and sound for no list. The one place that is told of them is the start of the
@@ -34,7 +35,7 @@ pub record IsReopened (s : Numbers) (cone : ℕ) (seen : Files) (closed : Bool) 
 pub record IsUnsoundAt (s : Numbers) (cone : ℕ) (seen : Files) (file at : ℕ) : Type 0 where
   pub whole : AreInFormat s cone seen
   pub none : (history : List Packet) → IsSound s cone history seen → ⊥
-  pub file_is : file ≡ 1
+  pub file_is : file ≡ LOG
   pub at_is : at ≡ 0
 
 -- why a cone isn't reopened: a call or memory failed, or what stands in its files, which leave their format first at a place,
@@ -43,7 +44,7 @@ pub data IsReopenRefused (s : Numbers) (cone : ℕ) (seen : Files) (fault : Reop
   Of_call : fault ≡ Failed → IsReopenRefused s cone seen fault
   Of_memory : fault ≡ OutOfMemory → IsReopenRefused s cone seen fault
   Of_place : (file at : ℕ) → fault ≡ Malformed file at → FirstLeaves s cone seen file at → IsReopenRefused s cone seen fault
-  Of_header : (kept : Kept) → fault ≡ OtherSettings kept → HasOther s cone (seen 0) kept → IsReopenRefused s cone seen fault
+  Of_header : (kept : Kept) → fault ≡ OtherSettings kept → HasOther s cone (seen JOURNAL) kept → IsReopenRefused s cone seen fault
   Of_sight : (file at : ℕ) → fault ≡ Malformed file at → IsUnsoundAt s cone seen file at → IsReopenRefused s cone seen fault
 
 -- ---- the journal alone
@@ -52,16 +53,16 @@ pub data IsReopenRefused (s : Numbers) (cone : ℕ) (seen : Files) (fault : Reop
 pub data IsStopped (s : Numbers) (cone n0 : ℕ) (closed : Bool) (bytes : List ℕ) (fault : ReopenFault) : Type 0 where
   At_call : fault ≡ Failed → IsStopped s cone n0 closed bytes fault
   At_memory : fault ≡ OutOfMemory → IsStopped s cone n0 closed bytes fault
-  At_place : (at : ℕ) → fault ≡ Malformed 0 at → JournalLeavesAt s cone n0 closed bytes 0 32 at → IsStopped s cone n0 closed bytes fault
-  At_sight : (file at : ℕ) → fault ≡ Malformed file at → JournalEnds s cone n0 closed bytes 0 32 → file ≡ 1 → at ≡ 0 → IsStopped s cone n0 closed bytes fault
+  At_place : (at : ℕ) → fault ≡ Malformed JOURNAL at → JournalLeavesAt s cone n0 closed bytes 0 32 at → IsStopped s cone n0 closed bytes fault
+  At_sight : (file at : ℕ) → fault ≡ Malformed file at → JournalEnds s cone n0 closed bytes 0 32 → file ≡ LOG → at ≡ 0 → IsStopped s cone n0 closed bytes fault
 
 -- what a fault of a replay is that stopped at a gate, behind n events: that the files are sound for no list is told
 -- only where the rest of the journal is in its format
 abbrev pub IsWhy : Numbers → ℕ → ℕ → Bool → List ℕ → ℕ → ℕ → ReplayFault → ReopenFault → Type 0
 IsWhy s cone n0 closed bytes n gate ReplayFailed fault = fault ≡ Failed
-IsWhy s cone n0 closed bytes n gate (ReplayMalformed at) fault = fault ≡ Malformed 0 at
+IsWhy s cone n0 closed bytes n gate (ReplayMalformed at) fault = fault ≡ Malformed JOURNAL at
 IsWhy s cone n0 closed bytes n gate ReplayOutOfMemory fault = fault ≡ OutOfMemory
 IsWhy s cone n0 closed bytes n gate (ReplayUnsound file at) fault =
     (fault ≡ Failed)
     ⊎ (((fault ≡ Malformed file at) × JournalEnds s cone n0 closed bytes n gate)
-    ⊎ ((place : ℕ) × (fault ≡ Malformed 0 place) × JournalLeavesAt s cone n0 closed bytes n gate place))
+    ⊎ ((place : ℕ) × (fault ≡ Malformed JOURNAL place) × JournalLeavesAt s cone n0 closed bytes n gate place))

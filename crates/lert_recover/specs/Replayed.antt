@@ -1,13 +1,15 @@
 -- The packets of a journal as they are replayed, and where the files of a cone first leave their format.
-use Rattle.std.specs.Prelude.{◌≡◌, ℕ, ◌+◌, ◌≤◌, Bool, List, [], ◌∷◌, length, Option}
+use Rattle.std.specs.Prelude.{◌≡◌, ℕ, ◌+◌, ◌≤◌, Bool, List, [], ◌∷◌, length, map, Option}
 use Rattle.std.proofs.Common.{◌⊎◌}
 use Rattle.lert_base.specs.Packet.{Packet, events_of}
+use Rattle.lert_bay.specs.declared.bay.TheConstants.{JOURNAL}
 use Rattle.lert_bay.specs.Files.{Files, Turns}
 use Rattle.lert_cone.specs.declared.refusal.ReplayFault.{ReplayFault}
 use Rattle.lert_cone.specs.declared.refusal.ReplayFault.TheVariants.{Failed, OutOfMemory}
+use Rattle.lert_cone.specs.Framed.{last_flush}
 use Rattle.lert_cone.specs.History.{most_payload}
 use Rattle.lert_cone.specs.Replay.{MayFollow, ReplayLeavesAt}
-use Rattle.lert_gatelog.specs.Gated.{IsClosed, next_gate}
+use Rattle.lert_gatelog.specs.Gated.{IsClosed, Records, next_gate}
 use Rattle.lert_journal.specs.Journal.{HoldsPacket}
 use Rattle.lert_journal.specs.Payload.{payload_of}
 use Rattle.lert_rows.specs.declared.bin_at.BinAt.{BinAt}
@@ -50,8 +52,8 @@ pub record HasReplayed (s : Numbers) (cone n0 : ℕ) (closed : Bool) (bytes : Li
 -- journal, or, behind what is in its format, at one of these.
 pub data FirstLeaves (s : Numbers) (cone : ℕ) (seen : Files) (file at : ℕ) : Type 0 where
   Before_records : LeaveAt s cone seen file at → FirstLeaves s cone seen file at
-  In_records : (records : List LogRecord) (log_end : ℕ) (rows : List (List BinAt)) → AreOpened s cone seen records log_end rows → file ≡ 0 →
-      JournalLeavesAt s cone (last_n0 records) (is_closed records) (seen 0) 0 32 at → FirstLeaves s cone seen file at
+  In_records : (records : List LogRecord) (log_end : ℕ) (rows : List (List BinAt)) → AreOpened s cone seen records log_end rows → file ≡ JOURNAL →
+      JournalLeavesAt s cone (last_n0 records) (is_closed records) (seen JOURNAL) 0 32 at → FirstLeaves s cone seen file at
 
 -- they are in it to their end
 pub record AreInFormat (s : Numbers) (cone : ℕ) (seen : Files) : Type 0 where
@@ -59,13 +61,18 @@ pub record AreInFormat (s : Numbers) (cone : ℕ) (seen : Files) : Type 0 where
   pub log_end : ℕ
   pub rows : List (List BinAt)
   pub opened : AreOpened s cone seen records log_end rows
-  pub journal : JournalEnds s cone (last_n0 records) (is_closed records) (seen 0) 0 32
+  pub journal : JournalEnds s cone (last_n0 records) (is_closed records) (seen JOURNAL) 0 32
+
+-- However many packets are read from the start of a journal, no flush position above n0 lies among their keys.
+abbrev pub FlushesNothing : Numbers → ℕ → List ℕ → Type 0
+FlushesNothing s n0 bytes = (packets : List Packet) (end : ℕ) → Records (most_payload s) bytes 32 (map payload_of packets) end →
+    last_flush s (length (events_of packets)) ≤ n0
 
 -- ---- while packets are replayed
 
 -- the journal reads as before
 abbrev pub IsJournalSame : Option Files → Option Files → Type 0
-IsJournalSame before after = Turns (λ old new. new 0 ≡ old 0) before after
+IsJournalSame before after = Turns (λ old new. new JOURNAL ≡ old JOURNAL) before after
 
 -- a call or memory failed
 abbrev pub IsOutsideReplay : ReplayFault → Type 0

@@ -1,11 +1,12 @@
 //! The rest of a journal, read without a cone.
 
-ghost use Rattle.std.specs.Prelude.{◌≡◌, ◌⊎◌, ℕ, ◌+◌, ◌*◌, ◌<◌, ◌≤◌, ◌^◌, List, length, IfOk, MatchOption};
-ghost use Rattle.lert_bay.specs.Files.{Files, IfTold};
+ghost use Rattle.std.specs.Prelude.{◌≡◌, ◌⊎◌, ℕ, ◌+◌, ◌*◌, ◌<◌, ◌≤◌, ◌^◌, List, length, IfOk, IsErr, MatchOption};
+ghost use Rattle.lert_bay.specs.declared.bay.TheConstants.{JOURNAL};
+ghost use Rattle.lert_bay.specs.Files.{IfTold};
+ghost use Rattle.lert_bay.specs.Kept.{OnlyReads};
 ghost use Rattle.lert_cone.specs.History.{most_payload};
-ghost use Rattle.lert_bay.specs.Kept.{OnlyRead};
 ghost use Rattle.lert_gatelog.specs.Gated.{IsOpen, IsClosed, next_gate};
-ghost use Rattle.lert_io.specs.Fault.{HasCause, HasRisen};
+ghost use Rattle.lert_io.specs.Fault.{HasRisen};
 ghost use Rattle.lert_recover.specs.Reopened.{IsWhy};
 ghost use Rattle.lert_recover.specs.Replayed.{JournalEnds, JournalLeavesAt};
 ghost use Rattle.lert_recover.specs.Rest.{IsFound, GoesOn};
@@ -49,11 +50,9 @@ pub fn find_left<B: Bay>(
     requires within { events ≤ capacity settings.now }
     requires near { gate ≤ 32 + 65536 * events }
     ensures told { IfTold (B.files bay.old) (λ seen. IfOk result (λ found. MatchOption found
-        (JournalEnds settings.now cone last.now.n0 last.now.closed (seen 0) events gate)
-        (λ at. JournalLeavesAt settings.now cone last.now.n0 last.now.closed (seen 0) events gate at))) }
-    ensures only_read { OnlyRead (B.files bay.old) (B.files bay.new) (B.leaves bay.old) (B.leaves bay.new) (B.moment bay.old) (B.moment bay.new) (B.left_since bay.old) (B.left_since bay.new) }
-    ensures cause { HasCause (B.faults bay.old) (B.faults bay.new) result }
-    ensures mark { B.mark bay.new ≡ B.mark bay.old }
+        (JournalEnds settings.now cone last.now.n0 last.now.closed (seen JOURNAL) events gate)
+        (λ at. JournalLeavesAt settings.now cone last.now.n0 last.now.closed (seen JOURNAL) events gate at))) }
+    ensures only_reads { OnlyReads B.Bay bay.old bay.new (IsErr result) }
 {
     let mut buffer = [0; PAYLOAD_ROOM];
     let most = 8 + 32 * settings.numbers().packet as u32;
@@ -80,11 +79,9 @@ pub fn why_stopped<B: Bay>(
     requires place { last.now.n0 ≤ capacity settings.now }
     requires within { stop.now.events ≤ capacity settings.now }
     requires near { stop.now.gate ≤ 32 + 65536 * stop.now.events }
-    ensures told { IfTold (B.files bay.old) (λ seen. IsWhy settings.now cone last.now.n0 last.now.closed (seen 0) stop.now.events stop.now.gate stop.now.fault result) }
+    ensures told { IfTold (B.files bay.old) (λ seen. IsWhy settings.now cone last.now.n0 last.now.closed (seen JOURNAL) stop.now.events stop.now.gate stop.now.fault result) }
     ensures failed { result ≡ ReopenFault.Failed → (stop.now.fault ≡ ReplayFault.Failed) ⊎ HasRisen (B.faults bay.old) (B.faults bay.new) }
-    ensures only_read { OnlyRead (B.files bay.old) (B.files bay.new) (B.leaves bay.old) (B.leaves bay.new) (B.moment bay.old) (B.moment bay.new) (B.left_since bay.old) (B.left_since bay.new) }
-    ensures never_falls { B.faults bay.old ≤ B.faults bay.new }
-    ensures mark { B.mark bay.new ≡ B.mark bay.old }
+    ensures only_reads { OnlyReads B.Bay bay.old bay.new ⊥ }
 {
     match stop.fault {
         ReplayFault::Failed => ReopenFault::Failed,
@@ -113,19 +110,17 @@ fn find_here<B: Bay>(
     events: u64,
     buffer: &mut [u8],
 ) -> Result<Found, Failed>
-    requires file { log.old.file ≡ 0 }
+    requires file { log.old.file ≡ JOURNAL }
     requires most { log.old.most ≡ most_payload settings.now }
     requires room { log.old.most ≤ length buffer.old }
     requires reach { log.old.gate ≤ 2 ^ 62 }
     requires place { last.now.n0 ≤ capacity settings.now }
     requires within { events ≤ capacity settings.now }
-    ensures told { IfTold (B.files bay.old) (λ seen. IfOk result (IsFound settings.now cone last.now.n0 last.now.closed events (seen 0) log.old.gate log.new.gate)) }
+    ensures told { IfTold (B.files bay.old) (λ seen. IfOk result (IsFound settings.now cone last.now.n0 last.now.closed events (seen JOURNAL) log.old.gate log.new.gate)) }
     ensures forward { IfOk result (GoesOn settings.now events log.old.gate log.new.gate) }
     ensures file { log.new.file ≡ log.old.file }
     ensures most { log.new.most ≡ log.old.most }
-    ensures only_read { OnlyRead (B.files bay.old) (B.files bay.new) (B.leaves bay.old) (B.leaves bay.new) (B.moment bay.old) (B.moment bay.new) (B.left_since bay.old) (B.left_since bay.new) }
-    ensures cause { HasCause (B.faults bay.old) (B.faults bay.new) result }
-    ensures mark { B.mark bay.new ≡ B.mark bay.old }
+    ensures only_reads { OnlyReads B.Bay bay.old bay.new (IsErr result) }
 {
     let gate = log.gate();
     match log.next(bay, buffer) {

@@ -10,5 +10,5 @@ mod journal_rest;
 mod recovery;
 mod replay;
 
-pub use lert_files::{Directory, ReopenFault, read_files, read_journal_header, read_whole_log};
+pub use lert_files::ReopenFault;
 pub use recovery::{ReopenRefused, reopen};

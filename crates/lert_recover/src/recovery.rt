@@ -3,18 +3,21 @@
 ghost use Rattle.std.specs.Prelude.{◌≡◌, ◌⊎◌, ℕ, ◌<◌, ◌≤◌, ◌^◌, [], List, All, length, if◌then◌else◌, MatchResult, IfOk, IfErr, IsErrAnd};
 ghost use Rattle.lert_base.specs.declared.kept.Kept.{Kept as KeptOf};
 ghost use Rattle.lert_base.specs.Packet.{Packet, events_of};
+ghost use Rattle.lert_bay.specs.declared.bay.TheConstants.{JOURNAL, LOG, FRAMES};
 ghost use Rattle.lert_bay.specs.Files.{Files, IfTold};
+ghost use Rattle.lert_bay.specs.Kept.{KeepsBay};
 ghost use Rattle.lert_cone.specs.Framed.{HoldsSome};
 ghost use Rattle.lert_cone.specs.Replays.{Replays};
 ghost use Rattle.lert_cone.specs.Room.{IsRoom};
 ghost use Rattle.lert_cone.specs.Sound.{IsSound, IsJournal};
 ghost use Rattle.lert_cone.specs.Stands.{IsSameCone, StandsFor, WasSound};
 ghost use Rattle.lert_gatelog.specs.Gated.{IsClosed};
-ghost use Rattle.lert_io.specs.Fault.{HasRisen};
 ghost use Rattle.lert_files.specs.Headed.{HasOther};
+ghost use Rattle.lert_files.specs.Opened.{WritesNothing};
 ghost use Rattle.lert_recover.specs.Reopened.{IsReopened, IsReopenRefused, IsStopped, IsUnsoundAt};
-ghost use Rattle.lert_recover.specs.Replayed.{FirstLeaves, HasReplayed, IsJournalSame};
-ghost use Rattle.lert_reports.specs.Log.{is_closed};
+ghost use Rattle.lert_recover.specs.Replayed.{FirstLeaves, FlushesNothing, HasReplayed, IsJournalSame};
+ghost use Rattle.lert_reports.specs.Log.{is_closed, last_n0, HasLog};
+ghost use Rattle.lert_reports.specs.LogText.{LogRecord};
 ghost use Rattle.lert_spec.specs.Edges.{capacity};
 ghost use Rattle.lert_spec.specs.Limits.{IsValid};
 
@@ -26,7 +29,7 @@ use lert_cone::{Cone, ConeRoom, ConeState, LogPoint};
 use lert_files::{ReopenFault, read_files};
 use lert_reports::{FIRST, OFFSET};
 
-/// A cone that wasn't reopened. Its journal reads as before.
+/// A cone that wasn't reopened. Its journal reads as before, and files that were sound for a list are sound for it.
 #[derive(Drop)]
 pub struct ReopenRefused<B: Bay> {
     pub fault: ReopenFault,
@@ -63,29 +66,39 @@ pub fn reopen<B: Bay, T: CountTable>(
         StandsFor B.files B.leaves B.faults now h) }
 
     // Where the files are told, its keys are those of the journal, whatever the log says.
-    ensures journal { IfTold (B.files bay) (λ seen. IfOk result (λ now. (h : List Packet) × IsJournal room.settings cone h (seen 0) × (now.listing.events ≡ events_of h))) }
+    ensures journal { IfTold (B.files bay) (λ seen. IfOk result (λ now. (h : List Packet) × IsJournal room.settings cone h (seen JOURNAL) × (now.listing.events ≡ events_of h))) }
 
     // A place is the first one at which they leave their format. Files that leave it nowhere and are sound for no list are refused
     // for their log alone, at its start, where one report more would be due than the store takes.
     ensures malformed { IfTold (B.files bay) (λ seen. IfErr result (λ refused. (file at : ℕ) → refused.fault ≡ ReopenFault.Malformed file at →
         FirstLeaves room.settings cone seen file at ⊎ IsUnsoundAt room.settings cone seen file at)) }
     ensures other { IfTold (B.files bay) (λ seen. IfErr result (λ refused. (kept : KeptOf) → refused.fault ≡ ReopenFault.OtherSettings kept →
-        HasOther room.settings cone (seen 0) kept)) }
+        HasOther room.settings cone (seen JOURNAL) kept)) }
 
     // And where they leave it there, that is the answer, but where a call of the bay or memory fails.
     ensures refuses { IfTold (B.files bay) (λ seen. (file at : ℕ) → FirstLeaves room.settings cone seen file at →
         IsErrAnd result (λ refused. ((refused.fault ≡ ReopenFault.Failed) ⊎ (refused.fault ≡ ReopenFault.OutOfMemory)) ⊎ (refused.fault ≡ ReopenFault.Malformed file at))) }
-    ensures differs { IfTold (B.files bay) (λ seen. (kept : KeptOf) → HasOther room.settings cone (seen 0) kept →
+    ensures differs { IfTold (B.files bay) (λ seen. (kept : KeptOf) → HasOther room.settings cone (seen JOURNAL) kept →
         IsErrAnd result (λ refused. ((refused.fault ≡ ReopenFault.Failed) ⊎ (refused.fault ≡ ReopenFault.OutOfMemory)) ⊎ (refused.fault ≡ ReopenFault.OtherSettings kept))) }
+
+    // It is closed exactly where the log is, whether or not the files are sound for a list.
+    ensures closed { IfTold (B.files bay) (λ seen. IfOk result (λ now. (records : List LogRecord) × (log_end : ℕ)
+        × HasLog room.settings cone (seen LOG) records log_end × (now.listing.closed ≡ is_closed records))) }
+
+    // A refusal leaves files that are sound for a list sound for it. And where no flush position above the log's last record lies
+    // among the keys of the journal, nothing is written, whatever it answers: the files are as they were, byte for byte.
+    ensures stays_sound { IfTold (B.files bay) (λ seen. (h : List Packet) → IsSound room.settings cone h seen →
+        IfErr result (λ refused. IfTold (B.files refused.bay) (IsSound room.settings cone h))) }
+    ensures unflushed { IfTold (B.files bay) (λ seen.
+        ((records : List LogRecord) (log_end : ℕ) → HasLog room.settings cone (seen LOG) records log_end → FlushesNothing room.settings (last_n0 records) (seen JOURNAL)) →
+        MatchResult result (λ now. WritesNothing B.Bay bay now.bay ⊥) (λ refused. WritesNothing B.Bay bay refused.bay ⊥)) }
 
     // Told or not, what it is.
     ensures own { IfOk result (λ now. (now.listing.settings ≡ room.settings) × (now.listing.cone ≡ cone) × (now.events ≡ length now.listing.events)
         × (now.state ≡ if now.listing.closed then ConeState.Finished else ConeState.Running)) }
     ensures made { IfOk result (λ now. (B.files now.made ≡ B.files bay) × (B.faults bay ≤ B.faults now.made) × (B.mark now.made ≡ B.mark bay)) }
     ensures reads { MatchResult result (λ now. IsJournalSame (B.files bay) (B.files now.bay)) (λ refused. IsJournalSame (B.files bay) (B.files refused.bay)) }
-    ensures never_falls { MatchResult result (λ now. B.faults bay ≤ B.faults now.bay) (λ refused. B.faults bay ≤ B.faults refused.bay) }
-    ensures failed { IfErr result (λ refused. refused.fault ≡ ReopenFault.Failed → HasRisen (B.faults bay) (B.faults refused.bay)) }
-    ensures mark { MatchResult result (λ now. B.mark now.bay ≡ B.mark bay) (λ refused. B.mark refused.bay ≡ B.mark bay) }
+    ensures kept { MatchResult result (λ now. KeepsBay B.Bay bay now.bay ⊥) (λ refused. KeepsBay B.Bay bay refused.bay (refused.fault ≡ ReopenFault.Failed)) }
 {
     reopen_in_order(room, cone, bay)
 }
@@ -106,13 +119,16 @@ fn reopen_in_order<B: Bay, T: CountTable>(
     ensures stands { IfOk result (λ now. (h : List Packet) → All (λ packet. 0 < length packet.keys) h → length (events_of h) ≡ now.events →
         IfTold (B.files bay) (λ seen. (other : List Packet) → IsSound room.settings cone other seen → IsSound room.settings cone h seen) →
         StandsFor B.files B.leaves B.faults now h) }
+    ensures stays_sound { IfTold (B.files bay) (λ seen. (h : List Packet) → IsSound room.settings cone h seen →
+        IfErr result (λ refused. IfTold (B.files refused.bay) (IsSound room.settings cone h))) }
+    ensures unflushed { IfTold (B.files bay) (λ seen.
+        ((records : List LogRecord) (log_end : ℕ) → HasLog room.settings cone (seen LOG) records log_end → FlushesNothing room.settings (last_n0 records) (seen JOURNAL)) →
+        MatchResult result (λ now. WritesNothing B.Bay bay now.bay ⊥) (λ refused. WritesNothing B.Bay bay refused.bay ⊥)) }
     ensures own { IfOk result (λ now. (now.listing.settings ≡ room.settings) × (now.listing.cone ≡ cone) × (now.events ≡ length now.listing.events)
         × (now.state ≡ if now.listing.closed then ConeState.Finished else ConeState.Running)) }
     ensures made { IfOk result (λ now. (B.files now.made ≡ B.files bay) × (B.faults bay ≤ B.faults now.made) × (B.mark now.made ≡ B.mark bay)) }
     ensures reads { MatchResult result (λ now. IsJournalSame (B.files bay) (B.files now.bay)) (λ refused. IsJournalSame (B.files bay) (B.files refused.bay)) }
-    ensures never_falls { MatchResult result (λ now. B.faults bay ≤ B.faults now.bay) (λ refused. B.faults bay ≤ B.faults refused.bay) }
-    ensures failed { IfErr result (λ refused. refused.fault ≡ ReopenFault.Failed → HasRisen (B.faults bay) (B.faults refused.bay)) }
-    ensures mark { MatchResult result (λ now. B.mark now.bay ≡ B.mark bay) (λ refused. B.mark refused.bay ≡ B.mark bay) }
+    ensures kept { MatchResult result (λ now. KeepsBay B.Bay bay now.bay ⊥) (λ refused. KeepsBay B.Bay bay refused.bay (refused.fault ≡ ReopenFault.Failed)) }
 {
     match read_files(
         &mut bay,
@@ -150,9 +166,9 @@ fn replay_journal<B: Bay, T: CountTable>(
     requires replaying { cone.state ≡ ConeState.Replaying }
     requires valid { IsValid cone.listing.settings }
     requires begun { (cone.gate ≡ 32) × (cone.listing.events ≡ []) × (cone.events ≡ 0) }
-    ensures told { IfTold (B.files cone.bay) (λ seen. HoldsSome cone.listing.settings cone.last.n0 cone.rows (seen 2) → MatchResult result
-        (λ now. HasReplayed cone.listing.settings cone.listing.cone cone.last.n0 cone.last.closed (seen 0) now.gate now.listing.events × IsClosed (seen 0) now.gate)
-        (λ refused. IsStopped cone.listing.settings cone.listing.cone cone.last.n0 cone.last.closed (seen 0) refused.fault)) }
+    ensures told { IfTold (B.files cone.bay) (λ seen. HoldsSome cone.listing.settings cone.last.n0 cone.rows (seen FRAMES) → MatchResult result
+        (λ now. HasReplayed cone.listing.settings cone.listing.cone cone.last.n0 cone.last.closed (seen JOURNAL) now.gate now.listing.events × IsClosed (seen JOURNAL) now.gate)
+        (λ refused. IsStopped cone.listing.settings cone.listing.cone cone.last.n0 cone.last.closed (seen JOURNAL) refused.fault)) }
     ensures fails { IfTold (B.files cone.bay) (λ _. IfErr result (λ refused. (h : List Packet) → Replays B.files B.leaves cone h [] →
         (refused.fault ≡ ReopenFault.Failed) ⊎ (refused.fault ≡ ReopenFault.OutOfMemory))) }
     ensures stands { IfOk result (λ now. (h : List Packet) → All (λ packet. 0 < length packet.keys) h → length (events_of h) ≡ now.events →
@@ -162,9 +178,11 @@ fn replay_journal<B: Bay, T: CountTable>(
     ensures state { IfOk result (λ now. (now.listing.closed ≡ cone.listing.closed) × (now.state ≡ if cone.last.closed then ConeState.Finished else ConeState.Running)) }
     ensures same_cone { IfOk result (λ now. IsSameCone cone now) }
     ensures reads { MatchResult result (λ now. IsJournalSame (B.files cone.bay) (B.files now.bay)) (λ refused. IsJournalSame (B.files cone.bay) (B.files refused.bay)) }
-    ensures never_falls { MatchResult result (λ now. B.faults cone.bay ≤ B.faults now.bay) (λ refused. B.faults cone.bay ≤ B.faults refused.bay) }
-    ensures failed { IfErr result (λ refused. refused.fault ≡ ReopenFault.Failed → HasRisen (B.faults cone.bay) (B.faults refused.bay)) }
-    ensures mark { MatchResult result (λ now. B.mark now.bay ≡ B.mark cone.bay) (λ refused. B.mark refused.bay ≡ B.mark cone.bay) }
+    ensures kept { MatchResult result (λ now. KeepsBay B.Bay cone.bay now.bay ⊥) (λ refused. KeepsBay B.Bay cone.bay refused.bay (refused.fault ≡ ReopenFault.Failed)) }
+    ensures stays_sound { IfTold (B.files cone.bay) (λ _. IfErr result (λ refused. (h : List Packet) → Replays B.files B.leaves cone h [] →
+        IfTold (B.files refused.bay) (IsSound cone.listing.settings cone.listing.cone h))) }
+    ensures unflushed { IfTold (B.files cone.bay) (λ seen. FlushesNothing cone.listing.settings cone.last.n0 (seen JOURNAL) →
+        MatchResult result (λ now. WritesNothing B.Bay cone.bay now.bay ⊥) (λ refused. WritesNothing B.Bay cone.bay refused.bay ⊥)) }
 {
     match replay_all(&mut cone) {
         Ok(end) => {

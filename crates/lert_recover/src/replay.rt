@@ -1,16 +1,19 @@
 //! The packets of a journal, replayed one after the other.
 
-ghost use Rattle.std.specs.Prelude.{◌≡◌, ℕ, ◌+◌, ◌*◌, ◌≤◌, [], List, length, MatchResult, OnOk, IfOk, IfErr};
+ghost use Rattle.std.specs.Prelude.{◌≡◌, ℕ, ◌+◌, ◌*◌, ◌≤◌, [], List, length, MatchResult, OnOk, IfOk, IfErr, IsErrAnd};
 ghost use Rattle.lert_base.specs.Packet.{Packet};
+ghost use Rattle.lert_bay.specs.declared.bay.TheConstants.{JOURNAL, LOG, FRAMES};
 ghost use Rattle.lert_bay.specs.Files.{Files, IfTold, Turns};
+ghost use Rattle.lert_bay.specs.Kept.{KeepsBay};
 ghost use Rattle.lert_cone.specs.Framed.{HoldsSome};
 ghost use Rattle.lert_cone.specs.Replay.{ReplayLeavesAt};
 ghost use Rattle.lert_cone.specs.Replays.{Replays};
+ghost use Rattle.lert_cone.specs.Sound.{IsSound};
 ghost use Rattle.lert_cone.specs.Stands.{IsSameCone};
 ghost use Rattle.lert_cone.specs.Wrote.{IsShutIfTold};
+ghost use Rattle.lert_files.specs.Opened.{WritesNothing};
 ghost use Rattle.lert_gatelog.specs.Gated.{IsClosed};
-ghost use Rattle.lert_io.specs.Fault.{HasRisen};
-ghost use Rattle.lert_recover.specs.Replayed.{HasReplayed, IsJournalSame, IsOutsideReplay};
+ghost use Rattle.lert_recover.specs.Replayed.{FlushesNothing, HasReplayed, IsJournalSame, IsOutsideReplay};
 ghost use Rattle.lert_spec.specs.Edges.{capacity};
 ghost use Rattle.lert_spec.specs.Limits.{IsValid};
 
@@ -37,22 +40,28 @@ pub fn replay_all<B: Bay, T: CountTable>(cone: &mut Cone<B, T>) -> Result<u64, S
 
     // Where the files are told, these are the packets that stand there, up to a closed gate or to where it stopped.
     ensures told { IfTold (B.files cone.old.bay) (λ seen. MatchResult result
-        (λ end. HasReplayed cone.old.listing.settings cone.old.listing.cone cone.old.last.n0 cone.old.last.closed (seen 0) end cone.new.listing.events
-        × IsClosed (seen 0) end)
+        (λ end. HasReplayed cone.old.listing.settings cone.old.listing.cone cone.old.last.n0 cone.old.last.closed (seen JOURNAL) end cone.new.listing.events
+        × IsClosed (seen JOURNAL) end)
         (λ stop. (events : List ℕ)
-        × HasReplayed cone.old.listing.settings cone.old.listing.cone cone.old.last.n0 cone.old.last.closed (seen 0) stop.gate events
+        × HasReplayed cone.old.listing.settings cone.old.listing.cone cone.old.last.n0 cone.old.last.closed (seen JOURNAL) stop.gate events
         × (stop.events ≡ length events)
         × ((at : ℕ) → stop.fault ≡ ReplayFault.Malformed at →
-        ReplayLeavesAt cone.old.listing.settings cone.old.listing.cone cone.old.last.n0 cone.old.last.closed stop.events (seen 0) stop.gate at))) }
+        ReplayLeavesAt cone.old.listing.settings cone.old.listing.cone cone.old.last.n0 cone.old.last.closed stop.events (seen JOURNAL) stop.gate at))) }
 
     // Where the frames hold the bins of some events, whatever these are, only a full store may show that the files are sound for
     // no list.
-    ensures full { IfTold (B.files cone.old.bay) (λ seen. HoldsSome cone.old.listing.settings cone.old.last.n0 cone.old.rows (seen 2) →
-        IfErr result (λ stop. (file at : ℕ) → stop.fault ≡ ReplayFault.Unsound file at → (file ≡ 1) × (at ≡ 0))) }
+    ensures full { IfTold (B.files cone.old.bay) (λ seen. HoldsSome cone.old.listing.settings cone.old.last.n0 cone.old.rows (seen FRAMES) →
+        IfErr result (λ stop. (file at : ℕ) → stop.fault ≡ ReplayFault.Unsound file at → (file ≡ LOG) × (at ≡ 0))) }
 
     // A cone on its way through the packets of a list is then behind all of them.
     ensures replays { IfTold (B.files cone.old.bay) (λ _. (h : List Packet) → Replays B.files B.leaves cone.old h [] →
         MatchResult result (λ _. Replays B.files B.leaves cone.new h h) (λ stop. IsOutsideReplay stop.fault)) }
+
+    // Whatever it answers, the files that it leaves are sound for that list; and they are as they were where no flush comes.
+    ensures stays_sound { IfTold (B.files cone.old.bay) (λ _. (h : List Packet) → Replays B.files B.leaves cone.old h [] →
+        IfTold (B.files cone.new.bay) (IsSound cone.old.listing.settings cone.old.listing.cone h)) }
+    ensures unflushed { IfTold (B.files cone.old.bay) (λ seen. FlushesNothing cone.old.listing.settings cone.old.last.n0 (seen JOURNAL) →
+        WritesNothing B.Bay cone.old.bay cone.new.bay ⊥) }
 
     // Told or not, it has at least the keys that the log speaks of, and waits at the gate.
     ensures passed { OnOk result (cone.old.last.n0 ≤ length cone.new.listing.events) }
@@ -64,9 +73,7 @@ pub fn replay_all<B: Bay, T: CountTable>(cone: &mut Cone<B, T>) -> Result<u64, S
     ensures same_cone { IsSameCone cone.old cone.new }
     ensures near { IfErr result (λ stop. (stop.gate ≤ 32 + 65536 * stop.events) × (stop.events ≤ capacity cone.old.listing.settings)) }
     ensures journal { IsJournalSame (B.files cone.old.bay) (B.files cone.new.bay) }
-    ensures never_falls { B.faults cone.old.bay ≤ B.faults cone.new.bay }
-    ensures failed { IfErr result (λ stop. stop.fault ≡ ReplayFault.Failed → HasRisen (B.faults cone.old.bay) (B.faults cone.new.bay)) }
-    ensures mark { B.mark cone.new.bay ≡ B.mark cone.old.bay }
+    ensures kept { KeepsBay B.Bay cone.old.bay cone.new.bay (IsErrAnd result (λ stop. stop.fault ≡ ReplayFault.Failed)) }
 {
     let mut gate = JOURNAL_GATE;
     'packets: loop {

@@ -1,8 +1,14 @@
 use Rattle.std.proofs.Common.{◌∙◌, arith}
-use Rattle.lert_files.proofs.CallLaws.{only_read_on}
+use Rattle.lert_bay.specs.declared.bay.TheConstants.{JOURNAL}
+use Rattle.lert_bay.proofs.KeptLaws.{IsLawful, reads_as, reads_on}
 use Rattle.lert_recover.proofs.ReplayedLaws.{here}
 use Rattle.lert_recover.proofs.RestLaws.{ends_packet, onward_packet}
+use Rattle.lert_recover.proofs.journal_rest.find_left.Given as given
+use Rattle.lert_recover.proofs.journal_rest.find_left.Invariants.{bays}
 use Rattle.lert_recover.proofs.journal_rest.find_left.Goals as goal
+
+lawful : (g : given.Over) → IsLawful (bays g)
+lawful g = record { as_read = g.met.B.Bay.as_read; since_now = g.met.B.Bay.since_now; only_now = g.met.B.Bay.only_now; since_earlier = g.met.B.Bay.since_earlier }
 
 pub records-preserved : goal.records-preserved
 records-preserved g c =
@@ -17,19 +23,20 @@ records-preserved g c =
       within = goes.1;
       near = omega (arith, now.near, goes.0, goes.2);
       onward = λ seen told at leaves.
-          let stands = rw c.in-Packet.is at (found.told seen (now.only_read.seen ∙ told)) in
-          now.onward seen told at (onward_packet s c.args.cone last.n0 last.closed c.records.count (seen 0) c.records.log.gate c.find_here.new.log.gate c.in-Packet.keys stands at leaves);
+          let stands = rw c.in-Packet.is at (found.told seen (now.only_reads.seen ∙ told)) in
+          now.onward seen told at (onward_packet s c.args.cone last.n0 last.closed c.records.count (seen JOURNAL) c.records.log.gate c.find_here.new.log.gate c.in-Packet.keys
+          stands at leaves);
       ends = λ seen told ends.
-          let stands = rw c.in-Packet.is at (found.told seen (now.only_read.seen ∙ told)) in
-          now.ends seen told (ends_packet s c.args.cone last.n0 last.closed c.records.count (seen 0) c.records.log.gate c.find_here.new.log.gate c.in-Packet.keys stands ends);
-      only_read = only_read_on now.only_read found.only_read (g.met.B.Bay.since_earlier c.find_here.new.bay);
-      never_falls = omega (arith, now.never_falls, found.cause.never_falls);
-      mark = found.mark ∙ now.mark;
+          let stands = rw c.in-Packet.is at (found.told seen (now.only_reads.seen ∙ told)) in
+          now.ends seen told (ends_packet s c.args.cone last.n0 last.closed c.records.count (seen JOURNAL) c.records.log.gate c.find_here.new.log.gate c.in-Packet.keys stands
+          ends);
+      only_reads = reads_on (bays g) (lawful g) c.args.bay.now c.records.bay c.find_here.new.bay ⊥ ⊥ now.only_reads
+          (reads_as (bays g) (lawful g) c.records.bay c.find_here.new.bay _ ⊥ (λ never. absurd never) found.only_reads);
     }
 
 pub returns-in-Left-clause-told : goal.returns-in-Left-clause-told
 returns-in-Left-clause-told g c seen told =
     let now = c.records.invariant in
     let last = c.args.last.now in
-    let left = rw c.in-Left.is at (c.in_ok-keys.ensures.told seen (now.only_read.seen ∙ told)) in
-    now.onward seen told c.in-Left.at (here c.args.settings.now c.args.cone last.n0 last.closed (seen 0) c.records.count c.records.log.gate c.in-Left.at left)
+    let left = rw c.in-Left.is at (c.in_ok-keys.ensures.told seen (now.only_reads.seen ∙ told)) in
+    now.onward seen told c.in-Left.at (here c.args.settings.now c.args.cone last.n0 last.closed (seen JOURNAL) c.records.count c.records.log.gate c.in-Left.at left)

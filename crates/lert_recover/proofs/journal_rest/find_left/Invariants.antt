@@ -1,23 +1,27 @@
 use Rattle.std.proofs.Common.{◌≡◌, ◌+◌, ◌-◌, ◌*◌, ◌≤◌, ℕ, Some}
+use Rattle.lert_bay.specs.declared.bay.TheConstants.{JOURNAL}
 use Rattle.lert_bay.specs.Files.{Files}
 use Rattle.lert_cone.specs.History.{most_payload}
-use Rattle.lert_bay.specs.Kept.{OnlyRead}
+use Rattle.lert_bay.specs.Kept.{Bays, OnlyReads}
 use Rattle.lert_spec.specs.Edges.{capacity}
 use Rattle.lert_recover.specs.Replayed.{JournalEnds, JournalLeavesAt}
 use Rattle.lert_recover.proofs.journal_rest.find_left.Given as goal
 
+abbrev pub bays : (g : goal.Over) → Bays g.row.B.Denot
+bays g = record { faults = g.B.Faulty.faults; mark = g.B.Faulty.mark; files = g.B.Bay.files; leaves = g.B.Bay.leaves; moment = g.B.Bay.moment; left_since = g.B.Bay.left_since }
+
 -- what is so from here on is so from the first gate on
 abbrev pub invariant-records : goal.invariant-records
 invariant-records g l = record {
-  file : l.log.file ≡ 0;
+  file : l.log.file ≡ JOURNAL;
   most : l.log.most ≡ most_payload l.settings;
   within : l.count ≤ capacity l.settings;
   near : l.log.gate ≤ 32 + 65536 * l.count;
-  onward : (seen : Files) → g.B.Bay.files l.fn.bay ≡ Some seen → (at : ℕ) → JournalLeavesAt l.settings l.cone l.last.n0 l.last.closed (seen 0) l.count l.log.gate at → JournalLeavesAt l.settings l.cone l.last.n0 l.last.closed (seen 0) l.events l.gate at;
-  ends : (seen : Files) → g.B.Bay.files l.fn.bay ≡ Some seen → JournalEnds l.settings l.cone l.last.n0 l.last.closed (seen 0) l.count l.log.gate → JournalEnds l.settings l.cone l.last.n0 l.last.closed (seen 0) l.events l.gate;
-  only_read : OnlyRead (g.B.Bay.files l.fn.bay) (g.B.Bay.files l.bay) (g.B.Bay.leaves l.fn.bay) (g.B.Bay.leaves l.bay) (g.B.Bay.moment l.fn.bay) (g.B.Bay.moment l.bay) (g.B.Bay.left_since l.fn.bay) (g.B.Bay.left_since l.bay);
-  never_falls : g.B.Faulty.faults l.fn.bay ≤ g.B.Faulty.faults l.bay;
-  mark : g.B.Faulty.mark l.bay ≡ g.B.Faulty.mark l.fn.bay;
+  onward : (seen : Files) → g.B.Bay.files l.fn.bay ≡ Some seen → (at : ℕ) → JournalLeavesAt l.settings l.cone l.last.n0 l.last.closed (seen JOURNAL) l.count l.log.gate at →
+      JournalLeavesAt l.settings l.cone l.last.n0 l.last.closed (seen JOURNAL) l.events l.gate at;
+  ends : (seen : Files) → g.B.Bay.files l.fn.bay ≡ Some seen → JournalEnds l.settings l.cone l.last.n0 l.last.closed (seen JOURNAL) l.count l.log.gate →
+      JournalEnds l.settings l.cone l.last.n0 l.last.closed (seen JOURNAL) l.events l.gate;
+  only_reads : OnlyReads (bays g) l.fn.bay l.bay ⊥;
 }
 
 -- each packet has a key

@@ -17,11 +17,13 @@ overflow_add-events c =
 
 pub returns-then-last-events-clause-told : goal.returns-then-last-events-clause-told
 returns-then-last-events-clause-told c bytes opened =
-    found_past c.args.payload.now (λ k. (c.type_inv.payload k).fits) c.args.settings.now c.args.cone c.args.last.now.n0 c.args.last.now.closed c.args.events bytes c.args.gate _ (sym c.in_default.ensures.place) refl opened c.if-last.true c.if-last-events.true
+    found_past c.args.payload.now (λ k. (c.type_inv.payload k).fits) c.args.settings.now c.args.cone c.args.last.now.n0 c.args.last.now.closed c.args.events bytes c.args.gate _
+    (sym c.in_default.ensures.place) refl opened c.if-last.true c.if-last-events.true
 
 pub returns-then-last-clause-told : goal.returns-then-last-clause-told
 returns-then-last-clause-told c bytes opened =
-    found_packet c.args.payload.now (λ k. (c.type_inv.payload k).fits) c.args.settings.now c.args.cone c.args.last.now.n0 c.args.last.now.closed c.args.events bytes c.args.gate _ (sym c.in_default.ensures.place) refl opened
+    found_packet c.args.payload.now (λ k. (c.type_inv.payload k).fits) c.args.settings.now c.args.cone c.args.last.now.n0 c.args.last.now.closed c.args.events bytes c.args.gate
+    _ (sym c.in_default.ensures.place) refl opened
     (omega (arith, c.if-last-events.false, c.requires.place)) (λ ended. omega (arith, c.if-last-events.false))
 
 pub returns-then-last-clause-forward : goal.returns-then-last-clause-forward
@@ -32,12 +34,14 @@ returns-then-last-clause-forward c =
 
 pub returns-then-capacity-events-clause-told : goal.returns-then-capacity-events-clause-told
 returns-then-capacity-events-clause-told c bytes opened =
-    found_many c.args.payload.now (λ k. (c.type_inv.payload k).fits) c.args.settings.now c.args.cone c.args.last.now.n0 c.args.last.now.closed c.args.events bytes c.args.gate _ (sym c.in_default.ensures.place) refl opened c.if-last.false
+    found_many c.args.payload.now (λ k. (c.type_inv.payload k).fits) c.args.settings.now c.args.cone c.args.last.now.n0 c.args.last.now.closed c.args.events bytes c.args.gate _
+    (sym c.in_default.ensures.place) refl opened c.if-last.false
     (omega (arith, c.if-capacity-events.true, c.capacity.ensures.value))
 
 pub returns-clause-told : goal.returns-clause-told
 returns-clause-told c bytes opened =
-    found_packet c.args.payload.now (λ k. (c.type_inv.payload k).fits) c.args.settings.now c.args.cone c.args.last.now.n0 c.args.last.now.closed c.args.events bytes c.args.gate _ (sym c.in_default.ensures.place) refl opened
+    found_packet c.args.payload.now (λ k. (c.type_inv.payload k).fits) c.args.settings.now c.args.cone c.args.last.now.n0 c.args.last.now.closed c.args.events bytes c.args.gate
+    _ (sym c.in_default.ensures.place) refl opened
     (omega (arith, c.if-capacity-events.false, c.capacity.ensures.value)) (λ ended. absurd (true≢false (sym ended ∙ c.if-last.false)))
 
 pub returns-clause-forward : goal.returns-clause-forward

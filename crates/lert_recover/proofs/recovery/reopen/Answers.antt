@@ -3,13 +3,19 @@ use Rattle.lert_cone.specs.declared.state.ConeState.TheVariants.{Finished, Runni
 use Rattle.lert_cone.specs.Stands.{Standing, StandsFor}
 use Rattle.std.specs.Prelude.{if◌then◌else◌}
 use Rattle.lert_recover.specs.declared.recovery.ReopenRefused.{ReopenRefused}
-use Rattle.lert_recover.proofs.FinalLaws.{differs_told, journal_told, malformed_told, other_told, refuses_told, sound_told}
+use Rattle.lert_recover.proofs.FinalLaws.{closed_told, differs_told, journal_told, malformed_told, other_told, refuses_told, sound_told}
 use Rattle.lert_recover.proofs.ReopenLaws.{ok_on}
 use Rattle.lert_recover.proofs.recovery.reopen.Goals as goal
 
 pub returns-clause-journal : goal.returns-clause-journal
 returns-clause-journal g c seen told =
     journal_told c.args.room.settings c.args.cone c.requires.room.valid c.ranges.cone.fits seen
+    (λ (now : Standing g.row.B.Denot). now.listing.closed) (λ (now : Standing g.row.B.Denot). now.listing.events) (λ (now : Standing g.row.B.Denot). now.gate)
+    (λ (refused : ReopenRefused g.row.B.Denot). refused.fault) c.reopen_in_order.result (c.reopen_in_order.ensures.told seen told)
+
+pub returns-clause-closed : goal.returns-clause-closed
+returns-clause-closed g c seen told =
+    closed_told c.args.room.settings c.args.cone c.requires.room.valid c.ranges.cone.fits seen
     (λ (now : Standing g.row.B.Denot). now.listing.closed) (λ (now : Standing g.row.B.Denot). now.listing.events) (λ (now : Standing g.row.B.Denot). now.gate)
     (λ (refused : ReopenRefused g.row.B.Denot). refused.fault) c.reopen_in_order.result (c.reopen_in_order.ensures.told seen told)
 
@@ -41,11 +47,13 @@ pub returns-clause-sound_opens : goal.returns-clause-sound_opens
 returns-clause-sound_opens g c seen told h sound =
     let counted = λ (now : Standing g.row.B.Denot). now.events ≡ length now.listing.events in
     let finished = λ (now : Standing g.row.B.Denot). now.state ≡ if now.listing.closed then Finished else Running in
-    let own = λ (now : Standing g.row.B.Denot). (now.listing.settings ≡ c.args.room.settings) × (now.listing.cone ≡ c.args.cone) × (now.events ≡ length now.listing.events) × (now.state ≡ if now.listing.closed then Finished else Running) in
+    let own = λ (now : Standing g.row.B.Denot). (now.listing.settings ≡ c.args.room.settings) × (now.listing.cone ≡ c.args.cone) × (now.events ≡ length now.listing.events) ×
+    (now.state ≡ if now.listing.closed then Finished else Running) in
     sound_told c.args.room.settings c.args.cone c.requires.room.valid c.ranges.cone.fits seen
     (λ (now : Standing g.row.B.Denot). now.listing.closed) (λ (now : Standing g.row.B.Denot). now.listing.events) (λ (now : Standing g.row.B.Denot). now.gate)
     (λ (refused : ReopenRefused g.row.B.Denot). refused.fault)
-    (g.B.Bay.files c.args.bay) told (λ (now : Standing g.row.B.Denot). now.events) (λ (now : Standing g.row.B.Denot) h. StandsFor g.B.Bay.files g.B.Bay.leaves g.B.Faulty.faults now h)
+    (g.B.Bay.files c.args.bay) told (λ (now : Standing g.row.B.Denot). now.events)
+    (λ (now : Standing g.row.B.Denot) h. StandsFor g.B.Bay.files g.B.Bay.leaves g.B.Faulty.faults now h)
     (λ (now : Standing g.row.B.Denot) (closed : Bool). now.state ≡ if closed then Finished else Running)
     h sound c.reopen_in_order.result (c.reopen_in_order.ensures.told seen told) (c.reopen_in_order.ensures.fails seen told) c.reopen_in_order.ensures.stands
     (ok_on own counted c.reopen_in_order.result (λ now is. is.2) c.reopen_in_order.ensures.own)

@@ -1,8 +1,13 @@
-use Rattle.std.proofs.Common.{◌≡◌, ◌<◌, ◌≤◌, ◌⊎◌, Some, Err, List, [], length, refl, ap, sym, ◌∙◌, subst, arith}
+use Rattle.std.proofs.Common.{◌≡◌, ℕ, ◌<◌, ◌≤◌, ◌⊎◌, Some, Err, List, [], length, refl, ap, sym, ◌∙◌, subst, arith}
 use Rattle.std.specs.List.{length_refill}
+use Rattle.std.proofs.lemmas.Option.{same_Some}
+use Rattle.std.proofs.lemmas.Result.{IfErr-weaker}
 use Rattle.std.specs.Prelude.{All, IfOk, MatchResult, if◌then◌else◌}
 use Rattle.lert_base.specs.Packet.{Packet, events_of}
+use Rattle.lert_bay.specs.declared.bay.TheConstants.{JOURNAL, FRAMES}
 use Rattle.lert_bay.specs.Files.{Files}
+use Rattle.lert_bay.specs.Kept.{Bays}
+use Rattle.lert_bay.proofs.KeptLaws.{IsLawful, keeps_as}
 use Rattle.lert_gatelog.specs.Gated.{IsClosed}
 use Rattle.lert_cone.specs.declared.state.ConeState.TheVariants.{Finished, Running}
 use Rattle.lert_cone.specs.Framed.{HoldsSome}
@@ -11,16 +16,26 @@ use Rattle.lert_cone.specs.Sound.{IsSound}
 use Rattle.lert_cone.specs.Stands.{Standing, StandsFor, WasSound}
 use Rattle.lert_files.specs.declared.fault.ReopenFault.TheVariants.{Failed, OutOfMemory}
 use Rattle.lert_recover.specs.declared.recovery.ReopenRefused.{ReopenRefused}
-use Rattle.lert_recover.specs.Replayed.{HasReplayed}
+use Rattle.lert_files.specs.Opened.{WritesNothing}
+use Rattle.lert_files.proofs.QuietLaws.{quiet_as}
+use Rattle.lert_recover.specs.Replayed.{FlushesNothing, HasReplayed}
 use Rattle.lert_recover.specs.Reopened.{IsStopped}
 use Rattle.lert_levels.specs.OnDisk.{OnDisk}
 use Rattle.lert_reports.specs.Stored.{Stored}
+use Rattle.lert_spec.specs.declared.numbers.Numbers.{Numbers}
 use Rattle.lert_spec.specs.Limits.{IsValid}
-use Rattle.lert_recover.proofs.BayLaws.{bay_before, made_of, own_of}
+use Rattle.lert_recover.proofs.BayLaws.{bay_before, made_of, own_of, quiet_before}
 use Rattle.lert_recover.proofs.ReplayingLaws.{journal_same}
 use Rattle.lert_recover.proofs.ReopenLaws.{fails_on, frames_settled, journal_settled, last_of, log_shut, ok_on, refused_before, reopened_of, sound_opened, stands_on}
 use Rattle.lert_recover.proofs.SomeEvents.{some_events}
+use Rattle.lert_recover.proofs.recovery.reopen_in_order.Given as given
 use Rattle.lert_recover.proofs.recovery.reopen_in_order.Goals as goal
+
+abbrev bays : (g : given.Over) → Bays g.row.B.Denot
+bays g = record { faults = g.B.Faulty.faults; mark = g.B.Faulty.mark; files = g.B.Bay.files; leaves = g.B.Bay.leaves; moment = g.B.Bay.moment; left_since = g.B.Bay.left_since }
+
+lawful : (g : given.Over) → IsLawful (bays g)
+lawful g = record { as_read = g.met.B.Bay.as_read; since_now = g.met.B.Bay.since_now; only_now = g.met.B.Bay.only_now; since_earlier = g.met.B.Bay.since_earlier }
 
 -- ---- what a cone asks of the files
 
@@ -102,9 +117,9 @@ returns-in-Err g c =
       own = tt;
       made = tt;
       reads = journal_same (g.B.Bay.files c.args.bay) (g.B.Bay.files c.read_files.new.bay) read.quiet.seen;
-      never_falls = read.never_falls;
-      failed = λ is. read.failed (ap Err is);
-      mark = read.mark;
+      kept = keeps_as (bays g) (lawful g) c.args.bay c.read_files.new.bay _ _ (λ is. ap Err is) read.quiet.kept;
+      stays_sound = λ seen told h sound now is. subst (IsSound c.args.room.settings c.args.cone h) (same_Some seen now (sym (read.quiet.seen ∙ told) ∙ is)) sound;
+      unflushed = λ seen told nothing. quiet_as (bays g) (lawful g) c.args.bay c.read_files.new.bay _ ⊥ (λ never. absurd never) read.quiet;
     }
 
 -- ---- the journal behind the others
@@ -125,18 +140,23 @@ returns-in-Ok g c =
     let made_is = ap (λ (k : Standing g.row.B.Denot). k.made) made in
     let result = c.replay_journal.result in
     let replayed = c.replay_journal.ensures in
-    let says = bay_before files faults mark (λ (refused : ReopenRefused g.row.B.Denot). refused.bay) (λ (refused : ReopenRefused g.row.B.Denot). refused.fault) c.args.bay start.bay
-    (ap files bay_is ∙ read.quiet.seen) (subst (λ (bay : g.row.B.Denot). faults c.args.bay ≤ faults bay) (sym bay_is) read.never_falls) (ap mark bay_is ∙ read.mark) result
-    (record { reads = replayed.reads; never_falls = replayed.never_falls; failed = replayed.failed; mark_is = replayed.mark }) in
-    let fails = λ (seen : Files) (told : files c.args.bay ≡ Some seen).
-    let after = c.read_files.ensures.quiet.seen ∙ told in
+    let quiet : WritesNothing (bays g) c.args.bay c.read_files.new.bay ⊥ =
+    quiet_as (bays g) (lawful g) c.args.bay c.read_files.new.bay _ ⊥ (λ never. absurd never) read.quiet in
+    let before : WritesNothing (bays g) c.args.bay start.bay ⊥ = subst (λ (bay : g.row.B.Denot). WritesNothing (bays g) c.args.bay bay ⊥) (sym bay_is) quiet in
+    let bay_in = λ (refused : ReopenRefused g.row.B.Denot). refused.bay in
+    let says = bay_before (bays g) (lawful g) bay_in c.args.bay start.bay ⊥ (λ (refused : ReopenRefused g.row.B.Denot). refused.fault) before result
+    (record { reads = replayed.reads; kept = replayed.kept }) in
+    let begun : (seen : Files) → files c.args.bay ≡ Some seen → (h : List Packet) → IsSound s c.args.cone h seen → Replays files leaves start h [] =
+    λ seen told.
     let opened = c.in-Ok.ensures.opened seen told in
     let end = c.in-Ok.end in
-    let begun : (h : List Packet) → IsSound s c.args.cone h seen → Replays files leaves start h [] =
-    c.adopt-begun.ensures.replays seen after opened.0 opened.2.log
+    c.adopt-begun.ensures.replays seen (read.quiet.seen ∙ told) opened.0 opened.2.log
     (last_of s c.args.cone end.n0 end.offset end.first end.closed c.read_files.new.store.reports c.read_files.new.levels.rows opened.0 opened.1 opened.2.named) in
-    fails_on (λ h. Replays files leaves start h []) (λ h. IsSound s c.args.cone h seen) (λ (refused : ReopenRefused g.row.B.Denot). (refused.fault ≡ Failed) ⊎ (refused.fault ≡ OutOfMemory)) c.replay_journal.result begun
-    (c.replay_journal.ensures.fails seen (ap (λ (k : Standing g.row.B.Denot). files k.bay) c.adopt-begun.ensures.made ∙ after)) in
+    let there : (seen : Files) → files c.args.bay ≡ Some seen → files start.bay ≡ Some seen = λ seen told. ap files bay_is ∙ (read.quiet.seen ∙ told) in
+    let fails = λ (seen : Files) (told : files c.args.bay ≡ Some seen).
+    fails_on (λ h. Replays files leaves start h []) (λ h. IsSound s c.args.cone h seen)
+    (λ (refused : ReopenRefused g.row.B.Denot). (refused.fault ≡ Failed) ⊎ (refused.fault ≡ OutOfMemory))
+    c.replay_journal.result (begun seen told) (c.replay_journal.ensures.fails seen (there seen told)) in
     record {
       told = λ seen told.
           let files = g.B.Bay.files in
@@ -144,17 +164,25 @@ returns-in-Ok g c =
           let after = c.read_files.ensures.quiet.seen ∙ told in
           let opened = c.in-Ok.ensures.opened seen told in
           let result = c.replay_journal.result in
-          let journal = subst (λ (k : Standing g.row.B.Denot). (now : Files) → files k.bay ≡ Some now → HoldsSome k.listing.settings k.last.n0 k.rows (now 2) → MatchResult result
-          (λ (cone : Standing g.row.B.Denot). HasReplayed k.listing.settings k.listing.cone k.last.n0 k.last.closed (now 0) cone.gate cone.listing.events × IsClosed (now 0) cone.gate)
-          (λ (refused : ReopenRefused g.row.B.Denot). IsStopped k.listing.settings k.listing.cone k.last.n0 k.last.closed (now 0) refused.fault)) c.adopt-begun.ensures.made c.replay_journal.ensures.told in
-          let passed = subst (λ (k : Standing g.row.B.Denot). IfOk result (λ (cone : Standing g.row.B.Denot). k.last.n0 ≤ length cone.listing.events)) c.adopt-begun.ensures.made c.replay_journal.ensures.passed in
+          let journal = subst (λ (k : Standing g.row.B.Denot). (now : Files) → files k.bay ≡ Some now → HoldsSome k.listing.settings k.last.n0 k.rows (now FRAMES) →
+          MatchResult result
+          (λ (cone : Standing g.row.B.Denot). HasReplayed k.listing.settings k.listing.cone k.last.n0 k.last.closed (now JOURNAL) cone.gate cone.listing.events × IsClosed
+          (now JOURNAL) cone.gate)
+          (λ (refused : ReopenRefused g.row.B.Denot). IsStopped k.listing.settings k.listing.cone k.last.n0 k.last.closed (now JOURNAL) refused.fault))
+          c.adopt-begun.ensures.made c.replay_journal.ensures.told in
+          let passed = subst (λ (k : Standing g.row.B.Denot). IfOk result (λ (cone : Standing g.row.B.Denot). k.last.n0 ≤ length cone.listing.events)) c.adopt-begun.ensures.made
+          c.replay_journal.ensures.passed in
           let closed = subst (λ (k : Standing g.row.B.Denot). IfOk result (λ (cone : Standing g.row.B.Denot). cone.listing.closed ≡ k.listing.closed)) c.adopt-begun.ensures.made
-          (ok_on (λ (cone : Standing g.row.B.Denot). (cone.listing.closed ≡ c.adopt-begun.result.listing.closed) × (cone.state ≡ if c.adopt-begun.result.last.closed then Finished else Running)) (λ (cone : Standing g.row.B.Denot). cone.listing.closed ≡ c.adopt-begun.result.listing.closed)
+          (ok_on (λ (cone : Standing g.row.B.Denot). (cone.listing.closed ≡ c.adopt-begun.result.listing.closed) ×
+          (cone.state ≡ if c.adopt-begun.result.last.closed then Finished else Running))
+          (λ (cone : Standing g.row.B.Denot). cone.listing.closed ≡ c.adopt-begun.result.listing.closed)
           result (λ cone both. both.0) c.replay_journal.ensures.state) in
-          reopened_of (λ (cone : Standing g.row.B.Denot). cone.listing.closed) (λ (cone : Standing g.row.B.Denot). cone.listing.events) (λ (cone : Standing g.row.B.Denot). cone.gate)
+          reopened_of (λ (cone : Standing g.row.B.Denot). cone.listing.closed) (λ (cone : Standing g.row.B.Denot). cone.listing.events)
+          (λ (cone : Standing g.row.B.Denot). cone.gate)
           (λ (refused : ReopenRefused g.row.B.Denot). refused.fault)
           s c.args.cone seen opened.0 c.in-Ok.end.log_end c.read_files.new.levels.rows c.in-Ok.end.n0 c.in-Ok.end.closed opened.2 opened.1.n0_is opened.1.closed_is result
-          (journal seen after (some_events s c.requires.room.valid c.in-Ok.end.n0 c.in-Ok.ensures.point.within c.read_files.new.levels.rows c.in-Ok.ensures.at (seen 2) (c.in-Ok.ensures.stand seen told))) passed closed (fails seen told);
+          (journal seen after (some_events s c.requires.room.valid c.in-Ok.end.n0 c.in-Ok.ensures.point.within c.read_files.new.levels.rows c.in-Ok.ensures.at (seen FRAMES)
+          (c.in-Ok.ensures.stand seen told))) passed closed (fails seen told);
       fails = fails;
       stands =
           let files = g.B.Bay.files in
@@ -179,10 +207,24 @@ returns-in-Ok g c =
           (λ h. (seen : Files) → files c.args.bay ≡ Some seen → (other : List Packet) → IsSound s cone other seen → IsSound s cone h seen)
           (λ (now : Standing g.row.B.Denot) h. StandsFor files leaves g.B.Faulty.faults now h) c.replay_journal.result on_way c.replay_journal.ensures.stands;
       own = own_of start s cone (ap (λ (k : Standing g.row.B.Denot). k.listing.settings) made) (ap (λ (k : Standing g.row.B.Denot). k.listing.cone) made)
-          (ap (λ (k : Standing g.row.B.Denot). k.listing.closed) made ∙ sym (ap (λ (k : Standing g.row.B.Denot). k.last.closed) made)) result replayed.same_cone replayed.counted replayed.state;
-      made = made_of start files faults mark c.args.bay (ap files made_is ∙ read.quiet.seen) (subst (λ (bay : g.row.B.Denot). faults c.args.bay ≤ faults bay) (sym made_is) read.never_falls) (ap mark made_is ∙ read.mark) result replayed.same_cone;
+          (ap (λ (k : Standing g.row.B.Denot). k.listing.closed) made ∙ sym (ap (λ (k : Standing g.row.B.Denot). k.last.closed) made)) result replayed.same_cone replayed.counted
+          replayed.state;
+      made = made_of start files faults mark c.args.bay (ap files made_is ∙ read.quiet.seen)
+          (subst (λ (bay : g.row.B.Denot). faults c.args.bay ≤ faults bay) (sym made_is) read.quiet.kept.never_falls)
+          (ap mark made_is ∙ read.quiet.kept.mark) result replayed.same_cone;
       reads = says.reads;
-      never_falls = says.never_falls;
-      failed = says.failed;
-      mark = says.mark_is;
+      kept = says.kept;
+      stays_sound = λ seen told h sound.
+          IfErr-weaker result _ _ (λ refused all now is.
+          subst (λ (t : Numbers). IsSound t cone h now) (ap (λ (k : Standing g.row.B.Denot). k.listing.settings) made)
+          (subst (λ (n : ℕ). IsSound start.listing.settings n h now) (ap (λ (k : Standing g.row.B.Denot). k.listing.cone) made)
+          (all h (begun seen told h sound) now is)))
+          (replayed.stays_sound seen (there seen told));
+      unflushed = λ seen told nothing.
+          let opened = c.in-Ok.ensures.opened seen told in
+          let n0_is = ap (λ (k : Standing g.row.B.Denot). k.last.n0) made ∙ opened.1.n0_is in
+          let none : FlushesNothing start.listing.settings start.last.n0 (seen JOURNAL) =
+          subst (λ (t : Numbers). FlushesNothing t start.last.n0 (seen JOURNAL)) (sym (ap (λ (k : Standing g.row.B.Denot). k.listing.settings) made))
+          (subst (λ (n : ℕ). FlushesNothing s n (seen JOURNAL)) (sym n0_is) (nothing opened.0 c.in-Ok.end.log_end opened.2.log)) in
+          quiet_before (bays g) (lawful g) bay_in c.args.bay start.bay ⊥ before result (replayed.unflushed seen (there seen told) none);
     }

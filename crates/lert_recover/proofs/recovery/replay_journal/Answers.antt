@@ -1,5 +1,8 @@
 use Rattle.std.proofs.Common.{◌≡◌, ◌≤◌, ℕ, List, length, ap, sym, ◌∙◌, subst, arith, inl, inr}
 use Rattle.std.specs.Prelude.{if◌then◌else◌}
+use Rattle.lert_bay.specs.declared.bay.TheConstants.{JOURNAL}
+use Rattle.lert_bay.specs.Kept.{Bays, KeepsBay, OnlyReads}
+use Rattle.lert_bay.proofs.KeptLaws.{IsLawful, keeps_as, keeps_on, risen_since, risen_then}
 use Rattle.lert_io.specs.Fault.{HasRisen}
 use Rattle.lert_spec.specs.declared.numbers.Numbers.{Numbers}
 use Rattle.lert_spec.specs.Edges.{capacity}
@@ -8,12 +11,20 @@ use Rattle.lert_cone.specs.declared.state.ConeState.TheVariants.{Finished, Runni
 use Rattle.lert_cone.specs.Stands.{Standing}
 use Rattle.lert_cone.proofs.SoundLaws.{turns_back}
 use Rattle.lert_gatelog.specs.Gated.{IsClosed}
+use Rattle.lert_files.specs.Opened.{WritesNothing}
+use Rattle.lert_files.proofs.QuietLaws.{quiet_on, quiet_reads}
 use Rattle.lert_recover.specs.Replayed.{HasReplayed, IsJournalSame}
 use Rattle.lert_recover.specs.Reopened.{IsWhy}
-use Rattle.lert_recover.proofs.BayLaws.{risen_either}
 use Rattle.lert_recover.proofs.ReplayingLaws.{journal_on, journal_same, same_on}
 use Rattle.lert_recover.proofs.StopLaws.{outside_of, stopped_of, was_before}
+use Rattle.lert_recover.proofs.recovery.replay_journal.Given as given
 use Rattle.lert_recover.proofs.recovery.replay_journal.Goals as goal
+
+abbrev bays : (g : given.Over) → Bays g.row.B.Denot
+bays g = record { faults = g.B.Faulty.faults; mark = g.B.Faulty.mark; files = g.B.Bay.files; leaves = g.B.Bay.leaves; moment = g.B.Bay.moment; left_since = g.B.Bay.left_since }
+
+lawful : (g : given.Over) → IsLawful (bays g)
+lawful g = record { as_read = g.met.B.Bay.as_read; since_now = g.met.B.Bay.since_now; only_now = g.met.B.Bay.only_now; since_earlier = g.met.B.Bay.since_earlier }
 
 pub ready-requires : goal.ready-requires
 ready-requires g c =
@@ -37,7 +48,6 @@ why_stopped-fault-requires g c =
 pub returns-in-Ok : goal.returns-in-Ok
 returns-in-Ok g c =
     let files = g.B.Bay.files in
-    let faults = g.B.Faulty.faults in
     let start = c.args.cone in
     let now = c.ready.new.self in
     let all = c.in-Ok.ensures in
@@ -50,9 +60,11 @@ returns-in-Ok g c =
           let read = c.in-Ok.ensures.told seen told in
           let events_are = ap (λ (k : Standing g.row.B.Denot). k.listing.events) c.ready.ensures.value in
           let gate_is = ap (λ (k : Standing g.row.B.Denot). k.gate) c.ready.ensures.value ∙ c.in-Ok.ensures.gate in (
-            subst (λ (events : List ℕ). HasReplayed start.listing.settings start.listing.cone start.last.n0 start.last.closed (seen 0) c.ready.new.self.gate events) (sym events_are)
-                (subst (λ (gate : ℕ). HasReplayed start.listing.settings start.listing.cone start.last.n0 start.last.closed (seen 0) gate c.replay_all.new.cone.listing.events) (sym gate_is) read.0),
-            subst (λ (gate : ℕ). IsClosed (seen 0) gate) (sym gate_is) read.1,
+            subst (λ (events : List ℕ). HasReplayed start.listing.settings start.listing.cone start.last.n0 start.last.closed (seen JOURNAL) c.ready.new.self.gate events)
+                (sym events_are)
+                (subst (λ (gate : ℕ). HasReplayed start.listing.settings start.listing.cone start.last.n0 start.last.closed
+                (seen JOURNAL) gate c.replay_all.new.cone.listing.events) (sym gate_is) read.0),
+            subst (λ (gate : ℕ). IsClosed (seen JOURNAL) gate) (sym gate_is) read.1,
           );
       fails = λ seen told. tt;
       stands = λ h some count begun.
@@ -61,7 +73,7 @@ returns-in-Ok g c =
           let end = c.replay_all.new.cone in
           c.ready.ensures.stands_for h some (count ∙ ap (λ (k : Standing g.row.B.Denot). k.events) c.ready.ensures.value)
           (λ was now told.
-          let back = turns_back (λ old new. new 0 ≡ old 0) (files start.bay) (files end.bay) c.replay_all.ensures.journal now told in
+          let back = turns_back (λ old new. new JOURNAL ≡ old JOURNAL) (files start.bay) (files end.bay) c.replay_all.ensures.journal now told in
           c.in-Ok.ensures.replays back.0 back.1 h (begun (was_before files start end c.replay_all.ensures.same_cone was) back.0 back.1));
       passed = omega (arith, all.passed, count_is);
       counted = ap (λ (k : Standing g.row.B.Denot). k.events) value ∙ (all.counted ∙ sym count_is);
@@ -77,9 +89,10 @@ returns-in-Ok g c =
             last = ap (λ (k : Standing g.row.B.Denot). k.last) value;
           });
       reads = subst (λ (bay : g.row.B.Denot). IsJournalSame (files start.bay) (files bay)) (sym bay_is) all.journal;
-      never_falls = subst (λ (bay : g.row.B.Denot). faults start.bay ≤ faults bay) (sym bay_is) all.never_falls;
-      failed = tt;
-      mark = ap g.B.Faulty.mark bay_is ∙ all.mark;
+      kept = subst (λ (bay : g.row.B.Denot). KeepsBay (bays g) start.bay bay ⊥) (sym bay_is)
+          (keeps_as (bays g) (lawful g) start.bay c.replay_all.new.cone.bay _ ⊥ (λ never. absurd never) all.kept);
+      stays_sound = λ seen told. tt;
+      unflushed = λ seen told nothing. subst (λ (bay : g.row.B.Denot). WritesNothing (bays g) start.bay bay ⊥) (sym bay_is) (all.unflushed seen told nothing);
     }
 
 pub returns-in-Err : goal.returns-in-Err
@@ -91,7 +104,9 @@ returns-in-Err g c =
     let bay_is = c.into_bay-bay.ensures in
     let last = c.why_stopped-fault.new.bay in
     let why = c.why_stopped-fault.ensures in
-    let later : faults c.replay_all.new.cone.bay ≤ faults last = subst (λ (bay : g.row.B.Denot). faults bay ≤ faults last) bay_is why.never_falls in
+    let end = c.replay_all.new.cone in
+    let behind : OnlyReads (bays g) end.bay last ⊥ = subst (λ (bay : g.row.B.Denot). OnlyReads (bays g) bay last ⊥) bay_is why.only_reads in
+    let both : KeepsBay (bays g) start.bay last ⊥ = keeps_on (bays g) (lawful g) start.bay end.bay last _ ⊥ all.kept behind.kept in
     record {
       told = λ seen told some.
           let files = g.B.Bay.files in
@@ -102,27 +117,37 @@ returns-in-Err g c =
           let there = c.replay_all.ensures.journal.told seen told in
           let found = c.why_stopped-fault.ensures.told there.0 (ap files c.into_bay-bay.ensures ∙ there.1) in
           let fault = c.why_stopped-fault.result in
-          let why : IsWhy start.listing.settings start.listing.cone start.last.n0 start.last.closed (seen 0) stop.events stop.gate stop.fault fault =
-          subst (λ (s : Numbers). IsWhy s start.listing.cone start.last.n0 start.last.closed (seen 0) stop.events stop.gate stop.fault fault) (sym c.requires.own.0)
-          (subst (λ (cone : ℕ). IsWhy c.args.settings.now cone start.last.n0 start.last.closed (seen 0) stop.events stop.gate stop.fault fault) (sym c.requires.own.1)
-          (subst (λ (last : LogPoint). IsWhy c.args.settings.now c.args.number last.n0 last.closed (seen 0) stop.events stop.gate stop.fault fault) (sym c.requires.own.2)
-          (subst (λ (bytes : List ℕ). IsWhy c.args.settings.now c.args.number c.args.last.now.n0 c.args.last.now.closed bytes stop.events stop.gate stop.fault fault) there.2 found))) in
-          stopped_of start.listing.settings start.listing.cone start.last.n0 start.last.closed (seen 0) stop.gate stop.events stopped.0 stopped.1 stopped.2 fault stop.fault why stopped.3
+          let why : IsWhy start.listing.settings start.listing.cone start.last.n0 start.last.closed (seen JOURNAL) stop.events stop.gate stop.fault fault =
+          subst (λ (s : Numbers). IsWhy s start.listing.cone start.last.n0 start.last.closed (seen JOURNAL) stop.events stop.gate stop.fault fault) (sym c.requires.own.0)
+          (subst (λ (cone : ℕ). IsWhy c.args.settings.now cone start.last.n0 start.last.closed (seen JOURNAL) stop.events stop.gate stop.fault fault) (sym c.requires.own.1)
+          (subst (λ (last : LogPoint). IsWhy c.args.settings.now c.args.number last.n0 last.closed (seen JOURNAL) stop.events stop.gate stop.fault fault) (sym c.requires.own.2)
+          (subst (λ (bytes : List ℕ). IsWhy c.args.settings.now c.args.number c.args.last.now.n0 c.args.last.now.closed bytes stop.events stop.gate stop.fault fault) there.2
+          found))) in
+          stopped_of start.listing.settings start.listing.cone start.last.n0 start.last.closed (seen JOURNAL) stop.gate stop.events stopped.0 stopped.1 stopped.2 fault
+          stop.fault why stopped.3
           (λ file at is. c.in-Err.ensures.full seen told some file at is);
       fails = λ seen told h begun.
           let there = c.replay_all.ensures.journal.told seen told in
           let found = c.why_stopped-fault.ensures.told there.0 (ap g.B.Bay.files c.into_bay-bay.ensures ∙ there.1) in
-          outside_of c.args.settings.now c.args.number c.args.last.now.n0 c.args.last.now.closed (there.0 0) c.in-Err.stop.events c.in-Err.stop.gate c.why_stopped-fault.result c.in-Err.stop.fault found (c.in-Err.ensures.replays seen told h begun);
+          outside_of c.args.settings.now c.args.number c.args.last.now.n0 c.args.last.now.closed (there.0 JOURNAL) c.in-Err.stop.events c.in-Err.stop.gate
+          c.why_stopped-fault.result c.in-Err.stop.fault found (c.in-Err.ensures.replays seen told h begun);
       stands = tt;
       passed = tt;
       counted = tt;
       state = tt;
       same_cone = tt;
-      reads = journal_on (files start.bay) (files c.replay_all.new.cone.bay) (files last) all.journal (journal_same (files c.replay_all.new.cone.bay) (files last) (why.only_read.seen ∙ ap files bay_is));
-      never_falls = omega (arith, all.never_falls, later);
-      failed = λ is. risen_either (faults start.bay) (faults c.replay_all.new.cone.bay) (faults last) all.never_falls later (elim (why.failed is) [
-        | inl same ↦ inl (all.failed same)
-        | inr rose ↦ inr (subst (λ (bay : g.row.B.Denot). HasRisen (faults bay) (faults last)) bay_is rose)
-      ]);
-      mark = why.mark ∙ (ap g.B.Faulty.mark bay_is ∙ all.mark);
+      reads = journal_on (files start.bay) (files end.bay) (files last) all.journal (journal_same (files end.bay) (files last) behind.seen);
+      kept = record {
+        time = both.time;
+        never_falls = both.never_falls;
+        failed = λ is. elim (why.failed is) [
+          | inl same ↦ risen_then (faults start.bay) (faults end.bay) (faults last) behind.kept.never_falls (all.kept.failed same)
+          | inr rose ↦ risen_since (faults start.bay) (faults end.bay) (faults last) all.kept.never_falls behind.kept.never_falls
+              (subst (λ (bay : g.row.B.Denot). HasRisen (faults bay) (faults last)) bay_is rose)
+        ];
+        mark = both.mark;
+      };
+      stays_sound = λ seen told h begun now is. all.stays_sound seen told h begun now (sym behind.seen ∙ is);
+      unflushed = λ seen told nothing. quiet_on (bays g) (lawful g) start.bay end.bay last ⊥ ⊥ (all.unflushed seen told nothing)
+          (quiet_reads (bays g) (lawful g) end.bay last ⊥ behind);
     }

@@ -1,16 +1,24 @@
 use Rattle.std.proofs.Common.{◌≡◌, ◌+◌, ◌-◌, ◌<◌, ◌≤◌, [], ◌∷◌, ◌++◌, length, refl, ap, sym, ◌∙◌, subst, arith, length-append, Err, List, ℕ}
+use Rattle.lert_bay.specs.declared.bay.TheConstants.{JOURNAL}
+use Rattle.lert_bay.specs.Kept.{KeepsBay}
+use Rattle.lert_bay.proofs.KeptLaws.{IsLawful, keeps_none, keeps_on, reads_none}
 use Rattle.lert_spec.specs.declared.numbers.Numbers.{Numbers}
 use Rattle.lert_spec.specs.Edges.{capacity}
 use Rattle.lert_spec.proofs.LimitLaws.{capacity_to}
-use Rattle.lert_io.proofs.Rising.{risen_since}
 use Rattle.lert_reports.specs.declared.log_point.LogPoint.{LogPoint}
 use Rattle.lert_cone.specs.declared.refusal.ReplayFault.TheVariants.{Unsound}
 use Rattle.lert_cone.specs.Replays.{Replays, WhyRefused}
 use Rattle.lert_cone.specs.Stands.{Standing}
+use Rattle.lert_files.proofs.QuietLaws.{quiet_on, quiet_reads}
 use Rattle.lert_recover.specs.Replayed.{HasReplayed}
-use Rattle.lert_recover.proofs.ReplayingLaws.{framed_none, journal_none, journal_on, left_on, read_none, read_on, same_none, same_on, shut_on}
+use Rattle.lert_recover.proofs.ReplayingLaws.{framed_none, journal_none, journal_on, left_on, quiet_of, read_none, read_on, same_none, same_on, shut_on, sound_on, still_on}
 use Rattle.lert_recover.proofs.StopLaws.{full_alone}
+use Rattle.lert_recover.proofs.replay.replay_all.Given as given
+use Rattle.lert_recover.proofs.replay.replay_all.Invariants.{bays}
 use Rattle.lert_recover.proofs.replay.replay_all.Goals as goal
+
+lawful : (g : given.Over) → IsLawful (bays g)
+lawful g = record { as_read = g.met.B.Bay.as_read; since_now = g.met.B.Bay.since_now; only_now = g.met.B.Bay.only_now; since_earlier = g.met.B.Bay.since_earlier }
 
 pub packets-init : goal.packets-init
 packets-init g c =
@@ -25,12 +33,13 @@ packets-init g c =
       counted = begun.2 ∙ sym none;
       within = omega (arith, none);
       near = omega arith;
-      read = λ seen told. read_none start.listing.settings start.listing.cone start.last.n0 start.last.closed (seen 0) start.listing.events begun.1;
+      read = λ seen told. read_none start.listing.settings start.listing.cone start.last.n0 start.last.closed (seen JOURNAL) start.listing.events begun.1;
       sound = λ seen told h replays. ([], replays);
-      framed = λ seen told some there told_there. framed_none (g.B.Bay.files start.bay) start.listing.settings start.last.n0 start.rows start.listing.events begun.1 seen there told told_there some;
+      framed = λ seen told some there told_there. framed_none (g.B.Bay.files start.bay) start.listing.settings start.last.n0 start.rows start.listing.events begun.1 seen there
+          told told_there some;
       journal = journal_none (g.B.Bay.files start.bay);
-      never_falls = omega arith;
-      mark = refl;
+      kept = keeps_none (bays g) (lawful g) start.bay ⊥ (λ never. never);
+      unwritten = λ seen told nothing. quiet_reads (bays g) (lawful g) start.bay start.bay ⊥ (reads_none (bays g) (lawful g) start.bay ⊥ (λ never. never));
     }
 
 pub replay-requires : goal.replay-requires
@@ -46,9 +55,12 @@ packets-smaller g c =
     let now = c.packets.invariant in
     let took = rw c.in-Ok-Some.field-0-is at c.in-Ok-Some.ensures.taken in
     let keys = took.packet.keys in
-    let count : length new.listing.events ≡ length old.listing.events + length keys = ap (λ (k : Standing g.row.B.Denot). length k.listing.events) took.is ∙ length-append old.listing.events keys in
-    let within : length old.listing.events + length keys ≤ capacity start.listing.settings = subst (λ (s : Numbers). length old.listing.events + length keys ≤ capacity s) now.same.settings took.follows.within in
-    let falls : capacity start.listing.settings - length new.listing.events < capacity start.listing.settings - length old.listing.events = omega (arith, count, within, took.journaled.some) in
+    let count : length new.listing.events ≡ length old.listing.events + length keys = ap (λ (k : Standing g.row.B.Denot). length k.listing.events) took.is ∙ length-append
+    old.listing.events keys in
+    let within : length old.listing.events + length keys ≤ capacity start.listing.settings = subst (λ (s : Numbers). length old.listing.events + length keys ≤ capacity s)
+    now.same.settings took.follows.within in
+    let falls : capacity start.listing.settings - length new.listing.events < capacity start.listing.settings - length old.listing.events =
+    omega (arith, count, within, took.journaled.some) in
     falls
 
 pub packets-preserved : goal.packets-preserved
@@ -58,11 +70,15 @@ packets-preserved g c =
     let old = c.packets.cone in
     let new = c.replay.new.self in
     let now = c.packets.invariant in
+    let step : KeepsBay (bays g) old.bay new.bay ⊥ =
+    record { time = c.replay.ensures.journal.time; never_falls = c.replay.ensures.never_falls; failed = λ never. absurd never; mark = c.replay.ensures.mark } in
     let took = rw c.in-Ok-Some.field-0-is at c.in-Ok-Some.ensures.taken in
     let next = rw c.in-Ok-Some.field-0-is at c.in-Ok-Some.ensures.forward in
     let keys = took.packet.keys in
-    let count : length new.listing.events ≡ length old.listing.events + length keys = ap (λ (k : Standing g.row.B.Denot). length k.listing.events) took.is ∙ length-append old.listing.events keys in
-    let within : length old.listing.events + length keys ≤ capacity start.listing.settings = subst (λ (s : Numbers). length old.listing.events + length keys ≤ capacity s) now.same.settings took.follows.within in
+    let count : length new.listing.events ≡ length old.listing.events + length keys = ap (λ (k : Standing g.row.B.Denot). length k.listing.events) took.is ∙ length-append
+    old.listing.events keys in
+    let within : length old.listing.events + length keys ≤ capacity start.listing.settings = subst (λ (s : Numbers). length old.listing.events + length keys ≤ capacity s)
+    now.same.settings took.follows.within in
     record {
       state = ap (λ (k : Standing g.row.B.Denot). k.state) took.is ∙ now.state;
       same = same_on files start old new now.same c.replay.ensures.same_cone;
@@ -76,14 +92,18 @@ packets-preserved g c =
       sound = λ seen told h begun.
           let done = now.sound seen told h begun in
           let there = now.journal.told seen told in
-          let step = rw c.in-Ok-Some.field-0-is at (c.in-Ok-Some.ensures.replays there.0 there.1 h done.0 done.1 (sym now.gate_is)) in
-          (done.0 ++ step.0 ∷ [], step.1);
+          let one_more = rw c.in-Ok-Some.field-0-is at (c.in-Ok-Some.ensures.replays there.0 there.1 h done.0 done.1 (sym now.gate_is)) in
+          (done.0 ++ one_more.0 ∷ [], one_more.1);
       framed = λ seen told some.
           let there = now.journal.told seen told in
           c.in-Ok-Some.ensures.framed there.0 there.1 (now.framed seen told some there.0 there.1);
       journal = journal_on (files start.bay) (files old.bay) (files new.bay) now.journal c.replay.ensures.journal.seen;
-      never_falls = omega (arith, now.never_falls, c.replay.ensures.never_falls);
-      mark = c.replay.ensures.mark ∙ now.mark;
+      kept = keeps_on (bays g) (lawful g) start.bay old.bay new.bay ⊥ ⊥ now.kept step;
+      unwritten = λ seen told nothing.
+          let there = now.journal.told seen told in
+          quiet_on (bays g) (lawful g) start.bay old.bay new.bay ⊥ ⊥ (now.unwritten seen told nothing)
+          (quiet_of (bays g) old.bay new.bay ⊥ step
+          (c.replay.ensures.unflushed there.0 there.1 (still_on files start old new seen told now.same now.journal c.packets.gate (now.read seen told) nothing)));
     }
 
 pub returns-in-Ok-None : goal.returns-in-Ok-None
@@ -93,12 +113,15 @@ returns-in-Ok-None g c =
     let old = c.packets.cone in
     let new = c.replay.new.self in
     let now = c.packets.invariant in
+    let step : KeepsBay (bays g) old.bay new.bay ⊥ =
+    record { time = c.replay.ensures.journal.time; never_falls = c.replay.ensures.never_falls; failed = λ never. absurd never; mark = c.replay.ensures.mark } in
     let gate = c.packets.gate in
     let ended = rw c.in-Ok-None.field-0-is at c.in-Ok-None.ensures.ended in
     let events_are = ap (λ (k : Standing g.row.B.Denot). k.listing.events) ended.is in
     record {
       told = λ seen told. (
-        subst (λ (events : List ℕ). HasReplayed start.listing.settings start.listing.cone start.last.n0 start.last.closed (seen 0) gate events) (sym events_are) (now.read seen told),
+        subst (λ (events : List ℕ). HasReplayed start.listing.settings start.listing.cone start.last.n0 start.last.closed (seen JOURNAL) gate events) (sym events_are)
+            (now.read seen told),
         shut_on files start old new seen told now.same now.journal gate ended.stands,
       );
       full = λ seen told some. tt;
@@ -116,19 +139,27 @@ returns-in-Ok-None g c =
       same_cone = same_on files start old new now.same c.replay.ensures.same_cone;
       near = tt;
       journal = journal_on (files start.bay) (files old.bay) (files new.bay) now.journal c.replay.ensures.journal.seen;
-      never_falls = omega (arith, now.never_falls, c.replay.ensures.never_falls);
-      failed = tt;
-      mark = c.replay.ensures.mark ∙ now.mark;
+      stays_sound = λ seen told h begun.
+          let done = now.sound seen told h begun in
+          let there = now.journal.told seen told in
+          sound_on start old (files new.bay) h now.same (c.replay.ensures.stays_sound there.0 there.1 h done.0 done.1 (sym now.gate_is)).as_read;
+      unflushed = λ seen told nothing.
+          let there = now.journal.told seen told in
+          quiet_on (bays g) (lawful g) start.bay old.bay new.bay ⊥ ⊥ (now.unwritten seen told nothing)
+          (quiet_of (bays g) old.bay new.bay ⊥ step
+          (c.replay.ensures.unflushed there.0 there.1 (still_on files start old new seen told now.same now.journal c.packets.gate (now.read seen told) nothing)));
+      kept = keeps_on (bays g) (lawful g) start.bay old.bay new.bay ⊥ ⊥ now.kept step;
     }
 
 pub returns-in-Err : goal.returns-in-Err
 returns-in-Err g c =
     let files = g.B.Bay.files in
-    let faults = g.B.Faulty.faults in
     let start = c.args.cone.now in
     let old = c.packets.cone in
     let new = c.replay.new.self in
     let now = c.packets.invariant in
+    let step : KeepsBay (bays g) old.bay new.bay ⊥ =
+    record { time = c.replay.ensures.journal.time; never_falls = c.replay.ensures.never_falls; failed = λ never. absurd never; mark = c.replay.ensures.mark } in
     let count = c.events-events.ensures.count ∙ now.counted in
     record {
       told = λ seen told. (
@@ -136,7 +167,7 @@ returns-in-Err g c =
         now.read seen told,
         count,
         λ at is. left_on files start old new seen told now.same now.journal c.packets.gate at c.events-events.result count
-            (λ there told_there. subst (WhyRefused old (there 0) c.packets.gate) is (c.in-Err.ensures.refused there told_there)),
+            (λ there told_there. subst (WhyRefused old (there JOURNAL) c.packets.gate) is (c.in-Err.ensures.refused there told_there)),
       );
       full = λ seen told some file at is.
           let there = now.journal.told seen told in
@@ -156,7 +187,20 @@ returns-in-Err g c =
       same_cone = same_on files start old new now.same c.replay.ensures.same_cone;
       near = (omega (arith, now.near, count), omega (arith, now.within, count));
       journal = journal_on (files start.bay) (files old.bay) (files new.bay) now.journal c.replay.ensures.journal.seen;
-      never_falls = omega (arith, now.never_falls, c.replay.ensures.never_falls);
-      failed = λ is. risen_since (faults start.bay) (faults old.bay) (faults new.bay) now.never_falls c.replay.ensures.never_falls (c.in-Err.ensures.failed (ap Err is));
-      mark = c.replay.ensures.mark ∙ now.mark;
+      stays_sound = λ seen told h begun.
+          let done = now.sound seen told h begun in
+          let there = now.journal.told seen told in
+          sound_on start old (files new.bay) h now.same (c.replay.ensures.stays_sound there.0 there.1 h done.0 done.1 (sym now.gate_is)).as_read;
+      unflushed = λ seen told nothing.
+          let there = now.journal.told seen told in
+          quiet_on (bays g) (lawful g) start.bay old.bay new.bay ⊥ ⊥ (now.unwritten seen told nothing)
+          (quiet_of (bays g) old.bay new.bay ⊥ step
+          (c.replay.ensures.unflushed there.0 there.1 (still_on files start old new seen told now.same now.journal c.packets.gate (now.read seen told) nothing)));
+      kept = keeps_on (bays g) (lawful g) start.bay old.bay new.bay ⊥ _ now.kept
+          (record {
+            time = c.replay.ensures.journal.time;
+            never_falls = c.replay.ensures.never_falls;
+            failed = λ is. c.in-Err.ensures.failed (ap Err is);
+            mark = c.replay.ensures.mark;
+          });
     }

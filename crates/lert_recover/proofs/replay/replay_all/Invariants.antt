@@ -1,13 +1,19 @@
 use Rattle.std.proofs.Common.{◌≡◌, ◌+◌, ◌-◌, ◌*◌, ◌≤◌, max, Some, List, [], length}
 use Rattle.lert_base.specs.Packet.{Packet}
+use Rattle.lert_bay.specs.declared.bay.TheConstants.{JOURNAL, FRAMES}
 use Rattle.lert_bay.specs.Files.{Files}
+use Rattle.lert_bay.specs.Kept.{Bays, KeepsBay}
 use Rattle.lert_cone.specs.declared.state.ConeState.TheVariants.{Replaying}
 use Rattle.lert_cone.specs.Framed.{HoldsSome}
 use Rattle.lert_cone.specs.Replays.{Replays}
 use Rattle.lert_cone.specs.Stands.{IsSameCone}
+use Rattle.lert_files.specs.Opened.{WritesNothing}
 use Rattle.lert_spec.specs.Edges.{capacity}
-use Rattle.lert_recover.specs.Replayed.{HasReplayed, IsJournalSame}
+use Rattle.lert_recover.specs.Replayed.{FlushesNothing, HasReplayed, IsJournalSame}
 use Rattle.lert_recover.proofs.replay.replay_all.Given as goal
+
+abbrev pub bays : (g : goal.Over) → Bays g.row.B.Denot
+bays g = record { faults = g.B.Faulty.faults; mark = g.B.Faulty.mark; files = g.B.Bay.files; leaves = g.B.Bay.leaves; moment = g.B.Bay.moment; left_since = g.B.Bay.left_since }
 
 -- the packets up to this gate were replayed
 abbrev pub invariant-packets : goal.invariant-packets
@@ -19,13 +25,16 @@ invariant-packets g l = record {
   counted : l.cone.events ≡ length l.cone.listing.events;
   within : length l.cone.listing.events ≤ capacity l.fn.cone.listing.settings;
   near : l.gate ≤ 32 + 65536 * length l.cone.listing.events;
-  read : (seen : Files) → g.B.Bay.files l.fn.cone.bay ≡ Some seen → HasReplayed l.fn.cone.listing.settings l.fn.cone.listing.cone l.fn.cone.last.n0 l.fn.cone.last.closed (seen 0) l.gate l.cone.listing.events;
-  sound : (seen : Files) → g.B.Bay.files l.fn.cone.bay ≡ Some seen → (h : List Packet) → Replays g.B.Bay.files g.B.Bay.leaves l.fn.cone h [] → (done : List Packet) × Replays g.B.Bay.files g.B.Bay.leaves l.cone h done;
-  framed : (seen : Files) → g.B.Bay.files l.fn.cone.bay ≡ Some seen → HoldsSome l.fn.cone.listing.settings l.fn.cone.last.n0 l.fn.cone.rows (seen 2) →
-      (there : Files) → g.B.Bay.files l.cone.bay ≡ Some there → HoldsSome l.cone.listing.settings (max l.cone.last.n0 (length l.cone.listing.events)) l.cone.rows (there 2);
+  read : (seen : Files) → g.B.Bay.files l.fn.cone.bay ≡ Some seen → HasReplayed l.fn.cone.listing.settings l.fn.cone.listing.cone l.fn.cone.last.n0 l.fn.cone.last.closed
+      (seen JOURNAL) l.gate l.cone.listing.events;
+  sound : (seen : Files) → g.B.Bay.files l.fn.cone.bay ≡ Some seen → (h : List Packet) → Replays g.B.Bay.files g.B.Bay.leaves l.fn.cone h [] →
+      (done : List Packet) × Replays g.B.Bay.files g.B.Bay.leaves l.cone h done;
+  framed : (seen : Files) → g.B.Bay.files l.fn.cone.bay ≡ Some seen → HoldsSome l.fn.cone.listing.settings l.fn.cone.last.n0 l.fn.cone.rows (seen FRAMES) →
+      (there : Files) → g.B.Bay.files l.cone.bay ≡ Some there → HoldsSome l.cone.listing.settings (max l.cone.last.n0 (length l.cone.listing.events)) l.cone.rows (there FRAMES);
   journal : IsJournalSame (g.B.Bay.files l.fn.cone.bay) (g.B.Bay.files l.cone.bay);
-  never_falls : g.B.Faulty.faults l.fn.cone.bay ≤ g.B.Faulty.faults l.cone.bay;
-  mark : g.B.Faulty.mark l.cone.bay ≡ g.B.Faulty.mark l.fn.cone.bay;
+  kept : KeepsBay (bays g) l.fn.cone.bay l.cone.bay ⊥;
+  unwritten : (seen : Files) → g.B.Bay.files l.fn.cone.bay ≡ Some seen → FlushesNothing l.fn.cone.listing.settings l.fn.cone.last.n0 (seen JOURNAL) →
+      WritesNothing (bays g) l.fn.cone.bay l.cone.bay ⊥;
 }
 
 -- each packet has a key
