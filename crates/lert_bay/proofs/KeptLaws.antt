@@ -39,7 +39,7 @@ module _ {B : Type 0} (bays : Bays B) (lawful : IsLawful bays) where
   pub keeps_on : (before between after : B) (First Failed : Type 0) → KeepsBay bays before between First → KeepsBay bays between after Failed → KeepsBay bays before after Failed
   keeps_on before between after First Failed one two = record {
     time = lasts_on (bays.moment before) (bays.moment between) (bays.moment after) (bays.left_since before) (bays.left_since between) (bays.left_since after)
-      one.time two.time (lawful.since_earlier after);
+        one.time two.time (lawful.since_earlier after);
     never_falls = omega (arith, one.never_falls, two.never_falls);
     failed = λ failed. risen_since (bays.faults before) (bays.faults between) (bays.faults after) one.never_falls two.never_falls (two.failed failed);
     mark = two.mark ∙ one.mark;
@@ -76,7 +76,7 @@ module _ {B : Type 0} (bays : Bays B) (lawful : IsLawful bays) where
       bays.faults before ≤ bays.faults after → (Failed → HasRisen (bays.faults before) (bays.faults after)) → bays.mark after ≡ bays.mark before → KeepsBay bays before after Failed
   keeps_call before after Failed elapsed never_falls failed mark = record {
     time = lasts_more (bays.moment before) (bays.moment before) (bays.moment after) (bays.left_since before) (bays.left_since before) (bays.left_since after) (bays.leaves after)
-      (lasts_none (bays.moment before) (bays.left_since before)) elapsed;
+        (lasts_none (bays.moment before) (bays.left_since before)) elapsed;
     never_falls = never_falls;
     failed = failed;
     mark = mark;

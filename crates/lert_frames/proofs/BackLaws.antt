@@ -58,22 +58,26 @@ text_among [] k d within = absurd (omega (arith, within))
 text_among (p ∷ pieces) zero d within = take_at (piece_text p) (flat_map piece_text pieces) 16 refl
 text_among (p ∷ pieces) (suc k) d within =
     let next : 16 * suc k ≡ 16 + 16 * k = omega arith in
-    let behind : drop (16 + 16 * k) (piece_text p ++ flat_map piece_text pieces) ≡ drop (16 * k) (flat_map piece_text pieces) = drop-append-add (piece_text p) (flat_map piece_text pieces) (16 * k) in
+    let behind : drop (16 + 16 * k) (piece_text p ++ flat_map piece_text pieces) ≡ drop (16 * k) (flat_map piece_text pieces) = drop-append-add (piece_text p)
+    (flat_map piece_text pieces) (16 * k) in
     ap (λ n. take 16 (drop n (piece_text p ++ flat_map piece_text pieces))) next ∙ (ap (take 16) behind ∙ text_among pieces k d (omega (arith, within)))
 
 -- ---- pieces in order
 
-bound_of_take : (least limit : ℕ) (pieces : List Piece) (k : ℕ) (d : Piece) → AscendsFrom least limit pieces → k < length pieces → bound_from least (take k pieces) ≤ (get_or pieces k d).tail
+bound_of_take : (least limit : ℕ) (pieces : List Piece) (k : ℕ) (d : Piece) → AscendsFrom least limit pieces → k < length pieces →
+    bound_from least (take k pieces) ≤ (get_or pieces k d).tail
 bound_of_take least limit [] k d up within = absurd (omega (arith, within))
 bound_of_take least limit (p ∷ pieces) zero d up within = up.0
 bound_of_take least limit (p ∷ pieces) (suc k) d up within = bound_of_take (p.tail + 1) limit pieces k d up.3 (omega (arith, within))
 
-in_order : (least limit : ℕ) (pieces : List Piece) (k : ℕ) (d : Piece) → AscendsFrom least limit pieces → k < length pieces → ((get_or pieces k d).tail < limit) × (1 ≤ (get_or pieces k d).count)
+in_order : (least limit : ℕ) (pieces : List Piece) (k : ℕ) (d : Piece) → AscendsFrom least limit pieces → k < length pieces →
+    ((get_or pieces k d).tail < limit) × (1 ≤ (get_or pieces k d).count)
 in_order least limit [] k d up within = absurd (omega (arith, within))
 in_order least limit (p ∷ pieces) zero d up within = (up.1, up.2)
 in_order least limit (p ∷ pieces) (suc k) d up within = in_order (p.tail + 1) limit pieces k d up.3 (omega (arith, within))
 
-module _ (limit width place : ℕ) (file : List ℕ) (pieces : List Piece) (bin : IsBin limit width pieces) (holds : HoldsFrame place file pieces) (limit_fits : limit ≤ 2 ^ 64) (few : length pieces < 2 ^ 32) where
+module _ (limit width place : ℕ) (file : List ℕ) (pieces : List Piece) (bin : IsBin limit width pieces) (holds : HoldsFrame place file pieces) (limit_fits : limit ≤ 2 ^ 64)
+    (few : length pieces < 2 ^ 32) where
   -- what stands behind the frame's first byte
   behind_is : take (text_len pieces) (drop place file) ≡ frame_text pieces
   behind_is = sym (part_is file place (text_len pieces) (place + text_len pieces) refl) ∙ holds
@@ -112,7 +116,8 @@ module _ (limit width place : ℕ) (file : List ℕ) (pieces : List Piece) (bin 
       let sixteen : 16 * k + 16 - 16 * k ≡ 16 = omega arith in
       sym (text_among pieces k d within)
       ∙ (ap (λ n. take n (drop (16 * k) (flat_map piece_text pieces))) (sym sixteen)
-      ∙ block_piece (flat_map piece_text pieces) file (place + 4) (length pieces) k (16 * k) (16 * k + 16) texts_are within (omega (arith, long, within)) (omega (arith, long, within)))
+      ∙ block_piece (flat_map piece_text pieces) file (place + 4) (length pieces) k (16 * k) (16 * k + 16) texts_are within (omega (arith, long, within))
+      (omega (arith, long, within)))
 
   abbrev none : Piece
   none = record { tail = 0; count = 0 }
@@ -146,7 +151,8 @@ module _ (limit width place : ℕ) (file : List ℕ) (pieces : List Piece) (bin 
       let counted : length (take k pieces) ≡ k = length-take-le k pieces (omega (arith, within)) in
       subst (AreRead limit place file) (sym more)
       (read_more limit place (piece_place place k) (length file) file (piece_text (get_or pieces k none)) (take k pieces) (so_far k (omega (arith, within)))
-      (ap (piece_place place) (sym counted)) refl (piece_there k none (omega (arith, within))) (get_or pieces k none) (small_text (get_or pieces k none)) (is_piece k (piece_place place k) (omega (arith, within))))
+      (ap (piece_place place) (sym counted)) refl (piece_there k none (omega (arith, within))) (get_or pieces k none) (small_text (get_or pieces k none))
+      (is_piece k (piece_place place k) (omega (arith, within))))
 
   all_read : AreRead limit place file pieces
   all_read = subst (AreRead limit place file) (take_all (length pieces) pieces (omega arith)) (so_far (length pieces) (omega arith))
@@ -154,7 +160,8 @@ module _ (limit width place : ℕ) (file : List ℕ) (pieces : List Piece) (bin 
   head_whole : head_left width place file ≡ None
   head_whole =
       let long : nat_lt (length (take 4 xs)) 4 ≡ false = le-ltb (length (take 4 xs)) 4 (omega (arith, four)) in
-      let less : nat_lt width (count_at place file) ≡ false = le-ltb width (count_at place file) (omega (arith, count_is, length_le-total 0 limit pieces bin.given.table, bin.summed)) in
+      let less : nat_lt width (count_at place file) ≡ false = le-ltb width (count_at place file)
+      (omega (arith, count_is, length_le-total 0 limit pieces bin.given.table, bin.summed)) in
       λ i. if long i then Some (length file) else (if less i then Some place else None)
 
   -- a file that holds a bin's frame leaves the format nowhere
@@ -170,8 +177,10 @@ module _ (limit width place : ℕ) (file : List ℕ) (pieces : List Piece) (bin 
 few_of : (limit width : ℕ) (pieces : List Piece) → IsBin limit width pieces → width < 2 ^ 32 → length pieces < 2 ^ 32
 few_of limit width pieces bin few = omega (arith, length_le-total 0 limit pieces bin.given.table, bin.summed, few)
 
-pub reads_back : (result : Result LoadedBin LoadFault) (limit width place : ℕ) (file : List ℕ) (pieces : List Piece) → limit ≤ 2 ^ 64 → width < 2 ^ 32 → IsBin limit width pieces → HoldsFrame place file pieces →
-    IfOk result (λ found. IsBin limit width found.pieces.items) → IfOk result (λ found. HoldsFrame place file found.pieces.items) → ((at : ℕ) → IsErrOf result (Malformed at) → frame_left limit width place file ≡ Some at) →
+pub reads_back : (result : Result LoadedBin LoadFault) (limit width place : ℕ) (file : List ℕ) (pieces : List Piece) → limit ≤ 2 ^ 64 → width < 2 ^ 32 →
+    IsBin limit width pieces → HoldsFrame place file pieces →
+    IfOk result (λ found. IsBin limit width found.pieces.items) → IfOk result (λ found. HoldsFrame place file found.pieces.items) →
+    ((at : ℕ) → IsErrOf result (Malformed at) → frame_left limit width place file ≡ Some at) →
     MatchResult result (λ found. found.pieces.items ≡ pieces) (λ fault. (fault ≡ Failed) ⊎ (fault ≡ OutOfMemory))
 reads_back (Ok found) limit width place file pieces limit_fits few bin holds found_bin found_holds left =
     pieces_are limit width place file found.pieces.items found_bin found_holds limit_fits (few_of limit width found.pieces.items found_bin few)
@@ -181,7 +190,8 @@ reads_back (Err OutOfMemory) limit width place file pieces limit_fits few bin ho
 reads_back (Err (Malformed at)) limit width place file pieces limit_fits few bin holds found_bin found_holds left =
     absurd (none-some at (sym (frame_whole limit width place file pieces bin holds limit_fits (few_of limit width pieces bin few)) ∙ left at refl))
 
-pub refuses : (result : Result LoadedBin LoadFault) (left : Option ℕ) (at : ℕ) → left ≡ Some at → OnOk result (left ≡ None) → ((spot : ℕ) → IsErrOf result (Malformed spot) → left ≡ Some spot) →
+pub refuses : (result : Result LoadedBin LoadFault) (left : Option ℕ) (at : ℕ) → left ≡ Some at → OnOk result (left ≡ None) →
+    ((spot : ℕ) → IsErrOf result (Malformed spot) → left ≡ Some spot) →
     IsErrAnd result (λ fault. (fault ≡ Malformed at) ⊎ ((fault ≡ Failed) ⊎ (fault ≡ OutOfMemory)))
 refuses (Ok found) left at is whole malformed = absurd (none-some at (sym whole ∙ is))
 refuses (Err Failed) left at is whole malformed = inr (inl refl)

@@ -13,7 +13,8 @@ pub first_given : (limit n : ℕ) (pieces : List Piece) → AreGiven limit piece
 first_given limit n pieces are = given_take (bound_of pieces) n pieces (given_bound limit pieces are)
 
 -- one more of a greater tail
-pub given_push : (limit : ℕ) (pieces : List Piece) (p : Piece) → AreGiven limit pieces → bound_of pieces ≤ p.tail → p.tail < limit → 1 ≤ p.count → p.count ≤ 2 ^ 47 → AreGiven limit (pieces ++ p ∷ [])
+pub given_push : (limit : ℕ) (pieces : List Piece) (p : Piece) → AreGiven limit pieces → bound_of pieces ≤ p.tail → p.tail < limit → 1 ≤ p.count → p.count ≤ 2 ^ 47 →
+    AreGiven limit (pieces ++ p ∷ [])
 given_push limit pieces p are above below some few =
     given_wide (p.tail + 1) limit (pieces ++ p ∷ []) (omega (arith, below)) (given_more (bound_of pieces) pieces p (given_bound limit pieces are) above some few)
 

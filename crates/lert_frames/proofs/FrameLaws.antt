@@ -14,7 +14,8 @@ use Rattle.lert_frames.specs.Reading.{AreRead, BreaksFirst}
 use Rattle.lert_frames.proofs.ReadLaws.{part_join, part_is}
 
 -- the first of several places
-first_at : (f : ℕ → Option ℕ) (a n k at : ℕ) (rest : List (Option ℕ)) → k < n → ((j : ℕ) → j < k → f (a + j) ≡ None) → f (a + k) ≡ Some at → first_of (map f (range_with_len a n) ++ rest) ≡ Some at
+first_at : (f : ℕ → Option ℕ) (a n k at : ℕ) (rest : List (Option ℕ)) → k < n → ((j : ℕ) → j < k → f (a + j) ≡ None) → f (a + k) ≡ Some at →
+    first_of (map f (range_with_len a n) ++ rest) ≡ Some at
 first_at f a zero k at rest within none here = absurd (omega (arith, within))
 first_at f a (suc n) zero at rest within none here =
     let same : a ≡ a + zero = omega arith in
@@ -39,7 +40,8 @@ module _ (limit width place : ℕ) (file : List ℕ) where
   head_breaks at head = ap (λ x. first_of (x ∷ (pieces_left limit place file ++ sum_left width place file ∷ []))) head
 
   -- a piece does
-  pub piece_breaks : (count at : ℕ) → head_left width place file ≡ None → count ≡ count_at place file → BreaksFirst limit place file count at → frame_left limit width place file ≡ Some at
+  pub piece_breaks : (count at : ℕ) → head_left width place file ≡ None → count ≡ count_at place file → BreaksFirst limit place file count at →
+      frame_left limit width place file ≡ Some at
   piece_breaks count at head count_is first =
       ap (λ x. first_of (x ∷ (pieces_left limit place file ++ sum_left width place file ∷ []))) head
       ∙ first_at (piece_left limit place file) 0 (count_at place file) first.number at (sum_left width place file ∷ []) (omega (arith, first.within, count_is))
@@ -49,7 +51,8 @@ module _ (limit width place : ℕ) (file : List ℕ) where
     left_is : frame_left limit width place file ≡ first_of (sum_left width place file ∷ [])
     left_is =
         ap (λ x. first_of (x ∷ (pieces_left limit place file ++ sum_left width place file ∷ []))) head
-        ∙ none_first (piece_left limit place file) 0 (count_at place file) (sum_left width place file ∷ []) (λ j below. ap (piece_left limit place file) (zero-add j) ∙ read.fine j (omega (arith, below, count_is)))
+        ∙ none_first (piece_left limit place file) 0 (count_at place file) (sum_left width place file ∷ [])
+        (λ j below. ap (piece_left limit place file) (zero-add j) ∙ read.fine j (omega (arith, below, count_is)))
 
     sum_is : total (map (piece_at place file) (range_with_len 0 (count_at place file))) ≡ total pieces
     sum_is = ap total (ap (λ n. map (piece_at place file) (range_with_len 0 n)) (sym count_is) ∙ sym read.are)
@@ -65,7 +68,8 @@ module _ (limit width place : ℕ) (file : List ℕ) where
         left_is ∙ ap (λ b. first_of ((if b then None else Some place) ∷ [])) (ap (λ n. n == width) sum_is ∙ eq-eqb (total pieces) width same)
 
 -- the text of the pieces stands there
-pub holds_frame : (limit place : ℕ) (file : List ℕ) (pieces : List Piece) → part file place (place + 4) ≡ little_bytes 4 (length pieces) → AreRead limit place file pieces → HoldsFrame place file pieces
+pub holds_frame : (limit place : ℕ) (file : List ℕ) (pieces : List Piece) → part file place (place + 4) ≡ little_bytes 4 (length pieces) → AreRead limit place file pieces →
+    HoldsFrame place file pieces
 holds_frame limit place file pieces number read =
     let four : length (part file place (place + 4)) ≡ 4 = ap length number ∙ length-bytes_low_first 0 4 (length pieces) in
     let within : place + 4 ≤ length file = omega (arith, four, length-drop place (take (place + 4) file), length-take (place + 4) file) in
@@ -74,13 +78,15 @@ holds_frame limit place file pieces number read =
     ∙ ap₂ (λ xs ys. xs ++ ys) number read.text)
 
 -- the number of pieces that was read at the front
-pub head_text : (place read number : ℕ) (head file : List ℕ) → CopiesFrom place read head file → 4 ≤ read → length head ≡ 4 → little_bytes 4 number ≡ take 4 head → part file place (place + 4) ≡ little_bytes 4 number
+pub head_text : (place read number : ℕ) (head file : List ℕ) → CopiesFrom place read head file → 4 ≤ read → length head ≡ 4 → little_bytes 4 number ≡ take 4 head →
+    part file place (place + 4) ≡ little_bytes 4 number
 head_text place read number head file copied some long number_is =
     let four : read ≡ 4 = omega (arith, copied.count_is, some, long) in
     part_is file place 4 (place + 4) refl ∙ (ap (λ n. take n (drop place file)) (sym four) ∙ (sym copied.copied ∙ (ap (λ n. take n head) four ∙ sym number_is)))
 
 -- the same of a computed limit and place
-pub left_turned : (limit most width place at : ℕ) (file : List ℕ) (left : Option ℕ) → most + 1 ≡ limit → at ≡ place → frame_left (most + 1) width at file ≡ left → frame_left limit width place file ≡ left
+pub left_turned : (limit most width place at : ℕ) (file : List ℕ) (left : Option ℕ) → most + 1 ≡ limit → at ≡ place → frame_left (most + 1) width at file ≡ left →
+    frame_left limit width place file ≡ left
 left_turned limit most width place at file left limit_is place_is is = ap₂ (λ l p. frame_left l width p file) (sym limit_is) (sym place_is) ∙ is
 
 -- the sum as far as it is computed

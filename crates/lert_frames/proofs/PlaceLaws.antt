@@ -72,7 +72,8 @@ place_ends s level frame from within =
     omega (arith, more, sum)
 
 -- the places of a younger level stand before those of an older one
-younger_before : (s : Numbers) (level frame older other : ℕ) → 1 ≤ level → frame ≤ s.bins → level < older → frame_place s level frame + frame_len s level ≤ frame_place s older other
+younger_before : (s : Numbers) (level frame older other : ℕ) → 1 ≤ level → frame ≤ s.bins → level < older →
+    frame_place s level frame + frame_len s level ≤ frame_place s older other
 younger_before s level frame older other from within below =
     let more = mul-le-mul_left (s.bins + 1) (frame_lens_grow s level (older - 1) (omega (arith, below))) in
     omega (arith, place_ends s level frame from within, more)

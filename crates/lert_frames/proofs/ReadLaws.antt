@@ -22,22 +22,27 @@ use Rattle.lert_frames.proofs.BinLaws.{bound_of-map}
 pub part_join : (file : List ℕ) (from middle to : ℕ) → from ≤ middle → middle ≤ to → middle ≤ length file → part file from middle ++ part file middle to ≡ part file from to
 part_join file from middle to low high within =
     let front = take middle file in
-    let all : take to file ≡ front ++ take (to - middle) (drop middle file) = ap (λ n. take n file) (let sum : to ≡ middle + (to - middle) = omega (arith, high) in sum) ∙ take-add middle (to - middle) file in
+    let all : take to file ≡ front ++ take (to - middle) (drop middle file) = ap (λ n. take n file)
+    (let sum : to ≡ middle + (to - middle) = omega (arith, high) in sum) ∙ take-add middle (to - middle) file in
     let behind : part file middle to ≡ take (to - middle) (drop middle file) =
     ap (λ n. drop middle (take n file)) (let sum : to ≡ middle + (to - middle) = omega (arith, high) in sum) ∙ drop-take middle (to - middle) file in
-    sym (ap (drop from) all ∙ (drop-append-le from front (take (to - middle) (drop middle file)) (omega (arith, low, within, length-take middle file)) ∙ ap (λ xs. drop from front ++ xs) (sym behind)))
+    sym (ap (drop from) all ∙ (drop-append-le from front (take (to - middle) (drop middle file)) (omega (arith, low, within, length-take middle file)) ∙ ap
+    (λ xs. drop from front ++ xs) (sym behind)))
 
 -- a part by its length
 pub part_is : (file : List ℕ) (from count to : ℕ) → to ≡ from + count → part file from to ≡ take count (drop from file)
 part_is file from count to end = ap (λ n. drop from (take n file)) end ∙ drop-take from count file
 
 -- the bytes of a piece in a block of them
-pub block_piece : (bytes file : List ℕ) (at some n from to : ℕ) → bytes ≡ take (16 * some) (drop at file) → n < some → from ≡ min (length bytes) (16 * n) → to ≡ min (length bytes) (16 * n + 16) →
+pub block_piece : (bytes file : List ℕ) (at some n from to : ℕ) → bytes ≡ take (16 * some) (drop at file) → n < some → from ≡ min (length bytes) (16 * n) →
+    to ≡ min (length bytes) (16 * n + 16) →
     take (to - from) (drop from bytes) ≡ take 16 (drop (at + 16 * n) file)
 block_piece bytes file at some n from to are below from_is to_is =
     let all : length bytes ≡ min (16 * some) (length file - at) = ap length are ∙ (length-take (16 * some) (drop at file) ∙ ap (min (16 * some)) (length-drop at file)) in
-    let left : length (take (to - from) (drop from bytes)) ≡ min (to - from) (length bytes - from) = length-take (to - from) (drop from bytes) ∙ ap (min (to - from)) (length-drop from bytes) in
-    let right : length (take 16 (drop (at + 16 * n) file)) ≡ min 16 (length file - (at + 16 * n)) = length-take 16 (drop (at + 16 * n) file) ∙ ap (min 16) (length-drop (at + 16 * n) file) in
+    let left : length (take (to - from) (drop from bytes)) ≡ min (to - from) (length bytes - from) = length-take (to - from) (drop from bytes) ∙ ap (min (to - from))
+    (length-drop from bytes) in
+    let right : length (take 16 (drop (at + 16 * n) file)) ≡ min 16 (length file - (at + 16 * n)) = length-take 16 (drop (at + 16 * n) file) ∙ ap (min 16)
+    (length-drop (at + 16 * n) file) in
     ext_get_or 0 _ _ (omega (arith, left, right, all, from_is, to_is, below))
     (λ k short.
     let short_too : k < to - from = omega (arith, short, left) in
@@ -66,7 +71,8 @@ least_is : (place : ℕ) (file : List ℕ) (n : ℕ) → least_at place file n �
 least_is place file zero = refl
 least_is place file (suc n) = sym (bound_of-map (piece_at place file) n)
 
-module _ (limit place at end : ℕ) (file bytes : List ℕ) (pieces : List Piece) (read : AreRead limit place file pieces) (at_is : at ≡ piece_place place (length pieces)) (end_is : end ≡ length file) (bytes_are : bytes ≡ take 16 (drop at file)) where
+module _ (limit place at end : ℕ) (file bytes : List ℕ) (pieces : List Piece) (read : AreRead limit place file pieces) (at_is : at ≡ piece_place place (length pieces))
+    (end_is : end ≡ length file) (bytes_are : bytes ≡ take 16 (drop at file)) where
   pub next_least : least_at place file (length pieces) ≡ bound_of pieces
   next_least = least_is place file (length pieces) ∙ ap bound_of (sym read.are)
 
@@ -109,11 +115,13 @@ pub breaks_later : (limit place : ℕ) (file : List ℕ) (most more at : ℕ) �
 breaks_later limit place file most more at fewer first = record { number = first.number; within = omega (arith, first.within, fewer); fine = first.fine; here = first.here }
 
 -- the piece behind those that were read breaks a rule
-pub breaks_next : (limit place : ℕ) (file : List ℕ) (pieces : List Piece) (most at : ℕ) → AreRead limit place file pieces → length pieces < most → piece_left limit place file (length pieces) ≡ Some at → BreaksFirst limit place file most at
+pub breaks_next : (limit place : ℕ) (file : List ℕ) (pieces : List Piece) (most at : ℕ) → AreRead limit place file pieces → length pieces < most →
+    piece_left limit place file (length pieces) ≡ Some at → BreaksFirst limit place file most at
 breaks_next limit place file pieces most at read within here = record { number = length pieces; within = within; fine = read.fine; here = here }
 
 -- bytes that break no rule
-pub whole_fields : (least limit at end : ℕ) (bytes : List ℕ) → 16 ≤ length bytes → least ≤ (piece_of bytes).tail → (piece_of bytes).tail < limit → 1 ≤ (piece_of bytes).count → (piece_of bytes).count ≤ 2 ^ 47 → fields_left least limit at end bytes ≡ None
+pub whole_fields : (least limit at end : ℕ) (bytes : List ℕ) → 16 ≤ length bytes → least ≤ (piece_of bytes).tail → (piece_of bytes).tail < limit → 1 ≤ (piece_of bytes).count →
+    (piece_of bytes).count ≤ 2 ^ 47 → fields_left least limit at end bytes ≡ None
 whole_fields least limit at end bytes long above below some few =
     let first : nat_lt (length bytes) 8 ≡ false = le-ltb (length bytes) 8 (omega (arith, long)) in
     let second : nat_le least (piece_of bytes).tail ≡ true = le-leb least (piece_of bytes).tail above in

@@ -7,9 +7,10 @@ use Rattle.std.proofs.lemmas.List.{get_or_append_left, get_or-append_right, get_
 use lib.ListN.{length-replicate}
 use Rattle.lert_bay.specs.Files.{Files, Turns, Changes, Holds, padded, IsOutside, Torn, LeftByFailure}
 use Rattle.lert_bay.specs.Images.{ComesByWrite, Follow, Elapses}
+use Rattle.lert_bay.specs.Kept.{Bays, KeepsBay}
 use Rattle.lert_bay.specs.Settled.{part}
 use Rattle.lert_bay.proofs.Laid.{length_held, elsewhere_held}
-use Rattle.lert_bay.proofs.Lasting.{lasts_none, lasts_more, lasts_on}
+use Rattle.lert_bay.proofs.KeptLaws.{IsLawful}
 use Rattle.lert_bay.proofs.Settling.{part_torn, part_at, length_part}
 use Rattle.lert_bay.proofs.Tearing.{comes_same, torn_held}
 use Rattle.lert_frames.specs.Kept.{Wrote, KeepsOutside}
@@ -97,7 +98,8 @@ torn_on at count more old middle new one two = record {
 }
 
 -- a write, and one behind it that failed
-pub left_on : (at more : ℕ) (first old middle new : List ℕ) → Holds at first old middle → LeftByFailure (at + length first) more middle new → LeftByFailure at (length first + more) old new
+pub left_on : (at more : ℕ) (first old middle new : List ℕ) → Holds at first old middle → LeftByFailure (at + length first) more middle new →
+    LeftByFailure at (length first + more) old new
 left_on at more first old middle new one two =
     let torn = torn_on at (length first) more old middle new (torn_held at first old middle one) two.torn in
     record {
@@ -109,16 +111,19 @@ left_on at more first old middle new one two =
 
 -- ---- all files
 
-changes_on : (file : ℕ) (one two both : List ℕ → List ℕ → Type 0) (old middle new : Files) → ((a b c : List ℕ) → one a b → two b c → both a c) → Changes one file old middle → Changes two file middle new → Changes both file old new
+changes_on : (file : ℕ) (one two both : List ℕ → List ℕ → Type 0) (old middle new : Files) → ((a b c : List ℕ) → one a b → two b c → both a c) → Changes one file old middle →
+    Changes two file middle new → Changes both file old new
 changes_on file one two both old middle new join first second = record {
   here = join (old file) (middle file) (new file) first.here second.here;
   others = λ other apart. second.others other apart ∙ first.others other apart;
 }
 
-changes_weaker : (file : ℕ) (step weaker : List ℕ → List ℕ → Type 0) (old new : Files) → ((a b : List ℕ) → step a b → weaker a b) → Changes step file old new → Changes weaker file old new
+changes_weaker : (file : ℕ) (step weaker : List ℕ → List ℕ → Type 0) (old new : Files) → ((a b : List ℕ) → step a b → weaker a b) → Changes step file old new →
+    Changes weaker file old new
 changes_weaker file step weaker old new follows changed = record { here = follows (old file) (new file) changed.here; others = changed.others }
 
-pub turns_on : (file : ℕ) (one two both : List ℕ → List ℕ → Type 0) (before middle after : Option Files) → ((a b c : List ℕ) → one a b → two b c → both a c) → Turns (Changes one file) before middle → Turns (Changes two file) middle after → Turns (Changes both file) before after
+pub turns_on : (file : ℕ) (one two both : List ℕ → List ℕ → Type 0) (before middle after : Option Files) → ((a b c : List ℕ) → one a b → two b c → both a c) →
+    Turns (Changes one file) before middle → Turns (Changes two file) middle after → Turns (Changes both file) before after
 turns_on file one two both before middle after join first second = record {
   told = λ old told.
       let then = first.told old told in
@@ -127,7 +132,8 @@ turns_on file one two both before middle after join first second = record {
   untold = λ untold. second.untold (first.untold untold);
 }
 
-pub turns_weaker : (file : ℕ) (step weaker : List ℕ → List ℕ → Type 0) (before after : Option Files) → ((a b : List ℕ) → step a b → weaker a b) → Turns (Changes step file) before after → Turns (Changes weaker file) before after
+pub turns_weaker : (file : ℕ) (step weaker : List ℕ → List ℕ → Type 0) (before after : Option Files) → ((a b : List ℕ) → step a b → weaker a b) →
+    Turns (Changes step file) before after → Turns (Changes weaker file) before after
 turns_weaker file step weaker before after follows turned = record {
   told = λ old told. let then = turned.told old told in (then.0, then.1, changes_weaker file step weaker old then.0 follows then.2);
   untold = turned.untold;
@@ -139,68 +145,70 @@ comes_wider : (leaves : Files → Type 0) (file at count more : ℕ) (image : Fi
 comes_wider leaves file at count more image fewer came =
     (came.0, came.1, changes_weaker file (Torn at count) (Torn at more) came.0 image (λ a b torn. torn_wider at count more a b fewer torn) came.2)
 
-comes_on : (first middle : Files → Type 0) (file at count next more : ℕ) (image : Files) → next ≡ at + count → ((earlier : Files) → middle earlier → ComesByWrite first file at count earlier) → ComesByWrite middle file next more image → ComesByWrite first file at (count + more) image
+comes_on : (first middle : Files → Type 0) (file at count next more : ℕ) (image : Files) → next ≡ at + count →
+    ((earlier : Files) → middle earlier → ComesByWrite first file at count earlier) → ComesByWrite middle file next more image → ComesByWrite first file at (count + more) image
 comes_on first middle file at count next more image next_is before came =
-    let earlier = before came.0 came.1 in
-    (earlier.0, earlier.1, changes_on file (Torn at count) (Torn next more) (Torn at (count + more)) earlier.0 came.0 image (λ a b c one two. torn_on at count more a b c one (subst (λ (n : ℕ). Torn n more b c) next_is two)) earlier.2 came.2)
+    let earlier = before came.0 came.1 in (
+      earlier.0,
+      earlier.1,
+      changes_on file (Torn at count) (Torn next more) (Torn at (count + more)) earlier.0 came.0 image
+          (λ a b c one two. torn_on at count more a b c one (subst (λ (n : ℕ). Torn n more b c) next_is two)) earlier.2 came.2,
+    )
 
--- one write
-pub wrote_once : (step : List ℕ → List ℕ → Type 0) (file at count : ℕ) (files_before files_after : Option Files) (leaves_before leaves_after : Files → Type 0) (first last : ℕ) (since_before since_after : ℕ → Files → Type 0) →
-    ((image : Files) → since_before first image → leaves_before image) → Turns (Changes step file) files_before files_after → Follow (Changes (Torn at count) file) leaves_before leaves_after → Elapses first last since_before since_after leaves_after →
-    Wrote step file at count files_before files_after leaves_before leaves_after first last since_before since_after
-wrote_once step file at count files_before files_after leaves_before leaves_after first last since_before since_after only_now turned follow elapsed = record {
-  seen = turned;
-  images = follow.comes;
-  moments = λ image since. elim (elapsed.known first image (omega arith) since) [
-    | inl past ↦ comes_same leaves_before file at count image (only_now image past)
-    | inr now ↦ follow.comes image now
-  ];
-  time = lasts_more first first last since_before since_before since_after leaves_after (lasts_none first since_before) elapsed;
-}
+module _ {B : Type 0} (bays : Bays B) where
+  -- one write
+  pub wrote_once : IsLawful bays → (step : List ℕ → List ℕ → Type 0) (file at count : ℕ) (before after : B) →
+      Turns (Changes step file) (bays.files before) (bays.files after) → Follow (Changes (Torn at count) file) (bays.leaves before) (bays.leaves after) →
+      Elapses (bays.moment before) (bays.moment after) (bays.left_since before) (bays.left_since after) (bays.leaves after) →
+      Wrote bays step file at count before after
+  wrote_once lawful step file at count before after turned follow elapsed = record {
+    seen = turned;
+    images = follow.comes;
+    moments = λ image since. elim (elapsed.known (bays.moment before) image (omega arith) since) [
+      | inl past ↦ comes_same (bays.leaves before) file at count image (lawful.only_now before image past)
+      | inr now ↦ follow.comes image now
+    ];
+  }
 
--- a longer range, and less said of the step
-pub wrote_wider : (step weaker : List ℕ → List ℕ → Type 0) (file at count more : ℕ) (files_before files_after : Option Files) (leaves_before leaves_after : Files → Type 0) (first last : ℕ) (since_before since_after : ℕ → Files → Type 0) →
-    ((a b : List ℕ) → step a b → weaker a b) → count ≤ more → Wrote step file at count files_before files_after leaves_before leaves_after first last since_before since_after →
-    Wrote weaker file at more files_before files_after leaves_before leaves_after first last since_before since_after
-wrote_wider step weaker file at count more files_before files_after leaves_before leaves_after first last since_before since_after follows fewer wrote = record {
-  seen = turns_weaker file step weaker files_before files_after follows wrote.seen;
-  images = λ image now. comes_wider leaves_before file at count more image fewer (wrote.images image now);
-  moments = λ image since. comes_wider leaves_before file at count more image fewer (wrote.moments image since);
-  time = wrote.time;
-}
+  -- a longer range, and less said of the step
+  pub wrote_wider : (step weaker : List ℕ → List ℕ → Type 0) (file at count more : ℕ) (before after : B) →
+      ((a b : List ℕ) → step a b → weaker a b) → count ≤ more → Wrote bays step file at count before after → Wrote bays weaker file at more before after
+  wrote_wider step weaker file at count more before after follows fewer wrote = record {
+    seen = turns_weaker file step weaker (bays.files before) (bays.files after) follows wrote.seen;
+    images = λ image now. comes_wider (bays.leaves before) file at count more image fewer (wrote.images image now);
+    moments = λ image since. comes_wider (bays.leaves before) file at count more image fewer (wrote.moments image since);
+  }
 
--- writes, and others right behind them
-pub wrote_on : (one two both : List ℕ → List ℕ → Type 0) (file at count next more : ℕ) (files_first files_middle files_last : Option Files) (leaves_first leaves_middle leaves_last : Files → Type 0) (first middle last : ℕ) (since_first since_middle since_last : ℕ → Files → Type 0) →
-    next ≡ at + count → ((a b c : List ℕ) → one a b → two b c → both a c) → ((t u : ℕ) (image : Files) → t ≤ u → since_last u image → since_last t image) →
-    Wrote one file at count files_first files_middle leaves_first leaves_middle first middle since_first since_middle →
-    Wrote two file next more files_middle files_last leaves_middle leaves_last middle last since_middle since_last →
-    Wrote both file at (count + more) files_first files_last leaves_first leaves_last first last since_first since_last
-wrote_on one two both file at count next more files_first files_middle files_last leaves_first leaves_middle leaves_last first middle last since_first since_middle since_last next_is join earlier before behind = record {
-  seen = turns_on file one two both files_first files_middle files_last join before.seen behind.seen;
-  images = λ image now. comes_on leaves_first leaves_middle file at count next more image next_is before.images (behind.images image now);
-  moments = λ image since. elim (behind.time.known first image before.time.later since) [
-    | inl past ↦ comes_wider leaves_first file at count (count + more) image (omega arith) (before.moments image past)
-    | inr later ↦ comes_on leaves_first leaves_middle file at count next more image next_is before.images (behind.moments image later)
-  ];
-  time = lasts_on first middle last since_first since_middle since_last before.time behind.time earlier;
-}
+  -- writes, and others right behind them
+  pub wrote_on : (one two both : List ℕ → List ℕ → Type 0) (file at count next more : ℕ) (before between after : B) (First Then : Type 0) →
+      next ≡ at + count → ((a b c : List ℕ) → one a b → two b c → both a c) → KeepsBay bays before between First → KeepsBay bays between after Then →
+      Wrote bays one file at count before between → Wrote bays two file next more between after → Wrote bays both file at (count + more) before after
+  wrote_on one two both file at count next more before between after First Then next_is join kept kept_then first second = record {
+    seen = turns_on file one two both (bays.files before) (bays.files between) (bays.files after) join first.seen second.seen;
+    images = λ image now. comes_on (bays.leaves before) (bays.leaves between) file at count next more image next_is first.images (second.images image now);
+    moments = λ image since. elim (kept_then.time.known (bays.moment before) image kept.time.later since) [
+      | inl past ↦ comes_wider (bays.leaves before) file at count (count + more) image (omega arith) (first.moments image past)
+      | inr later ↦ comes_on (bays.leaves before) (bays.leaves between) file at count next more image next_is first.images (second.moments image later)
+    ];
+  }
 
--- ---- what stays settled, and what stands in the range
+  -- what is settled outside of the range stays settled
+  pub kept_outside : (step : List ℕ → List ℕ → Type 0) (file at count end : ℕ) (before after : B) (seen : Files) →
+      at + count ≤ end → Wrote bays step file at count before after → KeepsOutside bays before after seen file at end
+  kept_outside step file at count end before after seen within wrote number from to clear settled image since =
+      let came = wrote.moments image since in
+      elim (cases_eq number file) [
+        | inr other ↦ ap (λ bytes. part bytes from to) (came.2.others number other) ∙ settled.same came.0 came.1
+        | inl same ↦ part_torn at count (came.0 number) (image number) (seen number) from to (subst (λ (n : ℕ). Torn at count (came.0 n) (image n)) (sym same) came.2.here)
+            (settled.same came.0 came.1) settled.within (beside same clear)
+      ]
+    where
+      beside : number ≡ file → (number ≢ file) ⊎ ((to ≤ at) ⊎ (end ≤ from)) → (to ≤ at) ⊎ (at + count ≤ from)
+      beside same (inl other) = absurd (other same)
+      beside same (inr (inl before)) = inl before
+      beside same (inr (inr behind)) = inr (omega (arith, within, behind))
 
--- what is settled outside of the range stays settled
-pub kept_outside : (step : List ℕ → List ℕ → Type 0) (file at count end : ℕ) (files_before files_after : Option Files) (leaves_before leaves_after : Files → Type 0) (first last : ℕ) (since_before since_after : ℕ → Files → Type 0) (seen : Files) →
-    at + count ≤ end → Wrote step file at count files_before files_after leaves_before leaves_after first last since_before since_after → KeepsOutside leaves_before (since_after first) seen file at end
-kept_outside step file at count end files_before files_after leaves_before leaves_after first last since_before since_after seen within wrote number from to clear settled image since =
-    let came = wrote.moments image since in
-    elim (cases_eq number file) [
-      | inr other ↦ ap (λ bytes. part bytes from to) (came.2.others number other) ∙ settled.same came.0 came.1
-      | inl same ↦ part_torn at count (came.0 number) (image number) (seen number) from to (subst (λ (n : ℕ). Torn at count (came.0 n) (image n)) (sym same) came.2.here) (settled.same came.0 came.1) settled.within (beside same clear)
-    ]
-  where
-    beside : number ≡ file → (number ≢ file) ⊎ ((to ≤ at) ⊎ (end ≤ from)) → (to ≤ at) ⊎ (at + count ≤ from)
-    beside same (inl other) = absurd (other same)
-    beside same (inr (inl before)) = inl before
-    beside same (inr (inr behind)) = inr (omega (arith, within, behind))
+-- ---- what stands in the range
 
 -- the bytes that were laid over a file are there
 pub held_there : (at : ℕ) (bytes old new : List ℕ) → Holds at bytes old new → part new at (at + length bytes) ≡ bytes
@@ -210,7 +218,8 @@ held_there at bytes old new held =
     part_at new at (at + length bytes) k (omega (arith, below, long)) ∙ inside_held at bytes old new held k (omega (arith, below, long)))
 
 -- a bay that tells its files after calls told them before
-pub turns_back : (step : Files → Files → Type 0) (before after : Option Files) (new : Files) → Turns step before after → after ≡ Some new → (old : Files) × (before ≡ Some old) × step old new
+pub turns_back : (step : Files → Files → Type 0) (before after : Option Files) (new : Files) → Turns step before after → after ≡ Some new →
+    (old : Files) × (before ≡ Some old) × step old new
 turns_back step None after new turned told = absurd (none-some new (sym (turned.untold refl) ∙ told))
 turns_back step (Some old) after new turned told =
     let then = turned.told old refl in
@@ -230,6 +239,10 @@ either_way P A B (Err _) ok err from_ok from_err = from_err err
 pub on_ok : {T E : Type 0} (P Q : Type 0) (result : Result T E) → OnOk result P → (P → Q) → OnOk result Q
 on_ok P Q (Ok _) held follows = follows held
 on_ok P Q (Err _) held follows = tt
+
+pub on_err_from : {T E : Type 0} (P Q : Type 0) (result : Result T E) → OnErr result P → (P → Q) → OnErr result Q
+on_err_from P Q (Ok _) held follows = tt
+on_err_from P Q (Err _) held follows = follows held
 
 -- an error is the same in any result
 pub same_err : {T U E : Type 0} (x y : E) → IsErrOf {T = T} {E = E} (Err x) y → IsErrOf {T = U} {E = E} (Err x) y

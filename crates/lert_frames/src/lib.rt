@@ -8,13 +8,13 @@
 mod bin;
 mod fault;
 mod lay;
-mod loading;
+mod pieces;
 mod place;
-mod read;
-mod storing;
+mod reader;
+mod writer;
 
 pub use bin::LoadedBin;
 pub use fault::LoadFault;
-pub use loading::load;
 pub use place::frame_place;
-pub use storing::store;
+pub use reader::load;
+pub use writer::store;

@@ -26,7 +26,8 @@ open_or_closed most bytes gate payload stands closed = closed.shut stands.opened
 pub whole_or_broken : (most : ℕ) (bytes : List ℕ) (gate at : ℕ) (payload : List ℕ) → IsOpen most bytes gate payload → BreaksAt most bytes gate at → ⊥
 whole_or_broken most bytes gate at payload stands (inl (at_is, No_gate past)) = gate_within bytes gate stands.opened past
 whole_or_broken most bytes gate at payload stands (inl (at_is, Cut_length one within cut)) = absurd (omega (arith, cut, record_within most bytes gate payload stands))
-whole_or_broken most bytes gate at payload stands (inl (at_is, Cut_payload one some fits whole cut)) = absurd (omega (arith, cut, stands.counted, record_within most bytes gate payload stands))
+whole_or_broken most bytes gate at payload stands (inl (at_is, Cut_payload one some fits whole cut)) =
+    absurd (omega (arith, cut, stands.counted, record_within most bytes gate payload stands))
 whole_or_broken most bytes gate at payload stands (inr (at_is, miscounted)) = elim miscounted.wrong [
   | inl none ↦ absurd (omega (arith, none, stands.counted, stands.some))
   | inr many ↦ absurd (omega (arith, many, stands.counted, stands.fits))
@@ -56,10 +57,13 @@ one_place most bytes gate at other (inr (at_is, miscounted)) (inl (other_is, cut
 one_place most bytes gate at other (inr (at_is, miscounted)) (inr (other_is, miscounted_too)) = at_is ∙ sym other_is
 
 -- the open records of a file are one list, which ends at one gate
-pub one_list : (most : ℕ) (bytes : List ℕ) (first : ℕ) (one other : List (List ℕ)) (end too : ℕ) → IsGated most bytes first one end → IsGated most bytes first other too → (one ≡ other) × (end ≡ too)
+pub one_list : (most : ℕ) (bytes : List ℕ) (first : ℕ) (one other : List (List ℕ)) (end too : ℕ) → IsGated most bytes first one end → IsGated most bytes first other too →
+    (one ≡ other) × (end ≡ too)
 one_list most bytes first [] [] end too a b = (refl, a.records ∙ sym b.records)
-one_list most bytes first [] (payload ∷ rest) end too a b = absurd (open_or_closed most bytes first payload b.records.0 (subst (λ (gate : ℕ). IsClosed bytes gate) a.records a.closed))
-one_list most bytes first (payload ∷ rest) [] end too a b = absurd (open_or_closed most bytes first payload a.records.0 (subst (λ (gate : ℕ). IsClosed bytes gate) b.records b.closed))
+one_list most bytes first [] (payload ∷ rest) end too a b = absurd
+    (open_or_closed most bytes first payload b.records.0 (subst (λ (gate : ℕ). IsClosed bytes gate) a.records a.closed))
+one_list most bytes first (payload ∷ rest) [] end too a b = absurd
+    (open_or_closed most bytes first payload a.records.0 (subst (λ (gate : ℕ). IsClosed bytes gate) b.records b.closed))
 one_list most bytes first (payload ∷ rest) (second ∷ others) end too a b =
     let same = one_payload most bytes first payload second a.records.0 b.records.0 in
     let behind = one_list most bytes (next_gate first payload) rest others end too

@@ -38,7 +38,8 @@ pub part_within : (bytes xs : List ℕ) (from to : ℕ) → part bytes from to �
 part_within bytes xs from to is end some = omega (arith, ap length is, length-drop from (take to bytes), length-take to bytes, end, some)
 
 -- a part of a part
-pub part_of_part : (bytes xs : List ℕ) (from to a b x y : ℕ) → part bytes from to ≡ xs → to ≡ from + length xs → 0 < length xs → a ≤ b → b ≤ length xs → x ≡ from + a → y ≡ from + b → part bytes x y ≡ part xs a b
+pub part_of_part : (bytes xs : List ℕ) (from to a b x y : ℕ) → part bytes from to ≡ xs → to ≡ from + length xs → 0 < length xs → a ≤ b → b ≤ length xs → x ≡ from + a →
+    y ≡ from + b → part bytes x y ≡ part xs a b
 part_of_part bytes xs from to a b x y is end some order within x_is y_is =
     let long : to ≤ length bytes = part_within bytes xs from to is end some in
     let left : length (part bytes x y) ≡ b - a = length_part bytes x y (omega (arith, long, end, within, y_is)) ∙ omega (arith, x_is, y_is) in
@@ -61,10 +62,12 @@ byte_of_part bytes xs from to k is end within = sym (part_at bytes from to k (om
 open_kept : (most gate end : ℕ) (payload old new : List ℕ) → IsOpen most old gate payload → next_gate gate payload ≤ end → Agree end old new → IsOpen most new gate payload
 open_kept most gate end payload old new open_record below agree = record {
   opened = agree.same gate (omega (arith, below)) ∙ open_record.opened;
-  counted = ap (little_number 4) (part_same new old (gate + 1) (gate + 5) (omega (arith, agree.new_long, below)) (omega (arith, agree.old_long, below)) (λ place from to. agree.same place (omega (arith, to, below)))) ∙ open_record.counted;
+  counted = ap (little_number 4) (part_same new old (gate + 1) (gate + 5) (omega (arith, agree.new_long, below)) (omega (arith, agree.old_long, below))
+      (λ place from to. agree.same place (omega (arith, to, below)))) ∙ open_record.counted;
   some = open_record.some;
   fits = open_record.fits;
-  there = part_same new old (gate + 5) (next_gate gate payload) (omega (arith, agree.new_long, below)) (omega (arith, agree.old_long, below)) (λ place from to. agree.same place (omega (arith, to, below))) ∙ open_record.there;
+  there = part_same new old (gate + 5) (next_gate gate payload) (omega (arith, agree.new_long, below)) (omega (arith, agree.old_long, below))
+      (λ place from to. agree.same place (omega (arith, to, below))) ∙ open_record.there;
 }
 
 -- records go on from their first gate
@@ -72,7 +75,8 @@ pub records_ascend : (most first : ℕ) (payloads : List (List ℕ)) (bytes : Li
 records_ascend most first [] bytes end records = omega (arith, records)
 records_ascend most first (payload ∷ rest) bytes end records = omega (arith, records_ascend most (next_gate first payload) rest bytes end records.1)
 
-records_kept : (most first : ℕ) (payloads : List (List ℕ)) (old new : List ℕ) (end : ℕ) → Records most old first payloads end → Agree end old new → Records most new first payloads end
+records_kept : (most first : ℕ) (payloads : List (List ℕ)) (old new : List ℕ) (end : ℕ) → Records most old first payloads end → Agree end old new →
+    Records most new first payloads end
 records_kept most first [] old new end records agree = records
 records_kept most first (payload ∷ rest) old new end records agree = (
   open_kept most first end payload old new records.0 (records_ascend most (next_gate first payload) rest old end records.1) agree,
@@ -80,7 +84,8 @@ records_kept most first (payload ∷ rest) old new end records agree = (
 )
 
 -- one record more
-records_more : (most first : ℕ) (payloads : List (List ℕ)) (payload bytes : List ℕ) (gate : ℕ) → Records most bytes first payloads gate → IsOpen most bytes gate payload → Records most bytes first (payloads ++ payload ∷ []) (next_gate gate payload)
+records_more : (most first : ℕ) (payloads : List (List ℕ)) (payload bytes : List ℕ) (gate : ℕ) → Records most bytes first payloads gate → IsOpen most bytes gate payload →
+    Records most bytes first (payloads ++ payload ∷ []) (next_gate gate payload)
 records_more most first [] payload bytes gate records open_record =
     (subst (λ (g : ℕ). IsOpen most bytes g payload) records open_record, ap (λ g. next_gate g payload) records)
 records_more most first (one ∷ rest) payload bytes gate records open_record = (records.0, records_more most (next_gate first one) rest payload bytes gate records.1 open_record)
@@ -88,7 +93,8 @@ records_more most first (one ∷ rest) payload bytes gate records open_record = 
 -- ---- the first write of an append
 
 -- behind the closed gate any bytes may stand
-pub gated_behind : (most first : ℕ) (payloads : List (List ℕ)) (gate count : ℕ) (old new : List ℕ) → IsGated most old first payloads gate → Torn (gate + 1) count old new → IsGated most new first payloads gate
+pub gated_behind : (most first : ℕ) (payloads : List (List ℕ)) (gate count : ℕ) (old new : List ℕ) → IsGated most old first payloads gate → Torn (gate + 1) count old new →
+    IsGated most new first payloads gate
 gated_behind most first payloads gate count old new gated torn =
     let agree : Agree (gate + 1) old new = torn_agrees (gate + 1) count (gate + 1) old new torn (omega arith) (omega (arith, gated.closed.within)) in
     record {
@@ -124,27 +130,33 @@ body_back payload =
 
 number_back : (payload : List ℕ) → length payload < 4294967296 → little_number 4 (part (appendix payload) 0 4) ≡ length payload
 number_back payload small =
-    ap (little_number 4) (take-append-le 4 (body payload) (0 ∷ []) (omega (arith, length_body payload)) ∙ take_at (little_bytes 4 (length payload)) payload 4 (length-bytes_low_first 0 4 (length payload)))
+    ap (little_number 4) (take-append-le 4 (body payload) (0 ∷ []) (omega (arith, length_body payload)) ∙ take_at (little_bytes 4 (length payload)) payload 4
+    (length-bytes_low_first 0 4 (length payload)))
     ∙ (ap (little_number 4) (sym (append-nil (little_bytes 4 (length payload)))) ∙ little_number-reads_back 4 (length payload) [] small)
 
 -- a text with it behind an open gate has the record there
-pub open_there : (most gate : ℕ) (payload bytes : List ℕ) → part bytes (gate + 1) (gate + 1 + length (appendix payload)) ≡ appendix payload → get_or bytes gate 0 ≡ 1 → 0 < length payload → length payload ≤ most → length payload < 4294967296 → IsOpen most bytes gate payload
+pub open_there : (most gate : ℕ) (payload bytes : List ℕ) → part bytes (gate + 1) (gate + 1 + length (appendix payload)) ≡ appendix payload → get_or bytes gate 0 ≡ 1 →
+    0 < length payload → length payload ≤ most → length payload < 4294967296 → IsOpen most bytes gate payload
 open_there most gate payload bytes is one some fits small =
     let long = length_appendix payload in
     record {
       opened = one;
-      counted = ap (little_number 4) (part_of_part bytes (appendix payload) (gate + 1) (gate + 1 + length (appendix payload)) 0 4 (gate + 1) (gate + 5) is refl (omega (arith, long)) (omega arith) (omega (arith, long)) (omega arith) (omega arith)) ∙ number_back payload small;
+      counted = ap (little_number 4) (part_of_part bytes (appendix payload) (gate + 1) (gate + 1 + length (appendix payload)) 0 4 (gate + 1) (gate + 5) is refl
+          (omega (arith, long)) (omega arith) (omega (arith, long)) (omega arith) (omega arith)) ∙ number_back payload small;
       some = some;
       fits = fits;
-      there = part_of_part bytes (appendix payload) (gate + 1) (gate + 1 + length (appendix payload)) 4 (4 + length payload) (gate + 5) (next_gate gate payload) is refl (omega (arith, long)) (omega arith) (omega (arith, long)) (omega arith) (omega arith) ∙ body_back payload;
+      there = part_of_part bytes (appendix payload) (gate + 1) (gate + 1 + length (appendix payload)) 4 (4 + length payload) (gate + 5) (next_gate gate payload) is refl
+          (omega (arith, long)) (omega arith) (omega (arith, long)) (omega arith) (omega arith) ∙ body_back payload;
     }
 
 -- and, whatever the gate is, a closed gate behind it
 pub closed_there : (gate : ℕ) (payload bytes : List ℕ) → part bytes (gate + 1) (gate + 1 + length (appendix payload)) ≡ appendix payload → IsClosed bytes (next_gate gate payload)
 closed_there gate payload bytes is =
     let long = length_appendix payload in
-    let within : gate + 1 + length (appendix payload) ≤ length bytes = part_within bytes (appendix payload) (gate + 1) (gate + 1 + length (appendix payload)) is refl (omega (arith, long)) in
-    let zero_byte : get_or bytes (gate + 1 + (4 + length payload)) 0 ≡ 0 = byte_of_part bytes (appendix payload) (gate + 1) (gate + 1 + length (appendix payload)) (4 + length payload) is refl (omega (arith, long)) ∙ get_or_at (body payload) 0 [] 0 (4 + length payload) (length_body payload) in
+    let within : gate + 1 + length (appendix payload) ≤ length bytes = part_within bytes (appendix payload) (gate + 1) (gate + 1 + length (appendix payload)) is refl
+    (omega (arith, long)) in
+    let zero_byte : get_or bytes (gate + 1 + (4 + length payload)) 0 ≡ 0 = byte_of_part bytes (appendix payload) (gate + 1) (gate + 1 + length (appendix payload))
+    (4 + length payload) is refl (omega (arith, long)) ∙ get_or_at (body payload) 0 [] 0 (4 + length payload) (length_body payload) in
     let here : get_or bytes (next_gate gate payload) 0 ≡ 0 = ap (λ n. get_or bytes n 0) (omega arith) ∙ zero_byte in
     record {
       within = omega (arith, within, long);
@@ -154,7 +166,8 @@ closed_there gate payload bytes is =
 -- bytes laid over a file stand there
 pub held_part : (at : ℕ) (piece old new : List ℕ) → Holds at piece old new → part new at (at + length piece) ≡ piece
 held_part at piece old new held =
-    let front : length (take at (padded old at)) ≡ at = length-take-le at (padded old at) (omega (arith, length-append old (replicate {A = ℕ} (at - length old) 0), length-replicate {A = ℕ} (at - length old) 0)) in
+    let front : length (take at (padded old at)) ≡ at = length-take-le at (padded old at)
+    (omega (arith, length-append old (replicate {A = ℕ} (at - length old) 0), length-replicate {A = ℕ} (at - length old) 0)) in
     let both : length (take at (padded old at) ++ piece) ≡ at + length piece = length-append (take at (padded old at)) piece ∙ ap (λ n. n + length piece) front in
     ap (λ bytes. part bytes at (at + length piece)) held
     ∙ (ap (drop at) (take_at (take at (padded old at) ++ piece) (drop (at + length piece) old) (at + length piece) both)
@@ -163,23 +176,30 @@ held_part at piece old new held =
 -- ---- the second write
 
 -- what is behind the gate stays
-behind_kept : (gate : ℕ) (payload old new : List ℕ) → part old (gate + 1) (gate + 1 + length (appendix payload)) ≡ appendix payload → Torn gate 1 old new → part new (gate + 1) (gate + 1 + length (appendix payload)) ≡ appendix payload
+behind_kept : (gate : ℕ) (payload old new : List ℕ) → part old (gate + 1) (gate + 1 + length (appendix payload)) ≡ appendix payload → Torn gate 1 old new →
+    part new (gate + 1) (gate + 1 + length (appendix payload)) ≡ appendix payload
 behind_kept gate payload old new is torn =
-    let within : gate + 1 + length (appendix payload) ≤ length old = part_within old (appendix payload) (gate + 1) (gate + 1 + length (appendix payload)) is refl (omega (arith, length_appendix payload)) in
+    let within : gate + 1 + length (appendix payload) ≤ length old = part_within old (appendix payload) (gate + 1) (gate + 1 + length (appendix payload)) is refl
+    (omega (arith, length_appendix payload)) in
     part_torn gate 1 old new old (gate + 1) (gate + 1 + length (appendix payload)) torn refl within (inr (omega arith)) ∙ is
 
 -- with the gate open the record counts
-pub gated_with : (most first : ℕ) (payloads : List (List ℕ)) (gate : ℕ) (payload old new : List ℕ) → IsGated most old first payloads gate → part old (gate + 1) (gate + 1 + length (appendix payload)) ≡ appendix payload → 0 < length payload → length payload ≤ most → length payload < 4294967296 → Torn gate 1 old new → get_or new gate 0 ≡ 1 → IsGated most new first (payloads ++ payload ∷ []) (next_gate gate payload)
+pub gated_with : (most first : ℕ) (payloads : List (List ℕ)) (gate : ℕ) (payload old new : List ℕ) → IsGated most old first payloads gate →
+    part old (gate + 1) (gate + 1 + length (appendix payload)) ≡ appendix payload → 0 < length payload → length payload ≤ most → length payload < 4294967296 →
+    Torn gate 1 old new → get_or new gate 0 ≡ 1 → IsGated most new first (payloads ++ payload ∷ []) (next_gate gate payload)
 gated_with most first payloads gate payload old new gated is some fits small torn one =
     let agree : Agree gate old new = torn_agrees gate 1 gate old new torn (omega arith) (omega (arith, gated.closed.within)) in
     let there = behind_kept gate payload old new is torn in
     record {
-      records = records_more most first payloads payload new gate (records_kept most first payloads old new gate gated.records agree) (open_there most gate payload new there one some fits small);
+      records = records_more most first payloads payload new gate (records_kept most first payloads old new gate gated.records agree)
+          (open_there most gate payload new there one some fits small);
       closed = closed_there gate payload new there;
     }
 
 -- with or without it
-pub gated_either : (most first : ℕ) (payloads : List (List ℕ)) (gate : ℕ) (payload old new : List ℕ) → IsGated most old first payloads gate → part old (gate + 1) (gate + 1 + length (appendix payload)) ≡ appendix payload → 0 < length payload → length payload ≤ most → length payload < 4294967296 → Torn gate 1 old new → IsWithOrWithout most first payloads gate payload new
+pub gated_either : (most first : ℕ) (payloads : List (List ℕ)) (gate : ℕ) (payload old new : List ℕ) → IsGated most old first payloads gate →
+    part old (gate + 1) (gate + 1 + length (appendix payload)) ≡ appendix payload → 0 < length payload → length payload ≤ most → length payload < 4294967296 →
+    Torn gate 1 old new → IsWithOrWithout most first payloads gate payload new
 gated_either most first payloads gate payload old new gated is some fits small torn =
     let agree : Agree gate old new = torn_agrees gate 1 gate old new torn (omega arith) (omega (arith, gated.closed.within)) in
     elim (cases_eq (get_or new gate 0) 1) [
@@ -192,7 +212,9 @@ gated_either most first payloads gate payload old new gated is some fits small t
 
 -- after a whole write of the gate
 pub gate_held : (gate : ℕ) (old new : List ℕ) → Holds gate (1 ∷ []) old new → get_or new gate 0 ≡ 1
-gate_held gate old new held = ap (λ n. get_or new n 0) (omega arith) ∙ byte_of_part new (1 ∷ []) gate (gate + length {A = ℕ} (1 ∷ [])) 0 (held_part gate (1 ∷ []) old new held) refl (omega arith)
+gate_held gate old new held = ap (λ n. get_or new n 0) (omega arith) ∙ byte_of_part new (1 ∷ []) gate (gate + length {A = ℕ} (1 ∷ [])) 0 (held_part gate (1 ∷ []) old new held)
+    refl (omega arith)
 
-pub closed_after : (gate : ℕ) (payload old new : List ℕ) → part old (gate + 1) (gate + 1 + length (appendix payload)) ≡ appendix payload → Torn gate 1 old new → IsClosed new (next_gate gate payload)
+pub closed_after : (gate : ℕ) (payload old new : List ℕ) → part old (gate + 1) (gate + 1 + length (appendix payload)) ≡ appendix payload → Torn gate 1 old new →
+    IsClosed new (next_gate gate payload)
 closed_after gate payload old new is torn = closed_there gate payload new (behind_kept gate payload old new is torn)

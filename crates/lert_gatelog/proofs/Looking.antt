@@ -8,9 +8,11 @@ use Rattle.lert_gatelog.specs.Gated.{IsAnnounced, IsOpen, IsClosed, BreaksAt, Cu
 use Rattle.lert_gatelog.proofs.GatedLaws.{part_of_part, byte_of_part}
 
 -- the front of a block of zero bytes with a header in it
-pub header_text : (header block : List ℕ) → length header < length block → ((k : ℕ) → get_or block k 0 ≡ 0) → take (length header + 1) (header ++ drop (length header) block) ≡ header ++ 0 ∷ []
+pub header_text : (header block : List ℕ) → length header < length block → ((k : ℕ) → get_or block k 0 ≡ 0) →
+    take (length header + 1) (header ++ drop (length header) block) ≡ header ++ 0 ∷ []
 header_text header block short zero_bytes =
-    let one : drop (length header) block ≡ 0 ∷ drop (length header + 1) block = drop_more block (length header) 0 short ∙ ap (λ x. x ∷ drop (length header + 1) block) (zero_bytes (length header)) in
+    let one : drop (length header) block ≡ 0 ∷ drop (length header + 1) block = drop_more block (length header) 0 short ∙ ap (λ x. x ∷ drop (length header + 1) block)
+    (zero_bytes (length header)) in
     ap (λ rest. take (length header + 1) (header ++ rest)) one
     ∙ (ap (take (length header + 1)) (sym (append_assoc header (0 ∷ []) (drop (length header + 1) block)))
     ∙ take_at (header ++ 0 ∷ []) (drop (length header + 1) block) (length header + 1) (length-append header (0 ∷ [])))
@@ -28,7 +30,8 @@ closed_text header bytes is = record {
 }
 
 -- five bytes that were read at a gate
-pub announced : (most gate read count : ℕ) (head bytes : List ℕ) → CopiesFrom gate read head bytes → 5 ≤ read → length head ≡ 5 → get_or head 0 0 ≡ 1 → count ≡ little_number 4 (take 4 (drop 1 head)) → IsAnnounced most bytes gate count
+pub announced : (most gate read count : ℕ) (head bytes : List ℕ) → CopiesFrom gate read head bytes → 5 ≤ read → length head ≡ 5 → get_or head 0 0 ≡ 1 →
+    count ≡ little_number 4 (take 4 (drop 1 head)) → IsAnnounced most bytes gate count
 announced most gate read count head bytes copied five long one number =
     let read_is : read ≡ 5 = omega (arith, copied.count_is, five, long) in
     let whole : gate + 5 ≤ length bytes = omega (arith, copied.count_is, five) in
@@ -44,7 +47,8 @@ announced most gate read count head bytes copied five long one number =
     }
 
 -- the payload that was read behind them
-pub opened : (most gate count read : ℕ) (payload into bytes : List ℕ) → IsAnnounced most bytes gate count → 0 < count → count ≤ most → CopiesFrom (gate + 5) read into bytes → length into ≡ count → count ≤ read → payload ≡ into → IsOpen most bytes gate payload
+pub opened : (most gate count read : ℕ) (payload into bytes : List ℕ) → IsAnnounced most bytes gate count → 0 < count → count ≤ most → CopiesFrom (gate + 5) read into bytes →
+    length into ≡ count → count ≤ read → payload ≡ into → IsOpen most bytes gate payload
 opened most gate count read payload into bytes said some fits copied long all is =
     let read_is : read ≡ count = omega (arith, copied.count_is, all, long) in
     let there : part bytes (gate + 5) (next_gate gate into) ≡ into =
@@ -60,9 +64,11 @@ opened most gate count read payload into bytes said some fits copied long all is
     })
 
 -- fewer bytes than the length says
-pub cut_payload : (most gate count read end at : ℕ) (into bytes : List ℕ) → IsAnnounced most bytes gate count → 0 < count → count ≤ most → CopiesFrom (gate + 5) read into bytes → length into ≡ count → read < count → end ≡ length bytes → end ≡ at → BreaksAt most bytes gate at
+pub cut_payload : (most gate count read end at : ℕ) (into bytes : List ℕ) → IsAnnounced most bytes gate count → 0 < count → count ≤ most →
+    CopiesFrom (gate + 5) read into bytes → length into ≡ count → read < count → end ≡ length bytes → end ≡ at → BreaksAt most bytes gate at
 cut_payload most gate count read end at into bytes said some fits copied long short end_is at_is =
     inl (
       sym at_is ∙ end_is,
-      Cut_payload said.opened (omega (arith, said.counted, some)) (omega (arith, said.counted, fits)) said.whole (omega (arith, said.counted, copied.count_is, long, short, said.whole)),
+      Cut_payload said.opened (omega (arith, said.counted, some)) (omega (arith, said.counted, fits)) said.whole
+          (omega (arith, said.counted, copied.count_is, long, short, said.whole)),
     )

@@ -34,7 +34,8 @@ pub record IsClosed (bytes : List ℕ) (gate : ℕ) : Type 0 where
 pub data IsCutShort (most : ℕ) (bytes : List ℕ) (gate : ℕ) : Type 0 where
   No_gate : length bytes ≤ gate → IsCutShort most bytes gate
   Cut_length : slice_index bytes gate ≡ 1 → gate < length bytes → length bytes < gate + 5 → IsCutShort most bytes gate
-  Cut_payload : slice_index bytes gate ≡ 1 → 0 < counted_at bytes gate → counted_at bytes gate ≤ most → gate + 5 ≤ length bytes → length bytes < gate + 5 + counted_at bytes gate → IsCutShort most bytes gate
+  Cut_payload : slice_index bytes gate ≡ 1 → 0 < counted_at bytes gate → counted_at bytes gate ≤ most → gate + 5 ≤ length bytes →
+      length bytes < gate + 5 + counted_at bytes gate → IsCutShort most bytes gate
 
 -- a whole length that no payload has
 pub record IsMiscounted (most : ℕ) (bytes : List ℕ) (gate : ℕ) : Type 0 where

@@ -1,3 +1,4 @@
 pub mod Gated
 pub mod Kept
 pub mod Looked
+pub mod Written

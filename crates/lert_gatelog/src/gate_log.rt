@@ -1,10 +1,8 @@
 //! A log of gated records on a bay.
 
-ghost use Rattle.std.specs.Prelude.{◌≡◌, ◌≢◌, ℕ, ◌+◌, ◌<◌, ◌≤◌, ◌^◌, List, [], ◌∷◌, ◌++◌, Some, None, Ok, length, take, IfOk, IfSome, IfNone, MatchOption, OnOk, OnErr, IsErrOf};
-ghost use Rattle.lert_io.specs.Fault.{HasCause, HasRisen};
-ghost use Rattle.lert_bay.specs.Files.{Files, IfTold, Turns, Changes, CopiesFrom};
-ghost use Rattle.lert_bay.specs.Images.{KeepsImages, Lasts};
-ghost use Rattle.lert_bay.specs.Kept.{OnlyRead};
+ghost use Rattle.std.specs.Prelude.{◌≡◌, ◌≢◌, ℕ, ◌+◌, ◌<◌, ◌≤◌, ◌^◌, List, [], ◌∷◌, ◌++◌, Some, None, Ok, length, take, IfOk, IfSome, IfNone, MatchOption, OnOk, OnErr, IsErr, IsErrOf};
+ghost use Rattle.lert_bay.specs.Files.{IfTold, Turns, Changes, CopiesFrom};
+ghost use Rattle.lert_bay.specs.Kept.{KeepsBay, OnlyReads};
 ghost use Rattle.lert_gatelog.specs.Looked.{Looked};
 ghost use Rattle.lert_gatelog.specs.Gated.{body, appendix, next_gate, IsOpen, IsClosed, BreaksAt, IsGated, IsAppendix, IsAnnounced};
 ghost use Rattle.lert_gatelog.specs.Kept.{InEach, KeepsOthers, KeepsBefore, IsWhollySettled, IsWithOrWithout, OthersStay, IsAppended};
@@ -22,8 +20,8 @@ mod tests;
 // The byte of an open gate.
 const OPEN: u8 = 1;
 
-/// The greatest length of a header.
-pub const MOST_HEADER: usize = 32;
+// The greatest length of a header.
+const MOST_HEADER: usize = 32;
 
 /// A place in a file of gated records: the gate that the next record stands at.
 #[derive(Clone, Copy, Debug, Drop)]
@@ -81,9 +79,7 @@ impl GateLog {
         ensures settled { OnOk result (IfTold (B.files bay.new) (λ seen. IsWhollySettled (B.leaves bay.new) seen file)) }
         ensures others { IfTold (B.files bay.old) (λ seen. KeepsOthers (B.leaves bay.old) (B.left_since bay.new (B.moment bay.old)) seen file) }
         ensures seen { Turns (OthersStay file) (B.files bay.old) (B.files bay.new) }
-        ensures time { Lasts (B.moment bay.old) (B.moment bay.new) (B.left_since bay.old) (B.left_since bay.new) }
-        ensures cause { HasCause (B.faults bay.old) (B.faults bay.new) result }
-        ensures mark { B.mark bay.new ≡ B.mark bay.old }
+        ensures kept { KeepsBay B.Bay bay.old bay.new (IsErr result) }
     {
         let mut text = [0; MOST_HEADER + 1];
         text[..header.len()].copy_from_slice(header);
@@ -118,9 +114,7 @@ impl GateLog {
         ensures before { IfTold (B.files bay.old) (λ seen. KeepsBefore (B.leaves bay.old) (B.left_since bay.new (B.moment bay.old)) seen self.old.file self.old.gate) }
         ensures others { IfTold (B.files bay.old) (λ seen. KeepsOthers (B.leaves bay.old) (B.left_since bay.new (B.moment bay.old)) seen self.old.file) }
         ensures seen { Turns (OthersStay self.old.file) (B.files bay.old) (B.files bay.new) }
-        ensures time { Lasts (B.moment bay.old) (B.moment bay.new) (B.left_since bay.old) (B.left_since bay.new) }
-        ensures cause { HasCause (B.faults bay.old) (B.faults bay.new) result }
-        ensures mark { B.mark bay.new ≡ B.mark bay.old }
+        ensures kept { KeepsBay B.Bay bay.old bay.new (IsErr result) }
     {
         // The record and the next closed gate come first: behind an open gate they would count.
         write_durably(bay, self.file, self.gate + 1, text)?;
@@ -150,13 +144,7 @@ impl GateLog {
         ensures counted { IfOk result (λ found. IfSome found (λ count. (0 < count) × (count ≤ self.old.most))) }
         ensures moved { IfOk result (λ found. MatchOption found (self.new ≡ self.old) (λ count. self.new ≡ record self.old { gate = self.old.gate + 5 + count })) }
         ensures stayed { OnErr result (self.new ≡ self.old) }
-        ensures seen { B.files bay.new ≡ B.files bay.old }
-        ensures images { KeepsImages (B.leaves bay.old) (B.leaves bay.new) }
-        ensures moments { (image : Files) → B.left_since bay.new (B.moment bay.old) image → B.leaves bay.old image }
-        ensures time { Lasts (B.moment bay.old) (B.moment bay.new) (B.left_since bay.old) (B.left_since bay.new) }
-        ensures never_falls { B.faults bay.old ≤ B.faults bay.new }
-        ensures failed { IsErrOf result LogFault.Failed → HasRisen (B.faults bay.old) (B.faults bay.new) }
-        ensures mark { B.mark bay.new ≡ B.mark bay.old }
+        ensures only_reads { OnlyReads B.Bay bay.old bay.new (IsErrOf result LogFault.Failed) }
     {
         let end = bay.len(self.file)?;
         let Some(count) = self.look(bay, end)? else {
@@ -175,10 +163,7 @@ impl GateLog {
         requires end { IfTold (B.files bay.old) (λ seen. end ≡ length (seen self.now.file)) }
         ensures looked { IfTold (B.files bay.old) (λ seen. Looked self.now.most (seen self.now.file) self.now.gate result) }
         ensures counted { IfOk result (λ found. IfSome found (λ count. (0 < count) × (count ≤ self.now.most))) }
-        ensures only_read { OnlyRead (B.files bay.old) (B.files bay.new) (B.leaves bay.old) (B.leaves bay.new) (B.moment bay.old) (B.moment bay.new) (B.left_since bay.old) (B.left_since bay.new) }
-        ensures never_falls { B.faults bay.old ≤ B.faults bay.new }
-        ensures failed { IsErrOf result LogFault.Failed → HasRisen (B.faults bay.old) (B.faults bay.new) }
-        ensures mark { B.mark bay.new ≡ B.mark bay.old }
+        ensures only_reads { OnlyReads B.Bay bay.old bay.new (IsErrOf result LogFault.Failed) }
     {
         let mut head = [0; 5];
         let read = bay.read_at(self.file, self.gate, &mut head)?;

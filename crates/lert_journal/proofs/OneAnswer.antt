@@ -13,7 +13,8 @@ use Rattle.lert_journal.specs.Payload.{payload_of, packet_in, left, IsJournaled}
 use Rattle.lert_journal.proofs.PayloadBack.{never_left, packet_back}
 
 -- a packet's payload leaves the format nowhere
-pub packet_or_left : (s : Numbers) (cone most : ℕ) (bytes : List ℕ) (gate at : ℕ) (packet : Packet) → HoldsPacket s cone most bytes gate packet → LeavesAt s cone most bytes gate at → ⊥
+pub packet_or_left : (s : Numbers) (cone most : ℕ) (bytes : List ℕ) (gate at : ℕ) (packet : Packet) → HoldsPacket s cone most bytes gate packet →
+    LeavesAt s cone most bytes gate at → ⊥
 packet_or_left s cone most bytes gate at packet holds (inl broken) = whole_or_broken most bytes gate at (payload_of packet) holds.stands broken
 packet_or_left s cone most bytes gate at packet holds (inr spoiled) =
     none-some spoiled.place
@@ -26,7 +27,8 @@ closed_or_left s cone most bytes gate at closed (inl broken) = closed_or_broken 
 closed_or_left s cone most bytes gate at closed (inr spoiled) = open_or_closed most bytes gate spoiled.payload spoiled.stands closed
 
 -- an open record leaves the format where its payload does
-pub left_by_payload : (s : Numbers) (cone most : ℕ) (bytes : List ℕ) (gate at : ℕ) (payload : List ℕ) → IsOpen most bytes gate payload → LeavesAt s cone most bytes gate at → left s cone payload ≡ None → ⊥
+pub left_by_payload : (s : Numbers) (cone most : ℕ) (bytes : List ℕ) (gate at : ℕ) (payload : List ℕ) → IsOpen most bytes gate payload → LeavesAt s cone most bytes gate at →
+    left s cone payload ≡ None → ⊥
 left_by_payload s cone most bytes gate at payload stands (inl broken) none = whole_or_broken most bytes gate at payload stands broken
 left_by_payload s cone most bytes gate at payload stands (inr spoiled) none =
     none-some spoiled.place (sym none ∙ (ap (left s cone) (one_payload most bytes gate payload spoiled.payload stands spoiled.stands) ∙ spoiled.first))
@@ -53,29 +55,35 @@ pub same_place : (one other : ℕ) → ◌≡◌ {A = LogFault} (Malformed one) 
 same_place one other is = cc
 
 -- where no place can be the first, the fault is a failure
-pub fails : (s : Numbers) (cone most : ℕ) (bytes : List ℕ) (gate : ℕ) (fault : LogFault) → ((at : ℕ) → fault ≡ Malformed at → BreaksAt most bytes gate at) → ((at : ℕ) → LeavesAt s cone most bytes gate at → ⊥) → fault ≡ Failed
+pub fails : (s : Numbers) (cone most : ℕ) (bytes : List ℕ) (gate : ℕ) (fault : LogFault) → ((at : ℕ) → fault ≡ Malformed at → BreaksAt most bytes gate at) →
+    ((at : ℕ) → LeavesAt s cone most bytes gate at → ⊥) → fault ≡ Failed
 fails s cone most bytes gate Failed said never = refl
 fails s cone most bytes gate (Malformed at) said never = absurd (never at (inl (said at refl)))
 
 -- where one is, it is a failure or that place
-pub fails_there : (s : Numbers) (cone most : ℕ) (bytes : List ℕ) (gate at : ℕ) (fault : LogFault) → ((other : ℕ) → fault ≡ Malformed other → BreaksAt most bytes gate other) → LeavesAt s cone most bytes gate at → (fault ≡ Failed) ⊎ (fault ≡ Malformed at)
+pub fails_there : (s : Numbers) (cone most : ℕ) (bytes : List ℕ) (gate at : ℕ) (fault : LogFault) → ((other : ℕ) → fault ≡ Malformed other → BreaksAt most bytes gate other) →
+    LeavesAt s cone most bytes gate at → (fault ≡ Failed) ⊎ (fault ≡ Malformed at)
 fails_there s cone most bytes gate at Failed said left_at = inl refl
 fails_there s cone most bytes gate at (Malformed other) said left_at = inr (ap Malformed (one_place_left s cone most bytes gate other at (inl (said other refl)) left_at))
 
 -- ---- one journal has one list of packets
 
 -- the packets of some payloads, each of which reads back
-read_all : (packets : List Packet) → ((n : ℕ) (d : Packet) → n < length packets → packet_in (payload_of (slice_index_or packets n d)) ≡ slice_index_or packets n d) → map packet_in (map payload_of packets) ≡ packets
+read_all : (packets : List Packet) → ((n : ℕ) (d : Packet) → n < length packets → packet_in (payload_of (slice_index_or packets n d)) ≡ slice_index_or packets n d) →
+    map packet_in (map payload_of packets) ≡ packets
 read_all [] back = refl
 read_all (packet ∷ rest) back = ap₂ (λ x xs. x ∷ xs) (back 0 packet (omega arith)) (read_all rest (λ n d below. back (suc n) d (omega (arith, below))))
 
 -- packets that a journal may hold are those of their payloads
-all_read : (s : Numbers) (cone : ℕ) (packets : List Packet) → All (IsJournaled s cone) packets → All (λ packet. All (λ key. key < 2 ^ 64) packet.keys) packets → map packet_in (map payload_of packets) ≡ packets
+all_read : (s : Numbers) (cone : ℕ) (packets : List Packet) → All (IsJournaled s cone) packets → All (λ packet. All (λ key. key < 2 ^ 64) packet.keys) packets →
+    map packet_in (map payload_of packets) ≡ packets
 all_read s cone packets may fit = read_all packets (λ n d below.
     let here = may n d below in
     packet_back (slice_index_or packets n d) (omega (arith, here.by_most)) (omega (arith, here.trace_most)) (fit n d below))
 
-pub one_history : (s : Numbers) (cone most : ℕ) (bytes : List ℕ) (first : ℕ) (one other : List Packet) (end too : ℕ) → All (IsJournaled s cone) one → All (IsJournaled s cone) other → All (λ packet. All (λ key. key < 2 ^ 64) packet.keys) one → All (λ packet. All (λ key. key < 2 ^ 64) packet.keys) other → HasPackets most bytes first one end → HasPackets most bytes first other too → (one ≡ other) × (end ≡ too)
+pub one_history : (s : Numbers) (cone most : ℕ) (bytes : List ℕ) (first : ℕ) (one other : List Packet) (end too : ℕ) → All (IsJournaled s cone) one →
+    All (IsJournaled s cone) other → All (λ packet. All (λ key. key < 2 ^ 64) packet.keys) one → All (λ packet. All (λ key. key < 2 ^ 64) packet.keys) other →
+    HasPackets most bytes first one end → HasPackets most bytes first other too → (one ≡ other) × (end ≡ too)
 one_history s cone most bytes first one other end too may may_too fit fit_too has has_too =
     let same = one_list most bytes first (map payload_of one) (map payload_of other) end too has has_too in
     (sym (all_read s cone one may fit) ∙ (ap (map packet_in) same.0 ∙ all_read s cone other may_too fit_too), same.1)

@@ -13,21 +13,25 @@ use Rattle.lert_journal.specs.Payload.{payload_of, packet_in, key_in, is_counted
 use Rattle.lert_journal.proofs.PayloadLaws.{length_payload}
 
 -- the keys behind a front of eight bytes and of `k` keys
-keys_back : (keys front : List ℕ) (k : ℕ) → length front ≡ 8 + 8 * k → All (λ key. key < 2 ^ 64) keys → map (key_in (front ++ flat_map (little_bytes 8) keys)) (range_with_len k (length keys)) ≡ keys
+keys_back : (keys front : List ℕ) (k : ℕ) → length front ≡ 8 + 8 * k → All (λ key. key < 2 ^ 64) keys → map (key_in (front ++ flat_map (little_bytes 8) keys))
+    (range_with_len k (length keys)) ≡ keys
 keys_back [] front k long all = refl
 keys_back (key ∷ rest) front k long all =
     let first : key_in (front ++ (little_bytes 8 key ++ flat_map (little_bytes 8) rest)) k ≡ key =
-    ap (little_number 8) (drop_at front (little_bytes 8 key ++ flat_map (little_bytes 8) rest) (8 + 8 * k) long) ∙ little_number-reads_back 8 key (flat_map (little_bytes 8) rest) (all 0 0 (omega arith)) in
+    ap (little_number 8) (drop_at front (little_bytes 8 key ++ flat_map (little_bytes 8) rest) (8 + 8 * k) long) ∙ little_number-reads_back 8 key
+    (flat_map (little_bytes 8) rest) (all 0 0 (omega arith)) in
     let others : map (key_in ((front ++ little_bytes 8 key) ++ flat_map (little_bytes 8) rest)) (range_with_len (k + 1) (length rest)) ≡ rest =
     keys_back rest (front ++ little_bytes 8 key) (k + 1) (omega (arith, length-append front (little_bytes 8 key), long)) (λ j d below. all (suc j) d (omega (arith, below))) in
-    ap₂ (λ x xs. x ∷ xs) first (ap (λ bytes. map (key_in bytes) (range_with_len (k + 1) (length rest))) (sym (append_assoc front (little_bytes 8 key) (flat_map (little_bytes 8) rest))) ∙ others)
+    ap₂ (λ x xs. x ∷ xs) first (ap (λ bytes. map (key_in bytes) (range_with_len (k + 1) (length rest)))
+    (sym (append_assoc front (little_bytes 8 key) (flat_map (little_bytes 8) rest))) ∙ others)
 
 -- a payload reads back as its packet
 pub packet_back : (packet : Packet) → packet.by < 2 ^ 32 → packet.trace < 2 ^ 32 → All (λ key. key < 2 ^ 64) packet.keys → packet_in (payload_of packet) ≡ packet
 packet_back packet by_below trace_below keys_below =
     let count : (length (payload_of packet) - 8) / 8 ≡ length packet.keys = omega (arith, length_payload packet) in
     let front = little_bytes 4 packet.by ++ little_bytes 4 packet.trace in
-    let by_is : little_number 4 (payload_of packet) ≡ packet.by = little_number-reads_back 4 packet.by (little_bytes 4 packet.trace ++ flat_map (little_bytes 8) packet.keys) by_below in
+    let by_is : little_number 4 (payload_of packet) ≡ packet.by = little_number-reads_back 4 packet.by (little_bytes 4 packet.trace ++ flat_map (little_bytes 8) packet.keys)
+    by_below in
     let trace_is : little_number 4 (drop 4 (payload_of packet)) ≡ packet.trace = little_number-reads_back 4 packet.trace (flat_map (little_bytes 8) packet.keys) trace_below in
     let keys_are : map (key_in (payload_of packet)) (range_with_len 0 ((length (payload_of packet) - 8) / 8)) ≡ packet.keys =
     ap (λ n. map (key_in (payload_of packet)) (range_with_len 0 n)) count ∙ keys_back packet.keys front 0 (omega arith) keys_below in
@@ -58,9 +62,13 @@ broken s cone n packet =
 
 unbroken : (s : Numbers) (cone : ℕ) (packet : Packet) → IsJournaled s cone packet → broken s cone (8 + 8 * length packet.keys) packet ≡ None
 unbroken s cone packet journaled =
-    ap (λ b. if not b then Some 0 else (if nat_lt 63 packet.by then Some 4 else (if nat_lt 1023 packet.trace then Some 8 else option_map (λ k. 12 + 8 * k) (position_from (λ key. not (cone_of s key == cone)) 0 packet.keys)))) (counted s (length packet.keys) journaled.some journaled.few)
-    ∙ (ap (λ b. if b then Some 4 else (if nat_lt 1023 packet.trace then Some 8 else option_map (λ k. 12 + 8 * k) (position_from (λ key. not (cone_of s key == cone)) 0 packet.keys))) (le-ltb 63 packet.by journaled.by_most)
-    ∙ (ap (λ b. if b then Some 8 else option_map (λ k. 12 + 8 * k) (position_from (λ key. not (cone_of s key == cone)) 0 packet.keys)) (le-ltb 1023 packet.trace journaled.trace_most)
+    ap (λ b. if not b then Some 0 else (if nat_lt 63 packet.by then Some 4 else
+    (if nat_lt 1023 packet.trace then Some 8 else option_map (λ k. 12 + 8 * k) (position_from (λ key. not (cone_of s key == cone)) 0 packet.keys))))
+    (counted s (length packet.keys) journaled.some journaled.few)
+    ∙ (ap (λ b. if b then Some 4 else (if nat_lt 1023 packet.trace then Some 8 else option_map (λ k. 12 + 8 * k)
+    (position_from (λ key. not (cone_of s key == cone)) 0 packet.keys))) (le-ltb 63 packet.by journaled.by_most)
+    ∙ (ap (λ b. if b then Some 8 else option_map (λ k. 12 + 8 * k) (position_from (λ key. not (cone_of s key == cone)) 0 packet.keys))
+    (le-ltb 1023 packet.trace journaled.trace_most)
     ∙ ap (option_map (λ k. 12 + 8 * k)) (no_stray s cone 0 packet.keys journaled.of_cone)))
 
 pub never_left : (s : Numbers) (cone : ℕ) (packet : Packet) → IsJournaled s cone packet → All (λ key. key < 2 ^ 64) packet.keys → left s cone (payload_of packet) ≡ None

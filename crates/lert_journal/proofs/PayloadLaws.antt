@@ -22,9 +22,11 @@ length_payload packet = omega (arith, length_keys packet.keys)
 pub payloads-push : (packets : List Packet) (packet : Packet) → map payload_of packets ++ payload_of packet ∷ [] ≡ map payload_of (packets ++ packet ∷ [])
 payloads-push packets packet = sym (map-append payload_of packets (packet ∷ []))
 
-pub one_more : (most first gate : ℕ) (packets : List Packet) (packet : Packet) (bytes : List ℕ) → IsWithOrWithout most first (map payload_of packets) gate (payload_of packet) bytes → HasPacketsOrOneMore most first packets gate packet bytes
+pub one_more : (most first gate : ℕ) (packets : List Packet) (packet : Packet) (bytes : List ℕ) → IsWithOrWithout most first (map payload_of packets) gate
+    (payload_of packet) bytes → HasPacketsOrOneMore most first packets gate packet bytes
 one_more most first gate packets packet bytes either =
-    subst (λ payloads. IsGated most bytes first (map payload_of packets) gate ⊎ IsGated most bytes first payloads (next_gate gate (payload_of packet))) (payloads-push packets packet) either
+    subst (λ payloads. IsGated most bytes first (map payload_of packets) gate ⊎ IsGated most bytes first payloads (next_gate gate (payload_of packet)))
+    (payloads-push packets packet) either
 
 -- the length of what is appended
 pub length_text : (text : List ℕ) (packet : Packet) → text ≡ appendix (payload_of packet) → length text ≡ 5 + length (payload_of packet)

@@ -15,12 +15,14 @@ use Rattle.lert_journal.specs.Payload.{payload_of, packet_in, key_in, is_counted
 -- ---- bytes are those of their number
 
 -- the bytes of all keys from one on
-keys_there : (m k : ℕ) (payload : List ℕ) → ((k : ℕ) → slice_index payload k < 256) → length payload ≡ 8 + 8 * (k + m) → flat_map (little_bytes 8) (map (key_in payload) (range_with_len k m)) ≡ drop (8 + 8 * k) payload
+keys_there : (m k : ℕ) (payload : List ℕ) → ((k : ℕ) → slice_index payload k < 256) → length payload ≡ 8 + 8 * (k + m) →
+    flat_map (little_bytes 8) (map (key_in payload) (range_with_len k m)) ≡ drop (8 + 8 * k) payload
 keys_there zero k payload small long = sym (drop_all (8 + 8 * k) payload (omega (arith, long)))
 keys_there (suc m) k payload small long =
     let behind = drop (8 + 8 * k) payload in
     let first : little_bytes 8 (key_in payload k) ≡ take 8 behind =
-    bytes_back 0 8 behind (λ j. subst (λ (b : ℕ). b < 256) (sym (get_or-drop (8 + 8 * k) payload j 0)) (small (8 + 8 * k + j))) (omega (arith, long, length-drop (8 + 8 * k) payload)) in
+    bytes_back 0 8 behind (λ j. subst (λ (b : ℕ). b < 256) (sym (get_or-drop (8 + 8 * k) payload j 0)) (small (8 + 8 * k + j)))
+    (omega (arith, long, length-drop (8 + 8 * k) payload)) in
     let others : flat_map (little_bytes 8) (map (key_in payload) (range_with_len (k + 1) m)) ≡ drop 8 behind =
     keys_there m (k + 1) payload small (omega (arith, long)) ∙ (ap (λ n. drop n payload) (omega arith) ∙ sym (drop-drop 8 (8 + 8 * k) payload)) in
     ap₂ (λ xs ys. xs ++ ys) first others ∙ take-append-drop 8 behind
@@ -32,7 +34,8 @@ payload_back payload small whole long =
     let by_there : little_bytes 4 (packet_in payload).by ≡ take 4 payload = bytes_back 0 4 payload small (omega (arith, long)) in
     let trace_there : little_bytes 4 (packet_in payload).trace ≡ take 4 behind =
     bytes_back 0 4 behind (λ j. subst (λ (b : ℕ). b < 256) (sym (get_or-drop 4 payload j 0)) (small (4 + j))) (omega (arith, long, length-drop 4 payload)) in
-    let all_keys : flat_map (little_bytes 8) (packet_in payload).keys ≡ drop 4 behind = keys_there ((length payload - 8) / 8) 0 payload small (omega (arith, whole, long)) ∙ sym (drop-drop 4 4 payload) in
+    let all_keys : flat_map (little_bytes 8) (packet_in payload).keys ≡ drop 4 behind = keys_there ((length payload - 8) / 8) 0 payload small (omega (arith, whole, long)) ∙ sym
+    (drop-drop 4 4 payload) in
     ap₂ (λ xs ys. xs ++ ys) (ap₂ (λ xs ys. xs ++ ys) by_there trace_there) all_keys
     ∙ (append_assoc (take 4 payload) (take 4 behind) (drop 4 behind)
     ∙ (ap (λ ys. take 4 payload ++ ys) (take-append-drop 4 behind) ∙ take-append-drop 4 payload))
@@ -69,7 +72,8 @@ kept true is = refl
 kept false is = absurd (true≢false is)
 
 -- what leaves the format nowhere is a packet that the journal may hold
-pub whole_packet : (s : Numbers) (cone : ℕ) (payload : List ℕ) → left s cone payload ≡ None → (length payload % 8 ≡ 0) × (8 ≤ length payload) × IsJournaled s cone (packet_in payload)
+pub whole_packet : (s : Numbers) (cone : ℕ) (payload : List ℕ) → left s cone payload ≡ None → (length payload % 8 ≡ 0) × (8 ≤ length payload) × IsJournaled s cone
+    (packet_in payload)
 whole_packet s cone payload none =
     let packet = packet_in payload in
     let keys = (length payload - 8) / 8 in

@@ -1,14 +1,13 @@
 //! The entries of a journal.
 
-ghost use Rattle.std.specs.Prelude.{◌≡◌, ◌⊎◌, ℕ, ◌+◌, ◌*◌, ◌<◌, ◌≤◌, ◌^◌, List, [], ◌∷◌, ◌++◌, length, take, flat_map, IfOk, OnOk, OnErr, IsErrAnd, MatchResult, IsTrue, IsFalse, IsErrOf, All};
+ghost use Rattle.std.specs.Prelude.{◌≡◌, ◌⊎◌, ℕ, ◌+◌, ◌*◌, ◌<◌, ◌≤◌, ◌^◌, List, [], ◌∷◌, ◌++◌, length, take, flat_map, IfOk, OnOk, OnErr, IsErr, IsErrAnd, MatchResult, IsTrue, IsFalse, IsErrOf, All};
 ghost use Rattle.byteorder.specs.Endian.{little_bytes};
 ghost use Rattle.lert_base.specs.Entries.{packet_of};
 ghost use Rattle.lert_base.specs.Packet.{Packet};
-ghost use Rattle.lert_bay.specs.Files.{Files, IfTold, Turns};
-ghost use Rattle.lert_bay.specs.Images.{KeepsImages, Lasts};
+ghost use Rattle.lert_bay.specs.Files.{IfTold, Turns};
+ghost use Rattle.lert_bay.specs.Kept.{KeepsBay, OnlyReads};
 ghost use Rattle.lert_gatelog.specs.Gated.{appendix, next_gate, IsOpen, IsClosed};
 ghost use Rattle.lert_gatelog.specs.Kept.{InEach, KeepsOthers, KeepsBefore, IsWhollySettled, OthersStay};
-ghost use Rattle.lert_io.specs.Fault.{HasCause, HasRisen};
 ghost use Rattle.lert_journal.specs.Payload.{payload_of, IsJournaled};
 ghost use Rattle.lert_journal.specs.Journal.{HasPackets, HasPacketsOrOneMore, HoldsPacket, LeavesAt};
 
@@ -53,9 +52,7 @@ pub fn append_entry<B: Bay>(
     ensures before { IfTold (B.files bay.old) (λ seen. KeepsBefore (B.leaves bay.old) (B.left_since bay.new (B.moment bay.old)) seen log.old.file log.old.gate) }
     ensures others { IfTold (B.files bay.old) (λ seen. KeepsOthers (B.leaves bay.old) (B.left_since bay.new (B.moment bay.old)) seen log.old.file) }
     ensures seen { Turns (OthersStay log.old.file) (B.files bay.old) (B.files bay.new) }
-    ensures time { Lasts (B.moment bay.old) (B.moment bay.new) (B.left_since bay.old) (B.left_since bay.new) }
-    ensures cause { HasCause (B.faults bay.old) (B.faults bay.new) result }
-    ensures mark { B.mark bay.new ≡ B.mark bay.old }
+    ensures kept { KeepsBay B.Bay bay.old bay.new (IsErr result) }
 {
     // Its clause bounds the payload's length.
     let _ = log.gate();
@@ -107,13 +104,7 @@ pub fn read_entry<B: Bay>(
     ensures waits { IfOk result (λ found. IsFalse found → (log.new ≡ log.old) × (entry.new ≡ entry.old)) }
     ensures stayed { OnErr result ((log.new ≡ log.old) × (entry.new ≡ entry.old)) }
     ensures room { entry.new.keys.room ≡ entry.old.keys.room }
-    ensures seen { B.files bay.new ≡ B.files bay.old }
-    ensures images { KeepsImages (B.leaves bay.old) (B.leaves bay.new) }
-    ensures moments { (image : Files) → B.left_since bay.new (B.moment bay.old) image → B.leaves bay.old image }
-    ensures time { Lasts (B.moment bay.old) (B.moment bay.new) (B.left_since bay.old) (B.left_since bay.new) }
-    ensures never_falls { B.faults bay.old ≤ B.faults bay.new }
-    ensures failed { IsErrOf result LogFault.Failed → HasRisen (B.faults bay.old) (B.faults bay.new) }
-    ensures mark { B.mark bay.new ≡ B.mark bay.old }
+    ensures only_reads { OnlyReads B.Bay bay.old bay.new (IsErrOf result LogFault.Failed) }
 {
     let gate = log.gate();
     let mut ahead = *log;

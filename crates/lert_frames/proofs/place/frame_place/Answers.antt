@@ -25,7 +25,11 @@ module _ (c : goal.After-frame_len) where
   place_is = ap₂ (λ a b. a + b) first_is second_is
 
   ends : frame_place c.args.settings.now c.args.level c.args.frame + frame_len c.args.settings.now c.args.level < 2 ^ 42
-  ends = omega (arith, place_ends c.args.settings.now c.args.level c.args.frame c.requires.first c.requires.frame, places_within c.args.settings.now valid c.args.level c.requires.last)
+  ends = omega (
+    arith,
+    place_ends c.args.settings.now c.args.level c.args.frame c.requires.first c.requires.frame,
+    places_within c.args.settings.now valid c.args.level c.requires.last,
+  )
 
 pub overflow_add-before : goal.overflow_add-before
 overflow_add-before c =
@@ -46,7 +50,8 @@ overflow_mul-result c =
     let valid : IsValid s = subst IsValid c.numbers-places.ensures.value c.numbers-places.ensures.valid in
     let same_level : c.loop-lower.lower ≡ c.args.level = omega arith in
     let before : c.loop-lower.before ≡ frame_lens s (c.args.level - 1) = c.loop-lower.invariant ∙ ap (λ n. frame_lens s (n - 1)) same_level in
-    let first : (c.numbers-places.result.bins + 1) * c.loop-lower.before ≡ (s.bins + 1) * frame_lens s (c.args.level - 1) = ap₂ (λ bins n. (bins + 1) * n) (ap (λ t. t.bins) c.numbers-places.ensures.value) before in
+    let first : (c.numbers-places.result.bins + 1) * c.loop-lower.before ≡ (s.bins + 1) * frame_lens s (c.args.level - 1) = ap₂ (λ bins n. (bins + 1) * n)
+    (ap (λ t. t.bins) c.numbers-places.ensures.value) before in
     omega (arith, first, places_within s valid (c.args.level - 1) (omega (arith, c.requires.last)))
 
 pub overflow_mul-result-2 : goal.overflow_mul-result-2
@@ -63,5 +68,6 @@ returns-clause-end c = omega (arith, ends c, place_is c)
 
 pub returns-clause-apart : goal.returns-clause-apart
 returns-clause-apart c other_level other from within differ =
-    subst (λ (n : ℕ). (frame_place c.args.settings.now other_level other + frame_len c.args.settings.now other_level ≤ n) ⊎ (n + frame_len c.args.settings.now c.args.level ≤ frame_place c.args.settings.now other_level other)) (sym (place_is c))
+    subst (λ (n : ℕ). (frame_place c.args.settings.now other_level other + frame_len c.args.settings.now other_level ≤ n) ⊎
+    (n + frame_len c.args.settings.now c.args.level ≤ frame_place c.args.settings.now other_level other)) (sym (place_is c))
     (places_apart c.args.settings.now c.args.level c.args.frame other_level other c.requires.first c.requires.frame from within differ)

@@ -1,27 +1,35 @@
-use Rattle.std.proofs.Common.{Option, length, sym, subst}
-use Rattle.lert_bay.specs.Files.{Files, Turns, Changes, Holds, LeftByFailure}
-use Rattle.lert_gatelog.proofs.Moments.{moments_write, moments_sync, was_before, left_as_read, turns_weaker, held_is_left}
+use Rattle.std.proofs.Common.{IsErr, length}
+use Rattle.std.proofs.lemmas.Result.{err_from_is_err_and}
+use Rattle.lert_bay.specs.Kept.{Bays}
+use Rattle.lert_bay.proofs.KeptLaws.{IsLawful, keeps_call}
+use Rattle.lert_gatelog.proofs.Moments.{moments_write, write_synced}
+use Rattle.lert_gatelog.proofs.durable.write_durably.Given as given
 use Rattle.lert_gatelog.proofs.durable.write_durably.Goals as goal
 
-pub returns-in_err-write_at-clause-moments : goal.returns-in_err-write_at-clause-moments
-returns-in_err-write_at-clause-moments g c seen told =
-    moments_write (g.B.Bay.moment c.args.bay.now) (g.B.Bay.moment c.write_at.new.self) (g.B.Bay.left_since c.args.bay.now) (g.B.Bay.left_since c.write_at.new.self) (g.B.Bay.leaves c.args.bay.now) (g.B.Bay.leaves c.write_at.new.self) c.args.file c.args.at (length c.args.bytes.now)
-    (g.met.B.Bay.only_now c.args.bay.now) c.write_at.ensures.images c.write_at.ensures.time
+abbrev bays : (g : given.Over) → Bays g.row.B.Denot
+bays g = record { faults = g.B.Faulty.faults; mark = g.B.Faulty.mark; files = g.B.Bay.files; leaves = g.B.Bay.leaves; moment = g.B.Bay.moment; left_since = g.B.Bay.left_since }
 
-pub returns-clause-seen : goal.returns-clause-seen
-returns-clause-seen g c =
-    turns_weaker (Changes (Holds c.args.at c.args.bytes.now) c.args.file) (Changes (LeftByFailure c.args.at (length c.args.bytes.now)) c.args.file) (g.B.Bay.files c.args.bay.now) (g.B.Bay.files c.sync.new.self) (held_is_left c.args.file c.args.at c.args.bytes.now)
-    (subst (λ (files : Option Files). Turns (Changes (Holds c.args.at c.args.bytes.now) c.args.file) (g.B.Bay.files c.args.bay.now) files) (sym c.sync.ensures.seen) c.in_ok-write_at.ensures.written)
+lawful : (g : given.Over) → IsLawful (bays g)
+lawful g = record { as_read = g.met.B.Bay.as_read; since_now = g.met.B.Bay.since_now; only_now = g.met.B.Bay.only_now; since_earlier = g.met.B.Bay.since_earlier }
 
-pub returns-clause-moments : goal.returns-clause-moments
-returns-clause-moments g c seen told =
-    let written = c.in_ok-write_at.ensures.written.told seen told in
-    moments_sync (g.B.Bay.moment c.args.bay.now) (g.B.Bay.moment c.write_at.new.self) (g.B.Bay.moment c.sync.new.self) (g.B.Bay.left_since c.write_at.new.self) (g.B.Bay.left_since c.sync.new.self) (g.B.Bay.leaves c.args.bay.now) (g.B.Bay.leaves c.write_at.new.self) (g.B.Bay.leaves c.sync.new.self) c.args.file c.args.at (length c.args.bytes.now)
-    c.write_at.ensures.time.later
-    (moments_write (g.B.Bay.moment c.args.bay.now) (g.B.Bay.moment c.write_at.new.self) (g.B.Bay.left_since c.args.bay.now) (g.B.Bay.left_since c.write_at.new.self) (g.B.Bay.leaves c.args.bay.now) (g.B.Bay.leaves c.write_at.new.self) c.args.file c.args.at (length c.args.bytes.now) (g.met.B.Bay.only_now c.args.bay.now) c.write_at.ensures.images c.write_at.ensures.time)
-    c.write_at.ensures.images
-    (was_before c.sync.result c.args.file (written.0 c.args.file) (g.B.Bay.leaves c.write_at.new.self) (g.B.Bay.leaves c.sync.new.self) (c.sync.ensures.durable written.0 written.1) c.sync.ensures.failed)
-    c.sync.ensures.time
+pub returns-in_err-write_at : goal.returns-in_err-write_at
+returns-in_err-write_at g c =
+    let p = err_from_is_err_and c.from_residual.result c.from_residual.ensures.1 in
+    rw (p.1, p.2) (record {
+      written = tt;
+      seen = c.in_err-write_at.ensures.failed;
+      moments = λ seen told. moments_write (bays g) (lawful g) c.args.bay.now c.write_at.new.self c.args.file c.args.at (length c.args.bytes.now)
+          c.write_at.ensures.images c.write_at.ensures.time;
+      durable = tt;
+      kept = keeps_call (bays g) (lawful g) c.args.bay.now c.write_at.new.self _ c.write_at.ensures.time
+          c.in_err-write_at.ensures.cause.never_falls c.in_err-write_at.ensures.cause.failed c.write_at.ensures.mark;
+    })
 
-pub returns-clause-durable : goal.returns-clause-durable
-returns-clause-durable g c = left_as_read c.sync.result c.args.file (g.B.Bay.files c.write_at.new.self) (g.B.Bay.files c.sync.new.self) (g.B.Bay.leaves c.write_at.new.self) (g.B.Bay.leaves c.sync.new.self) c.sync.ensures.seen c.sync.ensures.durable
+pub returns : goal.returns
+returns g c = write_synced (bays g) (lawful g) c.args.file c.args.at c.args.bytes.now c.args.bay.now c.write_at.new.self c.sync.new.self c.sync.result
+    c.in_ok-write_at.ensures.written c.write_at.ensures.images c.write_at.ensures.time
+    (keeps_call (bays g) (lawful g) c.args.bay.now c.write_at.new.self (IsErr c.write_at.result) c.write_at.ensures.time
+    c.write_at.ensures.cause.never_falls c.write_at.ensures.cause.failed c.write_at.ensures.mark)
+    c.sync.ensures.seen c.sync.ensures.durable c.sync.ensures.failed c.sync.ensures.time
+    (keeps_call (bays g) (lawful g) c.write_at.new.self c.sync.new.self (IsErr c.sync.result) c.sync.ensures.time
+    c.sync.ensures.cause.never_falls c.sync.ensures.cause.failed c.sync.ensures.mark)

@@ -34,5 +34,6 @@ returns-clause-each_moment g c = λ seen told first packets all image since.
 pub returns-clause-appended : goal.returns-clause-appended
 returns-clause-appended g c = λ seen told first packets all.
     let packet = packet_of c.args.entry.now in
-    subst (λ (payloads : List (List ℕ)). OnOk c.append.result (InEach (g.B.Bay.leaves c.append.new.bay) c.args.log.now.file (λ bytes. IsGated c.args.log.now.most bytes first payloads c.append.new.self.gate))) (payloads-push packets packet)
+    subst (λ (payloads : List (List ℕ)). OnOk c.append.result (InEach (g.B.Bay.leaves c.append.new.bay) c.args.log.now.file
+    (λ bytes. IsGated c.args.log.now.most bytes first payloads c.append.new.self.gate))) (payloads-push packets packet)
     (c.append.ensures.appended seen told first (map payload_of packets) (payload_of packet) c.write_text-len.ensures.text all)

@@ -59,15 +59,18 @@ returns-in-Some-place_left-clause-malformed g c seen told at is =
 
 pub returns-in-Some-place_left-clause-reads_back : goal.returns-in-Some-place_left-clause-reads_back
 returns-in-Some-place_left-clause-reads_back g c seen told packet holds =
-    absurd (packet_or_left c.args.settings.now c.args.cone c.args.log.now.most (seen c.args.log.now.file) c.args.log.now.gate _ packet holds (returns-in-Some-place_left-clause-malformed g c seen told _ refl))
+    absurd (packet_or_left c.args.settings.now c.args.cone c.args.log.now.most (seen c.args.log.now.file) c.args.log.now.gate _ packet holds
+    (returns-in-Some-place_left-clause-malformed g c seen told _ refl))
 
 pub returns-in-Some-place_left-clause-ends : goal.returns-in-Some-place_left-clause-ends
 returns-in-Some-place_left-clause-ends g c seen told closed =
-    absurd (closed_or_left c.args.settings.now c.args.cone c.args.log.now.most (seen c.args.log.now.file) c.args.log.now.gate _ closed (returns-in-Some-place_left-clause-malformed g c seen told _ refl))
+    absurd (closed_or_left c.args.settings.now c.args.cone c.args.log.now.most (seen c.args.log.now.file) c.args.log.now.gate _ closed
+    (returns-in-Some-place_left-clause-malformed g c seen told _ refl))
 
 pub returns-in-Some-place_left-clause-refuses : goal.returns-in-Some-place_left-clause-refuses
 returns-in-Some-place_left-clause-refuses g c seen told at left_at =
-    inr (ap Malformed (one_place_left c.args.settings.now c.args.cone c.args.log.now.most (seen c.args.log.now.file) c.args.log.now.gate _ at (returns-in-Some-place_left-clause-malformed g c seen told _ refl) left_at))
+    inr (ap Malformed (one_place_left c.args.settings.now c.args.cone c.args.log.now.most (seen c.args.log.now.file) c.args.log.now.gate _ at
+    (returns-in-Some-place_left-clause-malformed g c seen told _ refl) left_at))
 
 -- ---- a packet
 
@@ -89,7 +92,8 @@ returns-clause-moved g c said =
     let text : payload_of (packet_of c.fill.new.entry) ≡ take c.in-Some.count c.next.new.into = ap payload_of c.fill.ensures.packet ∙ c.fill.ensures.text whole.0 in
     let moved = rw c.in-Some.is at c.in_ok-count.ensures.moved in
     let counted = rw c.in-Some.is at c.in_ok-count.ensures.counted in
-    let long : length (take c.in-Some.count c.next.new.into) ≡ c.in-Some.count = length-take-le c.in-Some.count c.next.new.into (omega (arith, counted.1, c.requires.room, c.next.auto.into)) in
+    let long : length (take c.in-Some.count c.next.new.into) ≡ c.in-Some.count = length-take-le c.in-Some.count c.next.new.into
+    (omega (arith, counted.1, c.requires.room, c.next.auto.into)) in
     moved ∙ ap (λ (n : ℕ). record c.args.log.now { gate = c.args.log.now.gate + 5 + n }) (sym long ∙ ap length (sym text))
 
 pub returns-clause-reads_back : goal.returns-clause-reads_back
@@ -106,4 +110,5 @@ returns-clause-ends g c seen told closed =
 pub returns-clause-refuses : goal.returns-clause-refuses
 returns-clause-refuses g c seen told at left_at =
     let stands = rw c.in-Some.is at (c.in_ok-count.ensures.opened seen told) in
-    left_by_payload c.args.settings.now c.args.cone c.args.log.now.most (seen c.args.log.now.file) c.args.log.now.gate at (take c.in-Some.count c.next.new.into) stands left_at (sym c.in_default-place_left.ensures.place)
+    left_by_payload c.args.settings.now c.args.cone c.args.log.now.most (seen c.args.log.now.file) c.args.log.now.gate at (take c.in-Some.count c.next.new.into) stands left_at
+    (sym c.in_default-place_left.ensures.place)

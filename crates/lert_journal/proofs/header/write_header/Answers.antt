@@ -13,4 +13,5 @@ returns-clause-text c =
 
 pub returns-clause-reads_back : goal.returns-clause-reads_back
 returns-clause-reads_back c =
-    ap kept_in (returns-clause-text c) ∙ reads_back c.args.settings.now c.args.cone (subst IsInLimits c.numbers-numbers.ensures.value c.numbers-numbers.ensures.valid.limits) c.ranges.cone.fits
+    ap kept_in (returns-clause-text c) ∙ reads_back c.args.settings.now c.args.cone (subst IsInLimits c.numbers-numbers.ensures.value c.numbers-numbers.ensures.valid.limits)
+    c.ranges.cone.fits

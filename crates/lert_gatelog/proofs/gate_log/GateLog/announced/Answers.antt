@@ -4,7 +4,8 @@ use Rattle.lert_gatelog.proofs.gate_log.GateLog.announced.Goals as goal
 
 pub returns-then-count-self-clause-looked : goal.returns-then-count-self-clause-looked
 returns-then-count-self-clause-looked c = rw (← c.self.view_is) (λ bytes end copied.
-    let said = announced c.self.inside.most c.self.inside.gate c.args.read c.read_u32-count.result c.args.head.now bytes copied c.if-read-lt5.false c.told-head c.if-head-ne-OPEN.false c.read_u32-count.ensures in
+    let said = announced c.self.inside.most c.self.inside.gate c.args.read c.read_u32-count.result c.args.head.now bytes copied c.if-read-lt5.false c.told-head
+    c.if-head-ne-OPEN.false c.read_u32-count.ensures in
     record {
       announced = search rules;
       closed = search rules;
@@ -13,7 +14,8 @@ returns-then-count-self-clause-looked c = rw (← c.self.view_is) (λ bytes end 
 
 pub returns-clause-looked : goal.returns-clause-looked
 returns-clause-looked c = rw (← c.self.view_is) (λ bytes end copied. record {
-  announced = announced c.self.inside.most c.self.inside.gate c.args.read c.read_u32-count.result c.args.head.now bytes copied c.if-read-lt5.false c.told-head c.if-head-ne-OPEN.false c.read_u32-count.ensures;
+  announced = announced c.self.inside.most c.self.inside.gate c.args.read c.read_u32-count.result c.args.head.now bytes copied c.if-read-lt5.false c.told-head
+      c.if-head-ne-OPEN.false c.read_u32-count.ensures;
   closed = search rules;
   malformed = λ at is. cc;
 })

@@ -1,19 +1,22 @@
 use Rattle.std.proofs.Common.{ℕ, ◌++◌, [], ◌+◌, length, take, drop, replicate, ap, ◌∙◌, arith}
 use Rattle.lert_bay.proofs.Laid.{zeros_past}
 use Rattle.lert_gatelog.proofs.Looking.{text_alone, header_text, closed_text}
-use Rattle.lert_gatelog.proofs.Appending.{keeps_one, wholly_settled}
+use Rattle.lert_bay.specs.Kept.{Bays}
+use Rattle.lert_gatelog.proofs.Appending.{others_once, settled_once}
+use Rattle.lert_gatelog.proofs.gate_log.GateLog.create.Given as given
 use Rattle.lert_gatelog.proofs.gate_log.GateLog.create.Goals as goal
 
+abbrev bays : (g : given.Over) → Bays g.row.B.Denot
+bays g = record { faults = g.B.Faulty.faults; mark = g.B.Faulty.mark; files = g.B.Bay.files; leaves = g.B.Bay.leaves; moment = g.B.Bay.moment; left_since = g.B.Bay.left_since }
+
 pub returns-in_err-write_durably-clause-others : goal.returns-in_err-write_durably-clause-others
-returns-in_err-write_durably-clause-others g c seen told other from to apart settled =
-    keeps_one (g.B.Bay.leaves c.args.bay.now) (g.B.Bay.left_since c.write_durably.new.bay (g.B.Bay.moment c.args.bay.now)) c.args.file 0 _ seen other from to (c.write_durably.ensures.moments seen told) apart settled.same
+returns-in_err-write_durably-clause-others g c = others_once (bays g) c.write_durably.ensures
 
 pub returns-clause-others : goal.returns-clause-others
-returns-clause-others g c seen told other from to apart settled =
-    keeps_one (g.B.Bay.leaves c.args.bay.now) (g.B.Bay.left_since c.write_durably.new.bay (g.B.Bay.moment c.args.bay.now)) c.args.file 0 _ seen other from to (c.write_durably.ensures.moments seen told) apart settled.same
+returns-clause-others g c = others_once (bays g) c.write_durably.ensures
 
 pub returns-clause-settled : goal.returns-clause-settled
-returns-clause-settled g c seen told = wholly_settled (g.B.Bay.leaves c.write_durably.new.bay) seen c.args.file (c.in_ok-write_durably.ensures.durable seen told)
+returns-clause-settled g c = settled_once (bays g) c.in_ok-write_durably.ensures
 
 pub returns-clause-text : goal.returns-clause-text
 returns-clause-text g c seen told image now =

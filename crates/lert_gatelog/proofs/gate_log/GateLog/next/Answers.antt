@@ -7,7 +7,7 @@ use Rattle.lert_gatelog.proofs.gate_log.GateLog.next.Goals as goal
 pub returns-clause-opened : goal.returns-clause-opened
 returns-clause-opened g c = rw (← c.self.view_is) (λ seen told.
     let told_then = c.len.ensures.seen ∙ told in
-    let told_later = c.look.ensures.only_read.seen ∙ told_then in
+    let told_later = c.look.ensures.only_reads.seen ∙ told_then in
     let said = rw (c.in-Some.is, ← c.self.view_is) at ((c.in_ok-count.ensures.looked seen told_then).announced) in
     let bounds = rw (c.in-Some.is, ← c.self.view_is) at c.in_ok-count.ensures.counted in
     let most_is : c.self.inside.most ≡ c.args.self.now.most = ap (λ log. log.most) c.self.view_is in
@@ -23,7 +23,7 @@ returns-in_err-count-clause-malformed g c seen told at =
 pub returns-then-branch-count-clause-malformed : goal.returns-then-branch-count-clause-malformed
 returns-then-branch-count-clause-malformed g c = rw (← c.self.view_is) (λ seen told at is.
     let told_then = c.len.ensures.seen ∙ told in
-    let told_later = c.look.ensures.only_read.seen ∙ told_then in
+    let told_later = c.look.ensures.only_reads.seen ∙ told_then in
     let said = rw (c.in-Some.is, ← c.self.view_is) at ((c.in_ok-count.ensures.looked seen told_then).announced) in
     let bounds = rw (c.in-Some.is, ← c.self.view_is) at c.in_ok-count.ensures.counted in
     let most_is : c.self.inside.most ≡ c.args.self.now.most = ap (λ log. log.most) c.self.view_is in

@@ -1,6 +1,0 @@
-use Rattle.lert_frames.proofs.FrameLaws.{head_text}
-use Rattle.lert_frames.proofs.loading.read_count.Goals as goal
-
-pub returns-clause-text : goal.returns-clause-text
-returns-clause-text g c seen told =
-    head_text c.args.place c.in_ok-read_at.field-0 c.number_in-count.result c.read_at.new.into (seen 2) (c.in_ok-read_at.ensures.told seen told) c.if-branch-lt4.false c.read_at.auto.into c.number_in-count.ensures.text
