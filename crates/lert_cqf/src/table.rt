@@ -124,12 +124,7 @@ impl CountTable for Cqf {
 
     ghost left = { λ t c. drop c.given t.pieces };
 
-    fn new(
-        alloc: Global,
-        quotient: u32,
-        remainder: u32,
-        events: u64,
-    ) -> Result<Self, OutOfMemory> {
+    fn new(alloc: Global, quotient: u32, remainder: u32, events: u64) -> Result<Self, OutOfMemory> {
         let homes = 1u64 << quotient;
         let slots = homes + 2 * events;
         if slots >= TOO_MANY_SLOTS {

@@ -81,12 +81,7 @@ impl CountTable for PlainTable {
 
     ghost left = { λ t c. drop c.at t.pieces };
 
-    fn new(
-        alloc: Global,
-        quotient: u32,
-        remainder: u32,
-        events: u64,
-    ) -> Result<Self, OutOfMemory> {
+    fn new(alloc: Global, quotient: u32, remainder: u32, events: u64) -> Result<Self, OutOfMemory> {
         let pieces = Vec::with_capacity(alloc, events as usize)?;
         Ok(PlainTable {
             pieces,

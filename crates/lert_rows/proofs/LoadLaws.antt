@@ -140,7 +140,7 @@ used_rooms {T} {pieces} {room} {quotient} {remainder} {s} {tables} {all} {from} 
     (All-take (λ table. (room table ≤ 2 ^ 47) × (quotient table + remainder table ≡ 64 - s.cone_bits)) count tables
     (subst (All (λ table. (room table ≤ 2 ^ 47) × (quotient table + remainder table ≡ 64 - s.cone_bits))) (sym used.same)
     (λ k d below. let numbers = (used.filled.each k d below).of_zero in
-        (omega (arith, numbers.events, width_within s used.filled.valid), bits_of_zero s used.filled.valid numbers))))
+    (omega (arith, numbers.events, width_within s used.filled.valid), bits_of_zero s used.filled.valid numbers))))
 
 pub used_of_zero : {T : Type 0} {pieces : T → List Piece} {room quotient remainder : T → ℕ} {s : Numbers} {tables all : List T} {from to : ℕ} {young : Young} {wide count : ℕ} →
     IsUsed pieces room quotient remainder s tables all from to young wide count →

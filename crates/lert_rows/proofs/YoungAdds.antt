@@ -1,23 +1,15 @@
 -- Level 0 as one more event is added.
-use Rattle.std.proofs.Common.{ℕ, zero, suc, ◌≡◌, ◌+◌, ◌-◌, ◌*◌, ◌/◌, ◌%◌, ◌^◌, ◌<◌, ◌≤◌, cond, eqb, ltb, min, List, [], ◌∷◌, ◌++◌, length, get_or, set, map, drop, refl, ap, ap₂, sym, ◌∙◌, subst, arith, inl, inr, sum_by, length-set, length-append, get_or-set_same, get_or-set_other, take}
-use Rattle.std.proofs.Math.Nat.{div-add-mod, mod-lt, mul-le-mul_right, suc-mul, pow-zero}
-use Rattle.std.proofs.lemmas.Bool.{lt-ltb, le-ltb, eq-eqb, ne_eqb, cases_lt, cases_eq}
-use Rattle.std.proofs.Math.ListN.{get_or-append}
-use Rattle.std.proofs.Math.Seq.{get_or-append_seam}
-use Rattle.std.proofs.lemmas.List.{map-set, map-append, get_or-map, length-map, take_all}
-use Rattle.std.proofs.lemmas.Nat.{mod-mul-add}
+use Rattle.std.proofs.Common.{ℕ, suc, ◌≡◌, ◌+◌, ◌-◌, ◌*◌, ◌/◌, ◌^◌, ◌<◌, ◌≤◌, cond, eqb, List, [], length, get_or, set, map, ap, ap₂, sym, ◌∙◌, subst, arith, inl, inr, length-set, get_or-set_same, get_or-set_other}
+use Rattle.std.proofs.Math.Nat.{mul-le-mul_right, suc-mul}
+use Rattle.std.proofs.lemmas.Bool.{eq-eqb, ne_eqb, cases_lt, cases_eq}
+use Rattle.std.proofs.lemmas.List.{map-set, get_or-map, length-map}
 use Rattle.lert_spec.specs.declared.numbers.Numbers.{Numbers}
 use Rattle.lert_spec.specs.declared.piece.Piece.{Piece}
-use Rattle.lert_spec.specs.Bins.{Bin}
-use Rattle.lert_spec.specs.Edges.{span, capacity, quotient_bits, width}
-use Rattle.lert_spec.specs.Limits.{IsValid}
-use Rattle.lert_spec.specs.Table.{count_of, total, plus}
-use Rattle.lert_spec.proofs.LimitLaws.{quotient_bits_by_zeros}
+use Rattle.lert_spec.specs.Edges.{span, capacity}
+use Rattle.lert_spec.specs.Table.{total, plus}
 use Rattle.lert_spec.proofs.Tables.{total-plus}
-use Rattle.lert_spec.proofs.TallyLaws.{count_of-cons_same, count_of-cons_other}
-use Rattle.std.proofs.lemmas.List.Sums.{sum_by-cons, sum_by_more}
-use Rattle.lert_rows.specs.Young.{Young, grown, begun, added, with_event, IsNextPosition, bins_of, IsOfZero, IsFilled, AreFilled}
-use Rattle.lert_rows.proofs.YoungLaws.{bins_of-none, bins_of-some, bins_of-length, bins_of-begin, bins_of-grow, IsPlace, place_of, rest_of, added-begin, added-grow, some_bins, bits_of_zero, same_numbers}
+use Rattle.lert_rows.specs.Young.{Young, added, with_event, IsNextPosition, bins_of, IsFilled, AreFilled}
+use Rattle.lert_rows.proofs.YoungLaws.{bins_of-none, bins_of-begin, bins_of-grow, IsPlace, place_of, added-begin, added-grow, some_bins, bits_of_zero, same_numbers}
 
 -- what is known where a position is added: the fields, what callers see, and the number of the table
 pub record Adds {T : Type 0} (pieces : T → List Piece) (room quotient remainder : T → ℕ) (s : Numbers) (tables : List T) (from to : ℕ) (young : Young) (m begin wide at : ℕ) : Type 0 where

@@ -1,23 +1,17 @@
 -- Level 0 as its oldest bin is dropped.
-use Rattle.std.proofs.Common.{ℕ, zero, suc, ◌≡◌, ◌+◌, ◌-◌, ◌*◌, ◌/◌, ◌%◌, ◌^◌, ◌<◌, ◌≤◌, cond, eqb, ltb, min, List, [], ◌∷◌, ◌++◌, length, get_or, set, map, drop, refl, ap, ap₂, sym, ◌∙◌, subst, arith, inl, inr, sum_by, length-set, length-append, get_or-set_same, get_or-set_other, take}
-use Rattle.std.proofs.Math.Nat.{div-add-mod, mod-lt, mul-le-mul_right, suc-mul, pow-zero}
-use Rattle.std.proofs.lemmas.Bool.{lt-ltb, le-ltb, eq-eqb, ne_eqb, cases_lt, cases_eq}
+use Rattle.std.proofs.Common.{ℕ, suc, ◌≡◌, ◌+◌, ◌*◌, ◌≤◌, cond, ltb, min, List, [], ◌∷◌, ◌++◌, length, get_or, set, map, drop, ap, sym, ◌∙◌, subst, arith, inl, inr, length-append, take}
+use Rattle.std.proofs.Math.Nat.{div-add-mod, suc-mul}
+use Rattle.std.proofs.lemmas.Bool.{cases_lt}
 use Rattle.std.proofs.Math.ListN.{get_or-append}
 use Rattle.std.proofs.Math.Seq.{get_or-append_seam}
-use Rattle.std.proofs.lemmas.List.{map-set, map-append, get_or-map, length-map, take_all}
-use Rattle.std.proofs.lemmas.Nat.{mod-mul-add}
+use Rattle.std.proofs.lemmas.List.{map-append, length-map}
 use Rattle.lert_spec.specs.declared.numbers.Numbers.{Numbers}
 use Rattle.lert_spec.specs.declared.piece.Piece.{Piece}
 use Rattle.lert_spec.specs.Bins.{Bin}
-use Rattle.lert_spec.specs.Edges.{span, capacity, quotient_bits, width}
-use Rattle.lert_spec.specs.Limits.{IsValid}
-use Rattle.lert_spec.specs.Table.{count_of, total, plus}
-use Rattle.lert_spec.proofs.LimitLaws.{quotient_bits_by_zeros}
-use Rattle.lert_spec.proofs.Tables.{total-plus}
-use Rattle.lert_spec.proofs.TallyLaws.{count_of-cons_same, count_of-cons_other}
-use Rattle.std.proofs.lemmas.List.Sums.{sum_by-cons, sum_by_more}
-use Rattle.lert_rows.specs.Young.{Young, grown, begun, added, with_event, IsNextPosition, bins_of, IsOfZero, IsFilled, AreFilled}
-use Rattle.lert_rows.proofs.YoungLaws.{bins_of-none, bins_of-some, bins_of-length, bins_of-begin, bins_of-grow, IsPlace, place_of, rest_of, added-begin, added-grow, some_bins, bits_of_zero, same_numbers}
+use Rattle.lert_spec.specs.Edges.{span}
+use Rattle.lert_spec.specs.Table.{total}
+use Rattle.lert_rows.specs.Young.{Young, bins_of, IsFilled, AreFilled}
+use Rattle.lert_rows.proofs.YoungLaws.{bins_of-none, bins_of-some, rest_of, some_bins, same_numbers}
 
 -- tables behind the last position show nothing
 bins_of-behind : (wide from to : ℕ) (tables more : List (List Piece)) → to ≤ from + length tables * wide → bins_of wide from to (tables ++ more) ≡ bins_of wide from to tables

@@ -77,4 +77,4 @@ pub record AreFilled {T : Type 0} (pieces : T → List Piece) (room quotient rem
   pub last : to ≤ capacity s
   pub each : (k : ℕ) (d : T) → k < length tables →
       IsFilled s from to k (pieces (slice_index_or tables k d)) (room (slice_index_or tables k d))
-          (quotient (slice_index_or tables k d)) (remainder (slice_index_or tables k d))
+      (quotient (slice_index_or tables k d)) (remainder (slice_index_or tables k d))
