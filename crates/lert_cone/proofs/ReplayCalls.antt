@@ -1,5 +1,5 @@
 -- A record of the journal through the calls that a cone makes for it: it is read, and then its keys are taken.
-use Rattle.std.proofs.Common.{◌≡◌, ℕ, ◌+◌, ◌≤◌, List, ◌++◌, length, take, drop, max, Option, Some, Result, sym, ap, ◌∙◌, subst, inl, inr, arith}
+use Rattle.std.proofs.Common.{◌≡◌, ℕ, ◌+◌, ◌≤◌, List, ◌++◌, length, take, drop, max, Option, Some, Result, sym, ap, ◌∙◌, subst, inl, inr, arith, length-append}
 use Rattle.std.specs.List.{length_refill}
 use Rattle.lert_base.specs.Packet.{Packet, events_of}
 use Rattle.lert_bay.specs.Files.{Files, IfTold}
@@ -61,6 +61,10 @@ pub listing_more : (old new : Listing) (keys taken : List ℕ) → new ≡ recor
     new ≡ record { settings = old.settings; cone = old.cone; events = old.events ++ keys; closed = old.closed }
 listing_more old new keys taken is took same =
     is ∙ ap (λ (ks : List ℕ). record { settings = old.settings; cone = old.cone; events = ks; closed = old.closed }) (took ∙ ap (λ ks. old.events ++ ks) same)
+
+pub length_more : (old new : Listing) (keys : List ℕ) (events len : ℕ) → new ≡ record { settings = old.settings; cone = old.cone; events = old.events ++ keys; closed = old.closed } →
+    length old.events ≡ events → len ≡ length new.events → len ≡ events + length keys
+length_more old new keys events len is counted len_is = omega (arith, len_is, ap (λ (l : Listing). length l.events) is, length-append old.events keys, counted)
 
 -- a buffer that was lent keeps its length
 pub refilled : (len : ℕ) (items new : List ℕ) → len ≡ length items → length (take len (new ++ drop (length new) items)) ≡ length items

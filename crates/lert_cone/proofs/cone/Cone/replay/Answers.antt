@@ -21,15 +21,14 @@ use Rattle.lert_cone.specs.Replay.{IsOnWay, IsPast, ReplayLeavesAt}
 use Rattle.lert_cone.specs.Replays.{WhyRefused}
 use Rattle.lert_cone.specs.Room.{room_of}
 use Rattle.lert_cone.specs.Stands.{Standing, is_broken, over_of}
-use Rattle.lert_cone.proofs.GateLaws.{keys_next, past_more, ends_there}
-use Rattle.lert_cone.proofs.ReplayLaws.{journal_on_way, never_on_way, on_way_read}
-use Rattle.lert_cone.proofs.ReplayCalls.{alone_behind, ended_at, ended_replays, held_at, keys_stay, keys_unwritten, listing_more, moved_on, read_stays, read_unwritten, refilled, seen_as, with_keys}
-use Rattle.lert_cone.proofs.ReplayStands.{leaves_listing, near_then, never_unsound, next_there, unsound_keys, only_by_bay, only_failed, read_settled, read_shut, refused_keys, refused_record, replaying_cone, settled_then, shut_there}
+use Rattle.lert_cone.proofs.GateLaws.{past_more}
+use Rattle.lert_cone.proofs.ReplayLaws.{never_on_way}
+use Rattle.lert_cone.proofs.ReplayCalls.{alone_behind, ended_at, ended_replays, held_at, keys_stay, keys_unwritten, length_more, listing_more, moved_on, read_stays, read_unwritten, refilled, seen_as, with_keys}
+use Rattle.lert_cone.proofs.ReplayStands.{leaves_listing, near_then, never_unsound, unsound_keys, only_by_bay, only_failed, read_settled, read_shut, refused_keys, refused_record, replaying_cone, settled_then}
 use Rattle.lert_cone.proofs.ReplayStep.{told_once}
 use Rattle.lert_io.proofs.Rising.{risen_since}
 use Rattle.lert_cone.proofs.StandLaws.{broken_cone}
 use Rattle.lert_cone.proofs.FaultLaws.{by_bay_of, is_broken_by, not_replaying_by}
-use Rattle.lert_cone.proofs.WroteLaws.{leaves_on, leaves_read}
 use Rattle.lert_cone.proofs.cone.Cone.replay.Given as given
 use Rattle.lert_cone.proofs.cone.Cone.replay.Goals as goal
 
@@ -83,11 +82,11 @@ pub returns-in-Err-replay_keys-clause-refused : goal.returns-in-Err-replay_keys-
 returns-in-Err-replay_keys-clause-refused g c =
     let gate_is : c.at_gate-self-inside.result.gate ≡ c.args.gate = ap (λ (j : Log). j.gate) c.at_gate-self-inside.ensures in
     let yes : IsTrue c.in-Ok-true.field-0 = c.in-Ok-true.field-0-test in
+    let cone = seen_as c.self.inside.bay c.self.inside.made.value c.self.inside.tally c.self.inside.events c.self.inside.state (over_of c.self.inside.over) c.self.inside.journal.gate
+    c.self.inside.log c.self.inside.last in
     rw (← c.self.view_is) (λ seen told.
-    subst (λ (fault : ReplayFault). WhyRefused (seen_as c.self.inside.bay c.self.inside.made.value c.self.inside.tally c.self.inside.events c.self.inside.state
-    (over_of c.self.inside.over) c.self.inside.journal.gate c.self.inside.log c.self.inside.last) (seen 0) c.args.gate fault) (sym c.from.ensures)
-    (refused_keys (seen_as c.self.inside.bay c.self.inside.made.value c.self.inside.tally c.self.inside.events c.self.inside.state
-    (over_of c.self.inside.over) c.self.inside.journal.gate c.self.inside.log c.self.inside.last) (seen 0) c.args.gate c.in-Err-replay_keys.fault (record {
+    subst (λ (fault : ReplayFault). WhyRefused cone (seen 0) c.args.gate fault) (sym c.from.ensures)
+    (refused_keys cone (seen 0) c.args.gate c.in-Err-replay_keys.fault (record {
       packet = (packet_of c.read_packet.new.entry);
       stands = (held_at gate_is (c.in-Ok-true.ensures.found seen told yes));
       follows = c.in-Ok-true.ensures.follows yes;
@@ -122,14 +121,8 @@ invariant_of-self-in-Ok-true g c =
     c.replay_keys.ensures.listing c.in_default.ensures.taken c.keys_of.ensures.value in
     let moved : c.read_packet.new.journal.gate ≡ next_gate c.args.gate (payload_of (packet_of c.read_packet.new.entry)) =
     moved_on (payload_of (packet_of c.read_packet.new.entry)) (c.in-Ok-true.ensures.moved yes) gate_is in
-    let events_is : c.len-self-inside.result ≡ c.self.inside.events + length c.read_packet.new.entry.keys.keys = omega (
-      arith,
-      c.len-self-inside.ensures,
-      ap (λ
-          (l : Listing). length l.events) listing_is,
-      length-append c.self.inside.tally.listing.events c.read_packet.new.entry.keys.keys,
-      was.counted,
-    ) in
+    let events_is = length_more c.self.inside.tally.listing c.replay_keys.new.tally.listing c.read_packet.new.entry.keys.keys c.self.inside.events c.len-self-inside.result
+    listing_is was.counted c.len-self-inside.ensures in
     let settings_are : c.replay_keys.new.tally.listing.settings ≡ c.self.inside.tally.listing.settings = ap (λ (l : Listing). l.settings) listing_is in
     let journaled = c.in-Ok-true.ensures.journaled yes in
     let lent : length c.replay_keys.new.buffer ≡ length c.deref_mut-in-Ok-true.result.now = c.replay_keys.auto.buffer in
@@ -171,14 +164,8 @@ returns-in_default-clause-taken g c =
     c.replay_keys.ensures.listing c.in_default.ensures.taken c.keys_of.ensures.value in
     let moved : c.read_packet.new.journal.gate ≡ next_gate c.args.gate (payload_of (packet_of c.read_packet.new.entry)) =
     moved_on (payload_of (packet_of c.read_packet.new.entry)) (c.in-Ok-true.ensures.moved yes) gate_is in
-    let events_is : c.len-self-inside.result ≡ c.self.inside.events + length c.read_packet.new.entry.keys.keys = omega (
-      arith,
-      c.len-self-inside.ensures,
-      ap (λ
-          (l : Listing). length l.events) listing_is,
-      length-append c.self.inside.tally.listing.events c.read_packet.new.entry.keys.keys,
-      was.counted,
-    ) in
+    let events_is = length_more c.self.inside.tally.listing c.replay_keys.new.tally.listing c.read_packet.new.entry.keys.keys c.self.inside.events c.len-self-inside.result
+    listing_is was.counted c.len-self-inside.ensures in
     rw (← c.self.view_is) (record {
       packet = (packet_of c.read_packet.new.entry);
       stands = λ seen told. (held_at gate_is (c.in-Ok-true.ensures.found seen told yes));
@@ -287,11 +274,11 @@ returns-in-Ok-false-clause-replays g c =
 pub returns-in-Err-clause-refused : goal.returns-in-Err-clause-refused
 returns-in-Err-clause-refused g c =
     let gate_is : c.at_gate-self-inside.result.gate ≡ c.args.gate = ap (λ (j : Log). j.gate) c.at_gate-self-inside.ensures in
+    let cone = seen_as c.self.inside.bay c.self.inside.made.value c.self.inside.tally c.self.inside.events c.self.inside.state (over_of c.self.inside.over) c.self.inside.journal.gate
+    c.self.inside.log c.self.inside.last in
     rw (← c.self.view_is) (λ seen told.
-    subst (λ (fault : ReplayFault). WhyRefused (seen_as c.self.inside.bay c.self.inside.made.value c.self.inside.tally c.self.inside.events c.self.inside.state
-    (over_of c.self.inside.over) c.self.inside.journal.gate c.self.inside.log c.self.inside.last) (seen 0) c.args.gate fault) (sym c.from-fault.ensures)
-    (refused_record (seen_as c.self.inside.bay c.self.inside.made.value c.self.inside.tally c.self.inside.events c.self.inside.state
-    (over_of c.self.inside.over) c.self.inside.journal.gate c.self.inside.log c.self.inside.last) (seen 0) c.args.gate c.in-Err.fault (λ at same.
+    subst (λ (fault : ReplayFault). WhyRefused cone (seen 0) c.args.gate fault) (sym c.from-fault.ensures)
+    (refused_record cone (seen 0) c.args.gate c.in-Err.fault (λ at same.
     subst (λ g. ReplayLeavesAt c.self.inside.tally.listing.settings c.self.inside.tally.listing.cone c.self.inside.last.n0 c.self.inside.last.closed (length c.self.inside.tally.listing.events)
     (seen 0) g at) gate_is (c.in-Err.ensures.malformed seen told at (ap Err same)))))
 
