@@ -7,23 +7,22 @@ use lert_bay::{Bay, FRAMES, JOURNAL, LOG, MemBay};
 use lert_io::Failed;
 use std::alloc::Global;
 use std::process::Abort;
-use std::test::Fail;
 
 // Each pick, and what a crash leaves by it.
 type Left<'a> = [(u64, &'a [u8]); 4];
 
 // A bay whose journal holds `synced` durably, and then these bytes at a place.
-fn written(alloc: Global, synced: &[u8], at: u64, bytes: &[u8]) -> Result<MemBay, Fail>
+fn written(rt: &impl Abort, alloc: Global, synced: &[u8], at: u64, bytes: &[u8]) -> MemBay
     requires { at + length bytes.now < 2 ^ 63 }
 {
-    let mut bay = MemBay::new(alloc)?;
-    bay.load(JOURNAL, synced)?;
-    bay.write_at(JOURNAL, at, bytes)?;
-    Ok(bay)
+    let mut bay = MemBay::new(alloc).expect(rt, "memory");
+    bay.load(JOURNAL, synced).expect(rt, "memory");
+    bay.write_at(JOURNAL, at, bytes).expect(rt, "no fault");
+    bay
 }
 
 #[test]
-fn a_crash_leaves_old_bytes_new_bytes_or_a_mix_of_a_copy_too(rt: HostRuntime) -> Result<(), Fail> {
+fn a_crash_leaves_old_bytes_new_bytes_or_a_mix_of_a_copy_too(rt: HostRuntime) {
     let left: Left = [
         (0, b"aaaa"),
         (1, b"aabbbbbb"),
@@ -31,86 +30,87 @@ fn a_crash_leaves_old_bytes_new_bytes_or_a_mix_of_a_copy_too(rt: HostRuntime) ->
         (3, b"aaaa\0b"),
     ];
     for (pick, want) in left {
-        let bay = written(rt.alloc(), b"aaaa", 2, b"bbbbbb")?;
-        let copy = bay.copied(rt.alloc())?.crashed(pick)?;
-        assert_eq!(rt; bay.crashed(pick)?.bytes(JOURNAL), want, "by pick {pick}");
+        let bay = written(&rt, rt.alloc(), b"aaaa", 2, b"bbbbbb");
+        let copy = bay
+            .copied(rt.alloc())
+            .expect(&rt, "memory")
+            .crashed(pick)
+            .expect(&rt, "memory");
+        assert_eq!(rt;
+            bay.crashed(pick).expect(&rt, "memory").bytes(JOURNAL),
+            want,
+            "by pick {pick}"
+        );
         assert_eq!(rt; copy.bytes(JOURNAL), want, "a copy by pick {pick}");
     }
-    Ok(())
 }
 
 #[test]
-fn after_a_sync_a_crash_leaves_what_a_read_gives(rt: HostRuntime) -> Result<(), Fail> {
+fn after_a_sync_a_crash_leaves_what_a_read_gives(rt: HostRuntime) {
     for pick in 0..4 {
-        let mut bay = written(rt.alloc(), b"aaaa", 2, b"bb")?;
-        bay.write_at(LOG, 0, b"cc")?;
-        bay.sync(JOURNAL)?;
-        let bay = bay.crashed(pick)?;
+        let mut bay = written(&rt, rt.alloc(), b"aaaa", 2, b"bb");
+        bay.write_at(LOG, 0, b"cc").expect(&rt, "no fault");
+        bay.sync(JOURNAL).expect(&rt, "no fault");
+        let bay = bay.crashed(pick).expect(&rt, "memory");
         assert_eq!(rt; bay.bytes(JOURNAL), b"aabb".as_slice(), "by pick {pick}");
     }
-    Ok(())
 }
 
 #[test]
-fn a_sync_makes_one_file_durable(rt: HostRuntime) -> Result<(), Fail> {
-    let mut bay = MemBay::new(rt.alloc())?;
+fn a_sync_makes_one_file_durable(rt: HostRuntime) {
+    let mut bay = MemBay::new(rt.alloc()).expect(&rt, "memory");
     for file in [JOURNAL, LOG, FRAMES] {
-        bay.write_at(file, 0, b"new")?;
+        bay.write_at(file, 0, b"new").expect(&rt, "no fault");
     }
-    bay.sync(LOG)?;
-    let bay = bay.crashed(0)?;
+    bay.sync(LOG).expect(&rt, "no fault");
+    let bay = bay.crashed(0).expect(&rt, "memory");
     assert_eq!(rt;
         (bay.bytes(JOURNAL), bay.bytes(LOG), bay.bytes(FRAMES)),
         (b"".as_slice(), b"new".as_slice(), b"".as_slice())
     );
-    Ok(())
 }
 
 #[test]
-fn writes_over_one_another_are_taken_back_to_the_last_sync(rt: HostRuntime) -> Result<(), Fail> {
+fn writes_over_one_another_are_taken_back_to_the_last_sync(rt: HostRuntime) {
     let left: Left = [(0, b"aaaa"), (1, b"abcc"), (2, b"abaa"), (3, b"aabc")];
     for (pick, want) in left {
-        let mut bay = written(rt.alloc(), b"aaaa", 1, b"bb")?;
-        bay.write_at(JOURNAL, 2, b"cc")?;
-        let bay = bay.crashed(pick)?;
+        let mut bay = written(&rt, rt.alloc(), b"aaaa", 1, b"bb");
+        bay.write_at(JOURNAL, 2, b"cc").expect(&rt, "no fault");
+        let bay = bay.crashed(pick).expect(&rt, "memory");
         assert_eq!(rt; bay.bytes(JOURNAL), want, "by pick {pick}");
     }
-    Ok(())
 }
 
 #[test]
-fn a_failed_write_is_torn(rt: HostRuntime) -> Result<(), Fail> {
-    let mut bay = MemBay::new(rt.alloc())?;
-    bay.load(JOURNAL, b"aaaa")?;
+fn a_failed_write_is_torn(rt: HostRuntime) {
+    let mut bay = MemBay::new(rt.alloc()).expect(&rt, "memory");
+    bay.load(JOURNAL, b"aaaa").expect(&rt, "memory");
     bay.fail_at(2);
-    bay.sync(JOURNAL)?;
+    bay.sync(JOURNAL).expect(&rt, "no fault");
     assert!(rt; bay.write_at(JOURNAL, 2, b"bbbb").is_err());
     assert_eq!(rt; bay.bytes(JOURNAL), b"aabb".as_slice());
-    bay.write_at(JOURNAL, 0, b"c")?;
+    bay.write_at(JOURNAL, 0, b"c").expect(&rt, "no fault");
     assert_eq!(rt; bay.bytes(JOURNAL), b"cabb".as_slice());
-    Ok(())
 }
 
 #[test]
-fn a_stopped_bay_fails_from_that_call_on(rt: HostRuntime) -> Result<(), Fail> {
-    let mut bay = MemBay::new(rt.alloc())?;
+fn a_stopped_bay_fails_from_that_call_on(rt: HostRuntime) {
+    let mut bay = MemBay::new(rt.alloc()).expect(&rt, "memory");
     bay.stop_at(3);
     let mut answers = [true; 5];
     for answer in &mut answers {
         *answer = bay.sync(JOURNAL).is_ok();
     }
     assert_eq!(rt; answers, [true, true, false, false, false]);
-    Ok(())
 }
 
 #[test]
-fn a_crash_ends_the_failing(rt: HostRuntime) -> Result<(), Fail> {
-    let mut bay = MemBay::new(rt.alloc())?.marked(7);
+fn a_crash_ends_the_failing(rt: HostRuntime) {
+    let mut bay = MemBay::new(rt.alloc()).expect(&rt, "memory").marked(7);
     bay.stop_at(0);
     assert!(rt; bay.len(LOG).is_err());
-    let mut bay = bay.crashed(0)?;
-    assert_eq!(rt; bay.len(LOG)?, 0);
-    Ok(())
+    let mut bay = bay.crashed(0).expect(&rt, "memory");
+    assert_eq!(rt; bay.len(LOG).expect(&rt, "no fault"), 0);
 }
 
 // Of every bay: after a write a crash may leave any other bytes in its range.
@@ -124,11 +124,10 @@ fn tears<B: Bay>(bay: &mut B, file: u8, at: u64, bytes: &[u8]) -> Result<(), Fai
 }
 
 #[test]
-fn a_write_may_tear(rt: HostRuntime) -> Result<(), Fail> {
-    let mut bay = MemBay::new(rt.alloc())?;
-    tears(&mut bay, LOG, 0, b"ab")?;
+fn a_write_may_tear(rt: HostRuntime) {
+    let mut bay = MemBay::new(rt.alloc()).expect(&rt, "memory");
+    tears(&mut bay, LOG, 0, b"ab").expect(&rt, "no fault");
     assert_eq!(rt; bay.bytes(LOG), b"ab".as_slice());
-    Ok(())
 }
 
 // Writes behind a gap, and reads it back in two pieces.
@@ -147,8 +146,7 @@ fn reads_back<B: Bay>(rt: &impl Abort, bay: &mut B) -> Result<(), Failed> {
 }
 
 #[test]
-fn a_gap_reads_as_zero_bytes(rt: HostRuntime) -> Result<(), Fail> {
-    let mut bay = MemBay::new(rt.alloc())?;
-    reads_back(&rt, &mut bay)?;
-    Ok(())
+fn a_gap_reads_as_zero_bytes(rt: HostRuntime) {
+    let mut bay = MemBay::new(rt.alloc()).expect(&rt, "memory");
+    reads_back(&rt, &mut bay).expect(&rt, "no fault");
 }

@@ -7,8 +7,8 @@ use lert_base::{Numbers, Piece, PieceFault, Pieces, Settings};
 use lert_bay::{FRAMES, MemBay};
 use lert_frames::{LoadFault, frame_place, load, store};
 use lert_io::Failed;
-use std::alloc::Global;
-use std::test::Fail;
+use std::alloc::{AllocError, Global};
+use std::process::Abort;
 
 // Bins of 4, 8 and 16 events, and four places a level.
 const SMALL: Numbers = Numbers {
@@ -33,23 +33,14 @@ const WIDE: Numbers = Numbers {
     ..SMALL
 };
 
-fn small() -> Result<Settings, Fail>
-    ensures { IfOk result (λ settings. settings ≡ SMALL) }
+fn settings_of(rt: &impl Abort, numbers: Numbers) -> Settings
+    ensures { result ≡ numbers }
 {
-    settings_of(SMALL)
-}
-
-fn settings_of(numbers: Numbers) -> Result<Settings, Fail>
-    ensures { IfOk result (λ settings. settings ≡ numbers) }
-{
-    match Settings::new(numbers) {
-        Ok(settings) => Ok(settings),
-        Err(_) => Err(Fail::new("the numbers are no settings")),
-    }
+    Settings::new(numbers).expect(rt, "settings")
 }
 
 // So many tails from 0 on, each once.
-fn tails(alloc: Global, len: u64) -> Result<Vec<Piece>, Fail>
+fn tails(alloc: Global, len: u64) -> Result<Vec<Piece>, AllocError>
     requires { len < 2 ^ 56 }
     ensures given { IfOk result (λ pieces. AreGiven (2 ^ 56) pieces.items) }
     ensures total { IfOk result (λ pieces. total pieces.items ≡ len) }
@@ -63,50 +54,48 @@ fn tails(alloc: Global, len: u64) -> Result<Vec<Piece>, Fail>
 
 // What is loaded of frame 0 of level 1 from a file of these bytes: how many pieces.
 fn loaded(
+    rt: &impl Abort,
     alloc: Global,
     settings: &Settings,
     bytes: &[u8],
     width: u64,
-) -> Result<Result<usize, LoadFault>, Fail>
+) -> Result<usize, LoadFault>
     requires settings { settings.now ≡ SMALL }
     requires some { 1 ≤ width }
     requires width { width ≤ 8 }
 {
-    let mut bay = MemBay::new(alloc)?;
-    bay.load(FRAMES, bytes)?;
-    Ok(match load(alloc, settings, 1, 0, width, &mut bay) {
-        Ok(bin) => Ok(bin.pieces().len()),
-        Err(fault) => Err(fault),
-    })
+    let mut bay = MemBay::new(alloc).expect(rt, "memory");
+    bay.load(FRAMES, bytes).expect(rt, "memory");
+    let bin = load(alloc, settings, 1, 0, width, &mut bay)?;
+    Ok(bin.pieces().len())
 }
 
 // Whether a frame of so many pieces is read as it was written.
-fn comes_back(alloc: Global, settings: &Settings, len: u64) -> Result<bool, Fail>
+fn comes_back(rt: &impl Abort, alloc: Global, settings: &Settings, len: u64) -> bool
     requires settings { settings.now ≡ WIDE }
     requires some { 1 ≤ len }
     requires len { len ≤ 600 }
 {
-    let mut bay = MemBay::new(alloc)?;
-    let pieces = tails(alloc, len)?;
-    store(settings, 1, 2, &pieces, &mut bay)?;
-    let bin = load(alloc, settings, 1, 2, len, &mut bay)?;
-    Ok(bin.pieces() == pieces.as_slice())
+    let mut bay = MemBay::new(alloc).expect(rt, "memory");
+    let pieces = tails(alloc, len).expect(rt, "memory");
+    store(settings, 1, 2, &pieces, &mut bay).expect(rt, "no fault");
+    let bin = load(alloc, settings, 1, 2, len, &mut bay).expect(rt, "a frame");
+    bin.pieces() == pieces.as_slice()
 }
 
 #[test]
-fn frames_stand_at_their_places(rt: HostRuntime) -> Result<(), Fail> {
-    let settings = small()?;
+fn frames_stand_at_their_places(rt: HostRuntime) {
+    let settings = settings_of(&rt, SMALL);
     assert_eq!(rt; frame_place(&settings, 1, 0), 0);
     assert_eq!(rt; frame_place(&settings, 1, 3), 396);
     assert_eq!(rt; frame_place(&settings, 2, 0), 528);
     assert_eq!(rt; frame_place(&settings, 2, 3), 1308);
-    Ok(())
 }
 
 #[test]
-fn a_frame_is_written_and_read(rt: HostRuntime) -> Result<(), Fail> {
-    let settings = small()?;
-    let mut bay = MemBay::new(rt.alloc())?;
+fn a_frame_is_written_and_read(rt: HostRuntime) {
+    let settings = settings_of(&rt, SMALL);
+    let mut bay = MemBay::new(rt.alloc()).expect(&rt, "memory");
     let pieces = [
         Piece { tail: 5, count: 1 },
         Piece {
@@ -114,29 +103,27 @@ fn a_frame_is_written_and_read(rt: HostRuntime) -> Result<(), Fail> {
             count: 2,
         },
     ];
-    store(&settings, 1, 1, &pieces, &mut bay)?;
+    store(&settings, 1, 1, &pieces, &mut bay).expect(&rt, "no fault");
     assert_eq!(rt; bay.bytes(FRAMES).len(), 168);
     assert_eq!(rt; &bay.bytes(FRAMES)[132..], TWO.as_slice());
-    let bin = load(rt.alloc(), &settings, 1, 1, 3, &mut bay)?;
+    let bin = load(rt.alloc(), &settings, 1, 1, 3, &mut bay).expect(&rt, "memory");
     assert_eq!(rt; bin.pieces(), pieces.as_slice());
-    Ok(())
 }
 
 #[test]
-fn a_frame_of_several_blocks_is_written_and_read(rt: HostRuntime) -> Result<(), Fail> {
-    let settings = settings_of(WIDE)?;
-    assert_eq!(rt; comes_back(rt.alloc(), &settings, 256)?, true);
-    assert_eq!(rt; comes_back(rt.alloc(), &settings, 257)?, true);
-    assert_eq!(rt; comes_back(rt.alloc(), &settings, 600)?, true);
-    Ok(())
+fn a_frame_of_several_blocks_is_written_and_read(rt: HostRuntime) {
+    let settings = settings_of(&rt, WIDE);
+    assert_eq!(rt; comes_back(&rt, rt.alloc(), &settings, 256), true);
+    assert_eq!(rt; comes_back(&rt, rt.alloc(), &settings, 257), true);
+    assert_eq!(rt; comes_back(&rt, rt.alloc(), &settings, 600), true);
 }
 
 #[test]
-fn a_loaded_bin_gives_its_pieces_in_order(rt: HostRuntime) -> Result<(), Fail> {
-    let settings = small()?;
-    let mut bay = MemBay::new(rt.alloc())?;
-    bay.load(FRAMES, &TWO)?;
-    let mut bin = load(rt.alloc(), &settings, 1, 0, 3, &mut bay)?;
+fn a_loaded_bin_gives_its_pieces_in_order(rt: HostRuntime) {
+    let settings = settings_of(&rt, SMALL);
+    let mut bay = MemBay::new(rt.alloc()).expect(&rt, "memory");
+    bay.load(FRAMES, &TWO).expect(&rt, "memory");
+    let mut bin = load(rt.alloc(), &settings, 1, 0, 3, &mut bay).expect(&rt, "memory");
     assert_eq!(rt; bin.next(&mut bay), Ok(Some(Piece { tail: 5, count: 1 })));
     assert_eq!(rt;
         bin.next(&mut bay),
@@ -147,12 +134,11 @@ fn a_loaded_bin_gives_its_pieces_in_order(rt: HostRuntime) -> Result<(), Fail> {
     );
     assert_eq!(rt; bin.next(&mut bay), Ok(None));
     assert_eq!(rt; bin.into_pieces().len(), 2);
-    Ok(())
 }
 
 #[test]
-fn a_file_leaves_a_frame_at_a_place(rt: HostRuntime) -> Result<(), Fail> {
-    let settings = small()?;
+fn a_file_leaves_a_frame_at_a_place(rt: HostRuntime) {
+    let settings = settings_of(&rt, SMALL);
     let broken: [(&[u8], u64, u64); 12] = [
         // the file ends in the number, in a tail, in a count
         (b"", 3, 0),
@@ -177,18 +163,17 @@ fn a_file_leaves_a_frame_at_a_place(rt: HostRuntime) -> Result<(), Fail> {
         (&TWO, 2, 0),
     ];
     for (bytes, width, at) in broken {
-        let answer = loaded(rt.alloc(), &settings, bytes, width)?;
+        let answer = loaded(&rt, rt.alloc(), &settings, bytes, width);
         assert_eq!(rt; answer, Err(LoadFault::Malformed { at }), "at {at}");
     }
-    assert_eq!(rt; loaded(rt.alloc(), &settings, &TWO, 3)?, Ok(2));
-    Ok(())
+    assert_eq!(rt; loaded(&rt, rt.alloc(), &settings, &TWO, 3), Ok(2));
 }
 
 #[test]
-fn a_failed_call_is_told(rt: HostRuntime) -> Result<(), Fail> {
-    let settings = small()?;
-    let mut bay = MemBay::new(rt.alloc())?;
-    bay.load(FRAMES, &TWO)?;
+fn a_failed_call_is_told(rt: HostRuntime) {
+    let settings = settings_of(&rt, SMALL);
+    let mut bay = MemBay::new(rt.alloc()).expect(&rt, "memory");
+    bay.load(FRAMES, &TWO).expect(&rt, "memory");
     for call in 1..4 {
         bay.fail_at(call);
         let fault = load(rt.alloc(), &settings, 1, 0, 3, &mut bay).err();
@@ -200,10 +185,9 @@ fn a_failed_call_is_told(rt: HostRuntime) -> Result<(), Fail> {
         let answer = store(&settings, 2, 0, &pieces, &mut bay);
         assert_eq!(rt; answer, Err(Failed), "at call {call}");
     }
-    store(&settings, 2, 0, &pieces, &mut bay)?;
-    let bin = load(rt.alloc(), &settings, 2, 0, 3, &mut bay)?;
+    store(&settings, 2, 0, &pieces, &mut bay).expect(&rt, "no fault");
+    let bin = load(rt.alloc(), &settings, 2, 0, 3, &mut bay).expect(&rt, "memory");
     assert_eq!(rt; bin.pieces(), pieces.as_slice());
-    let bin = load(rt.alloc(), &settings, 1, 0, 3, &mut bay)?;
+    let bin = load(rt.alloc(), &settings, 1, 0, 3, &mut bay).expect(&rt, "memory");
     assert_eq!(rt; bin.pieces().len(), 2);
-    Ok(())
 }

@@ -64,8 +64,8 @@ impl Model for Buffers {
 impl Buffers {
     ghost use Rattle.lert_buffers.specs.Rings.{ring_of, with_ring, fill_of, with_keys};
 
-    /// Empty rings for 1 to 256 cones and packets of 1 to 1,024 keys: one allocation a cone, and no other
-    /// later.
+    /// Empty rings for 1 to 256 cones and packets of 1 to 1,024 keys: one allocation for their list and one a
+    /// cone, and no other later.
     pub fn new(alloc: Global, cones: u32, packet: usize) -> Result<Buffers, OutOfMemory>
         requires least_cones { 1 ≤ cones }
         requires most_cones { cones ≤ 256 }

@@ -10,6 +10,7 @@ ghost use Rattle.lert_spec.specs.Look.{insert_mixed, mixed_order, is_listed, is_
 ghost use Rattle.lert_spec.specs.Mix.{mix, folded, scaled};
 ghost use Rattle.lert_spec.specs.Timely.{IsTimely, IsTimelySoFar};
 
+use crate::counts::count;
 use crate::edges::lookback;
 use lert_spec::{Numbers, Report};
 use std::alloc::{AllocError, Global};
@@ -54,18 +55,6 @@ fn mixed_order(alloc: Global, events: &[u64]) -> Result<Vec<u64>, AllocError>
         }
     }
     Ok(keys)
-}
-
-// How often a key occurs at the positions above `from`, up to `to`.
-fn count(key: u64, events: &[u64], from: usize, to: usize) -> u64
-    requires order { from ≤ to }
-    requires within { to ≤ length events.now }
-    ensures { result ≡ count key events.now from to }
-{
-    events[from..to]
-        .iter()
-        .filter(|event| **event == key)
-        .count() as u64
 }
 
 // A key is among those reported.

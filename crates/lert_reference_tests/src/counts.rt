@@ -1,5 +1,4 @@
 use lert_reference::counts::{count, distinct, first, heavy, nth_occurrence};
-use std::test::Fail;
 
 const EVENTS: [u64; 5] = [9, 1, 1, 9, 5];
 
@@ -40,7 +39,7 @@ fn occurrences_are_told_by_their_positions(rt: HostRuntime) {
 }
 
 #[test]
-fn keys_ascend_and_stand_once(rt: HostRuntime) -> Result<(), Fail> {
+fn keys_ascend_and_stand_once(rt: HostRuntime) {
     let rows: [(&[u64], &[u64], &[u64]); 4] = [
         (&[], &[], &[]),
         (&[7], &[7], &[]),
@@ -48,8 +47,17 @@ fn keys_ascend_and_stand_once(rt: HostRuntime) -> Result<(), Fail> {
         (&[u64::MAX, 0, u64::MAX], &[0, u64::MAX], &[u64::MAX]),
     ];
     for (events, keys, twice) in rows {
-        assert_eq!(rt; distinct(rt.alloc(), events)?.as_slice(), keys);
-        assert_eq!(rt; heavy(rt.alloc(), 2, events)?.as_slice(), twice);
+        assert_eq!(rt;
+            distinct(rt.alloc(), events)
+                .expect(&rt, "memory")
+                .as_slice(),
+            keys
+        );
+        assert_eq!(rt;
+            heavy(rt.alloc(), 2, events)
+                .expect(&rt, "memory")
+                .as_slice(),
+            twice
+        );
     }
-    Ok(())
 }

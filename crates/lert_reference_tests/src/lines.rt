@@ -1,9 +1,8 @@
 use lert_reference::lines::{Printed, lines};
 use lert_spec::Report;
-use std::test::Fail;
 
 #[test]
-fn texts_are_those_of_the_worked_rows(rt: HostRuntime) -> Result<(), Fail> {
+fn texts_are_those_of_the_worked_rows(rt: HostRuntime) {
     let alloc = rt.alloc();
     let nothing = [Printed {
         events: 0,
@@ -11,7 +10,7 @@ fn texts_are_those_of_the_worked_rows(rt: HostRuntime) -> Result<(), Fail> {
         closed: true,
     }];
     assert_eq!(rt;
-        lines(alloc, &nothing)?.as_str(),
+        lines(alloc, &nothing).expect(&rt, "memory").as_str(),
         "cone 0 events 0 reports 0 closed\ntotal events 0 reports 0\n"
     );
     let open = [Printed {
@@ -20,16 +19,18 @@ fn texts_are_those_of_the_worked_rows(rt: HostRuntime) -> Result<(), Fail> {
         closed: false,
     }];
     assert_eq!(rt;
-        lines(alloc, &open)?.as_str(),
+        lines(alloc, &open).expect(&rt, "memory").as_str(),
         "cone 0 events 64 reports 0 open\ntotal events 64 reports 0\n"
     );
     let sevens = [Printed {
         events: 3,
-        reports: [Report { key: 7, at: 3 }].to_vec(alloc)?,
+        reports: [Report { key: 7, at: 3 }]
+            .to_vec(alloc)
+            .expect(&rt, "memory"),
         closed: true,
     }];
     assert_eq!(rt;
-        lines(alloc, &sevens)?.as_str(),
+        lines(alloc, &sevens).expect(&rt, "memory").as_str(),
         "cone 0 events 3 reports 1 closed\n7 3\ntotal events 3 reports 1\n"
     );
     let greatest = Report {
@@ -39,19 +40,22 @@ fn texts_are_those_of_the_worked_rows(rt: HostRuntime) -> Result<(), Fail> {
     let two_cones = [
         Printed {
             events: 6,
-            reports: [Report { key: 0, at: 3 }, greatest].to_vec(alloc)?,
+            reports: [Report { key: 0, at: 3 }, greatest]
+                .to_vec(alloc)
+                .expect(&rt, "memory"),
             closed: true,
         },
         Printed {
             events: 3,
-            reports: [Report { key: 1, at: 3 }].to_vec(alloc)?,
+            reports: [Report { key: 1, at: 3 }]
+                .to_vec(alloc)
+                .expect(&rt, "memory"),
             closed: true,
         },
     ];
     assert_eq!(rt;
-        lines(alloc, &two_cones)?.as_str(),
+        lines(alloc, &two_cones).expect(&rt, "memory").as_str(),
         "cone 0 events 6 reports 2 closed\n0 3\n18446744073709551615 6\n\
          cone 1 events 3 reports 1 closed\n1 3\ntotal events 9 reports 3\n"
     );
-    Ok(())
 }

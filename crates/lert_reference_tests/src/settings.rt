@@ -1,7 +1,6 @@
 use lert_base::Settings;
 use lert_reference::edges;
 use lert_spec::Numbers;
-use std::test::Fail;
 
 const SMALL: Numbers = Numbers {
     threshold: 3,
@@ -115,8 +114,10 @@ fn the_first_broken_rule_is_named(rt: HostRuntime) {
 }
 
 #[test]
-fn small_settings_have_the_numbers_of_the_worked_rows(rt: HostRuntime) -> Result<(), Fail> {
-    let settings = Settings::new(SMALL).ok().ok_or("the numbers are settings")?;
+fn small_settings_have_the_numbers_of_the_worked_rows(rt: HostRuntime) {
+    let settings = Settings::new(SMALL)
+        .ok()
+        .expect(&rt, "the numbers are settings");
     assert_eq!(rt; settings.cones(), 1);
     assert_eq!(rt; settings.capacity(), 71);
     assert_eq!(rt; settings.span(2), 16);
@@ -130,27 +131,26 @@ fn small_settings_have_the_numbers_of_the_worked_rows(rt: HostRuntime) -> Result
     assert_eq!(rt; settings.lookback(40), 0);
     assert_eq!(rt; settings.quotient_bits(1), 6);
     assert_eq!(rt; settings.width(1), 58);
-    Ok(())
 }
 
 #[test]
-fn the_shipped_capacity_is_6291456(rt: HostRuntime) -> Result<(), Fail> {
+fn the_shipped_capacity_is_6291456(rt: HostRuntime) {
     let settings = Settings::new(SHIPPED)
         .ok()
-        .ok_or("the numbers are settings")?;
+        .expect(&rt, "the numbers are settings");
     assert_eq!(rt; settings.capacity(), 6_291_456);
     assert_eq!(rt; settings.cones(), 16);
-    Ok(())
 }
 
 // The readers and the slow programs of their definitions, at each position of a cone.
 #[test]
-fn readers_agree_with_the_slow_programs(rt: HostRuntime) -> Result<(), Fail> {
-    let settings = Settings::new(SMALL).ok().ok_or("the numbers are settings")?;
+fn readers_agree_with_the_slow_programs(rt: HostRuntime) {
+    let settings = Settings::new(SMALL)
+        .ok()
+        .expect(&rt, "the numbers are settings");
     let numbers = settings.numbers();
     for m in 1..settings.capacity() + 1 {
         assert_eq!(rt; u64::from(settings.depth(m)), edges::depth(&numbers, m));
         assert_eq!(rt; settings.lookback(m), edges::lookback(&numbers, m));
     }
-    Ok(())
 }

@@ -1,7 +1,6 @@
 use lert_reference::timely::{is_timely, is_timely_so_far};
 use lert_spec::Report;
 use std::alloc::{AllocError, Global};
-use std::test::Fail;
 
 // Key 7 reaches three at position 13, twelve behind its first, and key 8 at position 14, eleven behind its first.
 const EVENTS: [u64; 20] = [
@@ -18,7 +17,7 @@ fn reports_of(alloc: Global, pairs: &[(u64, u64)]) -> Result<Vec<Report>, AllocE
 
 // With three bins a report may be late by half of what its key took to reach the threshold.
 #[test]
-fn reports_are_tried_with_threshold_three_and_three_bins(rt: HostRuntime) -> Result<(), Fail> {
+fn reports_are_tried_with_threshold_three_and_three_bins(rt: HostRuntime) {
     let rows: [(usize, &[(u64, u64)], bool, bool); 20] = [
         // Nothing is due.
         (0, &[], true, true),
@@ -51,7 +50,7 @@ fn reports_are_tried_with_threshold_three_and_three_bins(rt: HostRuntime) -> Res
     ];
     for (len, pairs, timely, so_far) in rows {
         assert!(rt; len <= 20);
-        let reports = reports_of(rt.alloc(), pairs)?;
+        let reports = reports_of(rt.alloc(), pairs).expect(&rt, "memory");
         let events = &EVENTS[..len];
         assert_eq!(rt; is_timely(3, 3, events, &reports), timely, "{reports:?}");
         assert_eq!(rt;
@@ -60,5 +59,4 @@ fn reports_are_tried_with_threshold_three_and_three_bins(rt: HostRuntime) -> Res
             "{reports:?}"
         );
     }
-    Ok(())
 }

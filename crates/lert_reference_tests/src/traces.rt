@@ -1,8 +1,7 @@
 use lert_reference::traces::{keys, left, whole};
-use std::test::Fail;
 
 #[test]
-fn bytes_leave_the_format_at_the_first_wrong_place(rt: HostRuntime) -> Result<(), Fail> {
+fn bytes_leave_the_format_at_the_first_wrong_place(rt: HostRuntime) {
     let rows: [(&[u8], Option<usize>, &[u64]); 8] = [
         (b"", Some(0), &[]),
         (b"LER", Some(3), &[]),
@@ -20,9 +19,12 @@ fn bytes_leave_the_format_at_the_first_wrong_place(rt: HostRuntime) -> Result<()
     ];
     for (bytes, place, before) in rows {
         assert_eq!(rt; left(bytes), place, "{bytes:?}");
-        assert_eq!(rt; whole(rt.alloc(), bytes)?.as_slice(), before, "{bytes:?}");
-        let found = keys(rt.alloc(), bytes)?;
+        assert_eq!(rt;
+            whole(rt.alloc(), bytes).expect(&rt, "memory").as_slice(),
+            before,
+            "{bytes:?}"
+        );
+        let found = keys(rt.alloc(), bytes).expect(&rt, "memory");
         assert_eq!(rt; found.is_some(), place.is_none(), "{bytes:?}");
     }
-    Ok(())
 }
