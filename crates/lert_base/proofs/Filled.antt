@@ -11,7 +11,8 @@ use Rattle.lert_base.specs.Computed.{sum_below, spans_of, offsets_of}
 use Rattle.lert_base.proofs.Levels.{get_or-spans_of, get_or-offsets_of}
 
 -- one more place written, where each place has its own number
-pub filled_more : (f : ℕ → ℕ) (xs : List ℕ) (level value : ℕ) → length xs ≡ 9 → level < 9 → ((k : ℕ) → k < level → get_or xs k 0 ≡ f k) → value ≡ f level → (length (set xs level value) ≡ 9) × ((k : ℕ) → k < level + 1 → get_or (set xs level value) k 0 ≡ f k)
+pub filled_more : (f : ℕ → ℕ) (xs : List ℕ) (level value : ℕ) → length xs ≡ 9 → level < 9 → ((k : ℕ) → k < level → get_or xs k 0 ≡ f k) → value ≡ f level →
+    (length (set xs level value) ≡ 9) × ((k : ℕ) → k < level + 1 → get_or (set xs level value) k 0 ≡ f k)
 filled_more f xs level value nine within before here = (
   length-set xs level value ∙ nine,
   λ k below. elim (cases_lt k level) [
@@ -37,7 +38,8 @@ sum_next s zero = omega arith
 sum_next s (suc level) = sym (sum_is s (suc level))
 
 -- the end of the oldest level's offset and span, as they were computed
-pub end_is : (s : Numbers) (all_spans all_offsets : List ℕ) → IsInLimits s → all_spans ≡ spans_of s → all_offsets ≡ offsets_of s → get_or all_offsets s.levels 0 + get_or all_spans s.levels 0 ≡ offset s s.levels + span s s.levels
+pub end_is : (s : Numbers) (all_spans all_offsets : List ℕ) → IsInLimits s → all_spans ≡ spans_of s → all_offsets ≡ offsets_of s →
+    get_or all_offsets s.levels 0 + get_or all_spans s.levels 0 ≡ offset s s.levels + span s s.levels
 end_is s all_spans all_offsets limits spans_are offsets_are =
     ap₂ (λ o w. get_or o s.levels 0 + get_or w s.levels 0) offsets_are spans_are
     ∙ ap₂ (λ a b. a + b) (get_or-offsets_of s s.levels limits.levels_to) (get_or-spans_of s s.levels limits.levels_to)

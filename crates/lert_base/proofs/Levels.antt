@@ -1,5 +1,6 @@
 -- What stands beside the numbers of settings, read at a level.
-use Rattle.std.proofs.Common.{ℕ, ◌≡◌, ◌-◌, ◌<◌, ◌≤◌, List, get_or, ap, ap₂, sym, ◌∙◌, arith, ◌≢◌, ◌%◌, inl, inr, subst, eqb, ltb, eq-eqb, IsTrue, ◌↔◌, max}
+use Rattle.std.proofs.Common.{ℕ, ◌≡◌, ◌-◌, ◌<◌, ◌≤◌, List, get_or, ap, ap₂, sym, ◌∙◌, arith, ◌≢◌, ◌%◌, inl, inr, subst, eqb, ltb, eq-eqb, IsTrue, ◌↔◌}
+use Rattle.std.proofs.Common.{max}
 use Rattle.std.specs.Int.Count.{count_leading_zeros}
 use Rattle.std.proofs.lemmas.Bool.{cases_eq, eqb-true, ltb-true}
 use Rattle.std.proofs.lemmas.List.FromFn.{get_or-map-range_with_len}
@@ -65,7 +66,8 @@ module _ (s : Numbers) (valid : IsValid s) (level m far wide : ℕ) (far_is : fa
   )
 
 -- how many levels move in a row is the depth
-pub depth_reached : (s : Numbers) → IsValid s → (reached m : ℕ) → reached ≤ s.levels → ((k : ℕ) → k < reached → edge s k m ≢ edge s k (m - 1)) → (reached < s.levels → edge s reached m ≢ edge s reached (m - 1) → ⊥) → reached ≡ depth s m
+pub depth_reached : (s : Numbers) → IsValid s → (reached m : ℕ) → reached ≤ s.levels → ((k : ℕ) → k < reached → edge s k m ≢ edge s k (m - 1)) →
+    (reached < s.levels → edge s reached m ≢ edge s reached (m - 1) → ⊥) → reached ≡ depth s m
 depth_reached s valid reached m within moves stays =
     sym (deepest_is s (omega (arith, valid.limits.base_from)) (omega (arith, valid.limits.ratio_from)) s.levels reached m within moves
     (λ less. elim (cases_eq (edge s reached m) (edge s reached (m - 1))) [
@@ -74,7 +76,8 @@ depth_reached s valid reached m within moves stays =
     ]))
 
 -- the quotient bits of a level, from its span as it is read
-pub quotient_bits_read : (s : Numbers) (level wide : ℕ) → IsValid s → level ≤ s.levels → wide ≡ span s level → (max (64 - count_leading_zeros 64 (wide - 1)) 6 ≡ quotient_bits s level) × (max (64 - count_leading_zeros 64 (wide - 1)) 6 ≤ 32)
+pub quotient_bits_read : (s : Numbers) (level wide : ℕ) → IsValid s → level ≤ s.levels → wide ≡ span s level →
+    (max (64 - count_leading_zeros 64 (wide - 1)) 6 ≡ quotient_bits s level) × (max (64 - count_leading_zeros 64 (wide - 1)) 6 ≤ 32)
 quotient_bits_read s level wide valid within wide_is =
     let P : ℕ → Type 0 = λ w. (max (64 - count_leading_zeros 64 (w - 1)) 6 ≡ quotient_bits s level) × (max (64 - count_leading_zeros 64 (w - 1)) 6 ≤ 32) in
     subst P (sym wide_is) (quotient_bits_by_zeros s level valid within)

@@ -1,5 +1,6 @@
 -- What the first values of a text say of the group at its front.
-use Rattle.std.proofs.Common.{◌≡◌, ℕ, suc, zero, ◌+◌, ◌-◌, ◌^◌, ◌<◌, ◌≤◌, ◌≢◌, List, [], ◌∷◌, ◌++◌, length, map, take, drop, get_or, refl, sym, ap, ◌∙◌, subst, inl, inr, ◌⊎◌, arith, length-append, append_assoc, Option, Some, None, IsNone}
+use Rattle.std.proofs.Common.{◌≡◌, ℕ, suc, zero, ◌+◌, ◌-◌, ◌^◌, ◌<◌, ◌≤◌, ◌≢◌, List, [], ◌∷◌, ◌++◌, length, map, take, drop, get_or, refl, sym, ap}
+use Rattle.std.proofs.Common.{◌∙◌, subst, inl, inr, ◌⊎◌, arith, length-append, append_assoc, Option, Some, None, IsNone}
 use Rattle.std.proofs.lemmas.List.{get_or_append_left, length-map, take-append-drop, take_at, length-take, length-drop, get_or-take, get_or-drop}
 use Rattle.std.proofs.lemmas.Bool.{cases_lt, cases_eq}
 use Rattle.std.proofs.lemmas.Option.{IfSome_then}
@@ -91,7 +92,8 @@ ShortRead text result = record {
 }
 
 -- a counter that was found and then checked
-pub checked_read : (width least x : ℕ) (text : List ℕ) (found : Group) (result : Option Group) → 3 ≤ least → least ≤ found.count → found.count ≤ 2 ^ 47 → found.x ≡ get_or text 0 0
+pub checked_read : (width least x : ℕ) (text : List ℕ) (found : Group) (result : Option Group) → 3 ≤ least → least ≤ found.count → found.count ≤ 2 ^ 47 →
+    found.x ≡ get_or text 0 0
     → IfSome result (λ g. (g ≡ read_as width found.x found.count) × BeginsWith text (group width found.x found.count))
     → IfSome result (λ g. (least ≤ g.count) × IsReadFrom width text g)
 checked_read width least x text found result counter_least least_is most first read = IfSome_then result read (λ g r.
@@ -125,7 +127,8 @@ read_three width x c z e = rw (z, e, group-three width) refl
 -- a count of 1
 short_one : (width x c : ℕ) (back rest : List ℕ) (result : Option Group) → c ≡ 1 → rest ≡ x ∷ back → Follows x back → ShortRead rest result → ShortOf width x c back rest result
 short_one width x c [] rest result e is follows short =
-    known (short.alone (ap (λ (t : List ℕ). length t) is) ∙ ap (λ y. Some (record { x = y; count = 1; used = 1 })) (ap (λ (t : List ℕ). get_or t 0 0) is) ∙ ap Some (sym (read_one width x c e)))
+    known (short.alone (ap (λ (t : List ℕ). length t) is) ∙ ap (λ y. Some (record { x = y; count = 1; used = 1 })) (ap (λ (t : List ℕ). get_or t 0 0) is)
+    ∙ ap Some (sym (read_one width x c e)))
 short_one width x c (y ∷ back) rest result e is follows short =
     let first : get_or rest 0 0 ≡ x = ap (λ (t : List ℕ). get_or t 0 0) is in
     let second : get_or rest 1 0 ≡ y = ap (λ (t : List ℕ). get_or t 1 0) is in
@@ -137,7 +140,8 @@ short_one width x c (y ∷ back) rest result e is follows short =
     ]
 
 -- a count of 2
-short_two : (width x c : ℕ) (back rest : List ℕ) (result : Option Group) → c ≡ 2 → rest ≡ x ∷ x ∷ back → Follows x back → ShortRead rest result → ShortOf width x c back rest result
+short_two : (width x c : ℕ) (back rest : List ℕ) (result : Option Group) → c ≡ 2 → rest ≡ x ∷ x ∷ back → Follows x back → ShortRead rest result →
+    ShortOf width x c back rest result
 short_two width x c back rest result e is follows short =
     let first : get_or rest 0 0 ≡ x = ap (λ (t : List ℕ). get_or t 0 0) is in
     let second : get_or rest 1 0 ≡ x = ap (λ (t : List ℕ). get_or t 1 0) is in
@@ -149,7 +153,8 @@ short_two width x c back rest result e is follows short =
       | inr positive ↦ known (short.twice (omega arith) (omega arith) (omega arith) ∙ ap (λ y. Some (record { x = y; count = 2; used = 2 })) first ∙ ap Some (sym (read_two width x c e)))
     ]
 
-pub short_of : (width x c : ℕ) (back rest : List ℕ) (result : Option Group) → IsCount c → rest ≡ group width x c ++ back → Follows x back → ShortRead rest result → ShortOf width x c back rest result
+pub short_of : (width x c : ℕ) (back rest : List ℕ) (result : Option Group) → IsCount c → rest ≡ group width x c ++ back → Follows x back → ShortRead rest result →
+    ShortOf width x c back rest result
 short_of width x c back rest result counts text follows short =
     elim (front_of width x c back rest counts text) [
       | one e is ↦ short_one width x c back rest result e is follows short
@@ -192,7 +197,8 @@ begins_two width (y ∷ z ∷ ys) some same = record {
   len = rw (group-two width y) refl;
 }
 
-pub begins_three : (width : ℕ) (rest : List ℕ) → 2 < length rest → get_or rest 0 0 ≡ 0 → get_or rest 1 0 ≡ 0 → get_or rest 2 0 ≡ 0 → IsReadFrom width rest (record { x = get_or rest 0 0; count = 3; used = 3 })
+pub begins_three : (width : ℕ) (rest : List ℕ) → 2 < length rest → get_or rest 0 0 ≡ 0 → get_or rest 1 0 ≡ 0 → get_or rest 2 0 ≡ 0 →
+    IsReadFrom width rest (record { x = get_or rest 0 0; count = 3; used = 3 })
 begins_three width [] some a b d = absurd (omega arith)
 begins_three width (y ∷ []) some a b d = absurd (omega arith)
 begins_three width (y ∷ z ∷ []) some a b d = absurd (omega arith)

@@ -1,5 +1,6 @@
 -- How the length of a group grows with its count.
-use Rattle.std.proofs.Common.{◌≡◌, ℕ, suc, zero, ◌+◌, ◌-◌, ◌*◌, ◌/◌, ◌%◌, ◌<◌, ◌≤◌, List, [], ◌∷◌, ◌++◌, length, map, get_or, refl, ap, ◌∙◌, inl, inr, ◌⊎◌, arith, length-append}
+use Rattle.std.proofs.Common.{◌≡◌, ℕ, suc, zero, ◌+◌, ◌-◌, ◌*◌, ◌/◌, ◌%◌, ◌<◌, ◌≤◌, List, [], ◌∷◌, ◌++◌, length, map, get_or, refl, ap, ◌∙◌}
+use Rattle.std.proofs.Common.{inl, inr, ◌⊎◌, arith, length-append}
 use Rattle.std.proofs.lemmas.List.{get_or_append_left}
 use Rattle.std.proofs.Math.Nat.{div-lt_self, div-mul-le_self}
 use Rattle.std.proofs.lemmas.Nat.{le-div}
@@ -55,13 +56,16 @@ base_least : (width x : ℕ) → 8 ≤ width → 2 ≤ digit_base width x
 base_least width x wide = let least = width_least width wide in grind (arith, nat_tests)
 
 -- the lengths of the texts that have digits
-length_zeros : (width c : ℕ) (t : List ℕ) → t ≡ 0 ∷ (map (written 0) (digits 5 (digit_base width 0) (c - 4)) ++ 0 ∷ 0 ∷ []) → length t ≡ length (digits 5 (digit_base width 0) (c - 4)) + 3
+length_zeros : (width c : ℕ) (t : List ℕ) → t ≡ 0 ∷ (map (written 0) (digits 5 (digit_base width 0) (c - 4)) ++ 0 ∷ 0 ∷ []) →
+    length t ≡ length (digits 5 (digit_base width 0) (c - 4)) + 3
 length_zeros width c t is = omega (arith, ap (λ (t : List ℕ). length t) is, length_middle 0 (c - 4) (digit_base width 0) (0 ∷ 0 ∷ []))
 
-length_bare : (width x c : ℕ) (t : List ℕ) → t ≡ x ∷ (map (written x) (digits 5 (digit_base width x) (c - 3)) ++ x ∷ []) → length t ≡ length (digits 5 (digit_base width x) (c - 3)) + 2
+length_bare : (width x c : ℕ) (t : List ℕ) → t ≡ x ∷ (map (written x) (digits 5 (digit_base width x) (c - 3)) ++ x ∷ []) →
+    length t ≡ length (digits 5 (digit_base width x) (c - 3)) + 2
 length_bare width x c t is = omega (arith, ap (λ (t : List ℕ). length t) is, length_middle x (c - 3) (digit_base width x) (x ∷ []))
 
-length_guarded : (width x c : ℕ) (t : List ℕ) → t ≡ x ∷ 0 ∷ (map (written x) (digits 5 (digit_base width x) (c - 3)) ++ x ∷ []) → length t ≡ length (digits 5 (digit_base width x) (c - 3)) + 3
+length_guarded : (width x c : ℕ) (t : List ℕ) → t ≡ x ∷ 0 ∷ (map (written x) (digits 5 (digit_base width x) (c - 3)) ++ x ∷ []) →
+    length t ≡ length (digits 5 (digit_base width x) (c - 3)) + 3
 length_guarded width x c t is = omega (arith, ap (λ (t : List ℕ). length t) is, length_middle x (c - 3) (digit_base width x) (x ∷ []))
 
 -- a group is at most twice as long as its count
@@ -93,7 +97,8 @@ least_length width x c h =
     ]
 
 -- a counter grows with its count
-bare_grows : (width x c d : ℕ) → 8 ≤ width → 0 < x → 3 ≤ c → c ≤ d → length (group width x c) ≡ length (digits 5 (digit_base width x) (c - 3)) + 2 → length (group width x c) ≤ length (group width x d)
+bare_grows : (width x c d : ℕ) → 8 ≤ width → 0 < x → 3 ≤ c → c ≤ d → length (group width x c) ≡ length (digits 5 (digit_base width x) (c - 3)) + 2 →
+    length (group width x c) ≤ length (group width x d)
 bare_grows width x c d wide above least h is =
     let base = base_least width x wide in
     elim (shape_of width x d (omega arith)) [
@@ -130,7 +135,8 @@ guarded_grows width x c d wide above least h greater is =
       ]
     ]
 
-zeros_grow : (width x c d : ℕ) → 8 ≤ width → x ≡ 0 → 4 ≤ c → c ≤ d → length (group width x c) ≡ length (digits 5 (digit_base width 0) (c - 4)) + 3 → length (group width x c) ≤ length (group width x d)
+zeros_grow : (width x c d : ℕ) → 8 ≤ width → x ≡ 0 → 4 ≤ c → c ≤ d → length (group width x c) ≡ length (digits 5 (digit_base width 0) (c - 4)) + 3 →
+    length (group width x c) ≤ length (group width x d)
 zeros_grow width x c d wide z least h is =
     let base = base_least width 0 wide in
     elim (shape_of width x d (omega arith)) [

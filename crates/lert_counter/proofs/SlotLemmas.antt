@@ -13,7 +13,8 @@ use Rattle.lert_counter.proofs.GroupLemmas.Shape.{one, two, three, zeros, bare, 
 
 -- the digits of a number that has room for them are below the base
 digits_below : (room b n : ℕ) → 0 < b → n < b ^ suc room → All (λ d. d < b) (digits room b n)
-digits_below zero b n positive h = All-cons (λ d. d < b) n [] (let e : b ^ 1 ≡ b ^ 0 * b = pow-suc b 0 in (let one : b ^ 0 ≡ 1 = pow-zero b in (let same : b ^ 1 ≡ b = e ∙ ap (λ k. k * b) one ∙ one-mul b in omega arith))) (All-nil (λ d. d < b))
+digits_below zero b n positive h = All-cons (λ d. d < b) n [] (let e : b ^ 1 ≡ b ^ 0 * b = pow-suc b 0 in
+    (let one : b ^ 0 ≡ 1 = pow-zero b in (let same : b ^ 1 ≡ b = e ∙ ap (λ k. k * b) one ∙ one-mul b in omega arith))) (All-nil (λ d. d < b))
 digits_below (suc room) b n positive h =
     elim (cases_lt n b) [
       | inl less ↦ All-same (λ d. d < b) _ (n ∷ []) (digits-last room b n less) (All-cons (λ d. d < b) n [] less (All-nil (λ d. d < b)))
@@ -55,5 +56,6 @@ slots_below width x c wide counts fits =
       | zeros z l is ↦ All-same P _ _ is (All-cons P 0 _ none (All-append P _ (0 ∷ 0 ∷ []) (digits_fit width 0 (c - 4) wide (omega (arith, counts.1)))
           (All-cons P 0 (0 ∷ []) none (All-cons P 0 [] none (All-nil P)))))
       | bare p l w is ↦ All-same P _ _ is (All-cons P x _ fits (All-append P _ (x ∷ []) (digits_fit width x (c - 3) wide (omega (arith, counts.1))) last))
-      | guarded p l w is ↦ All-same P _ _ is (All-cons P x (0 ∷ (map (written x) (digits 5 (digit_base width x) (c - 3)) ++ x ∷ [])) fits (All-cons P 0 _ none (All-append P _ (x ∷ []) (digits_fit width x (c - 3) wide (omega (arith, counts.1))) last)))
+      | guarded p l w is ↦ All-same P _ _ is (All-cons P x (0 ∷ (map (written x) (digits 5 (digit_base width x) (c - 3)) ++ x ∷ [])) fits
+          (All-cons P 0 _ none (All-append P _ (x ∷ []) (digits_fit width x (c - 3) wide (omega (arith, counts.1))) last)))
     ]

@@ -1,5 +1,6 @@
 -- Digits as they are read, with no test.
-use Rattle.std.proofs.Common.{◌≡◌, ◌≢◌, ℕ, suc, ◌+◌, ◌-◌, ◌*◌, ◌^◌, ◌<◌, ◌≤◌, Option, Some, None, List, [], ◌∷◌, ◌++◌, length, map, take, drop, get_or, refl, sym, ap, ◌∙◌, subst, arith, length-append}
+use Rattle.std.proofs.Common.{◌≡◌, ◌≢◌, ℕ, suc, ◌+◌, ◌-◌, ◌*◌, ◌^◌, ◌<◌, ◌≤◌, Option, Some, None, List, [], ◌∷◌, ◌++◌, length, map, take, drop}
+use Rattle.std.proofs.Common.{get_or, refl, sym, ap, ◌∙◌, subst, arith, length-append}
 use Rattle.std.specs.Prelude.{IfSome}
 use Rattle.std.proofs.lemmas.Bool.Decides.{nat_tests}
 use Rattle.std.proofs.lemmas.List.{take_more, take_rest, take-append-drop, map-append}
@@ -19,22 +20,26 @@ pub record SpelledTo (base x at : ℕ) (slots : List ℕ) (number : ℕ) : Type 
 pub spelled_none : (base x : ℕ) (slots : List ℕ) → SpelledTo base x 0 slots 0
 spelled_none base x slots = record { ds = []; long = refl; text = refl; number_is = refl }
 
-pub spelled_more : (base x at : ℕ) (slots : List ℕ) (number digit more : ℕ) → SpelledTo base x at slots number → at < length slots → get_or slots at 0 ≡ written x digit → more ≡ number * base + digit
+pub spelled_more : (base x at : ℕ) (slots : List ℕ) (number digit more : ℕ) → SpelledTo base x at slots number → at < length slots → get_or slots at 0 ≡ written x digit →
+    more ≡ number * base + digit
     → SpelledTo base x (at + 1) slots more
 spelled_more base x at slots number digit more s within slot is = record {
   ds = s.ds ++ digit ∷ [];
   long = omega (arith, length-append s.ds (digit ∷ []), s.long);
-  text = take_more slots at 0 within ∙ ap (λ (t : List ℕ). t ++ get_or slots at 0 ∷ []) s.text ∙ ap (λ v. map (written x) s.ds ++ v ∷ []) slot ∙ sym (map-append (written x) s.ds (digit ∷ []));
+  text = take_more slots at 0 within ∙ ap (λ (t : List ℕ). t ++ get_or slots at 0 ∷ []) s.text ∙ ap (λ v. map (written x) s.ds ++ v ∷ []) slot
+      ∙ sym (map-append (written x) s.ds (digit ∷ []));
   number_is = is ∙ ap (λ n. n * base + digit) s.number_is ∙ sym (fold-append (λ n d. n * base + d) 0 s.ds (digit ∷ []));
 }
 
 -- x closes them
-pub spelled_all : (base x at : ℕ) (slots : List ℕ) (number : ℕ) → SpelledTo base x at slots number → at ≤ 6 → number ≤ 2 ^ 47 → at < length slots → get_or slots at 0 ≡ x → Spells base x 0 slots number at
+pub spelled_all : (base x at : ℕ) (slots : List ℕ) (number : ℕ) → SpelledTo base x at slots number → at ≤ 6 → number ≤ 2 ^ 47 → at < length slots → get_or slots at 0 ≡ x →
+    Spells base x 0 slots number at
 spelled_all base x at slots number s few small within slot = record {
   ds = s.ds;
   back = drop (suc at) slots;
   few = omega (arith, s.long);
-  text = sym (take-append-drop at slots) ∙ ap (λ (t : List ℕ). t ++ drop at slots) s.text ∙ ap (λ (t : List ℕ). map (written x) s.ds ++ t) (drop-cons slots at 0 within ∙ ap (λ v. v ∷ drop (suc at) slots) slot);
+  text = sym (take-append-drop at slots) ∙ ap (λ (t : List ℕ). t ++ drop at slots) s.text
+      ∙ ap (λ (t : List ℕ). map (written x) s.ds ++ t) (drop-cons slots at 0 within ∙ ap (λ v. v ∷ drop (suc at) slots) slot);
   count_is = omega (arith, s.number_is);
   small = small;
   len_is = sym s.long;
@@ -62,7 +67,8 @@ pub record FoundDigits (base start count len : ℕ) (text : List ℕ) : Type 0 w
   pub count_is : count ≡ number_of base ds + 3
   pub small : count ≤ 2 ^ 47
 
-pub spelled_counter : (width base start count len : ℕ) (text : List ℕ) → base ≡ digit_base width (get_or text 0 0) → start ≡ digits_at text → SpellsCounter width text count len → FoundDigits base start count len text
+pub spelled_counter : (width base start count len : ℕ) (text : List ℕ) → base ≡ digit_base width (get_or text 0 0) → start ≡ digits_at text → SpellsCounter width text count len →
+    FoundDigits base start count len text
 spelled_counter width base start count len text base_is start_is s = record {
   ds = s.ds;
   back = s.back;

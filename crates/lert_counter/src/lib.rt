@@ -13,6 +13,6 @@ mod read;
 mod tests;
 mod write;
 
-pub use group::{GREATEST_COUNT, Group};
+pub use group::Group;
 pub use read::{read_group, scan_group};
 pub use write::write_group;

@@ -1,5 +1,6 @@
 -- The rows as a run begins, or is written over; and where a run stands.
-use Rattle.std.proofs.Common.{◌≡◌, ℕ, ◌+◌, ◌-◌, ◌<◌, ◌≤◌, Bool, true, false, List, [], ◌∷◌, ◌++◌, length, take, drop, replicate, get_or, set, max, min, refl, sym, ap, ◌∙◌, inl, inr, arith, length-append, append_assoc}
+use Rattle.std.proofs.Common.{◌≡◌, ℕ, ◌+◌, ◌-◌, ◌<◌, ◌≤◌, Bool, true, false, List, [], ◌∷◌, ◌++◌, length, take, drop, replicate, get_or, set, max, min, refl}
+use Rattle.std.proofs.Common.{sym, ap, ◌∙◌, inl, inr, arith, length-append, append_assoc}
 use Rattle.std.specs.Prelude.{remove}
 use Rattle.std.proofs.lemmas.List.{length-replicate, take_at, drop_at, map-append, set_at, length-take-le}
 use Rattle.std.proofs.lemmas.List.Edits.{length-remove}
@@ -48,7 +49,8 @@ homes_ascend-reshaped f least limit [] h = tt
 homes_ascend-reshaped f least limit (r ∷ rs) h = (h.0, h.1, homes_ascend-reshaped f (r.0 + 1) limit rs h.2)
 
 -- a run of no cells changes no row
-reshaped_empty : {D : Type 0} (z : D) (f : ℕ → List D) (same : (k : ℕ) → length (f k) ≡ k) (none : f 0 ≡ []) (n q limit : ℕ) (before after : List (ℕ × List ℕ)) → HomesAscend q limit after → q ≤ n
+reshaped_empty : {D : Type 0} (z : D) (f : ℕ → List D) (same : (k : ℕ) → length (f k) ≡ k) (none : f 0 ≡ []) (n q limit : ℕ) (before after : List (ℕ × List ℕ)) →
+    HomesAscend q limit after → q ≤ n
     → cells z n (reshaped f (before ++ (q, []) ∷ after)) ≡ cells z n (reshaped f (before ++ after))
 reshaped_empty {D} z f same none n q limit before after above fits =
     ap (cells z n) (reshaped-append f same before q [] after)
@@ -79,7 +81,12 @@ pub length_cells : {C : Type 0} (z : C) (n at : ℕ) (rs : List (ℕ × List C))
 length_cells z n at [] = omega (arith, length-replicate (n - at) z)
 length_cells z n at (r ∷ rs) =
     let more = length_cells z n (max at r.0 + length r.1) rs in
-    omega (arith, length-append (replicate (r.0 - at) z) (r.1 ++ cells_from z n (max at r.0 + length r.1) rs), length-append r.1 (cells_from z n (max at r.0 + length r.1) rs), length-replicate (r.0 - at) z)
+    omega (
+      arith,
+      length-append (replicate (r.0 - at) z) (r.1 ++ cells_from z n (max at r.0 + length r.1) rs),
+      length-append r.1 (cells_from z n (max at r.0 + length r.1) rs),
+      length-replicate (r.0 - at) z,
+    )
 
 -- a run begins with one cell
 pub spread_begun : (n homes q v : ℕ) (before after : List (ℕ × List ℕ)) (slots : List ℕ) (ends used : List Bool) (spill raised : List ℕ) → IsAround n homes q before after
@@ -105,7 +112,8 @@ spread_begun n homes q v before after slots ends used spill raised around room s
           ∙ sym (grown_cells 0 n q v [] [] before after (omega arith));
       ends_are = filled_later ends home (first_free home after) (omega arith) (omega arith)
           ∙ ap (λ (c : List Bool). filled_gap c home (first_free home after) true) (e.ends_are ∙ ap (cells false n) (reshaped-append ends_of length_ends_of before q [] after))
-          ∙ ap (λ k. filled_gap (cells false n (reshaped ends_of before ++ (q, []) ∷ reshaped ends_of after)) k (first_free home after) true) (let m : home ≡ start_of false q (reshaped ends_of before) + 0 = omega arith in m)
+          ∙ ap (λ k. filled_gap (cells false n (reshaped ends_of before ++ (q, []) ∷ reshaped ends_of after)) k (first_free home after) true)
+          (let m : home ≡ start_of false q (reshaped ends_of before) + 0 = omega arith in m)
           ∙ ap (λ k. filled_gap (cells false n (reshaped ends_of before ++ (q, []) ∷ reshaped ends_of after)) (start_of false q (reshaped ends_of before) + 0) k true) (sym ends_place)
           ∙ sym (grown_cells false n q true [] [] (reshaped ends_of before) (reshaped ends_of after) (omega arith))
           ∙ sym (ap (cells false n) (reshaped-append ends_of length_ends_of before q (v ∷ []) after));
@@ -115,7 +123,8 @@ spread_begun n homes q v before after slots ends used spill raised around room s
     }
 
 -- what lies behind a run depends on its length alone
-pub spread_over : (n homes q : ℕ) (t s : List ℕ) (before after : List (ℕ × List ℕ)) (slots over : List ℕ) (ends used : List Bool) (spill : List ℕ) → IsAround n homes q before after → length s ≡ length t
+pub spread_over : (n homes q : ℕ) (t s : List ℕ) (before after : List (ℕ × List ℕ)) (slots over : List ℕ) (ends used : List Bool) (spill : List ℕ) →
+    IsAround n homes q before after → length s ≡ length t
     → IsSpread n homes (before ++ (q, t) ∷ after) slots ends used spill → over ≡ cells 0 n (before ++ (q, s) ∷ after)
     → IsSpread n homes (before ++ (q, s) ∷ after) over ends used spill
 spread_over n homes q t s before after slots over ends used spill around same sp is =
@@ -127,14 +136,16 @@ spread_over n homes q t s before after slots over ends used spill around same sp
       spill_is = λ g h. sp.spill_is g h ∙ ap (λ e. e - g) (ends_same g);
     }
   where
-    reshaped_same : (f : ℕ → List Bool) (fits : (k : ℕ) → length (f k) ≡ k) (before : List (ℕ × List ℕ)) (q : ℕ) (t s : List ℕ) (after : List (ℕ × List ℕ)) → length s ≡ length t
+    reshaped_same : (f : ℕ → List Bool) (fits : (k : ℕ) → length (f k) ≡ k) (before : List (ℕ × List ℕ)) (q : ℕ) (t s : List ℕ) (after : List (ℕ × List ℕ)) →
+        length s ≡ length t
         → cells false n (reshaped f (before ++ (q, t) ∷ after)) ≡ cells false n (reshaped f (before ++ (q, s) ∷ after))
     reshaped_same f fits before q t s after same =
         ap (cells false n) (reshaped-append f fits before q t after ∙ ap (λ k. reshaped f before ++ (q, f k) ∷ reshaped f after) (sym same) ∙ sym (reshaped-append f fits before q s after))
 
     ends_same : (g : ℕ) → end_before 0 g (before ++ (q, t) ∷ after) ≡ end_before 0 g (before ++ (q, s) ∷ after)
     ends_same g = elim (cases_lt q g) [
-      | inl behind ↦ behind_run g q t before after around.below behind ∙ ap (λ k. end_before (max (stop 0 before) q + k) g after) (sym same) ∙ sym (behind_run g q s before after around.below behind)
+      | inl behind ↦ behind_run g q t before after around.below behind ∙ ap (λ k. end_before (max (stop 0 before) q + k) g after) (sym same)
+          ∙ sym (behind_run g q s before after around.below behind)
       | inr low ↦ below_unmoved 0 g q t s before after low
     ]
 
@@ -176,7 +187,8 @@ pub record StandsAt (q start end : ℕ) (t slots : List ℕ) (before : List (ℕ
   pub text : take (end - start) (drop start slots) ≡ t
   pub within : end ≤ length slots
 
-pub stands_at : (n homes q : ℕ) (t : List ℕ) (before after : List (ℕ × List ℕ)) (slots : List ℕ) (ends used : List Bool) (spill : List ℕ) → IsAround n homes q before after → 0 < length t
+pub stands_at : (n homes q : ℕ) (t : List ℕ) (before after : List (ℕ × List ℕ)) (slots : List ℕ) (ends used : List Bool) (spill : List ℕ) → IsAround n homes q before after →
+    0 < length t
     → IsSpread n homes (before ++ (q, t) ∷ after) slots ends used spill → StandsAt q (q + get_or spill q 0) (q + 1 + get_or spill (q + 1) 0) t slots before
 stands_at n homes q t before after slots ends used spill around some s =
     let front = front_of 0 q before in
@@ -205,7 +217,8 @@ begins_at n homes q before after slots ends used spill around s =
     let first = e.spill_is q (omega (arith, around.within)) ∙ ap (λ e. e - q) (home_start q [] before after around.below) in omega arith
 
 -- a run stands within the slots
-pub text_within : (n q : ℕ) (t slots : List ℕ) (before after : List (ℕ × List ℕ)) → slots ≡ cells 0 n (before ++ (q, t) ∷ after) → max (stop 0 before) q + length t ≤ length slots
+pub text_within : (n q : ℕ) (t slots : List ℕ) (before after : List (ℕ × List ℕ)) → slots ≡ cells 0 n (before ++ (q, t) ∷ after) →
+    max (stop 0 before) q + length t ≤ length slots
 text_within n q t slots before after is =
     let front = front_of 0 q before in
     let back = cells_from 0 n (max (stop 0 before) q + length t) after in

@@ -1,5 +1,6 @@
 -- A run that begins or grows, as a whole.
-use Rattle.std.proofs.Common.{◌≡◌, ℕ, ◌+◌, ◌-◌, ◌^◌, ◌<◌, ◌≤◌, Bool, true, false, List, [], ◌∷◌, ◌++◌, length, take, drop, get_or, set, max, min, refl, sym, ap, ◌∙◌, subst, arith, length-append, append_assoc}
+use Rattle.std.proofs.Common.{◌≡◌, ℕ, ◌+◌, ◌-◌, ◌^◌, ◌<◌, ◌≤◌, Bool, true, false, List, [], ◌∷◌, ◌++◌, length, take, drop, get_or, set, max, min, refl, sym}
+use Rattle.std.proofs.Common.{ap, ◌∙◌, subst, arith, length-append, append_assoc}
 use Rattle.std.proofs.Math.Seq.{take-add}
 use Rattle.std.proofs.lemmas.List.{length-set, take-append-drop, length-take, length-drop}
 use Rattle.lert_slotbits.specs.Bits.{IsFirst, gapped}
@@ -93,7 +94,8 @@ module _ (n homes width home x count : ℕ) (slots : List ℕ) (ends used : List
           spread = rw (slots_are, ends_are, used_are) spread;
           lengths = record {
             slots_long = ap (λ (t : List ℕ). length t) slots_are ∙ length_filled slots begin_place begin_free v low (omega arith) ∙ slots_long;
-            ends_long = ap (λ (t : List Bool). length t) ends_are ∙ length-set (gapped ends begin_place begin_free) begin_place true ∙ length_filled ends begin_place begin_free false low (omega arith) ∙ ends_long;
+            ends_long = ap (λ (t : List Bool). length t) ends_are ∙ length-set (gapped ends begin_place begin_free) begin_place true
+                ∙ length_filled ends begin_place begin_free false low (omega arith) ∙ ends_long;
             used_long = ap (λ (t : List Bool). length t) used_are ∙ length-set used begin_free true ∙ used_long;
             spill_long = raised.long ∙ lengths.spill_long;
             short = lengths.short;
@@ -110,7 +112,8 @@ module _ (n homes width home x count : ℕ) (slots : List ℕ) (ends used : List
       let a = total_at home (v ∷ []) b.before b.after in
       let c = total_at home (run_text width ((x, count) ∷ [])) b.before b.after in omega arith
 
-  abbrev pub begin_opening : (place last extra : ℕ) → place ≡ begin_place + 1 → last ≡ begin_place → extra ≡ length (group width x count) - 1 → (slots' : List ℕ) (ends' used' : List Bool) (spill' : List ℕ)
+  abbrev pub begin_opening : (place last extra : ℕ) → place ≡ begin_place + 1 → last ≡ begin_place → extra ≡ length (group width x count) - 1 →
+      (slots' : List ℕ) (ends' used' : List Bool) (spill' : List ℕ)
       → HasBegun n homes home b.before b.after slots' ends' used' spill' → IsOpening n homes home place last extra slots' ends' used' spill'
   begin_opening place last extra place_is last_is extra_is slots' ends' used' spill' h = record {
     before = b.before;
@@ -128,7 +131,8 @@ module _ (n homes width home x count : ℕ) (slots : List ℕ) (ends used : List
 
   -- and is written over
   pub begin_written : (slots' : List ℕ) (ends' used' : List Bool) (spill' : List ℕ) (h : HasBegun n homes home b.before b.after slots' ends' used' spill')
-      (extra : ℕ) → extra ≡ length (group width x count) - 1 → (slots'' over : List ℕ) (ends'' used'' : List Bool) (spill'' : List ℕ) → IsWidened n homes home extra b.before b.after (h.value ∷ []) [] slots'' ends'' used'' spill''
+      (extra : ℕ) → extra ≡ length (group width x count) - 1 → (slots'' over : List ℕ) (ends'' used'' : List Bool) (spill'' : List ℕ) →
+      IsWidened n homes home extra b.before b.after (h.value ∷ []) [] slots'' ends'' used'' spill''
       → over ≡ take begin_place slots'' ++ (group width x count ++ drop (begin_place + length (group width x count)) slots'')
       → Stand n homes (b.before ++ (home, run_text width ((x, count) ∷ [])) ∷ b.after) over ends'' used'' spill''
   begin_written slots' ends' used' spill' h extra extra_is slots'' over ends'' used'' spill'' w is =
@@ -146,7 +150,8 @@ module _ (n homes width home x count : ℕ) (slots : List ℕ) (ends used : List
         spread = spread_over n homes home (text ++ []) (run_text width ((x, count) ∷ [])) b.before b.after slots'' over ends'' used'' spill'' b.around
             (omega (arith, length-append (group width x count) [], length-append text [])) w.spread is_over;
         lengths = record {
-          slots_long = ap (λ (t : List ℕ). length t) is ∙ over_long begin_place slots'' (group width x count) (let inside = text_within n home (text ++ []) slots'' b.before b.after (w.spread).slots_are in omega (arith, length-append text [])) ∙ lengths.slots_long;
+          slots_long = ap (λ (t : List ℕ). length t) is ∙ over_long begin_place slots'' (group width x count)
+              (let inside = text_within n home (text ++ []) slots'' b.before b.after (w.spread).slots_are in omega (arith, length-append text [])) ∙ lengths.slots_long;
           ends_long = lengths.ends_long;
           used_long = lengths.used_long;
           spill_long = lengths.spill_long;
@@ -198,7 +203,8 @@ module _ (n homes width home x count : ℕ) (slots : List ℕ) (ends used : List
       }
 
   -- what is to be written, whichever slice the run was read from
-  pub grow_of : (slice : List ℕ) (growth : Growth) → slice ≡ run → ((ps : List (ℕ × ℕ)) → IsTextOf width slice ps → IsGrowthOf width x count slice ps growth) → IsGrowthOf width x count run g.pairs growth
+  pub grow_of : (slice : List ℕ) (growth : Growth) → slice ≡ run → ((ps : List (ℕ × ℕ)) → IsTextOf width slice ps → IsGrowthOf width x count slice ps growth) →
+      IsGrowthOf width x count run g.pairs growth
   grow_of slice growth same told = subst (λ (t : List ℕ). IsGrowthOf width x count t g.pairs growth) same (told g.pairs (record { ascend = g.ascend; text = same }))
 
   module _ (growth : Growth) (is : IsGrowthOf width x count run g.pairs growth) where
@@ -212,7 +218,13 @@ module _ (n homes width home x count : ℕ) (slots : List ℕ) (ends used : List
         let new : length (take growth.len growth.text) ≡ length (group width x (count_in g.pairs x + count)) = ap (λ (t : List ℕ). length t) is.text in
         let longer = is.longer in
         let len = is.len in
-        omega (arith, length-append (take growth.start run) (take growth.len growth.text ++ drop behind run), length-append (take growth.len growth.text) (drop behind run), length-take growth.start run, length-drop behind run)
+        omega (
+          arith,
+          length-append (take growth.start run) (take growth.len growth.text ++ drop behind run),
+          length-append (take growth.len growth.text) (drop behind run),
+          length-take growth.start run,
+          length-drop behind run,
+        )
 
     pub grow_last : home + 1 + get_or spill (home + 1) 0 ≡ max (stop 0 g.before) home + length (take behind run ++ drop behind run)
     grow_last = let at = grow_stands in let end = at.end_is in let all = ap (λ (t : List ℕ). length t) (take-append-drop behind run) in omega arith
@@ -276,7 +288,8 @@ module _ (n homes width home x count : ℕ) (slots : List ℕ) (ends used : List
         let old_long = length-take growth.old (drop growth.start run) in
         let rest_long = length-drop growth.start run in
         let same : length new ≡ length middle = omega arith in
-        let was : slots'' ≡ cells 0 n (g.before ++ (home, u ++ (middle ++ back)) ∷ g.after) = (w.spread).slots_are ∙ ap (λ (t : List ℕ). cells 0 n (g.before ++ (home, t) ∷ g.after)) split in
+        let was : slots'' ≡ cells 0 n (g.before ++ (home, u ++ (middle ++ back)) ∷ g.after) =
+        (w.spread).slots_are ∙ ap (λ (t : List ℕ). cells 0 n (g.before ++ (home, t) ∷ g.after)) split in
         let place : where_at ≡ max (stop 0 g.before) home + length u = omega arith in
         let over_is : over ≡ take (max (stop 0 g.before) home + length u) slots'' ++ (new ++ drop (max (stop 0 g.before) home + length u + length new) slots'') = (rw place at written) in
         let is_over : over ≡ cells 0 n (g.before ++ (home, run_text width (pairs_plus g.pairs x count)) ∷ g.after) =
@@ -284,11 +297,20 @@ module _ (n homes width home x count : ℕ) (slots : List ℕ) (ends used : List
         let inside = text_within n home (u ++ (middle ++ back)) slots'' g.before g.after was in
         let lengths = w.lengths in
         let total_long : length (run_text width (pairs_plus g.pairs x count)) ≡ length (take behind run ++ (w.added ++ back)) =
-        ap (λ (t : List ℕ). length t) (sym is.grown) ∙ (omega (arith, length-append u (new ++ back), length-append new back, ap (λ (t : List ℕ). length t) split, length-append u (middle ++ back), length-append middle back)) in
+        ap (λ (t : List ℕ). length t) (sym is.grown) ∙ (omega (
+          arith,
+          length-append u (new ++ back),
+          length-append new back,
+          ap (λ (t : List ℕ). length t) split,
+          length-append u (middle ++ back),
+          length-append middle back,
+        )) in
         record {
-          spread = spread_over n homes home (take behind run ++ (w.added ++ back)) (run_text width (pairs_plus g.pairs x count)) g.before g.after slots'' over ends'' used'' spill'' g.around total_long w.spread is_over;
+          spread = spread_over n homes home (take behind run ++ (w.added ++ back)) (run_text width (pairs_plus g.pairs x count)) g.before g.after slots'' over ends'' used'' spill'' g.around
+              total_long w.spread is_over;
           lengths = record {
-            slots_long = ap (λ (t : List ℕ). length t) over_is ∙ over_long (max (stop 0 g.before) home + length u) slots'' new (omega (arith, length-append u (middle ++ back), length-append middle back)) ∙ lengths.slots_long;
+            slots_long = ap (λ (t : List ℕ). length t) over_is ∙ over_long (max (stop 0 g.before) home + length u) slots'' new
+                (omega (arith, length-append u (middle ++ back), length-append middle back)) ∙ lengths.slots_long;
             ends_long = lengths.ends_long;
             used_long = lengths.used_long;
             spill_long = lengths.spill_long;

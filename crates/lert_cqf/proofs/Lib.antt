@@ -5,6 +5,7 @@ pub mod GrowingLemmas
 pub mod GrownLemmas
 pub mod OpeningLemmas
 pub mod QuotientLemmas
+pub mod SlotsLemmas
 pub mod RotateLemmas
 pub mod ShortLemmas
 pub mod SpillLemmas

@@ -1,5 +1,6 @@
 -- One slot more, step by step.
-use Rattle.std.proofs.Common.{◌≡◌, ℕ, suc, ◌+◌, ◌-◌, ◌^◌, ◌<◌, ◌≤◌, Bool, true, false, List, [], ◌∷◌, ◌++◌, length, get_or, set, max, min, refl, ap, ◌∙◌, inl, inr, arith, length-append}
+use Rattle.std.proofs.Common.{◌≡◌, ℕ, suc, ◌+◌, ◌-◌, ◌^◌, ◌<◌, ◌≤◌, Bool, true, false, List, [], ◌∷◌, ◌++◌, length, get_or, set, max, min, refl, ap}
+use Rattle.std.proofs.Common.{◌∙◌, inl, inr, arith, length-append}
 use Rattle.std.specs.Prelude.{remove}
 use Rattle.std.proofs.lemmas.List.{length-set}
 use Rattle.std.proofs.lemmas.List.Edits.{length-insert, length-remove}
@@ -27,7 +28,8 @@ end_bound at g (r ∷ rs) =
       | inr here ↦ (let e = end_here at g r rs here in omega arith)
     ]
 
-pub spill_small : (n homes : ℕ) (ts : List (ℕ × List ℕ)) (slots : List ℕ) (ends used : List Bool) (spill : List ℕ) → IsSpread n homes ts slots ends used spill → homes + total_length ts ≤ n → n + 1 < 2 ^ 32
+pub spill_small : (n homes : ℕ) (ts : List (ℕ × List ℕ)) (slots : List ℕ) (ends used : List Bool) (spill : List ℕ) → IsSpread n homes ts slots ends used spill →
+    homes + total_length ts ≤ n → n + 1 < 2 ^ 32
     → (g : ℕ) → g < length spill → get_or spill g 0 + 1 < 2 ^ 32
 spill_small n homes ts slots ends used spill s fits short g within =
     let long = s.spill_long in
@@ -70,8 +72,10 @@ module _ (n homes home place last extra i : ℕ) (slots0 : List ℕ) (ends0 used
   pub spill_room : (g : ℕ) → g < length spill → get_or spill g 0 + 1 < 2 ^ 32
   spill_room = spill_small n homes (o.before ++ (home, text) ∷ o.after) slots ends used spill w.spread (let all = widened_total in omega arith) (w.lengths).short
 
-  pub opened : (v : ℕ) (slots' : List ℕ) (ends' used' : List Bool) (spill' : List ℕ) → slots' ≡ filled_gap slots place free_place v → ends' ≡ gapped ends (min place (last + i)) free_place
-      → used' ≡ set used free_place true → IsRaised spill spill' (home + 1) (min free_place (length spill - 1)) → IsWidened n homes home (i + 1) o.before o.after o.front o.back slots' ends' used' spill'
+  pub opened : (v : ℕ) (slots' : List ℕ) (ends' used' : List Bool) (spill' : List ℕ) → slots' ≡ filled_gap slots place free_place v →
+      ends' ≡ gapped ends (min place (last + i)) free_place
+      → used' ≡ set used free_place true → IsRaised spill spill' (home + 1) (min free_place (length spill - 1)) →
+      IsWidened n homes home (i + 1) o.before o.after o.front o.back slots' ends' used' spill'
   opened v slots' ends' used' spill' slots_are ends_are used_are raised =
       let start = max (stop 0 o.before) home in
       let long = text_long in

@@ -1,17 +1,16 @@
 -- A count table by its quotients.
-use Rattle.std.proofs.Common.{◌≡◌, ℕ, ◌+◌, ◌-◌, ◌*◌, ◌/◌, ◌%◌, ◌^◌, ◌<◌, ◌≤◌, ◌≢◌, cond, ltb, eqb, List, [], ◌∷◌, length, refl, sym, ap, ◌∙◌, subst, inl, inr, ◌⊎◌, arith, length-append}
+use Rattle.std.proofs.Common.{◌≡◌, ℕ, ◌+◌, ◌-◌, ◌*◌, ◌/◌, ◌%◌, ◌^◌, ◌<◌, ◌≤◌, ◌≢◌, cond, ltb, eqb, List, [], ◌∷◌, length, refl, sym, ap}
+use Rattle.std.proofs.Common.{◌∙◌, subst, inl, inr, ◌⊎◌, arith}
 use Rattle.std.proofs.lemmas.Bool.{cases_lt, cases_eq, cases_order}
 use Rattle.std.proofs.lemmas.Bool.Decides.{nat_tests}
 use Rattle.std.proofs.lemmas.Nat.{div-add-mod', mod_below, div_below, pow_pos, div-mul-add, mod-mul-add}
-use Rattle.lert_counter.specs.Group.{group, IsCount}
-use Rattle.lert_counter.proofs.GrowthLemmas.{length_group-twice}
-use Rattle.lert_runs.specs.RunText.{run_text, RemaindersAscend, count_in, pairs_plus}
+use Rattle.lert_counter.specs.Group.{IsCount}
+use Rattle.lert_runs.specs.RunText.{RemaindersAscend, count_in, pairs_plus}
 use Rattle.lert_runs.proofs.RunLemmas.{count_in-here, count_in-later, pairs_plus-before, pairs_plus-here, pairs_plus-behind}
 use Rattle.lert_spec.specs.Table.{count_of, total, plus, AscendsFrom}
 use Rattle.lert_spec.specs.declared.piece.Piece.{Piece}
 use Rattle.lert_spec.proofs.Tables.{plus_here, plus_before, plus_behind}
-use Rattle.lert_cqf.specs.Layout.{in_front, by_quotient, texts}
-use Rattle.lert_cqf.specs.Around.{total_length}
+use Rattle.lert_cqf.specs.Layout.{in_front, by_quotient}
 
 abbrev pub Runs : Type 0
 Runs = List (ℕ × List (ℕ × ℕ))
@@ -115,7 +114,8 @@ module _ (width : ℕ) where
           ]
         ]
 
-        later : (r : ℕ × List (ℕ × ℕ)) (rs : Runs) → RunsAscend homes (quotient (tail + 1)) (remainder (tail + 1)) (r ∷ rs) → r.0 ≢ quotient tail → RunsAscend homes (quotient tail + 1) 0 (r ∷ rs)
+        later : (r : ℕ × List (ℕ × ℕ)) (rs : Runs) → RunsAscend homes (quotient (tail + 1)) (remainder (tail + 1)) (r ∷ rs) → r.0 ≢ quotient tail →
+            RunsAscend homes (quotient tail + 1) 0 (r ∷ rs)
         later r rs a other = elim (next_parts tail) [
           | inl within ↦ elim (a.0) [
             | inl above ↦ (elim (cases_eq (quotient tail + 1) r.0) [ inl e ↦ inr (e, above.1) | inr e ↦ inl (omega (arith, above.0, within.1), above.1) ], a.1, a.2, a.3)
@@ -127,7 +127,8 @@ module _ (width : ℕ) where
           ]
         ]
 
-        joined : (r : ℕ × List (ℕ × ℕ)) (rs : Runs) → RunsAscend homes (quotient (tail + 1)) (remainder (tail + 1)) (r ∷ rs) → r.0 ≡ quotient tail → RemaindersAscend (remainder tail + 1) r.1
+        joined : (r : ℕ × List (ℕ × ℕ)) (rs : Runs) → RunsAscend homes (quotient (tail + 1)) (remainder (tail + 1)) (r ∷ rs) → r.0 ≡ quotient tail →
+            RemaindersAscend (remainder tail + 1) r.1
         joined r rs a same = elim (next_parts tail) [
           | inl within ↦ elim (a.0) [
             | inl above ↦ absurd (omega (arith, above.0, within.1))
@@ -139,10 +140,12 @@ module _ (width : ℕ) where
           ]
         ]
 
-        go : (rs : Runs) → RunsAscend homes (quotient (tail + 1)) (remainder (tail + 1)) rs → RunsAscend homes (quotient least) (remainder least) (in_front (quotient tail) (remainder tail, count) rs)
+        go : (rs : Runs) → RunsAscend homes (quotient (tail + 1)) (remainder (tail + 1)) rs →
+            RunsAscend homes (quotient least) (remainder least) (in_front (quotient tail) (remainder tail, count) rs)
         go [] a = (first [] tt, inside, omega arith, tt)
         go (r ∷ rs) a = elim (cases_eq r.0 (quotient tail)) [
-          | inl same ↦ rw (front-same (quotient tail) (remainder tail, count) r rs same) (first r.1 (joined r rs a same), inside, omega arith, subst (λ k. RunsAscend homes (k + 1) 0 rs) same a.3)
+          | inl same ↦ rw (front-same (quotient tail) (remainder tail, count) r rs same)
+              (first r.1 (joined r rs a same), inside, omega arith, subst (λ k. RunsAscend homes (k + 1) 0 rs) same a.3)
           | inr other ↦ rw (front-none (quotient tail) (remainder tail, count) r rs other) (first [] tt, inside, omega arith, later r rs a other)
         ]
 
@@ -160,7 +163,8 @@ module _ (width : ℕ) where
       let a = div-add-mod' m base in let b = div-add-mod' n base in
       sym a ∙ ap (λ k. k * base + remainder m) q ∙ ap (λ k. quotient n * base + k) x ∙ b
 
-  front_here : (tail count n : ℕ) (rs : Runs) → in_front (quotient tail) (remainder tail, count + n) rs ≡ runs_plus (in_front (quotient tail) (remainder tail, count) rs) (quotient tail) (remainder tail) n
+  front_here : (tail count n : ℕ) (rs : Runs) → in_front (quotient tail) (remainder tail, count + n) rs ≡ runs_plus (in_front (quotient tail) (remainder tail, count) rs) (quotient tail)
+      (remainder tail) n
   front_here tail count n [] =
       sym (plus-same (quotient tail, (remainder tail, count) ∷ []) [] (quotient tail) (remainder tail) n refl
       ∙ ap (λ (ps : List (ℕ × ℕ)). (quotient tail, ps) ∷ []) (pairs_plus-here (remainder tail, count) [] (remainder tail) n refl))
@@ -211,8 +215,10 @@ module _ (width : ℕ) where
         in_front_of : Runs → Runs
         in_front_of t = in_front (quotient p.tail) (remainder p.tail, p.count) t
 
-        by_order : (rs : Runs) → RunsAscend homes (quotient (p.tail + 1)) (remainder (p.tail + 1)) rs → (quotient p.tail < quotient tail) ⊎ ((quotient p.tail ≡ quotient tail) × (remainder p.tail < remainder tail))
-            → in_front (quotient p.tail) (remainder p.tail, p.count) (runs_plus rs (quotient tail) (remainder tail) n) ≡ runs_plus (in_front (quotient p.tail) (remainder p.tail, p.count) rs) (quotient tail) (remainder tail) n
+        by_order : (rs : Runs) → RunsAscend homes (quotient (p.tail + 1)) (remainder (p.tail + 1)) rs →
+            (quotient p.tail < quotient tail) ⊎ ((quotient p.tail ≡ quotient tail) × (remainder p.tail < remainder tail))
+            → in_front (quotient p.tail) (remainder p.tail, p.count) (runs_plus rs (quotient tail) (remainder tail) n) ≡ runs_plus (in_front (quotient p.tail) (remainder p.tail, p.count) rs)
+            (quotient tail) (remainder tail) n
         by_order [] a (inl lower) =
             front-none (quotient p.tail) (remainder p.tail, p.count) (quotient tail, (remainder tail, n) ∷ []) [] (omega arith)
             ∙ sym (plus-later (quotient p.tail, (remainder p.tail, p.count) ∷ []) [] (quotient tail) (remainder tail) n lower)
@@ -232,10 +238,13 @@ module _ (width : ℕ) where
                   ∙ plus-later (quotient p.tail, (remainder p.tail, p.count) ∷ []) (r ∷ rs) (quotient tail) (remainder tail) n lower)
             ]
           where
-            apart_front : (t : Runs) → ((h : ℕ × List (ℕ × ℕ)) × (back : Runs) × (t ≡ h ∷ back) × (h.0 ≢ quotient p.tail)) → in_front (quotient p.tail) (remainder p.tail, p.count) t ≡ (quotient p.tail, (remainder p.tail, p.count) ∷ []) ∷ t
-            apart_front t w = ap (in_front (quotient p.tail) (remainder p.tail, p.count)) w.2 ∙ front-none (quotient p.tail) (remainder p.tail, p.count) w.0 w.1 w.3 ∙ ap (λ (s : Runs). (quotient p.tail, (remainder p.tail, p.count) ∷ []) ∷ s) (sym w.2)
+            apart_front : (t : Runs) → ((h : ℕ × List (ℕ × ℕ)) × (back : Runs) × (t ≡ h ∷ back) × (h.0 ≢ quotient p.tail)) →
+                in_front (quotient p.tail) (remainder p.tail, p.count) t ≡ (quotient p.tail, (remainder p.tail, p.count) ∷ []) ∷ t
+            apart_front t w = ap (in_front (quotient p.tail) (remainder p.tail, p.count)) w.2 ∙ front-none (quotient p.tail) (remainder p.tail, p.count) w.0 w.1 w.3
+                ∙ ap (λ (s : Runs). (quotient p.tail, (remainder p.tail, p.count) ∷ []) ∷ s) (sym w.2)
 
-            other_head : (r : ℕ × List (ℕ × ℕ)) (rs : Runs) → r.0 ≢ quotient p.tail → quotient p.tail < quotient tail → (h : ℕ × List (ℕ × ℕ)) × (back : Runs) × (runs_plus (r ∷ rs) (quotient tail) (remainder tail) n ≡ h ∷ back) × (h.0 ≢ quotient p.tail)
+            other_head : (r : ℕ × List (ℕ × ℕ)) (rs : Runs) → r.0 ≢ quotient p.tail → quotient p.tail < quotient tail →
+                (h : ℕ × List (ℕ × ℕ)) × (back : Runs) × (runs_plus (r ∷ rs) (quotient tail) (remainder tail) n ≡ h ∷ back) × (h.0 ≢ quotient p.tail)
             other_head r rs apart lower = elim (cases_order r.0 (quotient tail)) [
               | inl same ↦ ((quotient tail, pairs_plus r.1 (remainder tail) n), rs, plus-same r rs (quotient tail) (remainder tail) n same, omega arith)
               | inr (inl less) ↦ (r, runs_plus rs (quotient tail) (remainder tail) n, plus-later r rs (quotient tail) (remainder tail) n less, apart)
@@ -306,7 +315,8 @@ module _ (width homes : ℕ) where
       apart : p.tail ≢ tail → p.tail / 2 ^ width ≡ tail / 2 ^ width → p.tail % 2 ^ width ≢ tail % 2 ^ width
       apart h e x = h (tails_same width p.tail tail e x)
 
-      low : (r : ℕ × List (ℕ × ℕ)) (rs : Runs) → RunsAscend homes ((p.tail + 1) / 2 ^ width) ((p.tail + 1) % 2 ^ width) (r ∷ rs) → r.0 ≢ p.tail / 2 ^ width → p.tail / 2 ^ width < r.0
+      low : (r : ℕ × List (ℕ × ℕ)) (rs : Runs) → RunsAscend homes ((p.tail + 1) / 2 ^ width) ((p.tail + 1) % 2 ^ width) (r ∷ rs) → r.0 ≢ p.tail / 2 ^ width →
+          p.tail / 2 ^ width < r.0
       low r rs a other = elim (next_parts width p.tail) [
         | inl within ↦ elim (a.0) [ inl above ↦ omega (arith, above.0, within.1) | inr at ↦ absurd (other (sym at.0 ∙ within.1)) ]
         | inr next ↦ elim (a.0) [ inl above ↦ omega (arith, above.0, next.0) | inr at ↦ omega (arith, at.0, next.0) ]
@@ -324,7 +334,8 @@ module _ (width homes : ℕ) where
         | inr other ↦ elim (cases_eq (p.tail / 2 ^ width) (tail / 2 ^ width)) [
           | inl quotient_same ↦ count-same (p.tail / 2 ^ width, (p.tail % 2 ^ width, p.count) ∷ []) [] (tail / 2 ^ width) (tail % 2 ^ width) quotient_same
               ∙ alone other quotient_same ∙ sym (other_tail other p.count 0)
-          | inr quotient_other ↦ count-other (p.tail / 2 ^ width, (p.tail % 2 ^ width, p.count) ∷ []) [] (tail / 2 ^ width) (tail % 2 ^ width) quotient_other ∙ sym (other_tail other p.count 0)
+          | inr quotient_other ↦ count-other (p.tail / 2 ^ width, (p.tail % 2 ^ width, p.count) ∷ []) [] (tail / 2 ^ width) (tail % 2 ^ width) quotient_other
+              ∙ sym (other_tail other p.count 0)
         ]
       ]
       at (r ∷ rs) a = elim (cases_eq r.0 (p.tail / 2 ^ width)) [
@@ -348,9 +359,11 @@ module _ (width homes : ℕ) where
                 | inl quotient_same ↦ (let above = low r rs a apart_run in
                     count-same (p.tail / 2 ^ width, (p.tail % 2 ^ width, p.count) ∷ []) (r ∷ rs) (tail / 2 ^ width) (tail % 2 ^ width) quotient_same
                     ∙ alone other quotient_same
-                    ∙ sym (count_runs-above homes (tail / 2 ^ width) (tail % 2 ^ width) 0 (r ∷ rs) (elim (cases_eq (tail / 2 ^ width + 1) r.0) [ inl e ↦ inr (e, zero_based r rs a) | inr e ↦ inl (omega arith, zero_based r rs a) ], a.1, a.2, a.3))
+                    ∙ sym (count_runs-above homes (tail / 2 ^ width) (tail % 2 ^ width) 0 (r ∷ rs)
+                    (elim (cases_eq (tail / 2 ^ width + 1) r.0) [ inl e ↦ inr (e, zero_based r rs a) | inr e ↦ inl (omega arith, zero_based r rs a) ], a.1, a.2, a.3))
                     ∙ sym (other_tail other p.count _))
-                | inr quotient_other ↦ count-other (p.tail / 2 ^ width, (p.tail % 2 ^ width, p.count) ∷ []) (r ∷ rs) (tail / 2 ^ width) (tail % 2 ^ width) quotient_other ∙ sym (other_tail other p.count _)
+                | inr quotient_other ↦ count-other (p.tail / 2 ^ width, (p.tail % 2 ^ width, p.count) ∷ []) (r ∷ rs) (tail / 2 ^ width) (tail % 2 ^ width) quotient_other
+                    ∙ sym (other_tail other p.count _)
               ]
             ]
       ]
@@ -369,20 +382,3 @@ module _ (width homes : ℕ) where
       let rest = count_by_quotient (p.tail + 1) ps tail t.3 (omega arith) in
       let ascend = by_quotient-ascends width homes (p.tail + 1) ps t.3 (omega arith) in
       ap (λ k. cond (eqb p.tail tail) p.count k) rest ∙ sym (count_front p (by_quotient width ps) tail ascend)
-
-  -- a table has at most two slots for each event
-  length_front_text : (q : ℕ) (pair : ℕ × ℕ) (rs : Runs) → total_length (texts width (in_front q pair rs)) ≡ length (group width pair.0 pair.1) + total_length (texts width rs)
-  length_front_text q pair [] = omega (arith, length-append (group width pair.0 pair.1) [])
-  length_front_text q pair (r ∷ rs) =
-      elim (cases_eq r.0 q) [
-        | inl same ↦ rw (front-same q pair r rs same) (omega (arith, length-append (group width pair.0 pair.1) (run_text width r.1)))
-        | inr other ↦ rw (front-none q pair r rs other) (omega (arith, length-append (group width pair.0 pair.1) []))
-      ]
-
-  pub total_slots : (least limit : ℕ) (table : List Piece) → 8 ≤ width → AscendsFrom least limit table → total_length (texts width (by_quotient width table)) ≤ 2 * total table
-  total_slots least limit [] wide t = omega arith
-  total_slots least limit (p ∷ ps) wide t =
-      let rest = total_slots (p.tail + 1) limit ps wide t.3 in
-      let twice = length_group-twice width (p.tail % 2 ^ width) p.count wide (t.2) in
-      let front = length_front_text (p.tail / 2 ^ width) (p.tail % 2 ^ width, p.count) (by_quotient width ps) in
-      omega arith

@@ -1,5 +1,6 @@
 -- A part of a row that is rotated by one.
-use Rattle.std.proofs.Common.{◌≡◌, ℕ, suc, ◌+◌, ◌-◌, ◌<◌, ◌≤◌, Bool, List, [], ◌∷◌, ◌++◌, length, take, drop, get_or, sym, ap, ◌∙◌, inl, inr, arith, length-append, append_assoc}
+use Rattle.std.proofs.Common.{◌≡◌, ℕ, suc, ◌+◌, ◌-◌, ◌<◌, ◌≤◌, Bool, List, [], ◌∷◌, ◌++◌, length, take, drop, get_or, sym, ap, ◌∙◌, inl, inr, arith}
+use Rattle.std.proofs.Common.{length-append, append_assoc}
 use Rattle.std.specs.Prelude.{insert, remove}
 use Rattle.std.proofs.lemmas.Bool.{cases_order}
 use Rattle.std.proofs.lemmas.List.{take_at, drop_at, take_more, drop-drop, length-take-le, length-drop, get_or-drop}
@@ -8,7 +9,8 @@ use Rattle.lert_slotbits.specs.Bits.{IsFirst}
 use Rattle.lert_cqf.specs.Rows.{filled_gap}
 
 pub rotated : (xs ys : List ℕ) (from to : ℕ) → from ≤ to → to < length xs
-    → ys ≡ drop (length (take (to + 1 - from) (drop from xs)) - 1) (take (to + 1 - from) (drop from xs)) ++ take (length (take (to + 1 - from) (drop from xs)) - 1) (take (to + 1 - from) (drop from xs))
+    → ys ≡ drop (length (take (to + 1 - from) (drop from xs)) - 1) (take (to + 1 - from) (drop from xs))
+    ++ take (length (take (to + 1 - from) (drop from xs)) - 1) (take (to + 1 - from) (drop from xs))
     → take from xs ++ (ys ++ drop (to + 1 - from) (drop from xs)) ≡ filled_gap xs from to (get_or xs to 0)
 rotated xs ys from to order within is =
     let m = to - from in

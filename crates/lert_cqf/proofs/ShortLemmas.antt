@@ -1,5 +1,6 @@
 -- A run of at most two slots: what it says of a remainder, and where it would stand if it is none.
-use Rattle.std.proofs.Common.{◌≡◌, ◌≢◌, ℕ, suc, ◌+◌, ◌-◌, ◌*◌, ◌/◌, ◌%◌, ◌^◌, ◌<◌, ◌≤◌, Bool, true, false, List, [], ◌∷◌, ◌++◌, length, take, drop, get_or, max, sym, ap, ◌∙◌, subst, inl, inr, ◌⊎◌, arith, length-append}
+use Rattle.std.proofs.Common.{◌≡◌, ◌≢◌, ℕ, suc, ◌+◌, ◌-◌, ◌*◌, ◌/◌, ◌%◌, ◌^◌, ◌<◌, ◌≤◌, Bool, true, false, List, [], ◌∷◌, ◌++◌, length}
+use Rattle.std.proofs.Common.{take, drop, get_or, max, sym, ap, ◌∙◌, subst, inl, inr, ◌⊎◌, arith, length-append}
 use Rattle.std.proofs.lemmas.Bool.{cases_eq, cases_lt}
 use Rattle.std.proofs.lemmas.List.{get_or-drop, get_or-take}
 use Rattle.std.proofs.Math.Seq.{drop-cons}
@@ -18,7 +19,7 @@ use Rattle.lert_cqf.specs.Growing.{Stand}
 use Rattle.lert_cqf.specs.Contents.{IsKept}
 use Rattle.lert_cqf.proofs.BegunLemmas.{spread_empty, begins_at, stop_bound, total-append}
 use Rattle.lert_cqf.proofs.GrowingLemmas.{length_text-positive}
-use Rattle.lert_cqf.proofs.QuotientLemmas.{total_slots}
+use Rattle.lert_cqf.proofs.SlotsLemmas.{total_slots}
 use Rattle.lert_cqf.proofs.SpillLemmas.{home_end}
 use Rattle.lert_cqf.proofs.SplitLemmas.{Holds, Lacks, find_quotient, texts-append, around_texts}
 use Rattle.lert_cqf.proofs.TableLemmas.{runs_ascend, hold_at, hold_some, count_absent, count_present, was_held, lacked}
@@ -36,7 +37,8 @@ one_slot width x c positive short =
     ]
 
 -- the one remainder of a text of one slot
-pub single : (width : ℕ) (ps : List (ℕ × ℕ)) → 0 < length ps → RemaindersAscend 0 ps → length (run_text width ps) ≤ 1 → (x : ℕ) × (ps ≡ (x, 1) ∷ []) × (run_text width ps ≡ x ∷ [])
+pub single : (width : ℕ) (ps : List (ℕ × ℕ)) → 0 < length ps → RemaindersAscend 0 ps → length (run_text width ps) ≤ 1 →
+    (x : ℕ) × (ps ≡ (x, 1) ∷ []) × (run_text width ps ≡ x ∷ [])
 single width [] some h short = absurd (omega arith)
 single width (p ∷ []) some h short =
     let whole = length-append (group width p.0 p.1) [] in
@@ -122,7 +124,8 @@ pub record Reaches (q : ℕ) (slots spill : List ℕ) : Type 0 where
   pub ends : q + 1 + get_or spill (q + 1) 0 ≤ length slots
   pub short : length slots + 1 < 2 ^ 32
 
-module _ (pieces : List Piece) (quotient_bits width events room : ℕ) (slots : List ℕ) (occupied ends used : List Bool) (spill : List ℕ) (k : IsKept pieces quotient_bits width events room slots occupied ends used spill)
+module _ (pieces : List Piece) (quotient_bits width events room : ℕ) (slots : List ℕ) (occupied ends used : List Bool) (spill : List ℕ)
+    (k : IsKept pieces quotient_bits width events room slots occupied ends used spill)
     (q : ℕ) (below : q < 2 ^ quotient_bits) where
   found : Holds (2 ^ quotient_bits) q (by_quotient width pieces) ⊎ Lacks (2 ^ quotient_bits) q (by_quotient width pieces)
   found = find_quotient (2 ^ quotient_bits) 0 0 q (by_quotient width pieces) (runs_ascend pieces quotient_bits width events room slots occupied ends used spill k)
@@ -209,7 +212,8 @@ module _ (pieces : List Piece) (quotient_bits width events room : ℕ) (slots : 
             let absent = count_absent pieces quotient_bits width events room slots occupied ends used spill k tail q q_is l in omega arith)
       ]
     where
-      single_count : (h : Holds (2 ^ quotient_bits) q (by_quotient width pieces)) (y : ℕ) → h.pairs ≡ (y, 1) ∷ [] → get_or slots (q + get_or spill q 0) 0 ≡ y → m ≡ count_in h.pairs x
+      single_count : (h : Holds (2 ^ quotient_bits) q (by_quotient width pieces)) (y : ℕ) → h.pairs ≡ (y, 1) ∷ [] → get_or slots (q + get_or spill q 0) 0 ≡ y →
+          m ≡ count_in h.pairs x
       single_count h y is there =
           elim (cases_eq y x) [
             | inl same ↦ here (was_held pieces quotient_bits width events room slots occupied ends used spill k q h) (there ∙ same)

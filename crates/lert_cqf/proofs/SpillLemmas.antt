@@ -75,7 +75,8 @@ pub below_unmoved : {C : Type 0} (at g q : ℕ) (t s : List C) (before after : L
 below_unmoved at g q t s [] after h = end_here at g (q, t) after h ∙ sym (end_here at g (q, s) after h)
 below_unmoved at g q t s (r ∷ before) after h =
     elim (cases_lt r.0 g) [
-      | inl passes ↦ end_passes at g r (before ++ (q, t) ∷ after) passes ∙ below_unmoved (max at r.0 + length r.1) g q t s before after h ∙ sym (end_passes at g r (before ++ (q, s) ∷ after) passes)
+      | inl passes ↦ end_passes at g r (before ++ (q, t) ∷ after) passes ∙ below_unmoved (max at r.0 + length r.1) g q t s before after h
+          ∙ sym (end_passes at g r (before ++ (q, s) ∷ after) passes)
       | inr here ↦ end_here at g r (before ++ (q, t) ∷ after) here ∙ sym (end_here at g r (before ++ (q, s) ∷ after) here)
     ]
 
@@ -133,17 +134,20 @@ pub spill_empty : {C : Type 0} (q g limit : ℕ) (before after : List (ℕ × Li
     → end_before 0 g (before ++ (q, []) ∷ after) - g ≡ end_before 0 g (before ++ after) - g
 spill_empty {C} q g limit before after below above =
     elim (cases_lt q g) [
-      | inl behind ↦ (let a = behind_run {C = C} g q [] before after below behind ∙ ap (λ k. end_before k g after) (let e : max (stop 0 before) q + 0 ≡ max (stop 0 before) q = omega arith in e) in
+      | inl behind ↦ (let a = behind_run {C = C} g q [] before after below behind
+          ∙ ap (λ k. end_before k g after) (let e : max (stop 0 before) q + 0 ≡ max (stop 0 before) q = omega arith in e) in
           let b = below_passed 0 g before after (homes_below-weaker q g before (omega arith) below) in
           let c = empty_run (stop 0 before) q g limit after above behind in omega arith)
       | inr at ↦ ap (λ k. k - g) (unseen 0 g q limit before after at above)
     ]
   where
-    unseen : {C : Type 0} (at g q limit : ℕ) (before after : List (ℕ × List C)) → g ≤ q → HomesAscend (q + 1) limit after → end_before at g (before ++ (q, []) ∷ after) ≡ end_before at g (before ++ after)
+    unseen : {C : Type 0} (at g q limit : ℕ) (before after : List (ℕ × List C)) → g ≤ q → HomesAscend (q + 1) limit after →
+        end_before at g (before ++ (q, []) ∷ after) ≡ end_before at g (before ++ after)
     unseen {C} at g q limit [] [] h above = end_here {C = C} at g (q, []) [] h
     unseen {C} at g q limit [] (r ∷ after) h above = end_here {C = C} at g (q, []) (r ∷ after) h ∙ sym (end_here at g r after (omega (arith, above.0)))
     unseen at g q limit (r ∷ before) after h above =
         elim (cases_lt r.0 g) [
-          | inl passes ↦ end_passes at g r (before ++ (q, []) ∷ after) passes ∙ unseen (max at r.0 + length r.1) g q limit before after h above ∙ sym (end_passes at g r (before ++ after) passes)
+          | inl passes ↦ end_passes at g r (before ++ (q, []) ∷ after) passes ∙ unseen (max at r.0 + length r.1) g q limit before after h above
+              ∙ sym (end_passes at g r (before ++ after) passes)
           | inr here ↦ end_here at g r (before ++ (q, []) ∷ after) here ∙ sym (end_here at g r (before ++ after) here)
         ]

@@ -1,5 +1,6 @@
 -- The run of a quotient among the others, and the occupied row.
-use Rattle.std.proofs.Common.{◌≡◌, ℕ, suc, ◌+◌, ◌-◌, ◌<◌, ◌≤◌, Bool, true, false, List, [], ◌∷◌, ◌++◌, length, replicate, get_or, set, refl, sym, ap, ◌∙◌, subst, inl, inr, ◌⊎◌, arith, length-append, append_assoc}
+use Rattle.std.proofs.Common.{◌≡◌, ℕ, suc, ◌+◌, ◌-◌, ◌<◌, ◌≤◌, Bool, true, false, List, [], ◌∷◌, ◌++◌, length, replicate, get_or, set, refl, sym, ap, ◌∙◌}
+use Rattle.std.proofs.Common.{subst, inl, inr, ◌⊎◌, arith, length-append, append_assoc}
 use Rattle.std.proofs.lemmas.Bool.{cases_order}
 use Rattle.std.proofs.lemmas.List.{map-append, length-replicate, get_or_append_left, get_or-append_right, get_or_at, set_at, get_or-replicate, replicate-append-replicate, set-append_right}
 use Rattle.lert_runs.specs.RunText.{run_text, RemaindersAscend, count_in, pairs_plus}
@@ -67,7 +68,8 @@ lacks_later homes q r rs less h = record {
   count = λ x. count-other r rs q x (omega arith) ∙ h.count x;
 }
 
-holds_here : (homes q : ℕ) (r : ℕ × List (ℕ × ℕ)) (rs : Runs) → r.0 ≡ q → r.0 < homes → RemaindersAscend 0 r.1 → 0 < length r.1 → HomesAscend (r.0 + 1) homes rs → Holds homes q (r ∷ rs)
+holds_here : (homes q : ℕ) (r : ℕ × List (ℕ × ℕ)) (rs : Runs) → r.0 ≡ q → r.0 < homes → RemaindersAscend 0 r.1 → 0 < length r.1 → HomesAscend (r.0 + 1) homes rs →
+    Holds homes q (r ∷ rs)
 holds_here homes q r rs same within ascend some above = record {
   before = [];
   pairs = r.1;
@@ -106,7 +108,8 @@ find_quotient homes y x q (r ∷ rs) h =
         count-other s rs q x (omega arith) ∙ behind homes q s.0 x rs above h.3
 
 -- the texts around
-pub texts-split : (width q : ℕ) (before : Runs) (ps : List (ℕ × ℕ)) (after : Runs) → texts width (before ++ (q, ps) ∷ after) ≡ texts width before ++ (q, run_text width ps) ∷ texts width after
+pub texts-split : (width q : ℕ) (before : Runs) (ps : List (ℕ × ℕ)) (after : Runs) → texts width (before ++ (q, ps) ∷ after) ≡ texts width before ++ (q, run_text width ps)
+    ∷ texts width after
 texts-split width q before ps after = map-append (λ (r : ℕ × List (ℕ × ℕ)). (r.0, run_text width r.1)) before ((q, ps) ∷ after)
 
 pub texts-append : (width : ℕ) (before after : Runs) → texts width (before ++ after) ≡ texts width before ++ texts width after
@@ -120,7 +123,8 @@ texts_above : (width q limit : ℕ) (rs : Runs) → HomesAscend q limit rs → H
 texts_above width q limit [] h = tt
 texts_above width q limit (r ∷ rs) h = (h.0, h.1, texts_above width (r.0 + 1) limit rs h.2)
 
-pub around_texts : (width n homes q : ℕ) (before after : Runs) → HomesBelow q before → HomesAscend (q + 1) homes after → q < homes → homes ≤ n → IsAround n homes q (texts width before) (texts width after)
+pub around_texts : (width n homes q : ℕ) (before after : Runs) → HomesBelow q before → HomesAscend (q + 1) homes after → q < homes → homes ≤ n →
+    IsAround n homes q (texts width before) (texts width after)
 around_texts width n homes q before after below above within fits = record {
   below = texts_below width q before below;
   above = texts_above width (q + 1) homes after above;
@@ -136,7 +140,8 @@ length_homes n at (r ∷ rs) h =
     omega (arith, length-append (replicate (r.0 - at) false) (true ∷ homes_from n (r.0 + 1) rs), length-replicate (r.0 - at) false, h.0, h.1)
 
 -- a home behind the first run
-behind_home : (n at q : ℕ) (r : ℕ × List (ℕ × ℕ)) (rs : Runs) → at ≤ r.0 → r.0 < q → get_or (homes_from n at (r ∷ rs)) (q - at) false ≡ get_or (homes_from n (r.0 + 1) rs) (q - (r.0 + 1)) false
+behind_home : (n at q : ℕ) (r : ℕ × List (ℕ × ℕ)) (rs : Runs) → at ≤ r.0 → r.0 < q →
+    get_or (homes_from n at (r ∷ rs)) (q - at) false ≡ get_or (homes_from n (r.0 + 1) rs) (q - (r.0 + 1)) false
 behind_home n at q r rs low less =
     let place : q - at - (r.0 - at) ≡ suc (q - (r.0 + 1)) = omega arith in
     get_or-append_right (replicate (r.0 - at) false) (true ∷ homes_from n (r.0 + 1) rs) (r.0 - at) (q - at) false (length-replicate (r.0 - at) false) (omega arith)
@@ -162,7 +167,8 @@ home_lacks n at q (r ∷ before) after low within h below above =
     behind_home n at q r (before ++ after) h.0 below.0 ∙ home_lacks n (r.0 + 1) q before after (omega (arith, below.0)) within h.2 below.1 above
 
 -- a home that is set
-new_home : (n at q : ℕ) (ps : List (ℕ × ℕ)) (after : Runs) → at ≤ q → q < n → HomesAscend (q + 1) n after → set (homes_from n at after) (q - at) true ≡ homes_from n at ((q, ps) ∷ after)
+new_home : (n at q : ℕ) (ps : List (ℕ × ℕ)) (after : Runs) → at ≤ q → q < n → HomesAscend (q + 1) n after →
+    set (homes_from n at after) (q - at) true ≡ homes_from n at ((q, ps) ∷ after)
 new_home n at q ps [] low within h =
     let parts : n - at ≡ (q - at) + suc (n - (q + 1)) = omega arith in
     ap (λ k. set (replicate k false) (q - at) true) parts
@@ -173,10 +179,12 @@ new_home n at q ps (r ∷ after) low within h =
     let parts : r.0 - at ≡ (q - at) + suc (r.0 - (q + 1)) = omega arith in
     let rest = true ∷ homes_from n (r.0 + 1) after in
     ap (λ k. set (replicate k false ++ rest) (q - at) true) parts
-    ∙ ap (λ (t : List Bool). set t (q - at) true) (ap (λ (t : List Bool). t ++ rest) (sym (replicate-append-replicate (q - at) (suc (r.0 - (q + 1))) false)) ∙ append_assoc (replicate (q - at) false) (replicate (suc (r.0 - (q + 1))) false) rest)
+    ∙ ap (λ (t : List Bool). set t (q - at) true) (ap (λ (t : List Bool). t ++ rest) (sym (replicate-append-replicate (q - at) (suc (r.0 - (q + 1))) false))
+    ∙ append_assoc (replicate (q - at) false) (replicate (suc (r.0 - (q + 1))) false) rest)
     ∙ set_at (replicate (q - at) false) false (replicate (r.0 - (q + 1)) false ++ rest) true (q - at) (length-replicate (q - at) false)
 
-pub home_set : (n at q : ℕ) (before : Runs) (ps : List (ℕ × ℕ)) (after : Runs) → at ≤ q → q < n → HomesAscend at n (before ++ after) → HomesBelow q before → HomesAscend (q + 1) n after
+pub home_set : (n at q : ℕ) (before : Runs) (ps : List (ℕ × ℕ)) (after : Runs) → at ≤ q → q < n → HomesAscend at n (before ++ after) → HomesBelow q before →
+    HomesAscend (q + 1) n after
     → set (homes_from n at (before ++ after)) (q - at) true ≡ homes_from n at (before ++ (q, ps) ∷ after)
 home_set n at q [] ps after low within h below above = new_home n at q ps after low within above
 home_set n at q (r ∷ before) ps after low within h below above =

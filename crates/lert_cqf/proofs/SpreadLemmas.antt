@@ -1,5 +1,6 @@
 -- The rows as a run grows.
-use Rattle.std.proofs.Common.{◌≡◌, ℕ, suc, zero, ◌+◌, ◌-◌, ◌<◌, ◌≤◌, Bool, true, false, List, [], ◌∷◌, ◌++◌, length, replicate, get_or, set, max, min, refl, sym, ap, ◌∙◌, inl, inr, arith, length-append, append_assoc}
+use Rattle.std.proofs.Common.{◌≡◌, ℕ, suc, zero, ◌+◌, ◌-◌, ◌<◌, ◌≤◌, Bool, true, false, List, [], ◌∷◌, ◌++◌, length, replicate, get_or, set, max, min, refl}
+use Rattle.std.proofs.Common.{sym, ap, ◌∙◌, inl, inr, arith, length-append, append_assoc}
 use Rattle.std.specs.Prelude.{remove}
 use Rattle.std.proofs.lemmas.List.{length-replicate, replicate-append-replicate, map-append, get_or_append_left, get_or-append-add, get_or-replicate, get_or_at, set_at, replicate_more}
 use Rattle.std.proofs.lemmas.List.Edits.{remove-append_right}
@@ -48,12 +49,15 @@ pub ends_of-more : (k j : ℕ) → j ≤ k → (replicate j false ++ (replicate 
 ends_of-more k j h =
     let whole : j + (k - j) ≡ k = omega arith in
     let one_more : j + suc (k - j) ≡ suc k = omega arith in (
-      sym (append_assoc (replicate j false) (replicate (k - j) false) (true ∷ [])) ∙ ap (λ (t : List Bool). t ++ true ∷ []) (replicate-append-replicate j (k - j) false ∙ ap (λ m. replicate m false) whole),
-      sym (append_assoc (replicate j false) (replicate (suc (k - j)) false) (true ∷ [])) ∙ ap (λ (t : List Bool). t ++ true ∷ []) (replicate-append-replicate j (suc (k - j)) false ∙ ap (λ m. replicate m false) one_more),
+      sym (append_assoc (replicate j false) (replicate (k - j) false) (true ∷ []))
+          ∙ ap (λ (t : List Bool). t ++ true ∷ []) (replicate-append-replicate j (k - j) false ∙ ap (λ m. replicate m false) whole),
+      sym (append_assoc (replicate j false) (replicate (suc (k - j)) false) (true ∷ []))
+          ∙ ap (λ (t : List Bool). t ++ true ∷ []) (replicate-append-replicate j (suc (k - j)) false ∙ ap (λ m. replicate m false) one_more),
     )
 
 -- the used cells from the end of a run on, up to the first free one
-used_up : (n at : ℕ) (rs : List (ℕ × List ℕ)) → first_free at rs < n → (rest : List Bool) × (cells_from false n at (reshaped used_text rs) ≡ replicate (first_free at rs - at) true ++ false ∷ rest)
+used_up : (n at : ℕ) (rs : List (ℕ × List ℕ)) → first_free at rs < n →
+    (rest : List Bool) × (cells_from false n at (reshaped used_text rs) ≡ replicate (first_free at rs - at) true ++ false ∷ rest)
 used_up n at [] h =
     let none : at - at ≡ 0 = omega arith in
     let one : n - at ≡ suc (n - suc at) = omega arith in (replicate (n - suc at) false, rw (none, one) refl)
@@ -70,7 +74,8 @@ used_up n at (r ∷ rs) h =
                 ∙ ap (λ k. used_text (length r.1) ++ cells_from false n (at + k) (reshaped used_text rs)) (length_used_text (length r.1))
                 ∙ ap (λ (t : List Bool). used_text (length r.1) ++ t) more.1
                 ∙ sym (append_assoc (used_text (length r.1)) (replicate (first_free (at + length r.1) rs - (at + length r.1)) true) (false ∷ more.0))
-                ∙ ap (λ (t : List Bool). t ++ false ∷ more.0) (replicate-append-replicate (length r.1) (first_free (at + length r.1) rs - (at + length r.1)) true ∙ ap (λ m. replicate m true) parts),
+                ∙ ap (λ (t : List Bool). t ++ false ∷ more.0) (replicate-append-replicate (length r.1) (first_free (at + length r.1) rs - (at + length r.1)) true
+                ∙ ap (λ m. replicate m true) parts),
           ))
     ]
 
@@ -85,7 +90,8 @@ module _ (n q : ℕ) (t : List ℕ) (before after : List (ℕ × List ℕ)) (roo
   pub free-from : start + length t ≤ free
   free-from = first_free-from (max (stop 0 before) q + length t) after
 
-  used_around : (front rest : List Bool) × (length front ≡ start) × (cells false n (reshaped used_text (before ++ (q, t) ∷ after)) ≡ front ++ (replicate (free - start) true ++ false ∷ rest))
+  used_around : (front rest : List Bool) × (length front ≡ start) × (cells false n (reshaped used_text (before ++ (q, t) ∷ after)) ≡ front
+      ++ (replicate (free - start) true ++ false ∷ rest))
       × (cells_from false n (start + length t) (reshaped used_text after) ≡ replicate (free - (start + length t)) true ++ false ∷ rest)
   used_around =
       let front = front_of false q (reshaped used_text before) in
@@ -98,7 +104,8 @@ module _ (n q : ℕ) (t : List ℕ) (before after : List (ℕ × List ℕ)) (roo
         length_front false q (reshaped used_text before) ∙ at,
         ap (cells false n) (reshaped-append used_text length_used_text before q t after)
             ∙ cells_at false n q (used_text (length t)) (reshaped used_text before) (reshaped used_text after)
-            ∙ ap (λ k. front ++ (used_text (length t) ++ cells_from false n k (reshaped used_text after))) (let e : start_of false q (reshaped used_text before) + length (used_text (length t)) ≡ start + length t = omega (arith, length_used_text (length t)) in e)
+            ∙ ap (λ k. front ++ (used_text (length t) ++ cells_from false n k (reshaped used_text after)))
+            (let e : start_of false q (reshaped used_text before) + length (used_text (length t)) ≡ start + length t = omega (arith, length_used_text (length t)) in e)
             ∙ ap (λ (s : List Bool). front ++ (used_text (length t) ++ s)) up.1
             ∙ ap (λ (s : List Bool). front ++ s) (sym (append_assoc (used_text (length t)) (replicate (free - (start + length t)) true) (false ∷ up.0)))
             ∙ ap (λ (s : List Bool). front ++ (s ++ false ∷ up.0)) (replicate-append-replicate (length t) (free - (start + length t)) true ∙ ap (λ m. replicate m true) parts),
@@ -106,14 +113,16 @@ module _ (n q : ℕ) (t : List ℕ) (before after : List (ℕ × List ℕ)) (roo
       )
 
   -- the scan for a free cell from a place in the run finds it
-  pub free_found : (used : List Bool) (place : ℕ) → used ≡ cells false n (reshaped used_text (before ++ (q, t) ∷ after)) → start ≤ place → place ≤ start + length t → IsFirst false used place free
+  pub free_found : (used : List Bool) (place : ℕ) → used ≡ cells false n (reshaped used_text (before ++ (q, t) ∷ after)) → start ≤ place → place ≤ start + length t →
+      IsFirst false used place free
   free_found used place is low high =
       let a = used_around in
       let from = free-from in
       let all = is ∙ a.3 in
       let marks = length-replicate (free - start) true in
       let long : length used ≡ start + (free - start) + 1 + length a.1 =
-      omega (arith, ap (λ (s : List Bool). length s) all, length-append a.0 (replicate (free - start) true ++ false ∷ a.1), length-append (replicate (free - start) true) (false ∷ a.1), a.2) in
+      omega (arith, ap (λ (s : List Bool). length s) all, length-append a.0 (replicate (free - start) true ++ false ∷ a.1), length-append (replicate (free - start) true) (false ∷ a.1), a.2)
+      in
       record {
         behind = omega arith;
         within = omega arith;
@@ -151,11 +160,13 @@ module _ (n q : ℕ) (t : List ℕ) (before after : List (ℕ × List ℕ)) (roo
       let new : cells false n (reshaped used_text (before ++ (q, s) ∷ after)) ≡ front ++ (used_text (length s) ++ (replicate gap true ++ a.1)) =
       ap (cells false n) (reshaped-append used_text length_used_text before q s after)
       ∙ cells_at false n q (used_text (length s)) (reshaped used_text before) (reshaped used_text after)
-      ∙ ap (λ k. front ++ (used_text (length s) ++ cells_from false n k (reshaped used_text after))) (let e : start_of false q (reshaped used_text before) + length (used_text (length s)) ≡ start + length s = omega (arith, length_used_text (length s)) in e)
+      ∙ ap (λ k. front ++ (used_text (length s) ++ cells_from false n k (reshaped used_text after)))
+      (let e : start_of false q (reshaped used_text before) + length (used_text (length s)) ≡ start + length s = omega (arith, length_used_text (length s)) in e)
       ∙ ap (λ (c : List Bool). front ++ (used_text (length s) ++ c)) tail in
       let marks : used_text (length s) ++ (replicate gap true ++ a.1) ≡ replicate (free - start) true ++ true ∷ a.1 =
       sym (append_assoc (used_text (length s)) (replicate gap true) a.1)
-      ∙ ap (λ (c : List Bool). c ++ a.1) (replicate-append-replicate (length s) gap true ∙ ap (λ m. replicate m true) (let e : length s + gap ≡ free - start + 1 = omega arith in e) ∙ sym (replicate_more (free - start) true))
+      ∙ ap (λ (c : List Bool). c ++ a.1) (replicate-append-replicate (length s) gap true ∙ ap (λ m. replicate m true) (let e : length s + gap ≡ free - start + 1 = omega arith in e)
+      ∙ sym (replicate_more (free - start) true))
       ∙ append_assoc (replicate (free - start) true) (true ∷ []) a.1 in
       ap (λ (c : List Bool). set c free true) (is ∙ a.3 ∙ sym (append_assoc front (replicate (free - start) true) (false ∷ a.1)))
       ∙ set_at (front ++ replicate (free - start) true) false a.1 true free (omega (arith, length-append front (replicate (free - start) true), length-replicate (free - start) true, a.2))
@@ -201,9 +212,12 @@ module _ (n q : ℕ) (u w : List ℕ) (v : ℕ) (before after : List (ℕ × Lis
       let free_same : first_free (start_of false q (reshaped ends_of before) + length marks) (reshaped ends_of after) ≡ place =
       ap (λ m. first_free m (reshaped ends_of after)) start_same ∙ free-reshaped ends_of length_ends_of (home + length (u ++ w)) after in
       let grown = grown_cells false n q false (replicate j false) (replicate (k - j) false ++ true ∷ []) (reshaped ends_of before) (reshaped ends_of after) (omega arith) in
-      ap (λ (s : List Bool). gapped s (home + j) place) (is ∙ ap (cells false n) (reshaped-append ends_of length_ends_of before q (u ++ w) after) ∙ ap (λ (s : List Bool). cells false n (reshaped ends_of before ++ (q, s) ∷ reshaped ends_of after)) old)
-      ∙ ap (λ m. gapped (cells false n (reshaped ends_of before ++ (q, marks) ∷ reshaped ends_of after)) m place) (let e : home + j ≡ start_of false q (reshaped ends_of before) + length (replicate j false) = omega arith in e)
-      ∙ ap (λ m. gapped (cells false n (reshaped ends_of before ++ (q, marks) ∷ reshaped ends_of after)) (start_of false q (reshaped ends_of before) + length (replicate j false)) m) (sym free_same)
+      ap (λ (s : List Bool). gapped s (home + j) place) (is ∙ ap (cells false n) (reshaped-append ends_of length_ends_of before q (u ++ w) after)
+      ∙ ap (λ (s : List Bool). cells false n (reshaped ends_of before ++ (q, s) ∷ reshaped ends_of after)) old)
+      ∙ ap (λ m. gapped (cells false n (reshaped ends_of before ++ (q, marks) ∷ reshaped ends_of after)) m place)
+      (let e : home + j ≡ start_of false q (reshaped ends_of before) + length (replicate j false) = omega arith in e)
+      ∙ ap (λ m. gapped (cells false n (reshaped ends_of before ++ (q, marks) ∷ reshaped ends_of after)) (start_of false q (reshaped ends_of before) + length (replicate j false)) m)
+      (sym free_same)
       ∙ sym grown
       ∙ ap (λ (s : List Bool). cells false n (reshaped ends_of before ++ (q, s) ∷ reshaped ends_of after)) (sym new)
       ∙ sym (ap (cells false n) (reshaped-append ends_of length_ends_of before q (u ++ v ∷ w) after))

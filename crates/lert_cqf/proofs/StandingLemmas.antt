@@ -1,5 +1,6 @@
 -- Where a cursor stands, and what it gives next.
-use Rattle.std.proofs.Common.{◌≡◌, ℕ, suc, zero, ◌+◌, ◌-◌, ◌*◌, ◌/◌, ◌%◌, ◌^◌, ◌<◌, ◌≤◌, Bool, true, false, List, [], ◌∷◌, ◌++◌, length, take, drop, get_or, max, refl, sym, ap, ◌∙◌, subst, inl, inr, arith, length-append, append_assoc, true≢false}
+use Rattle.std.proofs.Common.{◌≡◌, ℕ, suc, zero, ◌+◌, ◌-◌, ◌*◌, ◌/◌, ◌%◌, ◌^◌, ◌<◌, ◌≤◌, Bool, true, false, List, [], ◌∷◌, ◌++◌, length, take}
+use Rattle.std.proofs.Common.{drop, get_or, max, refl, sym, ap, ◌∙◌, subst, inl, inr, arith, length-append, append_assoc, true≢false}
 use Rattle.std.proofs.lemmas.Bool.{cases_eq, cases_order}
 use Rattle.std.proofs.lemmas.Nat.{div-add-mod', mod-mul-add}
 use Rattle.std.proofs.lemmas.List.{take_at, drop_at, append-nil, drop-drop, length-drop}
@@ -72,7 +73,8 @@ below_and q ps [] h = (omega arith, tt)
 below_and q ps (r ∷ rs) h = (omega (arith, h.0), below_and q ps rs h.1)
 
 -- the text of some pairs takes a slot
-text_some : (width : ℕ) (done : List (ℕ × ℕ)) (p : ℕ × ℕ) (rest : List (ℕ × ℕ)) → RemaindersAscend 0 (done ++ p ∷ rest) → length (run_text width done) < length (run_text width (done ++ p ∷ rest))
+text_some : (width : ℕ) (done : List (ℕ × ℕ)) (p : ℕ × ℕ) (rest : List (ℕ × ℕ)) → RemaindersAscend 0 (done ++ p ∷ rest) →
+    length (run_text width done) < length (run_text width (done ++ p ∷ rest))
 text_some width done p rest h =
     let behind = ascend_behind 0 done (p ∷ rest) h in
     let one = length_text-positive width behind.0 (p ∷ rest) (omega arith) behind.1 in
@@ -89,7 +91,8 @@ tail_below least limit zero (r ∷ ps) p qs h is = (let e : r.tail ≡ p.tail = 
 tail_below least limit (suc g) [] p qs h is = absurd (let e = ap (λ (t : List Piece). length t) is in omega arith)
 tail_below least limit (suc g) (r ∷ ps) p qs h is = tail_below (r.tail + 1) limit g ps p qs h.3 is
 
-module _ (pieces : List Piece) (quotient_bits width events room : ℕ) (slots : List ℕ) (occupied ends used : List Bool) (spill : List ℕ) (k : IsKept pieces quotient_bits width events room slots occupied ends used spill) where
+module _ (pieces : List Piece) (quotient_bits width events room : ℕ) (slots : List ℕ) (occupied ends used : List Bool) (spill : List ℕ)
+    (k : IsKept pieces quotient_bits width events room slots occupied ends used spill) where
   abbrev pub seen : Contents
   seen = record { pieces = pieces; room = room; quotient_bits = quotient_bits; width = width }
 
@@ -135,17 +138,20 @@ module _ (pieces : List Piece) (quotient_bits width events room : ℕ) (slots : 
   pub none_left : (c : CqfCursor) → IsBetween seen c → ((h : ℕ) → c.next ≤ h → h < length occupied → get_or occupied h false ≡ false) → drop c.given pieces ≡ []
   none_left c b none = go b.after b.split b.above b.left_is
     where
-      go : (after : Runs) → by_quotient width pieces ≡ b.before ++ after → HomesAscend c.next (2 ^ quotient_bits) after → drop c.given pieces ≡ pieces_of width after → drop c.given pieces ≡ []
+      go : (after : Runs) → by_quotient width pieces ≡ b.before ++ after → HomesAscend c.next (2 ^ quotient_bits) after → drop c.given pieces ≡ pieces_of width after →
+          drop c.given pieces ≡ []
       go [] split above left_is = left_is
       go (r ∷ after) split above left_is =
           let long = occupied_long pieces quotient_bits width events room slots occupied ends used spill k in
           absurd (true≢false (sym (there r after split above) ∙ none r.0 above.0 (omega (arith, above.1))))
         where
-          there : (r : ℕ × List (ℕ × ℕ)) (after : Runs) → by_quotient width pieces ≡ b.before ++ r ∷ after → HomesAscend c.next (2 ^ quotient_bits) (r ∷ after) → get_or occupied r.0 false ≡ true
+          there : (r : ℕ × List (ℕ × ℕ)) (after : Runs) → by_quotient width pieces ≡ b.before ++ r ∷ after → HomesAscend c.next (2 ^ quotient_bits) (r ∷ after) →
+              get_or occupied r.0 false ≡ true
           there r after split above =
               ap (λ (t : List Bool). get_or t r.0 false) (k.occupied_is ∙ ap (homes_from (2 ^ quotient_bits) 0) split)
               ∙ ap (λ i. get_or (homes_from (2 ^ quotient_bits) 0 (b.before ++ r ∷ after)) i false) (let e : r.0 ≡ r.0 - 0 = omega arith in e)
-              ∙ home_holds (2 ^ quotient_bits) 0 r.0 b.before r.1 after (omega arith) (subst (λ (t : Runs). HomesAscend 0 (2 ^ quotient_bits) t) split homes_are) (below_more c.next r.0 b.before above.0 b.below)
+              ∙ home_holds (2 ^ quotient_bits) 0 r.0 b.before r.1 after (omega arith) (subst (λ (t : Runs). HomesAscend 0 (2 ^ quotient_bits) t) split homes_are)
+              (below_more c.next r.0 b.before above.0 b.below)
 
   -- the first occupied home is that of the next run
   pub record NextRun (c : CqfCursor) (home : ℕ) : Type 0 where
@@ -167,14 +173,16 @@ module _ (pieces : List Piece) (quotient_bits width events room : ℕ) (slots : 
       absent after split above =
           ap (λ (t : List Bool). get_or t home false) (k.occupied_is ∙ ap (homes_from (2 ^ quotient_bits) 0) split)
           ∙ ap (λ i. get_or (homes_from (2 ^ quotient_bits) 0 (b.before ++ after)) i false) (let e : home ≡ home - 0 = omega arith in e)
-          ∙ home_lacks (2 ^ quotient_bits) 0 home b.before after (omega arith) (let w = f.within in omega (arith, long)) (subst (λ (t : Runs). HomesAscend 0 (2 ^ quotient_bits) t) split homes_are)
+          ∙ home_lacks (2 ^ quotient_bits) 0 home b.before after (omega arith) (let w = f.within in omega (arith, long))
+          (subst (λ (t : Runs). HomesAscend 0 (2 ^ quotient_bits) t) split homes_are)
           (below_more c.next home b.before f.behind b.below) above
 
       there : (r : ℕ × List (ℕ × ℕ)) (after : Runs) → by_quotient width pieces ≡ b.before ++ r ∷ after → c.next ≤ r.0 → get_or occupied r.0 false ≡ true
       there r after split low =
           ap (λ (t : List Bool). get_or t r.0 false) (k.occupied_is ∙ ap (homes_from (2 ^ quotient_bits) 0) split)
           ∙ ap (λ i. get_or (homes_from (2 ^ quotient_bits) 0 (b.before ++ r ∷ after)) i false) (let e : r.0 ≡ r.0 - 0 = omega arith in e)
-          ∙ home_holds (2 ^ quotient_bits) 0 r.0 b.before r.1 after (omega arith) (subst (λ (t : Runs). HomesAscend 0 (2 ^ quotient_bits) t) split homes_are) (below_more c.next r.0 b.before low b.below)
+          ∙ home_holds (2 ^ quotient_bits) 0 r.0 b.before r.1 after (omega arith) (subst (λ (t : Runs). HomesAscend 0 (2 ^ quotient_bits) t) split homes_are)
+          (below_more c.next r.0 b.before low b.below)
 
       go : (after : Runs) → by_quotient width pieces ≡ b.before ++ after → HomesAscend c.next (2 ^ quotient_bits) after → drop c.given pieces ≡ pieces_of width after → NextRun c home
       go [] split above left_is = absurd (true≢false (sym f.found ∙ absent [] split tt))
@@ -204,7 +212,8 @@ module _ (pieces : List Piece) (quotient_bits width events room : ℕ) (slots : 
     pub run_stands : StandsAt home (home + get_or spill home 0) (home + 1 + get_or spill (home + 1) 0) (run_text width n.pairs) slots (texts width n.before)
     run_stands =
         stands_at (slot_count quotient_bits room) (2 ^ quotient_bits) home (run_text width n.pairs) (texts width n.before) (texts width n.after) slots ends used spill run_around run_long
-        (subst (λ (t : List (ℕ × List ℕ)). IsSpread (slot_count quotient_bits room) (2 ^ quotient_bits) t slots ends used spill) (ap (texts width) n.split ∙ texts-split width home n.before n.pairs n.after) (k.stand).spread)
+        (subst (λ (t : List (ℕ × List ℕ)). IsSpread (slot_count quotient_bits room) (2 ^ quotient_bits) t slots ends used spill)
+        (ap (texts width) n.split ∙ texts-split width home n.before n.pairs n.after) (k.stand).spread)
 
     pub entered : (at end : ℕ) → at ≡ home + get_or spill home 0 → end ≡ home + 1 + get_or spill (home + 1) 0
         → IsInRun seen (record { next = home + 1; at = at; end = end; given = c.given }) × (at < end)
@@ -253,7 +262,8 @@ module _ (pieces : List Piece) (quotient_bits width events room : ℕ) (slots : 
       go : (rest : List (ℕ × ℕ)) → i.rest ≡ rest → NextPair c i
       go [] is = absurd (
           let at = i.at_is in
-          let end = i.end_is ∙ ap (λ (t : List (ℕ × ℕ)). start + length (run_text width (i.done ++ t))) is ∙ ap (λ (t : List (ℕ × ℕ)). start + length (run_text width t)) (append-nil i.done) in
+          let end = i.end_is ∙ ap (λ (t : List (ℕ × ℕ)). start + length (run_text width (i.done ++ t))) is
+          ∙ ap (λ (t : List (ℕ × ℕ)). start + length (run_text width t)) (append-nil i.done) in
           omega arith)
       go (p ∷ back) is =
           let behind = ascend_behind 0 i.done (p ∷ back) (subst (λ (t : List (ℕ × ℕ)). RemaindersAscend 0 (i.done ++ t)) is i.ascend) in
@@ -297,7 +307,8 @@ module _ (pieces : List Piece) (quotient_bits width events room : ℕ) (slots : 
 
     -- its tail is a word, and so is how many were given
     pub tail_word : i.quotient * 2 ^ width + (n.pair).0 < 2 ^ 64
-    tail_word = tail_below 0 (2 ^ 64) c.given pieces (record { tail = i.quotient * 2 ^ width + (n.pair).0; count = (n.pair).1 }) (pieces_at width i.quotient n.back ++ pieces_of width i.after) k.narrow left_now
+    tail_word = tail_below 0 (2 ^ 64) c.given pieces (record { tail = i.quotient * 2 ^ width + (n.pair).0; count = (n.pair).1 }) (pieces_at width i.quotient n.back ++ pieces_of width i.after)
+        k.narrow left_now
 
     pub given_small : c.given + 1 < 2 ^ 64
     given_small =
@@ -316,7 +327,8 @@ module _ (pieces : List Piece) (quotient_bits width events room : ℕ) (slots : 
     left_next : drop (c.given + 1) pieces ≡ pieces_at width i.quotient n.back ++ pieces_of width i.after
     left_next = sym (drop-drop 1 c.given pieces) ∙ ap (drop 1) left_now
 
-    pub pair_given : (tail count : ℕ) → tail ≡ i.quotient * 2 ^ width + (n.pair).0 → count ≡ (n.pair).1 → drop c.given pieces ≡ record { tail = tail; count = count } ∷ drop (c.given + 1) pieces
+    pub pair_given : (tail count : ℕ) → tail ≡ i.quotient * 2 ^ width + (n.pair).0 → count ≡ (n.pair).1 →
+        drop c.given pieces ≡ record { tail = tail; count = count } ∷ drop (c.given + 1) pieces
     pair_given tail count tail_is count_is =
         left_now
         ∙ ap (λ (t : List Piece). record { tail = i.quotient * 2 ^ width + (n.pair).0; count = (n.pair).1 } ∷ t) (sym left_next)
@@ -338,7 +350,12 @@ module _ (pieces : List Piece) (quotient_bits width events room : ℕ) (slots : 
           within = i.within;
           ascend = subst (RemaindersAscend 0) both i.ascend;
           next_is = i.next_is;
-          at_is = (let at = i.at_is in omega (arith, ap (λ (t : List ℕ). length t) (run_text-append width i.done (n.pair ∷ [])), length-append (run_text width i.done) (run_text width (n.pair ∷ [])), length-append (group width (n.pair).0 (n.pair).1) []));
+          at_is = (let at = i.at_is in omega (
+            arith,
+            ap (λ (t : List ℕ). length t) (run_text-append width i.done (n.pair ∷ [])),
+            length-append (run_text width i.done) (run_text width (n.pair ∷ [])),
+            length-append (group width (n.pair).0 (n.pair).1) [],
+          ));
           end_is = i.end_is ∙ ap (λ (t : List (ℕ × ℕ)). max (stop 0 (texts width i.before)) i.quotient + length (run_text width t)) both;
           left_is = left_next;
         })

@@ -1,5 +1,6 @@
 -- A kept table: its runs, and what a quotient's run is.
-use Rattle.std.proofs.Common.{◌≡◌, ℕ, ◌+◌, ◌-◌, ◌*◌, ◌/◌, ◌%◌, ◌^◌, ◌<◌, ◌≤◌, Bool, true, false, List, [], ◌∷◌, ◌++◌, length, replicate, get_or, set, refl, sym, ap, ◌∙◌, subst, inl, inr, arith, true≢false}
+use Rattle.std.proofs.Common.{◌≡◌, ℕ, ◌+◌, ◌-◌, ◌*◌, ◌/◌, ◌%◌, ◌^◌, ◌<◌, ◌≤◌, Bool, true, false, List, [], ◌∷◌, ◌++◌, length, replicate, get_or}
+use Rattle.std.proofs.Common.{set, refl, sym, ap, ◌∙◌, subst, inl, inr, arith, true≢false}
 use Rattle.std.specs.Prelude.{fold}
 use Rattle.std.proofs.lemmas.Bool.{cases_eq}
 use Rattle.std.proofs.lemmas.Bool.Decides.{nat_tests}
@@ -16,7 +17,8 @@ use Rattle.lert_cqf.specs.Growing.{Stand, IsGrowing, IsBeginning}
 use Rattle.lert_cqf.specs.Contents.{IsKept, IsPutting, built}
 use Rattle.lert_cqf.proofs.BegunLemmas.{StandsAt, stands_at}
 use Rattle.lert_cqf.proofs.GrowingLemmas.{length_text-positive, RunBounds}
-use Rattle.lert_cqf.proofs.QuotientLemmas.{Runs, RunsAscend, runs_plus, count_runs, by_quotient-ascends, by_quotient-plus, count_by_quotient, total_slots}
+use Rattle.lert_cqf.proofs.QuotientLemmas.{Runs, RunsAscend, runs_plus, count_runs, by_quotient-ascends, by_quotient-plus, count_by_quotient}
+use Rattle.lert_cqf.proofs.SlotsLemmas.{total_slots}
 use Rattle.lert_cqf.proofs.SplitLemmas.{runs_homes, Holds, Lacks, find_quotient, texts-split, texts-append, around_texts, length_homes, home_holds, home_lacks, home_set, homes_alike}
 
 pub count_le : (ps : List Piece) (tail : ℕ) → count_of ps tail ≤ total ps
@@ -39,7 +41,8 @@ minus_zero n = omega arith
 pub no_cells : {C : Type 0} (z : C) (n : ℕ) → replicate n z ≡ cells z n []
 no_cells z n = ap (λ k. replicate k z) (let e : n ≡ n - 0 = omega arith in e)
 
-module _ (pieces : List Piece) (quotient_bits width events room : ℕ) (slots : List ℕ) (occupied ends used : List Bool) (spill : List ℕ) (k : IsKept pieces quotient_bits width events room slots occupied ends used spill) where
+module _ (pieces : List Piece) (quotient_bits width events room : ℕ) (slots : List ℕ) (occupied ends used : List Bool) (spill : List ℕ)
+    (k : IsKept pieces quotient_bits width events room slots occupied ends used spill) where
   abbrev pub homes : ℕ
   homes = 2 ^ quotient_bits
 
@@ -243,12 +246,14 @@ module _ (pieces : List Piece) (quotient_bits width events room : ℕ) (slots : 
 pub built_more : (adds : List Piece) (tail n : ℕ) → built (adds ++ record { tail = tail; count = n } ∷ []) ≡ plus (built adds) tail n
 built_more adds tail n = go [] adds
   where
-    go : (table : List Piece) (adds : List Piece) → fold (λ (t : List Piece) (p : Piece). plus t p.tail p.count) table (adds ++ record { tail = tail; count = n } ∷ []) ≡ plus (fold (λ (t : List Piece) (p : Piece). plus t p.tail p.count) table adds) tail n
+    go : (table : List Piece) (adds : List Piece) → fold (λ (t : List Piece) (p : Piece). plus t p.tail p.count) table (adds ++ record { tail = tail; count = n } ∷ [])
+        ≡ plus (fold (λ (t : List Piece) (p : Piece). plus t p.tail p.count) table adds) tail n
     go table [] = refl
     go table (a ∷ adds) = go (plus table a.tail a.count) adds
 
 -- the rows of no pieces
-pub kept_empty : (pieces : List Piece) (quotient_bits width events room : ℕ) (slots : List ℕ) (occupied ends used : List Bool) (spill : List ℕ) → IsKept pieces quotient_bits width events room slots occupied ends used spill
+pub kept_empty : (pieces : List Piece) (quotient_bits width events room : ℕ) (slots : List ℕ) (occupied ends used : List Bool) (spill : List ℕ) →
+    IsKept pieces quotient_bits width events room slots occupied ends used spill
     → (slots' : List ℕ) (occupied' ends' used' : List Bool) (spill' : List ℕ) → slots' ≡ replicate (length slots) 0 → occupied' ≡ replicate (length occupied) false
     → ends' ≡ replicate (length ends) false → used' ≡ replicate (length used) false → spill' ≡ replicate (length spill) 0
     → IsKept [] quotient_bits width 0 room slots' occupied' ends' used' spill'
@@ -266,7 +271,8 @@ kept_empty pieces quotient_bits width events room slots occupied ends used spill
           ends_are = e ∙ ap (λ n. replicate n false) lengths.ends_long ∙ no_cells false (slot_count quotient_bits room);
           used_are = u ∙ ap (λ n. replicate n false) lengths.used_long ∙ no_cells false (slot_count quotient_bits room);
           spill_long = ap (λ (t : List ℕ). length t) p ∙ length-replicate (length spill) 0 ∙ lengths.spill_long;
-          spill_is = λ g h. ap (λ (t : List ℕ). get_or t g 0) p ∙ get_or-replicate (length spill) g 0 0 (let l = lengths.spill_long in omega arith) ∙ (let z : 0 ≡ 0 - g = omega arith in z);
+          spill_is = λ g h. ap (λ (t : List ℕ). get_or t g 0) p ∙ get_or-replicate (length spill) g 0 0 (let l = lengths.spill_long in omega arith)
+              ∙ (let z : 0 ≡ 0 - g = omega arith in z);
         };
         lengths = record {
           slots_long = ap (λ (t : List ℕ). length t) s ∙ length-replicate (length slots) 0 ∙ lengths.slots_long;
@@ -276,5 +282,6 @@ kept_empty pieces quotient_bits width events room slots occupied ends used spill
           short = lengths.short;
         };
       };
-      occupied_is = o ∙ ap (λ n. replicate n false) (occupied_long pieces quotient_bits width events room slots occupied ends used spill k ∙ (let z : 2 ^ quotient_bits ≡ 2 ^ quotient_bits - 0 = omega arith in z));
+      occupied_is = o ∙ ap (λ n. replicate n false) (occupied_long pieces quotient_bits width events room slots occupied ends used spill k
+          ∙ (let z : 2 ^ quotient_bits ≡ 2 ^ quotient_bits - 0 = omega arith in z));
     }

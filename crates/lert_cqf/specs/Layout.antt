@@ -1,5 +1,6 @@
 -- The layout of a count table: slots, occupied quotients and run ends.
-use Rattle.std.specs.Prelude.{ℕ, zero, suc, ◌+◌, ◌-◌, ◌*◌, ◌/◌, ◌%◌, ◌^◌, ◌==◌, Bool, true, false, List, [], ◌∷◌, ◌++◌, length, map, replicate, if◌then◌else◌}
+use Rattle.std.specs.Prelude.{ℕ, zero, suc, ◌+◌, ◌-◌, ◌*◌, ◌/◌, ◌%◌, ◌^◌, ◌==◌, Bool, true, false, List, [], ◌∷◌, ◌++◌, length, map, replicate}
+use Rattle.std.specs.Prelude.{if◌then◌else◌}
 use Rattle.lert_runs.specs.RunText.{run_text}
 use Rattle.lert_spec.specs.declared.piece.Piece.{Piece}
 use Rattle.lert_cqf.specs.Cells.{cells}

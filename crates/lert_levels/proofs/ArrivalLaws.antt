@@ -1,5 +1,6 @@
 -- What the parts of a flush's merge make: the new bins.
-use Rattle.std.proofs.Common.{ℕ, ◌≡◌, ◌+◌, ◌-◌, ◌*◌, ◌/◌, ◌^◌, ◌<◌, ◌≤◌, zero, suc, cond, List, [], ◌∷◌, ◌++◌, length, map, take, get_or, Some, None, refl, ap, ap₂, sym, ◌∙◌, arith, inl, inr, subst, sum_by, flat_map, slice_range}
+use Rattle.std.proofs.Common.{ℕ, ◌≡◌, ◌+◌, ◌-◌, ◌*◌, ◌/◌, ◌^◌, ◌<◌, ◌≤◌, zero, suc, cond, List, [], ◌∷◌, ◌++◌, length, map, take, get_or, Some}
+use Rattle.std.proofs.Common.{None, refl, ap, ap₂, sym, ◌∙◌, arith, inl, inr, subst, sum_by, flat_map, slice_range}
 use Rattle.std.specs.List.{All}
 use Rattle.std.proofs.Math.Nat.{mul-suc}
 use Rattle.std.proofs.lemmas.Bool.{cases_Bool}
@@ -35,7 +36,8 @@ abbrev nothing : BinAt
 nothing = record { from = 0; to = 0; frame = 0 }
 
 -- a level's newest bin among the streams
-newest_at : {X : Type 0} (h : BinAt → X) (first : List X) (rows : List (List BinAt)) (young k : ℕ) (e : X) → length first ≡ young → k < length rows → 1 ≤ length (get_or rows k []) →
+newest_at : {X : Type 0} (h : BinAt → X) (first : List X) (rows : List (List BinAt)) (young k : ℕ) (e : X) → length first ≡ young → k < length rows →
+    1 ≤ length (get_or rows k []) →
     get_or (first ++ flat_map (λ row. map h row) rows) (streams_to young rows (k + 1) - 1) e ≡ h (newest (get_or rows k []))
 newest_at h first rows young k e len below some =
     let row = get_or rows k [] in
@@ -44,7 +46,8 @@ newest_at h first rows young k e len below some =
     ∙ get_or-map h row (length row - 1) nothing e (omega arith)
 
 -- the oldest one of an older level
-oldest_at : {X : Type 0} (h : BinAt → X) (first : List X) (rows : List (List BinAt)) (young k : ℕ) (e : X) → length first ≡ young → k < length rows → 1 ≤ length (get_or rows k []) →
+oldest_at : {X : Type 0} (h : BinAt → X) (first : List X) (rows : List (List BinAt)) (young k : ℕ) (e : X) → length first ≡ young → k < length rows →
+    1 ≤ length (get_or rows k []) →
     get_or (first ++ flat_map (λ row. map h row) rows) (oldest_stream young rows (suc k)) e ≡ h (get_or (get_or rows k []) 0 nothing)
 oldest_at h first rows young k e len below some =
     stream_at (λ r. map h r) (λ r. length-map r h) first rows young k 0 (streams_to young rows k) e len below (omega arith) (omega arith)
@@ -112,12 +115,14 @@ module _ (s : Numbers) (valid : IsValid s) (m : ℕ) (first : 1 ≤ m) (fits : m
 
   -- the stream of the oldest bin below a level holds the counts of what comes to the level
   oldest_holds : (events : List ℕ) → length events ≡ m → (k : ℕ) → k < depth s m →
-      list_at (streams_of (young_bins s events (edge s 0 (m - 1))) (tallied_in s events) (take (depth s m) rows)) (oldest_stream (length (young_bins s events (edge s 0 (m - 1)))) (take (depth s m) rows) k)
+      list_at (streams_of (young_bins s events (edge s 0 (m - 1))) (tallied_in s events) (take (depth s m) rows))
+      (oldest_stream (length (young_bins s events (edge s 0 (m - 1)))) (take (depth s m) rows) k)
       ≡ tallied s (slice_range events (edge s k (m - 1)) (edge s k m))
   oldest_holds events len zero less =
       let pieces = λ (bin : Bin). bin.pieces in
       let oldest = oldest_young s base ratio m first less in
-      let are = young-ranges s events (edge s 0 (m - 1)) ∙ ap (λ n. map (filled s events) (range_cuts (span s 0) (edge s 0 (m - 1)) n 0 (suc (n / span s 0)))) len ∙ ap (map (filled s events)) oldest.1 in
+      let are = young-ranges s events (edge s 0 (m - 1)) ∙ ap (λ n. map (filled s events) (range_cuts (span s 0) (edge s 0 (m - 1)) n 0 (suc (n / span s 0)))) len
+      ∙ ap (map (filled s events)) oldest.1 in
       ap (λ bins. get_or (map pieces bins ++ held_in (tallied_in s events) (take (depth s m) rows)) 0 []) are
   oldest_holds events len (suc k) less =
       let young = young_bins s events (edge s 0 (m - 1)) in
@@ -136,7 +141,8 @@ module _ (s : Numbers) (valid : IsValid s) (m : ℕ) (first : 1 ≤ m) (fits : m
 
   -- a part makes the counts of the new bin's positions
   pub part_holds : (events : List ℕ) → length events ≡ m → (k : ℕ) → k < depth s m →
-      part_table (streams_of (young_bins s events (edge s 0 (m - 1))) (tallied_in s events) (take (depth s m) rows)) (part_at s m (length (young_bins s events (edge s 0 (m - 1)))) (take (depth s m) rows) k)
+      part_table (streams_of (young_bins s events (edge s 0 (m - 1))) (tallied_in s events) (take (depth s m) rows))
+      (part_at s m (length (young_bins s events (edge s 0 (m - 1)))) (take (depth s m) rows) k)
       ≡ tallied_in s events (arrived s m (k + 1) (get_or (take (depth s m) rows) k []))
   part_holds events len k less =
       let young = young_bins s events (edge s 0 (m - 1)) in
@@ -171,7 +177,8 @@ module _ (s : Numbers) (valid : IsValid s) (m : ℕ) (first : 1 ≤ m) (fits : m
             let part_is : part_table lists (part_at s m (length young) some_rows k) ≡ merged (tallied s low ∷ other ∷ []) =
             ap (λ t. merged (list_at lists (oldest_stream (length young) some_rows k) ∷ newest_in lists (cond t None (Some (streams_to (length young) some_rows (k + 1) - 1))))) joined
             ∙ ap₂ (λ a b. merged (a ∷ b ∷ [])) oldest newer in
-            let tables = pair_tables limit (tallied s low) (other ∷ []) (IsTable-tallied s low) (pair_tables limit other [] (IsTable-tallied s (slice_range events last.from last.to)) (no_tables limit)) in
+            let tables = pair_tables limit (tallied s low) (other ∷ []) (IsTable-tallied s low)
+            (pair_tables limit other [] (IsTable-tallied s (slice_range events last.from last.to)) (no_tables limit)) in
             part_is
             ∙ window_table s events new.from new.to (merged (tallied s low ∷ other ∷ [])) (IsTable-merged limit (tallied s low ∷ other ∷ []) tables)
             (λ tail. (
@@ -202,7 +209,8 @@ module _ (s : Numbers) (valid : IsValid s) (m : ℕ) (first : 1 ≤ m) (fits : m
       let oldest = goes k less in
       let same : k + 1 ≡ suc k = omega arith in
       let bin = get_or (get_or (take (depth s m) rows) k []) 0 nothing in
-      let is = oldest_at width_of (map (λ (b : Bin). b.to - b.from) young) (take (depth s m) rows) (length young) k 0 (length-map young (λ (b : Bin). b.to - b.from)) (omega (arith, enough)) oldest.some in
+      let is = oldest_at width_of (map (λ (b : Bin). b.to - b.from) young) (take (depth s m) rows) (length young) k 0 (length-map young (λ (b : Bin). b.to - b.from)) (omega (arith, enough))
+      oldest.some in
       let from_is = ap (λ (r : Range). r.from) oldest.is ∙ ap (λ i. edge s i (m - 1)) same in
       let to_is = ap (λ (r : Range). r.to) oldest.is ∙ ap (λ i. edge s i m) same in
       omega arith
@@ -220,8 +228,10 @@ module _ (s : Numbers) (valid : IsValid s) (m : ℕ) (first : 1 ≤ m) (fits : m
   }
 
   -- a part has room in the frame of its level
-  pub part_fits : (young : List Bin) (lists : List (List Piece)) → 1 ≤ length young → All (λ (bin : Bin). bin.to - bin.from ≤ span s 0) young → AreBins (tail_limit s) (widths_of young (take (depth s m) rows)) lists →
-      (k : ℕ) → k < depth s m → IsWithin (length lists) (part_at s m (length young) (take (depth s m) rows) k) → span s (k + 1) ≤ 2 ^ 47 → CanStand s (k + 1) (part_table lists (part_at s m (length young) (take (depth s m) rows) k))
+  pub part_fits : (young : List Bin) (lists : List (List Piece)) → 1 ≤ length young → All (λ (bin : Bin). bin.to - bin.from ≤ span s 0) young →
+      AreBins (tail_limit s) (widths_of young (take (depth s m) rows)) lists →
+      (k : ℕ) → k < depth s m → IsWithin (length lists) (part_at s m (length young) (take (depth s m) rows) k) → span s (k + 1) ≤ 2 ^ 47 →
+      CanStand s (k + 1) (part_table lists (part_at s m (length young) (take (depth s m) rows) k))
   part_fits young lists some narrow are k less within small =
       let some_rows = take (depth s m) rows in
       let row = get_or some_rows k [] in
@@ -247,13 +257,15 @@ module _ (s : Numbers) (valid : IsValid s) (m : ℕ) (first : 1 ≤ m) (fits : m
             let newer = list_at lists last_place in
             let newest_within : last_place < length lists = within.newest last_place (ap (λ t. cond t None (Some last_place)) joined) in
             let newest_bin = bins_at (tail_limit s) widths lists last_place are newest_within in
-            let newest_wide = newest_at width_of (map (λ (b : Bin). b.to - b.from) young) some_rows (length young) k 0 (length-map young (λ (b : Bin). b.to - b.from)) (omega (arith, enough)) (arrival.some joined) in
+            let newest_wide = newest_at width_of (map (λ (b : Bin). b.to - b.from) young) some_rows (length young) k 0 (length-map young (λ (b : Bin). b.to - b.from)) (omega (arith, enough))
+            (arrival.some joined) in
             let from_is : new.from ≡ last.from = ap (λ t. cond t (edge s (k + 1 - 1) (m - 1)) last.from) joined in
             let to_is : last.to ≡ edge s k (m - 1) = arrival.ends joined ∙ high_is in
             let few : sum_by total (oldest ∷ newer ∷ []) ≤ span s (k + 1) =
             omega (arith, two_totals oldest newer, oldest_bin.summed, newest_bin.summed, oldest_wide, newest_wide, arrival.fits, arrival.ordered, arrival.further) in
             subst (λ t. CanStand s (k + 1) (merged (oldest ∷ newest_in lists (cond t None (Some last_place))))) (sym joined)
-            (stands_from (k + 1) (oldest ∷ newer ∷ []) (pair_tables (tail_limit s) oldest (newer ∷ []) oldest_bin.given.table (pair_tables (tail_limit s) newer [] newest_bin.given.table (no_tables (tail_limit s)))) few small))
+            (stands_from (k + 1) (oldest ∷ newer ∷ []) (pair_tables (tail_limit s) oldest (newer ∷ []) oldest_bin.given.table
+            (pair_tables (tail_limit s) newer [] newest_bin.given.table (no_tables (tail_limit s)))) few small))
       ]
 
   -- the streams of a part are among all
@@ -268,13 +280,15 @@ module _ (s : Numbers) (valid : IsValid s) (m : ℕ) (first : 1 ≤ m) (fits : m
         newest = λ stream is. newest_within young some k less stream all is;
       }
     where
-      oldest_within : (young : ℕ) → 1 ≤ young → (k : ℕ) → k < depth s m → ((n : ℕ) → streams_to young (take (depth s m) rows) n ≤ streams_to young (take (depth s m) rows) (depth s m)) →
+      oldest_within : (young : ℕ) → 1 ≤ young → (k : ℕ) → k < depth s m →
+          ((n : ℕ) → streams_to young (take (depth s m) rows) n ≤ streams_to young (take (depth s m) rows) (depth s m)) →
           oldest_stream young (take (depth s m) rows) k < streams_to young (take (depth s m) rows) (depth s m)
       oldest_within young some zero less all = omega arith
       oldest_within young some (suc k) less all =
           omega (arith, all (k + 1), streams_more young (take (depth s m) rows) k (omega (arith, enough)), (goes k less).some)
 
-      newest_within : (young : ℕ) → 1 ≤ young → (k : ℕ) → k < depth s m → (stream : ℕ) → ((n : ℕ) → streams_to young (take (depth s m) rows) n ≤ streams_to young (take (depth s m) rows) (depth s m)) →
+      newest_within : (young : ℕ) → 1 ≤ young → (k : ℕ) → k < depth s m → (stream : ℕ) →
+          ((n : ℕ) → streams_to young (take (depth s m) rows) n ≤ streams_to young (take (depth s m) rows) (depth s m)) →
           (part_at s m young (take (depth s m) rows) k).newest ≡ Some stream → stream < streams_to young (take (depth s m) rows) (depth s m)
       newest_within young some k less stream all is =
           let last_place = streams_to young (take (depth s m) rows) (k + 1) - 1 in

@@ -1,5 +1,6 @@
 -- What the merge of a flush or a scan makes, in the words of the cone's events.
-use Rattle.std.proofs.Common.{ℕ, ◌≡◌, ◌+◌, ◌-◌, ◌^◌, ◌<◌, ◌≤◌, List, [], length, map, take, get_or, ap, sym, ◌∙◌, arith, subst, slice_range, Result, length-take}
+use Rattle.std.proofs.Common.{ℕ, ◌≡◌, ◌+◌, ◌-◌, ◌^◌, ◌<◌, ◌≤◌, List, [], length, map, take, get_or, ap, sym, ◌∙◌, arith, subst, slice_range, Result}
+use Rattle.std.proofs.Common.{length-take}
 use Rattle.std.specs.Prelude.{Ok, Err, IfOk, IfErr, MatchResult}
 use Rattle.std.proofs.lemmas.List.{length-map, get_or-map}
 use Rattle.std.proofs.lemmas.List.FromFn.{get_or-map-range_with_len, length-map-range_with_len}
@@ -33,7 +34,8 @@ matched P Q (Ok value) ok err = ok
 matched P Q (Err error) ok err = err
 
 -- a made list behind its place
-made_at : (lists : List (List Piece)) (s : Numbers) (m young : ℕ) (rows : List (List BinAt)) (made : List (List Piece)) → made ≡ map (part_table lists) (parts_at s m young rows) → (k : ℕ) → k < length rows → get_or made k [] ≡ part_table lists (part_at s m young rows k)
+made_at : (lists : List (List Piece)) (s : Numbers) (m young : ℕ) (rows : List (List BinAt)) (made : List (List Piece)) → made ≡ map (part_table lists) (parts_at s m young rows) →
+    (k : ℕ) → k < length rows → get_or made k [] ≡ part_table lists (part_at s m young rows k)
 made_at lists s m young rows made is k below =
     let parts = parts_at s m young rows in
     let count = length-map-range_with_len (part_at s m young rows) 0 (length rows) in
@@ -42,7 +44,8 @@ made_at lists s m young rows made is k below =
     ∙ get_or-map (part_table lists) parts k d [] (omega arith)
     ∙ ap (part_table lists) (get_or-map-range_with_len (part_at s m young rows) 0 (length rows) k k d below (omega arith))
 
-module _ (s : Numbers) (valid : IsValid s) (m : ℕ) (first : 1 ≤ m) (fits : m ≤ capacity s) (rows : List (List BinAt)) (at : IsAt s (m - 1) rows) (young : List Bin) (took : List Piece → Type 0) (frames : List ℕ → Type 0) (made : List (List Piece))
+module _ (s : Numbers) (valid : IsValid s) (m : ℕ) (first : 1 ≤ m) (fits : m ≤ capacity s) (rows : List (List BinAt)) (at : IsAt s (m - 1) rows) (young : List Bin)
+    (took : List Piece → Type 0) (frames : List ℕ → Type 0) (made : List (List Piece))
     (is : IsMade s young (take (depth s m) rows) (parts_at s m (length young) (take (depth s m) rows)) took frames made) where
   deep : depth s m ≤ s.levels
   deep = deepest_within s (omega (arith, valid.limits.base_from)) (omega (arith, valid.limits.ratio_from)) s.levels m
@@ -72,12 +75,14 @@ module _ (s : Numbers) (valid : IsValid s) (m : ℕ) (first : 1 ≤ m) (fits : m
   made_table = IsTable-merged (tail_limit s) is.lists (tables_from_bins (tail_limit s) (widths_of young (take (depth s m) rows)) is.lists is.bins)
 
   -- where the frames hold the bins of the events, the lists are the counts of these
-  lists_are : (file events : List ℕ) → frames file → AreRows s rows → AreEvents (record { settings = s; rows = rows }) m young events file → is.lists ≡ streams_of (young_bins s events (edge s 0 (m - 1))) (tallied_in s events) (take (depth s m) rows)
+  lists_are : (file events : List ℕ) → frames file → AreRows s rows → AreEvents (record { settings = s; rows = rows }) m young events file →
+      is.lists ≡ streams_of (young_bins s events (edge s 0 (m - 1))) (tallied_in s events) (take (depth s m) rows)
   lists_are file events here are of =
       let stand = rows_stand s events (m - 1) rows file at are (omega (arith, of.len)) of.held (depth s m) deep in
       is.told file here (tallied_in s events) stand ∙ ap (λ bins. streams_of bins (tallied_in s events) (take (depth s m) rows)) of.young_are
 
-  pub made_new : (file events : List ℕ) → frames file → AreRows s rows → AreEvents (record { settings = s; rows = rows }) m young events file → AreNew s m events (take (depth s m) rows) made
+  pub made_new : (file events : List ℕ) → frames file → AreRows s rows → AreEvents (record { settings = s; rows = rows }) m young events file →
+      AreNew s m events (take (depth s m) rows) made
   made_new file events here are of k below =
       let some_rows = take (depth s m) rows in
       let less : k < depth s m = omega (arith, made_count) in
@@ -86,7 +91,8 @@ module _ (s : Numbers) (valid : IsValid s) (m : ℕ) (first : 1 ≤ m) (fits : m
       ∙ ap (λ n. part_table (streams_of (young_bins s events (edge s 0 (m - 1))) (tallied_in s events) some_rows) (part_at s m n some_rows k)) (ap (length {A = Bin}) of.young_are)
       ∙ part_holds s valid m first fits rows at events of.len k less
 
-  pub made_totals : (file events : List ℕ) → frames file → AreRows s rows → AreEvents (record { settings = s; rows = rows }) m young events file → merged is.lists ≡ tallied s (slice_range events (lookback s m) m)
+  pub made_totals : (file events : List ℕ) → frames file → AreRows s rows → AreEvents (record { settings = s; rows = rows }) m young events file →
+      merged is.lists ≡ tallied s (slice_range events (lookback s m) m)
   made_totals file events here are of =
       let tables = tables_from_bins (tail_limit s) (widths_of young (take (depth s m) rows)) is.lists is.bins in
       flush_totals s valid events m rows (merged is.lists) at of.len made_table
@@ -96,17 +102,20 @@ module _ (s : Numbers) (valid : IsValid s) (m : ℕ) (first : 1 ≤ m) (fits : m
   pub made_took : (list : List Piece) × took list × IsTable (tail_limit s) list
   made_took = (merged is.lists, is.taken, made_table)
 
-  pub made_taken : (file events : List ℕ) → frames file → AreRows s rows → AreEvents (record { settings = s; rows = rows }) m young events file → took (tallied s (slice_range events (lookback s m) m))
+  pub made_taken : (file events : List ℕ) → frames file → AreRows s rows → AreEvents (record { settings = s; rows = rows }) m young events file →
+      took (tallied s (slice_range events (lookback s m) m))
   made_taken file events here are of = subst took (made_totals file events here are of) is.taken
 
 -- the same merge by other words for how deep it goes and for its parts
-pub made_turned : (s : Numbers) (young : List Bin) (rows : List (List BinAt)) (low deep : ℕ) (parts others : List Part) (took : List Piece → Type 0) (frames : List ℕ → Type 0) (made : List (List Piece)) → low ≡ deep → parts ≡ others → IsMade s young (take low rows) parts took frames made → IsMade s young (take deep rows) others took frames made
+pub made_turned : (s : Numbers) (young : List Bin) (rows : List (List BinAt)) (low deep : ℕ) (parts others : List Part) (took : List Piece → Type 0) (frames : List ℕ → Type 0)
+    (made : List (List Piece)) → low ≡ deep → parts ≡ others → IsMade s young (take low rows) parts took frames made → IsMade s young (take deep rows) others took frames made
 made_turned s young rows low deep parts others took frames made deep_is others_are is =
     subst (λ (ps : List Part). IsMade s young (take deep rows) ps took frames made) others_are (subst (λ (d : ℕ). IsMade s young (take d rows) parts took frames made) deep_is is)
 
 -- ---- a scan
 
-module _ (s : Numbers) (valid : IsValid s) (rows : List (List BinAt)) (young : List Bin) (parts : List Part) (took : List Piece → Type 0) (frames : List ℕ → Type 0) (made : List (List Piece)) (is : IsMade s young (take s.levels rows) parts took frames made) where
+module _ (s : Numbers) (valid : IsValid s) (rows : List (List BinAt)) (young : List Bin) (parts : List Part) (took : List Piece → Type 0) (frames : List ℕ → Type 0)
+    (made : List (List Piece)) (is : IsMade s young (take s.levels rows) parts took frames made) where
   pub scan_took : (list : List Piece) × took list × IsTable (tail_limit s) list
   scan_took = (merged is.lists, is.taken, IsTable-merged (tail_limit s) is.lists (tables_from_bins (tail_limit s) (widths_of young (take s.levels rows)) is.lists is.bins))
 

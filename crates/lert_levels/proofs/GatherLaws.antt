@@ -1,5 +1,6 @@
 -- The merge of bins in memory, piece by piece.
-use Rattle.std.proofs.Common.{ℕ, zero, suc, ◌≡◌, ◌+◌, ◌^◌, ◌<◌, ◌≤◌, cond, Option, Some, None, MatchOption, List, [], ◌∷◌, ◌++◌, All, length, get_or, map, take, drop, refl, ap, ap₂, sym, ◌∙◌, subst, arith, inl, inr}
+use Rattle.std.proofs.Common.{ℕ, zero, suc, ◌≡◌, ◌+◌, ◌^◌, ◌<◌, ◌≤◌, cond, Option, Some, None, MatchOption, List, [], ◌∷◌, ◌++◌, All, length, get_or, map, take}
+use Rattle.std.proofs.Common.{drop, refl, ap, ap₂, sym, ◌∙◌, subst, arith, inl, inr}
 use Rattle.std.proofs.Math.Seq.{take-append_seam}
 use Rattle.std.proofs.lemmas.Bool.{cases_lt, ne_eqb}
 use Rattle.std.proofs.lemmas.List.{length-map}
@@ -46,7 +47,8 @@ left_told {C} ctx merge lists tells = record {
         record { is = to_come.is ∙ ap (λ rest. ahead head ++ rest) (sym same); ended = λ over. same ∙ to_come.ended over }
 
 pub next_left : {C : Type 0} (ctx : C) (merge : Merging LoadedBin) (lists : List (List Piece)) (piece : Option Piece) →
-    MatchOption piece (AreOver lists × Tells (coming {C = C}) ctx merge lists) (λ p. IsNext lists p × AreShares merge lists p.tail × Tells (coming {C = C}) ctx merge (map (behind p.tail) lists)) →
+    MatchOption piece (AreOver lists × Tells (coming {C = C}) ctx merge lists)
+    (λ p. IsNext lists p × AreShares merge lists p.tail × Tells (coming {C = C}) ctx merge (map (behind p.tail) lists)) →
     MatchOption piece (AreOver lists) (λ p. IsNext lists p × AreShares merge lists p.tail × AreLeft merge (map (behind p.tail) lists))
 next_left ctx merge lists None told = told.0
 next_left ctx merge lists (Some p) told = (told.0, told.1, left_told ctx merge (map (behind p.tail) lists) told.2)
@@ -178,7 +180,8 @@ total_fits took old new lists totals gathering has p step =
     λ k d below. omega (arith, below_bound 0 (bound_after old.last) has.out has.so_far.table k d below, step.above)
 
 pub totals_more : {O : Type 0} (took : O → List Piece → Type 0) (old new : Merging LoadedBin) (lists : List (List Piece)) (before after : O) (gathering : IsGathering old lists) →
-    (has : HasTotals took old lists before) (p : Piece) → IsStep old new gathering.left p → took after (has.out ++ record { tail = p.tail; count = p.count } ∷ []) → HasTotals took new lists after
+    (has : HasTotals took old lists before) (p : Piece) → IsStep old new gathering.left p → took after (has.out ++ record { tail = p.tail; count = p.count } ∷ []) →
+    HasTotals took new lists after
 totals_more took old new lists before after gathering has p step takes =
     let bound : bound_after new.last ≡ p.tail + 1 = ap bound_after step.last in
     let part : part_of p.tail p.count ≡ record { tail = p.tail; count = p.count } ∷ [] =
@@ -192,13 +195,15 @@ totals_more took old new lists before after gathering has p step takes =
 
 -- what holds of all lists holds of a part's
 each_in : (P : List Piece → Type 0) (left : List (List Piece)) (oldest : ℕ) (newest : Option ℕ) → ((k : ℕ) → k < length left → P (get_or left k [])) → oldest < length left →
-    ((stream : ℕ) → newest ≡ Some stream → stream < length left) → (k : ℕ) → k < length (get_or left oldest [] ∷ newest_in left newest) → P (get_or (get_or left oldest [] ∷ newest_in left newest) k [])
+    ((stream : ℕ) → newest ≡ Some stream → stream < length left) → (k : ℕ) → k < length (get_or left oldest [] ∷ newest_in left newest) →
+    P (get_or (get_or left oldest [] ∷ newest_in left newest) k [])
 each_in P left oldest newest each first second zero below = each oldest first
 each_in P left oldest None each first second (suc k) below = absurd (omega arith)
 each_in P left oldest (Some stream) each first second (suc zero) below = each stream (second stream refl)
 each_in P left oldest (Some stream) each first second (suc (suc k)) below = absurd (omega arith)
 
-same_in : (lists left : List (List Piece)) (bound : ℕ) (oldest : ℕ) (newest : Option ℕ) → IsRest lists left bound → oldest < length lists → ((stream : ℕ) → newest ≡ Some stream → stream < length lists) →
+same_in : (lists left : List (List Piece)) (bound : ℕ) (oldest : ℕ) (newest : Option ℕ) → IsRest lists left bound → oldest < length lists →
+    ((stream : ℕ) → newest ≡ Some stream → stream < length lists) →
     (k tail : ℕ) → k < length (get_or lists oldest [] ∷ newest_in lists newest) → bound ≤ tail →
     count_of (get_or (get_or left oldest [] ∷ newest_in left newest) k []) tail ≡ count_of (get_or (get_or lists oldest [] ∷ newest_in lists newest) k []) tail
 same_in lists left bound oldest newest rest first second zero tail below above = rest.same oldest tail first above
@@ -224,7 +229,8 @@ rest_in lists left bound part rest within =
       same = same_in lists left bound part.oldest part.newest rest within.oldest within.newest;
     }
 
-share_is : (merge : Merging LoadedBin) (left : List (List Piece)) (tail : ℕ) (part : Part) → AreShares merge left tail → IsWithin (length left) part → share_in merge part ≡ count_in (lists_in left part) tail
+share_is : (merge : Merging LoadedBin) (left : List (List Piece)) (tail : ℕ) (part : Part) → AreShares merge left tail → IsWithin (length left) part →
+    share_in merge part ≡ count_in (lists_in left part) tail
 share_is merge left tail part shares within =
     newest_is part.newest within.newest
     ∙ sym (sum_by-cons (λ pieces. count_of pieces tail) (get_or left part.oldest []) (newest_in left part.newest))
@@ -235,9 +241,16 @@ share_is merge left tail part shares within =
     newest_is : (newest : Option ℕ) → ((stream : ℕ) → newest ≡ Some stream → stream < length left) →
         share_of merge part.oldest + newest_share merge newest ≡ count_of (get_or left part.oldest []) tail + count_in (newest_in left newest) tail
     newest_is None inside = omega (arith, shares part.oldest within.oldest)
-    newest_is (Some stream) inside = omega (arith, shares part.oldest within.oldest, shares stream (inside stream refl), sum_by-cons (λ pieces. count_of pieces tail) (get_or left stream []) [], none)
+    newest_is (Some stream) inside = omega (
+      arith,
+      shares part.oldest within.oldest,
+      shares stream (inside stream refl),
+      sum_by-cons (λ pieces. count_of pieces tail) (get_or left stream []) [],
+      none,
+    )
 
-pub made_begin : {V : Type 0} (items : V → List Piece) (merge : Merging LoadedBin) (lists : List (List Piece)) (parts : List Part) (made : List V) → merge.last ≡ None → length made ≡ length parts →
+pub made_begin : {V : Type 0} (items : V → List Piece) (merge : Merging LoadedBin) (lists : List (List Piece)) (parts : List Part) (made : List V) → merge.last ≡ None →
+    length made ≡ length parts →
     All (λ v. items v ≡ []) made → AreMade items merge lists parts made
 made_begin items merge lists parts made none len empty =
     let bound : bound_after merge.last ≡ 0 = ap bound_after none in
@@ -250,14 +263,18 @@ made_begin items merge lists parts made none len empty =
           });
     }
 
-pub totals_begin : {O : Type 0} (took : O → List Piece → Type 0) (merge : Merging LoadedBin) (lists : List (List Piece)) (totals : O) → merge.last ≡ None → took totals [] → HasTotals took merge lists totals
+pub totals_begin : {O : Type 0} (took : O → List Piece → Type 0) (merge : Merging LoadedBin) (lists : List (List Piece)) (totals : O) → merge.last ≡ None → took totals [] →
+    HasTotals took merge lists totals
 totals_begin took merge lists totals none takes =
     let bound : bound_after merge.last ≡ 0 = ap bound_after none in
     record { out = []; took_it = takes; so_far = record { table = tt; counts = λ tail under. absurd (omega arith) } }
 
-pub made_more : {V : Type 0} (items : V → List Piece) (old new : Merging LoadedBin) (lists : List (List Piece)) (parts : List Part) (before after : List V) (gathering : IsGathering old lists) →
-    AreMade items old lists parts before → (streams : ℕ) → streams ≡ length old.streams → All (IsWithin streams) parts → (p : Piece) → IsStep old new gathering.left p → length after ≡ length before →
-    ((k : ℕ) (d : V) (e : Part) → k < length parts → items (get_or after k d) ≡ items (get_or before k d) ++ part_of p.tail (share_in new (get_or parts k e))) → AreMade items new lists parts after
+pub made_more : {V : Type 0} (items : V → List Piece) (old new : Merging LoadedBin) (lists : List (List Piece)) (parts : List Part) (before after : List V) (gathering : IsGathering old lists)
+    →
+    AreMade items old lists parts before → (streams : ℕ) → streams ≡ length old.streams → All (IsWithin streams) parts → (p : Piece) → IsStep old new gathering.left p →
+    length after ≡ length before →
+    ((k : ℕ) (d : V) (e : Part) → k < length parts → items (get_or after k d) ≡ items (get_or before k d) ++ part_of p.tail (share_in new (get_or parts k e))) →
+    AreMade items new lists parts after
 made_more items old new lists parts before after gathering made streams streams_is within p step len more =
     let bound : bound_after new.last ≡ p.tail + 1 = ap bound_after step.last in
     let rest = gathering.rest in
@@ -277,13 +294,16 @@ made_more items old new lists parts before after gathering made streams streams_
 
 -- ---- the end
 
-pub totals_all : {O : Type 0} (took : O → List Piece → Type 0) (old new : Merging LoadedBin) (lists : List (List Piece)) (totals : O) → AreTables (2 ^ 64) lists → (gathering : IsGathering old lists) →
+pub totals_all : {O : Type 0} (took : O → List Piece → Type 0) (old new : Merging LoadedBin) (lists : List (List Piece)) (totals : O) → AreTables (2 ^ 64) lists →
+    (gathering : IsGathering old lists) →
     HasTotals took old lists totals → AreOver gathering.left → took totals (merged lists)
 totals_all took old new lists totals are gathering has over =
     subst (took totals) (so_far_all lists gathering.left (bound_after old.last) has.out gathering.rest has.so_far gathering.word over are) has.took_it
 
-pub made_all : {V : Type 0} (items : V → List Piece) (merge : Merging LoadedBin) (lists : List (List Piece)) (parts : List Part) (made : List V) → AreTables (2 ^ 64) lists → (gathering : IsGathering merge lists) →
-    AreMade items merge lists parts made → (streams : ℕ) → streams ≡ length lists → All (IsWithin streams) parts → AreOver gathering.left → map items made ≡ map (part_table lists) parts
+pub made_all : {V : Type 0} (items : V → List Piece) (merge : Merging LoadedBin) (lists : List (List Piece)) (parts : List Part) (made : List V) → AreTables (2 ^ 64) lists →
+    (gathering : IsGathering merge lists) →
+    AreMade items merge lists parts made → (streams : ℕ) → streams ≡ length lists → All (IsWithin streams) parts → AreOver gathering.left →
+    map items made ≡ map (part_table lists) parts
 made_all {V} items merge lists parts made are gathering has streams streams_is within over =
     all_made parts made has.len (λ k d e below.
     let part = get_or parts k e in
@@ -291,11 +311,13 @@ made_all {V} items merge lists parts made are gathering has streams streams_is w
     let left = gathering.left in
     let inside : IsWithin (length lists) part = subst (λ n. IsWithin n part) streams_is (within k e below) in
     let inside_left = within_left lists left part rest.len inside in
-    so_far_all (lists_in lists part) (lists_in left part) (bound_after merge.last) (items (get_or made k d)) (rest_in lists left (bound_after merge.last) part rest inside) (has.each k d e below) gathering.word
+    so_far_all (lists_in lists part) (lists_in left part) (bound_after merge.last) (items (get_or made k d)) (rest_in lists left (bound_after merge.last) part rest inside) (has.each k d e below)
+    gathering.word
     (each_in (λ ps. ps ≡ []) left part.oldest part.newest over inside_left.oldest inside_left.newest)
     (each_in (IsTable (2 ^ 64)) lists part.oldest part.newest are inside.oldest inside.newest))
   where
-    all_made : (parts : List Part) (made : List V) → length made ≡ length parts → ((k : ℕ) (d : V) (e : Part) → k < length parts → items (get_or made k d) ≡ part_table lists (get_or parts k e)) →
+    all_made : (parts : List Part) (made : List V) → length made ≡ length parts →
+        ((k : ℕ) (d : V) (e : Part) → k < length parts → items (get_or made k d) ≡ part_table lists (get_or parts k e)) →
         map items made ≡ map (part_table lists) parts
     all_made [] [] len each = refl
     all_made [] (v ∷ made) len each = absurd (omega arith)

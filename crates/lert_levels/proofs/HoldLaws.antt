@@ -1,5 +1,6 @@
 -- What the frames hold before a flush and after it.
-use Rattle.std.proofs.Common.{ℕ, ◌≡◌, ◌≢◌, ◌+◌, ◌-◌, ◌/◌, ◌^◌, ◌<◌, ◌≤◌, zero, suc, cond, ltb, eqb, List, [], ◌∷◌, ◌++◌, length, take, drop, get_or, Option, Some, ap, ap₂, sym, ◌∙◌, arith, inl, inr, ◌⊎◌, subst, slice_range, length-take, Result}
+use Rattle.std.proofs.Common.{ℕ, ◌≡◌, ◌≢◌, ◌+◌, ◌-◌, ◌/◌, ◌^◌, ◌<◌, ◌≤◌, zero, suc, cond, ltb, eqb, List, [], ◌∷◌, ◌++◌, length, take, drop}
+use Rattle.std.proofs.Common.{get_or, Option, Some, ap, ap₂, sym, ◌∙◌, arith, inl, inr, ◌⊎◌, subst, slice_range, length-take, Result}
 use Rattle.std.specs.Prelude.{Ok, Err, OnOk}
 use Rattle.std.specs.List.{All}
 use Rattle.std.proofs.lemmas.Bool.{cases_lt, cases_eq, lt-ltb, le-ltb, eq-eqb}
@@ -38,7 +39,8 @@ bins_end s n rows at level from within =
     λ k d below. (let cut = All-ranges (IsCut wide high) (row_of rows level) cuts k d below in omega (arith, cut.end, edge_within s (level - 1) n))
 
 -- the frames that hold the bins give them to a reader
-pub rows_stand : (s : Numbers) (events : List ℕ) (n : ℕ) (rows : List (List BinAt)) (file : List ℕ) → IsAt s n rows → AreRows s rows → n ≤ length events → HoldsBins s events rows file → (d : ℕ) → d ≤ s.levels → AllStand s file (tallied_in s events) (take d rows)
+pub rows_stand : (s : Numbers) (events : List ℕ) (n : ℕ) (rows : List (List BinAt)) (file : List ℕ) → IsAt s n rows → AreRows s rows → n ≤ length events →
+    HoldsBins s events rows file → (d : ℕ) → d ≤ s.levels → AllStand s file (tallied_in s events) (take d rows)
 rows_stand s events n rows file at are within holds d deep k below =
     let reached : k < d = omega (arith, length-take d rows) in
     let row_is = row_among rows d k reached in
@@ -68,12 +70,17 @@ rows_stand s events n rows file at are within holds d deep k below =
 named_at : (row : List BinAt) (i : ℕ) (bin : BinAt) → i < length row → get_or row i bin ≡ bin → 1 ≤ times_named row bin.frame
 named_at [] i bin below is = absurd (omega arith)
 named_at (other ∷ row) zero bin below is =
-    omega (arith, sum_by-cons (λ (b : BinAt). cond {A = ℕ} (eqb b.frame bin.frame) 1 0) other row, ap (λ t. cond {A = ℕ} t 1 0) (eq-eqb other.frame bin.frame (ap (λ (b : BinAt). b.frame) is)))
+    omega (
+      arith,
+      sum_by-cons (λ (b : BinAt). cond {A = ℕ} (eqb b.frame bin.frame) 1 0) other row,
+      ap (λ t. cond {A = ℕ} t 1 0) (eq-eqb other.frame bin.frame (ap (λ (b : BinAt). b.frame) is)),
+    )
 named_at (other ∷ row) (suc i) bin below is =
     omega (arith, sum_by-cons (λ (b : BinAt). cond {A = ℕ} (eqb b.frame bin.frame) 1 0) other row, named_at row i bin (omega arith) is)
 
 -- a range in a frame that is named lies apart from those that a flush writes
-pub named_apart : (s : Numbers) (m : ℕ) (rows : List (List BinAt)) → AreRows s rows → (d : ℕ) → d ≤ s.levels → (from to : ℕ) → InNamed s rows from to → AreApart s m (take d rows) from to
+pub named_apart : (s : Numbers) (m : ℕ) (rows : List (List BinAt)) → AreRows s rows → (d : ℕ) → d ≤ s.levels → (from to : ℕ) → InNamed s rows from to →
+    AreApart s m (take d rows) from to
 named_apart s m rows are d deep from to inside k below =
     let reached : k < d = omega (arith, length-take d rows) in
     let row = get_or (take d rows) k [] in
@@ -105,8 +112,10 @@ text_fits s events level bin narrow =
     omega (arith, length_le-total 0 (2 ^ (64 - s.cone_bits)) (tallied s keys) (IsTable-tallied s keys), total-tallied s keys, length-take (bin.to - bin.from) (drop bin.from events))
 
 -- after a flush the frames hold the bins of the rows as they are then
-pub holds_moved : (s : Numbers) (m : ℕ) (events : List ℕ) (rows : List (List BinAt)) (made : List (List Piece)) (old new : Files) → length rows ≡ s.levels → AreRows s rows → HoldsBins s events rows (old FRAMES) → LeavesRest (InNamed s rows) old new →
-    length made ≡ depth s m → AreLanded s m (take (depth s m) rows) (new FRAMES) made (depth s m) → AreNew s m events (take (depth s m) rows) made → HoldsBins s events (moved s m rows) (new FRAMES)
+pub holds_moved : (s : Numbers) (m : ℕ) (events : List ℕ) (rows : List (List BinAt)) (made : List (List Piece)) (old new : Files) → length rows ≡ s.levels → AreRows s rows →
+    HoldsBins s events rows (old FRAMES) → LeavesRest (InNamed s rows) old new →
+    length made ≡ depth s m → AreLanded s m (take (depth s m) rows) (new FRAMES) made (depth s m) → AreNew s m events (take (depth s m) rows) made →
+    HoldsBins s events (moved s m rows) (new FRAMES)
 holds_moved s m events rows made old new len are holds leaves count landed news level from within =
     let row = row_of rows level in
     let d = depth s m in
@@ -138,7 +147,8 @@ holds_moved s m events rows made old new len are holds leaves count landed news 
     ])
 
 -- the frames after the new bins were written, as a bay tells them
-pub written_holds : {T E : Type 0} (result : Result T E) (s : Numbers) (m : ℕ) (rows : List (List BinAt)) (made : List (List Piece)) (before after : Option Files) → length rows ≡ s.levels → AreRows s rows → length made ≡ depth s m →
+pub written_holds : {T E : Type 0} (result : Result T E) (s : Numbers) (m : ℕ) (rows : List (List BinAt)) (made : List (List Piece)) (before after : Option Files) →
+    length rows ≡ s.levels → AreRows s rows → length made ≡ depth s m →
     Turns (LeavesRest (InNamed s rows)) before after → OnOk result ((seen : Files) → after ≡ Some seen → AreLanded s m (take (depth s m) rows) (seen FRAMES) made (depth s m)) →
     (seen : Files) → before ≡ Some seen → (events : List ℕ) → HoldsBins s events rows (seen FRAMES) → AreNew s m events (take (depth s m) rows) made →
     OnOk result ((then : Files) → after ≡ Some then → HoldsBins s events (moved s m rows) (then 2))

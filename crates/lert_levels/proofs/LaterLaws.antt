@@ -19,7 +19,8 @@ pub IsAt-none : (s : Numbers) → IsAt s 0 (replicate s.levels [])
 IsAt-none s = record {
   levels = length-replicate {A = List BinAt} s.levels [];
   each = λ level from within.
-      ap (map range_of) (row_of-none s.levels level) ∙ sym (cuts_none (span s level) (edge s level 0) (edge s (level - 1) 0) (suc (0 / span s level)) (omega (arith, edge_within s (level - 1) 0)));
+      ap (map range_of) (row_of-none s.levels level) ∙ sym (cuts_none (span s level) (edge s level 0) (edge s (level - 1) 0) (suc (0 / span s level))
+      (omega (arith, edge_within s (level - 1) 0)));
 }
 
 -- and each frame holds what it is to hold
@@ -39,7 +40,8 @@ IsAt-still s base ratio m rows stays at =
     }
 
 -- with later events behind them the frames hold the same
-pub HoldsBins-append : (s : Numbers) (n : ℕ) (events others : List ℕ) (rows : List (List BinAt)) (file : List ℕ) → IsAt s n rows → n ≤ length events → HoldsBins s events rows file → HoldsBins s (events ++ others) rows file
+pub HoldsBins-append : (s : Numbers) (n : ℕ) (events others : List ℕ) (rows : List (List BinAt)) (file : List ℕ) → IsAt s n rows → n ≤ length events →
+    HoldsBins s events rows file → HoldsBins s (events ++ others) rows file
 HoldsBins-append s n events others rows file at within holds level from last k d below =
     let ends = bins_end s n rows at level from last k d below in
     let bin = slice_index_or (row_of rows level) k d in

@@ -16,10 +16,12 @@ use Rattle.lert_rows.specs.Named.{AreNamed}
 -- ---- what a caller sees of the fields
 
 -- the first rows
-pub reached_rows : {V : Type 0} (items : V → List BinAt) (s : Numbers) (rows lent : List V) (seen : OnDisk) → record { settings = s; rows = map items rows } ≡ seen → lent ≡ rows → (d : ℕ) → map items (take d lent) ≡ take d seen.rows
+pub reached_rows : {V : Type 0} (items : V → List BinAt) (s : Numbers) (rows lent : List V) (seen : OnDisk) → record { settings = s; rows = map items rows } ≡ seen → lent ≡ rows →
+    (d : ℕ) → map items (take d lent) ≡ take d seen.rows
 reached_rows items s rows lent seen is lent_is d = sym (take-map items d lent) ∙ ap (λ rs. take d (map items rs)) lent_is ∙ ap (λ (v : OnDisk). take d v.rows) is
 
-pub reached_are : {V : Type 0} (items : V → List BinAt) (s : Numbers) (rows lent : List V) (seen : OnDisk) → record { settings = s; rows = map items rows } ≡ seen → AreRows s (map items rows) → lent ≡ rows → (d : ℕ) → d ≤ seen.settings.levels →
+pub reached_are : {V : Type 0} (items : V → List BinAt) (s : Numbers) (rows lent : List V) (seen : OnDisk) → record { settings = s; rows = map items rows } ≡ seen →
+    AreRows s (map items rows) → lent ≡ rows → (d : ℕ) → d ≤ seen.settings.levels →
     (k : ℕ) → k < length (take d lent) → IsRow seen.settings (k + 1) (get_or (map items (take d lent)) k [])
 reached_are items s rows lent seen is are lent_is d deep k below =
     let all : AreRows seen.settings seen.rows = subst (λ (v : OnDisk). AreRows v.settings v.rows) is are in
@@ -28,7 +30,9 @@ reached_are items s rows lent seen is are lent_is d deep k below =
     (subst (IsRow seen.settings (k + 1)) (row_among seen.rows d k reached) (all.each (k + 1) (omega arith) (omega arith)))
 
 -- the rows that moved on are rows of their levels
-module _ {V : Type 0} (items : V → List BinAt) (capacity_of : V → ℕ) (s : Numbers) (valid : IsValid s) (rows : List V) (directory : List ℕ) (room streams : ℕ) (kept : AreKept items capacity_of s rows directory room streams) (m : ℕ) (first : 1 ≤ m) (last : m ≤ capacity s) (at : IsAt s (m - 1) (map items rows)) (new : List V) (new_is : map items new ≡ moved s m (map items rows)) where
+module _ {V : Type 0} (items : V → List BinAt) (capacity_of : V → ℕ) (s : Numbers) (valid : IsValid s) (rows : List V) (directory : List ℕ) (room streams : ℕ)
+    (kept : AreKept items capacity_of s rows directory room streams) (m : ℕ) (first : 1 ≤ m) (last : m ≤ capacity s) (at : IsAt s (m - 1) (map items rows)) (new : List V)
+    (new_is : map items new ≡ moved s m (map items rows)) where
   pub new_rows : AreRows s (map items new)
   new_rows = subst (AreRows s) (sym new_is) (AreRows-moved s valid m first last (map items rows) at kept.are)
 
@@ -44,7 +48,8 @@ module _ {V : Type 0} (items : V → List BinAt) (capacity_of : V → ℕ) (s : 
       let product = ap (λ n. n * (1 + s.bins)) new_rows.levels in
       omega (arith, kept.directory_room)
 
-  pub new_kept : All (λ row. s.bins < capacity_of row) new → (text : List ℕ) (more : ℕ) → text ≡ directory_text (map items new) → room ≤ more → AreKept items capacity_of s new text more streams
+  pub new_kept : All (λ row. s.bins < capacity_of row) new → (text : List ℕ) (more : ℕ) → text ≡ directory_text (map items new) → room ≤ more →
+      AreKept items capacity_of s new text more streams
   new_kept roomy text more text_is grown = record {
     are = new_rows;
     roomy = roomy;
@@ -54,9 +59,12 @@ module _ {V : Type 0} (items : V → List BinAt) (capacity_of : V → ℕ) (s : 
   }
 
 -- the same of a vector whose items were written through a slice
-module _ {V : Type 0} (items : V → List BinAt) (capacity_of : V → ℕ) (s : Numbers) (valid : IsValid s) (rows : List V) (directory : List ℕ) (room streams : ℕ) (kept : AreKept items capacity_of s rows directory room streams)
-    (seen : OnDisk) (seen_is : record { settings = s; rows = map items rows } ≡ seen) (m : ℕ) (first : 1 ≤ m) (last : m ≤ capacity seen.settings) (at : IsAt seen.settings (m - 1) seen.rows)
-    (lent new after : List V) (n : ℕ) (lent_is : lent ≡ rows) (new_is : map items new ≡ moved s m (map items lent)) (len : length lent ≡ n) (after_is : after ≡ take n (new ++ drop (length new) rows)) where
+module _ {V : Type 0} (items : V → List BinAt) (capacity_of : V → ℕ) (s : Numbers) (valid : IsValid s) (rows : List V) (directory : List ℕ) (room streams : ℕ)
+    (kept : AreKept items capacity_of s rows directory room streams)
+    (seen : OnDisk) (seen_is : record { settings = s; rows = map items rows } ≡ seen) (m : ℕ) (first : 1 ≤ m) (last : m ≤ capacity seen.settings)
+    (at : IsAt seen.settings (m - 1) seen.rows)
+    (lent new after : List V) (n : ℕ) (lent_is : lent ≡ rows) (new_is : map items new ≡ moved s m (map items lent)) (len : length lent ≡ n)
+    (after_is : after ≡ take n (new ++ drop (length new) rows)) where
   are_new : map items new ≡ moved s m (map items rows)
   are_new = new_is ∙ ap (λ rs. moved s m (map items rs)) lent_is
 
@@ -79,16 +87,21 @@ module _ {V : Type 0} (items : V → List BinAt) (capacity_of : V → ℕ) (s : 
   after_few k d below = omega (arith, rows_few items s new after after_rows back k d below, valid.limits.bins_to)
 
   pub after_room : length (directory_text (map items after)) ≤ room
-  after_room = subst (λ (rs : List V). length (directory_text (map items rs)) ≤ room) (sym back) (new_room items capacity_of s valid rows directory room streams kept m first in_capacity here new are_new)
+  after_room = subst (λ (rs : List V). length (directory_text (map items rs)) ≤ room) (sym back)
+      (new_room items capacity_of s valid rows directory room streams kept m first in_capacity here new are_new)
 
-  pub after_kept : All (λ row. s.bins < capacity_of row) new → (text : List ℕ) (more : ℕ) (lent_after : List V) → lent_after ≡ after → text ≡ directory_text (map items lent_after) → room ≤ more → AreKept items capacity_of s after text more streams
+  pub after_kept : All (λ row. s.bins < capacity_of row) new → (text : List ℕ) (more : ℕ) (lent_after : List V) → lent_after ≡ after →
+      text ≡ directory_text (map items lent_after) → room ≤ more → AreKept items capacity_of s after text more streams
   after_kept roomy text more lent_after lent_after_is text_is grown =
       subst (λ (rs : List V). AreKept items capacity_of s rs text more streams) (sym back)
-      (new_kept items capacity_of s valid rows directory room streams kept m first in_capacity here new are_new roomy text more (text_is ∙ ap (λ rs. directory_text (map items rs)) (lent_after_is ∙ back)) grown)
+      (new_kept items capacity_of s valid rows directory room streams kept m first in_capacity here new are_new roomy text more
+      (text_is ∙ ap (λ rs. directory_text (map items rs)) (lent_after_is ∙ back)) grown)
 
 -- what stands between two calls once rows are restored, of a vector whose items were written through a slice
-module _ {V : Type 0} (items : V → List BinAt) (capacity_of : V → ℕ) (s : Numbers) (valid : IsValid s) (rows : List V) (directory : List ℕ) (room streams : ℕ) (kept : AreKept items capacity_of s rows directory room streams)
-    (n : ℕ) (text : List ℕ) (lent new after : List V) (count : ℕ) (lent_is : lent ≡ rows) (count_is : length lent ≡ count) (named : AreNamed s n text (map items new)) (after_is : after ≡ take count (new ++ drop (length new) rows)) where
+module _ {V : Type 0} (items : V → List BinAt) (capacity_of : V → ℕ) (s : Numbers) (valid : IsValid s) (rows : List V) (directory : List ℕ) (room streams : ℕ)
+    (kept : AreKept items capacity_of s rows directory room streams)
+    (n : ℕ) (text : List ℕ) (lent new after : List V) (count : ℕ) (lent_is : lent ≡ rows) (count_is : length lent ≡ count) (named : AreNamed s n text (map items new))
+    (after_is : after ≡ take count (new ++ drop (length new) rows)) where
   written_whole : after ≡ new
   written_whole =
       after_is
@@ -101,11 +114,13 @@ module _ {V : Type 0} (items : V → List BinAt) (capacity_of : V → ℕ) (s : 
   pub restored_room : length (directory_text (map items after)) ≤ room
   restored_room =
       let short = directory_short s.bins (map items new)
-      (λ k d below. subst (λ (row : List BinAt). length row ≤ s.bins) (get_or_default (map items new) k [] d below) (named_few s n text (map items new) named k (omega (arith, named.at.levels)))) in
+      (λ k d below. subst (λ (row : List BinAt). length row ≤ s.bins) (get_or_default (map items new) k [] d below)
+      (named_few s n text (map items new) named k (omega (arith, named.at.levels)))) in
       let product = ap (λ levels. levels * (1 + s.bins)) named.at.levels in
       subst (λ (rs : List V). length (directory_text (map items rs)) ≤ room) (sym written_whole) (omega (arith, kept.directory_room))
 
-  pub restored_kept : All (λ row. s.bins < capacity_of row) new → (bytes : List ℕ) (more : ℕ) (lent_after : List V) → lent_after ≡ after → bytes ≡ directory_text (map items lent_after) → room ≤ more → AreKept items capacity_of s after bytes more streams
+  pub restored_kept : All (λ row. s.bins < capacity_of row) new → (bytes : List ℕ) (more : ℕ) (lent_after : List V) → lent_after ≡ after →
+      bytes ≡ directory_text (map items lent_after) → room ≤ more → AreKept items capacity_of s after bytes more streams
   restored_kept roomy bytes more lent_after lent_after_is bytes_is grown =
       subst (λ (rs : List V). AreKept items capacity_of s rs bytes more streams) (sym written_whole)
       (record {
@@ -117,5 +132,6 @@ module _ {V : Type 0} (items : V → List BinAt) (capacity_of : V → ℕ) (s : 
       })
 
 -- rows that were lent are seen as before
-pub lent_seen : {V : Type 0} (items : V → List BinAt) (s : Numbers) (rows lent : List V) (seen : OnDisk) → record { settings = s; rows = map items rows } ≡ seen → lent ≡ rows → record { settings = s; rows = map items lent } ≡ seen
+pub lent_seen : {V : Type 0} (items : V → List BinAt) (s : Numbers) (rows lent : List V) (seen : OnDisk) → record { settings = s; rows = map items rows } ≡ seen → lent ≡ rows →
+    record { settings = s; rows = map items lent } ≡ seen
 lent_seen items s rows lent seen is lent_is = (λ i. record { settings = s; rows = map items (lent_is i) }) ∙ is

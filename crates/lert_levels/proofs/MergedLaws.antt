@@ -1,5 +1,6 @@
 -- The table of all counts of some lists.
-use Rattle.std.proofs.Common.{ℕ, zero, suc, ◌≡◌, ◌+◌, ◌-◌, ◌^◌, ◌<◌, ◌≤◌, cond, eqb, List, [], ◌∷◌, ◌++◌, length, get_or, fold, refl, ap, sym, ◌∙◌, arith, inl, inr, sum_by}
+use Rattle.std.proofs.Common.{ℕ, zero, suc, ◌≡◌, ◌+◌, ◌-◌, ◌^◌, ◌<◌, ◌≤◌, cond, eqb, List, [], ◌∷◌, ◌++◌, length, get_or, fold, refl, ap, sym, ◌∙◌}
+use Rattle.std.proofs.Common.{arith, inl, inr, sum_by}
 use Rattle.std.proofs.lemmas.Bool.{cases_eq, eq-eqb, ne_eqb}
 use Rattle.std.proofs.lemmas.List.Sums.{sum_by-cons}
 use Rattle.lert_merge.specs.Merging.{count_in}
@@ -27,7 +28,8 @@ IsTable-joined limit least table [] is ascends = is
 IsTable-joined limit least table (p ∷ pieces) is ascends =
     IsTable-joined limit (p.tail + 1) (plus table p.tail p.count) pieces (AscendsFrom-plus 0 limit table p.tail p.count (omega arith) ascends.1 ascends.2 is) ascends.3
 
-count_of-joined : (limit least : ℕ) (table pieces : List Piece) (tail : ℕ) → IsTable limit table → AscendsFrom least limit pieces → count_of (joined table pieces) tail ≡ count_of table tail + count_of pieces tail
+count_of-joined : (limit least : ℕ) (table pieces : List Piece) (tail : ℕ) → IsTable limit table → AscendsFrom least limit pieces →
+    count_of (joined table pieces) tail ≡ count_of table tail + count_of pieces tail
 count_of-joined limit least table [] tail is ascends = omega arith
 count_of-joined limit least table (p ∷ pieces) tail is ascends =
     let next = AscendsFrom-plus 0 limit table p.tail p.count (omega arith) ascends.1 ascends.2 is in
@@ -81,7 +83,8 @@ pub total-merged : (lists : List (List Piece)) → total (merged lists) ≡ sum_
 total-merged lists = omega (arith, total-folded [] lists)
 
 -- and the only one
-pub merged_is : (limit : ℕ) (lists : List (List Piece)) (pieces : List Piece) → AreTables limit lists → IsTable limit pieces → ((tail : ℕ) → count_of pieces tail ≡ count_in lists tail) → pieces ≡ merged lists
+pub merged_is : (limit : ℕ) (lists : List (List Piece)) (pieces : List Piece) → AreTables limit lists → IsTable limit pieces →
+    ((tail : ℕ) → count_of pieces tail ≡ count_in lists tail) → pieces ≡ merged lists
 merged_is limit lists pieces are table same =
     one_table 0 limit pieces (merged lists) table (IsTable-merged limit lists are) (λ tail. same tail ∙ sym (count_of-merged limit lists tail are))
 
@@ -121,7 +124,8 @@ merged-tallied s keys others =
 -- and one table alone is merged to itself
 pub merged-one : (limit : ℕ) (pieces : List Piece) → IsTable limit pieces → merged (pieces ∷ []) ≡ pieces
 merged-one limit pieces table =
-    sym (merged_is limit (pieces ∷ []) pieces (λ k below. elim k as (λ n. n < 1 → IsTable limit (get_or (pieces ∷ []) n [])) [ zero ↦ λ _. table | suc k ↦ λ more. absurd (omega arith) ] below) table
+    sym (merged_is limit (pieces ∷ []) pieces (λ k below. elim k as (λ n. n < 1 → IsTable limit (get_or (pieces ∷ []) n []))
+    [ zero ↦ λ _. table | suc k ↦ λ more. absurd (omega arith) ] below) table
     (λ tail. omega (arith, sum_by-cons (λ ps. count_of ps tail) pieces [], none tail)))
   where
     none : (tail : ℕ) → count_in [] tail ≡ 0

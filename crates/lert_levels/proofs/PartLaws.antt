@@ -18,8 +18,10 @@ streams_more young rows i below =
     omega arith
 
 -- a part more
-pub parts_more : (s : Numbers) (m young : ℕ) (rows : List (List BinAt)) (i oldest upto : ℕ) (newest : Option ℕ) (parts after : List Part) → parts ≡ map (part_at s m young rows) (range_with_len 0 i) → oldest ≡ oldest_stream young rows i →
-    newest ≡ newest_stream s m (i + 1) upto → upto ≡ streams_to young rows (i + 1) → after ≡ parts ++ record { oldest = oldest; newest = newest } ∷ [] → after ≡ map (part_at s m young rows) (range_with_len 0 (i + 1))
+pub parts_more : (s : Numbers) (m young : ℕ) (rows : List (List BinAt)) (i oldest upto : ℕ) (newest : Option ℕ) (parts after : List Part) →
+    parts ≡ map (part_at s m young rows) (range_with_len 0 i) → oldest ≡ oldest_stream young rows i →
+    newest ≡ newest_stream s m (i + 1) upto → upto ≡ streams_to young rows (i + 1) → after ≡ parts ++ record { oldest = oldest; newest = newest } ∷ [] →
+    after ≡ map (part_at s m young rows) (range_with_len 0 (i + 1))
 parts_more s m young rows i oldest upto newest parts after so_far oldest_is newest_is upto_is pushed =
     let part : record { oldest = oldest; newest = newest } ≡ part_at s m young rows i =
     ap₂ (λ o n. record { oldest = o; newest = n }) oldest_is (newest_is ∙ ap (newest_stream s m (i + 1)) upto_is) in
@@ -28,7 +30,8 @@ parts_more s m young rows i oldest upto newest parts after so_far oldest_is newe
 -- ---- what the streams are
 
 -- the i-th of a level's among those of all rows
-flat_at : {X : Type 0} (f : List BinAt → List X) → ((row : List BinAt) → length (f row) ≡ length row) → (rows : List (List BinAt)) (k i : ℕ) (e : X) → k < length rows → i < length (get_or rows k []) →
+flat_at : {X : Type 0} (f : List BinAt → List X) → ((row : List BinAt) → length (f row) ≡ length row) → (rows : List (List BinAt)) (k i : ℕ) (e : X) → k < length rows →
+    i < length (get_or rows k []) →
     get_or (flat_map f rows) (sum_by (λ (row : List BinAt). length row) (take k rows) + i) e ≡ get_or (f (get_or rows k [])) i e
 flat_at f same [] k i e below within = absurd (omega arith)
 flat_at f same (row ∷ rows) zero i e below within =
@@ -43,7 +46,8 @@ flat_at f same (row ∷ rows) (suc k) i e below within =
     ∙ flat_at f same rows k i e (omega arith) within
 
 -- behind those of level 0
-pub stream_at : {X : Type 0} (f : List BinAt → List X) → ((row : List BinAt) → length (f row) ≡ length row) → (first : List X) (rows : List (List BinAt)) (young k i stream : ℕ) (e : X) → length first ≡ young → k < length rows → i < length (get_or rows k []) →
+pub stream_at : {X : Type 0} (f : List BinAt → List X) → ((row : List BinAt) → length (f row) ≡ length row) →
+    (first : List X) (rows : List (List BinAt)) (young k i stream : ℕ) (e : X) → length first ≡ young → k < length rows → i < length (get_or rows k []) →
     stream ≡ streams_to young rows k + i → get_or (first ++ flat_map f rows) stream e ≡ get_or (f (get_or rows k [])) i e
 stream_at f same first rows young k i stream e len below within is =
     let place : stream ≡ length first + (sum_by (λ (row : List BinAt). length row) (take k rows) + i) = omega arith in

@@ -1,5 +1,6 @@
 -- What was given so far of the lists of a merge, and what is left of them.
-use Rattle.std.proofs.Common.{ℕ, Bool, true, false, append-nil, zero-add, add-zero, suc, ◌≡◌, ◌≢◌, ◌+◌, ◌^◌, ◌<◌, ◌≤◌, cond, eqb, List, [], ◌∷◌, ◌++◌, All, length, get_or, map, refl, ap, sym, ◌∙◌, subst, arith, inl, inr}
+use Rattle.std.proofs.Common.{ℕ, Bool, true, false, append-nil, zero-add, add-zero, suc, ◌≡◌, ◌≢◌, ◌+◌, ◌^◌, ◌<◌, ◌≤◌, cond, eqb, List, [], ◌∷◌, ◌++◌}
+use Rattle.std.proofs.Common.{All, length, get_or, map, refl, ap, sym, ◌∙◌, subst, arith, inl, inr}
 use Rattle.std.proofs.lemmas.Bool.{cases_eq, cases_lt, cases_order, eq-eqb, ne_eqb}
 use Rattle.std.proofs.lemmas.List.{get_or-map, length-map}
 use Rattle.std.proofs.lemmas.List.Sums.{sum_by-cons}
@@ -43,7 +44,8 @@ count_in-rest (list ∷ lists) (gone ∷ left) bound tail rest above = omega (
 )
 
 -- below all tails of some lists there is none
-count_in-below : (left : List (List Piece)) (bound limit tail : ℕ) → ((k : ℕ) → k < length left → AscendsFrom bound limit (get_or left k [])) → tail < bound → count_in left tail ≡ 0
+count_in-below : (left : List (List Piece)) (bound limit tail : ℕ) → ((k : ℕ) → k < length left → AscendsFrom bound limit (get_or left k [])) → tail < bound →
+    count_in left tail ≡ 0
 count_in-below [] bound limit tail ascends below = refl
 count_in-below (gone ∷ left) bound limit tail ascends below = omega (
   arith,
@@ -87,7 +89,8 @@ rest_more lists left bound tail rest above least = record {
 }
 
 -- a table with one more piece behind it
-table_more : (least bound tail n : ℕ) (out : List Piece) → AscendsFrom least bound out → least ≤ tail → bound ≤ tail → 1 ≤ n → AscendsFrom least (tail + 1) (out ++ record { tail = tail; count = n } ∷ [])
+table_more : (least bound tail n : ℕ) (out : List Piece) → AscendsFrom least bound out → least ≤ tail → bound ≤ tail → 1 ≤ n →
+    AscendsFrom least (tail + 1) (out ++ record { tail = tail; count = n } ∷ [])
 table_more least bound tail n [] ascends low above some = (low, omega arith, some, tt)
 table_more least bound tail n (p ∷ out) ascends low above some =
     (ascends.0, omega (arith, ascends.1), ascends.2, table_more (p.tail + 1) bound tail n out ascends.3 (omega (arith, ascends.1)) above some)
@@ -155,7 +158,8 @@ so_far_more lists left bound tail n out rest so_far above least is =
               | inl old ↦ omega (arith, so_far.counts other old)
               | inr new ↦ (
                   let none = count_of-above 0 bound other out so_far.table new in
-                  let empty = count_in-below left tail (2 ^ 64) other (λ k within. at_least bound (2 ^ 64) tail (get_or left k []) (rest.ascends k (omega (arith, rest.len))) (least k within)) before in
+                  let empty = count_in-below left tail (2 ^ 64) other (λ k within. at_least bound (2 ^ 64) tail (get_or left k []) (rest.ascends k (omega (arith, rest.len))) (least k within))
+                  before in
                   omega (arith, count_in-rest lists left bound other rest new))
             ])
         | inr (inr after) ↦ absurd (omega arith)

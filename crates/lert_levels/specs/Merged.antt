@@ -21,13 +21,14 @@ widths_of young rows = map (λ bin. bin.to - bin.from) young ++ widths_in rows
 
 -- what a merge of these streams made: from some lists, which are bins of their widths, and those that the frames hold, where
 -- they stand in the file
-pub record IsMade (s : Numbers) (young : List Bin) (rows : List (List BinAt)) (parts : List Part) (took : List Piece → Type 0) (file_is : List ℕ → Type 0) (made : List (List Piece)) : Type 0 where
-  pub lists : List (List Piece)
-  pub bins : AreBins (tail_limit s) (widths_of young rows) lists
-  pub narrow : All (λ bin. bin.to - bin.from ≤ span s 0) young
-  pub taken : took (merged lists)
-  pub are : made ≡ map (part_table lists) parts
-  pub told : (file : List ℕ) → file_is file → (held : BinAt → List Piece) → AllStand s file held rows → lists ≡ streams_of young held rows
+pub record IsMade (s : Numbers) (young : List Bin) (rows : List (List BinAt)) (parts : List Part) (took : List Piece → Type 0) (file_is : List ℕ → Type 0) (made : List (List Piece)) : Type 0
+  where
+    pub lists : List (List Piece)
+    pub bins : AreBins (tail_limit s) (widths_of young rows) lists
+    pub narrow : All (λ bin. bin.to - bin.from ≤ span s 0) young
+    pub taken : took (merged lists)
+    pub are : made ≡ map (part_table lists) parts
+    pub told : (file : List ℕ) → file_is file → (held : BinAt → List Piece) → AllStand s file held rows → lists ≡ streams_of young held rows
 
 -- these are the bytes of the file of frames, where a bay tells them
 pub record IsFrames (files : Option Files) (file : List ℕ) : Type 0 where

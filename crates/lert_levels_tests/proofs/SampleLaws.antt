@@ -1,5 +1,6 @@
 -- What the tests' flushes begin with: positions up to 32.
-use Rattle.std.proofs.Common.{ℕ, zero, suc, [], ◌∷◌, get_or, lit≤, ◌<◌, ◌≢◌, ◌≡◌, ◌+◌, ◌-◌, ◌*◌, ◌≤◌, List, map, replicate, refl, ap, sym, ◌∙◌, subst, arith}
+use Rattle.std.proofs.Common.{ℕ, zero, suc, [], ◌∷◌, get_or, lit≤, ◌<◌, ◌≢◌, ◌≡◌, ◌+◌, ◌-◌, ◌*◌, ◌≤◌, List, map, replicate, refl, ap, sym, ◌∙◌}
+use Rattle.std.proofs.Common.{subst, arith}
 use Rattle.lert_spec.specs.declared.numbers.Numbers.{Numbers}
 use Rattle.lert_spec.specs.Edges.{span}
 use Rattle.lert_spec.specs.Limits.{IsValid}
@@ -39,7 +40,8 @@ at_next : (k : ℕ) (rows : List (List BinAt)) → k ≤ 5 → IsAt small (12 + 
 at_next k rows few at = record { levels = at.levels; each = λ level first last. at.each level first last ∙ same_ranges k level few first last }
 
 -- after a flush, without the oldest bin of level 0 and with four events more
-pub ready_next : (k : ℕ) (young : Young) (disk after : OnDisk) (new : Young) → IsReady (12 + 4 * k) young disk → k ≤ 5 → after.settings ≡ disk.settings → IsAt after.settings (12 + 4 * k) after.rows →
+pub ready_next : (k : ℕ) (young : Young) (disk after : OnDisk) (new : Young) → IsReady (12 + 4 * k) young disk → k ≤ 5 → after.settings ≡ disk.settings →
+    IsAt after.settings (12 + 4 * k) after.rows →
     new.settings ≡ small → new.from ≡ young.from + span young.settings 0 → new.to ≡ 16 + 4 * k → IsReady (16 + 4 * k) new after
 ready_next k young disk after new ready few settings at new_settings from to =
     let now = settings ∙ ready.disk_settings in

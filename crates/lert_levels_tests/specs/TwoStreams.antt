@@ -1,5 +1,6 @@
 -- The lists of two streams of two pieces, which the tests merge.
-use Rattle.std.proofs.Common.{ℕ, zero, suc, Bool, true, false, ◌≡◌, ◌^◌, ◌<◌, ◌≤◌, get_or, List, [], ◌∷◌, ◌++◌, take, drop, Option, Some, None, arith, lit≤, lit<, sym, ap, ◌∙◌, subst, if◌then◌else◌}
+use Rattle.std.proofs.Common.{ℕ, zero, suc, Bool, true, false, ◌≡◌, ◌^◌, ◌<◌, ◌≤◌, get_or, List, [], ◌∷◌, ◌++◌, take, drop, Option, Some, None, arith, lit≤, lit<}
+use Rattle.std.proofs.Common.{sym, ap, ◌∙◌, subst, if◌then◌else◌}
 use Rattle.std.proofs.lemmas.List.{take-append-drop}
 use Rattle.lert_spec.specs.declared.piece.Piece.{Piece}
 use Rattle.lert_spec.specs.Table.{AreGiven}

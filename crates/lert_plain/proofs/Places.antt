@@ -31,7 +31,8 @@ plus-absent (p ∷ ps) tail n (suc at) s =
     plus_behind p ps tail n (s.below 0 p (omega arith)) ∙ ap (λ xs. p ∷ xs) (plus-absent ps tail n at (IsAbsent-tail p ps tail at s))
 
 -- the count of a present tail is raised at its place
-pub plus-present : (least limit : ℕ) (ps : List Piece) (tail n at : ℕ) (d : Piece) → AscendsFrom least limit ps → IsPresent ps tail at → plus ps tail n ≡ set ps at (record { tail = tail; count = (get_or ps at d).count + n })
+pub plus-present : (least limit : ℕ) (ps : List Piece) (tail n at : ℕ) (d : Piece) → AscendsFrom least limit ps → IsPresent ps tail at →
+    plus ps tail n ≡ set ps at (record { tail = tail; count = (get_or ps at d).count + n })
 plus-present least limit [] tail n at d t s = absurd (omega (arith, s.within))
 plus-present least limit (p ∷ ps) tail n zero d t s = plus_here p ps tail n (s.same p)
 plus-present least limit (p ∷ ps) tail n (suc at) d t s =

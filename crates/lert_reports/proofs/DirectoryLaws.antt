@@ -7,7 +7,8 @@ use Rattle.std.proofs.lemmas.Bool.{ne_eqb}
 use Rattle.lert_spec.specs.declared.numbers.Numbers.{Numbers}
 use Rattle.lert_reports.specs.declared.log.LogBefore.{LogBefore}
 use Rattle.lert_reports.specs.declared.log.LogParts.{LogParts}
-use Rattle.lert_reports.specs.LogText.{key_field, at_field, report_fields, report_place, at_before, number_in, bins_field, frame_fields, level_fields, level_place, reports_place, bin_count, n0_in, ArePartsOf}
+use Rattle.lert_reports.specs.LogText.{key_field, at_field, report_fields, report_place, at_before, number_in, bins_field, frame_fields, level_fields, level_place, reports_place, bin_count, n0_in}
+use Rattle.lert_reports.specs.LogText.{ArePartsOf}
 
 pub level_fields_are : (s : Numbers) (payload : List ℕ) (level n0 place bins : ℕ) → n0 ≡ n0_in payload → place ≡ level_place s n0 level → bins ≡ bin_count s level n0 →
     level_fields s payload level ≡ bins_field payload place bins ∷ frame_fields s payload (place + 1) bins
@@ -53,7 +54,8 @@ frames_within s payload parts level are some last =
     let place_is = ap (reports_place s) are.n0_is in
     omega (arith, level_place-next s parts.n0 level some, end, end_is, place_is, are.place_is, are.ends)
 
-pub report_fields_are : (s : Numbers) (cone : ℕ) (before : LogBefore) (payload : List ℕ) (k place earlier : ℕ) → place ≡ report_place s payload k → earlier ≡ at_before s before payload k →
+pub report_fields_are : (s : Numbers) (cone : ℕ) (before : LogBefore) (payload : List ℕ) (k place earlier : ℕ) → place ≡ report_place s payload k →
+    earlier ≡ at_before s before payload k →
     report_fields s cone before payload k ≡ key_field s cone payload place ∷ at_field payload place earlier ∷ []
 report_fields_are s cone before payload k place earlier place_is earlier_is =
     sym (ap₂ (λ p e. key_field s cone payload p ∷ at_field payload p e ∷ []) place_is earlier_is)

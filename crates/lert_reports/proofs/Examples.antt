@@ -175,7 +175,8 @@ closed_is_new : AreNew alone 0 0 3 closed.reports
 closed_is_new = record {
   fit = All-cons (λ report. report.key < 2 ^ 64) (record { key = 7; at = 3 }) [] (omega arith) (λ k other below. absurd (omega (arith, below)));
   of_cone = All-cons (λ report. cone_of alone report.key ≡ 0) (record { key = 7; at = 3 }) [] of_cone_0 (λ k other below. absurd (omega (arith, below)));
-  placed = All-cons (λ report. (1 ≤ report.at) × (0 ≤ report.at) × (report.at ≤ 3)) (record { key = 7; at = 3 }) [] (omega arith, omega arith, omega arith) (λ k other below. absurd (omega (arith, below)));
+  placed = All-cons (λ report. (1 ≤ report.at) × (0 ≤ report.at) × (report.at ≤ 3)) (record { key = 7; at = 3 }) [] (omega arith, omega arith, omega arith)
+      (λ k other below. absurd (omega (arith, below)));
   ascending = λ j k other less below. absurd (omega (arith, less, below));
 }
 

@@ -1,5 +1,6 @@
 -- The first broken one of several fields.
-use Rattle.std.proofs.Common.{◌≡◌, ℕ, zero, suc, ◌+◌, ◌<◌, ◌≤◌, ◌||◌, not, length, Bool, true, false, cond, Option, Some, None, List, [], ◌∷◌, ◌++◌, refl, ap, ap₂, sym, ◌∙◌, subst, arith, inl, inr}
+use Rattle.std.proofs.Common.{◌≡◌, ℕ, zero, suc, ◌+◌, ◌<◌, ◌≤◌, ◌||◌, not, length, Bool, true, false, cond, Option, Some, None, List, [], ◌∷◌, ◌++◌, refl, ap}
+use Rattle.std.proofs.Common.{ap₂, sym, ◌∙◌, subst, arith, inl, inr}
 use Rattle.std.specs.Prelude.{flat_map, find, option_map, nat_lt}
 use Rattle.std.specs.List.{range_with_len}
 use Rattle.std.proofs.lemmas.Bool.{cases_Bool, cases_lt, true≢false, ltb-false, le-ltb, or_right, not_from_false}
@@ -75,7 +76,8 @@ module _ (payload : List ℕ) where
 
   -- what decides among the first fields of several lists, one for each number, or else among the next
   module _ (fields_of : ℕ → List Field) where
-    pub one_more : (n from : ℕ) → left_at payload (flat_map fields_of (range_with_len from n)) ≡ None → left_at payload (fields_of (from + n)) ≡ None → left_at payload (flat_map fields_of (range_with_len from (suc n))) ≡ None
+    pub one_more : (n from : ℕ) → left_at payload (flat_map fields_of (range_with_len from n)) ≡ None → left_at payload (fields_of (from + n)) ≡ None →
+        left_at payload (flat_map fields_of (range_with_len from (suc n))) ≡ None
     one_more zero from none here = goes_on (fields_of from) [] None (subst (λ k. left_at payload (fields_of k) ≡ None) (let same : from + 0 ≡ from = omega arith in same) here) none_left
     one_more (suc n) from none here =
         let parts = parted (fields_of from) (flat_map fields_of (range_with_len (from + 1) n)) none in
@@ -83,10 +85,12 @@ module _ (payload : List ℕ) where
         goes_on (fields_of from) (flat_map fields_of (range_with_len (from + 1) (suc n))) None parts.0
         (one_more n (from + 1) parts.1 (subst (λ k. left_at payload (fields_of k) ≡ None) next here))
 
-    pub first_of : (n total from place : ℕ) → n < total → left_at payload (flat_map fields_of (range_with_len from n)) ≡ None → left_at payload (fields_of (from + n)) ≡ Some place → left_at payload (flat_map fields_of (range_with_len from total)) ≡ Some place
+    pub first_of : (n total from place : ℕ) → n < total → left_at payload (flat_map fields_of (range_with_len from n)) ≡ None → left_at payload (fields_of (from + n)) ≡ Some place →
+        left_at payload (flat_map fields_of (range_with_len from total)) ≡ Some place
     first_of n zero from place less none here = absurd (omega (arith, less))
     first_of zero (suc total) from place less none here =
-        stops (fields_of from) (flat_map fields_of (range_with_len (from + 1) total)) place (subst (λ k. left_at payload (fields_of k) ≡ Some place) (let same : from + 0 ≡ from = omega arith in same) here)
+        stops (fields_of from) (flat_map fields_of (range_with_len (from + 1) total)) place
+        (subst (λ k. left_at payload (fields_of k) ≡ Some place) (let same : from + 0 ≡ from = omega arith in same) here)
     first_of (suc n) (suc total) from place less none here =
         let parts = parted (fields_of from) (flat_map fields_of (range_with_len (from + 1) n)) none in
         let next : from + suc n ≡ from + 1 + n = omega arith in
@@ -94,7 +98,8 @@ module _ (payload : List ℕ) where
         (first_of n total (from + 1) place (omega (arith, less)) parts.1 (subst (λ k. left_at payload (fields_of k) ≡ Some place) next here))
 
     -- none of several lists decides, where none of each does
-    pub none_of : (n from : ℕ) → ((k : ℕ) → from ≤ k → k < from + n → left_at payload (fields_of k) ≡ None) → left_at payload (flat_map fields_of (range_with_len from n)) ≡ None
+    pub none_of : (n from : ℕ) → ((k : ℕ) → from ≤ k → k < from + n → left_at payload (fields_of k) ≡ None) →
+        left_at payload (flat_map fields_of (range_with_len from n)) ≡ None
     none_of zero from each = none_left
     none_of (suc n) from each =
         goes_on (fields_of from) (flat_map fields_of (range_with_len (from + 1) n)) None
@@ -102,7 +107,8 @@ module _ (payload : List ℕ) where
         (none_of n (from + 1) (λ k low high. each k (omega (arith, low)) (omega (arith, high))))
 
     -- and the other way round
-    pub each_none : (n from : ℕ) → left_at payload (flat_map fields_of (range_with_len from n)) ≡ None → (k : ℕ) → from ≤ k → k < from + n → left_at payload (fields_of k) ≡ None
+    pub each_none : (n from : ℕ) → left_at payload (flat_map fields_of (range_with_len from n)) ≡ None → (k : ℕ) → from ≤ k → k < from + n →
+        left_at payload (fields_of k) ≡ None
     each_none zero from none k low high = absurd (omega (arith, low, high))
     each_none (suc n) from none k low high =
         let parts = parted (fields_of from) (flat_map fields_of (range_with_len (from + 1) n)) none in
@@ -112,12 +118,14 @@ module _ (payload : List ℕ) where
         ]
 
     -- the same, by numbers that are equal to these
-    pub next_of : (n from at next : ℕ) → from + n ≡ at → suc n ≡ next → left_at payload (flat_map fields_of (range_with_len from n)) ≡ None → left_at payload (fields_of at) ≡ None → left_at payload (flat_map fields_of (range_with_len from next)) ≡ None
+    pub next_of : (n from at next : ℕ) → from + n ≡ at → suc n ≡ next → left_at payload (flat_map fields_of (range_with_len from n)) ≡ None →
+        left_at payload (fields_of at) ≡ None → left_at payload (flat_map fields_of (range_with_len from next)) ≡ None
     next_of n from at next here_is next_is none here =
         subst (λ m. left_at payload (flat_map fields_of (range_with_len from m)) ≡ None) next_is
         (one_more n from none (subst (λ k. left_at payload (fields_of k) ≡ None) (sym here_is) here))
 
-    pub found_of : (n total from at place : ℕ) → from + n ≡ at → n < total → left_at payload (flat_map fields_of (range_with_len from n)) ≡ None → left_at payload (fields_of at) ≡ Some place → left_at payload (flat_map fields_of (range_with_len from total)) ≡ Some place
+    pub found_of : (n total from at place : ℕ) → from + n ≡ at → n < total → left_at payload (flat_map fields_of (range_with_len from n)) ≡ None →
+        left_at payload (fields_of at) ≡ Some place → left_at payload (flat_map fields_of (range_with_len from total)) ≡ Some place
     found_of n total from at place here_is less none here =
         first_of n total from place less none (subst (λ k. left_at payload (fields_of k) ≡ Some place) (sym here_is) here)
 
@@ -132,10 +140,12 @@ module _ (payload : List ℕ) where
     pub in_third : left_at payload a ≡ None → left_at payload b ≡ None → left_at payload c ≡ Some place → left_at payload (a ++ b ++ c ++ d ++ e) ≡ Some place
     in_third first second is = stops (a ++ b ++ c ++ d) e place (stops (a ++ b ++ c) d place (goes_on (a ++ b) c (Some place) (goes_on a b None first second) is))
 
-    pub in_fourth : left_at payload a ≡ None → left_at payload b ≡ None → left_at payload c ≡ None → left_at payload d ≡ Some place → left_at payload (a ++ b ++ c ++ d ++ e) ≡ Some place
+    pub in_fourth : left_at payload a ≡ None → left_at payload b ≡ None → left_at payload c ≡ None → left_at payload d ≡ Some place →
+        left_at payload (a ++ b ++ c ++ d ++ e) ≡ Some place
     in_fourth first second third is =
         stops (a ++ b ++ c ++ d) e place (goes_on (a ++ b ++ c) d (Some place) (goes_on (a ++ b) c None (goes_on a b None first second) third) is)
 
-  pub in_last : (a b c d e : List Field) (found : Option ℕ) → left_at payload a ≡ None → left_at payload b ≡ None → left_at payload c ≡ None → left_at payload d ≡ None → left_at payload e ≡ found → left_at payload (a ++ b ++ c ++ d ++ e) ≡ found
+  pub in_last : (a b c d e : List Field) (found : Option ℕ) → left_at payload a ≡ None → left_at payload b ≡ None → left_at payload c ≡ None → left_at payload d ≡ None →
+      left_at payload e ≡ found → left_at payload (a ++ b ++ c ++ d ++ e) ≡ found
   in_last a b c d e found first second third fourth is =
       goes_on (a ++ b ++ c ++ d) e found (goes_on (a ++ b ++ c) d None (goes_on (a ++ b) c None (goes_on a b None first second) third) fourth) is

@@ -1,5 +1,6 @@
 -- How a log grows by a record, what its records say together, and how long a payload is.
-use Rattle.std.proofs.Common.{ℕ, ◌≡◌, ◌≢◌, ◌+◌, ◌*◌, Bool, false, cond, List, [], ◌∷◌, ◌++◌, length, map, refl, ap, ap₂, sym, ◌∙◌, arith, inl, inr, ◌⊎◌, subst, length-append}
+use Rattle.std.proofs.Common.{ℕ, ◌≡◌, ◌≢◌, ◌+◌, ◌*◌, Bool, false, cond, List, [], ◌∷◌, ◌++◌, length, map, refl, ap, ap₂, sym, ◌∙◌, arith, inl, inr}
+use Rattle.std.proofs.Common.{◌⊎◌, subst, length-append}
 use Rattle.std.specs.Prelude.{flat_map, fold}
 use Rattle.std.specs.List.{AllPairs}
 use Rattle.std.proofs.lemmas.List.{append-nil, map-append}
@@ -119,7 +120,8 @@ records_more s cone records one are still_open keeps distinct = record {
 }
 
 -- the last of some records keeps the rules behind the others, of which none is closing
-pub last_keeps : (s : Numbers) (cone : ℕ) (front : List LogRecord) (last : LogRecord) → AreRecords s cone (front ++ last ∷ []) → KeepsRules s cone (before_of front) last × (is_closed front ≡ false)
+pub last_keeps : (s : Numbers) (cone : ℕ) (front : List LogRecord) (last : LogRecord) → AreRecords s cone (front ++ last ∷ []) →
+    KeepsRules s cone (before_of front) last × (is_closed front ≡ false)
 last_keeps s cone front last are = (are.each front [] last refl, are.open_before front [] last refl)
 
 -- ---- how long a payload is
@@ -130,7 +132,8 @@ length_reports (report ∷ reports) =
     let parts = ap (length {A = ℕ}) (flat_map-cons report_bytes report reports) in
     omega (arith, parts, length-append (report_bytes report) (flat_map report_bytes reports), length_reports reports)
 
-pub log_payload_length : (kind : LogKind) (n0 offset first : ℕ) (directory : List ℕ) (reports : List Report) → length (log_payload kind n0 offset first directory reports) ≡ 29 + length directory + 16 * length reports
+pub log_payload_length : (kind : LogKind) (n0 offset first : ℕ) (directory : List ℕ) (reports : List Report) →
+    length (log_payload kind n0 offset first directory reports) ≡ 29 + length directory + 16 * length reports
 log_payload_length kind n0 offset first directory reports =
     let head = (kind_number kind ∷ []) ++ little_bytes 8 n0 ++ little_bytes 8 offset ++ little_bytes 8 first in
     let count = little_bytes 4 (length reports) in

@@ -1,5 +1,6 @@
 -- Bytes are one log at most, or leave the format at one place, and never both.
-use Rattle.std.proofs.Common.{ℕ, suc, ◌≡◌, ◌≢◌, ◌+◌, ◌*◌, ◌<◌, ◌≤◌, true, false, cond, eqb, List, [], ◌∷◌, ◌++◌, length, take, get_or, map, refl, ap, sym, ◌∙◌, arith, inl, inr, ◌⊎◌, subst, length-append, append_assoc, zero-add}
+use Rattle.std.proofs.Common.{ℕ, suc, ◌≡◌, ◌≢◌, ◌+◌, ◌*◌, ◌<◌, ◌≤◌, true, false, cond, eqb, List, [], ◌∷◌, ◌++◌, length, take, get_or, map, refl, ap, sym}
+use Rattle.std.proofs.Common.{◌∙◌, arith, inl, inr, ◌⊎◌, subst, length-append, append_assoc, zero-add}
 use Rattle.std.specs.List.{AllPairs, range_with_len}
 use Rattle.std.proofs.Math.Seq.{take-append-add}
 use Rattle.std.proofs.lemmas.Bool.{eq-eqb, eqb-true, false≢true}
@@ -20,7 +21,8 @@ use Rattle.lert_spec.specs.Trace.{agreed}
 use Rattle.lert_reports.specs.declared.log.LogBefore.{LogBefore}
 use Rattle.lert_reports.specs.LogRules.{KeepsRules}
 use Rattle.lert_reports.specs.LogText.{LogRecord, log_payload_of, number_in, report_in, report_place}
-use Rattle.lert_reports.specs.Log.{log_header, most_record, listed_in, is_closed, before_of, AreRecords, HasLog, IsRepeatedAt, PayloadLeavesAt, HasLogUpTo, BreaksBehind, IsSpoiledBehind, FollowsClosing, LogLeavesAt, In_header, At_gate, In_payload, Behind_closing}
+use Rattle.lert_reports.specs.Log.{log_header, most_record, listed_in, is_closed, before_of, AreRecords, HasLog, IsRepeatedAt, PayloadLeavesAt, HasLogUpTo, BreaksBehind, IsSpoiledBehind}
+use Rattle.lert_reports.specs.Log.{FollowsClosing, LogLeavesAt, In_header, At_gate, In_payload, Behind_closing}
 use Rattle.lert_reports.proofs.RecordLaws.{parts_of, parts_stand, parts_tell, report_read, record_back, never_left}
 
 -- ---- headers
@@ -107,7 +109,8 @@ module _ (s : Numbers) (cone : ℕ) (valid : IsValid s) where
       still_open : is_closed front ≡ false
       distinct : AllPairs (λ earlier later. earlier.key ≢ later.key) (listed_in front ++ one.reports)
 
-    continues : (front behind : List LogRecord) (one : LogRecord) (gate : ℕ) → AreRecords s cone (front ++ one ∷ behind) → IsOpen (most_record s) bytes gate (log_payload_of one) → Continues front gate
+    continues : (front behind : List LogRecord) (one : LogRecord) (gate : ℕ) → AreRecords s cone (front ++ one ∷ behind) → IsOpen (most_record s) bytes gate (log_payload_of one) →
+        Continues front gate
     continues front behind one gate are stands =
         let reports : LogRecord → List Report = λ record_. record_.reports in
         let all : listed_in (front ++ one ∷ behind) ≡ (listed_in front ++ one.reports) ++ listed_in behind =
@@ -173,7 +176,8 @@ module _ (s : Numbers) (cone : ℕ) (valid : IsValid s) where
     abbrev Stand : ℕ → List LogRecord → ℕ → Type 0
     Stand gate records end = Records (most_record s) bytes gate (map log_payload_of records) end
 
-    meet : (front a b : List LogRecord) (gate end too : ℕ) → AreRecords s cone (front ++ a) → AreRecords s cone (front ++ b) → Stand gate a end → Stand gate b too → Meet (front ++ a) (front ++ b) end too
+    meet : (front a b : List LogRecord) (gate end too : ℕ) → AreRecords s cone (front ++ a) → AreRecords s cone (front ++ b) → Stand gate a end → Stand gate b too →
+        Meet (front ++ a) (front ++ b) end too
     meet front [] [] gate end too are are_too stand stand_too = inl (refl, stand ∙ sym stand_too)
     meet front [] (y ∷ ys) gate end too are are_too stand stand_too =
         let here = continues front ys y gate are_too stand_too.0 in

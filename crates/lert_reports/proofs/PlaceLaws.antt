@@ -30,5 +30,6 @@ byte_there payload rest place byte stands =
     ∙ ap (λ bytes. get_or bytes 0 0) stands.is)
 
 -- the number there
-pub number_there : (payload rest : List ℕ) (size place number : ℕ) → number < 256 ^ size → Stands payload place (little_bytes size number ++ rest) → number_in size payload place ≡ number
+pub number_there : (payload rest : List ℕ) (size place number : ℕ) → number < 256 ^ size → Stands payload place (little_bytes size number ++ rest) →
+    number_in size payload place ≡ number
 number_there payload rest size place number fits stands = ap (little_number size) stands.is ∙ little_number-reads_back size number rest fits

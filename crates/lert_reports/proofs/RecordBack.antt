@@ -1,5 +1,6 @@
 -- The payload of a record that keeps the rules leaves the format nowhere, and its parts say what was written.
-use Rattle.std.proofs.Common.{◌≡◌, ◌≢◌, ℕ, zero, suc, ◌+◌, ◌-◌, ◌*◌, ◌<◌, ◌≤◌, ◌^◌, ◌==◌, ◌&&◌, not, max, false, nat_le, None, List, [], ◌∷◌, ◌++◌, length, take, drop, get_or, refl, sym, ap, ap₂, ◌∙◌, subst, arith, length-append, append_assoc}
+use Rattle.std.proofs.Common.{◌≡◌, ◌≢◌, ℕ, zero, suc, ◌+◌, ◌-◌, ◌*◌, ◌<◌, ◌≤◌, ◌^◌, ◌==◌, ◌&&◌, not, max, false, nat_le, None, List, [], ◌∷◌}
+use Rattle.std.proofs.Common.{◌++◌, length, take, drop, get_or, refl, sym, ap, ap₂, ◌∙◌, subst, arith, length-append, append_assoc}
 use Rattle.std.specs.Prelude.{flat_map, slice_index, slice_index_or, All}
 use Rattle.std.specs.List.{range_with_len, list_any, AllPairs}
 use Rattle.std.proofs.lemmas.Bool.{le-leb, eq-eqb, ne_eqb}
@@ -12,7 +13,8 @@ use Rattle.lert_spec.specs.declared.numbers.Numbers.{Numbers}
 use Rattle.lert_spec.specs.declared.report.Report.{Report}
 use Rattle.lert_spec.specs.Mix.{cone_of}
 use Rattle.lert_reports.specs.declared.log.LogBefore.{LogBefore}
-use Rattle.lert_reports.specs.LogText.{left_at, is_broken, bin_count, directory_bytes, report_bytes, number_in, n0_in, level_place, level_fields, bins_field, frame_field, frame_fields, frames_in, report_in, report_place, report_fields, at_before, key_field, at_field}
+use Rattle.lert_reports.specs.LogText.{left_at, is_broken, bin_count, directory_bytes, report_bytes, number_in, n0_in, level_place, level_fields, bins_field, frame_field, frame_fields, frames_in}
+use Rattle.lert_reports.specs.LogText.{report_in, report_place, report_fields, at_before, key_field, at_field}
 use Rattle.lert_reports.specs.LogRules.{AreFrames, AreNew}
 use Rattle.lert_reports.proofs.DirectoryLaws.{level_fields_are, level_place-next, at_before-next}
 use Rattle.lert_reports.proofs.FieldLaws.{good, kept, none_left, goes_on, none_of}
@@ -29,7 +31,8 @@ new_frame frames k below distinct =
     let there : get_or (take k frames) j d ≡ get_or frames j 0 = get_or-take k frames j d earlier ∙ get_or_default frames j d 0 (omega (arith, earlier, below)) in
     ne_eqb (get_or (take k frames) j d) (get_or frames k 0) (λ same. distinct j k 0 earlier below (sym there ∙ same)))
 
-frame_good : (s : Numbers) (payload frames more : List ℕ) (place k : ℕ) → Stands payload place (frames ++ more) → All (λ frame. frame ≤ s.bins) frames → AllPairs (λ one other. one ≢ other) frames → k < length frames →
+frame_good : (s : Numbers) (payload frames more : List ℕ) (place k : ℕ) → Stands payload place (frames ++ more) → All (λ frame. frame ≤ s.bins) frames →
+    AllPairs (λ one other. one ≢ other) frames → k < length frames →
     is_broken payload (frame_field s payload place k) ≡ false
 frame_good s payload frames more place k stands known distinct below =
     let frame_is : slice_index payload (place + k) ≡ slice_index frames k = at_reads 0 payload frames place more stands.is k below in
@@ -39,7 +42,8 @@ frame_good s payload frames more place k stands known distinct below =
     (ap₂ (λ (frame : ℕ) (earlier : List ℕ). nat_le frame s.bins && not (list_any (λ other. other == frame) earlier)) frame_is taken
     ∙ ap₂ (λ one other. one && not other) (le-leb (slice_index frames k) s.bins (known k 0 below)) (new_frame frames k below distinct))
 
-level_good : (s : Numbers) (payload frames more : List ℕ) (level n0 : ℕ) → n0 ≡ n0_in payload → AreFrames s level n0 frames → Stands payload (level_place s n0 level) (length frames ∷ (frames ++ more)) →
+level_good : (s : Numbers) (payload frames more : List ℕ) (level n0 : ℕ) → n0 ≡ n0_in payload → AreFrames s level n0 frames →
+    Stands payload (level_place s n0 level) (length frames ∷ (frames ++ more)) →
     left_at payload (level_fields s payload level) ≡ None
 level_good s payload frames more level n0 n0_is are stands =
     let place = level_place s n0 level in
@@ -58,7 +62,8 @@ level_good s payload frames more level n0 n0_is are stands =
 
 module _ (s : Numbers) (payload behind : List ℕ) (n0 : ℕ) where
   next_level : (frames : List ℕ) (directory : List (List ℕ)) (level : ℕ) → 1 ≤ level → length frames ≡ bin_count s level n0 →
-      Stands payload (level_place s n0 level) (length frames ∷ (frames ++ (directory_bytes directory ++ behind))) → Stands payload (level_place s n0 (level + 1)) (directory_bytes directory ++ behind)
+      Stands payload (level_place s n0 level) (length frames ∷ (frames ++ (directory_bytes directory ++ behind))) →
+      Stands payload (level_place s n0 (level + 1)) (directory_bytes directory ++ behind)
   next_level frames directory level some counted stands =
       stands_behind payload (length frames ∷ frames) (directory_bytes directory ++ behind) (level_place s n0 level) (level_place s n0 (level + 1))
       (omega (arith, counted, level_place-next s n0 level some)) stands
@@ -77,19 +82,25 @@ module _ (s : Numbers) (payload behind : List ℕ) (n0 : ℕ) where
   others_counted : (frames : List ℕ) (directory : List (List ℕ)) (level : ℕ) → AreCounted level (frames ∷ directory) → AreCounted (level + 1) directory
   others_counted frames directory level each k below = each (suc k) (omega (arith, below)) ∙ ap (λ j. bin_count s j n0) (let same : level + suc k ≡ level + 1 + k = omega arith in same)
 
-  pub level_stands : (directory : List (List ℕ)) (level : ℕ) → 1 ≤ level → AreCounted level directory → Stands payload (level_place s n0 level) (directory_bytes directory ++ behind) → (k : ℕ) → k < length directory →
+  pub level_stands : (directory : List (List ℕ)) (level : ℕ) → 1 ≤ level → AreCounted level directory →
+      Stands payload (level_place s n0 level) (directory_bytes directory ++ behind) → (k : ℕ) → k < length directory →
       (more : List ℕ) × Stands payload (level_place s n0 (level + k)) (length (slice_index_or directory k []) ∷ (slice_index_or directory k [] ++ more))
   level_stands [] level some each stands k below = absurd (omega (arith, below))
   level_stands (frames ∷ directory) level some each stands zero below = (
     directory_bytes directory ++ behind,
-    subst (λ n. Stands payload (level_place s n0 n) (length frames ∷ (frames ++ (directory_bytes directory ++ behind)))) (let same : level ≡ level + 0 = omega arith in same) (parted frames directory level stands),
+    subst (λ n. Stands payload (level_place s n0 n) (length frames ∷ (frames ++ (directory_bytes directory ++ behind)))) (let same : level ≡ level + 0 = omega arith in same)
+        (parted frames directory level stands),
   )
   level_stands (frames ∷ directory) level some each stands (suc k) below =
       let next = next_level frames directory level some (first_counted frames directory level each) (parted frames directory level stands) in
-      let found = level_stands directory (level + 1) (omega arith) (others_counted frames directory level each) next k (omega (arith, below)) in
-      (found.0, subst (λ n. Stands payload (level_place s n0 n) (length (slice_index_or directory k []) ∷ (slice_index_or directory k [] ++ found.0))) (let same : level + 1 + k ≡ level + suc k = omega arith in same) found.1)
+      let found = level_stands directory (level + 1) (omega arith) (others_counted frames directory level each) next k (omega (arith, below)) in (
+        found.0,
+        subst (λ n. Stands payload (level_place s n0 n) (length (slice_index_or directory k []) ∷ (slice_index_or directory k [] ++ found.0)))
+            (let same : level + 1 + k ≡ level + suc k = omega arith in same) found.1,
+      )
 
-  pub directory_ends : (directory : List (List ℕ)) (level : ℕ) → 1 ≤ level → AreCounted level directory → Stands payload (level_place s n0 level) (directory_bytes directory ++ behind) →
+  pub directory_ends : (directory : List (List ℕ)) (level : ℕ) → 1 ≤ level → AreCounted level directory →
+      Stands payload (level_place s n0 level) (directory_bytes directory ++ behind) →
       Stands payload (level_place s n0 (level + length directory)) behind
   directory_ends [] level some each stands = subst (λ k. Stands payload (level_place s n0 k) behind) (let same : level ≡ level + 0 = omega arith in same) stands
   directory_ends (frames ∷ directory) level some each stands =
@@ -98,17 +109,22 @@ module _ (s : Numbers) (payload behind : List ℕ) (n0 : ℕ) where
       (directory_ends directory (level + 1) (omega arith) (others_counted frames directory level each) next)
 
   -- a directory from level 1 on
-  module _ (directory : List (List ℕ)) (are : (k : ℕ) → k < length directory → AreFrames s (k + 1) n0 (slice_index_or directory k [])) (stands : Stands payload 25 (directory_bytes directory ++ behind)) where
+  module _ (directory : List (List ℕ)) (are : (k : ℕ) → k < length directory → AreFrames s (k + 1) n0 (slice_index_or directory k []))
+      (stands : Stands payload 25 (directory_bytes directory ++ behind)) where
     counted : AreCounted 1 directory
     counted k below = (are k below).counted ∙ ap (λ j. bin_count s j n0) (let same : k + 1 ≡ 1 + k = omega arith in same)
 
     pub ends : Stands payload (level_place s n0 (1 + length directory)) behind
     ends = directory_ends directory 1 (omega arith) counted stands
 
-    pub level_there : (k : ℕ) → k < length directory → (more : List ℕ) × Stands payload (level_place s n0 (k + 1)) (length (slice_index_or directory k []) ∷ (slice_index_or directory k [] ++ more))
+    pub level_there : (k : ℕ) → k < length directory → (more : List ℕ) × Stands payload (level_place s n0 (k + 1))
+        (length (slice_index_or directory k []) ∷ (slice_index_or directory k [] ++ more))
     level_there k below =
-        let found = level_stands directory 1 (omega arith) counted stands k below in
-        (found.0, subst (λ n. Stands payload (level_place s n0 n) (length (slice_index_or directory k []) ∷ (slice_index_or directory k [] ++ found.0))) (let same : 1 + k ≡ k + 1 = omega arith in same) found.1)
+        let found = level_stands directory 1 (omega arith) counted stands k below in (
+          found.0,
+          subst (λ n. Stands payload (level_place s n0 n) (length (slice_index_or directory k []) ∷ (slice_index_or directory k [] ++ found.0)))
+              (let same : 1 + k ≡ k + 1 = omega arith in same) found.1,
+        )
 
     pub levels_good : n0 ≡ n0_in payload → left_at payload (flat_map (level_fields s payload) (range_with_len 1 (length directory))) ≡ None
     levels_good n0_is =
@@ -125,7 +141,8 @@ module _ (s : Numbers) (payload behind : List ℕ) (n0 : ℕ) where
     frames_back n0_is k below =
         let frames = slice_index_or directory k [] in
         let found = level_there k below in
-        let behind_count : Stands payload (level_place s n0 (k + 1) + 1) (frames ++ found.0) = stands_behind payload (length frames ∷ []) (frames ++ found.0) (level_place s n0 (k + 1)) (level_place s n0 (k + 1) + 1) (omega arith) found.1 in
+        let behind_count : Stands payload (level_place s n0 (k + 1) + 1) (frames ++ found.0) =
+        stands_behind payload (length frames ∷ []) (frames ++ found.0) (level_place s n0 (k + 1)) (level_place s n0 (k + 1) + 1) (omega arith) found.1 in
         ap (λ n. take (bin_count s (k + 1) n) (drop (level_place s n (k + 1) + 1) payload)) (sym n0_is)
         ∙ (ap₂ take (sym (are k below).counted) behind_count.is
         ∙ (take-append-le (length frames) frames found.0 (omega arith) ∙ take-length frames))
@@ -133,7 +150,8 @@ module _ (s : Numbers) (payload behind : List ℕ) (n0 : ℕ) where
 -- ---- the reports
 
 -- a report reads back
-pub report_back : (payload more : List ℕ) (place : ℕ) (report : Report) → report.key < 2 ^ 64 → report.at < 2 ^ 64 → Stands payload place (report_bytes report ++ more) → report_in payload place ≡ report
+pub report_back : (payload more : List ℕ) (place : ℕ) (report : Report) → report.key < 2 ^ 64 → report.at < 2 ^ 64 → Stands payload place (report_bytes report ++ more) →
+    report_in payload place ≡ report
 report_back payload more place report key_fits at_fits stands =
     let key_is = number_there payload (little_bytes 8 report.at ++ more) 8 place report.key key_fits stands in
     let behind : Stands payload (place + 8) (little_bytes 8 report.at ++ more) =
@@ -152,7 +170,8 @@ report_stands payload (report ∷ reports) place (suc k) other stands below =
     let found = report_stands payload reports (place + 16) k other next (omega (arith, below)) in
     (found.0, subst (λ at. Stands payload at (report_bytes (slice_index_or reports k other) ++ found.0)) (let same : place + 16 + 16 * k ≡ place + 16 * suc k = omega arith in same) found.1)
 
-report_good : (s : Numbers) (cone earlier n0 : ℕ) (payload more : List ℕ) (place : ℕ) (report : Report) → n0 ≡ n0_in payload → cone_of s report.key ≡ cone → 1 ≤ report.at → earlier ≤ report.at → report.at ≤ n0 →
+report_good : (s : Numbers) (cone earlier n0 : ℕ) (payload more : List ℕ) (place : ℕ) (report : Report) → n0 ≡ n0_in payload → cone_of s report.key ≡ cone → 1 ≤ report.at →
+    earlier ≤ report.at → report.at ≤ n0 →
     report_in payload place ≡ report → Stands payload place (report_bytes report ++ more) →
     left_at payload (key_field s cone payload place ∷ at_field payload place earlier ∷ []) ≡ None
 report_good s cone earlier n0 payload more place report n0_is of_cone some later within report_is stands =
@@ -188,7 +207,8 @@ reports_good s cone before payload n0 n0_is fits (report ∷ reports) k are stan
     let place = report_place s payload k in
     let placed = are.placed 0 report (omega arith) in
     let report_is = report_back payload (flat_map report_bytes reports) place report (are.fit 0 report (omega arith)) (omega (arith, placed.2, fits)) stands in
-    let here = report_good s cone (at_before s before payload k) n0 payload (flat_map report_bytes reports) place report n0_is (are.of_cone 0 report (omega arith)) placed.0 placed.1 placed.2 report_is stands in
+    let here = report_good s cone (at_before s before payload k) n0 payload (flat_map report_bytes reports) place report n0_is (are.of_cone 0 report (omega arith)) placed.0 placed.1 placed.2
+    report_is stands in
     let next : Stands payload (report_place s payload (k + 1)) (flat_map report_bytes reports) =
     stands_behind payload (report_bytes report) (flat_map report_bytes reports) place (report_place s payload (k + 1)) (omega arith) stands in
     let at_is : report.at ≡ at_before s before payload (k + 1) = sym (ap (λ (r : Report). r.at) report_is) ∙ at_before-next s before payload k in

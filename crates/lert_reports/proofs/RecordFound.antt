@@ -1,5 +1,6 @@
 -- A payload that keeps the format is the payload of a record that keeps the rules.
-use Rattle.std.proofs.Common.{◌≡◌, ◌≢◌, ℕ, zero, suc, ◌+◌, ◌*◌, ◌<◌, ◌≤◌, ◌^◌, ◌==◌, ◌&&◌, not, max, Bool, nat_lt, true, nat_le, None, Some, List, [], ◌∷◌, ◌++◌, length, map, take, drop, get_or, refl, sym, ap, ap₂, ◌∙◌, subst, arith, append_assoc, append-nil}
+use Rattle.std.proofs.Common.{◌≡◌, ◌≢◌, ℕ, zero, suc, ◌+◌, ◌*◌, ◌<◌, ◌≤◌, ◌^◌, ◌==◌, ◌&&◌, not, max, Bool, nat_lt, true, nat_le, None, Some, List, []}
+use Rattle.std.proofs.Common.{◌∷◌, ◌++◌, length, map, take, drop, get_or, refl, sym, ap, ap₂, ◌∙◌, subst, arith, append_assoc, append-nil}
 use Rattle.std.specs.Prelude.{flat_map, slice_index, slice_index_or, Result, Ok, Err, MatchResult, IfOk}
 use Rattle.std.specs.List.{range_with_len, list_any}
 use Rattle.std.proofs.lemmas.Bool.{and_parts, leb-true, ltb-true, eqb-true, eq-eqb, not-true, both_ways}
@@ -19,7 +20,9 @@ use Rattle.lert_spec.proofs.ByteLaws.{bytes_back}
 use Rattle.lert_reports.specs.declared.log.LogBefore.{LogBefore}
 use Rattle.lert_reports.specs.declared.log.LogKind.{LogKind}
 use Rattle.lert_reports.specs.declared.log.LogParts.{LogParts}
-use Rattle.lert_reports.specs.LogText.{kind_number, directory_bytes, report_bytes, log_payload_of, log_left, left_at, number_in, n0_in, next_flush, keeps_n0, bin_count, frames_in, report_in, level_place, reports_place, report_place, reports_in, at_before, kind_field, n0_field, offset_field, first_field, head_fields, bins_field, frame_field, frame_fields, level_fields, directory_fields, count_field, key_field, at_field, report_fields, all_report_fields, end_field, ArePartsOf}
+use Rattle.lert_reports.specs.LogText.{kind_number, directory_bytes, report_bytes, log_payload_of, log_left, left_at, number_in, n0_in, next_flush, keeps_n0, bin_count, frames_in, report_in}
+use Rattle.lert_reports.specs.LogText.{level_place, reports_place, report_place, reports_in, at_before, kind_field, n0_field, offset_field, first_field, head_fields, bins_field, frame_field}
+use Rattle.lert_reports.specs.LogText.{frame_fields, level_fields, directory_fields, count_field, key_field, at_field, report_fields, all_report_fields, end_field, ArePartsOf}
 use Rattle.lert_reports.specs.LogRules.{IsInTurn, AreFrames, AreNew, KeepsRules, record_in}
 use Rattle.lert_reports.proofs.DirectoryLaws.{level_place-next, frames_within, at_before-next}
 use Rattle.lert_reports.proofs.FieldLaws.{parted, first_kept, keeps_rule, each_none}
@@ -55,7 +58,8 @@ module _ (payload : List ℕ) (small : (k : ℕ) → slice_index payload k < 256
   -- ---- the directory
 
   directory_laid : (s : Numbers) (n level : ℕ) → 1 ≤ level →
-      ((k : ℕ) → level ≤ k → k < level + n → (level_place s (n0_in payload) k + 1 + bin_count s k (n0_in payload) ≤ length payload) × (slice_index payload (level_place s (n0_in payload) k) ≡ bin_count s k (n0_in payload))) →
+      ((k : ℕ) → level ≤ k → k < level + n → (level_place s (n0_in payload) k + 1 + bin_count s k (n0_in payload) ≤ length payload)
+      × (slice_index payload (level_place s (n0_in payload) k) ≡ bin_count s k (n0_in payload))) →
       directory_bytes (map (frames_in s payload) (range_with_len level n)) ++ drop (level_place s (n0_in payload) (level + n)) payload ≡ drop (level_place s (n0_in payload) level) payload
   directory_laid s zero level some each = ap (λ k. drop (level_place s (n0_in payload) k) payload) (let same : level + 0 ≡ level = omega arith in same)
   directory_laid s (suc n) level some each =
@@ -97,7 +101,8 @@ module _ (payload : List ℕ) (small : (k : ℕ) → slice_index payload k < 256
 in_turn_back : (s : Numbers) (before : LogBefore) (kind : LogKind) (n0 : ℕ) → keeps_n0 s before (kind_number kind) n0 ≡ true → IsInTurn s before kind n0
 in_turn_back s before LogKind.Flush n0 keeps = eqb-true n0 (next_flush s before.flushes) (and_parts (nat_le n0 (capacity s)) (n0 == next_flush s before.flushes) keeps).1
 in_turn_back s before LogKind.Closing n0 keeps =
-    let turn = and_parts (nat_le before.n0 n0) (nat_lt n0 (next_flush s before.flushes)) (and_parts (nat_le n0 (capacity s)) (nat_le before.n0 n0 && nat_lt n0 (next_flush s before.flushes)) keeps).1 in
+    let turn = and_parts (nat_le before.n0 n0) (nat_lt n0 (next_flush s before.flushes))
+    (and_parts (nat_le n0 (capacity s)) (nat_le before.n0 n0 && nat_lt n0 (next_flush s before.flushes)) keeps).1 in
     (leb-true before.n0 n0 turn.0, ltb-true n0 (next_flush s before.flushes) turn.1)
 
 within_limits : (least most n : ℕ) → lies least most n ≡ true → (least ≤ n) × (n ≤ most)
@@ -133,8 +138,10 @@ module _ (s : Numbers) (payload : List ℕ) (level : ℕ) (none : left_at payloa
       keeps_rule payload (frame_field s payload start k)
       (first_kept payload (frame_field s payload start k) [] (each_none payload (λ j. frame_field s payload start j ∷ []) bins 0 frames_none k (omega arith) (omega (arith, below)))).0
 
-  rules_of : (k : ℕ) → k < bins → (nat_le (slice_index payload (start + k)) s.bins ≡ true) × (not (list_any (λ other. other == slice_index payload (start + k)) (take k (drop start payload))) ≡ true)
-  rules_of k below = and_parts (nat_le (slice_index payload (start + k)) s.bins) (not (list_any (λ other. other == slice_index payload (start + k)) (take k (drop start payload)))) (frame_keeps k below)
+  rules_of : (k : ℕ) → k < bins → (nat_le (slice_index payload (start + k)) s.bins ≡ true)
+      × (not (list_any (λ other. other == slice_index payload (start + k)) (take k (drop start payload))) ≡ true)
+  rules_of k below = and_parts (nat_le (slice_index payload (start + k)) s.bins) (not (list_any (λ other. other == slice_index payload (start + k)) (take k (drop start payload))))
+      (frame_keeps k below)
 
   -- one that stood before is refused
   not_before : (j k : ℕ) → j < k → k < bins → slice_index payload (start + j) ≢ slice_index payload (start + k)
@@ -160,7 +167,8 @@ module _ (s : Numbers) (payload : List ℕ) (level : ℕ) (none : left_at payloa
       }
 
 -- a report before others that are new behind it
-new_before : (s : Numbers) (cone n0 : ℕ) (report : Report) (reports : List Report) (earlier : ℕ) → report.key < 2 ^ 64 → cone_of s report.key ≡ cone → 1 ≤ report.at → earlier ≤ report.at → report.at ≤ n0 →
+new_before : (s : Numbers) (cone n0 : ℕ) (report : Report) (reports : List Report) (earlier : ℕ) → report.key < 2 ^ 64 → cone_of s report.key ≡ cone → 1 ≤ report.at →
+    earlier ≤ report.at → report.at ≤ n0 →
     AreNew s cone report.at n0 reports → AreNew s cone earlier n0 (report ∷ reports)
 new_before s cone n0 report reports earlier fits of_cone some later within are = record {
   fit = All-cons (λ r. r.key < 2 ^ 64) report reports fits are.fit;
@@ -171,7 +179,8 @@ new_before s cone n0 report reports earlier fits of_cone some later within are =
 }
 
 -- reports of which no field is broken
-module _ (s : Numbers) (cone : ℕ) (before : LogBefore) (payload : List ℕ) (small : (k : ℕ) → slice_index payload k < 256) (start : ℕ) (start_is : start ≡ reports_place s (n0_in payload) + 4) where
+module _ (s : Numbers) (cone : ℕ) (before : LogBefore) (payload : List ℕ) (small : (k : ℕ) → slice_index payload k < 256) (start : ℕ)
+    (start_is : start ≡ reports_place s (n0_in payload) + 4) where
   abbrev report_of : ℕ → Report
   report_of k = report_in payload (start + 16 * k)
 
@@ -198,7 +207,8 @@ module _ (s : Numbers) (cone : ℕ) (before : LogBefore) (payload : List ℕ) (s
         omega (arith, there.1, at_is),
       )
 
-  pub reports_are_new : (n k : ℕ) → ((j : ℕ) → k ≤ j → j < k + n → left_at payload (report_fields s cone before payload j) ≡ None) → AreNew s cone (at_before s before payload k) (n0_in payload) (reports_from k n)
+  pub reports_are_new : (n k : ℕ) → ((j : ℕ) → k ≤ j → j < k + n → left_at payload (report_fields s cone before payload j) ≡ None) →
+      AreNew s cone (at_before s before payload k) (n0_in payload) (reports_from k n)
   reports_are_new zero k each = record {
     fit = λ j other below. absurd (omega (arith, below));
     of_cone = λ j other below. absurd (omega (arith, below));
@@ -221,9 +231,11 @@ module _ (s : Numbers) (cone : ℕ) (before : LogBefore) (payload : List ℕ) (p
 
   -- no field of the five parts is broken
   in_four : left_at payload (head_fields s before payload ++ directory_fields s payload ++ (count_field s before payload ∷ []) ++ all_report_fields s cone before payload) ≡ None
-  in_four = (parted payload (head_fields s before payload ++ directory_fields s payload ++ (count_field s before payload ∷ []) ++ all_report_fields s cone before payload) (end_field s payload ∷ []) none).0
+  in_four = (parted payload (head_fields s before payload ++ directory_fields s payload ++ (count_field s before payload ∷ []) ++ all_report_fields s cone before payload)
+      (end_field s payload ∷ []) none).0
 
-  in_three : (left_at payload (head_fields s before payload ++ directory_fields s payload ++ (count_field s before payload ∷ [])) ≡ None) × (left_at payload (all_report_fields s cone before payload) ≡ None)
+  in_three : (left_at payload (head_fields s before payload ++ directory_fields s payload ++ (count_field s before payload ∷ [])) ≡ None)
+      × (left_at payload (all_report_fields s cone before payload) ≡ None)
   in_three = parted payload (head_fields s before payload ++ directory_fields s payload ++ (count_field s before payload ∷ [])) (all_report_fields s cone before payload) in_four
 
   in_two : (left_at payload (head_fields s before payload ++ directory_fields s payload) ≡ None) × (left_at payload (count_field s before payload ∷ []) ≡ None)
@@ -290,7 +302,8 @@ module _ (s : Numbers) (cone : ℕ) (before : LogBefore) (payload : List ℕ) (p
     levels = length-map-range_with_len (frames_in s payload) 1 s.levels;
     frames = λ k below. subst (λ n. AreFrames s (k + 1) n (slice_index_or (map (frames_in s payload) (range_with_len 1 s.levels)) k [])) (sym are.n0_is) (level_frames k below);
     room = omega (arith, room_keeps, are.reports_are, reports_count);
-    reports = subst (λ n. AreNew s cone before.at n (record_in s payload parts).reports) (sym are.n0_is) (reports_are_new s cone before payload small parts.reports_at start_is parts.reports 0 report_none);
+    reports = subst (λ n. AreNew s cone before.at n (record_in s payload parts).reports) (sym are.n0_is)
+        (reports_are_new s cone before payload small parts.reports_at start_is parts.reports 0 report_none);
   }
 
   -- its bytes, from the last to the first

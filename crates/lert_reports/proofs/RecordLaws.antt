@@ -1,6 +1,7 @@
 -- The law that joins writing and reading: the payload of a record that keeps the rules leaves the format nowhere, and the
 -- parts of a payload of a record say what the record says.
-use Rattle.std.proofs.Common.{◌≡◌, ℕ, ◌+◌, ◌-◌, ◌*◌, ◌<◌, ◌≤◌, ◌^◌, ◌&&◌, true, None, Some, List, [], ◌∷◌, ◌++◌, length, map, refl, sym, ap, ap₂, ◌∙◌, subst, arith, length-append, append_assoc, zero-add}
+use Rattle.std.proofs.Common.{◌≡◌, ℕ, ◌+◌, ◌-◌, ◌*◌, ◌<◌, ◌≤◌, ◌^◌, ◌&&◌, true, None, Some, List, [], ◌∷◌, ◌++◌, length, map, refl, sym, ap, ap₂}
+use Rattle.std.proofs.Common.{◌∙◌, subst, arith, length-append, append_assoc, zero-add}
 use Rattle.std.specs.Prelude.{flat_map, slice_index, slice_index_or, Result, Ok, Err, MatchResult, IsOkAnd}
 use Rattle.std.specs.List.{range_with_len}
 use Rattle.std.proofs.Math.Nat.{mul-div-le}
@@ -16,7 +17,9 @@ use Rattle.lert_spec.specs.Limits.{IsValid, lies}
 use Rattle.lert_reports.specs.declared.log.LogBefore.{LogBefore}
 use Rattle.lert_reports.specs.declared.log.LogKind.{LogKind}
 use Rattle.lert_reports.specs.declared.log.LogParts.{LogParts}
-use Rattle.lert_reports.specs.LogText.{LogRecord, kind_number, directory_bytes, report_bytes, log_payload_of, log_left, left_at, number_in, n0_in, next_flush, keeps_n0, kind_field, n0_field, offset_field, first_field, head_fields, directory_fields, count_field, all_report_fields, end_field, level_place, level_fields, reports_place, reports_in, report_place, report_fields, log_end, frames_in, report_in, ArePartsOf}
+use Rattle.lert_reports.specs.LogText.{LogRecord, kind_number, directory_bytes, report_bytes, log_payload_of, log_left, left_at, number_in, n0_in, next_flush, keeps_n0, kind_field, n0_field}
+use Rattle.lert_reports.specs.LogText.{offset_field, first_field, head_fields, directory_fields, count_field, all_report_fields, end_field, level_place, level_fields, reports_place, reports_in}
+use Rattle.lert_reports.specs.LogText.{report_place, report_fields, log_end, frames_in, report_in, ArePartsOf}
 use Rattle.lert_reports.specs.LogRules.{IsInTurn, KeepsRules, TellOf, record_in}
 use Rattle.lert_reports.proofs.FieldLaws.{good, kept, none_left, in_last}
 use Rattle.lert_reports.proofs.PlaceLaws.{Stands, stands_behind, byte_there, number_there}
@@ -70,7 +73,8 @@ module _ (payload rest : List ℕ) (kind n0 offset first : ℕ) where
 abbrev behind_head : LogRecord → List ℕ
 behind_head record_ = directory_bytes record_.directory ++ (little_bytes 4 (length record_.reports) ++ flat_map report_bytes record_.reports)
 
-head_of : (record_ : LogRecord) (payload : List ℕ) → payload ≡ log_payload_of record_ → HasHead payload (behind_head record_) (kind_number record_.kind) record_.n0 record_.offset record_.first
+head_of : (record_ : LogRecord) (payload : List ℕ) → payload ≡ log_payload_of record_ →
+    HasHead payload (behind_head record_) (kind_number record_.kind) record_.n0 record_.offset record_.first
 head_of record_ payload is =
     has_head payload (behind_head record_) (kind_number record_.kind) record_.n0 record_.offset record_.first
     (is ∙ ap (λ rest. kind_number record_.kind ∷ (little_bytes 8 record_.n0 ++ (little_bytes 8 record_.offset ++ (little_bytes 8 record_.first ++ rest))))
@@ -121,14 +125,16 @@ n0_small s n0 valid within = omega (arith, valid.positions_fit, within)
 first_small : (s : Numbers) (n0 first : ℕ) → IsValid s → n0 ≤ capacity s → first ≤ edge s 0 n0 + 1 → first < 2 ^ 64
 first_small s n0 first valid within low = omega (arith, n0_small s n0 valid within, low, mul-div-le (n0 - offset s 0) (span s 0))
 
-laid : (s : Numbers) (cone : ℕ) (before : LogBefore) (record_ : LogRecord) (payload : List ℕ) → IsValid s → KeepsRules s cone before record_ → payload ≡ log_payload_of record_ → IsLaid s record_ payload
+laid : (s : Numbers) (cone : ℕ) (before : LogBefore) (record_ : LogRecord) (payload : List ℕ) → IsValid s → KeepsRules s cone before record_ → payload ≡ log_payload_of record_ →
+    IsLaid s record_ payload
 laid s cone before record_ payload valid rules is =
     let directory = directory_bytes record_.directory in
     let count = little_bytes 4 (length record_.reports) in
     let reports = flat_map report_bytes record_.reports in
     let head : Begins payload (behind_head record_) (kind_number record_.kind) record_.n0 record_.offset record_.first =
     begins payload (behind_head record_) (kind_number record_.kind) record_.n0 record_.offset record_.first
-    (omega (arith, n0_small s record_.n0 valid rules.within)) (omega (arith, rules.offset_to)) (first_small s record_.n0 record_.first valid rules.within rules.first_to) (head_of record_ payload is) in
+    (omega (arith, n0_small s record_.n0 valid rules.within)) (omega (arith, rules.offset_to)) (first_small s record_.n0 record_.first valid rules.within rules.first_to)
+    (head_of record_ payload is) in
     let frames_are = λ (k : ℕ) (below : k < length record_.directory). rules.frames k (omega (arith, below, rules.levels)) in
     let place_is : level_place s record_.n0 (1 + length record_.directory) ≡ reports_place s (n0_in payload) =
     ap₂ (level_place s) (sym head.n0_is) (let same : 1 + length record_.directory ≡ s.levels + 1 = omega (arith, rules.levels) in same) in
@@ -150,7 +156,8 @@ length_reports [] = refl
 length_reports (report ∷ reports) = omega (arith, length-append (report_bytes report) (flat_map report_bytes reports), length_reports reports)
 
 -- a record that keeps the rules leaves the format nowhere
-pub never_left : (s : Numbers) (cone : ℕ) (before : LogBefore) (record_ : LogRecord) (payload : List ℕ) → IsValid s → KeepsRules s cone before record_ → payload ≡ log_payload_of record_ → log_left s cone before payload ≡ None
+pub never_left : (s : Numbers) (cone : ℕ) (before : LogBefore) (record_ : LogRecord) (payload : List ℕ) → IsValid s → KeepsRules s cone before record_ →
+    payload ≡ log_payload_of record_ → log_left s cone before payload ≡ None
 never_left s cone before record_ payload valid rules is =
     let as_laid = laid s cone before record_ payload valid rules is in
     let count = count_field s before payload in
@@ -168,7 +175,8 @@ never_left s cone before record_ payload valid rules is =
     (subst (λ n. left_at payload (flat_map (report_fields s cone before payload) (range_with_len 0 n)) ≡ None) (sym reports_are)
     (reports_good s cone before payload record_.n0 (sym as_laid.head.n0_is) (omega (arith, n0_small s record_.n0 valid rules.within)) record_.reports 0 rules.reports first_stands))
     (kept payload end [] None
-    (good payload end (omega (arith, as_laid.reports_stand.within, length_reports record_.reports, reports_are)) (le-leb (length payload) (log_end s payload) (omega (arith, as_laid.reports_stand.within, length_reports record_.reports, reports_are))))
+    (good payload end (omega (arith, as_laid.reports_stand.within, length_reports record_.reports, reports_are))
+    (le-leb (length payload) (log_end s payload) (omega (arith, as_laid.reports_stand.within, length_reports record_.reports, reports_are))))
     (none_left payload))
 
 same_kind : (one other : LogKind) → kind_number one ≡ kind_number other → one ≡ other
@@ -178,7 +186,8 @@ same_kind LogKind.Closing LogKind.Flush is = absurd (omega (arith, is))
 same_kind LogKind.Closing LogKind.Closing is = refl
 
 -- the parts of its payload say what it says
-pub parts_tell : (s : Numbers) (cone : ℕ) (before : LogBefore) (record_ : LogRecord) (payload : List ℕ) (parts : LogParts) → IsValid s → KeepsRules s cone before record_ → payload ≡ log_payload_of record_ → ArePartsOf s payload parts → TellOf record_ parts
+pub parts_tell : (s : Numbers) (cone : ℕ) (before : LogBefore) (record_ : LogRecord) (payload : List ℕ) (parts : LogParts) → IsValid s → KeepsRules s cone before record_ →
+    payload ≡ log_payload_of record_ → ArePartsOf s payload parts → TellOf record_ parts
 parts_tell s cone before record_ payload parts valid rules is are =
     let as_laid = laid s cone before record_ payload valid rules is in
     record {
@@ -194,7 +203,8 @@ parts_tell s cone before record_ payload parts valid rules is are =
 -- ---- what is read of it by its parts
 
 -- the frames of a level
-pub frames_read : (s : Numbers) (cone : ℕ) (before : LogBefore) (record_ : LogRecord) (payload : List ℕ) (level : ℕ) → IsValid s → KeepsRules s cone before record_ → payload ≡ log_payload_of record_ → 1 ≤ level → level ≤ s.levels →
+pub frames_read : (s : Numbers) (cone : ℕ) (before : LogBefore) (record_ : LogRecord) (payload : List ℕ) (level : ℕ) → IsValid s → KeepsRules s cone before record_ →
+    payload ≡ log_payload_of record_ → 1 ≤ level → level ≤ s.levels →
     frames_in s payload level ≡ slice_index_or record_.directory (level - 1) []
 frames_read s cone before record_ payload level valid rules is first last =
     let as_laid = laid s cone before record_ payload valid rules is in
@@ -204,13 +214,15 @@ frames_read s cone before record_ payload level valid rules is first last =
     (λ k less. rules.frames k (omega (arith, less, rules.levels))) as_laid.head.behind (sym as_laid.head.n0_is) (level - 1) below
 
 -- and a report
-pub report_read : (s : Numbers) (cone : ℕ) (before : LogBefore) (record_ : LogRecord) (payload : List ℕ) (parts : LogParts) (k : ℕ) (other : Report) → IsValid s → KeepsRules s cone before record_ → payload ≡ log_payload_of record_ → TellOf record_ parts → k < parts.reports →
+pub report_read : (s : Numbers) (cone : ℕ) (before : LogBefore) (record_ : LogRecord) (payload : List ℕ) (parts : LogParts) (k : ℕ) (other : Report) → IsValid s →
+    KeepsRules s cone before record_ → payload ≡ log_payload_of record_ → TellOf record_ parts → k < parts.reports →
     report_in payload (parts.reports_at + 16 * k) ≡ slice_index_or record_.reports k other
 report_read s cone before record_ payload parts k other valid rules is tell below =
     let count = little_bytes 4 (length record_.reports) in
     let reports = flat_map report_bytes record_.reports in
     let directory = directory_bytes record_.directory in
-    let from_count : Stands payload (25 + length directory) (count ++ reports) = stands_behind payload directory (count ++ reports) 25 (25 + length directory) refl (head_of record_ payload is).behind in
+    let from_count : Stands payload (25 + length directory) (count ++ reports) =
+    stands_behind payload directory (count ++ reports) 25 (25 + length directory) refl (head_of record_ payload is).behind in
     let from_reports : Stands payload parts.reports_at reports = stands_behind payload count reports (25 + length directory) parts.reports_at (omega (arith, tell.place_is)) from_count in
     let among : k < length record_.reports = omega (arith, below, tell.reports_are) in
     let found = report_stands payload record_.reports parts.reports_at k other from_reports among in
@@ -218,7 +230,8 @@ report_read s cone before record_ payload parts k other valid rules is tell belo
     report_back payload found.0 (parts.reports_at + 16 * k) (slice_index_or record_.reports k other) (rules.reports.fit k other among) at_fits found.1
 
 -- so the record that is read is the one that was written
-pub record_back : (s : Numbers) (cone : ℕ) (before : LogBefore) (record_ : LogRecord) (payload : List ℕ) (parts : LogParts) → IsValid s → KeepsRules s cone before record_ → payload ≡ log_payload_of record_ → ArePartsOf s payload parts →
+pub record_back : (s : Numbers) (cone : ℕ) (before : LogBefore) (record_ : LogRecord) (payload : List ℕ) (parts : LogParts) → IsValid s → KeepsRules s cone before record_ →
+    payload ≡ log_payload_of record_ → ArePartsOf s payload parts →
     record_in s payload parts ≡ record_
 record_back s cone before record_ payload parts valid rules is are =
     let tell = parts_tell s cone before record_ payload parts valid rules is are in
@@ -262,7 +275,8 @@ parts_of record_ = record {
 }
 
 -- they are those of its payload
-pub parts_stand : (s : Numbers) (cone : ℕ) (before : LogBefore) (record_ : LogRecord) (payload : List ℕ) → IsValid s → KeepsRules s cone before record_ → payload ≡ log_payload_of record_ → ArePartsOf s payload (parts_of record_)
+pub parts_stand : (s : Numbers) (cone : ℕ) (before : LogBefore) (record_ : LogRecord) (payload : List ℕ) → IsValid s → KeepsRules s cone before record_ →
+    payload ≡ log_payload_of record_ → ArePartsOf s payload (parts_of record_)
 parts_stand s cone before record_ payload valid rules is =
     let as_laid = laid s cone before record_ payload valid rules is in
     record {

@@ -1,5 +1,6 @@
 -- A whole log: its header, the records of its open gates, and the first place at which it leaves the format.
-use Rattle.std.specs.Prelude.{◌≡◌, ◌≢◌, ℕ, ◌+◌, ◌*◌, ◌<◌, ◌≤◌, Bool, true, false, List, [], ◌∷◌, ◌++◌, length, map, flat_map, fold, replicate, count_by, slice_index, Some}
+use Rattle.std.specs.Prelude.{◌≡◌, ◌≢◌, ℕ, ◌+◌, ◌*◌, ◌<◌, ◌≤◌, Bool, true, false, List, [], ◌∷◌, ◌++◌, length, map, flat_map, fold, replicate, count_by}
+use Rattle.std.specs.Prelude.{slice_index, Some}
 use Rattle.std.specs.List.{AllPairs, range_with_len}
 use Rattle.std.proofs.Common.{◌⊎◌}
 use Rattle.lert_bay.specs.Settled.{part}

@@ -1,5 +1,6 @@
 -- The payload of a record in a log, and the first place at which a payload leaves the format.
-use Rattle.std.specs.Prelude.{◌≡◌, ◌≤◌, ℕ, ◌+◌, ◌-◌, ◌*◌, ◌/◌, ◌^◌, ◌==◌, ◌&&◌, ◌||◌, nat_lt, nat_le, not, min, max, Bool, List, [], ◌∷◌, ◌++◌, length, take, drop, flat_map, find, count_by, sum_by, slice_index, Option, option_map, if◌then◌else◌}
+use Rattle.std.specs.Prelude.{◌≡◌, ◌≤◌, ℕ, ◌+◌, ◌-◌, ◌*◌, ◌/◌, ◌^◌, ◌==◌, ◌&&◌, ◌||◌, nat_lt, nat_le, not, min, max, Bool, List, [], ◌∷◌}
+use Rattle.std.specs.Prelude.{◌++◌, length, take, drop, flat_map, find, count_by, sum_by, slice_index, Option, option_map, if◌then◌else◌}
 use Rattle.std.specs.List.{range_with_len, list_any}
 use Rattle.byteorder.specs.Endian.{little_number, little_bytes}
 use Rattle.lert_spec.specs.declared.numbers.Numbers.{Numbers}

@@ -1,5 +1,6 @@
 -- Where a check of the frames stops: at the first bin of the first level that leaves its format.
-use Rattle.std.proofs.Common.{ℕ, ◌≡◌, ◌+◌, ◌-◌, ◌^◌, ◌<◌, ◌≤◌, suc, List, [], ◌∷◌, ◌++◌, length, map, get_or, take, drop, Option, Some, None, refl, ap, ap₂, sym, ◌∙◌, ◌⊎◌, arith, inl, inr, subst, lit<, Result, append-nil, length-take}
+use Rattle.std.proofs.Common.{ℕ, ◌≡◌, ◌+◌, ◌-◌, ◌^◌, ◌<◌, ◌≤◌, suc, List, [], ◌∷◌, ◌++◌, length, map, get_or, take, drop, Option, Some, None, refl, ap}
+use Rattle.std.proofs.Common.{ap₂, sym, ◌∙◌, ◌⊎◌, arith, inl, inr, subst, lit<, Result, append-nil, length-take}
 use Rattle.std.specs.Prelude.{Ok, Err, IfErr, IsErrAnd, OnOk, IsErrOf}
 use Rattle.std.specs.List.{All}
 use Rattle.std.proofs.Math.Nat.{pow-le-pow_right}
@@ -53,14 +54,17 @@ module _ (f : BinAt → Option ℕ) (row : List BinAt) (i : ℕ) (d : BinAt) (be
 
 -- ---- the rows
 
-bins_left-append : (s : Numbers) (file : List ℕ) (level : ℕ) (rows others : List (List BinAt)) → bins_left s file level (rows ++ others) ≡ bins_left s file level rows ++ bins_left s file (level + length rows) others
+bins_left-append : (s : Numbers) (file : List ℕ) (level : ℕ) (rows others : List (List BinAt)) → bins_left s file level (rows ++ others) ≡ bins_left s file level rows
+    ++ bins_left s file (level + length rows) others
 bins_left-append s file level [] others = ap (λ l. bins_left s file l others) (let same : level ≡ level + 0 = omega arith in same)
 bins_left-append s file level (row ∷ rows) others =
     ap (λ left. map (bin_left s file level) row ++ left) (bins_left-append s file (suc level) rows others)
     ∙ sym (append_assoc (map (bin_left s file level) row) (bins_left s file (suc level) rows) (bins_left s file (suc level + length rows) others))
-    ∙ ap (λ l. (map (bin_left s file level) row ++ bins_left s file (suc level) rows) ++ bins_left s file l others) (let same : suc level + length rows ≡ level + suc (length rows) = omega arith in same)
+    ∙ ap (λ l. (map (bin_left s file level) row ++ bins_left s file (suc level) rows) ++ bins_left s file l others) (let same : suc level + length rows ≡ level + suc (length rows) =
+    omega arith in same)
 
-module _ (s : Numbers) (file : List ℕ) (rows : List (List BinAt)) (i : ℕ) (now : List BinAt) (here : get_or rows i [] ≡ now) (below : i < length rows) (so_far : rows_left s file (take i rows) ≡ None) where
+module _ (s : Numbers) (file : List ℕ) (rows : List (List BinAt)) (i : ℕ) (now : List BinAt) (here : get_or rows i [] ≡ now) (below : i < length rows)
+    (so_far : rows_left s file (take i rows) ≡ None) where
   level_is : 1 + length (take i rows) ≡ i + 1
   level_is = omega (arith, length-take i rows)
 
@@ -92,28 +96,34 @@ few_pieces : (limit width : ℕ) (pieces : List Piece) → IsBin limit width pie
 few_pieces limit width pieces bin few = omega (arith, length_le-total 0 limit pieces bin.given.table, bin.summed, few)
 
 -- what was read of a bin's frame is what the file says there
-pub read_stands : (s : Numbers) (level : ℕ) (file : List ℕ) (bin : BinAt) (pieces : List Piece) → width_of bin < 2 ^ 32 → IsBin (tail_limit s) (width_of bin) pieces → HoldsFrame (frame_place s level bin.frame) file pieces →
+pub read_stands : (s : Numbers) (level : ℕ) (file : List ℕ) (bin : BinAt) (pieces : List Piece) → width_of bin < 2 ^ 32 → IsBin (tail_limit s) (width_of bin) pieces →
+    HoldsFrame (frame_place s level bin.frame) file pieces →
     Stands s level file (pieces_in s file level) bin
 read_stands s level file bin pieces few is holds =
     let same = pieces_are (tail_limit s) (width_of bin) (frame_place s level bin.frame) file pieces is holds (limit_fits s) (few_pieces (tail_limit s) (width_of bin) pieces is few) in
     record { are = subst (IsBin (tail_limit s) (width_of bin)) same is; text = subst (HoldsFrame (frame_place s level bin.frame) file) same holds }
 
 -- a bin that stands leaves its format nowhere
-stands_whole : (s : Numbers) (level : ℕ) (file : List ℕ) (held : BinAt → List Piece) (bin : BinAt) → width_of bin < 2 ^ 32 → Stands s level file held bin → bin_left s file level bin ≡ None
+stands_whole : (s : Numbers) (level : ℕ) (file : List ℕ) (held : BinAt → List Piece) (bin : BinAt) → width_of bin < 2 ^ 32 → Stands s level file held bin →
+    bin_left s file level bin ≡ None
 stands_whole s level file held bin few stands =
-    frame_whole (tail_limit s) (width_of bin) (frame_place s level bin.frame) file (held bin) stands.are stands.text (limit_fits s) (few_pieces (tail_limit s) (width_of bin) (held bin) stands.are few)
+    frame_whole (tail_limit s) (width_of bin) (frame_place s level bin.frame) file (held bin) stands.are stands.text (limit_fits s)
+    (few_pieces (tail_limit s) (width_of bin) (held bin) stands.are few)
 
 row_whole : (f : BinAt → Option ℕ) (row : List BinAt) → All (λ bin. f bin ≡ None) row → first_of (map f row) ≡ None
 row_whole f [] whole = refl
 row_whole f (bin ∷ row) whole =
     ap (λ left. first_of (left ∷ map f row)) (All-head (λ b. f b ≡ None) bin row whole) ∙ row_whole f row (All-tail (λ b. f b ≡ None) bin row whole)
 
-rows_whole : (s : Numbers) (file : List ℕ) (level : ℕ) (rows : List (List BinAt)) → ((k : ℕ) → k < length rows → All (λ bin. bin_left s file (level + k) bin ≡ None) (get_or rows k [])) → first_of (bins_left s file level rows) ≡ None
+rows_whole : (s : Numbers) (file : List ℕ) (level : ℕ) (rows : List (List BinAt)) →
+    ((k : ℕ) → k < length rows → All (λ bin. bin_left s file (level + k) bin ≡ None) (get_or rows k [])) → first_of (bins_left s file level rows) ≡ None
 rows_whole s file level [] whole = refl
 rows_whole s file level (row ∷ rows) whole =
-    let here : All (λ bin. bin_left s file level bin ≡ None) row = subst (λ l. All (λ bin. bin_left s file l bin ≡ None) row) (let same : level + 0 ≡ level = omega arith in same) (whole 0 (omega arith)) in
+    let here : All (λ bin. bin_left s file level bin ≡ None) row = subst (λ l. All (λ bin. bin_left s file l bin ≡ None) row) (let same : level + 0 ≡ level = omega arith in same)
+    (whole 0 (omega arith)) in
     first_behind (map (bin_left s file level) row) (bins_left s file (suc level) rows) (row_whole (bin_left s file level) row here)
-    ∙ rows_whole s file (suc level) rows (λ k below. subst (λ l. All (λ bin. bin_left s file l bin ≡ None) (get_or rows k [])) (let same : level + suc k ≡ suc level + k = omega arith in same) (whole (suc k) (omega arith)))
+    ∙ rows_whole s file (suc level) rows (λ k below. subst (λ l. All (λ bin. bin_left s file l bin ≡ None) (get_or rows k [])) (let same : level + suc k ≡ suc level + k = omega arith in
+    same) (whole (suc k) (omega arith)))
 
 -- bins of rows that all stand leave their format nowhere
 pub all_whole : (s : Numbers) (rows : List (List BinAt)) (file : List ℕ) (held : BinAt → List Piece) → AreRows s rows → AllStand s file held rows → rows_left s file rows ≡ None
@@ -128,7 +138,8 @@ all_whole s rows file held are stand =
 
 -- ---- what an answer says of the frames says of the answer
 
-pub check_refuses : {T : Type 0} (result : Result T FlushFault) (left : Option ℕ) (at : ℕ) → left ≡ Some at → OnOk result (left ≡ None) → ((spot : ℕ) → IsErrOf result (Malformed spot) → left ≡ Some spot) →
+pub check_refuses : {T : Type 0} (result : Result T FlushFault) (left : Option ℕ) (at : ℕ) → left ≡ Some at → OnOk result (left ≡ None) →
+    ((spot : ℕ) → IsErrOf result (Malformed spot) → left ≡ Some spot) →
     IsErrAnd result (λ fault. (fault ≡ Malformed at) ⊎ ((fault ≡ Failed) ⊎ (fault ≡ OutOfMemory)))
 check_refuses (Ok found) left at is whole malformed = absurd (none-some at (sym whole ∙ is))
 check_refuses (Err Failed) left at is whole malformed = inr (inl refl)
@@ -147,7 +158,8 @@ check_passes (Err (Malformed spot)) left none malformed = absurd (none-some spot
 
 -- ---- what a caller sees of the rows
 
-pub lent_rows : {V : Type 0} (items : V → List BinAt) (s : Numbers) (rows lent : List V) → AreRows s (map items rows) → lent ≡ rows → (k : ℕ) → k < length lent → IsRow s (k + 1) (get_or (map items lent) k [])
+pub lent_rows : {V : Type 0} (items : V → List BinAt) (s : Numbers) (rows lent : List V) → AreRows s (map items rows) → lent ≡ rows → (k : ℕ) → k < length lent →
+    IsRow s (k + 1) (get_or (map items lent) k [])
 lent_rows {V} items s rows lent are lent_is k below =
     let place : k + 1 - 1 ≡ k = omega arith in
     subst (λ (rs : List V). IsRow s (k + 1) (get_or (map items rs) k [])) (sym lent_is)

@@ -1,5 +1,6 @@
 -- What the bins of several levels count together, and what the new bins of a flush hold.
-use Rattle.std.proofs.Common.{ℕ, ◌≡◌, ◌+◌, ◌-◌, ◌^◌, ◌≤◌, zero, suc, List, [], ◌∷◌, ◌++◌, length, map, get_or, take, ap, sym, ◌∙◌, arith, subst, sum_by, flat_map, slice_range, append-nil}
+use Rattle.std.proofs.Common.{ℕ, ◌≡◌, ◌+◌, ◌-◌, ◌^◌, ◌≤◌, zero, suc, List, [], ◌∷◌, ◌++◌, length, map, get_or, take, ap, sym, ◌∙◌, arith, subst, sum_by}
+use Rattle.std.proofs.Common.{flat_map, slice_range, append-nil}
 use Rattle.std.proofs.lemmas.Grind.{flat_map-append}
 use Rattle.std.proofs.lemmas.List.{take_more, take_all}
 use Rattle.std.proofs.lemmas.List.Sums.{sum_by-append}
@@ -53,7 +54,8 @@ module _ (s : Numbers) (valid : IsValid s) where
       ∙ ranges_cover s events tail n (suc level) base ratio (omega arith)
       ∙ ap (λ k. counted s events tail (edge s (suc level) n) (edge s k n)) (let same : suc level - 1 ≡ level = omega arith in same) in
       let joined = counted-join s events tail (edge s (suc level) n) (edge s level n) (edge s 0 n) (descends_from level n) (below_youngest level n) in
-      let parts : sum_by (of_tail tail) (held_in (tallied_in s events) (take (suc level) rows)) ≡ sum_by (of_tail tail) (held_in (tallied_in s events) (take level rows)) + sum_by (of_tail tail) (lists row) =
+      let parts : sum_by (of_tail tail) (held_in (tallied_in s events) (take (suc level) rows)) ≡ sum_by (of_tail tail) (held_in (tallied_in s events) (take level rows))
+      + sum_by (of_tail tail) (lists row) =
       ap (λ rs. sum_by (of_tail tail) (flat_map lists rs)) more
       ∙ ap (sum_by (of_tail tail)) (flat_map-append lists (take level rows) (row ∷ []) ∙ ap (λ rest. flat_map lists (take level rows) ++ rest) (append-nil (lists row)))
       ∙ sum_by-append (of_tail tail) (flat_map lists (take level rows)) (lists row) in
@@ -61,7 +63,8 @@ module _ (s : Numbers) (valid : IsValid s) where
 
   -- with those of level 0 above its edge they count all behind the older edge
   pub all_cover : (events : List ℕ) (tail n : ℕ) (rows : List (List BinAt)) → IsAt s n rows → n ≤ length events → (level : ℕ) → level ≤ s.levels →
-      sum_by (of_tail tail) (map (λ (bin : Bin). bin.pieces) (young_bins s events (edge s 0 n)) ++ held_in (tallied_in s events) (take level rows)) ≡ counted s events tail (edge s level n) (length events)
+      sum_by (of_tail tail) (map (λ (bin : Bin). bin.pieces) (young_bins s events (edge s 0 n)) ++ held_in (tallied_in s events) (take level rows))
+      ≡ counted s events tail (edge s level n) (length events)
   all_cover events tail n rows at within level reached =
       let young = young_bins s events (edge s 0 n) in
       let pieces = λ (bin : Bin). bin.pieces in
@@ -74,7 +77,8 @@ module _ (s : Numbers) (valid : IsValid s) where
 
   -- the totals of the flush at m
   pub flush_totals : (events : List ℕ) (m : ℕ) (rows : List (List BinAt)) (pieces : List Piece) → IsAt s (m - 1) rows → length events ≡ m → IsTable (2 ^ (64 - s.cone_bits)) pieces →
-      ((tail : ℕ) → count_of pieces tail ≡ sum_by (of_tail tail) (map (λ (bin : Bin). bin.pieces) (young_bins s events (edge s 0 (m - 1))) ++ held_in (tallied_in s events) (take (depth s m) rows))) →
+      ((tail : ℕ) → count_of pieces tail ≡ sum_by (of_tail tail) (map (λ (bin : Bin). bin.pieces) (young_bins s events (edge s 0 (m - 1)))
+      ++ held_in (tallied_in s events) (take (depth s m) rows))) →
       pieces ≡ tallied s (slice_range events (lookback s m) m)
   flush_totals events m rows pieces at len table sums =
       window_table s events (lookback s m) m pieces table
@@ -82,8 +86,10 @@ module _ (s : Numbers) (valid : IsValid s) where
       ∙ ap (counted s events tail (lookback s m)) len)
 
   -- the totals of all events
-  pub scan_totals : (events : List ℕ) (rows : List (List BinAt)) (pieces : List Piece) → IsAt s (length events) rows → length events ≤ capacity s → IsTable (2 ^ (64 - s.cone_bits)) pieces →
-      ((tail : ℕ) → count_of pieces tail ≡ sum_by (of_tail tail) (map (λ (bin : Bin). bin.pieces) (young_bins s events (edge s 0 (length events))) ++ held_in (tallied_in s events) (take s.levels rows))) →
+  pub scan_totals : (events : List ℕ) (rows : List (List BinAt)) (pieces : List Piece) → IsAt s (length events) rows → length events ≤ capacity s →
+      IsTable (2 ^ (64 - s.cone_bits)) pieces →
+      ((tail : ℕ) → count_of pieces tail ≡ sum_by (of_tail tail) (map (λ (bin : Bin). bin.pieces) (young_bins s events (edge s 0 (length events)))
+      ++ held_in (tallied_in s events) (take s.levels rows))) →
       pieces ≡ tallied s events
   scan_totals events rows pieces at fits table sums =
       let n = length events in

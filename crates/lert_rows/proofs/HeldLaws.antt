@@ -59,7 +59,8 @@ module _ (s : Numbers) (base : 1 ≤ s.base) (ratio : 1 ≤ s.ratio) (n : ℕ) w
       let next : suc k ≡ k + 1 = omega arith in
       let are : map range_of row ≡ ranges s n (k + 1) = ap (λ j. map range_of (get_or rows j [])) (sym place) ∙ at.each (k + 1) (omega arith) (omega arith) in
       let wide = span s (k + 1) in
-      let cuts = All-ranges (IsCut wide (edge s (k + 1 - 1) n)) row (subst (All (IsCut wide (edge s (k + 1 - 1) n))) (sym are) (cuts_are wide (edge s (k + 1) n) (edge s (k + 1 - 1) n) 0 (suc (n / wide)))) in
+      let cuts = All-ranges (IsCut wide (edge s (k + 1 - 1) n)) row (subst (All (IsCut wide (edge s (k + 1 - 1) n))) (sym are)
+      (cuts_are wide (edge s (k + 1) n) (edge s (k + 1 - 1) n) 0 (suc (n / wide)))) in
       let above = All-ranges (λ range. edge s (k + 1) n ≤ range.from) row (subst (All (λ (range : Range). edge s (k + 1) n ≤ range.from)) (sym are) (ranges_above (k + 1))) in
       λ i d below.
       let cut = cuts i d below in

@@ -1,5 +1,6 @@
 -- Calls that write some frames and leave the rest, one after the other.
-use Rattle.std.proofs.Common.{ℕ, ◌≡◌, ◌≢◌, ◌+◌, ◌<◌, ◌≤◌, List, [], length, take, get_or, refl, ap, sym, ◌∙◌, arith, inl, inr, ◌⊎◌, subst, Option, Some, Result, length-take, length-drop}
+use Rattle.std.proofs.Common.{ℕ, ◌≡◌, ◌≢◌, ◌+◌, ◌<◌, ◌≤◌, List, [], length, take, get_or, refl, ap, sym, ◌∙◌, arith, inl, inr, ◌⊎◌, subst, Option, Some}
+use Rattle.std.proofs.Common.{Result, length-take, length-drop}
 use Rattle.std.specs.Prelude.{Ok, Err, OnOk, OnErr}
 use Rattle.std.proofs.lemmas.Bool.{cases_eq, cases_lt}
 use Rattle.lert_bay.specs.declared.bay.TheConstants.{FRAMES}
@@ -27,7 +28,8 @@ use Rattle.lert_rows.proofs.RowLaws.{lowest_is_free}
 leaves_fewer : (kept fewer : ℕ → ℕ → Type 0) (old new : Files) → ((from to : ℕ) → fewer from to → kept from to) → LeavesRest kept old new → LeavesRest fewer old new
 leaves_fewer kept fewer old new weaker leaves = record { others = leaves.others; longer = leaves.longer; rest = λ from to kept_here within. leaves.rest from to (weaker from to kept_here) within }
 
-pub turns_fewer : (kept fewer : ℕ → ℕ → Type 0) (before after : Option Files) → ((from to : ℕ) → fewer from to → kept from to) → Turns (LeavesRest kept) before after → Turns (LeavesRest fewer) before after
+pub turns_fewer : (kept fewer : ℕ → ℕ → Type 0) (before after : Option Files) → ((from to : ℕ) → fewer from to → kept from to) → Turns (LeavesRest kept) before after →
+    Turns (LeavesRest fewer) before after
 turns_fewer kept fewer before after weaker turned = record {
   told = λ old told. let then = turned.told old told in (then.0, then.1, leaves_fewer kept fewer old then.0 weaker then.2);
   untold = turned.untold;
@@ -44,7 +46,8 @@ rest_none bays lawful kept bay = record {
 }
 
 -- a range that doesn't reach past the end of a file that got no shorter, and reads the same
-settled_middle : (kept : ℕ → ℕ → Type 0) (leaves_before leaves_middle : Files → Type 0) (since : ℕ → Files → Type 0) (first : ℕ) (old middle : Files) (number from to : ℕ) → (number ≢ FRAMES) ⊎ kept from to → LeavesRest kept old middle →
+settled_middle : (kept : ℕ → ℕ → Type 0) (leaves_before leaves_middle : Files → Type 0) (since : ℕ → Files → Type 0) (first : ℕ) (old middle : Files) (number from to : ℕ) →
+    (number ≢ FRAMES) ⊎ kept from to → LeavesRest kept old middle →
     ((image : Files) → leaves_middle image → since first image) → IsSettled leaves_before old number from to → Keeps (since first) old number from to →
     IsSettled leaves_middle middle number from to × (part (middle number) from to ≡ part (old number) from to)
 settled_middle kept leaves_before leaves_middle since first old middle number from to may leaves now settled keeps =
@@ -101,7 +104,8 @@ rest_fewer bays kept fewer before after weaker keeps = record {
 
 -- ---- the write of one frame
 
-torn_rest : (s : Numbers) (level frame count : ℕ) (old new : Files) → count ≤ frame_len s level → ((number : ℕ) → number ≢ FRAMES → new number ≡ old number) → Torn (frame_place s level frame) count (old FRAMES) (new FRAMES) → LeavesRest (IsApart s level frame) old new
+torn_rest : (s : Numbers) (level frame count : ℕ) (old new : Files) → count ≤ frame_len s level → ((number : ℕ) → number ≢ FRAMES → new number ≡ old number) →
+    Torn (frame_place s level frame) count (old FRAMES) (new FRAMES) → LeavesRest (IsApart s level frame) old new
 torn_rest s level frame count old new fits others torn = record {
   others = others;
   longer = torn.no_shorter;
@@ -110,11 +114,13 @@ torn_rest s level frame count old new fits others torn = record {
 }
 
 pub stored_rest : {T E : Type 0} (s : Numbers) (level frame : ℕ) (pieces : List Piece) (result : Result T E) (before after : Option Files) → text_len pieces ≤ frame_len s level →
-    OnOk result (Turns (Changes (Holds (frame_place s level frame) (frame_text pieces)) FRAMES) before after) → OnErr result (Turns (Changes (LeftByFailure (frame_place s level frame) (text_len pieces)) FRAMES) before after) →
+    OnOk result (Turns (Changes (Holds (frame_place s level frame) (frame_text pieces)) FRAMES) before after) →
+    OnErr result (Turns (Changes (LeftByFailure (frame_place s level frame) (text_len pieces)) FRAMES) before after) →
     Turns (LeavesRest (IsApart s level frame)) before after
 stored_rest s level frame pieces result before after fits ok err =
     let place = frame_place s level frame in
-    either_way (Turns (LeavesRest (IsApart s level frame)) before after) (Turns (Changes (Holds place (frame_text pieces)) FRAMES) before after) (Turns (Changes (LeftByFailure place (text_len pieces)) FRAMES) before after) result ok err
+    either_way (Turns (LeavesRest (IsApart s level frame)) before after) (Turns (Changes (Holds place (frame_text pieces)) FRAMES) before after)
+    (Turns (Changes (LeftByFailure place (text_len pieces)) FRAMES) before after) result ok err
     (λ wrote. record {
       told = λ old told. (
           let then = wrote.told old told in
@@ -130,7 +136,8 @@ stored_rest s level frame pieces result before after fits ok err =
     })
 
 -- a frame in a range that is kept still holds its pieces
-pub holds_stays : (kept : ℕ → ℕ → Type 0) (old new : Files) (place : ℕ) (pieces : List Piece) → LeavesRest kept old new → kept place (place + text_len pieces) → HoldsFrame place (old FRAMES) pieces → HoldsFrame place (new FRAMES) pieces
+pub holds_stays : (kept : ℕ → ℕ → Type 0) (old new : Files) (place : ℕ) (pieces : List Piece) → LeavesRest kept old new → kept place (place + text_len pieces) →
+    HoldsFrame place (old FRAMES) pieces → HoldsFrame place (new FRAMES) pieces
 holds_stays kept old new place pieces leaves kept_here holds =
     let long : place + text_len pieces ≤ length (old FRAMES) = reaches_end (old FRAMES) place (text_len pieces) (omega arith) (ap length holds ∙ length_frame pieces) in
     leaves.rest place (place + text_len pieces) kept_here long ∙ holds
@@ -159,9 +166,11 @@ landing_within s m level row is = omega (arith, (lowest_is_free row).within, is.
 room_for : (s : Numbers) (level : ℕ) (pieces : List Piece) → CanStand s level pieces → text_len pieces ≤ frame_len s level
 room_for s level pieces can = omega (arith, length_le-total 0 (tail_limit s) pieces can.given.table, can.fits)
 
-module _ (s : Numbers) (m : ℕ) (rows : List (List BinAt)) (bins : List (List Piece)) (rows_are : (k : ℕ) → k < length rows → IsRow s (k + 1) (get_or rows k [])) (len : length bins ≡ length rows) (bins_are : (k : ℕ) → k < length bins → CanStand s (k + 1) (get_or bins k [])) where
+module _ (s : Numbers) (m : ℕ) (rows : List (List BinAt)) (bins : List (List Piece)) (rows_are : (k : ℕ) → k < length rows → IsRow s (k + 1) (get_or rows k []))
+    (len : length bins ≡ length rows) (bins_are : (k : ℕ) → k < length bins → CanStand s (k + 1) (get_or bins k [])) where
   -- a bin more stands, and those before it still do
-  pub landed_more : (old new : Files) (i frame : ℕ) (pieces : List Piece) → i < length rows → landing_frame s m rows i ≡ frame → get_or bins i [] ≡ pieces → LeavesRest (IsApart s (i + 1) frame) old new →
+  pub landed_more : (old new : Files) (i frame : ℕ) (pieces : List Piece) → i < length rows → landing_frame s m rows i ≡ frame → get_or bins i [] ≡ pieces →
+      LeavesRest (IsApart s (i + 1) frame) old new →
       HoldsFrame (frame_place s (i + 1) frame) (new FRAMES) pieces → AreLanded s m rows (old FRAMES) bins i → AreLanded s m rows (new FRAMES) bins (i + 1)
   landed_more old new i frame pieces below frame_is pieces_are leaves here before k within =
       elim (cases_lt k i) [
@@ -173,7 +182,8 @@ module _ (s : Numbers) (m : ℕ) (rows : List (List BinAt)) (bins : List (List P
             let own_within = landing_within s m (k + 1) (get_or rows k []) (rows_are k (omega arith)) in
             let frame_within : frame ≤ s.bins = subst (λ (n : ℕ). n ≤ s.bins) frame_is (landing_within s m (i + 1) (get_or rows i []) (rows_are i below)) in
             let levels_differ : k + 1 ≢ i + 1 = λ same. omega arith in
-            let apart : IsApart s (i + 1) frame place (place + text_len list) = elim (places_apart s (i + 1) frame (k + 1) own (omega arith) frame_within (omega arith) own_within (inl levels_differ)) [
+            let apart : IsApart s (i + 1) frame place (place + text_len list) =
+            elim (places_apart s (i + 1) frame (k + 1) own (omega arith) frame_within (omega arith) own_within (inl levels_differ)) [
               | inl behind ↦ inl (omega (arith, behind, fits))
               | inr ahead ↦ inr ahead
             ] in
@@ -195,13 +205,16 @@ module _ (s : Numbers) (m : ℕ) (rows : List (List BinAt)) (bins : List (List P
       (λ from to apart. subst (λ (f : ℕ). IsApart s (i + 1) f from to) frame_is (apart i below)) two)
 
 -- after a sync that may have failed each image is one of before
-pub synced_was : {T E : Type 0} (result : Result T E) (files : Option Files) (leaves_before leaves_after : Files → Type 0) → ((seen : Files) → files ≡ Some seen → OnOk result (Settles FRAMES (seen FRAMES) leaves_before leaves_after)) → OnErr result (KeepsImages leaves_before leaves_after) →
+pub synced_was : {T E : Type 0} (result : Result T E) (files : Option Files) (leaves_before leaves_after : Files → Type 0) →
+    ((seen : Files) → files ≡ Some seen → OnOk result (Settles FRAMES (seen FRAMES) leaves_before leaves_after)) → OnErr result (KeepsImages leaves_before leaves_after) →
     (seen : Files) → files ≡ Some seen → (image : Files) → leaves_after image → leaves_before image
 synced_was result files leaves_before leaves_after durable failed seen told image left =
-    either_way (leaves_before image) (Settles FRAMES (seen FRAMES) leaves_before leaves_after) (KeepsImages leaves_before leaves_after) result (durable seen told) failed (λ settles. settles.was image left) (λ keeps. (keeps image).0 left)
+    either_way (leaves_before image) (Settles FRAMES (seen FRAMES) leaves_before leaves_after) (KeepsImages leaves_before leaves_after) result (durable seen told) failed
+    (λ settles. settles.was image left) (λ keeps. (keeps image).0 left)
 
 -- and after one that succeeded it has the file as a read gives it
-pub synced_durable : {T E : Type 0} (result : Result T E) (files_before files_after : Option Files) (leaves_before leaves_after : Files → Type 0) → files_after ≡ files_before → ((seen : Files) → files_before ≡ Some seen → OnOk result (Settles FRAMES (seen FRAMES) leaves_before leaves_after)) →
+pub synced_durable : {T E : Type 0} (result : Result T E) (files_before files_after : Option Files) (leaves_before leaves_after : Files → Type 0) → files_after ≡ files_before →
+    ((seen : Files) → files_before ≡ Some seen → OnOk result (Settles FRAMES (seen FRAMES) leaves_before leaves_after)) →
     OnOk result ((seen : Files) → files_after ≡ Some seen → (image : Files) → leaves_after image → image FRAMES ≡ seen FRAMES)
 synced_durable (Ok value) files_before files_after leaves_before leaves_after same durable = λ seen told image left. (durable seen (sym same ∙ told)).durable image left
 synced_durable (Err error) files_before files_after leaves_before leaves_after same durable = tt

@@ -1,5 +1,6 @@
 -- Tables and the bins of level 0 as lists of pieces.
-use Rattle.std.proofs.Common.{ℕ, zero, suc, ◌≡◌, ◌+◌, ◌-◌, ◌*◌, ◌/◌, ◌%◌, ◌^◌, ◌<◌, ◌≤◌, min, List, [], ◌∷◌, ◌++◌, All, length, get_or, map, take, refl, ap, ap₂, sym, ◌∙◌, subst, arith, inl, inr, lit<, append-nil, append_assoc}
+use Rattle.std.proofs.Common.{ℕ, zero, suc, ◌≡◌, ◌+◌, ◌-◌, ◌*◌, ◌/◌, ◌%◌, ◌^◌, ◌<◌, ◌≤◌, min, List, [], ◌∷◌, ◌++◌, All, length, get_or, map}
+use Rattle.std.proofs.Common.{take, refl, ap, ap₂, sym, ◌∙◌, subst, arith, inl, inr, lit<, append-nil, append_assoc}
 use Rattle.std.proofs.Math.Nat.{pow-le-pow_right, mul-le-mul_right, suc-mul}
 use Rattle.std.proofs.lemmas.Bool.{cases_lt}
 use Rattle.std.proofs.lemmas.List.{map-append, map_more, get_or-map, get_or_default, length-map, take-map}
@@ -38,7 +39,8 @@ pub record IsLoaded {T : Type 0} (pieces : T → List Piece) (tail_bits : T → 
 pub loaded_none : {T : Type 0} (pieces : T → List Piece) (tail_bits : T → ℕ) (tables : List T) (old : List (List Piece)) → IsLoaded pieces tail_bits tables 0 old old
 loaded_none pieces tail_bits tables old = record { lists = sym (append-nil old); given = λ k d below. absurd (omega arith) }
 
-pub loaded_more : {T : Type 0} (pieces : T → List Piece) (tail_bits : T → ℕ) (tables : List T) (number : ℕ) (old : List (List Piece)) (bins after : List LoadedBin) (bin : LoadedBin) (table : T) →
+pub loaded_more : {T : Type 0} (pieces : T → List Piece) (tail_bits : T → ℕ) (tables : List T) (number : ℕ) (old : List (List Piece)) (bins after : List LoadedBin) (bin : LoadedBin)
+    (table : T) →
     IsLoaded pieces tail_bits tables number old (lists_of bins) → number < length tables → table ≡ get_or tables number table →
     bin.pieces.items ≡ pieces table → AreGiven (2 ^ tail_bits table) (pieces table) → after ≡ bins ++ bin ∷ [] →
     IsLoaded pieces tail_bits tables (number + 1) old (lists_of after)
@@ -60,7 +62,8 @@ pub fresh_more : (old bins after : List LoadedBin) (bin : LoadedBin) → (All (�
     bin.given ≡ 0 → after ≡ bins ++ bin ∷ [] → All (λ (b : LoadedBin). b.given ≡ 0) old → All (λ (b : LoadedBin). b.given ≡ 0) after
 fresh_more old bins after bin fresh none after_is before =
     subst (All (λ (b : LoadedBin). b.given ≡ 0)) (sym after_is)
-    (All-append (λ (b : LoadedBin). b.given ≡ 0) bins (bin ∷ []) (fresh before) (λ k d below. elim k as (λ n. n < 1 → (get_or (bin ∷ []) n d).given ≡ 0) [ zero ↦ λ _. none | suc k ↦ λ more. absurd (omega arith) ] below))
+    (All-append (λ (b : LoadedBin). b.given ≡ 0) bins (bin ∷ []) (fresh before)
+    (λ k d below. elim k as (λ n. n < 1 → (get_or (bin ∷ []) n d).given ≡ 0) [ zero ↦ λ _. none | suc k ↦ λ more. absurd (omega arith) ] below))
 
 -- ---- the tables in use
 
@@ -96,13 +99,14 @@ bins_of-few wide from to (p ∷ tables) = elim (cases_lt from to) [
 ]
 
 -- how many tables are in use
-pub record IsUsed {T : Type 0} (pieces : T → List Piece) (room quotient remainder : T → ℕ) (s : Numbers) (tables all : List T) (from to : ℕ) (young : Young) (wide count : ℕ) : Type 0 where
-  pub filled : AreFilled pieces room quotient remainder s all from to
-  pub seen : record { settings = s; from = from; to = to; bins = bins_of (span s 0) from to (map pieces all) } ≡ young
-  pub same : tables ≡ all
-  pub wide_is : wide ≡ span s 0
-  pub positive : 1 ≤ wide
-  pub count_is : count ≡ (to - from) / wide + min 1 ((to - from) % wide)
+pub record IsUsed {T : Type 0} (pieces : T → List Piece) (room quotient remainder : T → ℕ) (s : Numbers) (tables all : List T) (from to : ℕ) (young : Young) (wide count : ℕ) : Type 0
+  where
+    pub filled : AreFilled pieces room quotient remainder s all from to
+    pub seen : record { settings = s; from = from; to = to; bins = bins_of (span s 0) from to (map pieces all) } ≡ young
+    pub same : tables ≡ all
+    pub wide_is : wide ≡ span s 0
+    pub positive : 1 ≤ wide
+    pub count_is : count ≡ (to - from) / wide + min 1 ((to - from) % wide)
 
 pub used_covers : {T : Type 0} {pieces : T → List Piece} {room quotient remainder : T → ℕ} {s : Numbers} {tables all : List T} {from to : ℕ} {young : Young} {wide count : ℕ} →
     IsUsed pieces room quotient remainder s tables all from to young wide count → (to ≤ from + count * span s 0) × (count * span s 0 < (to - from) + span s 0)
@@ -157,7 +161,8 @@ used_widths {T} {pieces} {room} {quotient} {remainder} {s} {tables} {all} {from}
     (bins_of-each (λ (bin : Bin). total bin.pieces ≡ bin.to - bin.from) (span s 0) from to (map pieces all)
     (λ k start is under within. some_width all used.filled.each k start is under (omega (arith, length-map all pieces))))
   where
-    some_width : (all : List T) → ((k : ℕ) (d : T) → k < length all → IsFilled s from to k (pieces (get_or all k d)) (room (get_or all k d)) (quotient (get_or all k d)) (remainder (get_or all k d))) →
+    some_width : (all : List T) → ((k : ℕ) (d : T) → k < length all → IsFilled s from to k (pieces (get_or all k d)) (room (get_or all k d)) (quotient (get_or all k d))
+        (remainder (get_or all k d))) →
         (k start : ℕ) → start ≡ from + k * span s 0 → start < to → k < length all → total (get_or (map pieces all) k []) ≡ min to (start + span s 0) - start
     some_width [] each k start is under within = absurd (omega arith)
     some_width (first ∷ rest) each k start is under within =
@@ -183,7 +188,8 @@ used_few {T} {pieces} {room} {quotient} {remainder} {s} {tables} {all} {from} {t
     (omega (arith, bins_of-few (span s 0) from to (map pieces all), length-map all pieces, used.filled.len))
 
 pub used : {T : Type 0} (pieces : T → List Piece) (room quotient remainder : T → ℕ) {s : Numbers} {tables all : List T} {from to : ℕ} {young : Young} {wide count : ℕ} →
-    AreFilled pieces room quotient remainder s all from to → record { settings = s; from = from; to = to; bins = bins_of (span s 0) from to (map pieces all) } ≡ young → tables ≡ all → wide ≡ span s 0 → 1 ≤ wide →
+    AreFilled pieces room quotient remainder s all from to → record { settings = s; from = from; to = to; bins = bins_of (span s 0) from to (map pieces all) } ≡ young → tables ≡ all →
+    wide ≡ span s 0 → 1 ≤ wide →
     count ≡ (to - from) / wide + min 1 ((to - from) % wide) → IsUsed pieces room quotient remainder s tables all from to young wide count
 used pieces room quotient remainder filled seen same wide_is positive count_is =
     record { filled = filled; seen = seen; same = same; wide_is = wide_is; positive = positive; count_is = count_is }

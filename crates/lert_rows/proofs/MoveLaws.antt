@@ -1,5 +1,6 @@
 -- Rows with no bin, rows that move on one by one, and what a directory needs.
-use Rattle.std.proofs.Common.{ℕ, ◌≡◌, ◌+◌, ◌-◌, ◌*◌, ◌<◌, ◌≤◌, zero, suc, List, [], ◌∷◌, ◌++◌, length, map, take, drop, get_or, set, replicate, refl, ap, ap₂, sym, ◌∙◌, arith, inl, inr, subst}
+use Rattle.std.proofs.Common.{ℕ, ◌≡◌, ◌+◌, ◌-◌, ◌*◌, ◌<◌, ◌≤◌, zero, suc, List, [], ◌∷◌, ◌++◌, length, map, take, drop, get_or, set, replicate, refl, ap}
+use Rattle.std.proofs.Common.{ap₂, sym, ◌∙◌, arith, inl, inr, subst}
 use Rattle.std.specs.List.{All}
 use Rattle.std.proofs.lemmas.Bool.{cases_lt}
 use Rattle.std.proofs.lemmas.List.{length-map, get_or-map, get_or-replicate, get_or_past, length-replicate, same_lists, take_at, get_or-set_same, get_or-set_other, get_or_default}
@@ -60,7 +61,8 @@ with_item P [] some use_it = absurd (omega arith)
 with_item P (item ∷ items) some use_it = use_it item
 
 -- rows that are moved on one by one
-pub rows_moved : {V : Type 0} (items : V → List BinAt) (s : Numbers) (m : ℕ) (before after : List V) → length after ≡ length before → ((k : ℕ) (d : V) → k < length before → items (get_or after k d) ≡ moved_row s m (k + 1) (items (get_or before k d))) →
+pub rows_moved : {V : Type 0} (items : V → List BinAt) (s : Numbers) (m : ℕ) (before after : List V) → length after ≡ length before →
+    ((k : ℕ) (d : V) → k < length before → items (get_or after k d) ≡ moved_row s m (k + 1) (items (get_or before k d))) →
     map items after ≡ moved s m (map items before)
 rows_moved items s m before after len each =
     let olds = map items before in
@@ -79,8 +81,10 @@ rows_moved items s m before after len each =
     ∙ sym (get_or-map-range_with_len (λ level. moved_row s m level (row_of olds level)) 1 (length olds) k (k + 1) d (omega arith) (omega arith)))))
 
 -- one row more that is moved on
-pub moved_on : {V : Type 0} (items : V → List BinAt) (s : Numbers) (m : ℕ) (before rows : List V) (i : ℕ) (e new : V) → i < length rows → ((k : ℕ) (d : V) → k < i → items (get_or rows k d) ≡ moved_row s m (k + 1) (items (get_or before k d))) →
-    ((k : ℕ) (d : V) → i ≤ k → get_or rows k d ≡ get_or before k d) → items new ≡ moved_row s m (i + 1) (items (get_or rows i e)) → (k : ℕ) (d : V) → k < i + 1 → items (get_or (set rows i new) k d) ≡ moved_row s m (k + 1) (items (get_or before k d))
+pub moved_on : {V : Type 0} (items : V → List BinAt) (s : Numbers) (m : ℕ) (before rows : List V) (i : ℕ) (e new : V) → i < length rows →
+    ((k : ℕ) (d : V) → k < i → items (get_or rows k d) ≡ moved_row s m (k + 1) (items (get_or before k d))) →
+    ((k : ℕ) (d : V) → i ≤ k → get_or rows k d ≡ get_or before k d) → items new ≡ moved_row s m (i + 1) (items (get_or rows i e)) → (k : ℕ) (d : V) → k < i + 1 →
+    items (get_or (set rows i new) k d) ≡ moved_row s m (k + 1) (items (get_or before k d))
 moved_on items s m before rows i e new within done left is k d below =
     elim (cases_lt k i) [
       | inl earlier ↦ ap items (get_or-set_other rows i k new d (λ same. omega arith)) ∙ done k d earlier
@@ -99,7 +103,8 @@ short_directory levels bins =
     omega (arith, directory_short bins rows (λ k d below. omega (arith, ap (length {A = BinAt}) (get_or-replicate {A = List BinAt} levels k [] d (omega arith)))))
 
 -- no row has more bins than a level has at most
-pub rows_few : {V : Type 0} (items : V → List BinAt) (s : Numbers) (rows lent : List V) → AreRows s (map items rows) → lent ≡ rows → (k : ℕ) (d : V) → k < length lent → length (items (get_or lent k d)) ≤ s.bins
+pub rows_few : {V : Type 0} (items : V → List BinAt) (s : Numbers) (rows lent : List V) → AreRows s (map items rows) → lent ≡ rows → (k : ℕ) (d : V) → k < length lent →
+    length (items (get_or lent k d)) ≤ s.bins
 rows_few items s rows lent are lent_is k d below =
     let count = length-map rows items in
     let within : k < length rows = omega (arith, ap length lent_is) in

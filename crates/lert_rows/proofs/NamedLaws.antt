@@ -1,5 +1,6 @@
 -- What a directory names: where the bins of a level lie, and that the frames and the positions say which rows they are.
-use Rattle.std.proofs.Common.{ℕ, ◌≡◌, ◌+◌, ◌-◌, ◌*◌, ◌/◌, ◌^◌, ◌<◌, ◌≤◌, zero, suc, cond, List, [], ◌∷◌, ◌++◌, length, map, get_or, take, drop, max, refl, ap, ap₂, sym, ◌∙◌, arith, inl, inr, subst, set, slice_index, slice_range, append-nil, length-append}
+use Rattle.std.proofs.Common.{ℕ, ◌≡◌, ◌+◌, ◌-◌, ◌*◌, ◌/◌, ◌^◌, ◌<◌, ◌≤◌, zero, suc, cond, List, [], ◌∷◌, ◌++◌, length, map, get_or, take, drop, max}
+use Rattle.std.proofs.Common.{refl, ap, ap₂, sym, ◌∙◌, arith, inl, inr, subst, set, slice_index, slice_range, append-nil, length-append}
 use Rattle.std.specs.List.{range_with_len}
 use Rattle.std.proofs.lemmas.Bool.{cases_lt, lt-ltb, le-ltb}
 use Rattle.std.proofs.Math.Seq.{drop-cons, drop-append-add, get_or-append_seam}
@@ -50,11 +51,13 @@ cuts_run wide low high first (suc n) positive =
             | inr late ↦ omega arith
           ] in
           let behind : max (first + 1) q ≡ first + 1 = omega arith in
-          subst (λ t. cond {A = List Range} t (range ∷ rest) rest ≡ map (range_at wide low high) (range_with_len (max first q) (length (cond {A = List Range} t (range ∷ rest) rest)))) (sym (lt-ltb range.from range.to some))
+          subst (λ t. cond {A = List Range} t (range ∷ rest) rest ≡ map (range_at wide low high) (range_with_len (max first q) (length (cond {A = List Range} t (range ∷ rest) rest))))
+          (sym (lt-ltb range.from range.to some))
           (ap (λ rs. range ∷ rs) (later ∙ ap (λ j. map (range_at wide low high) (range_with_len j (length rest))) behind)
           ∙ ap (λ j. map (range_at wide low high) (range_with_len j (suc (length rest)))) (sym here)))
       | inr none ↦ (
-          subst (λ t. cond {A = List Range} t (range ∷ rest) rest ≡ map (range_at wide low high) (range_with_len (max first q) (length (cond {A = List Range} t (range ∷ rest) rest)))) (sym (le-ltb range.from range.to none))
+          subst (λ t. cond {A = List Range} t (range ∷ rest) rest ≡ map (range_at wide low high) (range_with_len (max first q) (length (cond {A = List Range} t (range ∷ rest) rest))))
+          (sym (le-ltb range.from range.to none))
           (elim (cases_lt first q) [
             | inl early ↦ later ∙ ap (λ j. map (range_at wide low high) (range_with_len j (length rest))) (let same : max (first + 1) q ≡ max first q = omega arith in same)
             | inr late ↦ (
@@ -96,7 +99,8 @@ split_same a b c d len is =
     let front : a ≡ c = sym (take_at a b (length a) refl) ∙ ap (take (length a)) is ∙ take_at c d (length a) (sym len) in
     (front, append_cancel_left c b d (ap (λ xs. xs ++ b) (sym front) ∙ is))
 
-rows_same : (xs ys : List (List BinAt)) → length xs ≡ length ys → ((k : ℕ) → k < length xs → map range_of (get_or xs k []) ≡ map range_of (get_or ys k [])) → directory_text xs ≡ directory_text ys → xs ≡ ys
+rows_same : (xs ys : List (List BinAt)) → length xs ≡ length ys → ((k : ℕ) → k < length xs → map range_of (get_or xs k []) ≡ map range_of (get_or ys k [])) →
+    directory_text xs ≡ directory_text ys → xs ≡ ys
 rows_same [] [] len ranges_are text_is = refl
 rows_same [] (y ∷ ys) len ranges_are text_is = absurd (omega arith)
 rows_same (x ∷ xs) [] len ranges_are text_is = absurd (omega arith)
@@ -126,60 +130,62 @@ same_named s n text one other is is_too = same_rows s n one other is.at is_too.a
 
 -- ---- the part of a level in a directory
 
-module _ (text : List ℕ) (named : List (List BinAt)) (text_is : directory_text named ≡ text) (i at : ℕ) (below : i < length named) (at_is : at ≡ length (directory_text (take i named))) where
-  abbrev row : List BinAt
-  row = get_or named i []
+module _ (text : List ℕ) (named : List (List BinAt)) (text_is : directory_text named ≡ text) (i at : ℕ) (below : i < length named) (at_is : at ≡ length (directory_text (take i named)))
+  where
+    abbrev row : List BinAt
+    row = get_or named i []
 
-  abbrev frames : List ℕ
-  frames = map (λ bin. bin.frame) row
+    abbrev frames : List ℕ
+    frames = map (λ bin. bin.frame) row
 
-  abbrev front : List ℕ
-  front = directory_text (take i named)
+    abbrev front : List ℕ
+    front = directory_text (take i named)
 
-  abbrev rest : List ℕ
-  rest = directory_text (drop (suc i) named)
+    abbrev rest : List ℕ
+    rest = directory_text (drop (suc i) named)
 
-  whole : text ≡ front ++ (row_text row ++ rest)
-  whole =
-      sym text_is
-      ∙ ap directory_text (sym (take-append-drop i named))
-      ∙ flat_map-append row_text (take i named) (drop i named)
-      ∙ ap (λ rows. front ++ directory_text rows) (drop-cons named i [] below)
+    whole : text ≡ front ++ (row_text row ++ rest)
+    whole =
+        sym text_is
+        ∙ ap directory_text (sym (take-append-drop i named))
+        ∙ flat_map-append row_text (take i named) (drop i named)
+        ∙ ap (λ rows. front ++ directory_text rows) (drop-cons named i [] below)
 
-  -- it begins with the number of the level's bins
-  pub count_there : slice_index text at ≡ length row
-  count_there = ap₂ (λ t a. get_or t a 0) whole at_is ∙ get_or-append_seam front (length row) (frames ++ rest) 0
+    -- it begins with the number of the level's bins
+    pub count_there : slice_index text at ≡ length row
+    count_there = ap₂ (λ t a. get_or t a 0) whole at_is ∙ get_or-append_seam front (length row) (frames ++ rest) 0
 
-  -- it stands wholly in the text
-  pub part_within : at + 1 + slice_index text at ≤ length text
-  part_within =
-      let long = ap length whole in
-      let parts = length-append front (row_text row ++ rest) in
-      let row_long = length-append frames rest in
-      let named_long = length-map row (λ (bin : BinAt). bin.frame) in
-      omega (arith, count_there, at_is)
+    -- it stands wholly in the text
+    pub part_within : at + 1 + slice_index text at ≤ length text
+    part_within =
+        let long = ap length whole in
+        let parts = length-append front (row_text row ++ rest) in
+        let row_long = length-append frames rest in
+        let named_long = length-map row (λ (bin : BinAt). bin.frame) in
+        omega (arith, count_there, at_is)
 
-  -- the frames follow
-  pub frames_there : slice_range text (at + 1) (at + 1 + slice_index text at) ≡ frames
-  frames_there =
-      let count : at + 1 + slice_index text at - (at + 1) ≡ length row = omega (arith, count_there) in
-      let behind : drop (at + 1) text ≡ frames ++ rest = ap₂ (λ a t. drop (a + 1) t) at_is whole ∙ drop-append-add front (row_text row ++ rest) 1 in
-      ap₂ take count behind ∙ take_at frames rest (length row) (length-map row (λ (bin : BinAt). bin.frame))
+    -- the frames follow
+    pub frames_there : slice_range text (at + 1) (at + 1 + slice_index text at) ≡ frames
+    frames_there =
+        let count : at + 1 + slice_index text at - (at + 1) ≡ length row = omega (arith, count_there) in
+        let behind : drop (at + 1) text ≡ frames ++ rest = ap₂ (λ a t. drop (a + 1) t) at_is whole ∙ drop-append-add front (row_text row ++ rest) 1 in
+        ap₂ take count behind ∙ take_at frames rest (length row) (length-map row (λ (bin : BinAt). bin.frame))
 
-  -- and behind them the part of the next level
-  pub next_place : at + (1 + length row) ≡ length (directory_text (take (i + 1) named))
-  next_place =
-      let more : directory_text (take (i + 1) named) ≡ front ++ row_text row =
-      ap directory_text (take_more named i [] below) ∙ flat_map-append row_text (take i named) (row ∷ []) ∙ ap (λ xs. front ++ xs) (append-nil (row_text row)) in
-      let long = ap length more in
-      let parts = length-append front (row_text row) in
-      let named_long = length-map row (λ (bin : BinAt). bin.frame) in
-      omega (arith, at_is)
+    -- and behind them the part of the next level
+    pub next_place : at + (1 + length row) ≡ length (directory_text (take (i + 1) named))
+    next_place =
+        let more : directory_text (take (i + 1) named) ≡ front ++ row_text row =
+        ap directory_text (take_more named i [] below) ∙ flat_map-append row_text (take i named) (row ∷ []) ∙ ap (λ xs. front ++ xs) (append-nil (row_text row)) in
+        let long = ap length more in
+        let parts = length-append front (row_text row) in
+        let named_long = length-map row (λ (bin : BinAt). bin.frame) in
+        omega (arith, at_is)
 
 -- ---- the rows as they are put back
 
 -- the intervals of a level's bins end in reach of a number of 64 bits
-pub interval_within : (s : Numbers) → IsValid s → (level n number place wide low : ℕ) → level ≤ s.levels → n ≤ capacity s → wide ≡ span s level → low ≡ edge s level n → number < s.bins → place ≡ low / wide + number → suc place * wide < 2 ^ 64
+pub interval_within : (s : Numbers) → IsValid s → (level n number place wide low : ℕ) → level ≤ s.levels → n ≤ capacity s → wide ≡ span s level → low ≡ edge s level n →
+    number < s.bins → place ≡ low / wide + number → suc place * wide < 2 ^ 64
 interval_within s valid level n number place wide low last within wide_is low_is few place_is =
     let events = capacity_to s valid in
     let under = edge_within s level n in
@@ -191,19 +197,22 @@ interval_within s valid level n number place wide low last within wide_is low_is
     omega (arith, here, parts, bins, whole, under, events, within, low_is)
 
 -- the bins of as many intervals as a level has bins are the level's
-pub ranges_back : (s : Numbers) (n level wide low high count : ℕ) → 1 ≤ wide → wide ≡ span s level → low ≡ edge s level n → high ≡ edge s (level - 1) n → count ≡ length (ranges s n level) →
+pub ranges_back : (s : Numbers) (n level wide low high count : ℕ) → 1 ≤ wide → wide ≡ span s level → low ≡ edge s level n → high ≡ edge s (level - 1) n →
+    count ≡ length (ranges s n level) →
     map (range_at wide low high) (range_with_len (low / wide) count) ≡ ranges s n level
 ranges_back s n level wide low high count positive wide_is low_is high_is count_is =
     (λ i. map (range_at (wide_is i) (low_is i) (high_is i)) (range_with_len (low_is i / wide_is i) (count_is i)))
     ∙ sym (ranges_run s n level (omega (arith, positive, wide_is)))
 
 -- a level's named row
-pub named_ranges : (s : Numbers) (n : ℕ) (text : List ℕ) (named : List (List BinAt)) → AreNamed s n text named → (i : ℕ) → i < s.levels → map range_of (get_or named i []) ≡ ranges s n (i + 1)
+pub named_ranges : (s : Numbers) (n : ℕ) (text : List ℕ) (named : List (List BinAt)) → AreNamed s n text named → (i : ℕ) → i < s.levels →
+    map range_of (get_or named i []) ≡ ranges s n (i + 1)
 named_ranges s n text named is i within =
     let place : i + 1 - 1 ≡ i = omega arith in
     ap (λ j. map range_of (get_or named j [])) (sym place) ∙ is.at.each (i + 1) (omega arith) (omega arith)
 
-pub named_count : (s : Numbers) (n : ℕ) (text : List ℕ) (named : List (List BinAt)) → AreNamed s n text named → (i : ℕ) → i < s.levels → length (get_or named i []) ≡ length (ranges s n (i + 1))
+pub named_count : (s : Numbers) (n : ℕ) (text : List ℕ) (named : List (List BinAt)) → AreNamed s n text named → (i : ℕ) → i < s.levels →
+    length (get_or named i []) ≡ length (ranges s n (i + 1))
 named_count s n text named is i within = sym (length-map (get_or named i []) range_of) ∙ ap length (named_ranges s n text named is i within)
 
 pub named_few : (s : Numbers) (n : ℕ) (text : List ℕ) (named : List (List BinAt)) → AreNamed s n text named → (i : ℕ) → i < s.levels → length (get_or named i []) ≤ s.bins
@@ -213,14 +222,17 @@ named_few s n text named is i within =
     omega (arith, row.few, ap (λ j. length (get_or named j [])) place)
 
 -- the row with a level's positions and the named frames is the named one
-pub row_restored : (s : Numbers) (n : ℕ) (text : List ℕ) (named : List (List BinAt)) → AreNamed s n text named → (i at : ℕ) → i < s.levels → at ≡ length (directory_text (take i named)) → (row : List BinAt) (frames : List ℕ) →
-    map range_of row ≡ ranges s n (i + 1) → map (λ (bin : BinAt). bin.frame) row ≡ frames → frames ≡ slice_range text (at + 1) (at + 1 + slice_index text at) → row ≡ get_or named i []
+pub row_restored : (s : Numbers) (n : ℕ) (text : List ℕ) (named : List (List BinAt)) → AreNamed s n text named → (i at : ℕ) → i < s.levels →
+    at ≡ length (directory_text (take i named)) → (row : List BinAt) (frames : List ℕ) →
+    map range_of row ≡ ranges s n (i + 1) → map (λ (bin : BinAt). bin.frame) row ≡ frames → frames ≡ slice_range text (at + 1) (at + 1 + slice_index text at) →
+    row ≡ get_or named i []
 row_restored s n text named is i at within at_is row frames ranges_are frames_are lent =
     row_same row (get_or named i []) (ranges_are ∙ sym (named_ranges s n text named is i within))
     (frames_are ∙ lent ∙ frames_there text named is.text_is i at (omega (arith, is.at.levels)) at_is)
 
 -- one row more
-pub restored_more : {V : Type 0} (items : V → List BinAt) (named : List (List BinAt)) (rows : List V) (i : ℕ) (new : V) → i < length rows → ((k : ℕ) (d : V) → k < i → items (get_or rows k d) ≡ get_or named k []) → items new ≡ get_or named i [] →
+pub restored_more : {V : Type 0} (items : V → List BinAt) (named : List (List BinAt)) (rows : List V) (i : ℕ) (new : V) → i < length rows →
+    ((k : ℕ) (d : V) → k < i → items (get_or rows k d) ≡ get_or named k []) → items new ≡ get_or named i [] →
     (k : ℕ) (d : V) → k < i + 1 → items (get_or (set rows i new) k d) ≡ get_or named k []
 restored_more items named rows i new within done is k d below =
     elim (cases_lt k i) [
@@ -230,7 +242,8 @@ restored_more items named rows i new within done is k d below =
           subst (λ (n : ℕ). items (get_or (set rows i new) n d) ≡ get_or named n []) same (ap items (get_or-set_same rows i new d within) ∙ is))
     ]
 
-pub restored_all : {V : Type 0} (items : V → List BinAt) (rows : List V) (named : List (List BinAt)) → length rows ≡ length named → ((k : ℕ) (d : V) → k < length rows → items (get_or rows k d) ≡ get_or named k []) → map items rows ≡ named
+pub restored_all : {V : Type 0} (items : V → List BinAt) (rows : List V) (named : List (List BinAt)) → length rows ≡ length named →
+    ((k : ℕ) (d : V) → k < length rows → items (get_or rows k d) ≡ get_or named k []) → map items rows ≡ named
 restored_all items [] [] len each = refl
 restored_all items [] (list ∷ named) len each = absurd (omega arith)
 restored_all items (row ∷ rows) [] len each = absurd (omega arith)

@@ -1,5 +1,6 @@
 -- A directory from lists of frames, one for each level: there are rows that it names.
-use Rattle.std.proofs.Common.{ℕ, ◌≡◌, ◌≢◌, ◌+◌, ◌-◌, ◌*◌, ◌/◌, ◌<◌, ◌≤◌, zero, suc, cond, ltb, eqb, List, [], ◌∷◌, ◌++◌, length, map, filter, get_or, min, max, count_by, refl, ap, ap₂, sym, ◌∙◌, arith, inl, inr, subst}
+use Rattle.std.proofs.Common.{ℕ, ◌≡◌, ◌≢◌, ◌+◌, ◌-◌, ◌*◌, ◌/◌, ◌<◌, ◌≤◌, zero, suc, cond, ltb, eqb, List, [], ◌∷◌, ◌++◌, length, map, filter}
+use Rattle.std.proofs.Common.{get_or, min, max, count_by, refl, ap, ap₂, sym, ◌∙◌, arith, inl, inr, subst}
 use Rattle.std.specs.List.{All, AllPairs, range_with_len}
 use Rattle.std.proofs.lemmas.Bool.{cases_eq, cases_lt, eq-eqb, ne_eqb, lt-ltb, le-ltb}
 use Rattle.std.proofs.lemmas.List.{length-map, get_or-map}
@@ -79,7 +80,8 @@ module _ (s : Numbers) (valid : IsValid s) (n : ℕ) (within : n ≤ capacity s)
       let numbers = placed_frames (ranges s n level) frames are.counted in
       let many = ap length positions in
       let count = length-map row range_of in
-      let cuts : All (IsCut (span s level) high) (map range_of row) = subst (All (IsCut (span s level) high)) (sym positions) (cuts_are (span s level) (edge s level n) high 0 (suc (n / span s level))) in
+      let cuts : All (IsCut (span s level) high) (map range_of row) = subst (All (IsCut (span s level) high)) (sym positions)
+      (cuts_are (span s level) (edge s level n) high 0 (suc (n / span s level))) in
       let each = All-ranges (IsCut (span s level) high) row cuts in
       record {
         few = omega (arith, ranges_few s base ratio level n (omega (arith, valid.limits.bins_from)) from);
@@ -110,7 +112,8 @@ module _ (s : Numbers) (valid : IsValid s) (n : ℕ) (within : n ≤ capacity s)
   row_there level (frames ∷ levels) (suc k) below =
       row_there (suc level) levels k (omega arith) ∙ ap (λ l. placed (ranges s n l) (get_or levels k [])) (let same : suc level + k ≡ level + suc k = omega arith in same)
 
-  text_there : (level : ℕ) (levels : List (List ℕ)) → ((k : ℕ) → k < length levels → length (get_or levels k []) ≡ length (ranges s n (level + k))) → directory_text (placed_rows level levels) ≡ frames_text levels
+  text_there : (level : ℕ) (levels : List (List ℕ)) → ((k : ℕ) → k < length levels → length (get_or levels k []) ≡ length (ranges s n (level + k))) →
+      directory_text (placed_rows level levels) ≡ frames_text levels
   unfolding placed_rows
   text_there level [] counted = refl
   text_there level (frames ∷ levels) counted =
@@ -122,12 +125,14 @@ module _ (s : Numbers) (valid : IsValid s) (n : ℕ) (within : n ≤ capacity s)
       (text_there (suc level) levels (λ k below. counted (suc k) (omega arith) ∙ ap (λ l. length (ranges s n l)) (let same : level + suc k ≡ suc level + k = omega arith in same)))
 
   -- a directory names rows where each level has as many frames as bins, of those that it has, and none twice
-  pub directory_of_frames : (levels : List (List ℕ)) → length levels ≡ s.levels → ((k : ℕ) → k < s.levels → AreFramesAt s n (k + 1) (get_or levels k [])) → IsDirectory s n (frames_text levels)
+  pub directory_of_frames : (levels : List (List ℕ)) → length levels ≡ s.levels → ((k : ℕ) → k < s.levels → AreFramesAt s n (k + 1) (get_or levels k [])) →
+      IsDirectory s n (frames_text levels)
   directory_of_frames levels len are =
       let rows = placed_rows 1 levels in
       let count : length rows ≡ s.levels = many_rows 1 levels ∙ len in
       let row_is : (level : ℕ) → 1 ≤ level → level ≤ s.levels → row_of rows level ≡ placed (ranges s n level) (get_or levels (level - 1) []) =
-      λ level from last. row_there 1 levels (level - 1) (omega arith) ∙ ap (λ l. placed (ranges s n l) (get_or levels (level - 1) [])) (let same : 1 + (level - 1) ≡ level = omega arith in same) in
+      λ level from last. row_there 1 levels (level - 1) (omega arith) ∙ ap (λ l. placed (ranges s n l) (get_or levels (level - 1) [])) (let same : 1 + (level - 1) ≡ level = omega arith in
+      same) in
       let frames_are : (level : ℕ) → 1 ≤ level → level ≤ s.levels → AreFramesAt s n level (get_or levels (level - 1) []) =
       λ level from last. subst (λ l. AreFramesAt s n l (get_or levels (level - 1) [])) (let same : level - 1 + 1 ≡ level = omega arith in same) (are (level - 1) (omega arith)) in
       record {

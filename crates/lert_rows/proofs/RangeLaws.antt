@@ -1,5 +1,6 @@
 -- How the positions of a level's bins change as the edges around it move.
-use Rattle.std.proofs.Common.{ℕ, ◌≡◌, ◌≢◌, ◌+◌, ◌-◌, ◌*◌, ◌/◌, ◌%◌, ◌<◌, ◌≤◌, zero, suc, Bool, true, false, cond, ltb, List, [], ◌∷◌, ◌++◌, length, map, filter, min, max, drop, refl, ap, ap₂, sym, ◌∙◌, arith, inl, inr, subst}
+use Rattle.std.proofs.Common.{ℕ, ◌≡◌, ◌≢◌, ◌+◌, ◌-◌, ◌*◌, ◌/◌, ◌%◌, ◌<◌, ◌≤◌, zero, suc, Bool, true, false, cond, ltb, List, [], ◌∷◌, ◌++◌}
+use Rattle.std.proofs.Common.{length, map, filter, min, max, drop, refl, ap, ap₂, sym, ◌∙◌, arith, inl, inr, subst}
 use Rattle.std.specs.List.{All, range_with_len}
 use Rattle.std.proofs.lemmas.Bool.{cases_lt, cases_eq, lt-ltb, le-ltb, eq-eqb, ne_eqb}
 use Rattle.std.proofs.lemmas.List.{map-append, nil_from_length}
@@ -97,7 +98,8 @@ cuts_are wide low high first (suc n) =
     ]
 
 -- at most one for each interval that holds some
-cuts_few : (wide low high a b first n : ℕ) → ((k : ℕ) → max low (k * wide) < min high (suc k * wide) → (a ≤ k) × (k < b)) → length (range_cuts wide low high first n) ≤ min b (first + n) - max a first
+cuts_few : (wide low high a b first n : ℕ) → ((k : ℕ) → max low (k * wide) < min high (suc k * wide) → (a ≤ k) × (k < b)) →
+    length (range_cuts wide low high first n) ≤ min b (first + n) - max a first
 cuts_few wide low high a b first zero within = omega arith
 cuts_few wide low high a b first (suc n) within =
     let range = range_at wide low high first in
@@ -274,7 +276,8 @@ module _ (s : Numbers) (base : 1 ≤ s.base) (ratio : 1 ≤ s.ratio) where
               let next_low : edge s level m ≡ suc j * width = ap (λ steps. width * steps) older_by_one ∙ mul_comm width (suc j) in
               let still_above = edge_descends s base ratio below m in
               let reached : suc j ≤ m / width = (le-div_iff_mul-le {k = width} {x = suc j} {y = m} positive).1 (omega (arith, edge_within s level m)) in
-              ap₂ (λ t rs. drop (cond {A = ℕ} t 1 0) rs) (lt-ltb level (depth s m) deeper) (sym grown ∙ ap (λ l. range_cuts width l high' 0 n) low_is ∙ oldest_goes s width high' j n positive (omega arith) (omega arith))
+              ap₂ (λ t rs. drop (cond {A = ℕ} t 1 0) rs) (lt-ltb level (depth s m) deeper)
+              (sym grown ∙ ap (λ l. range_cuts width l high' 0 n) low_is ∙ oldest_goes s width high' j n positive (omega arith) (omega arith))
               ∙ ap (λ l. range_cuts width l high' 0 n) (sym next_low))
           | inr deepest ↦ (
               let stays : edge s level m ≡ low = elim (cases_lt level s.levels) [

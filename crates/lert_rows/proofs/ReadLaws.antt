@@ -20,14 +20,16 @@ failed_there (Err fault) (LoadMalformed there) gave is = absurd (cc)
 failed_there (Err fault) LoadOutOfMemory gave is = absurd (cc)
 
 -- where it says that a frame is malformed, its load said so
-pub malformed_there : {T : Type 0} (result : Result T FlushFault) (load : LoadFault) (at : ℕ) → IsErrAnd result (λ fault. fault ≡ flush_fault load) → result ≡ Err (Malformed at) → load ≡ LoadMalformed at
+pub malformed_there : {T : Type 0} (result : Result T FlushFault) (load : LoadFault) (at : ℕ) → IsErrAnd result (λ fault. fault ≡ flush_fault load) → result ≡ Err (Malformed at) →
+    load ≡ LoadMalformed at
 malformed_there (Ok x) load at gave is = absurd (cc)
 malformed_there (Err fault) LoadFailed at gave is = absurd (cc)
 malformed_there (Err fault) (LoadMalformed there) at gave is = ap LoadMalformed (let same : there ≡ at = cc in same)
 malformed_there (Err fault) LoadOutOfMemory at gave is = absurd (cc)
 
 -- one bin more
-pub bins_push : (limit : ℕ) (widths : List ℕ) (lists : List (List Piece)) (width : ℕ) (pieces : List Piece) → AreBins limit widths lists → IsBin limit width pieces → AreBins limit (widths ++ width ∷ []) (lists ++ pieces ∷ [])
+pub bins_push : (limit : ℕ) (widths : List ℕ) (lists : List (List Piece)) (width : ℕ) (pieces : List Piece) → AreBins limit widths lists → IsBin limit width pieces →
+    AreBins limit (widths ++ width ∷ []) (lists ++ pieces ∷ [])
 bins_push limit [] [] width pieces are is = (is, record {})
 bins_push limit [] (list ∷ lists) width pieces are is = absurd are
 bins_push limit (w ∷ widths) [] width pieces are is = absurd are
@@ -41,7 +43,8 @@ lists_more streams loaded before held row i d below so_far here =
     ∙ append_assoc before (map held (take i row)) (held (get_or row i d) ∷ [])
     ∙ ap (λ lists. before ++ lists) (sym (map_more held row i d below))
 
-pub bins_more : (limit : ℕ) (widths : List ℕ) (streams after : List LoadedBin) (loaded : LoadedBin) (row : List BinAt) (i : ℕ) (d : BinAt) → i < length row → after ≡ streams ++ loaded ∷ [] →
+pub bins_more : (limit : ℕ) (widths : List ℕ) (streams after : List LoadedBin) (loaded : LoadedBin) (row : List BinAt) (i : ℕ) (d : BinAt) → i < length row →
+    after ≡ streams ++ loaded ∷ [] →
     AreBins limit (widths ++ map width_of (take i row)) (lists_of streams) → IsBin limit (width_of (get_or row i d)) loaded.pieces.items →
     AreBins limit (widths ++ map width_of (take (i + 1) row)) (lists_of after)
 bins_more limit widths streams after loaded row i d below pushed are is =
@@ -49,19 +52,23 @@ bins_more limit widths streams after loaded row i d below pushed are is =
     let wider : (widths ++ map width_of (take i row)) ++ width_of (get_or row i d) ∷ [] ≡ widths ++ map width_of (take (i + 1) row) =
     append_assoc widths (map width_of (take i row)) (width_of (get_or row i d) ∷ []) ∙ ap (λ w. widths ++ w) (sym (map_more width_of row i d below)) in
     subst (λ (w : List ℕ). AreBins limit w (lists_of after)) wider
-    (subst (AreBins limit ((widths ++ map width_of (take i row)) ++ width_of (get_or row i d) ∷ [])) (sym (ap lists_of pushed ∙ map_push (λ (bin : LoadedBin). bin.pieces.items) streams loaded)) more)
+    (subst (AreBins limit ((widths ++ map width_of (take i row)) ++ width_of (get_or row i d) ∷ []))
+    (sym (ap lists_of pushed ∙ map_push (λ (bin : LoadedBin). bin.pieces.items) streams loaded)) more)
 
 -- ---- level by level
 
 -- a row behind its place in the list of rows
-pub row_here : {V : Type 0} (items : V → List BinAt) (rows : List V) (i : ℕ) (row : V) (now : List BinAt) → i < length rows → row ≡ get_or rows i row → now ≡ items row → get_or (map items rows) i [] ≡ now
+pub row_here : {V : Type 0} (items : V → List BinAt) (rows : List V) (i : ℕ) (row : V) (now : List BinAt) → i < length rows → row ≡ get_or rows i row → now ≡ items row →
+    get_or (map items rows) i [] ≡ now
 row_here items rows i row now below is now_is = get_or-map items rows i row [] below ∙ ap items (sym is) ∙ sym now_is
 
 -- what holds of the row at a place, and of its level
-pub row_to : (P : ℕ → List BinAt → Type 0) (rows : List (List BinAt)) (i level : ℕ) (now : List BinAt) → get_or rows i [] ≡ now → level ≡ i → P (i + 1) (get_or rows i []) → P (level + 1) now
+pub row_to : (P : ℕ → List BinAt → Type 0) (rows : List (List BinAt)) (i level : ℕ) (now : List BinAt) → get_or rows i [] ≡ now → level ≡ i → P (i + 1) (get_or rows i []) →
+    P (level + 1) now
 row_to P rows i level now is same holds = subst (λ (n : ℕ). P (n + 1) now) (sym same) (subst (P (i + 1)) is holds)
 
-pub row_from : (P : ℕ → List BinAt → Type 0) (rows : List (List BinAt)) (i level : ℕ) (now : List BinAt) → get_or rows i [] ≡ now → level ≡ i → P (level + 1) now → P (i + 1) (get_or rows i [])
+pub row_from : (P : ℕ → List BinAt → Type 0) (rows : List (List BinAt)) (i level : ℕ) (now : List BinAt) → get_or rows i [] ≡ now → level ≡ i → P (level + 1) now →
+    P (i + 1) (get_or rows i [])
 row_from P rows i level now is same holds = subst (P (i + 1)) (sym is) (subst (λ (n : ℕ). P (n + 1) now) same holds)
 
 -- what the rows give, one by one

@@ -1,5 +1,6 @@
 -- What a flush makes of the rows: the bins of the levels after it, each in a frame of its own.
-use Rattle.std.proofs.Common.{ℕ, ◌≡◌, ◌+◌, ◌-◌, ◌/◌, ◌%◌, ◌<◌, ◌≤◌, zero, suc, Bool, true, false, cond, ltb, eqb, List, [], ◌∷◌, ◌++◌, length, map, get_or, take, drop, Some, ap, ap₂, sym, ◌∙◌, arith, inl, inr, subst, find, unwrap_or, count_by, append-nil, length-append}
+use Rattle.std.proofs.Common.{ℕ, ◌≡◌, ◌+◌, ◌-◌, ◌/◌, ◌%◌, ◌<◌, ◌≤◌, zero, suc, Bool, true, false, cond, ltb, eqb, List, [], ◌∷◌, ◌++◌, length, map}
+use Rattle.std.proofs.Common.{get_or, take, drop, Some, ap, ap₂, sym, ◌∙◌, arith, inl, inr, subst, find, unwrap_or, count_by, append-nil, length-append}
 use Rattle.std.specs.List.{All, range_with_len}
 use Rattle.std.proofs.lemmas.Bool.{cases_lt, cases_eq, cases_order, cases_Bool, lt-ltb, le-ltb, eq-eqb, ne_eqb, eqb-true, eqb-false, false≢true}
 use Rattle.std.proofs.lemmas.List.{get_or-take, length-map, map_push, take-map, drop-map, get_or-map, get_or_at, take_at, take-append-drop}
@@ -105,7 +106,8 @@ lowest_is_free row =
 
 -- ---- the bins after a flush
 
-pub row_of-moved : (s : Numbers) (m : ℕ) (rows : List (List BinAt)) (level : ℕ) → 1 ≤ level → level ≤ length rows → row_of (moved s m rows) level ≡ moved_row s m level (row_of rows level)
+pub row_of-moved : (s : Numbers) (m : ℕ) (rows : List (List BinAt)) (level : ℕ) → 1 ≤ level → level ≤ length rows →
+    row_of (moved s m rows) level ≡ moved_row s m level (row_of rows level)
 row_of-moved s m rows level from within =
     get_or-map-range_with_len (λ i. moved_row s m i (row_of rows i)) 1 (length rows) (level - 1) level [] (omega arith) (omega arith)
 
@@ -166,14 +168,25 @@ All-ranges P row all k d below = subst P (get_or-map range_of row k d (range_of 
 -- fewer bins name a frame no more often
 times_named-take : (n : ℕ) (row : List BinAt) (frame : ℕ) → times_named (take n row) frame ≤ times_named row frame
 times_named-take n row frame =
-    omega (arith, ap (λ (bins : List BinAt). times_named bins frame) (take-append-drop n row), sum_by-append (λ (bin : BinAt). cond {A = ℕ} (eqb bin.frame frame) 1 0) (take n row) (drop n row))
+    omega (
+      arith,
+      ap (λ (bins : List BinAt). times_named bins frame) (take-append-drop n row),
+      sum_by-append (λ (bin : BinAt). cond {A = ℕ} (eqb bin.frame frame) 1 0) (take n row)
+          (drop n row),
+    )
 
 times_named-drop : (n : ℕ) (row : List BinAt) (frame : ℕ) → times_named (drop n row) frame ≤ times_named row frame
 times_named-drop n row frame =
-    omega (arith, ap (λ (bins : List BinAt). times_named bins frame) (take-append-drop n row), sum_by-append (λ (bin : BinAt). cond {A = ℕ} (eqb bin.frame frame) 1 0) (take n row) (drop n row))
+    omega (
+      arith,
+      ap (λ (bins : List BinAt). times_named bins frame) (take-append-drop n row),
+      sum_by-append (λ (bin : BinAt). cond {A = ℕ} (eqb bin.frame frame) 1 0) (take n row)
+          (drop n row),
+    )
 
 -- a bin in a free frame
-distinct_push : (row front : List BinAt) (bin : BinAt) → ((frame : ℕ) → times_named front frame ≤ times_named row frame) → ((frame : ℕ) → times_named row frame ≤ 1) → times_named row bin.frame ≡ 0 →
+distinct_push : (row front : List BinAt) (bin : BinAt) → ((frame : ℕ) → times_named front frame ≤ times_named row frame) → ((frame : ℕ) → times_named row frame ≤ 1) →
+    times_named row bin.frame ≡ 0 →
     (frame : ℕ) → times_named (front ++ bin ∷ []) frame ≤ 1
 distinct_push row front bin fewer distinct free frame =
     let one = λ (b : BinAt). cond {A = ℕ} (eqb b.frame frame) 1 0 in
@@ -224,7 +237,8 @@ module _ (s : Numbers) (valid : IsValid s) (m : ℕ) (first : 1 ≤ m) (fits : m
   positive : 1 ≤ offset s s.levels + span s s.levels
   positive = omega (arith, span_pos s s.levels base ratio)
 
-  pub row_moves : (level : ℕ) (row : List BinAt) → 1 ≤ level → level ≤ s.levels → map range_of row ≡ ranges s (m - 1) level → map range_of (moved_row s m level row) ≡ ranges s m level
+  pub row_moves : (level : ℕ) (row : List BinAt) → 1 ≤ level → level ≤ s.levels → map range_of row ≡ ranges s (m - 1) level →
+      map range_of (moved_row s m level row) ≡ ranges s m level
   row_moves level row from within are =
       let deep = depth s m in
       let written = kept s m level row ++ arrived s m level row ∷ [] in
@@ -250,7 +264,8 @@ module _ (s : Numbers) (valid : IsValid s) (m : ℕ) (first : 1 ≤ m) (fits : m
   }
 
   -- a row that has the positions of a level after the flush, its bins in frames of their own
-  row_is : (level : ℕ) (row : List BinAt) → 1 ≤ level → map range_of row ≡ ranges s m level → ((frame : ℕ) → times_named row frame ≤ 1) → All (λ bin. bin.frame ≤ s.bins) row → IsRow s level row
+  row_is : (level : ℕ) (row : List BinAt) → 1 ≤ level → map range_of row ≡ ranges s m level → ((frame : ℕ) → times_named row frame ≤ 1) →
+      All (λ bin. bin.frame ≤ s.bins) row → IsRow s level row
   row_is level row from are distinct frames =
       let width = span s level in
       let high = edge s (level - 1) m in
@@ -266,7 +281,8 @@ module _ (s : Numbers) (valid : IsValid s) (m : ℕ) (first : 1 ≤ m) (fits : m
         ends = λ k d below. (let cut_here = each k d below in omega (arith, cut_here.end, edge_within s (level - 1) m));
       }
 
-  IsRow-moved : (level : ℕ) (row : List BinAt) → 1 ≤ level → level ≤ s.levels → map range_of row ≡ ranges s (m - 1) level → IsRow s level row → IsRow s level (moved_row s m level row)
+  IsRow-moved : (level : ℕ) (row : List BinAt) → 1 ≤ level → level ≤ s.levels → map range_of row ≡ ranges s (m - 1) level → IsRow s level row →
+      IsRow s level (moved_row s m level row)
   IsRow-moved level row from within are is =
       let deep = depth s m in
       let new = arrived s m level row in
@@ -284,14 +300,16 @@ module _ (s : Numbers) (valid : IsValid s) (m : ℕ) (first : 1 ≤ m) (fits : m
             let frames = All-append (λ (bin : BinAt). bin.frame ≤ s.bins) (kept s m level row) (new ∷ []) (All-kept (λ (bin : BinAt). bin.frame ≤ s.bins) s m level row is.frames)
             (All-cons (λ (bin : BinAt). bin.frame ≤ s.bins) new [] low (All-nil (λ (bin : BinAt). bin.frame ≤ s.bins))) in
             subst (λ t. IsRow s level (cond t row (drop d written))) (sym unmoved)
-            (row_is level (drop d written) from positions (λ frame. omega (arith, times_named-drop d written frame, distinct frame)) (All-drop (λ (bin : BinAt). bin.frame ≤ s.bins) d written frames)))
+            (row_is level (drop d written) from positions (λ frame. omega (arith, times_named-drop d written frame, distinct frame))
+            (All-drop (λ (bin : BinAt). bin.frame ≤ s.bins) d written frames)))
       ]
 
   pub AreRows-moved : (rows : List (List BinAt)) → IsAt s (m - 1) rows → AreRows s rows → AreRows s (moved s m rows)
   AreRows-moved rows at are = record {
     levels = length-moved s m rows ∙ at.levels;
     each = λ level from within.
-        subst (IsRow s level) (sym (row_of-moved s m rows level from (omega (arith, at.levels)))) (IsRow-moved level (row_of rows level) from within (at.each level from within) (are.each level from within));
+        subst (IsRow s level) (sym (row_of-moved s m rows level from (omega (arith, at.levels))))
+        (IsRow-moved level (row_of rows level) from within (at.each level from within) (are.each level from within));
   }
 
   -- the bin that is written: from where the newest one begins, if it is joined with that, up to the edge of the younger level

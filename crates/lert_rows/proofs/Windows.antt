@@ -1,5 +1,6 @@
 -- The counts of the keys at some positions in a row, of those positions cut in two, and of a level's positions bin by bin.
-use Rattle.std.proofs.Common.{ℕ, ◌≡◌, ◌+◌, ◌-◌, ◌*◌, ◌/◌, ◌^◌, ◌≤◌, zero, suc, cond, List, [], ◌∷◌, ◌++◌, length, map, take, drop, min, max, ap, ap₂, sym, ◌∙◌, arith, inl, inr, subst, sum_by, slice_range, length-drop}
+use Rattle.std.proofs.Common.{ℕ, ◌≡◌, ◌+◌, ◌-◌, ◌*◌, ◌/◌, ◌^◌, ◌≤◌, zero, suc, cond, List, [], ◌∷◌, ◌++◌, length, map, take, drop, min, max, ap, ap₂}
+use Rattle.std.proofs.Common.{sym, ◌∙◌, arith, inl, inr, subst, sum_by, slice_range, length-drop}
 use Rattle.std.proofs.Math.Nat.{mul-le-mul_right, suc-mul, div-add-mod, mod-lt, mul_comm}
 use Rattle.std.proofs.Math.Seq.{take-add}
 use Rattle.std.proofs.lemmas.Bool.{cases_lt, lt-ltb, le-ltb}
@@ -36,7 +37,8 @@ counted-none s events tail n =
     ap (λ k. count_of (tallied s (take k (drop n events))) tail) (let none : n - n ≡ 0 = omega arith in none)
 
 -- the counts of a window are those of its two parts together
-pub counted-join : (s : Numbers) (events : List ℕ) (tail from mid to : ℕ) → from ≤ mid → mid ≤ to → counted s events tail from to ≡ counted s events tail from mid + counted s events tail mid to
+pub counted-join : (s : Numbers) (events : List ℕ) (tail from mid to : ℕ) → from ≤ mid → mid ≤ to →
+    counted s events tail from to ≡ counted s events tail from mid + counted s events tail mid to
 counted-join s events tail from mid to first second =
     let a = slice_range events from mid in
     let b = slice_range events mid to in
@@ -44,7 +46,8 @@ counted-join s events tail from mid to first second =
     omega (arith, whole, tails-append s tail a b, count_of-tallied s a tail, count_of-tallied s b tail, count_of-tallied s (slice_range events from to) tail)
 
 -- a table with these counts is that of the window
-pub window_table : (s : Numbers) (events : List ℕ) (from to : ℕ) (pieces : List Piece) → IsTable (2 ^ (64 - s.cone_bits)) pieces → ((tail : ℕ) → count_of pieces tail ≡ counted s events tail from to) → pieces ≡ tallied s (slice_range events from to)
+pub window_table : (s : Numbers) (events : List ℕ) (from to : ℕ) (pieces : List Piece) → IsTable (2 ^ (64 - s.cone_bits)) pieces →
+    ((tail : ℕ) → count_of pieces tail ≡ counted s events tail from to) → pieces ≡ tallied s (slice_range events from to)
 window_table s events from to pieces table counts =
     one_table 0 (2 ^ (64 - s.cone_bits)) pieces (tallied s (slice_range events from to)) table (IsTable-tallied s (slice_range events from to)) counts
 
@@ -59,9 +62,11 @@ clamp low high n = min high (max low n)
 
 -- the cut intervals cover the window between the edges
 cuts_cover : (s : Numbers) (events : List ℕ) (tail wide low high first n : ℕ) → low ≤ high →
-    sum_by (λ (range : Range). counted s events tail range.from range.to) (range_cuts wide low high first n) ≡ counted s events tail (clamp low high (first * wide)) (clamp low high ((first + n) * wide))
+    sum_by (λ (range : Range). counted s events tail range.from range.to) (range_cuts wide low high first n)
+    ≡ counted s events tail (clamp low high (first * wide)) (clamp low high ((first + n) * wide))
 cuts_cover s events tail wide low high first zero ordered =
-    sym (ap (λ k. counted s events tail (clamp low high (first * wide)) (clamp low high (k * wide))) (let same : first + 0 ≡ first = omega arith in same) ∙ counted-none s events tail (clamp low high (first * wide)))
+    sym (ap (λ k. counted s events tail (clamp low high (first * wide)) (clamp low high (k * wide))) (let same : first + 0 ≡ first = omega arith in same)
+    ∙ counted-none s events tail (clamp low high (first * wide)))
 cuts_cover s events tail wide low high first (suc n) ordered =
     let range = range_at wide low high first in
     let others = range_cuts wide low high (first + 1) n in
@@ -115,7 +120,8 @@ ranges_cover s events tail n level base ratio from =
     (reaches n (span s level) (edge s (level - 1) n) (span_pos s level base ratio) (edge_within s (level - 1) n))
 
 -- and so are those of level 0's
-pub young-ranges : (s : Numbers) (events : List ℕ) (from : ℕ) → young_bins s events from ≡ map (filled s events) (range_cuts (span s 0) from (length events) 0 (suc (length events / span s 0)))
+pub young-ranges : (s : Numbers) (events : List ℕ) (from : ℕ) → young_bins s events from
+    ≡ map (filled s events) (range_cuts (span s 0) from (length events) 0 (suc (length events / span s 0)))
 young-ranges s events from = filled_cuts s events 0 from (length events) (range_with_len 0 (suc (length events / span s 0)))
 
 pub sum_by-map : {A B : Type 0} (f : A → B) (count : B → ℕ) (xs : List A) → sum_by count (map f xs) ≡ sum_by (λ x. count (f x)) xs

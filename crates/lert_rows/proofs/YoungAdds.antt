@@ -1,5 +1,6 @@
 -- Level 0 as one more event is added.
-use Rattle.std.proofs.Common.{ℕ, suc, ◌≡◌, ◌+◌, ◌-◌, ◌*◌, ◌/◌, ◌^◌, ◌<◌, ◌≤◌, cond, eqb, List, [], length, get_or, set, map, ap, ap₂, sym, ◌∙◌, subst, arith, inl, inr, length-set, get_or-set_same, get_or-set_other}
+use Rattle.std.proofs.Common.{ℕ, suc, ◌≡◌, ◌+◌, ◌-◌, ◌*◌, ◌/◌, ◌^◌, ◌<◌, ◌≤◌, cond, eqb, List, [], length, get_or, set, map, ap, ap₂, sym, ◌∙◌, subst}
+use Rattle.std.proofs.Common.{arith, inl, inr, length-set, get_or-set_same, get_or-set_other}
 use Rattle.std.proofs.Math.Nat.{mul-le-mul_right, suc-mul}
 use Rattle.std.proofs.lemmas.Bool.{eq-eqb, ne_eqb, cases_lt, cases_eq}
 use Rattle.std.proofs.lemmas.List.{map-set, get_or-map, length-map}
@@ -12,17 +13,19 @@ use Rattle.lert_rows.specs.Young.{Young, added, with_event, IsNextPosition, bins
 use Rattle.lert_rows.proofs.YoungLaws.{bins_of-none, bins_of-begin, bins_of-grow, IsPlace, place_of, added-begin, added-grow, some_bins, bits_of_zero, same_numbers}
 
 -- what is known where a position is added: the fields, what callers see, and the number of the table
-pub record Adds {T : Type 0} (pieces : T → List Piece) (room quotient remainder : T → ℕ) (s : Numbers) (tables : List T) (from to : ℕ) (young : Young) (m begin wide at : ℕ) : Type 0 where
-  pub filled : AreFilled pieces room quotient remainder s tables from to
-  pub seen : record { settings = s; from = from; to = to; bins = bins_of (span s 0) from to (map pieces tables) } ≡ young
-  pub next : IsNextPosition young m
-  pub begin_is : begin ≡ cond (eqb from to) (m - 1) from
-  pub wide_is : wide ≡ span s 0
-  pub positive : 1 ≤ wide
-  pub at_is : at ≡ (m - 1 - begin) / wide
+pub record Adds {T : Type 0} (pieces : T → List Piece) (room quotient remainder : T → ℕ) (s : Numbers) (tables : List T) (from to : ℕ) (young : Young) (m begin wide at : ℕ) : Type 0
+  where
+    pub filled : AreFilled pieces room quotient remainder s tables from to
+    pub seen : record { settings = s; from = from; to = to; bins = bins_of (span s 0) from to (map pieces tables) } ≡ young
+    pub next : IsNextPosition young m
+    pub begin_is : begin ≡ cond (eqb from to) (m - 1) from
+    pub wide_is : wide ≡ span s 0
+    pub positive : 1 ≤ wide
+    pub at_is : at ≡ (m - 1 - begin) / wide
 
 pub adds : {T : Type 0} (pieces : T → List Piece) (room quotient remainder : T → ℕ) {s : Numbers} {tables : List T} {from to : ℕ} {young : Young} {m begin wide at : ℕ} →
-    AreFilled pieces room quotient remainder s tables from to → record { settings = s; from = from; to = to; bins = bins_of (span s 0) from to (map pieces tables) } ≡ young → IsNextPosition young m →
+    AreFilled pieces room quotient remainder s tables from to → record { settings = s; from = from; to = to; bins = bins_of (span s 0) from to (map pieces tables) } ≡ young →
+    IsNextPosition young m →
     begin ≡ cond (eqb from to) (m - 1) from → wide ≡ span s 0 → 1 ≤ wide → at ≡ (m - 1 - begin) / wide → Adds pieces room quotient remainder s tables from to young m begin wide at
 adds pieces room quotient remainder filled seen next begin_is wide_is positive at_is =
     record { filled = filled; seen = seen; next = next; begin_is = begin_is; wide_is = wide_is; positive = positive; at_is = at_is }
@@ -76,7 +79,8 @@ stands {T} {pieces} {room} {quotient} {remainder} {s} {tables} {from} {to} {youn
           let ordered = adds.filled.ordered in
           let free = next.free some in
           record {
-            filled = subst (λ b. AreFilled pieces room quotient remainder s tables b (m - 1)) (sym begin_is) (subst (λ n. AreFilled pieces room quotient remainder s tables from n) (sym last) adds.filled);
+            filled = subst (λ b. AreFilled pieces room quotient remainder s tables b (m - 1)) (sym begin_is)
+                (subst (λ n. AreFilled pieces room quotient remainder s tables from n) (sym last) adds.filled);
             positive = positive;
             first = omega (arith, next.first);
             last = next.last;
@@ -111,7 +115,8 @@ add_fits {T} {pieces} {room} {quotient} {remainder} {s} {tables} {from} {to} {yo
     subst (λ (t : T). total (pieces t) + 1 ≤ room t) (sym is) (omega (arith, here.of_zero.events))
 
 pub add_below : {T : Type 0} {pieces : T → List Piece} {room quotient remainder : T → ℕ} {s : Numbers} {tables : List T} {from to : ℕ} {young : Young} {m begin wide at : ℕ} →
-    Adds pieces room quotient remainder s tables from to young m begin wide at → (table : T) → table ≡ get_or tables at table → (tail : ℕ) → tail < 2 ^ (64 - young.settings.cone_bits) →
+    Adds pieces room quotient remainder s tables from to young m begin wide at → (table : T) → table ≡ get_or tables at table → (tail : ℕ) →
+    tail < 2 ^ (64 - young.settings.cone_bits) →
     tail < 2 ^ (quotient table + remainder table)
 add_below {T} {pieces} {room} {quotient} {remainder} {s} {tables} {from} {to} {young} {m} {begin} {wide} {at} adds table is tail below =
     let known = stands adds in
@@ -121,7 +126,8 @@ add_below {T} {pieces} {room} {quotient} {remainder} {s} {tables} {from} {to} {y
     subst (λ b. tail < 2 ^ b) (sym bits) below
 
 pub add_filled : {T : Type 0} {pieces : T → List Piece} {room quotient remainder : T → ℕ} {s : Numbers} {tables : List T} {from to : ℕ} {young : Young} {m begin wide at : ℕ} →
-    Adds pieces room quotient remainder s tables from to young m begin wide at → (old new : T) (tail : ℕ) → old ≡ get_or tables at old → pieces new ≡ plus (pieces old) tail 1 → room new ≡ room old → quotient new ≡ quotient old → remainder new ≡ remainder old →
+    Adds pieces room quotient remainder s tables from to young m begin wide at → (old new : T) (tail : ℕ) → old ≡ get_or tables at old → pieces new ≡ plus (pieces old) tail 1 →
+    room new ≡ room old → quotient new ≡ quotient old → remainder new ≡ remainder old →
     AreFilled pieces room quotient remainder s (set tables at new) begin m
 add_filled {T} {pieces} {room} {quotient} {remainder} {s} {tables} {from} {to} {young} {m} {begin} {wide} {at} adds old new tail is pieces_are room_is quotient_is remainder_is =
     let known = stands adds in
@@ -147,7 +153,8 @@ add_filled {T} {pieces} {room} {quotient} {remainder} {s} {tables} {from} {to} {
               unused = λ over. absurd (omega arith);
               of_zero = same_numbers s before.of_zero room_is quotient_is remainder_is;
             } in
-            subst (λ (t : T). IsFilled s begin m k (pieces t) (room t) (quotient t) (remainder t)) (sym at_it) (subst (λ n. IsFilled s begin m n (pieces new) (room new) (quotient new) (remainder new)) (sym here) after))
+            subst (λ (t : T). IsFilled s begin m k (pieces t) (room t) (quotient t) (remainder t)) (sym at_it)
+            (subst (λ n. IsFilled s begin m n (pieces new) (room new) (quotient new) (remainder new)) (sym here) after))
         | inr elsewhere ↦ (
             let at_it : get_or (set tables at new) k d ≡ get_or tables k d = get_or-set_other tables at k new d elsewhere in
             let before = known.filled.each k d inside in

@@ -1,5 +1,6 @@
 -- The bins of level 0 as events come and the oldest one is dropped.
-use Rattle.std.proofs.Common.{ℕ, zero, suc, ◌≡◌, ◌+◌, ◌-◌, ◌*◌, ◌/◌, ◌%◌, ◌≤◌, cond, ltb, max, min, List, [], ◌∷◌, ◌++◌, length, refl, ap, ap₂, sym, ◌∙◌, arith, inl, inr, slice_range, length-append, append-nil, take, drop, length-drop}
+use Rattle.std.proofs.Common.{ℕ, zero, suc, ◌≡◌, ◌+◌, ◌-◌, ◌*◌, ◌/◌, ◌%◌, ◌≤◌, cond, ltb, max, min, List, [], ◌∷◌, ◌++◌, length, refl, ap, ap₂, sym}
+use Rattle.std.proofs.Common.{◌∙◌, arith, inl, inr, slice_range, length-append, append-nil, take, drop, length-drop}
 use Rattle.std.proofs.Math.Nat.{div-add-mod, mod-lt, mul-le-mul_right, mul-mod_left, suc-mul, mul_comm}
 use Rattle.std.proofs.lemmas.Bool.{lt-ltb, le-ltb, cases_lt}
 use Rattle.std.proofs.lemmas.List.{drop-append-le, take_all}
@@ -22,7 +23,8 @@ grown-last (x ∷ []) bin tail m = refl
 grown-last (x ∷ y ∷ front) bin tail m = ap (λ bins. x ∷ bins) (grown-last (y ∷ front) bin tail m)
 
 -- the last positions with one more event
-slice_range-push : (events : List ℕ) (key from : ℕ) → from ≤ length events → slice_range (events ++ key ∷ []) from (suc (length events)) ≡ slice_range events from (length events) ++ key ∷ []
+slice_range-push : (events : List ℕ) (key from : ℕ) → from ≤ length events → slice_range (events ++ key ∷ []) from (suc (length events)) ≡ slice_range events from (length events)
+    ++ key ∷ []
 slice_range-push events key from within =
     let rest = drop from events in
     let len = length-drop from events in
@@ -35,9 +37,15 @@ slice_range-none events n = ap (λ k. take k (drop n events)) (let none : n - n 
 
 -- a bin with one more event
 made-push : (s : Numbers) (events : List ℕ) (key from : ℕ) → from ≤ length events →
-    made s (events ++ key ∷ []) from (suc (length events)) ≡ record { from = from; to = suc (length events); pieces = plus (tallied s (slice_range events from (length events))) (tail_of s key) 1 }
+    made s (events ++ key ∷ []) from (suc (length events)) ≡ record {
+      from = from;
+      to = suc (length events);
+      pieces =
+          plus (tallied s (slice_range events from (length events))) (tail_of s key) 1;
+    }
 made-push s events key from within =
-    ap (λ pieces. record { from = from; to = suc (length events); pieces = pieces }) (ap (tallied s) (slice_range-push events key from within) ∙ tallied-push s (slice_range events from (length events)) key)
+    ap (λ pieces. record { from = from; to = suc (length events); pieces = pieces })
+    (ap (tallied s) (slice_range-push events key from within) ∙ tallied-push s (slice_range events from (length events)) key)
 
 -- one more event is in the newest bin, or in a new one
 pub young-added : (s : Numbers) (events : List ℕ) (key from : ℕ) → 1 ≤ span s 0 → from % span s 0 ≡ 0 → from ≤ length events →

@@ -1,5 +1,6 @@
 -- How often a tail stands in the tables of level 0.
-use Rattle.std.proofs.Common.{ℕ, suc, ◌≡◌, ◌+◌, ◌*◌, ◌^◌, ◌<◌, ◌≤◌, min, List, [], ◌∷◌, length, get_or, map, refl, ap, ap₂, sym, ◌∙◌, subst, arith, inl, inr, sum_by, take}
+use Rattle.std.proofs.Common.{ℕ, suc, ◌≡◌, ◌+◌, ◌*◌, ◌^◌, ◌<◌, ◌≤◌, min, List, [], ◌∷◌, length, get_or, map, refl, ap, ap₂, sym, ◌∙◌, subst, arith, inl}
+use Rattle.std.proofs.Common.{inr, sum_by, take}
 use Rattle.std.proofs.Math.Nat.{suc-mul, pow-zero}
 use Rattle.std.proofs.lemmas.Bool.{cases_lt, cases_eq}
 use Rattle.std.proofs.lemmas.List.{take_all}
@@ -29,8 +30,10 @@ pub record IsCounted {T : Type 0} (pieces : T → List Piece) (tables : List T) 
   pub is : count ≡ sum_by (λ table. count_of (pieces table) tail) (take number tables)
   pub few : count ≤ number * 65536
 
-pub counted_more : {T : Type 0} (pieces : T → List Piece) (room quotient remainder : T → ℕ) (s : Numbers) (all tables : List T) (from to : ℕ) → AreFilled pieces room quotient remainder s all from to → tables ≡ all →
-    (tail number count : ℕ) → IsCounted pieces tables tail number count → number < length tables → (table : T) → table ≡ get_or tables number table → (more : ℕ) → more ≡ count_of (pieces table) tail →
+pub counted_more : {T : Type 0} (pieces : T → List Piece) (room quotient remainder : T → ℕ) (s : Numbers) (all tables : List T) (from to : ℕ) →
+    AreFilled pieces room quotient remainder s all from to → tables ≡ all →
+    (tail number count : ℕ) → IsCounted pieces tables tail number count → number < length tables → (table : T) → table ≡ get_or tables number table → (more : ℕ) →
+    more ≡ count_of (pieces table) tail →
     IsCounted pieces tables tail (number + 1) (count + more)
 counted_more {T} pieces room quotient remainder s all tables from to filled same_tables tail number count counted below table is more more_is =
     let here = (subst (λ (ts : List T). AreFilled pieces room quotient remainder s ts from to) (sym same_tables) filled).each number table below in
@@ -42,13 +45,15 @@ counted_more {T} pieces room quotient remainder s all tables from to filled same
       few = omega (arith, counted.few, here.summed);
     }
 
-pub counted_fits : {T : Type 0} (pieces : T → List Piece) (room quotient remainder : T → ℕ) (s : Numbers) (all tables : List T) (from to : ℕ) → AreFilled pieces room quotient remainder s all from to → tables ≡ all →
+pub counted_fits : {T : Type 0} (pieces : T → List Piece) (room quotient remainder : T → ℕ) (s : Numbers) (all tables : List T) (from to : ℕ) →
+    AreFilled pieces room quotient remainder s all from to → tables ≡ all →
     (tail number count : ℕ) → IsCounted pieces tables tail number count → number ≤ length tables → count < 2 ^ 63
 counted_fits pieces room quotient remainder s all tables from to filled same_tables tail number count counted below =
     let len = filled.len in
     omega (arith, counted.few, filled.valid.limits.bins_to, ap length same_tables)
 
-counts_are : {T : Type 0} (pieces : T → List Piece) (tail wide from to : ℕ) (tables : List T) → ((k : ℕ) (d : T) → k < length tables → to ≤ from + k * wide → pieces (get_or tables k d) ≡ []) →
+counts_are : {T : Type 0} (pieces : T → List Piece) (tail wide from to : ℕ) (tables : List T) →
+    ((k : ℕ) (d : T) → k < length tables → to ≤ from + k * wide → pieces (get_or tables k d) ≡ []) →
     sum_by (λ (bin : Bin). count_of bin.pieces tail) (bins_of wide from to (map pieces tables)) ≡ sum_by (λ table. count_of (pieces table) tail) tables
 counts_are pieces tail wide from to [] unused = refl
 counts_are {T} pieces tail wide from to (table ∷ tables) unused =
@@ -67,7 +72,8 @@ counts_are {T} pieces tail wide from to (table ∷ tables) unused =
           ap (sum_by (λ (bin : Bin). count_of bin.pieces tail)) over ∙ omega (arith, later))
     ]
 
-pub counted_all : {T : Type 0} (pieces : T → List Piece) (room quotient remainder : T → ℕ) (s : Numbers) (all tables : List T) (from to : ℕ) → AreFilled pieces room quotient remainder s all from to → tables ≡ all →
+pub counted_all : {T : Type 0} (pieces : T → List Piece) (room quotient remainder : T → ℕ) (s : Numbers) (all tables : List T) (from to : ℕ) →
+    AreFilled pieces room quotient remainder s all from to → tables ≡ all →
     (young : Young) → record { settings = s; from = from; to = to; bins = bins_of (span s 0) from to (map pieces all) } ≡ young →
     (tail number count : ℕ) → IsCounted pieces tables tail number count → length tables ≤ number → count ≡ sum_by (λ bin. count_of bin.pieces tail) young.bins
 counted_all {T} pieces room quotient remainder s all tables from to filled same_tables young seen tail number count counted over =

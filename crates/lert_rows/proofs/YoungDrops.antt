@@ -1,5 +1,6 @@
 -- Level 0 as its oldest bin is dropped.
-use Rattle.std.proofs.Common.{ℕ, suc, ◌≡◌, ◌+◌, ◌*◌, ◌≤◌, cond, ltb, min, List, [], ◌∷◌, ◌++◌, length, get_or, set, map, drop, ap, sym, ◌∙◌, subst, arith, inl, inr, length-append, take}
+use Rattle.std.proofs.Common.{ℕ, suc, ◌≡◌, ◌+◌, ◌*◌, ◌≤◌, cond, ltb, min, List, [], ◌∷◌, ◌++◌, length, get_or, set, map, drop, ap, sym, ◌∙◌, subst, arith}
+use Rattle.std.proofs.Common.{inl, inr, length-append, take}
 use Rattle.std.proofs.Math.Nat.{div-add-mod, suc-mul}
 use Rattle.std.proofs.lemmas.Bool.{cases_lt}
 use Rattle.std.proofs.Math.ListN.{get_or-append}
@@ -20,10 +21,13 @@ bins_of-behind wide from to (p ∷ tables) more covered =
     let step = suc-mul (length tables) wide in
     ap (λ bins. cond {A = List Bin} (ltb from to) (record { from = from; to = min to (from + wide); pieces = p } ∷ bins) []) (bins_of-behind wide (from + wide) to tables more (omega arith))
 
-drop_filled : {T : Type 0} (pieces : T → List Piece) (room quotient remainder : T → ℕ) (tables : List T) {s : Numbers} {from to wide : ℕ} → AreFilled pieces room quotient remainder s tables from to →
-    wide ≡ span s 0 → 1 ≤ wide → from + wide ≤ to → (old new : T) → old ≡ get_or tables 0 old → pieces new ≡ [] → room new ≡ room old → quotient new ≡ quotient old → remainder new ≡ remainder old →
+drop_filled : {T : Type 0} (pieces : T → List Piece) (room quotient remainder : T → ℕ) (tables : List T) {s : Numbers} {from to wide : ℕ} →
+    AreFilled pieces room quotient remainder s tables from to →
+    wide ≡ span s 0 → 1 ≤ wide → from + wide ≤ to → (old new : T) → old ≡ get_or tables 0 old → pieces new ≡ [] → room new ≡ room old → quotient new ≡ quotient old →
+    remainder new ≡ remainder old →
     AreFilled pieces room quotient remainder s (drop 1 (set tables 0 new) ++ take 1 (set tables 0 new)) (from + wide) to
-drop_filled pieces room quotient remainder [] {s} {from} {to} {wide} filled wide_is positive whole old new is pieces_are room_is quotient_is remainder_is = absurd (omega (arith, filled.len, some_bins s filled.valid))
+drop_filled pieces room quotient remainder [] {s} {from} {to} {wide} filled wide_is positive whole old new is pieces_are room_is quotient_is remainder_is =
+    absurd (omega (arith, filled.len, some_bins s filled.valid))
 drop_filled pieces room quotient remainder (first ∷ rest) {s} {from} {to} {wide} filled wide_is positive whole old new is pieces_are room_is quotient_is remainder_is =
     let len : length (rest ++ new ∷ []) ≡ s.bins = omega (arith, length-append rest (new ∷ []), filled.len) in
     let parts = div-add-mod from (span s 0) in
@@ -63,7 +67,8 @@ drop_filled pieces room quotient remainder (first ∷ rest) {s} {from} {to} {wid
       ];
     }
 
-drop_bins : {T : Type 0} (pieces : T → List Piece) (room quotient remainder : T → ℕ) (tables : List T) {s : Numbers} {from to wide : ℕ} {young : Young} → AreFilled pieces room quotient remainder s tables from to →
+drop_bins : {T : Type 0} (pieces : T → List Piece) (room quotient remainder : T → ℕ) (tables : List T) {s : Numbers} {from to wide : ℕ} {young : Young} →
+    AreFilled pieces room quotient remainder s tables from to →
     record { settings = s; from = from; to = to; bins = bins_of (span s 0) from to (map pieces tables) } ≡ young →
     wide ≡ span s 0 → 1 ≤ wide → young.from + span young.settings 0 ≤ young.to → (new : T) →
     record { settings = s; from = from + wide; to = to; bins = bins_of (span s 0) (from + wide) to (map pieces (drop 1 (set tables 0 new) ++ take 1 (set tables 0 new))) }
@@ -82,11 +87,13 @@ drop_bins pieces room quotient remainder (first ∷ rest) {s} {from} {to} {wide}
     ∙ bins_of-behind (span s 0) (from + wide) to held (pieces new ∷ []) (omega arith)
     ∙ ap (λ w. bins_of (span s 0) (from + w) to held) wide_is
     ∙ sym (ap (drop 1) (bins_of-some (span s 0) from to (pieces first) held (omega arith))) in
-    subst (λ (y : Young). record { settings = s; from = from + wide; to = to; bins = bins_of (span s 0) (from + wide) to (map pieces (rest ++ new ∷ [])) } ≡ record y { from = y.from + span y.settings 0; bins = drop 1 y.bins }) seen
+    subst (λ (y : Young). record { settings = s; from = from + wide; to = to; bins = bins_of (span s 0) (from + wide) to (map pieces (rest ++ new ∷ [])) }
+    ≡ record y { from = y.from + span y.settings 0; bins = drop 1 y.bins }) seen
     (λ i. record { settings = s; from = from + wide_is i; to = to; bins = bins_are i })
 
 -- what is known where the oldest bin is dropped
-pub record Drops {T : Type 0} (pieces : T → List Piece) (room quotient remainder : T → ℕ) (s : Numbers) (tables : List T) (from to : ℕ) (young : Young) (wide : ℕ) (new : T) (after : List T) : Type 0 where
+pub record Drops {T : Type 0} (pieces : T → List Piece) (room quotient remainder : T → ℕ) (s : Numbers) (tables : List T) (from to : ℕ) (young : Young) (wide : ℕ) (new : T)
+    (after : List T) : Type 0 where
   pub filled : AreFilled pieces room quotient remainder s tables from to
   pub seen : record { settings = s; from = from; to = to; bins = bins_of (span s 0) from to (map pieces tables) } ≡ young
   pub whole : young.from + span young.settings 0 ≤ young.to
@@ -94,14 +101,18 @@ pub record Drops {T : Type 0} (pieces : T → List Piece) (room quotient remaind
   pub positive : 1 ≤ wide
   pub after_is : after ≡ drop 1 (set tables 0 new) ++ take 1 (set tables 0 new)
 
-pub drops : {T : Type 0} (pieces : T → List Piece) (room quotient remainder : T → ℕ) (new : T) {s : Numbers} {tables : List T} {from to : ℕ} {young : Young} {wide : ℕ} {after : List T} →
+pub drops : {T : Type 0} (pieces : T → List Piece) (room quotient remainder : T → ℕ) (new : T) {s : Numbers} {tables : List T} {from to : ℕ} {young : Young} {wide : ℕ} {after : List T}
+    →
     AreFilled pieces room quotient remainder s tables from to → record { settings = s; from = from; to = to; bins = bins_of (span s 0) from to (map pieces tables) } ≡ young →
-    young.from + span young.settings 0 ≤ young.to → wide ≡ span s 0 → 1 ≤ wide → after ≡ drop 1 (set tables 0 new) ++ take 1 (set tables 0 new) → Drops pieces room quotient remainder s tables from to young wide new after
+    young.from + span young.settings 0 ≤ young.to → wide ≡ span s 0 → 1 ≤ wide → after ≡ drop 1 (set tables 0 new) ++ take 1 (set tables 0 new) →
+    Drops pieces room quotient remainder s tables from to young wide new after
 drops pieces room quotient remainder new filled seen whole wide_is positive after_is =
     record { filled = filled; seen = seen; whole = whole; wide_is = wide_is; positive = positive; after_is = after_is }
 
-pub dropped_filled : {T : Type 0} {pieces : T → List Piece} {room quotient remainder : T → ℕ} {s : Numbers} {tables : List T} {from to : ℕ} {young : Young} {wide : ℕ} {new : T} {after : List T} →
-    Drops pieces room quotient remainder s tables from to young wide new after → (old : T) → old ≡ get_or tables 0 old → pieces new ≡ [] → room new ≡ room old → quotient new ≡ quotient old → remainder new ≡ remainder old →
+pub dropped_filled : {T : Type 0} {pieces : T → List Piece} {room quotient remainder : T → ℕ} {s : Numbers} {tables : List T} {from to : ℕ} {young : Young} {wide : ℕ} {new : T}
+    {after : List T} →
+    Drops pieces room quotient remainder s tables from to young wide new after → (old : T) → old ≡ get_or tables 0 old → pieces new ≡ [] → room new ≡ room old →
+    quotient new ≡ quotient old → remainder new ≡ remainder old →
     AreFilled pieces room quotient remainder s after (from + wide) to
 dropped_filled {T} {pieces} {room} {quotient} {remainder} {s} {tables} {from} {to} {young} {wide} {new} {after} drops old is pieces_are room_is quotient_is remainder_is =
     let fits = subst (λ (y : Young). y.from + span y.settings 0 ≤ y.to) (sym drops.seen) drops.whole in
@@ -109,9 +120,11 @@ dropped_filled {T} {pieces} {room} {quotient} {remainder} {s} {tables} {from} {t
     subst (λ (ts : List T). AreFilled pieces room quotient remainder s ts (from + wide) to) (sym drops.after_is)
     (drop_filled pieces room quotient remainder tables drops.filled drops.wide_is drops.positive (omega arith) old new is pieces_are room_is quotient_is remainder_is)
 
-pub dropped_bins : {T : Type 0} {pieces : T → List Piece} {room quotient remainder : T → ℕ} {s : Numbers} {tables : List T} {from to : ℕ} {young : Young} {wide : ℕ} {new : T} {after : List T} →
+pub dropped_bins : {T : Type 0} {pieces : T → List Piece} {room quotient remainder : T → ℕ} {s : Numbers} {tables : List T} {from to : ℕ} {young : Young} {wide : ℕ} {new : T}
+    {after : List T} →
     Drops pieces room quotient remainder s tables from to young wide new after →
-    record { settings = s; from = from + wide; to = to; bins = bins_of (span s 0) (from + wide) to (map pieces after) } ≡ record young { from = young.from + span young.settings 0; bins = drop 1 young.bins }
+    record { settings = s; from = from + wide; to = to; bins = bins_of (span s 0) (from + wide) to (map pieces after) }
+    ≡ record young { from = young.from + span young.settings 0; bins = drop 1 young.bins }
 dropped_bins {T} {pieces} {room} {quotient} {remainder} {s} {tables} {from} {to} {young} {wide} {new} {after} drops =
     (λ i. record { settings = s; from = from + wide; to = to; bins = bins_of (span s 0) (from + wide) to (map pieces (drops.after_is i)) })
     ∙ drop_bins pieces room quotient remainder tables drops.filled drops.seen drops.wide_is drops.positive drops.whole new

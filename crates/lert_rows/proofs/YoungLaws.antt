@@ -1,5 +1,6 @@
 -- How the tables of level 0 change, as its bins.
-use Rattle.std.proofs.Common.{ℕ, zero, suc, ◌≡◌, ◌+◌, ◌-◌, ◌*◌, ◌/◌, ◌%◌, ◌<◌, ◌≤◌, cond, min, List, [], ◌∷◌, ◌++◌, length, get_or, set, map, refl, ap, ap₂, sym, ◌∙◌, subst, arith, inl, inr, length-append}
+use Rattle.std.proofs.Common.{ℕ, zero, suc, ◌≡◌, ◌+◌, ◌-◌, ◌*◌, ◌/◌, ◌%◌, ◌<◌, ◌≤◌, cond, min, List, [], ◌∷◌, ◌++◌, length, get_or, set, map, refl}
+use Rattle.std.proofs.Common.{ap, ap₂, sym, ◌∙◌, subst, arith, inl, inr, length-append}
 use Rattle.std.proofs.Math.Nat.{div-add-mod, mod-lt, suc-mul}
 use Rattle.std.proofs.lemmas.Bool.{lt-ltb, le-ltb, eq-eqb, ne_eqb, cases_lt}
 use Rattle.std.proofs.Math.ListN.{get_or-append}
@@ -20,7 +21,8 @@ bins_of-none wide from to [] over = refl
 bins_of-none wide from to (p ∷ tables) over =
     ap (λ t. cond {A = List Bin} t (record { from = from; to = min to (from + wide); pieces = p } ∷ bins_of wide (from + wide) to tables) []) (le-ltb from to over)
 
-pub bins_of-some : (wide from to : ℕ) (p : List Piece) (tables : List (List Piece)) → from < to → bins_of wide from to (p ∷ tables) ≡ record { from = from; to = min to (from + wide); pieces = p } ∷ bins_of wide (from + wide) to tables
+pub bins_of-some : (wide from to : ℕ) (p : List Piece) (tables : List (List Piece)) → from < to →
+    bins_of wide from to (p ∷ tables) ≡ record { from = from; to = min to (from + wide); pieces = p } ∷ bins_of wide (from + wide) to tables
 bins_of-some wide from to p tables under =
     ap (λ t. cond {A = List Bin} t (record { from = from; to = min to (from + wide); pieces = p } ∷ bins_of wide (from + wide) to tables) []) (lt-ltb from to under)
 
@@ -67,8 +69,10 @@ bins_of-grow wide from (suc at) n tail (p ∷ tables) positive above below withi
     let next = suc-mul (suc at) wide in
     let same : min (suc n) (from + wide) ≡ min n (from + wide) = omega arith in
     bins_of-some wide from (suc n) p (set tables at (plus (get_or tables at []) tail 1)) (omega arith)
-    ∙ ap₂ (λ bin bins. bin ∷ bins) (λ i. record { from = from; to = same i; pieces = p }) (bins_of-grow wide (from + wide) at n tail tables positive (omega arith) (omega arith) (omega arith))
-    ∙ sym (grown-behind (record { from = from; to = min n (from + wide); pieces = p }) (bins_of wide (from + wide) n tables) tail (suc n) (bins_of-length wide (from + wide) n tables (omega arith) (omega arith)))
+    ∙ ap₂ (λ bin bins. bin ∷ bins) (λ i. record { from = from; to = same i; pieces = p })
+    (bins_of-grow wide (from + wide) at n tail tables positive (omega arith) (omega arith) (omega arith))
+    ∙ sym (grown-behind (record { from = from; to = min n (from + wide); pieces = p }) (bins_of wide (from + wide) n tables) tail (suc n)
+    (bins_of-length wide (from + wide) n tables (omega arith) (omega arith)))
     ∙ ap (λ bins. grown bins tail (suc n)) (sym (bins_of-some wide from n p tables (omega arith)))
 
 -- the bits of quotient and remainder are those of a tail
@@ -125,7 +129,8 @@ pub added-grow : (s : Numbers) (bins : List Bin) (tail from at n : ℕ) → from
 added-grow s bins tail from at n aligned above below =
     let step = suc-mul at (span s 0) in
     let rest = n - (from + at * span s 0) in
-    let some : (suc n - 1) % span s 0 ≡ rest = ap (λ m. m % span s 0) (let before : suc n - 1 ≡ n = omega arith in before) ∙ rest_of (span s 0) from n at rest aligned (omega arith) (omega arith) in
+    let some : (suc n - 1) % span s 0 ≡ rest = ap (λ m. m % span s 0) (let before : suc n - 1 ≡ n = omega arith in before)
+    ∙ rest_of (span s 0) from n at rest aligned (omega arith) (omega arith) in
     ap (λ t. cond {A = List Bin} t (bins ++ begun tail (suc n) ∷ []) (grown bins tail (suc n))) (ne_eqb ((suc n - 1) % span s 0) 0 (λ e. omega arith))
 
 pub some_bins : (s : Numbers) → IsValid s → 1 ≤ s.bins
@@ -138,11 +143,14 @@ pub record AreEmpty {T : Type 0} (pieces : T → List Piece) (room quotient rema
   pub len : length tables ≡ count
   pub each : (k : ℕ) (d : T) → k < length tables → IsFilled s 0 0 k (pieces (get_or tables k d)) (room (get_or tables k d)) (quotient (get_or tables k d)) (remainder (get_or tables k d))
 
-pub empty_begin : {T : Type 0} (pieces : T → List Piece) (room quotient remainder : T → ℕ) (s : Numbers) (tables : List T) → tables ≡ [] → AreEmpty pieces room quotient remainder s tables 0
+pub empty_begin : {T : Type 0} (pieces : T → List Piece) (room quotient remainder : T → ℕ) (s : Numbers) (tables : List T) → tables ≡ [] →
+    AreEmpty pieces room quotient remainder s tables 0
 empty_begin pieces room quotient remainder s tables none = record { len = ap length none; each = λ k d below. absurd (omega (arith, ap length none)) }
 
-pub empty_more : {T : Type 0} (pieces : T → List Piece) (room quotient remainder : T → ℕ) (s : Numbers) (tables : List T) (count : ℕ) → AreEmpty pieces room quotient remainder s tables count → (table : T) →
-    pieces table ≡ [] → room table ≡ span s 0 → quotient table ≡ quotient_bits s 0 → remainder table ≡ width s 0 → AreEmpty pieces room quotient remainder s (tables ++ table ∷ []) (count + 1)
+pub empty_more : {T : Type 0} (pieces : T → List Piece) (room quotient remainder : T → ℕ) (s : Numbers) (tables : List T) (count : ℕ) →
+    AreEmpty pieces room quotient remainder s tables count → (table : T) →
+    pieces table ≡ [] → room table ≡ span s 0 → quotient table ≡ quotient_bits s 0 → remainder table ≡ width s 0 →
+    AreEmpty pieces room quotient remainder s (tables ++ table ∷ []) (count + 1)
 empty_more {T} pieces room quotient remainder s tables count empty table pieces_are room_is quotient_is remainder_is = record {
   len = omega (arith, length-append tables (table ∷ []), empty.len);
   each = λ k d below. let len = length-append tables (table ∷ []) in elim (cases_lt k (length tables)) [
@@ -158,7 +166,8 @@ empty_more {T} pieces room quotient remainder s tables count empty table pieces_
   ];
 }
 
-pub empty_filled : {T : Type 0} (pieces : T → List Piece) (room quotient remainder : T → ℕ) (s now : Numbers) (tables : List T) (count : ℕ) → now ≡ s → IsValid now → AreEmpty pieces room quotient remainder s tables count →
+pub empty_filled : {T : Type 0} (pieces : T → List Piece) (room quotient remainder : T → ℕ) (s now : Numbers) (tables : List T) (count : ℕ) → now ≡ s → IsValid now →
+    AreEmpty pieces room quotient remainder s tables count →
     now.bins ≤ count → count ≤ now.bins → AreFilled pieces room quotient remainder s tables 0 0
 empty_filled pieces room quotient remainder s now tables count same valid empty least most = record {
   valid = subst IsValid same valid;

@@ -1,5 +1,6 @@
 -- The rows of a cone's levels on disk: for each level its bins, oldest first, and the frame in which each stands.
-use Rattle.std.specs.Prelude.{◌≡◌, ℕ, ◌-◌, ◌<◌, ◌≤◌, ◌%◌, ◌==◌, ◌^◌, Bool, nat_lt, List, [], ◌∷◌, ◌++◌, length, map, flat_map, take, drop, All, count_by, find, unwrap_or, slice_index_or, slice_range, if◌then◌else◌}
+use Rattle.std.specs.Prelude.{◌≡◌, ℕ, ◌-◌, ◌<◌, ◌≤◌, ◌%◌, ◌==◌, ◌^◌, Bool, nat_lt, List, [], ◌∷◌, ◌++◌, length, map, flat_map, take, drop, All}
+use Rattle.std.specs.Prelude.{count_by, find, unwrap_or, slice_index_or, slice_range, if◌then◌else◌}
 use Rattle.std.specs.List.{range_with_len}
 use Rattle.lert_frames.specs.Frame.{HoldsFrame}
 use Rattle.lert_frames.specs.Place.{frame_place}

@@ -1,5 +1,6 @@
 -- Level 0 in memory: the bins of the newest positions, oldest first, each with a table of its own.
-use Rattle.std.specs.Prelude.{ℕ, suc, ◌≡◌, ◌≢◌, ◌+◌, ◌-◌, ◌*◌, ◌%◌, ◌<◌, ◌≤◌, ◌==◌, nat_lt, min, List, [], ◌∷◌, ◌++◌, length, if◌then◌else◌, slice_index_or}
+use Rattle.std.specs.Prelude.{ℕ, suc, ◌≡◌, ◌≢◌, ◌+◌, ◌-◌, ◌*◌, ◌%◌, ◌<◌, ◌≤◌, ◌==◌, nat_lt, min, List, [], ◌∷◌, ◌++◌, length}
+use Rattle.std.specs.Prelude.{if◌then◌else◌, slice_index_or}
 use Rattle.lert_spec.specs.declared.numbers.Numbers.{Numbers}
 use Rattle.lert_spec.specs.declared.piece.Piece.{Piece}
 use Rattle.lert_spec.specs.Bins.{Bin}

@@ -1,5 +1,6 @@
 -- How a run text changes as a remainder's count rises.
-use Rattle.std.proofs.Common.{◌≡◌, ℕ, ◌+◌, ◌<◌, ◌≤◌, List, [], ◌∷◌, ◌++◌, length, take, drop, refl, sym, ap, ◌∙◌, inl, inr, arith, length-append, append_assoc}
+use Rattle.std.proofs.Common.{◌≡◌, ℕ, ◌+◌, ◌<◌, ◌≤◌, List, [], ◌∷◌, ◌++◌, length, take, drop, refl, sym, ap, ◌∙◌, inl, inr, arith, length-append}
+use Rattle.std.proofs.Common.{append_assoc}
 use Rattle.std.proofs.lemmas.List.{drop_at, take_at}
 use Rattle.std.proofs.lemmas.Bool.{cases_order, cases_eq}
 use Rattle.lert_counter.specs.Group.{group, IsCount}
@@ -8,7 +9,8 @@ use Rattle.lert_counter.proofs.GrowthLemmas.{length_group-grows}
 use Rattle.lert_runs.specs.RunText.{run_text, RemaindersAscend, IsTextOf, count_in, pairs_below, pairs_plus, group_in}
 use Rattle.lert_runs.specs.Growth.{IsGrowthOf}
 use Rattle.lert_runs.specs.declared.grow.Growth.{Growth}
-use Rattle.lert_runs.proofs.RunLemmas.{count_in-below, count_in-here, count_in-later, pairs_below-more, pairs_below-none, pairs_plus-before, pairs_plus-here, pairs_plus-behind, group_in-there, group_in-absent}
+use Rattle.lert_runs.proofs.RunLemmas.{count_in-below, count_in-here, count_in-later, pairs_below-more, pairs_below-none, pairs_plus-before, pairs_plus-here, pairs_plus-behind, group_in-there}
+use Rattle.lert_runs.proofs.RunLemmas.{group_in-absent}
 
 -- the text around a remainder, before and after its count rises
 pub record Around (width x n : ℕ) (ps : List (ℕ × ℕ)) : Type 0 where

@@ -1,5 +1,6 @@
 -- Reading a run group by group.
-use Rattle.std.proofs.Common.{◌≡◌, ℕ, ◌+◌, ◌-◌, ◌^◌, ◌<◌, ◌≤◌, List, [], ◌∷◌, ◌++◌, length, take, drop, refl, sym, ap, ◌∙◌, subst, inl, inr, ◌⊎◌, arith}
+use Rattle.std.proofs.Common.{◌≡◌, ℕ, ◌+◌, ◌-◌, ◌^◌, ◌<◌, ◌≤◌, List, [], ◌∷◌, ◌++◌, length, take, drop, refl, sym, ap, ◌∙◌, subst, inl, inr}
+use Rattle.std.proofs.Common.{◌⊎◌, arith}
 use Rattle.std.proofs.lemmas.List.{append-nil, take_rest, take_all, length-drop, length-take}
 use Rattle.std.proofs.Math.Seq.{take-add}
 use Rattle.lert_counter.specs.Group.{group, IsCount}
@@ -17,7 +18,8 @@ below-push : (y : ℕ) (ps : List (ℕ × ℕ)) (q : ℕ × ℕ) → q.0 < y →
 below-push y [] q h e = (h, tt)
 below-push y (p ∷ ps) q h e = (e.0, below-push y ps q h e.1)
 
-ascend-push : (least : ℕ) (ps : List (ℕ × ℕ)) (q : ℕ × ℕ) → least ≤ q.0 → IsCount q.1 → RemaindersBelow q.0 ps → RemaindersAscend least ps → RemaindersAscend least (ps ++ q ∷ [])
+ascend-push : (least : ℕ) (ps : List (ℕ × ℕ)) (q : ℕ × ℕ) → least ≤ q.0 → IsCount q.1 → RemaindersBelow q.0 ps → RemaindersAscend least ps →
+    RemaindersAscend least (ps ++ q ∷ [])
 ascend-push least [] q h counts e a = (h, counts, tt)
 ascend-push least (p ∷ ps) q h counts e a = (a.0, a.1, ascend-push (p.0 + 1) ps q (omega (arith, e.0)) counts e.1 a.2)
 
@@ -48,7 +50,8 @@ read_more width at last run g r apart more read =
     record {
       done = r.done ++ (g.x, g.count) ∷ [];
       ascend = ascend-push 0 r.done (g.x, g.count) (omega arith) read.counts below r.ascend;
-      text = take-add at g.used run ∙ ap (λ (t : List ℕ). t ++ take g.used (drop at run)) r.text ∙ ap (λ (t : List ℕ). run_text width r.done ++ t) (used ∙ sym (append-nil (group width g.x g.count)))
+      text = take-add at g.used run ∙ ap (λ (t : List ℕ). t ++ take g.used (drop at run)) r.text
+          ∙ ap (λ (t : List ℕ). run_text width r.done ++ t) (used ∙ sym (append-nil (group width g.x g.count)))
           ∙ sym (run_text-append width r.done ((g.x, g.count) ∷ []));
       ends = below-push (g.x + 1) r.done (g.x, g.count) (omega arith) (below-weaker g.x (g.x + 1) r.done (omega arith) below);
       first = λ z. absurd (omega (arith, read.len));

@@ -1,5 +1,6 @@
 -- A search finds the count of a remainder that is greater than each count of a run.
-use Rattle.std.proofs.Common.{◌≡◌, ◌≢◌, ℕ, ◌+◌, ◌-◌, ◌^◌, ◌<◌, ◌≤◌, List, [], ◌∷◌, ◌++◌, length, map, take, drop, get_or, refl, sym, ap, ◌∙◌, subst, inl, inr, arith}
+use Rattle.std.proofs.Common.{◌≡◌, ◌≢◌, ℕ, ◌+◌, ◌-◌, ◌^◌, ◌<◌, ◌≤◌, List, [], ◌∷◌, ◌++◌, length, map, take, drop, get_or, refl, sym, ap, ◌∙◌}
+use Rattle.std.proofs.Common.{subst, inl, inr, arith}
 use Rattle.std.proofs.lemmas.Bool.{cases_eq}
 use Rattle.std.proofs.lemmas.List.{take_rest, drop_more, drop_all}
 use Rattle.std.proofs.lemmas.Bool.Decides.{nat_tests}
@@ -52,7 +53,8 @@ passes width x y c back positive low wide other =
     elim (shape_of width y c positive) [
       | one e is ↦ ap (λ (t : List ℕ). count_from (t ++ back) x) is ∙ skip x y back other
       | two e is ↦ ap (λ (t : List ℕ). count_from (t ++ back) x) is ∙ skip x y (y ∷ back) other ∙ skip x y back other
-      | three z e is ↦ ap (λ (t : List ℕ). count_from (t ++ back) x) is ∙ skip x 0 (0 ∷ 0 ∷ back) (λ s. absurd (omega arith)) ∙ skip x 0 (0 ∷ back) (λ s. absurd (omega arith)) ∙ skip x 0 back (λ s. absurd (omega arith))
+      | three z e is ↦ ap (λ (t : List ℕ). count_from (t ++ back) x) is ∙ skip x 0 (0 ∷ 0 ∷ back) (λ s. absurd (omega arith)) ∙ skip x 0 (0 ∷ back) (λ s. absurd (omega arith))
+          ∙ skip x 0 back (λ s. absurd (omega arith))
       | zeros z l is ↦ (let ds = one_digit width x 0 (c - 4) wide (omega arith) in
           let d = written_zero (c - 4) in
           ap (λ (t : List ℕ). count_from (t ++ back) x) (is ∙ ap (λ (t : List ℕ). 0 ∷ (map (written 0) t ++ 0 ∷ 0 ∷ [])) ds)

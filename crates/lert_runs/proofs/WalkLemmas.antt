@@ -1,5 +1,6 @@
 -- A walk over the groups of a run text.
-use Rattle.std.proofs.Common.{◌≡◌, ℕ, ◌+◌, ◌-◌, ◌<◌, ◌≤◌, ◌≢◌, List, [], ◌∷◌, ◌++◌, length, take, drop, refl, sym, ap, ◌∙◌, arith, length-append, append_assoc}
+use Rattle.std.proofs.Common.{◌≡◌, ℕ, ◌+◌, ◌-◌, ◌<◌, ◌≤◌, ◌≢◌, List, [], ◌∷◌, ◌++◌, length, take, drop, refl, sym, ap, ◌∙◌, arith, length-append}
+use Rattle.std.proofs.Common.{append_assoc}
 use Rattle.std.proofs.lemmas.List.{append-nil, drop_at, take_rest}
 use Rattle.lert_counter.specs.Group.{group, IsCount}
 use Rattle.lert_counter.specs.Reading.{Follows}
@@ -49,7 +50,12 @@ next_of width at least run done (p ∷ ps) text place ascend more = record {
   follows = run_follows width p.0 ps ascend.2;
   ascend = ascend.2;
   some = length_group-positive width p.0 p.1 (ascend.1).0;
-  within = omega (arith, ap (λ (t : List ℕ). length t) text, length-append (run_text width done) (group width p.0 p.1 ++ run_text width ps), length-append (group width p.0 p.1) (run_text width ps));
+  within = omega (
+    arith,
+    ap (λ (t : List ℕ). length t) text,
+    length-append (run_text width done) (group width p.0 p.1 ++ run_text width ps),
+    length-append (group width p.0 p.1) (run_text width ps),
+  );
 }
 
 pub next : (width at : ℕ) (run : List ℕ) (ps : List (ℕ × ℕ)) (s : Stands width at run ps) → at < length run → Next width at s.least run s.rest
@@ -82,7 +88,12 @@ stands_end width at run ps s h = none_left width at s.least run s.done s.rest s.
     none_left width at least run done [] text place ascend h = refl
     none_left width at least run done (p ∷ ps) text place ascend h =
         absurd (let some = length_group-positive width p.0 p.1 (ascend.1).0 in
-        omega (arith, ap (λ (t : List ℕ). length t) text, length-append (run_text width done) (group width p.0 p.1 ++ run_text width ps), length-append (group width p.0 p.1) (run_text width ps)))
+        omega (
+          arith,
+          ap (λ (t : List ℕ). length t) text,
+          length-append (run_text width done) (group width p.0 p.1 ++ run_text width ps),
+          length-append (group width p.0 p.1) (run_text width ps),
+        ))
 
 -- the walk has met only remainders below x
 pub record Looks (width x at : ℕ) (run : List ℕ) (ps : List (ℕ × ℕ)) : Type 0 where
@@ -103,12 +114,14 @@ looks_next width x at run ps l n less = record {
 }
 
 -- what is found: the place, and the count there
-pub found_place : (width x at : ℕ) (run : List ℕ) (ps : List (ℕ × ℕ)) (l : Looks width x at run ps) → pairs_below (l.stands).rest x ≡ [] → at ≡ length (run_text width (pairs_below ps x))
+pub found_place : (width x at : ℕ) (run : List ℕ) (ps : List (ℕ × ℕ)) (l : Looks width x at run ps) → pairs_below (l.stands).rest x ≡ [] →
+    at ≡ length (run_text width (pairs_below ps x))
 found_place width x at run ps l none =
     (l.stands).place ∙ ap (λ (r : List (ℕ × ℕ)). length (run_text width r)) (sym (l.below ∙ ap (λ (r : List (ℕ × ℕ)). (l.stands).done ++ r) none ∙ append-nil (l.stands).done))
 
 -- at x itself
-pub place_here : (width x at : ℕ) (run : List ℕ) (ps : List (ℕ × ℕ)) (l : Looks width x at run ps) (n : Next width at (l.stands).least run (l.stands).rest) (place : Place) → (n.pair).0 ≡ x
+pub place_here : (width x at : ℕ) (run : List ℕ) (ps : List (ℕ × ℕ)) (l : Looks width x at run ps) (n : Next width at (l.stands).least run (l.stands).rest) (place : Place) →
+    (n.pair).0 ≡ x
     → place.start ≡ at → place.used ≡ length (group width (n.pair).0 (n.pair).1) → place.count ≡ (n.pair).1 → IsPlaceOf width x ps place
 place_here width x at run ps l n place h start used counts =
     let count : count_in ps x ≡ (n.pair).1 = l.count ∙ ap (λ (r : List (ℕ × ℕ)). count_in r x) n.is ∙ count_in-here n.pair n.back x h in
@@ -118,7 +131,8 @@ place_here width x at run ps l n place h start used counts =
       used = used ∙ rw (h, ← count) (ap (λ (t : List ℕ). length t) (sym (group_in-there width ps x (omega (arith, (n.counts).0)))));
     }
 
-place_absent : (width x at : ℕ) (run : List ℕ) (ps : List (ℕ × ℕ)) (l : Looks width x at run ps) (place : Place) → pairs_below (l.stands).rest x ≡ [] → count_in (l.stands).rest x ≡ 0
+place_absent : (width x at : ℕ) (run : List ℕ) (ps : List (ℕ × ℕ)) (l : Looks width x at run ps) (place : Place) → pairs_below (l.stands).rest x ≡ [] →
+    count_in (l.stands).rest x ≡ 0
     → place ≡ record { start = at; used = 0; count = 0 } → IsPlaceOf width x ps place
 place_absent width x at run ps l place none absent is =
     let count : count_in ps x ≡ 0 = l.count ∙ absent in
@@ -129,7 +143,8 @@ place_absent width x at run ps l place none absent is =
     }
 
 -- before a greater remainder
-pub place_before : (width x at : ℕ) (run : List ℕ) (ps : List (ℕ × ℕ)) (l : Looks width x at run ps) (n : Next width at (l.stands).least run (l.stands).rest) (place : Place) → x < (n.pair).0
+pub place_before : (width x at : ℕ) (run : List ℕ) (ps : List (ℕ × ℕ)) (l : Looks width x at run ps) (n : Next width at (l.stands).least run (l.stands).rest) (place : Place) →
+    x < (n.pair).0
     → place ≡ record { start = at; used = 0; count = 0 } → IsPlaceOf width x ps place
 place_before width x at run ps l n place h =
     place_absent width x at run ps l place
@@ -148,7 +163,8 @@ pub ascend_behind : (least : ℕ) (done rest : List (ℕ × ℕ)) → Remainders
 ascend_behind least [] rest h = (least, h)
 ascend_behind least (p ∷ done) rest h = ascend_behind (p.0 + 1) done rest h.2
 
-abbrev pub stands_at : (width at : ℕ) (run : List ℕ) (done rest : List (ℕ × ℕ)) → IsTextOf width run (done ++ rest) → at ≡ length (run_text width done) → Stands width at run (done ++ rest)
+abbrev pub stands_at : (width at : ℕ) (run : List ℕ) (done rest : List (ℕ × ℕ)) → IsTextOf width run (done ++ rest) → at ≡ length (run_text width done) →
+    Stands width at run (done ++ rest)
 stands_at width at run done rest h place = record {
   done = done;
   rest = rest;
@@ -160,10 +176,16 @@ stands_at width at run done rest h place = record {
 }
 
 -- a group stands before the end
-pub no_room : (width at : ℕ) (run : List ℕ) (done : List (ℕ × ℕ)) (p : ℕ × ℕ) (rest : List (ℕ × ℕ)) → IsTextOf width run (done ++ p ∷ rest) → at ≡ length (run_text width done) → at ≢ length run
+pub no_room : (width at : ℕ) (run : List ℕ) (done : List (ℕ × ℕ)) (p : ℕ × ℕ) (rest : List (ℕ × ℕ)) → IsTextOf width run (done ++ p ∷ rest) →
+    at ≡ length (run_text width done) → at ≢ length run
 no_room width at run done p rest text place end =
     let some = length_group-positive width p.0 p.1 (count_positive 0 done p rest text.ascend) in
-    omega (arith, ap (λ (t : List ℕ). length t) (text.text ∙ run_text-append width done (p ∷ rest)), length-append (run_text width done) (group width p.0 p.1 ++ run_text width rest), length-append (group width p.0 p.1) (run_text width rest))
+    omega (
+      arith,
+      ap (λ (t : List ℕ). length t) (text.text ∙ run_text-append width done (p ∷ rest)),
+      length-append (run_text width done) (group width p.0 p.1 ++ run_text width rest),
+      length-append (group width p.0 p.1) (run_text width rest),
+    )
   where
     count_positive : (least : ℕ) (done : List (ℕ × ℕ)) (p : ℕ × ℕ) (rest : List (ℕ × ℕ)) → RemaindersAscend least (done ++ p ∷ rest) → 0 < p.1
     count_positive least [] p rest h = (h.1).0

@@ -44,5 +44,6 @@ returns-clause-in_run c = λ x count back counts text follows.
       | alone_or_counter z none long first which ↦ absurd (omega arith)
       | behind_counter p none long first least ↦
           (let whole : c.args.rest.now ≡ group c.args.width (get_or c.args.rest.now 0 0) count ++ back = text ∙ ap (λ y. group c.args.width y count ++ back) (sym first) in
-          c.read_counter.ensures.there count least counts.1 (begins_front c.args.rest.now (group c.args.width (get_or c.args.rest.now 0 0) count) back whole) ∙ ap (λ y. Some (read_as c.args.width y count)) first)
+          c.read_counter.ensures.there count least counts.1 (begins_front c.args.rest.now (group c.args.width (get_or c.args.rest.now 0 0) count) back whole)
+          ∙ ap (λ y. Some (read_as c.args.width y count)) first)
     ]

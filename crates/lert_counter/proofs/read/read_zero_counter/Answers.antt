@@ -25,5 +25,6 @@ returns-clause-counter c =
           let x : c.in_ok-found.found.x ≡ 0 = ap (λ g. g.x) same in
           let counts : c.in_ok-found.found.count ≡ count = ap (λ g. g.count) same in
           c.checked.ensures.there (rw (x, counts) at_zero) ∙ rw (x, counts, c.requires.first) refl;
-      read = checked_read c.args.width 4 (get_or c.args.rest.now 0 0) c.args.rest.now c.in_ok-found.found c.checked.result (omega arith) (omega arith) (omega arith) (omega arith) c.checked.ensures.read;
+      read = checked_read c.args.width 4 (get_or c.args.rest.now 0 0) c.args.rest.now c.in_ok-found.found c.checked.result (omega arith) (omega arith) (omega arith) (omega arith)
+          c.checked.ensures.read;
     }

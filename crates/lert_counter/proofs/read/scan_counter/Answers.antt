@@ -36,7 +36,11 @@ returns-clause-there c = λ count back least most text.
 pub returns-in_err-digits-clause-none : goal.returns-in_err-digits-clause-none
 returns-in_err-digits-clause-none c = λ _ count len s.
     let start : c.if-rest-eq0.start ≡ digits_at c.args.rest.now =
-    elim c.if-rest-eq0.branch [ then-rest-eq0 w ↦ w.start-is ∙ start_guarded c.args.rest.now w.if-rest-eq0.true | else-rest-eq0 w ↦ w.start-is ∙ start_bare c.args.rest.now w.if-rest-eq0.false ] in
+    elim c.if-rest-eq0.branch [
+      | then-rest-eq0 w ↦ w.start-is ∙ start_guarded c.args.rest.now w.if-rest-eq0.true
+      | else-rest-eq0 w ↦ w.start-is
+          ∙ start_bare c.args.rest.now w.if-rest-eq0.false
+    ] in
     let found = spelled_counter c.args.width c.base_beside.result c.if-rest-eq0.start count len c.args.rest.now c.base_beside.ensures.value start s in
     let there = c.scan_digits.ensures.there found.ds found.back found.few found.text_is (omega (arith, found.count_is, found.small)) in
     let none : c.scan_digits.result ≡ None = c.in_err-digits.was in
@@ -45,15 +49,24 @@ returns-in_err-digits-clause-none c = λ _ count len s.
 pub returns-clause-read : goal.returns-clause-read
 returns-clause-read c =
     let start : c.if-rest-eq0.start ≡ digits_at c.args.rest.now =
-    elim c.if-rest-eq0.branch [ then-rest-eq0 w ↦ w.start-is ∙ start_guarded c.args.rest.now w.if-rest-eq0.true | else-rest-eq0 w ↦ w.start-is ∙ start_bare c.args.rest.now w.if-rest-eq0.false ] in
+    elim c.if-rest-eq0.branch [
+      | then-rest-eq0 w ↦ w.start-is ∙ start_guarded c.args.rest.now w.if-rest-eq0.true
+      | else-rest-eq0 w ↦ w.start-is
+          ∙ start_bare c.args.rest.now w.if-rest-eq0.false
+    ] in
     counted_spelled c.args.width (get_or c.args.rest.now 0 0) (c.in_ok-digits.digits.number + 3) c.in_ok-digits.digits.len _ c.args.rest.now c.counted.result c.counted.ensures.shape refl
     (ap (λ k. k + c.in_ok-digits.digits.len + 1) start)
-    (λ small. counter_spelled c.args.width c.base_beside.result c.if-rest-eq0.start c.in_ok-digits.digits.number c.in_ok-digits.digits.len c.args.rest.now c.base_beside.ensures.value start small c.in_ok-digits.ensures.read)
+    (λ small. counter_spelled c.args.width c.base_beside.result c.if-rest-eq0.start c.in_ok-digits.digits.number c.in_ok-digits.digits.len c.args.rest.now c.base_beside.ensures.value start small
+    c.in_ok-digits.ensures.read)
 
 pub returns-clause-none : goal.returns-clause-none
 returns-clause-none c = λ none count len s.
     let start : c.if-rest-eq0.start ≡ digits_at c.args.rest.now =
-    elim c.if-rest-eq0.branch [ then-rest-eq0 w ↦ w.start-is ∙ start_guarded c.args.rest.now w.if-rest-eq0.true | else-rest-eq0 w ↦ w.start-is ∙ start_bare c.args.rest.now w.if-rest-eq0.false ] in
+    elim c.if-rest-eq0.branch [
+      | then-rest-eq0 w ↦ w.start-is ∙ start_guarded c.args.rest.now w.if-rest-eq0.true
+      | else-rest-eq0 w ↦ w.start-is
+          ∙ start_bare c.args.rest.now w.if-rest-eq0.false
+    ] in
     let found = spelled_counter c.args.width c.base_beside.result c.if-rest-eq0.start count len c.args.rest.now c.base_beside.ensures.value start s in
     let there = c.scan_digits.ensures.there found.ds found.back found.few found.text_is (omega (arith, found.count_is, found.small)) in
     let was : c.scan_digits.result ≡ Some c.in_ok-digits.digits = c.in_ok-digits.was in

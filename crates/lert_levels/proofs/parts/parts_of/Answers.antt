@@ -13,7 +13,8 @@ loop-lower-preserved c =
     let s = c.args.settings.now in
     let rows = map (λ row. row.items) c.args.rows.now in
     let len = length-map c.args.rows.now (λ row. row.items) in
-    let here = row_here (λ row. row.items) c.args.rows.now i c.index-rows-lower.result c.index-rows-lower.result.items c.loop-lower-test.true c.index-rows-lower.is (λ i. c.index-rows-lower.result.items) in
+    let here = row_here (λ row. row.items) c.args.rows.now i c.index-rows-lower.result c.index-rows-lower.result.items c.loop-lower-test.true c.index-rows-lower.is
+    (λ i. c.index-rows-lower.result.items) in
     let row = subst (IsRow s (i + 1)) here (c.requires.rows i c.loop-lower-test.true) in
     let more = streams_more c.args.young rows i (omega (arith, c.loop-lower-test.true, len)) in
     let upto : c.loop-lower.streams + c.len.result ≡ streams_to c.args.young rows (i + 1) = omega (arith, more, c.loop-lower.invariant.streams, ap length here, c.len.ensures) in

@@ -60,11 +60,13 @@ loop-lower-preserved g c =
     let frame_is : landing_frame s c.args.m rows i ≡ c.from.result =
     ap (λ (row : List BinAt). (arrived s c.args.m (i + 1) row).frame) here ∙ sym (ap (λ (bin : BinAt). bin.frame) c.arrival-bin.ensures) ∙ sym c.from.ensures in
     let pieces_are : get_or bins i [] ≡ c.deref-in-loop-lower.result.now =
-    get_or-map (λ bin. bin.items) c.args.bins.now i c.index-bins-lower.result [] (omega (arith, c.loop-lower-test.true, c.requires.len)) ∙ ap (λ bin. bin.items) (sym c.index-bins-lower.is) ∙ sym c.deref-in-loop-lower.ensures.value in
+    get_or-map (λ bin. bin.items) c.args.bins.now i c.index-bins-lower.result [] (omega (arith, c.loop-lower-test.true, c.requires.len)) ∙ ap (λ bin. bin.items) (sym c.index-bins-lower.is)
+    ∙ sym c.deref-in-loop-lower.ensures.value in
     record {
       stand = λ seen told. (
           let back = turns_back (LeavesRest (IsApart s (i + 1) c.from.result)) (g.B.Bay.files c.loop-lower.bay) (g.B.Bay.files c.store_bin.new.bay) seen c.in_ok-store_bin.ensures.rest.seen told in
-          landed_more s c.args.m rows bins (λ k below. c.requires.rows k (omega (arith, below, rows_len))) (omega (arith, c.requires.len, rows_len, bins_len)) (λ k below. c.requires.bins k (omega (arith, below, bins_len)))
+          landed_more s c.args.m rows bins (λ k below. c.requires.rows k (omega (arith, below, rows_len))) (omega (arith, c.requires.len, rows_len, bins_len))
+          (λ k below. c.requires.bins k (omega (arith, below, bins_len)))
           back.0 seen i c.from.result c.deref-in-loop-lower.result.now (omega (arith, c.loop-lower-test.true, rows_len)) frame_is pieces_are back.2
           (c.in_ok-store_bin.ensures.stands seen told) (c.loop-lower.invariant.stand back.0 back.1));
       rest = rest_more s c.args.m rows bins (λ k below. c.requires.rows k (omega (arith, below, rows_len)))

@@ -17,7 +17,8 @@ abbrev pub invariant-loop-bin : goal.invariant-loop-bin
 invariant-loop-bin g l = record {
   lists : (seen : Files) → g.B.Bay.files l.fn.bay ≡ Some seen → (held : BinAt → List Piece) → All (Stands l.settings l.level (seen FRAMES) held) l.row →
       lists_of l.streams.items ≡ lists_of l.fn.streams.items ++ map held (take l.bin-index l.row);
-  bins : (widths : List ℕ) → AreBins (tail_limit l.settings) widths (lists_of l.fn.streams.items) → AreBins (tail_limit l.settings) (widths ++ map width_of (take l.bin-index l.row)) (lists_of l.streams.items);
+  bins : (widths : List ℕ) → AreBins (tail_limit l.settings) widths (lists_of l.fn.streams.items) →
+      AreBins (tail_limit l.settings) (widths ++ map width_of (take l.bin-index l.row)) (lists_of l.streams.items);
   fresh : All (λ bin. bin.given ≡ 0) l.fn.streams.items → All (λ bin. bin.given ≡ 0) l.streams.items;
   only_reads : OnlyReads (bays g) l.fn.bay l.bay ⊥;
 }

@@ -32,7 +32,8 @@ returns-in_err-load_row-clause-lists g c seen told held stand =
     let here = row_here (λ row. row.items) c.args.rows.now c.loop-row.row-index c.row-item.result c.deref.result.now c.loop-row-test.true c.row-item.is c.deref.ensures.value in
     let p = err_from_is_err_and c.from_residual.result c.from_residual.ensures.1 in
     rw (p.1, p.2) (c.in_err-load_row.ensures.lists seen (c.loop-row.invariant.only_reads.seen ∙ told) held
-    (row_to (λ (level : ℕ) (row : List BinAt). All (Stands c.args.settings.now level (seen FRAMES) held) row) rows c.loop-row.row-index c.loop-row.level c.deref.result.now here c.loop-row.invariant.level
+    (row_to (λ (level : ℕ) (row : List BinAt). All (Stands c.args.settings.now level (seen FRAMES) held) row) rows c.loop-row.row-index c.loop-row.level c.deref.result.now here
+    c.loop-row.invariant.level
     (stand c.loop-row.row-index (omega (arith, c.loop-row-test.true, length-map c.args.rows.now (λ row. row.items))))))
 
 pub returns-in_err-load_row-clause-malformed : goal.returns-in_err-load_row-clause-malformed
@@ -43,7 +44,8 @@ returns-in_err-load_row-clause-malformed g c seen told at =
     rw (p.1, p.2) (λ is. record {
       number = c.loop-row.row-index;
       within = omega (arith, c.loop-row-test.true, length-map c.args.rows.now (λ row. row.items));
-      breaks = row_from (λ (level : ℕ) (row : List BinAt). RowBreaks c.args.settings.now level row (seen FRAMES) at) rows c.loop-row.row-index c.loop-row.level c.deref.result.now here c.loop-row.invariant.level
+      breaks = row_from (λ (level : ℕ) (row : List BinAt). RowBreaks c.args.settings.now level row (seen FRAMES) at) rows c.loop-row.row-index c.loop-row.level c.deref.result.now here
+          c.loop-row.invariant.level
           (c.in_err-load_row.ensures.malformed seen (c.loop-row.invariant.only_reads.seen ∙ told) at (same_err _ _ is));
     })
 

@@ -22,7 +22,8 @@ nothing = record { from = 0; to = 0; frame = 0 }
 pub returns-in_err-check_bin-clause-malformed : goal.returns-in_err-check_bin-clause-malformed
 returns-in_err-check_bin-clause-malformed g c seen told at =
     let p = err_from_is_err_and c.from_residual.result c.from_residual.ensures.1 in
-    rw (p.1, p.2) (λ is. row_breaks (bin_left c.args.settings.now (seen FRAMES) c.args.level) c.args.row.now c.loop-bin.bin-index nothing c.loop-bin-test.true (c.loop-bin.invariant.whole seen told) at
+    rw (p.1, p.2) (λ is. row_breaks (bin_left c.args.settings.now (seen FRAMES) c.args.level) c.args.row.now c.loop-bin.bin-index nothing c.loop-bin-test.true
+    (c.loop-bin.invariant.whole seen told) at
     (c.in_err-check_bin.ensures.malformed seen (c.loop-bin.invariant.only_reads.seen ∙ told) at (same_err _ _ is)))
 
 pub loop-bin-preserved : goal.loop-bin-preserved

@@ -30,7 +30,8 @@ returns-in_err-check_row-clause-malformed g c seen told at =
     let now = c.deref.result.now in
     let here = row_here (λ row. row.items) c.args.rows.now i c.row-item.result now c.loop-row-test.true c.row-item.is c.deref.ensures.value in
     let p = err_from_is_err_and c.from_residual.result c.from_residual.ensures.1 in
-    rw (p.1, p.2) (λ is. rows_break c.args.settings.now (seen FRAMES) rows i now here (omega (arith, c.loop-row-test.true, length-map c.args.rows.now (λ row. row.items))) (c.loop-row.invariant.whole seen told) at
+    rw (p.1, p.2) (λ is. rows_break c.args.settings.now (seen FRAMES) rows i now here (omega (arith, c.loop-row-test.true, length-map c.args.rows.now (λ row. row.items)))
+    (c.loop-row.invariant.whole seen told) at
     (subst (λ (level : ℕ). row_left c.args.settings.now (seen FRAMES) (level + 1) now ≡ Some at) c.loop-row.invariant.level
     (c.in_err-check_row.ensures.malformed seen (c.loop-row.invariant.only_reads.seen ∙ told) at (same_err _ _ is))))
 
@@ -53,7 +54,8 @@ loop-row-preserved g c =
       ];
       whole = λ seen told.
           rows_more c.args.settings.now (seen FRAMES) rows i now here below (c.loop-row.invariant.whole seen told)
-          (subst (λ (level : ℕ). row_left c.args.settings.now (seen FRAMES) (level + 1) now ≡ None) c.loop-row.invariant.level (c.in_ok-check_row.ensures.whole seen (c.loop-row.invariant.only_reads.seen ∙ told)));
+          (subst (λ (level : ℕ). row_left c.args.settings.now (seen FRAMES) (level + 1) now ≡ None) c.loop-row.invariant.level
+          (c.in_ok-check_row.ensures.whole seen (c.loop-row.invariant.only_reads.seen ∙ told)));
       only_reads = reads_on (bays g) (lawful g) c.args.bay.now c.loop-row.bay c.check_row.new.bay ⊥ ⊥ c.loop-row.invariant.only_reads
           (reads_as (bays g) (lawful g) c.loop-row.bay c.check_row.new.bay _ ⊥ (λ none. absurd none) c.check_row.ensures.only_reads);
     }
@@ -61,7 +63,8 @@ loop-row-preserved g c =
 pub returns-clause-whole : goal.returns-clause-whole
 returns-clause-whole g c seen told =
     let rows = map (λ row. row.items) c.args.rows.now in
-    ap (rows_left c.args.settings.now (seen FRAMES)) (sym (take_all c.loop-row.row-index rows (omega (arith, c.loop-row-test.false, length-map c.args.rows.now (λ row. row.items))))) ∙ c.loop-row.invariant.whole seen told
+    ap (rows_left c.args.settings.now (seen FRAMES)) (sym (take_all c.loop-row.row-index rows (omega (arith, c.loop-row-test.false, length-map c.args.rows.now (λ row. row.items)))))
+    ∙ c.loop-row.invariant.whole seen told
 
 pub returns-in_err-check_row-clause-stand : goal.returns-in_err-check_row-clause-stand
 returns-in_err-check_row-clause-stand g c seen told = let p = err_from_is_err_and c.from_residual.result c.from_residual.ensures.1 in rw p.1 tt

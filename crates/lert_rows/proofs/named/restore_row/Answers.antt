@@ -42,5 +42,6 @@ loop-frame-preserved c =
 pub returns-clause-ranges : goal.returns-clause-ranges
 returns-clause-ranges c =
     c.loop-frame.invariant.ranges
-    ∙ ranges_back c.args.settings.now c.args.n0 c.args.level c.span-wide.result c.edge-low.result c.edge-high.result c.loop-frame.frame-index c.span-wide.ensures.positive c.span-wide.ensures.value c.edge-low.ensures
+    ∙ ranges_back c.args.settings.now c.args.n0 c.args.level c.span-wide.result c.edge-low.result c.edge-high.result c.loop-frame.frame-index c.span-wide.ensures.positive
+    c.span-wide.ensures.value c.edge-low.ensures
     c.edge-high.ensures (omega (arith, c.requires.count, c.loop-frame-test.false, c.loop-frame.auto.frame-index-end))

@@ -27,7 +27,8 @@ restore_row-requires-clause-count c =
     let rows = c.requires.directory.rows in
     let i = c.loop-lower.lower in
     ap length (c.frames_at-frames.ensures.frames
-    ∙ frames_there c.args.directory.now rows named.text_is i c.loop-lower.at (omega (arith, c.loop-lower-test.true, c.loop-lower.auto.rows, c.requires.levels, named.at.levels)) (c.loop-lower.invariant.place rows named))
+    ∙ frames_there c.args.directory.now rows named.text_is i c.loop-lower.at (omega (arith, c.loop-lower-test.true, c.loop-lower.auto.rows, c.requires.levels, named.at.levels))
+    (c.loop-lower.invariant.place rows named))
     ∙ length-map (get_or rows i []) (λ (bin : BinAt). bin.frame)
     ∙ named_count c.args.settings.now c.args.n0 c.args.directory.now rows named i (omega (arith, c.loop-lower-test.true, c.loop-lower.auto.rows, c.requires.levels))
 
@@ -37,7 +38,8 @@ restore_row-requires-clause-few c =
     let rows = c.requires.directory.rows in
     let i = c.loop-lower.lower in
     let long = ap length (c.frames_at-frames.ensures.frames
-    ∙ frames_there c.args.directory.now rows named.text_is i c.loop-lower.at (omega (arith, c.loop-lower-test.true, c.loop-lower.auto.rows, c.requires.levels, named.at.levels)) (c.loop-lower.invariant.place rows named))
+    ∙ frames_there c.args.directory.now rows named.text_is i c.loop-lower.at (omega (arith, c.loop-lower-test.true, c.loop-lower.auto.rows, c.requires.levels, named.at.levels))
+    (c.loop-lower.invariant.place rows named))
     ∙ length-map (get_or rows i []) (λ (bin : BinAt). bin.frame) in
     omega (arith, long, named_few c.args.settings.now c.args.n0 c.args.directory.now rows named i (omega (arith, c.loop-lower-test.true, c.loop-lower.auto.rows, c.requires.levels)))
 
@@ -47,7 +49,8 @@ restore_row-requires-clause-room c =
     let rows = c.requires.directory.rows in
     let i = c.loop-lower.lower in
     let long = ap length (c.frames_at-frames.ensures.frames
-    ∙ frames_there c.args.directory.now rows named.text_is i c.loop-lower.at (omega (arith, c.loop-lower-test.true, c.loop-lower.auto.rows, c.requires.levels, named.at.levels)) (c.loop-lower.invariant.place rows named))
+    ∙ frames_there c.args.directory.now rows named.text_is i c.loop-lower.at (omega (arith, c.loop-lower-test.true, c.loop-lower.auto.rows, c.requires.levels, named.at.levels))
+    (c.loop-lower.invariant.place rows named))
     ∙ length-map (get_or rows i []) (λ (bin : BinAt). bin.frame) in
     omega (
       arith,
@@ -73,7 +76,8 @@ loop-lower-preserved c =
           (row_restored c.args.settings.now c.args.n0 text named is i c.loop-lower.at within (c.loop-lower.invariant.place named is) c.restore_row.new.row.items c.frames_at-frames.result.now
           c.restore_row.ensures.ranges c.restore_row.ensures.frames c.frames_at-frames.ensures.frames);
       roomy = All-set (λ row. c.args.settings.now.bins < vec_capacity row) c.loop-lower.rows i c.restore_row.new.row
-          (omega (arith, c.loop-lower.invariant.roomy i c.index-rows-lower.result (omega (arith, c.loop-lower-test.true, c.loop-lower.auto.rows)), c.restore_row.ensures.capacity)) c.loop-lower.invariant.roomy;
+          (omega (arith, c.loop-lower.invariant.roomy i c.index-rows-lower.result (omega (arith, c.loop-lower-test.true, c.loop-lower.auto.rows)), c.restore_row.ensures.capacity))
+          c.loop-lower.invariant.roomy;
     }
 
 pub returns-clause-named : goal.returns-clause-named

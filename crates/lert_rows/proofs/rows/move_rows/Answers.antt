@@ -8,7 +8,8 @@ pub loop-lower-preserved : goal.loop-lower-preserved
 loop-lower-preserved c =
     let i = c.loop-lower.lower in
     record {
-      done = moved_on (λ row. row.items) c.args.settings.now c.args.m c.args.rows.now c.loop-lower.rows i c.index-rows-lower.result c.move_row.new.row (omega arith) c.loop-lower.invariant.done c.loop-lower.invariant.left c.move_row.ensures.row;
+      done = moved_on (λ row. row.items) c.args.settings.now c.args.m c.args.rows.now c.loop-lower.rows i c.index-rows-lower.result c.move_row.new.row (omega arith) c.loop-lower.invariant.done
+          c.loop-lower.invariant.left c.move_row.ensures.row;
       left = λ k d past. get_or-set_other c.loop-lower.rows i k c.move_row.new.row d (λ same. omega arith) ∙ c.loop-lower.invariant.left k d (omega arith);
       roomy = All-set (λ row. c.args.settings.now.bins < vec_capacity row) c.loop-lower.rows i c.move_row.new.row
           (omega (arith, c.loop-lower.invariant.roomy i c.index-rows-lower.result (omega arith), c.move_row.ensures.capacity)) c.loop-lower.invariant.roomy;

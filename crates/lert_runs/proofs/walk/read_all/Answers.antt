@@ -45,7 +45,8 @@ returns-then-group-last c = (
   λ text.
       let at_text = c.loop-at.invariant.of_text text.0 text.1 in
       let n = next c.args.width c.loop-at.at c.args.run.now text.0 at_text.0 c.loop-at-test.true in
-      let same : c.in-Some.group ≡ read_as c.args.width (n.pair).0 (n.pair).1 = cc (c.read_group.ensures.in_run (n.pair).0 (n.pair).1 (run_text c.args.width n.back) n.counts n.slots n.follows, c.in-Some.is) in
+      let same : c.in-Some.group ≡ read_as c.args.width (n.pair).0 (n.pair).1 =
+      cc (c.read_group.ensures.in_run (n.pair).0 (n.pair).1 (run_text c.args.width n.back) n.counts n.slots n.follows, c.in-Some.is) in
       let x = ap (λ (g : Group). g.x) same in
       let above = at_text.1 c.if-at-gt0.true in
       absurd (omega (arith, n.from, above, c.if-group-last.true, x)),
@@ -73,7 +74,8 @@ loop-at-preserved c =
       of_text = λ ps text.
           let at_text = c.loop-at.invariant.of_text ps text in
           let n = next c.args.width c.loop-at.at c.args.run.now ps at_text.0 c.loop-at-test.true in
-          let same : c.in-Some.group ≡ read_as c.args.width (n.pair).0 (n.pair).1 = cc (c.read_group.ensures.in_run (n.pair).0 (n.pair).1 (run_text c.args.width n.back) n.counts n.slots n.follows, c.in-Some.is) in
+          let same : c.in-Some.group ≡ read_as c.args.width (n.pair).0 (n.pair).1 =
+          cc (c.read_group.ensures.in_run (n.pair).0 (n.pair).1 (run_text c.args.width n.back) n.counts n.slots n.follows, c.in-Some.is) in
           let x : c.in-Some.group.x ≡ (n.pair).0 = ap (λ (g : Group). g.x) same in
           let used : c.in-Some.group.used ≡ length (group c.args.width (n.pair).0 (n.pair).1) = ap (λ (g : Group). g.used) same in
           rw (used, x) (stands_next c.args.width c.loop-at.at c.args.run.now ps at_text.0 n, λ some. omega arith);

@@ -26,7 +26,8 @@ overflow_mul-offsets c =
 
 pub loop-level-preserved : goal.loop-level-preserved
 loop-level-preserved c =
-    let more = filled_more (offset c.args.numbers.now) c.loop-level.offsets c.loop-level.level _ c.loop-level.invariant.0 (omega arith) c.loop-level.invariant.2 (far (goal.at-loop-level-preserved c).In-loop-level) in
+    let more = filled_more (offset c.args.numbers.now) c.loop-level.offsets c.loop-level.level _ c.loop-level.invariant.0 (omega arith) c.loop-level.invariant.2
+    (far (goal.at-loop-level-preserved c).In-loop-level) in
     (more.0, next (goal.at-loop-level-preserved c).In-loop-level, more.1)
 
 pub returns : goal.returns

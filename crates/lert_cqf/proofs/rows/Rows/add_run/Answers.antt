@@ -76,5 +76,6 @@ returns-clause-stand c = λ n homes b.
     begin_written n homes c.args.width c.args.home c.args.x c.args.count _ _ _ _ b _ _ _ _ h (c.write_group-len.result - 1) extra _ _ _ _ _ w
     (with_items_is c.widen.new.self.slots c.overwrite.new.slots (c.overwrite.auto.slots ∙ c.deref_mut.ensures.len)
     ∙ c.overwrite.ensures
-    ∙ ap (λ (t : List ℕ). take c.start-start.result t ++ (take c.write_group-len.result c.write_group-len.new.into ++ drop (c.start-start.result + length (take c.write_group-len.result c.write_group-len.new.into)) t)) c.deref_mut.ensures.value
+    ∙ ap (λ (t : List ℕ). take c.start-start.result t ++ (take c.write_group-len.result c.write_group-len.new.into
+    ++ drop (c.start-start.result + length (take c.write_group-len.result c.write_group-len.new.into)) t)) c.deref_mut.ensures.value
     ∙ rw (c.write_group-len.ensures.front, start) refl)

@@ -88,6 +88,7 @@ returns-clause-entered c = λ yes.
     let first = c.in-Some.ensures in
     let b = between _ _ _ _ _ _ _ _ _ _ c.self.invariant c.args.cursor.now (subst (λ (t : Contents). Stands t c.args.cursor.now) (sym c.self.view_is) c.requires) c.if-cursor.false in
     let n = next_run _ _ _ _ _ _ _ _ _ _ c.self.invariant c.args.cursor.now c.in-Some.home b first in
-    subst (λ (t : Contents). IsInRun t (record { next = c.in-Some.home + 1; at = c.start-cursor.result; end = c.start-cursor-2.result; given = c.args.cursor.now.given }) × (c.start-cursor.result < c.start-cursor-2.result))
+    subst (λ (t : Contents). IsInRun t (record { next = c.in-Some.home + 1; at = c.start-cursor.result; end = c.start-cursor-2.result; given = c.args.cursor.now.given })
+    × (c.start-cursor.result < c.start-cursor-2.result))
     c.self.view_is
     (entered _ _ _ _ _ _ _ _ _ _ c.self.invariant c.args.cursor.now c.in-Some.home n c.start-cursor.result c.start-cursor-2.result c.start-cursor.ensures c.start-cursor-2.ensures)

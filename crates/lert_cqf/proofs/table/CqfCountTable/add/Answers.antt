@@ -8,7 +8,8 @@ use Rattle.lert_cqf.proofs.table.CqfCountTable.add.Goals as goal
 pub invariant_of-self : goal.invariant_of-self
 invariant_of-self c =
     let view = sym c.self.view_is in
-    let putting : IsPutting (built c.self.inside.added) c.self.inside.quotient_bits c.self.inside.width c.self.inside.room c.args.tail c.args.n c.parts-home.result.0 c.parts-home.result.1 = record {
+    let putting : IsPutting (built c.self.inside.added) c.self.inside.quotient_bits c.self.inside.width c.self.inside.room c.args.tail c.args.n c.parts-home.result.0 c.parts-home.result.1 =
+    record {
       positive = c.requires.positive;
       fits = subst (λ (t : Contents). total t.pieces + c.args.n ≤ t.room) view c.requires.has_room;
       below = subst (λ (t : Contents). c.args.tail < 2 ^ (t.quotient_bits + t.width)) view c.requires.below;
@@ -17,6 +18,7 @@ invariant_of-self c =
       rest_is = c.parts-home.ensures.remainder ∙ ap (λ (t : Contents). c.args.tail % 2 ^ t.width) view;
     } in
     let more : built c.push.new.self ≡ plus (built c.self.inside.added) c.args.tail c.args.n = ap built c.push.ensures ∙ built_more c.self.inside.added c.args.tail c.args.n in
-    subst (λ (t : List Piece). IsKept t c.self.inside.quotient_bits c.self.inside.width (c.self.inside.events + c.args.n) c.self.inside.room c.put.new.self.slots.items c.put.new.self.occupied c.put.new.self.run_ends c.put.new.self.used c.put.new.self.spill.items)
+    subst (λ (t : List Piece). IsKept t c.self.inside.quotient_bits c.self.inside.width (c.self.inside.events + c.args.n) c.self.inside.room c.put.new.self.slots.items c.put.new.self.occupied
+    c.put.new.self.run_ends c.put.new.self.used c.put.new.self.spill.items)
     (sym more)
     (c.put.ensures (built c.self.inside.added) c.self.inside.quotient_bits c.self.inside.events c.self.inside.room c.args.tail c.self.invariant putting)

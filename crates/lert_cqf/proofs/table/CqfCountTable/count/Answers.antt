@@ -134,7 +134,8 @@ returns-then-x-self c =
     let x_is = c.parts-home.ensures.remainder ∙ ap (λ (t : Contents). c.args.tail % 2 ^ t.width) (sym c.self.view_is) in
     let few = (c.self.invariant).in_room in
     let events = (c.self.invariant).events_are in
-    c.count_above_all.ensures c.self.inside.width h.pairs (let b = mod_below c.args.tail (2 ^ c.self.inside.width) (pow_pos c.self.inside.width) in omega (arith, c.parts-home.ensures.remainder, x_is))
+    c.count_above_all.ensures c.self.inside.width h.pairs (let b = mod_below c.args.tail (2 ^ c.self.inside.width) (pow_pos c.self.inside.width) in
+    omega (arith, c.parts-home.ensures.remainder, x_is))
     (record {
       ascend = h.ascend;
       text = c.part-run.ensures ∙ ap (λ k. take (k - c.start-at.result) (drop c.start-at.result c.self.inside.rows.slots.items)) c.start-end.ensures

@@ -73,7 +73,13 @@ returns-clause-stands c =
     cc (c.scan_group.ensures.there (n.pair).0 (n.pair).1 (run_text c.self.inside.width n.back) n.counts (c.part.ensures ∙ n.text) n.follows, c.in-Some.is) in
     let used = ap (λ (g : Group). g.used) same in
     let x = ap (λ (g : Group). g.x) same in
-    subst (λ (t : Contents). Stands t (record { next = c.enter.new.cursor.next; at = c.enter.new.cursor.at + c.in-Some.group.used; end = c.enter.new.cursor.end; given = c.enter.new.cursor.given + 1 }))
+    subst (λ (t : Contents). Stands t (record {
+      next = c.enter.new.cursor.next;
+      at = c.enter.new.cursor.at + c.in-Some.group.used;
+      end = c.enter.new.cursor.end;
+      given =
+          c.enter.new.cursor.given + 1;
+    }))
     c.self.view_is
     (stands_next _ _ _ _ _ _ _ _ _ _ c.self.invariant c.enter.new.cursor i n c.in-Some.group.used used)
 

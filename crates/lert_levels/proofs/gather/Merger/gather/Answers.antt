@@ -6,5 +6,6 @@ use Rattle.lert_levels.proofs.gather.Merger.gather.Goals as goal
 
 pub returns-clause-parts : goal.returns-clause-parts
 returns-clause-parts g c =
-    subst (λ (bins : List LoadedBin). IfOk c.gather-made.result (λ made. map (λ pieces. pieces.items) made.items ≡ map (part_table (lists_of bins)) c.args.parts.now)) c.new-merge.ensures.streams
+    subst (λ (bins : List LoadedBin). IfOk c.gather-made.result (λ made. map (λ pieces. pieces.items) made.items ≡ map (part_table (lists_of bins)) c.args.parts.now))
+    c.new-merge.ensures.streams
     c.gather-made.ensures.parts

@@ -26,7 +26,8 @@ returns-clause-malformed g c seen told at fails =
 pub returns-clause-refuses : goal.returns-clause-refuses
 returns-clause-refuses g c seen told at left =
     let is = lent_seen (λ row. row.items) c.self.inside.settings c.self.inside.rows.items c.deref.result.now c.args.self.now c.self.view_is c.deref.ensures.value in
-    check_refuses c.check_rows.result _ at (subst (λ (v : OnDisk). rows_left v.settings (seen FRAMES) v.rows ≡ Some at) (sym is) left) (c.check_rows.ensures.whole seen told) (c.check_rows.ensures.malformed seen told)
+    check_refuses c.check_rows.result _ at (subst (λ (v : OnDisk). rows_left v.settings (seen FRAMES) v.rows ≡ Some at) (sym is) left) (c.check_rows.ensures.whole seen told)
+    (c.check_rows.ensures.malformed seen told)
 
 pub returns-clause-sound : goal.returns-clause-sound
 returns-clause-sound g c seen told held stand =

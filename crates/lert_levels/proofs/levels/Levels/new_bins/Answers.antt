@@ -28,7 +28,8 @@ merge-requires-clause-within g c =
     let depth_is : c.depth-depth.result ≡ depth s m = c.depth-depth.ensures.value ∙ ap (λ (n : Numbers). depth n m) settings_is in
     let parts_are : c.deref.result.now ≡ parts_at s m (length young) (take (depth s m) rows) = c.deref.ensures.value ∙ c.in_ok-parts.ensures.parts in
     subst (All (IsWithin (streams_to (length young) (take c.depth-depth.result rows) c.depth-depth.result))) (sym parts_are)
-    (parts_within s valid m c.requires.first c.requires.last rows c.requires.at (length young) (streams_to (length young) (take c.depth-depth.result rows) c.depth-depth.result) c.in_ok-parts.ensures.young
+    (parts_within s valid m c.requires.first c.requires.last rows c.requires.at (length young) (streams_to (length young) (take c.depth-depth.result rows) c.depth-depth.result)
+    c.in_ok-parts.ensures.young
     (ap (λ d. streams_to (length young) (take d rows) d) depth_is))
 
 pub returns-clause-count : goal.returns-clause-count
@@ -43,7 +44,9 @@ returns-clause-count g c =
     let parts_are : c.deref.result.now ≡ parts_at s m (length young) (take (depth s m) rows) = c.deref.ensures.value ∙ c.in_ok-parts.ensures.parts in
     let took = g.O.Totals.took c.merge.new.totals in
     let frames = IsFrames (g.B.Bay.files c.args.bay.now) in
-    IfOk-weaker c.merge.result _ _ (λ v is. sym (length-map v.items (λ pieces. pieces.items)) ∙ made_count s valid m c.requires.first c.requires.last rows c.requires.at young took frames (map (λ pieces. pieces.items) v.items) (made_turned s young rows c.depth-depth.result (depth s m) c.deref.result.now (parts_at s m (length young) (take (depth s m) rows)) took frames (map (λ pieces. pieces.items) v.items) depth_is parts_are is)) c.merge.ensures.made
+    IfOk-weaker c.merge.result _ _ (λ v is. sym (length-map v.items (λ pieces. pieces.items)) ∙ made_count s valid m c.requires.first c.requires.last rows c.requires.at young took frames
+    (map (λ pieces. pieces.items) v.items) (made_turned s young rows c.depth-depth.result (depth s m) c.deref.result.now (parts_at s m (length young) (take (depth s m) rows)) took frames
+    (map (λ pieces. pieces.items) v.items) depth_is parts_are is)) c.merge.ensures.made
 
 pub returns-clause-can : goal.returns-clause-can
 returns-clause-can g c =
@@ -57,7 +60,9 @@ returns-clause-can g c =
     let parts_are : c.deref.result.now ≡ parts_at s m (length young) (take (depth s m) rows) = c.deref.ensures.value ∙ c.in_ok-parts.ensures.parts in
     let took = g.O.Totals.took c.merge.new.totals in
     let frames = IsFrames (g.B.Bay.files c.args.bay.now) in
-    IfOk-weaker c.merge.result _ _ (λ v is. made_can s valid m c.requires.first c.requires.last rows c.requires.at young took frames (map (λ pieces. pieces.items) v.items) (made_turned s young rows c.depth-depth.result (depth s m) c.deref.result.now (parts_at s m (length young) (take (depth s m) rows)) took frames (map (λ pieces. pieces.items) v.items) depth_is parts_are is) c.in_ok-parts.ensures.young) c.merge.ensures.made
+    IfOk-weaker c.merge.result _ _ (λ v is. made_can s valid m c.requires.first c.requires.last rows c.requires.at young took frames (map (λ pieces. pieces.items) v.items)
+    (made_turned s young rows c.depth-depth.result (depth s m) c.deref.result.now (parts_at s m (length young) (take (depth s m) rows)) took frames (map (λ pieces. pieces.items) v.items)
+    depth_is parts_are is) c.in_ok-parts.ensures.young) c.merge.ensures.made
 
 pub returns-clause-told : goal.returns-clause-told
 returns-clause-told g c seen told events of =
@@ -77,8 +82,12 @@ returns-clause-told g c seen told events of =
     let stand = rows_stand s events (m - 1) rows (seen FRAMES) c.requires.at are (omega (arith, of.len)) of.held c.depth-depth.result deep in
     matched _ _ c.merge.result
     (IfOk-weaker c.merge.result _ _ (λ v is. (
-      made_new s valid m c.requires.first c.requires.last rows c.requires.at young took frames (map (λ pieces. pieces.items) v.items) (made_turned s young rows c.depth-depth.result (depth s m) c.deref.result.now (parts_at s m (length young) (take (depth s m) rows)) took frames (map (λ pieces. pieces.items) v.items) depth_is parts_are is) (seen FRAMES) events here are of,
-      made_taken s valid m c.requires.first c.requires.last rows c.requires.at young took frames (map (λ pieces. pieces.items) v.items) (made_turned s young rows c.depth-depth.result (depth s m) c.deref.result.now (parts_at s m (length young) (take (depth s m) rows)) took frames (map (λ pieces. pieces.items) v.items) depth_is parts_are is) (seen FRAMES) events here are of,
+      made_new s valid m c.requires.first c.requires.last rows c.requires.at young took frames (map (λ pieces. pieces.items) v.items)
+          (made_turned s young rows c.depth-depth.result (depth s m) c.deref.result.now (parts_at s m (length young) (take (depth s m) rows)) took frames (map (λ pieces. pieces.items) v.items)
+          depth_is parts_are is) (seen FRAMES) events here are of,
+      made_taken s valid m c.requires.first c.requires.last rows c.requires.at young took frames (map (λ pieces. pieces.items) v.items)
+          (made_turned s young rows c.depth-depth.result (depth s m) c.deref.result.now (parts_at s m (length young) (take (depth s m) rows)) took frames (map (λ pieces. pieces.items) v.items)
+          depth_is parts_are is) (seen FRAMES) events here are of,
     )) c.merge.ensures.made)
     (c.merge.ensures.sound seen told (tallied_in s events) stand)
 
@@ -94,7 +103,9 @@ returns-clause-took g c =
     let parts_are : c.deref.result.now ≡ parts_at s m (length young) (take (depth s m) rows) = c.deref.ensures.value ∙ c.in_ok-parts.ensures.parts in
     let took = g.O.Totals.took c.merge.new.totals in
     let frames = IsFrames (g.B.Bay.files c.args.bay.now) in
-    IfOk-weaker c.merge.result _ _ (λ v is. made_took s valid m c.requires.first c.requires.last rows c.requires.at young took frames (map (λ pieces. pieces.items) v.items) (made_turned s young rows c.depth-depth.result (depth s m) c.deref.result.now (parts_at s m (length young) (take (depth s m) rows)) took frames (map (λ pieces. pieces.items) v.items) depth_is parts_are is)) c.merge.ensures.made
+    IfOk-weaker c.merge.result _ _ (λ v is. made_took s valid m c.requires.first c.requires.last rows c.requires.at young took frames (map (λ pieces. pieces.items) v.items)
+    (made_turned s young rows c.depth-depth.result (depth s m) c.deref.result.now (parts_at s m (length young) (take (depth s m) rows)) took frames (map (λ pieces. pieces.items) v.items)
+    depth_is parts_are is)) c.merge.ensures.made
 
 pub returns-clause-malformed : goal.returns-clause-malformed
 returns-clause-malformed g c seen told at is =

@@ -54,7 +54,8 @@ returns-clause-told g c seen told events of =
     let took = g.O.Totals.took c.merge.new.totals in
     let frames = IsFrames (g.B.Bay.files c.args.bay.now) in
     let here : IsFrames (g.B.Bay.files c.args.bay.now) (seen FRAMES) = record { seen = seen; told = told; is = λ i. seen 2 } in
-    scan_taken s valid rows c.args.zero.now.bins _ took frames _ (made_turned s c.args.zero.now.bins rows c.numbers-levels.result.levels s.levels _ _ took frames _ levels_is refl c.in_ok-_made.ensures.made) (seen FRAMES) events here are of
+    scan_taken s valid rows c.args.zero.now.bins _ took frames _ (made_turned s c.args.zero.now.bins rows c.numbers-levels.result.levels s.levels _ _ took frames _ levels_is refl
+    c.in_ok-_made.ensures.made) (seen FRAMES) events here are of
 
 pub returns-clause-took : goal.returns-clause-took
 returns-clause-took g c =
@@ -64,7 +65,8 @@ returns-clause-took g c =
     let levels_is : c.numbers-levels.result.levels ≡ s.levels = ap (λ (n : Numbers). n.levels) (c.numbers-levels.ensures.value ∙ settings_is) in
     let took = g.O.Totals.took c.merge.new.totals in
     let frames = IsFrames (g.B.Bay.files c.args.bay.now) in
-    scan_took s valid c.args.self.now.rows c.args.zero.now.bins _ took frames _ (made_turned s c.args.zero.now.bins c.args.self.now.rows c.numbers-levels.result.levels s.levels _ _ took frames _ levels_is refl c.in_ok-_made.ensures.made)
+    scan_took s valid c.args.self.now.rows c.args.zero.now.bins _ took frames _
+    (made_turned s c.args.zero.now.bins c.args.self.now.rows c.numbers-levels.result.levels s.levels _ _ took frames _ levels_is refl c.in_ok-_made.ensures.made)
 
 pub returns-in_err-_made-clause-sound : goal.returns-in_err-_made-clause-sound
 returns-in_err-_made-clause-sound g c seen told held stand =

@@ -46,7 +46,10 @@ returns-clause-holds g c =
     let are : AreRows s rows = subst (λ (v : OnDisk). AreRows v.settings v.rows) c.self.view_is c.self.invariant.are in
     let count : length c.reached.result.now ≡ depth s m = c.reached.ensures.len ∙ depth_is in
     let stand = subst (λ (d : ℕ). OnOk c.write_arrivals.result (IfTold (g.B.Bay.files c.write_arrivals.new.bay) (λ seen. AreLanded s m (take (depth s m) rows) (seen FRAMES) made d))) count
-    (subst (λ (rs : List (List BinAt)). OnOk c.write_arrivals.result (IfTold (g.B.Bay.files c.write_arrivals.new.bay) (λ seen. AreLanded s m rs (seen FRAMES) made (length c.reached.result.now)))) rows_are
-    (subst (λ (n : Numbers). OnOk c.write_arrivals.result (IfTold (g.B.Bay.files c.write_arrivals.new.bay) (λ seen. AreLanded n m (map (λ row. row.items) c.reached.result.now) (seen FRAMES) made (length c.reached.result.now)))) settings_is c.write_arrivals.ensures.stand)) in
-    written_holds c.write_arrivals.result s m rows made (g.B.Bay.files c.args.bay.now) (g.B.Bay.files c.write_arrivals.new.bay) are.levels are (omega (arith, c.requires.count, length-map c.args.made.now (λ pieces. pieces.items)))
+    (subst (λ (rs : List (List BinAt)). OnOk c.write_arrivals.result (IfTold (g.B.Bay.files c.write_arrivals.new.bay)
+    (λ seen. AreLanded s m rs (seen FRAMES) made (length c.reached.result.now)))) rows_are
+    (subst (λ (n : Numbers). OnOk c.write_arrivals.result (IfTold (g.B.Bay.files c.write_arrivals.new.bay)
+    (λ seen. AreLanded n m (map (λ row. row.items) c.reached.result.now) (seen FRAMES) made (length c.reached.result.now)))) settings_is c.write_arrivals.ensures.stand)) in
+    written_holds c.write_arrivals.result s m rows made (g.B.Bay.files c.args.bay.now) (g.B.Bay.files c.write_arrivals.new.bay) are.levels are
+    (omega (arith, c.requires.count, length-map c.args.made.now (λ pieces. pieces.items)))
     (returns-clause-rest g c).seen stand

@@ -22,6 +22,7 @@ loop-level-preserved c =
       omega arith,
       next_of c.args.payload.now (level_fields c.args.settings.now c.args.payload.now) (c.loop-level.level - 1) 1 c.loop-level.level (c.loop-level.level + 1 - 1)
           (omega (arith, some)) (omega (arith, some)) c.loop-level.invariant.1 c.in_ok-place.ensures.0,
-      c.in_ok-place.ensures.1 ∙ (ap (λ n. n + 1 + bin_count c.args.settings.now c.loop-level.level c.args.n0) c.loop-level.invariant.2 ∙ level_place-next c.args.settings.now c.args.n0 c.loop-level.level some),
+      c.in_ok-place.ensures.1 ∙ (ap (λ n. n + 1 + bin_count c.args.settings.now c.loop-level.level c.args.n0) c.loop-level.invariant.2
+          ∙ level_place-next c.args.settings.now c.args.n0 c.loop-level.level some),
       c.in_ok-place.ensures.2,
     )

@@ -11,7 +11,8 @@ returns-in_err-head c =
     let before = c.args.before.now in
     let payload = c.args.payload.now in
     rw (p.1, p.2)
-    (in_first payload (head_fields s before payload) (directory_fields s payload) (count_field s before payload ∷ []) (all_report_fields s c.args.cone before payload) (end_field s payload ∷ []) _
+    (in_first payload (head_fields s before payload) (directory_fields s payload) (count_field s before payload ∷ []) (all_report_fields s c.args.cone before payload)
+    (end_field s payload ∷ []) _
     c.in_err-head.ensures)
 
 pub returns-in_err-count_at : goal.returns-in_err-count_at
@@ -21,7 +22,8 @@ returns-in_err-count_at c =
     let before = c.args.before.now in
     let payload = c.args.payload.now in
     rw (p.1, p.2)
-    (in_second payload (head_fields s before payload) (directory_fields s payload) (count_field s before payload ∷ []) (all_report_fields s c.args.cone before payload) (end_field s payload ∷ []) _
+    (in_second payload (head_fields s before payload) (directory_fields s payload) (count_field s before payload ∷ []) (all_report_fields s c.args.cone before payload)
+    (end_field s payload ∷ []) _
     c.in_ok-head.ensures.0 c.in_err-count_at.ensures)
 
 pub returns-in_err-reports : goal.returns-in_err-reports
@@ -32,7 +34,8 @@ returns-in_err-reports c =
     let payload = c.args.payload.now in
     let bad = c.in_err-reports.ensures in
     rw (p.1, p.2)
-    (in_third payload (head_fields s before payload) (directory_fields s payload) (count_field s before payload ∷ []) (all_report_fields s c.args.cone before payload) (end_field s payload ∷ []) _
+    (in_third payload (head_fields s before payload) (directory_fields s payload) (count_field s before payload ∷ []) (all_report_fields s c.args.cone before payload)
+    (end_field s payload ∷ []) _
     c.in_ok-head.ensures.0 c.in_ok-count_at.ensures.0 (broken payload (count_field s before payload) [] bad.0 ∙ ap Some (sym bad.1)))
 
 pub returns-in_err-read_reports : goal.returns-in_err-read_reports
@@ -42,7 +45,8 @@ returns-in_err-read_reports c =
     let before = c.args.before.now in
     let payload = c.args.payload.now in
     rw (p.1, p.2)
-    (in_fourth payload (head_fields s before payload) (directory_fields s payload) (count_field s before payload ∷ []) (all_report_fields s c.args.cone before payload) (end_field s payload ∷ []) _
+    (in_fourth payload (head_fields s before payload) (directory_fields s payload) (count_field s before payload ∷ []) (all_report_fields s c.args.cone before payload)
+    (end_field s payload ∷ []) _
     c.in_ok-head.ensures.0 c.in_ok-count_at.ensures.0 (kept payload (count_field s before payload) [] None c.in_ok-reports.ensures.0 (none_left payload)) c.in_err-read_reports.ensures)
 
 pub returns-in_err-read_end : goal.returns-in_err-read_end
@@ -53,7 +57,8 @@ returns-in_err-read_end c =
     let payload = c.args.payload.now in
     let bad = c.in_err-read_end.ensures in
     rw (p.1, p.2)
-    (in_last payload (head_fields s before payload) (directory_fields s payload) (count_field s before payload ∷ []) (all_report_fields s c.args.cone before payload) (end_field s payload ∷ []) _
+    (in_last payload (head_fields s before payload) (directory_fields s payload) (count_field s before payload ∷ []) (all_report_fields s c.args.cone before payload) (end_field s payload ∷ [])
+    _
     c.in_ok-head.ensures.0 c.in_ok-count_at.ensures.0 (kept payload (count_field s before payload) [] None c.in_ok-reports.ensures.0 (none_left payload)) c.in_ok-read_reports.ensures.0
     (broken payload (end_field s payload) [] bad.0 ∙ ap Some (sym bad.1)))
 
@@ -63,7 +68,8 @@ returns c =
     let before = c.args.before.now in
     let payload = c.args.payload.now in
     let head = c.in_ok-head.ensures in (
-      in_last payload (head_fields s before payload) (directory_fields s payload) (count_field s before payload ∷ []) (all_report_fields s c.args.cone before payload) (end_field s payload ∷ []) None
+      in_last payload (head_fields s before payload) (directory_fields s payload) (count_field s before payload ∷ []) (all_report_fields s c.args.cone before payload)
+          (end_field s payload ∷ []) None
           head.0 c.in_ok-count_at.ensures.0 (kept payload (count_field s before payload) [] None c.in_ok-reports.ensures.0 (none_left payload)) c.in_ok-read_reports.ensures.0
           (kept payload (end_field s payload) [] None c.in_ok-read_end.ensures.0 (none_left payload)),
       record {
