@@ -139,7 +139,8 @@ pub record ReplaysKeys {B : Type 0} (bays : Bays B) (n0 : ℕ) (keys : List ℕ)
   pub unflushed : last_flush old.counts.listing.settings (length old.counts.listing.events + length keys) ≤ max n0 (length old.counts.listing.events) → new.bay ≡ old.bay
   pub framed : IfTold (bays.files old.bay) (λ seen. HoldsSome old.counts.listing.settings (max n0 (length old.counts.listing.events)) old.counts.rows (seen FRAMES) →
       OnOk result (IfTold (bays.files new.bay) (λ after. HoldsSome new.counts.listing.settings (max n0 (length new.counts.listing.events)) new.counts.rows (after FRAMES))))
-  pub whole : IfTold (bays.files old.bay) (λ seen. HoldsSome old.counts.listing.settings (max n0 (length old.counts.listing.events)) old.counts.rows (seen FRAMES) → (at : ℕ) → result ≢ Err (Unsound FRAMES at))
+  pub whole : IfTold (bays.files old.bay) (λ seen. HoldsSome old.counts.listing.settings (max n0 (length old.counts.listing.events)) old.counts.rows (seen FRAMES) →
+      (at : ℕ) → result ≢ Err (Unsound FRAMES at))
   pub keeps : KeepsJournal bays old new result
 
 -- The end: all levels are scanned, the reports listed that are left, and the closing record appended.
