@@ -24,7 +24,8 @@ use Rattle.lert_cone.specs.Counts.{Brings, CountsKey}
 use Rattle.lert_cone.specs.Due.{Dues, started}
 use Rattle.lert_cone.specs.Framed.{HoldsSome}
 use Rattle.lert_cone.specs.Tally.{Tallied, AreYoung, IsCounted, IsHeld, take_fault}
-use Rattle.lert_cone.proofs.TakeLaws.{young_now, frames_now, others, others_long, others_young, others_frames, others_next, all_long, counted_next, held_next, never_full, sound_fault, shows_frame, shows_full, handed_on}
+use Rattle.lert_cone.proofs.TakeLaws.{young_now, frames_now, others, others_long, others_young, others_frames, others_next, all_long, counted_next, held_next, never_full, sound_fault, shows_frame}
+use Rattle.lert_cone.proofs.TakeLaws.{shows_full, handed_on}
 use Rattle.lert_cone.proofs.TallyLaws.{frames_more}
 
 pub failed_flush : (fault : FlushFault) → take_fault fault ≡ Failed → fault ≡ FlushFailed

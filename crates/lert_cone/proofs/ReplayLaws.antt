@@ -1,6 +1,7 @@
 -- What a cone keeps on its way through its journal: up to n0 events the files go together with memory as after n0 events, and
 -- from then on as after the keys so far.
-use Rattle.std.proofs.Common.{◌≡◌, ℕ, zero, suc, ◌+◌, ◌-◌, ◌<◌, ◌≤◌, true, false, cond, List, [], ◌++◌, length, take, drop, min, max, refl, sym, ap, ◌∙◌, subst, inl, inr, arith, length-append, length-take, length-drop, append-nil, append_assoc}
+use Rattle.std.proofs.Common.{◌≡◌, ℕ, zero, suc, ◌+◌, ◌-◌, ◌<◌, ◌≤◌, true, false, cond, List, [], ◌++◌, length, take, drop, min, max, refl, sym, ap, ◌∙◌, subst, inl, inr, arith, length-append}
+use Rattle.std.proofs.Common.{length-take, length-drop, append-nil, append_assoc}
 use Rattle.std.proofs.lemmas.Bool.{cases_eq, cases_lt, cases_Bool, eq-eqb, ne_eqb}
 use Rattle.std.proofs.lemmas.List.{take_at, take_all, take-append-drop, length-take-le}
 use Rattle.lert_base.specs.Packet.{Packet, events_of}

@@ -1,5 +1,6 @@
 -- Frames that hold the bins of some events, whatever these are, through a key and the flush that it may bring.
-use Rattle.std.proofs.Common.{ℕ, ◌≡◌, ◌+◌, ◌-◌, ◌*◌, ◌/◌, ◌≤◌, suc, ltb, List, [], ◌∷◌, ◌++◌, length, map, filter, take, drop, get_or, min, max, All, ap, sym, ◌∙◌, arith, subst, slice_range, length-append}
+use Rattle.std.proofs.Common.{ℕ, ◌≡◌, ◌+◌, ◌-◌, ◌*◌, ◌/◌, ◌≤◌, suc, ltb, List, [], ◌∷◌, ◌++◌, length, map, filter, take, drop, get_or, min, max, All, ap, sym, ◌∙◌, arith, subst, slice_range}
+use Rattle.std.proofs.Common.{length-append}
 use Rattle.std.specs.List.{range_with_len}
 use Rattle.std.proofs.lemmas.List.{take-append-drop, length-take, length-drop}
 use Rattle.std.proofs.lemmas.Slice.{drop-append-drop}

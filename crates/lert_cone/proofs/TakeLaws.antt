@@ -1,5 +1,6 @@
 -- A cone with one more key, from what the parts of the step say.
-use Rattle.std.proofs.Common.{ℕ, ◌≡◌, ◌≢◌, ◌+◌, ◌-◌, ◌^◌, ◌<◌, ◌≤◌, suc, true, false, cond, List, [], ◌∷◌, ◌++◌, length, take, Result, Ok, Err, OnOk, ◌⊎◌, inl, inr, refl, ap, ap₂, sym, ◌∙◌, arith, subst, length-append}
+use Rattle.std.proofs.Common.{ℕ, ◌≡◌, ◌≢◌, ◌+◌, ◌-◌, ◌^◌, ◌<◌, ◌≤◌, suc, true, false, cond, List, [], ◌∷◌, ◌++◌, length, take, Result, Ok, Err, OnOk, ◌⊎◌, inl, inr, refl, ap, ap₂, sym, ◌∙◌, arith}
+use Rattle.std.proofs.Common.{subst, length-append}
 use Rattle.std.specs.Prelude.{MatchResult, IsErrOf}
 use Rattle.std.proofs.lemmas.List.{length-take, get_or-take}
 use Rattle.std.specs.Result.{IsErrAnd}

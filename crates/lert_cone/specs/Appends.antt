@@ -2,6 +2,7 @@
 use Rattle.std.specs.Prelude.{◌≡◌, ℕ, ◌+◌, List, [], ◌∷◌, ◌++◌, length, Result, OnOk, OnErr, IsErr}
 use Rattle.lert_bay.specs.Kept.{Bays, KeepsBay}
 use Rattle.lert_bay.specs.Files.{IfTold, Turns}
+use Rattle.lert_bay.specs.declared.bay.TheConstants.{LOG}
 use Rattle.lert_gatelog.specs.Gated.{IsClosed, IsGated, next_gate}
 use Rattle.lert_gatelog.specs.Kept.{InEach, KeepsOthers, KeepsBefore, IsWhollySettled, IsWithOrWithout, OthersStay}
 use Rattle.lert_reports.specs.declared.log.LogKind.{LogKind}
@@ -15,13 +16,13 @@ pub record AppendsRecord {B E : Type 0} (bays : Bays B) (kind : LogKind) (n0 : �
   pub moved : OnOk result (new ≡ record old { gate = next_gate old.gate (payload_at old kind n0 directory reports); named = length reports })
   pub stayed : OnErr result (new ≡ old)
   pub long : next_gate old.gate (payload_at old kind n0 directory reports) ≡ old.gate + 5 + payload_len old directory reports
-  pub each_moment : IfTold (bays.files bay) (λ _. (first : ℕ) (payloads : List (List ℕ)) → InEach (bays.leaves bay) 1 (λ bytes. IsGated old.most bytes first payloads old.gate) →
-      InEach (bays.left_since bay_after (bays.moment bay)) 1 (IsWithOrWithout old.most first payloads old.gate (payload_at old kind n0 directory reports)))
-  pub appended : IfTold (bays.files bay) (λ _. (first : ℕ) (payloads : List (List ℕ)) → InEach (bays.leaves bay) 1 (λ bytes. IsGated old.most bytes first payloads old.gate) →
-      OnOk result (InEach (bays.leaves bay_after) 1 (λ bytes. IsGated old.most bytes first (payloads ++ payload_at old kind n0 directory reports ∷ []) new.gate)))
-  pub closed : IfTold (bays.files bay) (λ _. OnOk result (InEach (bays.leaves bay_after) 1 (λ bytes. IsClosed bytes new.gate)))
-  pub settled : OnOk result (IfTold (bays.files bay_after) (λ seen. IsWhollySettled (bays.leaves bay_after) seen 1))
-  pub before : IfTold (bays.files bay) (λ seen. KeepsBefore (bays.leaves bay) (bays.left_since bay_after (bays.moment bay)) seen 1 old.gate)
-  pub others : IfTold (bays.files bay) (λ seen. KeepsOthers (bays.leaves bay) (bays.left_since bay_after (bays.moment bay)) seen 1)
-  pub seen : Turns (OthersStay 1) (bays.files bay) (bays.files bay_after)
+  pub each_moment : IfTold (bays.files bay) (λ _. (first : ℕ) (payloads : List (List ℕ)) → InEach (bays.leaves bay) LOG (λ bytes. IsGated old.most bytes first payloads old.gate) →
+      InEach (bays.left_since bay_after (bays.moment bay)) LOG (IsWithOrWithout old.most first payloads old.gate (payload_at old kind n0 directory reports)))
+  pub appended : IfTold (bays.files bay) (λ _. (first : ℕ) (payloads : List (List ℕ)) → InEach (bays.leaves bay) LOG (λ bytes. IsGated old.most bytes first payloads old.gate) →
+      OnOk result (InEach (bays.leaves bay_after) LOG (λ bytes. IsGated old.most bytes first (payloads ++ payload_at old kind n0 directory reports ∷ []) new.gate)))
+  pub closed : IfTold (bays.files bay) (λ _. OnOk result (InEach (bays.leaves bay_after) LOG (λ bytes. IsClosed bytes new.gate)))
+  pub settled : OnOk result (IfTold (bays.files bay_after) (λ seen. IsWhollySettled (bays.leaves bay_after) seen LOG))
+  pub before : IfTold (bays.files bay) (λ seen. KeepsBefore (bays.leaves bay) (bays.left_since bay_after (bays.moment bay)) seen LOG old.gate)
+  pub others : IfTold (bays.files bay) (λ seen. KeepsOthers (bays.leaves bay) (bays.left_since bay_after (bays.moment bay)) seen LOG)
+  pub seen : Turns (OthersStay LOG) (bays.files bay) (bays.files bay_after)
   pub kept : KeepsBay bays bay bay_after (IsErr result)

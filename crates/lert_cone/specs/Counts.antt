@@ -2,6 +2,7 @@
 use Rattle.std.specs.Prelude.{◌≡◌, ◌≢◌, ℕ, ◌+◌, ◌-◌, ◌≤◌, true, List, [], ◌∷◌, ◌++◌, length, slice_range, Result, Err, OnOk, OnErr, IsErrOf}
 use Rattle.lert_bay.specs.Kept.{Bays, KeepsBay, OnlyReads}
 use Rattle.lert_bay.specs.Files.{Files, IfTold}
+use Rattle.lert_bay.specs.declared.bay.TheConstants.{FRAMES}
 use Rattle.lert_gatelog.specs.Kept.{InEach}
 use Rattle.lert_rows.specs.declared.fault.FlushFault.{FlushFault}
 use Rattle.lert_rows.specs.declared.fault.FlushFault.TheVariants.{Failed as FlushFailed, Malformed}
@@ -26,17 +27,17 @@ pub record Flushes {B : Type 0} (bays : Bays B) (start : Dues) (m : ℕ) (bay ba
   pub flushed : OnOk result (levels_after ≡ record levels { rows = moved levels.settings m levels.rows })
   pub refused : OnErr result (levels_after ≡ levels)
   pub holds : (events : List ℕ) → length events ≡ m → AreYoung levels.settings events zero.from zero.bins →
-      IfTold (bays.files bay) (λ seen. HoldsBins levels.settings events levels.rows (seen 2) →
-      OnOk result (IfTold (bays.files bay_after) (λ after. HoldsBins levels_after.settings events levels_after.rows (after 2))))
+      IfTold (bays.files bay) (λ seen. HoldsBins levels.settings events levels.rows (seen FRAMES) →
+      OnOk result (IfTold (bays.files bay_after) (λ after. HoldsBins levels_after.settings events levels_after.rows (after FRAMES))))
   pub totals : (events : List ℕ) → length events ≡ m → AreYoung levels.settings events zero.from zero.bins →
-      IfTold (bays.files bay) (λ seen. HoldsBins levels.settings events levels.rows (seen 2) →
+      IfTold (bays.files bay) (λ seen. HoldsBins levels.settings events levels.rows (seen FRAMES) →
       OnOk result (TookFrom start due (tallied levels.settings (slice_range events (lookback levels.settings m) m))))
   pub took : OnOk result ((list : List Piece) × TookFrom start due list)
   pub sound : (events : List ℕ) → length events ≡ m → AreYoung levels.settings events zero.from zero.bins →
-      IfTold (bays.files bay) (λ seen. HoldsBins levels.settings events levels.rows (seen 2) → (at : ℕ) → result ≢ Err (Malformed at))
-  pub malformed : IfTold (bays.files bay) (λ seen. (at : ℕ) → IsErrOf result (Malformed at) → OneBreaks levels.settings levels.rows (seen 2) at)
+      IfTold (bays.files bay) (λ seen. HoldsBins levels.settings events levels.rows (seen FRAMES) → (at : ℕ) → result ≢ Err (Malformed at))
+  pub malformed : IfTold (bays.files bay) (λ seen. (at : ℕ) → IsErrOf result (Malformed at) → OneBreaks levels.settings levels.rows (seen FRAMES) at)
   pub unwritten : (at : ℕ) → IsErrOf result (Malformed at) → bays.files bay_after ≡ bays.files bay
-  pub durable : OnOk result (IfTold (bays.files bay_after) (λ seen. (image : Files) → bays.leaves bay_after image → image 2 ≡ seen 2))
+  pub durable : OnOk result (IfTold (bays.files bay_after) (λ seen. (image : Files) → bays.leaves bay_after image → image FRAMES ≡ seen FRAMES))
   pub rest : KeepsRest (InNamed levels.settings levels.rows) (bays.files bay) (bays.files bay_after) (bays.leaves bay) (bays.moment bay) (bays.moment bay_after) (bays.left_since bay)
       (bays.left_since bay_after)
   pub kept : KeepsBay bays bay bay_after (IsErrOf result FlushFailed)
@@ -52,18 +53,18 @@ pub record Brings {B : Type 0} (bays : Bays B) (start : Dues) (m tail : ℕ) (ba
   pub bins : (events : List ℕ) → length events ≡ m → AreYoung levels.settings events zero.from zero.bins → OnOk result (AreYoung levels.settings events (edge levels.settings 0 m) zero_after.bins)
   pub rows : OnOk result (IsAt levels.settings m levels_after.rows)
   pub holds : (events : List ℕ) → length events ≡ m → AreYoung levels.settings events zero.from zero.bins →
-      IfTold (bays.files bay) (λ seen. HoldsBins levels.settings events levels.rows (seen 2) →
-      OnOk result (IfTold (bays.files bay_after) (λ after. HoldsBins levels.settings events levels_after.rows (after 2))))
+      IfTold (bays.files bay) (λ seen. HoldsBins levels.settings events levels.rows (seen FRAMES) →
+      OnOk result (IfTold (bays.files bay_after) (λ after. HoldsBins levels.settings events levels_after.rows (after FRAMES))))
   pub totals : (events : List ℕ) → length events ≡ m → AreYoung levels.settings events zero.from zero.bins →
-      IfTold (bays.files bay) (λ seen. HoldsBins levels.settings events levels.rows (seen 2) → OnOk result (TookFrom start due (totals_at levels.settings events m tail)))
+      IfTold (bays.files bay) (λ seen. HoldsBins levels.settings events levels.rows (seen FRAMES) → OnOk result (TookFrom start due (totals_at levels.settings events m tail)))
   pub took : OnOk result ((list : List Piece) × TookFrom start due list)
   pub sound : (events : List ℕ) → length events ≡ m → AreYoung levels.settings events zero.from zero.bins →
-      IfTold (bays.files bay) (λ seen. HoldsBins levels.settings events levels.rows (seen 2) → (at : ℕ) → result ≢ Err (Malformed at))
-  pub malformed : IfTold (bays.files bay) (λ seen. (at : ℕ) → IsErrOf result (Malformed at) → OneBreaks levels_after.settings levels_after.rows (seen 2) at)
+      IfTold (bays.files bay) (λ seen. HoldsBins levels.settings events levels.rows (seen FRAMES) → (at : ℕ) → result ≢ Err (Malformed at))
+  pub malformed : IfTold (bays.files bay) (λ seen. (at : ℕ) → IsErrOf result (Malformed at) → OneBreaks levels_after.settings levels_after.rows (seen FRAMES) at)
   pub unwritten : (at : ℕ) → IsErrOf result (Malformed at) → bays.files bay_after ≡ bays.files bay
   pub images : (events : List ℕ) → length events ≡ m → AreYoung levels.settings events zero.from zero.bins →
-      IfTold (bays.files bay) (λ seen. HoldsBins levels.settings events levels.rows (seen 2) → InEach (bays.leaves bay) 2 (HoldsBins levels.settings events levels.rows) →
-      OnOk result (IfTold (bays.files bay_after) (λ _. InEach (bays.leaves bay_after) 2 (HoldsBins levels.settings events levels_after.rows))))
+      IfTold (bays.files bay) (λ seen. HoldsBins levels.settings events levels.rows (seen FRAMES) → InEach (bays.leaves bay) FRAMES (HoldsBins levels.settings events levels.rows) →
+      OnOk result (IfTold (bays.files bay_after) (λ _. InEach (bays.leaves bay_after) FRAMES (HoldsBins levels.settings events levels_after.rows))))
   pub are : OnOk result (AreRows levels.settings levels.rows → AreRows levels.settings levels_after.rows)
   pub still : edge levels.settings 0 m ≡ edge levels.settings 0 (m - 1) → OnOk result (levels_after.rows ≡ levels.rows)
   pub unflushed : edge levels.settings 0 m ≡ edge levels.settings 0 (m - 1) → bay_after ≡ bay
@@ -76,12 +77,12 @@ pub record Scans {B : Type 0} (bays : Bays B) (start : Dues) (bay bay_after : B)
   pub stays : levels_after ≡ levels
   pub totals : (events : List ℕ) → length events ≤ capacity levels.settings → IsAt levels.settings (length events) levels.rows →
       zero.from ≡ edge levels.settings 0 (length events) → zero.to ≡ length events → AreYoung levels.settings events zero.from zero.bins →
-      IfTold (bays.files bay) (λ seen. HoldsBins levels.settings events levels.rows (seen 2) → OnOk result (TookFrom start due (tallied levels.settings events)))
+      IfTold (bays.files bay) (λ seen. HoldsBins levels.settings events levels.rows (seen FRAMES) → OnOk result (TookFrom start due (tallied levels.settings events)))
   pub took : OnOk result ((list : List Piece) × TookFrom start due list)
   pub sound : (events : List ℕ) → length events ≤ capacity levels.settings → IsAt levels.settings (length events) levels.rows →
       zero.from ≡ edge levels.settings 0 (length events) → AreYoung levels.settings events zero.from zero.bins →
-      IfTold (bays.files bay) (λ seen. HoldsBins levels.settings events levels.rows (seen 2) → (at : ℕ) → result ≢ Err (Malformed at))
-  pub malformed : IfTold (bays.files bay) (λ seen. (at : ℕ) → IsErrOf result (Malformed at) → OneBreaks levels.settings levels.rows (seen 2) at)
+      IfTold (bays.files bay) (λ seen. HoldsBins levels.settings events levels.rows (seen FRAMES) → (at : ℕ) → result ≢ Err (Malformed at))
+  pub malformed : IfTold (bays.files bay) (λ seen. (at : ℕ) → IsErrOf result (Malformed at) → OneBreaks levels.settings levels.rows (seen FRAMES) at)
   pub reads : OnlyReads bays bay bay_after (IsErrOf result FlushFailed)
 
 -- A key is counted. Where the edge of level 0 stays the rows stay, and no call of the bay is made; the frames that the rows named stay in any case. Where
@@ -96,12 +97,12 @@ pub record CountsKey {B : Type 0} (bays : Bays B) (key : ℕ) (bay bay_after : B
   pub unflushed : edge old.listing.settings 0 (length old.listing.events + 1) ≡ edge old.listing.settings 0 (length old.listing.events) → bay_after ≡ bay
   pub held : IfTold (bays.files bay) (λ seen. IsHeld old seen → OnOk result (IfTold (bays.files bay_after) (λ after. IsHeld new after)))
   pub sound : IfTold (bays.files bay) (λ seen. IsHeld old seen → (file at : ℕ) → result ≢ Err (Unsound file at))
-  pub shows : IfTold (bays.files bay_after) (λ seen. (file at : ℕ) → IsErrOf result (Unsound file at) → Shows new.listing.settings new.rows new.due.reports (seen 2) file at)
-  pub framed : IfTold (bays.files bay) (λ seen. HoldsSome old.listing.settings (length old.listing.events) old.rows (seen 2) →
-      OnOk result (IfTold (bays.files bay_after) (λ after. HoldsSome new.listing.settings (length new.listing.events) new.rows (after 2))))
-  pub whole : IfTold (bays.files bay) (λ seen. HoldsSome old.listing.settings (length old.listing.events) old.rows (seen 2) → (at : ℕ) → result ≢ Err (Unsound 2 at))
-  pub images : IfTold (bays.files bay) (λ seen. IsHeld old seen → InEach (bays.leaves bay) 2 (HoldsBins old.listing.settings old.listing.events old.rows) →
-      OnOk result (IfTold (bays.files bay_after) (λ _. InEach (bays.leaves bay_after) 2 (HoldsBins new.listing.settings new.listing.events new.rows))))
+  pub shows : IfTold (bays.files bay_after) (λ seen. (file at : ℕ) → IsErrOf result (Unsound file at) → Shows new.listing.settings new.rows new.due.reports (seen FRAMES) file at)
+  pub framed : IfTold (bays.files bay) (λ seen. HoldsSome old.listing.settings (length old.listing.events) old.rows (seen FRAMES) →
+      OnOk result (IfTold (bays.files bay_after) (λ after. HoldsSome new.listing.settings (length new.listing.events) new.rows (after FRAMES))))
+  pub whole : IfTold (bays.files bay) (λ seen. HoldsSome old.listing.settings (length old.listing.events) old.rows (seen FRAMES) → (at : ℕ) → result ≢ Err (Unsound FRAMES at))
+  pub images : IfTold (bays.files bay) (λ seen. IsHeld old seen → InEach (bays.leaves bay) FRAMES (HoldsBins old.listing.settings old.listing.events old.rows) →
+      OnOk result (IfTold (bays.files bay_after) (λ _. InEach (bays.leaves bay_after) FRAMES (HoldsBins new.listing.settings new.listing.events new.rows))))
   pub rest : KeepsRest (InNamed old.listing.settings old.rows) (bays.files bay) (bays.files bay_after) (bays.leaves bay) (bays.moment bay) (bays.moment bay_after) (bays.left_since bay)
       (bays.left_since bay_after)
   pub kept : KeepsBay bays bay bay_after (IsErrOf result Failed)
@@ -116,5 +117,5 @@ pub record CountsEnd {B : Type 0} (bays : Bays B) (bay bay_after : B) (old new :
   pub counted : OnOk result (IsCounted new)
   pub held : IfTold (bays.files bay) (λ seen. IsHeld old seen → OnOk result (IsHeld new seen))
   pub sound : IfTold (bays.files bay) (λ seen. IsHeld old seen → (file at : ℕ) → result ≢ Err (Unsound file at))
-  pub shows : IfTold (bays.files bay_after) (λ seen. (file at : ℕ) → IsErrOf result (Unsound file at) → Shows new.listing.settings new.rows new.due.reports (seen 2) file at)
+  pub shows : IfTold (bays.files bay_after) (λ seen. (file at : ℕ) → IsErrOf result (Unsound file at) → Shows new.listing.settings new.rows new.due.reports (seen FRAMES) file at)
   pub reads : OnlyReads bays bay bay_after (IsErrOf result Failed)

@@ -2,6 +2,7 @@
 use Rattle.std.specs.Prelude.{◌≡◌, ℕ, ◌+◌, ◌*◌, ◌^◌, ◌≤◌, List, [], ◌++◌, length}
 use Rattle.lert_base.specs.Packet.{Packet, events_of}
 use Rattle.lert_bay.specs.Files.{Files}
+use Rattle.lert_bay.specs.declared.bay.TheConstants.{JOURNAL, LOG, FRAMES}
 use Rattle.lert_gatelog.specs.Kept.{InEach, IsWhollySettled}
 use Rattle.lert_rows.specs.declared.bin_at.BinAt.{BinAt}
 use Rattle.lert_rows.specs.Rows.{HoldsBins}
@@ -23,11 +24,11 @@ pub record IsInStep (leaves : Files → Type 0) (seen : Files) (history : List P
   pub logged : List LogRecord
   pub log_of : IsLogOf listing.settings listing.cone listing.events rows listing.closed logged
   pub named_is : log.named ≡ length (listed_in logged)
-  pub journal : InEach leaves 0 (IsJournal listing.settings listing.cone history)
-  pub log_there : InEach leaves 1 (λ bytes. HasLog listing.settings listing.cone bytes logged log.gate)
-  pub frames : InEach leaves 2 (HoldsBins listing.settings listing.events rows)
-  pub journal_settled : IsWhollySettled leaves seen 0
-  pub log_settled : IsWhollySettled leaves seen 1
+  pub journal : InEach leaves JOURNAL (IsJournal listing.settings listing.cone history)
+  pub log_there : InEach leaves LOG (λ bytes. HasLog listing.settings listing.cone bytes logged log.gate)
+  pub frames : InEach leaves FRAMES (HoldsBins listing.settings listing.events rows)
+  pub journal_settled : IsWhollySettled leaves seen JOURNAL
+  pub log_settled : IsWhollySettled leaves seen LOG
   pub reports_are : reports ≡ reports_of listing
 
 -- these keys and then these begin those of the packets, and no flush of an earlier packet than the last one is left
@@ -46,7 +47,7 @@ pub record IsLogging (tally : Tallied) (log : LogPlace) (room : ℕ) : Type 0 wh
 
 -- the files as they are made: in every image the journal has no packet and the log no record, and both are settled
 pub record AreNew (s : Numbers) (cone : ℕ) (leaves : Files → Type 0) (seen : Files) : Type 0 where
-  pub journal : InEach leaves 0 (IsJournal s cone [])
-  pub log_there : InEach leaves 1 (λ bytes. HasLog s cone bytes [] 8)
-  pub journal_settled : IsWhollySettled leaves seen 0
-  pub log_settled : IsWhollySettled leaves seen 1
+  pub journal : InEach leaves JOURNAL (IsJournal s cone [])
+  pub log_there : InEach leaves LOG (λ bytes. HasLog s cone bytes [] 8)
+  pub journal_settled : IsWhollySettled leaves seen JOURNAL
+  pub log_settled : IsWhollySettled leaves seen LOG

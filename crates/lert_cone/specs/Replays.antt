@@ -4,6 +4,7 @@ use Rattle.lert_base.specs.Packet.{Packet}
 use Rattle.lert_bay.specs.Files.{Files, IfTold}
 use Rattle.lert_bay.specs.Images.{KeepsImages}
 use Rattle.lert_bay.specs.Kept.{Bays}
+use Rattle.lert_bay.specs.declared.bay.TheConstants.{JOURNAL}
 use Rattle.lert_gatelog.specs.declared.fault.LogFault.{LogFault}
 use Rattle.lert_gatelog.specs.declared.fault.LogFault.TheVariants.{Failed as LogFailed, Malformed as LogMalformed}
 use Rattle.lert_gatelog.specs.Gated.{IsClosed, next_gate}
@@ -58,7 +59,7 @@ with_packet cone packet gate bay rows reports log = record cone {
 -- a packet was taken that stands at a gate, where the files are told
 pub record HasTaken {B : Type 0} (files : B → Option Files) (old new : Standing B) (gate next : ℕ) : Type 0 where
   pub packet : Packet
-  pub stands : IfTold (files old.bay) (λ seen. HoldsNext old (seen 0) gate packet)
+  pub stands : IfTold (files old.bay) (λ seen. HoldsNext old (seen JOURNAL) gate packet)
   pub journaled : IsJournaled old.listing.settings old.listing.cone packet
   pub follows : MayTake old packet
   pub next_is : next ≡ next_gate gate (payload_of packet)
@@ -67,8 +68,8 @@ pub record HasTaken {B : Type 0} (files : B → Option Files) (old new : Standin
 -- a closed gate was found, where the files are told, behind enough keys, and nothing else changed
 pub record HasEnded {B : Type 0} (files : B → Option Files) (leaves : B → Files → Type 0) (old new : Standing B) (gate : ℕ) : Type 0 where
   pub enough : old.last.n0 ≤ length old.listing.events
-  pub stands : IfTold (files old.bay) (λ seen. IsClosed (seen 0) gate)
-  pub shut : IsShutIfTold (files new.bay) (leaves new.bay) 0 gate
+  pub stands : IfTold (files old.bay) (λ seen. IsClosed (seen JOURNAL) gate)
+  pub shut : IsShutIfTold (files new.bay) (leaves new.bay) JOURNAL gate
   pub seen : files new.bay ≡ files old.bay
   pub images : KeepsImages (leaves old.bay) (leaves new.bay)
   pub is : new ≡ record old { bay = new.bay; gate = gate }
@@ -119,6 +120,6 @@ of_log_fault (LogMalformed at) = Malformed at
 
 abbrev pub broken_after : ReplayFault → ConeState
 broken_after Failed = BrokenByBay
-broken_after (Malformed at) = BrokenByRead 0 at
+broken_after (Malformed at) = BrokenByRead JOURNAL at
 broken_after (Unsound file at) = BrokenByRead file at
 broken_after OutOfMemory = BrokenByMemory

@@ -5,6 +5,7 @@ use Rattle.lert_base.specs.Packet.{Packet, events_of}
 use Rattle.lert_bay.specs.Files.{Files, IfTold}
 use Rattle.lert_bay.specs.Kept.{Bays}
 use Rattle.lert_bay.specs.Settled.{part}
+use Rattle.lert_bay.specs.declared.bay.TheConstants.{JOURNAL, LOG, FRAMES}
 use Rattle.lert_frames.specs.Frame.{HoldsFrame}
 use Rattle.lert_frames.specs.Place.{frame_place}
 use Rattle.lert_gatelog.specs.Kept.{IsWhollySettled}
@@ -61,13 +62,13 @@ pub record HoldsDirectory (s : Numbers) (events : List ℕ) (directory : List (L
 -- events, and the reports of all records are those that the definition makes of these, or, behind a closing record, which
 -- stands behind all events, those at the end.
 pub record IsSound (s : Numbers) (cone : ℕ) (history : List Packet) (files : Files) : Type 0 where
-  pub journal : IsJournal s cone history (files 0)
+  pub journal : IsJournal s cone history (files JOURNAL)
   pub logged : List LogRecord
   pub log_end : ℕ
-  pub log : HasLog s cone (files 1) logged log_end
+  pub log : HasLog s cone (files LOG) logged log_end
   pub n0_most : last_n0 logged ≤ length (events_of history)
   pub n0_least : last_flush s (length (events_of (but_last history))) ≤ last_n0 logged
-  pub frames : HoldsDirectory s (take (last_n0 logged) (events_of history)) (last_directory s logged) (files 2)
+  pub frames : HoldsDirectory s (take (last_n0 logged) (events_of history)) (last_directory s logged) (files FRAMES)
   pub reports_are : listed_in logged ≡ (if is_closed logged then closing s (events_of history) else look s (take (last_n0 logged) (events_of history)))
   pub closed_behind : is_closed logged ≡ true → last_n0 logged ≡ length (events_of history)
 
@@ -98,8 +99,8 @@ pub record IsKept (leaves : Files → Type 0) (seen : Files) (P : Files → Type
 -- and the journal and the log are settled from the first byte to the last
 pub record IsKeptWhole (leaves : Files → Type 0) (seen : Files) (P : Files → Type 0) : Type 0 where
   pub kept : IsKept leaves seen P
-  pub journal : IsWhollySettled leaves seen 0
-  pub log : IsWhollySettled leaves seen 1
+  pub journal : IsWhollySettled leaves seen JOURNAL
+  pub log : IsWhollySettled leaves seen LOG
 
 -- from one state of a bay to another the files stay sound for a list: in each image of each moment between, and as the bay then
 -- reads them
@@ -109,10 +110,10 @@ pub record StaysSound {B : Type 0} (bays : Bays B) (s : Numbers) (cone : ℕ) (h
 
 -- all three files are empty
 pub record AreEmpty (seen : Files) : Type 0 where
-  pub journal : seen 0 ≡ []
-  pub log : seen 1 ≡ []
-  pub frames : seen 2 ≡ []
+  pub journal : seen JOURNAL ≡ []
+  pub log : seen LOG ≡ []
+  pub frames : seen FRAMES ≡ []
 
 -- the frames stay as a read gives them
 abbrev pub FramesStay : Files → Files → Type 0
-FramesStay old new = new 2 ≡ old 2
+FramesStay old new = new FRAMES ≡ old FRAMES

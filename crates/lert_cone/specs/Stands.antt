@@ -5,6 +5,7 @@ use Rattle.lert_base.specs.declared.entry.Entry.{Entry}
 use Rattle.lert_base.specs.Entries.{packet_of}
 use Rattle.lert_base.specs.Packet.{Packet, events_of}
 use Rattle.lert_bay.specs.Files.{Files, IfTold}
+use Rattle.lert_bay.specs.declared.bay.TheConstants.{JOURNAL, LOG}
 use Rattle.lert_gatelog.specs.Gated.{Log}
 use Rattle.lert_gatelog.specs.Kept.{IsWhollySettled}
 use Rattle.lert_io.specs.Fault.{HasRisen}
@@ -152,15 +153,15 @@ pub record IsReplaying {B : Type 0} (files : B → Option Files) (leaves : B →
   pub recounted : IsRecounted tally cone.last.n0
   pub closed : cone.listing.closed ≡ cone.last.closed
   pub near : cone.gate ≤ 2 ^ 62 + 21 * cone.events
-  pub journal_settled : IfTold (files cone.bay) (λ seen. IsWhollySettled (leaves cone.bay) seen 0)
+  pub journal_settled : IfTold (files cone.bay) (λ seen. IsWhollySettled (leaves cone.bay) seen JOURNAL)
   pub logging : IsLogging tally cone.log room
-  pub log_shut : IsShutIfTold (files cone.bay) (leaves cone.bay) 1 cone.log.gate
+  pub log_shut : IsShutIfTold (files cone.bay) (leaves cone.bay) LOG cone.log.gate
 
 -- what is so of every cone, of its journal's place and of the rooms of its buffer and of its list of keys. A cone that isn't
 -- broken has nothing left over, its counts are those of its keys, and a key takes at most 21 bytes of its journal. The gates
 -- of a running one are closed in every image, and the journal and the log are settled
 pub record IsCone {B : Type 0} (files : B → Option Files) (leaves : B → Files → Type 0) (faults : B → ℕ) (cone : Standing B) (tally : Tallied) (journal : Log) (room keys_room : ℕ) : Type 0 where
-  pub file : journal.file ≡ 0
+  pub file : journal.file ≡ JOURNAL
   pub most : journal.most ≡ most_payload cone.listing.settings
   pub roomy : room ≡ room_of cone.listing.settings
   pub keys_roomy : keys_room ≡ 4 * cone.listing.settings.packet
@@ -173,9 +174,9 @@ pub record IsCone {B : Type 0} (files : B → Option Files) (leaves : B → File
   pub tallied : is_broken cone.state ≡ false → IsCounted tally
   pub closed : is_broken cone.state ≡ false → cone.listing.closed ≡ is_finished cone.state
   pub near : is_broken cone.state ≡ false → cone.gate ≤ 2 ^ 62 + 21 * cone.events
-  pub shut : cone.state ≡ Running → IsShutIfTold (files cone.bay) (leaves cone.bay) 0 cone.gate
+  pub shut : cone.state ≡ Running → IsShutIfTold (files cone.bay) (leaves cone.bay) JOURNAL cone.gate
   pub logging : cone.state ≡ Running → IsLogging tally cone.log room
-  pub log_shut : cone.state ≡ Running → IsShutIfTold (files cone.bay) (leaves cone.bay) 1 cone.log.gate
+  pub log_shut : cone.state ≡ Running → IsShutIfTold (files cone.bay) (leaves cone.bay) LOG cone.log.gate
   pub replaying : cone.state ≡ Replaying → IsReplaying files leaves cone tally room
 
 -- the reply of a cone to a packet behind a list: the positions of its first and its last key, and, where its bay tells its

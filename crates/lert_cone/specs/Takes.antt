@@ -3,6 +3,7 @@ use Rattle.std.specs.Prelude.{◌≡◌, ◌≢◌, ℕ, ◌+◌, ◌*◌, ◌^�
 use Rattle.lert_base.specs.Packet.{Packet, events_of}
 use Rattle.lert_bay.specs.Kept.{Bays, KeepsBay}
 use Rattle.lert_bay.specs.Files.{Files, IfTold, Turns}
+use Rattle.lert_bay.specs.declared.bay.TheConstants.{JOURNAL, LOG, FRAMES}
 use Rattle.lert_gatelog.specs.Gated.{Log, next_gate}
 use Rattle.lert_journal.specs.Payload.{IsJournaled, payload_of}
 use Rattle.lert_spec.specs.Edges.{capacity}
@@ -29,7 +30,7 @@ pub record Workplace (B : Type 0) : Type 0 where
 -- where its log is before its next record, and its gate closed in every image
 pub record CanLog {B : Type 0} (bays : Bays B) (at : Workplace B) : Type 0 where
   pub logging : IsLogging at.counts at.log at.room
-  pub log_shut : IsShutIfTold (bays.files at.bay) (bays.leaves at.bay) 1 at.log.gate
+  pub log_shut : IsShutIfTold (bays.files at.bay) (bays.leaves at.bay) LOG at.log.gate
 
 -- these keys may be taken: the cone isn't closed, they are its own and no more than it takes, and no call broke off
 pub record CanTake {B : Type 0} (bays : Bays B) (keys : List ℕ) (at : Workplace B) : Type 0 where
@@ -50,8 +51,8 @@ IsWholeAt bays at journal seen history = IsWhole (bays.leaves at.bay) seen at.co
 -- the journal stays as it is, and no frame is found malformed but where it shows so
 pub record KeepsJournal {B : Type 0} (bays : Bays B) (old new : Workplace B) (result : Result (Unit {0}) TakeFault) : Type 0 where
   pub shows : IfTold (bays.files new.bay) (λ seen. (file at : ℕ) → IsErrOf result (Unsound file at) →
-      Shows new.counts.listing.settings new.counts.rows new.counts.due.reports (seen 2) file at)
-  pub journal : LeavesAlone bays 0 old.bay new.bay
+      Shows new.counts.listing.settings new.counts.rows new.counts.due.reports (seen FRAMES) file at)
+  pub journal : LeavesAlone bays JOURNAL old.bay new.bay
   pub most : new.log.most ≡ old.log.most
   pub kept : KeepsBay bays old.bay new.bay (IsErrOf result Failed)
 
@@ -68,19 +69,19 @@ pub record TakesKeys {B : Type 0} (bays : Bays B) (keys : List ℕ) (old new : W
   pub each_moment : IfTold (bays.files old.bay) (λ seen. (history : List Packet) → IsPartway old.counts.listing.settings history old.counts.listing.events keys → AreInStep bays old seen history →
       (image : Files) → bays.left_since new.bay (bays.moment old.bay) image → IsSound old.counts.listing.settings old.counts.listing.cone history image)
   pub sound : IfTold (bays.files old.bay) (λ seen. (history : List Packet) → AreInStep bays old seen history → (file at : ℕ) → result ≢ Err (Unsound file at))
-  pub framed : IfTold (bays.files old.bay) (λ seen. HoldsSome old.counts.listing.settings (length old.counts.listing.events) old.counts.rows (seen 2) →
-      OnOk result (IfTold (bays.files new.bay) (λ after. HoldsSome new.counts.listing.settings (length new.counts.listing.events) new.counts.rows (after 2))))
-  pub whole : IfTold (bays.files old.bay) (λ seen. HoldsSome old.counts.listing.settings (length old.counts.listing.events) old.counts.rows (seen 2) → (at : ℕ) → result ≢ Err (Unsound 2 at))
+  pub framed : IfTold (bays.files old.bay) (λ seen. HoldsSome old.counts.listing.settings (length old.counts.listing.events) old.counts.rows (seen FRAMES) →
+      OnOk result (IfTold (bays.files new.bay) (λ after. HoldsSome new.counts.listing.settings (length new.counts.listing.events) new.counts.rows (after FRAMES))))
+  pub whole : IfTold (bays.files old.bay) (λ seen. HoldsSome old.counts.listing.settings (length old.counts.listing.events) old.counts.rows (seen FRAMES) → (at : ℕ) → result ≢ Err (Unsound FRAMES at))
   pub unflushed : last_flush old.counts.listing.settings (length old.counts.listing.events + length keys) ≤ length old.counts.listing.events → new.bay ≡ old.bay
   pub keeps : KeepsJournal bays old new result
 
 -- a packet may be taken: the journal may hold it, its gate is closed in every image, and its keys may be taken
 pub record CanTakePacket {B : Type 0} (bays : Bays B) (packet : Packet) (at : Workplace B) (journal : Log) : Type 0 where
-  pub file : journal.file ≡ 0
+  pub file : journal.file ≡ JOURNAL
   pub most : journal.most ≡ most_payload at.counts.listing.settings
   pub roomy : journal.most + 5 ≤ at.room
   pub reach : journal.gate + 14 + 8 * length packet.keys < 2 ^ 63
-  pub shut : IsShutIfTold (bays.files at.bay) (bays.leaves at.bay) 0 journal.gate
+  pub shut : IsShutIfTold (bays.files at.bay) (bays.leaves at.bay) JOURNAL journal.gate
   pub journaled : IsJournaled at.counts.listing.settings at.counts.listing.cone packet
   pub fits : length at.counts.listing.events + length packet.keys ≤ capacity at.counts.listing.settings
   pub still : at.counts.listing.closed ≡ false
@@ -98,14 +99,14 @@ pub record TakesPacket {B : Type 0} (bays : Bays B) (packet : Packet) (old new :
   pub moved : OnOk result (journal_after ≡ record journal { gate = next_gate journal.gate (payload_of packet) })
   pub file : journal_after.file ≡ journal.file
   pub most : journal_after.most ≡ journal.most
-  pub shut : OnOk result (IsShutIfTold (bays.files new.bay) (bays.leaves new.bay) 0 journal_after.gate)
+  pub shut : OnOk result (IsShutIfTold (bays.files new.bay) (bays.leaves new.bay) JOURNAL journal_after.gate)
   pub in_step : IfTold (bays.files old.bay) (λ seen. (history : List Packet) → IsWholeAt bays old journal seen history →
       OnOk result (IfTold (bays.files new.bay) (λ after. AreInStep bays new after (history ++ packet ∷ []))))
   pub each_moment : IfTold (bays.files old.bay) (λ seen. (history : List Packet) → IsWholeAt bays old journal seen history →
       (image : Files) → bays.left_since new.bay (bays.moment old.bay) image → IsSoundOver old.counts.listing.settings old.counts.listing.cone history (Some packet) image)
   pub sound : IfTold (bays.files old.bay) (λ seen. (history : List Packet) → IsWholeAt bays old journal seen history → (file at : ℕ) → result ≢ Err (Unsound file at))
   pub shows : IfTold (bays.files new.bay) (λ seen. (file at : ℕ) → IsErrOf result (Unsound file at) →
-      Shows new.counts.listing.settings new.counts.rows new.counts.due.reports (seen 2) file at)
+      Shows new.counts.listing.settings new.counts.rows new.counts.due.reports (seen FRAMES) file at)
   pub seen : Turns Anything (bays.files old.bay) (bays.files new.bay)
   pub now : (image : Files) → bays.leaves new.bay image → bays.left_since new.bay (bays.moment old.bay) image
   pub kept : KeepsBay bays old.bay new.bay (IsErrOf result Failed)
@@ -136,9 +137,10 @@ pub record ReplaysKeys {B : Type 0} (bays : Bays B) (n0 : ℕ) (keys : List ℕ)
       IsOnWay (bays.leaves old.bay) seen history old.counts.listing old.counts.rows old.counts.due.reports old.log n0 →
       (image : Files) → bays.left_since new.bay (bays.moment old.bay) image → IsSound old.counts.listing.settings old.counts.listing.cone history image)
   pub unflushed : last_flush old.counts.listing.settings (length old.counts.listing.events + length keys) ≤ max n0 (length old.counts.listing.events) → new.bay ≡ old.bay
-  pub framed : IfTold (bays.files old.bay) (λ seen. HoldsSome old.counts.listing.settings (max n0 (length old.counts.listing.events)) old.counts.rows (seen 2) →
-      OnOk result (IfTold (bays.files new.bay) (λ after. HoldsSome new.counts.listing.settings (max n0 (length new.counts.listing.events)) new.counts.rows (after 2))))
-  pub whole : IfTold (bays.files old.bay) (λ seen. HoldsSome old.counts.listing.settings (max n0 (length old.counts.listing.events)) old.counts.rows (seen 2) → (at : ℕ) → result ≢ Err (Unsound 2 at))
+  pub framed : IfTold (bays.files old.bay) (λ seen. HoldsSome old.counts.listing.settings (max n0 (length old.counts.listing.events)) old.counts.rows (seen FRAMES) →
+      OnOk result (IfTold (bays.files new.bay) (λ after. HoldsSome new.counts.listing.settings (max n0 (length new.counts.listing.events)) new.counts.rows (after FRAMES))))
+  pub whole : IfTold (bays.files old.bay) (λ seen. HoldsSome old.counts.listing.settings (max n0 (length old.counts.listing.events)) old.counts.rows (seen FRAMES) →
+      (at : ℕ) → result ≢ Err (Unsound FRAMES at))
   pub keeps : KeepsJournal bays old new result
 
 -- The end: all levels are scanned, the reports listed that are left, and the closing record appended.

@@ -1,6 +1,7 @@
 -- What the counts and reports of a cone are seen as, and what they hold.
 use Rattle.std.specs.Prelude.{ℕ, ◌≡◌, ◌⊎◌, ◌-◌, ◌^◌, ◌<◌, ◌≤◌, ◌==◌, List, [], ◌∷◌, length, slice_range, Option, Some, None, if◌then◌else◌}
 use Rattle.lert_bay.specs.Files.{Files}
+use Rattle.lert_bay.specs.declared.bay.TheConstants.{LOG, FRAMES}
 use Rattle.lert_spec.specs.declared.numbers.Numbers.{Numbers}
 use Rattle.lert_spec.specs.declared.piece.Piece.{Piece}
 use Rattle.lert_spec.specs.declared.report.Report.{Report}
@@ -87,7 +88,7 @@ pub record IsRecounted (tally : Tallied) (n0 : ℕ) : Type 0 where
 
 -- with these files, where they are told: the named frames hold the older levels, and the reports are those of the definition
 pub record IsHeld (tally : Tallied) (seen : Files) : Type 0 where
-  pub frames : HoldsBins tally.listing.settings tally.listing.events tally.rows (seen 2)
+  pub frames : HoldsBins tally.listing.settings tally.listing.events tally.rows (seen FRAMES)
   pub reports : tally.due.reports ≡ reports_of tally.listing
 
 -- the totals that the last of m events brings, its tail being this one: where no edge moves that of its tail in level 0, and
@@ -100,11 +101,11 @@ totals_at s events m tail =
 -- why a key isn't taken, where a flush or a scan refused: a frame stands in the file of frames, whose number is 2
 abbrev pub take_fault : FlushFault → TakeFault
 take_fault FlushFailed = Failed
-take_fault (Malformed at) = Unsound 2 at
+take_fault (Malformed at) = Unsound FRAMES at
 take_fault NoMemory = OutOfMemory
 
 -- what shows that files are sound for no list: a frame that the rows name leaves its format at this byte of the file of
 -- frames, or the reports fill their room and one more is due, which the log would have to name
 abbrev pub Shows : Numbers → List (List BinAt) → List Report → List ℕ → ℕ → ℕ → Type 0
 Shows s rows reports frames file at =
-    ((file ≡ 2) × OneBreaks s rows frames at) ⊎ ((file ≡ 1) × (at ≡ 0) × (length reports ≡ s.room))
+    ((file ≡ FRAMES) × OneBreaks s rows frames at) ⊎ ((file ≡ LOG) × (at ≡ 0) × (length reports ≡ s.room))

@@ -5,6 +5,7 @@ ghost use Rattle.lert_base.specs.Entries.{packet_of};
 ghost use Rattle.lert_base.specs.Packet.{Packet, events_of};
 ghost use Rattle.lert_bay.specs.Files.{Files, IfTold, Turns};
 ghost use Rattle.lert_bay.specs.Images.{Lasts, KeepsImages};
+ghost use Rattle.lert_bay.specs.declared.bay.TheConstants.{JOURNAL, FRAMES};
 ghost use Rattle.lert_gatelog.specs.Gated.{next_gate};
 ghost use Rattle.lert_reports.specs.Log.{most_record};
 ghost use Rattle.lert_io.specs.Fault.{HasRisen};
@@ -217,7 +218,7 @@ impl<B: Bay, T: CountTable> Cone<B, T> {
         ensures unsound { (file at : ℕ) → IsErrOf result (ConeFault.Unsound file at) → (self.new.state ≡ ConeState.BrokenByRead file at)
             × ((h : List Packet) → StandsFor B.files B.leaves B.faults self.old h → WasSound B.files self.old → B.files self.old.bay ≡ None) }
         ensures shows { (file at : ℕ) → IsErrOf result (ConeFault.Unsound file at) →
-            IfTold (B.files self.new.bay) (λ seen. Shows self.new.listing.settings self.new.rows self.new.reports (seen 2) file at) }
+            IfTold (B.files self.new.bay) (λ seen. Shows self.new.listing.settings self.new.rows self.new.reports (seen FRAMES) file at) }
         ensures out_of_memory { IsErrOf result ConeFault.OutOfMemory → self.new.state ≡ ConeState.BrokenByMemory }
 
         // In each image of each moment of the call the files are sound for the list, or for the list and the packet.
@@ -328,7 +329,7 @@ fn begin<B: Bay>(
     cone: u32,
 ) -> Result<(GateLog, ReportLog), CreateFault>
     requires named { cone < 2 ^ settings.now.cone_bits }
-    ensures journal { IfOk result (λ logs. logs.0 ≡ record { file = 0; gate = 32; most = most_payload settings.now }) }
+    ensures journal { IfOk result (λ logs. logs.0 ≡ record { file = JOURNAL; gate = 32; most = most_payload settings.now }) }
     ensures log { IfOk result (λ logs. logs.1 ≡ record { gate = 8; most = most_record settings.now; named = 0 }) }
     ensures begun { OnOk result (IfTold (B.files bay.new) (λ seen. AreNew settings.now cone (B.leaves bay.new) seen)) }
     ensures fresh { IfTold (B.files bay.old) (λ seen. OnOk result (AreEmpty seen)) }

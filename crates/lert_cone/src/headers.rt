@@ -4,6 +4,7 @@ ghost use Rattle.std.specs.Prelude.{◌≡◌, ◌↔◌, ◌<◌, ◌≤◌, �
 ghost use Rattle.lert_bay.specs.Files.{Files, IfTold, Turns};
 ghost use Rattle.lert_bay.specs.Images.{KeepsImages, Lasts};
 ghost use Rattle.lert_bay.specs.Kept.{KeepsBay};
+ghost use Rattle.lert_bay.specs.declared.bay.TheConstants.{JOURNAL};
 ghost use Rattle.lert_io.specs.Fault.{HasCause};
 ghost use Rattle.lert_cone.specs.History.{most_payload};
 ghost use Rattle.lert_reports.specs.Log.{most_record};
@@ -60,7 +61,7 @@ pub fn write_headers<B: Bay>(
 ) -> Result<(GateLog, ReportLog), Failed>
     requires named { cone < 2 ^ settings.now.cone_bits }
     requires fresh { IfTold (B.files bay.old) (λ seen. AreEmpty seen) }
-    ensures journal { IfOk result (λ logs. logs.0 ≡ record { file = 0; gate = 32; most = most_payload settings.now }) }
+    ensures journal { IfOk result (λ logs. logs.0 ≡ record { file = JOURNAL; gate = 32; most = most_payload settings.now }) }
     ensures log { IfOk result (λ logs. logs.1 ≡ record { gate = 8; most = most_record settings.now; named = 0 }) }
     ensures begun { OnOk result (IfTold (B.files bay.new) (λ seen. AreNew settings.now cone (B.leaves bay.new) seen)) }
     ensures frames { Turns FramesStay (B.files bay.old) (B.files bay.new) }

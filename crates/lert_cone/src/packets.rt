@@ -3,6 +3,7 @@
 ghost use Rattle.std.specs.Prelude.{◌≡◌, ℕ, ◌+◌, ◌*◌, ◌<◌, ◌≤◌, ◌^◌, length, IfOk, IsErrOf, IsFalse, IsTrue};
 ghost use Rattle.lert_base.specs.Entries.{packet_of};
 ghost use Rattle.lert_bay.specs.Files.{Files, IfTold};
+ghost use Rattle.lert_bay.specs.declared.bay.TheConstants.{JOURNAL};
 ghost use Rattle.lert_gatelog.specs.Gated.{IsClosed, next_gate};
 ghost use Rattle.lert_journal.specs.Journal.{HoldsPacket};
 ghost use Rattle.lert_journal.specs.Payload.{IsJournaled, payload_of};
@@ -30,7 +31,7 @@ pub fn read_packet<B: Bay, T: CountTable>(
     entry: &mut Entry,
     buffer: &mut [u8],
 ) -> Result<bool, LogFault>
-    requires file { journal.old.file ≡ 0 }
+    requires file { journal.old.file ≡ JOURNAL }
     requires most { journal.old.most ≡ most_payload tally.now.listing.settings }
     requires entry { 4 * tally.now.listing.settings.packet ≤ entry.old.keys.room }
     requires room { journal.old.most ≤ length buffer.old }
@@ -40,10 +41,10 @@ pub fn read_packet<B: Bay, T: CountTable>(
 
     // Where the file is told, the answer is what stands here.
     ensures found { IfTold (B.files bay.old) (λ seen. IfOk result (λ found. IsTrue found →
-        HoldsPacket tally.now.listing.settings tally.now.listing.cone (most_payload tally.now.listing.settings) (seen 0) journal.old.gate (packet_of entry.new))) }
-    ensures closed { IfTold (B.files bay.old) (λ seen. IfOk result (λ found. IsFalse found → IsClosed (seen 0) journal.old.gate)) }
+        HoldsPacket tally.now.listing.settings tally.now.listing.cone (most_payload tally.now.listing.settings) (seen JOURNAL) journal.old.gate (packet_of entry.new))) }
+    ensures closed { IfTold (B.files bay.old) (λ seen. IfOk result (λ found. IsFalse found → IsClosed (seen JOURNAL) journal.old.gate)) }
     ensures malformed { IfTold (B.files bay.old) (λ seen. (at : ℕ) → IsErrOf result (LogFault.Malformed at) →
-        ReplayLeavesAt tally.now.listing.settings tally.now.listing.cone last.now.n0 last.now.closed (length tally.now.listing.events) (seen 0) journal.old.gate at) }
+        ReplayLeavesAt tally.now.listing.settings tally.now.listing.cone last.now.n0 last.now.closed (length tally.now.listing.events) (seen JOURNAL) journal.old.gate at) }
 
     // Told or not, the packet is one that this cone's journal may hold here, and the end stands behind enough keys.
     ensures journaled { IfOk result (λ found. IsTrue found → IsJournaled tally.now.listing.settings tally.now.listing.cone (packet_of entry.new)) }

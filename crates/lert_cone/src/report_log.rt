@@ -2,6 +2,7 @@
 
 ghost use Rattle.std.specs.Prelude.{◌≡◌, ◌+◌, ◌<◌, ◌≤◌, ◌^◌, length};
 ghost use Rattle.lert_bay.specs.Files.{IfTold};
+ghost use Rattle.lert_bay.specs.declared.bay.TheConstants.{LOG};
 ghost use Rattle.lert_gatelog.specs.Gated.{IsClosed};
 ghost use Rattle.lert_gatelog.specs.Kept.{InEach};
 ghost use Rattle.lert_cone.specs.Appends.{AppendsRecord};
@@ -23,19 +24,20 @@ pub struct ReportLog {
 
 impl Model for ReportLog {
     ghost use Rattle.std.specs.Prelude.{◌≡◌};
+    ghost use Rattle.lert_bay.specs.declared.bay.TheConstants.{LOG};
     ghost use Rattle.lert_cone.specs.Record.{LogPlace};
 
     ghost Value = { LogPlace };
 
     ghost view = { λ l. record { gate = l.log.gate; most = l.log.most; named = l.named } };
 
-    ghost invariant = { λ l. l.log.file ≡ 1 };
+    ghost invariant = { λ l. l.log.file ≡ LOG };
 }
 
 impl ReportLog {
     /// The log at its first gate: no record names a report yet.
     pub fn new(log: GateLog) -> ReportLog
-        requires { log.file ≡ 1 }
+        requires { log.file ≡ LOG }
         ensures { result ≡ record { gate = log.gate; most = log.most; named = 0 } }
     {
         ReportLog { log, named: 0 }
@@ -74,7 +76,7 @@ impl ReportLog {
         requires fits { payload_len self.old directory.now reports.now ≤ self.old.most }
         requires room { self.old.most + 5 ≤ length buffer.old }
         requires reach { self.old.gate + self.old.most + 6 < 2 ^ 63 }
-        requires closed { IfTold (B.files bay.old) (λ _. InEach (B.leaves bay.old) 1 (λ bytes. IsClosed bytes self.old.gate)) }
+        requires closed { IfTold (B.files bay.old) (λ _. InEach (B.leaves bay.old) LOG (λ bytes. IsClosed bytes self.old.gate)) }
         ensures { AppendsRecord B.Bay kind n0 directory.now reports.now bay.old bay.new self.old self.new result }
     {
         // Its clause bounds the payload's length.

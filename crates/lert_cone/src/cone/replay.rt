@@ -4,6 +4,7 @@ ghost use Rattle.std.specs.Prelude.{◌≡◌, ◌≢◌, ◌⊎◌, ℕ, ◌+�
 ghost use Rattle.lert_base.specs.Packet.{Packet, events_of};
 ghost use Rattle.lert_bay.specs.Files.{Files, IfTold};
 ghost use Rattle.lert_bay.specs.Settled.{IsSettled};
+ghost use Rattle.lert_bay.specs.declared.bay.TheConstants.{JOURNAL, LOG, FRAMES};
 ghost use Rattle.lert_gatelog.specs.Kept.{IsWhollySettled};
 ghost use Rattle.lert_io.specs.Fault.{HasRisen};
 ghost use Rattle.lert_levels.specs.Flushed.{InNamed};
@@ -44,9 +45,9 @@ impl<B: Bay, T: CountTable> Cone<B, T> {
 
         // Where the bay tells its files, the log is settled and its gate closed in every image, and the journal and the frames
         // that the log's last record names are settled.
-        requires log_shut { IsShutIfTold (B.files bay) (B.leaves bay) 1 last.log_end }
-        requires journal { IfTold (B.files bay) (λ seen. IsWhollySettled (B.leaves bay) seen 0) }
-        requires frames { IfTold (B.files bay) (λ seen. (from to : ℕ) → InNamed room.settings room.levels.rows from to → to ≤ length (seen 2) → IsSettled (B.leaves bay) seen 2 from to) }
+        requires log_shut { IsShutIfTold (B.files bay) (B.leaves bay) LOG last.log_end }
+        requires journal { IfTold (B.files bay) (λ seen. IsWhollySettled (B.leaves bay) seen JOURNAL) }
+        requires frames { IfTold (B.files bay) (λ seen. (from to : ℕ) → InNamed room.settings room.levels.rows from to → to ≤ length (seen FRAMES) → IsSettled (B.leaves bay) seen FRAMES from to) }
         ensures made { result ≡ record {
           bay = bay;
           made = bay;
@@ -63,7 +64,7 @@ impl<B: Bay, T: CountTable> Cone<B, T> {
 
         // Where these files are sound for a list, and the point and the room say what their log does, the cone is on its way
         // through that list's journal.
-        ensures replays { IfTold (B.files bay) (λ seen. (records : List LogRecord) → HasLog room.settings cone (seen 1) records last.log_end →
+        ensures replays { IfTold (B.files bay) (λ seen. (records : List LogRecord) → HasLog room.settings cone (seen LOG) records last.log_end →
             IsLastOf room.settings last.n0 last.closed room.levels.rows room.store.reports records →
             (h : List Packet) → IsSound room.settings cone h seen → Replays B.files B.leaves result h []) }
     {
@@ -103,7 +104,7 @@ impl<B: Bay, T: CountTable> Cone<B, T> {
         ensures taken { IfOk result (λ found. IfSome found (λ next. HasTaken B.files self.old self.new gate next)) }
         ensures forward { IfOk result (λ found. IfSome found (λ next. (gate < next) × (next ≤ gate + 65536))) }
         ensures ended { IfOk result (λ found. IfNone found (HasEnded B.files B.leaves self.old self.new gate)) }
-        ensures refused { IfErr result (λ fault. IfTold (B.files self.old.bay) (λ seen. WhyRefused self.old (seen 0) gate fault)) }
+        ensures refused { IfErr result (λ fault. IfTold (B.files self.old.bay) (λ seen. WhyRefused self.old (seen JOURNAL) gate fault)) }
         ensures broke { IfErr result (λ fault. self.new ≡ record self.old {
           bay = self.new.bay;
           listing = record self.old.listing { events = self.new.listing.events };
@@ -123,20 +124,20 @@ impl<B: Bay, T: CountTable> Cone<B, T> {
         // they are as they were where no packet stands at the gate that brings a flush, also where it refuses.
         ensures stays_sound { IfTold (B.files self.old.bay) (λ _. (h done : List Packet) → Replays B.files B.leaves self.old h done → gate ≡ self.old.gate →
             StaysSound B.Bay self.old.listing.settings self.old.listing.cone h self.old.bay self.new.bay) }
-        ensures unflushed { IfTold (B.files self.old.bay) (λ seen. BringsNoFlush self.old (seen 0) gate → IsUnwritten B.Bay self.old.bay self.new.bay) }
+        ensures unflushed { IfTold (B.files self.old.bay) (λ seen. BringsNoFlush self.old (seen JOURNAL) gate → IsUnwritten B.Bay self.old.bay self.new.bay) }
 
         // Where the frames hold the bins of some events, whatever these are, they do so again, and none is found malformed.
-        ensures framed { IfTold (B.files self.old.bay) (λ seen. HoldsSome self.old.listing.settings (max self.old.last.n0 (length self.old.listing.events)) self.old.rows (seen 2) →
-            OnOk result (IfTold (B.files self.new.bay) (λ after. HoldsSome self.new.listing.settings (max self.new.last.n0 (length self.new.listing.events)) self.new.rows (after 2)))) }
-        ensures whole { IfTold (B.files self.old.bay) (λ seen. HoldsSome self.old.listing.settings (max self.old.last.n0 (length self.old.listing.events)) self.old.rows (seen 2) →
+        ensures framed { IfTold (B.files self.old.bay) (λ seen. HoldsSome self.old.listing.settings (max self.old.last.n0 (length self.old.listing.events)) self.old.rows (seen FRAMES) →
+            OnOk result (IfTold (B.files self.new.bay) (λ after. HoldsSome self.new.listing.settings (max self.new.last.n0 (length self.new.listing.events)) self.new.rows (after FRAMES)))) }
+        ensures whole { IfTold (B.files self.old.bay) (λ seen. HoldsSome self.old.listing.settings (max self.old.last.n0 (length self.old.listing.events)) self.old.rows (seen FRAMES) →
             (at : ℕ) → result ≢ Err (ReplayFault.Unsound 2 at)) }
 
         // Why it refuses where neither the format is left nor a list's journal goes on.
         ensures unsound { (file at : ℕ) → IsErrOf result (ReplayFault.Unsound file at) →
-            IfTold (B.files self.new.bay) (λ seen. Shows self.new.listing.settings self.new.rows self.new.reports (seen 2) file at) }
+            IfTold (B.files self.new.bay) (λ seen. Shows self.new.listing.settings self.new.rows self.new.reports (seen FRAMES) file at) }
         ensures failed { IsErrOf result ReplayFault.Failed → HasRisen (B.faults self.old.bay) (B.faults self.new.bay) }
         ensures same_cone { IsSameCone self.old self.new }
-        ensures journal { LeavesAlone B.Bay 0 self.old.bay self.new.bay }
+        ensures journal { LeavesAlone B.Bay JOURNAL self.old.bay self.new.bay }
         ensures never_falls { B.faults self.old.bay ≤ B.faults self.new.bay }
         ensures mark { B.mark self.new.bay ≡ B.mark self.old.bay }
     {
@@ -180,7 +181,7 @@ impl<B: Bay, T: CountTable> Cone<B, T> {
         requires replaying { self.old.state ≡ ConeState.Replaying }
         requires passed { self.old.last.n0 ≤ length self.old.listing.events }
         requires gate { self.old.gate ≡ end }
-        requires shut { IsShutIfTold (B.files self.old.bay) (B.leaves self.old.bay) 0 end }
+        requires shut { IsShutIfTold (B.files self.old.bay) (B.leaves self.old.bay) JOURNAL end }
         ensures value { self.new ≡ record self.old { state = (if self.old.last.closed then ConeState.Finished else ConeState.Running) } }
 
         // It stands for a list whose keys it has as many of, where it took its packets, if the files were sound for one.

@@ -23,8 +23,10 @@ use Rattle.lert_cone.specs.Room.{room_of}
 use Rattle.lert_cone.specs.Stands.{Standing, is_broken, over_of}
 use Rattle.lert_cone.proofs.GateLaws.{past_more}
 use Rattle.lert_cone.proofs.ReplayLaws.{never_on_way}
-use Rattle.lert_cone.proofs.ReplayCalls.{alone_behind, ended_at, ended_replays, held_at, keys_stay, keys_unwritten, length_more, listing_more, moved_on, read_stays, read_unwritten, refilled, seen_as, with_keys}
-use Rattle.lert_cone.proofs.ReplayStands.{leaves_listing, near_then, never_unsound, unsound_keys, only_by_bay, only_failed, read_settled, read_shut, refused_keys, refused_record, replaying_cone, settled_then}
+use Rattle.lert_cone.proofs.ReplayCalls.{alone_behind, ended_at, ended_replays, held_at, keys_stay, keys_unwritten, length_more, listing_more, moved_on, read_stays, read_unwritten, refilled, seen_as}
+use Rattle.lert_cone.proofs.ReplayCalls.{with_keys}
+use Rattle.lert_cone.proofs.ReplayStands.{leaves_listing, near_then, never_unsound, unsound_keys, only_by_bay, only_failed, read_settled, read_shut, refused_keys, refused_record, replaying_cone}
+use Rattle.lert_cone.proofs.ReplayStands.{settled_then}
 use Rattle.lert_cone.proofs.ReplayStep.{told_once}
 use Rattle.lert_io.proofs.Rising.{risen_since}
 use Rattle.lert_cone.proofs.StandLaws.{broken_cone}
@@ -74,7 +76,8 @@ invariant_of-self g c =
     ∙ len_is) c.read_packet.ensures.keeps.roomy
     (omega (arith, c.read_packet.ensures.keeps.reads.kept.never_falls, c.replay_keys.ensures.keeps.kept.never_falls))
     (λ same. risen_since (g.B.Faulty.faults c.self.inside.made.value) (g.B.Faulty.faults c.read_packet.new.bay) (g.B.Faulty.faults c.replay_keys.new.bay)
-    (omega (arith, c.self.invariant.never_falls, c.read_packet.ensures.keeps.reads.kept.never_falls)) c.replay_keys.ensures.keeps.kept.never_falls (c.replay_keys.ensures.keeps.kept.failed (c.in-Err-replay_keys.is ∙ ap Err
+    (omega (arith, c.self.invariant.never_falls, c.read_packet.ensures.keeps.reads.kept.never_falls))
+    c.replay_keys.ensures.keeps.kept.never_falls (c.replay_keys.ensures.keeps.kept.failed (c.in-Err-replay_keys.is ∙ ap Err
     (by_bay_of c.in-Err-replay_keys.fault (sym c.broken_by-self-inside.ensures ∙ same)))))
     c.self.invariant
 

@@ -34,7 +34,8 @@ returns-then-depth-eq0 g c = record {
   to = c.requires.to;
   bins = λ events long bins.
       let s = c.args.levels.now.settings in
-      let still = edge_still s c.requires.valid c.args.m (shallow c.depth.result c.args.m c.settings.result.now s c.depth.ensures.value (c.settings.ensures ∙ c.requires.settings) c.if-depth-eq0.true) in
+      let still = edge_still s c.requires.valid c.args.m (shallow c.depth.result c.args.m c.settings.result.now s
+      c.depth.ensures.value (c.settings.ensures ∙ c.requires.settings) c.if-depth-eq0.true) in
       record { is = bins.is ∙ ap (λ p. young_bins c.args.levels.now.settings events p) (c.requires.from ∙ sym still) };
   rows = rows_still c.args.levels.now.settings c.requires.valid c.args.m c.args.levels.now.rows (shallow c.depth.result c.args.m c.settings.result.now c.args.levels.now.settings
       c.depth.ensures.value (c.settings.ensures ∙ c.requires.settings) c.if-depth-eq0.true) c.requires.rows;
