@@ -1,9 +1,10 @@
 //! The files of the machine as a place of traces and bays.
 
-ghost use Rattle.std.specs.Prelude.{◌≡◌, ◌<◌, ◌≤◌, ◌++◌, ◌∷◌, [], length, string_bytes, IfSome, IfOk};
+ghost use Rattle.std.specs.Prelude.{◌≡◌, ◌<◌, ◌≤◌, ◌++◌, ◌∷◌, [], false, length, string_bytes, IfSome, IfOk};
 ghost use Rattle.std.specs.Path.{path_buf_bytes, path_join};
 ghost use Rattle.lert_io.specs.Fault.{HasRisen};
 ghost use Rattle.lert_host.specs.Name.{cone_file};
+ghost use Rattle.lert_place.specs.Openings.{bays_granted, traces_granted};
 
 use crate::file_bay::FileBay;
 use crate::file_source::FileSource;
@@ -32,6 +33,8 @@ pub struct FilePlace<'a, R: Files<File = File> + AllocGlobal> {
     asked: Seen<Opening>,
     traces: Handed<FileSource<File>>,
     bays: Handed<FileBay>,
+    ghost tied_traces: { length traces.objects ≡ traces_granted asked },
+    ghost tied_bays: { length bays.objects ≡ bays_granted asked },
 }
 
 impl<'a, R: Files<File = File> + AllocGlobal> FilePlace<'a, R> {
@@ -76,6 +79,7 @@ impl<'a, R: Files<File = File> + AllocGlobal> FilePlace<'a, R> {
 
     // Notes an opening that failed, and counts it.
     fn refuse(&mut self, opening: &Opening) -> Failed
+        requires { opening.now.opened ≡ false }
         ensures asked { self.new.asked ≡ self.old.asked ++ opening.now ∷ [] }
         ensures traces { self.new.traces ≡ self.old.traces }
         ensures bays { self.new.bays ≡ self.old.bays }
@@ -141,6 +145,10 @@ impl<'a, R: Files<File = File> + AllocGlobal> Place for FilePlace<'a, R> {
     ghost returned_trace = { λ p. last_returned p.traces.returned };
 
     ghost returned_bay = { λ p. last_returned p.bays.returned };
+
+    ghost tied_traces = { λ p. p.tied_traces };
+
+    ghost tied_bays = { λ p. p.tied_bays };
 
     fn open_trace(&mut self, name: &str) -> Result<FileSource<File>, Failed> {
         let Some(trace) = self.trace(name) else {

@@ -4,9 +4,10 @@ use Rattle.lert_bay.specs.Files.{Files}
 use Rattle.lert_place.specs.declared.opening.Opening.{Opening}
 use Rattle.lert_ingest.specs.declared.status.Status.{Status}
 use Rattle.lert_ingest.specs.Asked.{IsAskedForBays}
-use Rattle.lert_place.specs.Openings.{AreReturned}
+use Rattle.lert_place.specs.Openings.{AreReturned, AreReturnedSame}
 use Rattle.lert_ingest.specs.Bays.{AreLater, AreMarked}
 use Rattle.lert_ingest.proofs.BayLaws.{slice_get-some, still_marked}
+use Rattle.lert_ingest.proofs.ConeLaws.{none_left}
 
 pub asked_along : (dir dir' : List ℕ) (n n' : ℕ) (before before' asked asked' : List Opening) (status : Status) → dir ≡ dir' → n ≡ n' → before ≡ before' → asked ≡ asked' →
     IsAskedForBays dir n before asked status → IsAskedForBays dir' n' before' asked' status
@@ -36,3 +37,21 @@ all_back files faults mark bays later handed returned same are marked back = λ 
     let below : number < length later = omega (arith, within, ap length same, are.number) in
     let there = slice_get-some later number below in
     (there.0, back number below ∙ there.1, still_marked files faults mark bays later are marked number there.0 there.1)
+
+-- a place that was asked for nothing handed out nothing
+pub nothing_handed : {T : Type 0} (granted : List Opening → ℕ) (asked : List Opening) (handed : List T) → length handed ≡ granted asked → granted asked ≡ 0 → handed ≡ []
+nothing_handed granted asked handed tied none = none_left handed (tied ∙ none)
+
+-- the only object that was handed out is put back as it was
+pub one_returned_same : {T : Type 0} (object : T) (handed : List T) (returned : ℕ → Option T) → handed ≡ object ∷ [] → returned 0 ≡ Some object → AreReturnedSame handed returned
+one_returned_same object handed returned one is = λ number within.
+    let first : number ≡ 0 = omega (arith, within, ap length one) in
+    ap returned first ∙ (is ∙ sym (ap (λ xs. slice_get xs number) one ∙ ap (slice_get (object ∷ [])) first))
+
+pub returned_same_along : {T : Type 0} (handed handed' : List T) (returned returned' : ℕ → Option T) → handed' ≡ handed → ((number : ℕ) → returned' number ≡ returned number) →
+    AreReturnedSame handed returned → AreReturnedSame handed' returned'
+returned_same_along handed handed' returned returned' same each are = λ number within.
+    each number ∙ (are number (subst (λ (xs : List _). number < length xs) same within) ∙ ap (λ (xs : List _). slice_get xs number) (sym same))
+
+pub none_returned_same : {T : Type 0} (handed : List T) (returned : ℕ → Option T) → handed ≡ [] → AreReturnedSame handed returned
+none_returned_same handed returned none = λ number within. absurd (omega (arith, within, ap length none))

@@ -6,7 +6,7 @@ use Rattle.std.proofs.lemmas.Option.{slice_get-get_or, slice_get_within, same_So
 use Rattle.lert_bay.specs.Files.{Files}
 use Rattle.lert_cone.specs.Stands.{Standing}
 use Rattle.lert_io.proofs.Rising.{risen_since}
-use Rattle.lert_place.specs.Openings.{AreReturned}
+use Rattle.lert_place.specs.Openings.{AreReturned, AreReturnedSame}
 use Rattle.lert_ingest.specs.Bays.{AreLater, AreMarked, AreTold, HasFailed, IsLater, IsUntold, bays_of}
 
 -- a write into a list changes one place
@@ -30,6 +30,15 @@ slice_get-first (x ∷ xs) ys (suc i) below = slice_get-first xs ys i (omega (ar
 pub slice_get-seam : {X : Type 0} (xs : List X) (y : X) (ys : List X) → slice_get (xs ++ y ∷ ys) (length xs) ≡ Some y
 slice_get-seam [] y ys = refl
 slice_get-seam (x ∷ xs) y ys = slice_get-seam xs y ys
+
+pub slice_get-behind : {X : Type 0} (xs ys : List X) (x y : X) (zs : List X) (k : ℕ) → length xs ≡ length ys → length xs < k →
+    slice_get (xs ++ x ∷ zs) k ≡ slice_get (ys ++ y ∷ zs) k
+slice_get-behind [] [] x y zs zero same behind = absurd (omega (arith, behind))
+slice_get-behind [] [] x y zs (suc k) same behind = refl
+slice_get-behind [] (b ∷ ys) x y zs k same behind = absurd (omega (arith, same))
+slice_get-behind (a ∷ xs) [] x y zs k same behind = absurd (omega (arith, same))
+slice_get-behind (a ∷ xs) (b ∷ ys) x y zs zero same behind = absurd (omega (arith, behind))
+slice_get-behind (a ∷ xs) (b ∷ ys) x y zs (suc k) same behind = slice_get-behind xs ys x y zs k (omega (arith, same)) (omega (arith, behind))
 
 pub set-seam : {X : Type 0} (xs : List X) (x y : X) (ys : List X) → set (xs ++ x ∷ ys) (length xs) y ≡ xs ++ y ∷ ys
 set-seam [] x y ys = refl
@@ -171,6 +180,11 @@ all_returned mark bays handed returned same back marked = λ number within.
     let below : number < length bays = subst (λ (xs : List _). number < length xs) same within in
     let there = slice_get-some bays number below in
     (there.0, back number below ∙ there.1, marked number there.0 there.1)
+
+pub same_returned : {B : Type 0} (bays handed : List B) (returned : ℕ → Option B) → handed ≡ bays → ((cone : ℕ) → cone < length bays → returned cone ≡ slice_get bays cone) →
+    AreReturnedSame handed returned
+same_returned bays handed returned same back = λ number within.
+    back number (subst (λ (xs : List _). number < length xs) same within) ∙ ap (λ (xs : List _). slice_get xs number) (sym same)
 
 -- one bay more is put back, from behind
 pub put_one : {B : Type 0} (bays left done : List B) (bay : B) (number : ℕ) (before after : ℕ → Option B) → left ++ bay ∷ done ≡ bays → after number ≡ Some bay →

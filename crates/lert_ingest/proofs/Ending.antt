@@ -8,8 +8,10 @@ use Rattle.lert_spec.specs.Trace.{left, whole}
 use Rattle.lert_spec.specs.declared.numbers.Numbers.{Numbers}
 use Rattle.lert_ingest.specs.declared.status.Status.{Status}
 use Rattle.lert_ingest.specs.declared.status.Status.TheVariants.{Done, Usage, PlaceFault, TraceFault, BadTrace, TooLong, NotFresh, BayFault, CapacityFull, Malformed, OtherSettings, OutFault, OutOfMemory}
-use Rattle.lert_ingest.specs.Bays.{AreFaultless, AreFresh, AreLater, AreToldFresh, HasFailed, IsStale, IsUntold}
+use Rattle.std.specs.Prelude.{⊤}
+use Rattle.lert_ingest.specs.Bays.{AreFaultless, AreFaultlessTo, AreFresh, AreFreshBelow, AreLater, AreToldFresh, AreUnused, HasFailed, IsStale, IsUntold}
 use Rattle.lert_ingest.specs.Run.{AllFit, HasRun, HasThem, IsFull, IsOver, IsUnmade, StatusShows, StopShows, ArePartly, is_past_freshness, most_keys}
+use Rattle.lert_ingest.proofs.EachLaws.{but_more, unused_but}
 use Rattle.lert_ingest.proofs.BayLaws.{failed_since, slice_get-some, told_later, untold_since}
 
 pub some_is : {X : Type 0} {x y : X} → Some x ≡ Some y → x ≡ y
@@ -61,65 +63,81 @@ untold_or_not files bays cone fresh untold =
 module _ {S K B : Type 0} (remaining : S → Option (List ℕ)) (faults : S → ℕ) (taken : K → Option (List ℕ)) (sink_faults : K → ℕ) (files : B → Option Files) (bay_faults : B → ℕ)
     (settings : Numbers) where
   -- the same trace and the same source behind it
-  pub shows_along : (made opened source back : S) (before after : K) (bays later : List B) (stale : ℕ → Type 0) (status : Status) → made ≡ opened → source ≡ back →
-      StatusShows remaining faults taken sink_faults files bay_faults settings made source before after bays later stale status →
-      StatusShows remaining faults taken sink_faults files bay_faults settings opened back before after bays later stale status
-  shows_along made opened source back before after bays later stale status is_opened is_back shows =
-      subst (λ s. StatusShows remaining faults taken sink_faults files bay_faults settings opened s before after bays later stale status) is_back
-      (subst (λ s. StatusShows remaining faults taken sink_faults files bay_faults settings s source before after bays later stale status) is_opened shows)
+  pub shows_along : (made opened source back : S) (before after : K) (bays later : List B) (stale found : ℕ → Type 0) (status : Status) → made ≡ opened → source ≡ back →
+      StatusShows remaining faults taken sink_faults files bay_faults settings made source before after bays later stale found status →
+      StatusShows remaining faults taken sink_faults files bay_faults settings opened back before after bays later stale found status
+  shows_along made opened source back before after bays later stale found status is_opened is_back shows =
+      subst (λ s. StatusShows remaining faults taken sink_faults files bay_faults settings opened s before after bays later stale found status) is_back
+      (subst (λ s. StatusShows remaining faults taken sink_faults files bay_faults settings s source before after bays later stale found status) is_opened shows)
 
-  -- what a status says of bays it says of the same bays earlier
-  pub shows_since : (mark : B → ℕ) (opened back : S) (before after : K) (first then now : List B) (stale : ℕ → Type 0) → AreLater files bay_faults mark first then → AreLater files bay_faults mark then now → (status : Status) →
-      StatusShows remaining faults taken sink_faults files bay_faults settings opened back before after then now (λ _. ⊥) status →
-      StatusShows remaining faults taken sink_faults files bay_faults settings opened back before after first now stale status
-  shows_since mark opened back before after first then now stale one two Done shows = λ bytes was.
-      let all = shows bytes was in
-      (all.0, all.1, all.2, λ text had. let taken_all = all.3 text had in (λ told. taken_all.0 (told_later files bay_faults mark first then one told), taken_all.1))
-  shows_since mark opened back before after first then now stale one two (Usage rule) shows = absurd shows
-  shows_since mark opened back before after first then now stale one two PlaceFault shows = absurd shows
-  shows_since mark opened back before after first then now stale one two (TraceFault trace) shows = shows
-  shows_since mark opened back before after first then now stale one two (BadTrace trace at) shows = shows
-  shows_since mark opened back before after first then now stale one two (TooLong trace) shows = shows
-  shows_since mark opened back before after first then now stale one two (NotFresh cone) shows = absurd shows.0
-  shows_since mark opened back before after first then now stale one two (BayFault cone) shows =
-      (failed_since files bay_faults mark first then now cone one two shows.0, shows.1, shows.2)
-  shows_since mark opened back before after first then now stale one two (CapacityFull cone n len) shows = shows
-  shows_since mark opened back before after first then now stale one two (Malformed cone file at) shows = (untold_since files bay_faults mark first then cone one shows.0, shows.1, shows.2)
-  shows_since mark opened back before after first then now stale one two (OtherSettings cone) shows = absurd shows
-  shows_since mark opened back before after first then now stale one two OutFault shows =
-      (shows.0, λ bytes was. let all = shows.1 bytes was in (all.0, all.1, λ told. all.2 (told_later files bay_faults mark first then one told)))
-  shows_since mark opened back before after first then now stale one two OutOfMemory shows = shows
+  -- what a status says of bays over which cones were made it says of the same bays earlier, which had no byte in their files
+  module _ (mark : B → ℕ) (opened back : S) (before after : K) (first then now : List B) (one : AreLater files bay_faults mark first then)
+      (two : AreLater files bay_faults mark then now) (fresh : AreFresh files first) (unused : AreUnused files settings first then) where
+    pub shows_since : (status : Status) → StatusShows remaining faults taken sink_faults files bay_faults settings opened back before after then now (λ _. ⊥) (λ _. ⊤) status →
+        StatusShows remaining faults taken sink_faults files bay_faults settings opened back before after first now (IsStale files first) (AreFreshBelow files first) status
+    shows_since Done shows = λ bytes was.
+        let all = shows bytes was in
+        (all.0, λ text had. let taken_all = all.1 text had in ((λ told. taken_all.0 (told_later files bay_faults mark first then one told)), taken_all.1))
+    shows_since (Usage rule) shows = absurd shows
+    shows_since PlaceFault shows = absurd shows
+    shows_since (TraceFault trace) shows = shows
+    shows_since (BadTrace trace at) shows = shows
+    shows_since (TooLong trace) shows = shows
+    shows_since (NotFresh cone) shows = absurd shows.0
+    shows_since (BayFault cone) shows = (
+      failed_since files bay_faults mark first then now cone one two shows.0,
+      shows.1,
+      elim shows.2 [
+        | inl early ↦ inl (early.0, but_more files settings (λ other. other ≡ cone) first then now two.number unused early.1)
+        | inr parts ↦ inr parts
+      ],
+      λ other below. fresh other,
+    )
+    shows_since (CapacityFull cone n len) shows = shows
+    shows_since (Malformed cone file at) shows = (untold_since files bay_faults mark first then cone one shows.0, shows.1, shows.2)
+    shows_since (OtherSettings cone) shows = absurd shows
+    shows_since OutFault shows = (
+      shows.0,
+      λ bytes was. let all = shows.1 bytes was in (all.0, (λ told. all.1 (told_later files bay_faults mark first then one told)), all.2),
+    )
+    shows_since OutOfMemory shows = (
+      shows.0,
+      elim shows.1 [
+        | inl early ↦ inl (early.0, but_more files settings (λ _. ⊥) first then now two.number unused early.1)
+        | inr parts ↦ inr parts
+      ],
+    )
 
   -- why no cones were made, before a byte of the trace was read
-  pub shows_unmade : (opened : S) (back : S) (before : K) (bays later : List B) → back ≡ opened → (status : Status) → IsUnmade files bay_faults bays later status →
-      StatusShows remaining faults taken sink_faults files bay_faults settings opened back before before bays later (IsStale files bays) status
+  pub shows_unmade : (opened : S) (back : S) (before : K) (bays later : List B) → back ≡ opened → (status : Status) → IsUnmade files bay_faults settings bays later status →
+      StatusShows remaining faults taken sink_faults files bay_faults settings opened back before before bays later (IsStale files bays) (AreFreshBelow files bays) status
   shows_unmade opened back before bays later same Done unmade = absurd unmade
   shows_unmade opened back before bays later same (Usage rule) unmade = absurd unmade
   shows_unmade opened back before bays later same PlaceFault unmade = absurd unmade
   shows_unmade opened back before bays later same (TraceFault trace) unmade = absurd unmade
   shows_unmade opened back before bays later same (BadTrace trace at) unmade = absurd unmade
   shows_unmade opened back before bays later same (TooLong trace) unmade = absurd unmade
-  shows_unmade opened back before bays later same (NotFresh cone) unmade = (unmade, refl)
-  shows_unmade opened back before bays later same (BayFault cone) unmade = (unmade, refl, inl same)
+  shows_unmade opened back before bays later same (NotFresh cone) unmade = (unmade.0, refl, same, unmade.1, unmade.2)
+  shows_unmade opened back before bays later same (BayFault cone) unmade = (unmade.0, refl, inl (same, unmade.2), unmade.1)
   shows_unmade opened back before bays later same (CapacityFull cone n len) unmade = absurd unmade
   shows_unmade opened back before bays later same (Malformed cone file at) unmade = absurd unmade
   shows_unmade opened back before bays later same (OtherSettings cone) unmade = absurd unmade
   shows_unmade opened back before bays later same OutFault unmade = absurd unmade
-  shows_unmade opened back before bays later same OutOfMemory unmade = (refl, inl same)
+  shows_unmade opened back before bays later same OutOfMemory unmade = (refl, inl (same, unused_but files settings (λ _. ⊥) bays later unmade))
 
   -- why reading stopped
   pub shows_stopped : (opened back : S) (before : K) (bays later : List B) (stale : ℕ → Type 0) → ArePartly remaining faults files bay_faults settings opened later → (status : Status) →
       StopShows remaining faults files bay_faults settings opened back bays later status →
-      StatusShows remaining faults taken sink_faults files bay_faults settings opened back before before bays later stale status
+      StatusShows remaining faults taken sink_faults files bay_faults settings opened back before before bays later stale (λ _. ⊤) status
   shows_stopped opened back before bays later stale parts Done stopped = absurd stopped
   shows_stopped opened back before bays later stale parts (Usage rule) stopped = absurd stopped
   shows_stopped opened back before bays later stale parts PlaceFault stopped = absurd stopped
-  shows_stopped opened back before bays later stale parts (TraceFault trace) stopped = (stopped.0, stopped.1, refl, parts)
-  shows_stopped opened back before bays later stale parts (BadTrace trace at) stopped = (stopped.0, stopped.1, refl, parts)
-  shows_stopped opened back before bays later stale parts (TooLong trace) stopped = (stopped.0, stopped.1, refl, parts)
+  shows_stopped opened back before bays later stale parts (TraceFault trace) stopped = (stopped.0, stopped.1, refl, stopped.2)
+  shows_stopped opened back before bays later stale parts (BadTrace trace at) stopped = (stopped.0, stopped.1, refl, stopped.2)
+  shows_stopped opened back before bays later stale parts (TooLong trace) stopped = (stopped.0, stopped.1, refl, stopped.2)
   shows_stopped opened back before bays later stale parts (NotFresh cone) stopped = absurd stopped
-  shows_stopped opened back before bays later stale parts (BayFault cone) stopped = (stopped, refl, inr parts)
-  shows_stopped opened back before bays later stale parts (CapacityFull cone n len) stopped = (stopped.0, stopped.1, refl, parts)
+  shows_stopped opened back before bays later stale parts (BayFault cone) stopped = (stopped, refl, inr parts, tt)
+  shows_stopped opened back before bays later stale parts (CapacityFull cone n len) stopped = (stopped.0, stopped.1, refl, stopped.2)
   shows_stopped opened back before bays later stale parts (Malformed cone file at) stopped = (stopped, refl, parts)
   shows_stopped opened back before bays later stale parts (OtherSettings cone) stopped = absurd stopped
   shows_stopped opened back before bays later stale parts OutFault stopped = absurd stopped
@@ -127,7 +145,7 @@ module _ {S K B : Type 0} (remaining : S → Option (List ℕ)) (faults : S → 
 
   module _ (opened back : S) (before after : K) (bays later : List B) where
     abbrev Shows : Status → Type 0
-    Shows = StatusShows remaining faults taken sink_faults files bay_faults settings opened back before after bays later (IsStale files bays)
+    Shows = StatusShows remaining faults taken sink_faults files bay_faults settings opened back before after bays later (IsStale files bays) (AreFreshBelow files bays)
 
     -- a trace and bays that were opened end neither in a fault of the place nor in one of the words
     pub not_place_fault : (status : Status) → Shows status → status ≡ PlaceFault → ⊥
@@ -143,7 +161,7 @@ module _ {S K B : Type 0} (remaining : S → Option (List ℕ)) (faults : S → 
     full_or_not : (keys : List ℕ) (cone n len : ℕ) → IsFull files settings later cone n len → HasThem settings keys cone n len → AllFit settings keys → ⊥
     full_or_not keys cone n len full has fits = absurd (omega (arith, full.over, has, fits cone full.named))
 
-    stale_exactly : (cone : ℕ) (bay : B) (seen : Files) → AreFaultless bay_faults bays later → slice_get bays cone ≡ Some bay → files bay ≡ Some seen → (AreEmpty seen → ⊥) →
+    stale_exactly : (cone : ℕ) (bay : B) (seen : Files) → AreFaultlessTo bay_faults cone bays later → slice_get bays cone ≡ Some bay → files bay ≡ Some seen → (AreEmpty seen → ⊥) →
         ((other : ℕ) (lower : B) → other < cone → slice_get bays other ≡ Some lower → (held : Files) × (files lower ≡ Some held) × AreEmpty held) →
         (status : Status) → Shows status → (is_past_freshness status ≡ true → AreFresh files bays) → (status ≡ NotFresh cone) ⊎ (status ≡ OutOfMemory)
     stale_exactly cone bay seen none there told not_empty lower Done shows fresh = absurd (not_empty (fresh refl cone bay there seen told))
@@ -164,7 +182,12 @@ module _ {S K B : Type 0} (remaining : S → Option (List ℕ)) (faults : S → 
                 | inr reached ↦ let same : other ≡ cone = omega (arith, above, reached) in inl (ap NotFresh same)
               ]
         ]
-    stale_exactly cone bay seen none there told not_empty lower (BayFault other) shows fresh = absurd (failed_or_not bay_faults bays later other none shows.0)
+    stale_exactly cone bay seen none there told not_empty lower (BayFault other) shows fresh =
+        let failed = shows.0 in
+        elim (cases_lt cone other) [
+          | inl under ↦ absurd (not_empty (shows.3 cone under bay there seen told))
+          | inr reached ↦ absurd (no_rise (bay_faults failed.before) (bay_faults failed.now) (none other failed.before failed.now failed.was failed.is reached) failed.rose)
+        ]
     stale_exactly cone bay seen none there told not_empty lower (CapacityFull other n len) shows fresh = absurd (not_empty (fresh refl cone bay there seen told))
     stale_exactly cone bay seen none there told not_empty lower (Malformed other file at) shows fresh = absurd (not_empty (fresh refl cone bay there seen told))
     stale_exactly cone bay seen none there told not_empty lower (OtherSettings other) shows fresh = absurd shows
@@ -174,7 +197,7 @@ module _ {S K B : Type 0} (remaining : S → Option (List ℕ)) (faults : S → 
     module _ (fresh : AreToldFresh files bays) (bays_none : AreFaultless bay_faults bays later) (none : IsFaultless (faults opened) (faults back)) (bytes : List ℕ)
         (was : remaining opened ≡ Some bytes) (few : length (whole bytes) ≤ most_keys) where
       bad_exactly : (status : Status) → Shows status → (at : ℕ) → left bytes ≡ Some at → AllFit settings (whole bytes) → (status ≡ BadTrace 0 at) ⊎ (status ≡ OutOfMemory)
-      bad_exactly Done shows at leaves fits = absurd (leaves_or_not bytes at (shows bytes was).0.to_end.well_formed leaves)
+      bad_exactly Done shows at leaves fits = absurd (leaves_or_not bytes at (shows bytes was).0.0.to_end.well_formed leaves)
       bad_exactly (Usage rule) shows at leaves fits = absurd shows
       bad_exactly PlaceFault shows at leaves fits = absurd shows
       bad_exactly (TraceFault trace) shows at leaves fits = absurd (no_rise (faults opened) (faults back) none shows.1)
@@ -187,12 +210,12 @@ module _ {S K B : Type 0} (remaining : S → Option (List ℕ)) (faults : S → 
       bad_exactly (CapacityFull cone n len) shows at leaves fits = absurd (full_or_not (whole bytes) cone n len shows.0 (shows.1 bytes was) fits)
       bad_exactly (Malformed cone file place) shows at leaves fits = absurd (untold_or_not files bays cone fresh shows.0)
       bad_exactly (OtherSettings cone) shows at leaves fits = absurd shows
-      bad_exactly OutFault shows at leaves fits = absurd (leaves_or_not bytes at (shows.1 bytes was).0.to_end.well_formed leaves)
+      bad_exactly OutFault shows at leaves fits = absurd (leaves_or_not bytes at (shows.1 bytes was).0.0.to_end.well_formed leaves)
       bad_exactly OutOfMemory shows at leaves fits = inr refl
 
       full_exactly : (status : Status) → Shows status → left bytes ≡ None → (over : ℕ) → over < 2 ^ settings.cone_bits → IsOver settings (whole bytes) over →
           ((cone n len : ℕ) × (status ≡ CapacityFull cone n len)) ⊎ (status ≡ OutOfMemory)
-      full_exactly Done shows formed over named many = absurd (over_or_not (whole bytes) over named (shows bytes was).0.fits many)
+      full_exactly Done shows formed over named many = absurd (over_or_not (whole bytes) over named (shows bytes was).0.0.fits many)
       full_exactly (Usage rule) shows formed over named many = absurd shows
       full_exactly PlaceFault shows formed over named many = absurd shows
       full_exactly (TraceFault trace) shows formed over named many = absurd (no_rise (faults opened) (faults back) none shows.1)
@@ -203,7 +226,7 @@ module _ {S K B : Type 0} (remaining : S → Option (List ℕ)) (faults : S → 
       full_exactly (CapacityFull cone n len) shows formed over named many = inl (cone, n, len, refl)
       full_exactly (Malformed cone file place) shows formed over named many = absurd (untold_or_not files bays cone fresh shows.0)
       full_exactly (OtherSettings cone) shows formed over named many = absurd shows
-      full_exactly OutFault shows formed over named many = absurd (over_or_not (whole bytes) over named (shows.1 bytes was).0.fits many)
+      full_exactly OutFault shows formed over named many = absurd (over_or_not (whole bytes) over named (shows.1 bytes was).0.0.fits many)
       full_exactly OutOfMemory shows formed over named many = inr refl
 
       complete : (status : Status) → Shows status → IsFaultless (sink_faults before) (sink_faults after) → left bytes ≡ None → AllFit settings (whole bytes) → (status ≡ Done) ⊎ (status ≡ OutOfMemory)
@@ -227,7 +250,7 @@ module _ {S K B : Type 0} (remaining : S → Option (List ℕ)) (faults : S → 
       shows = shows;
       number = number;
       fresh = fresh;
-      stale_exactly = λ none cone bay there seen told not_empty lower. stale_exactly cone bay seen none there told not_empty lower status shows fresh;
+      stale_exactly = λ cone none bay there seen told not_empty lower. stale_exactly cone bay seen none there told not_empty lower status shows fresh;
       bad_exactly = λ told bays_none none bytes was at leaves few fits. bad_exactly told bays_none none bytes was few status shows at leaves fits;
       full_exactly = λ told bays_none none bytes was formed few over named many. full_exactly told bays_none none bytes was few status shows formed over named many;
       complete = λ told bays_none none kept bytes was formed few fits. complete told bays_none none bytes was few status shows kept formed fits;

@@ -1,36 +1,30 @@
 -- Keys move out of rings into their cones, and each cone with its ring keeps its part.
-use Rattle.std.proofs.Common.{◌≡◌, ◌≢◌, ℕ, ◌+◌, ◌*◌, ◌^◌, ◌<◌, ◌≤◌, Bool, true, false, cond, eqb, ◌||◌, List, [], ◌∷◌, ◌++◌, length, set, get_or, replicate, Option, Some, None, slice_get, refl, ap, sym, ◌∙◌, subst, inl, inr, arith, append-nil, append_assoc, length-append}
+use Rattle.std.proofs.Common.{◌≡◌, ◌≢◌, ℕ, ◌+◌, ◌*◌, ◌^◌, ◌<◌, ◌≤◌, Bool, true, false, cond, eqb, List, [], ◌∷◌, ◌++◌, length, set, get_or}
+use Rattle.std.proofs.Common.{replicate, Option, Some, slice_get, refl, ap, sym, ◌∙◌, subst, inl, inr, arith, append-nil, append_assoc, length-append}
 use Rattle.std.specs.Prelude.{All}
 use Rattle.std.proofs.lemmas.Bool.{cases_eq, eq-eqb, ne_eqb}
-use Rattle.std.proofs.lemmas.List.{get_or-append-add, get_or-set_same, get_or-set_other, length-set, length-map, length-replicate, get_or-replicate, set-get_or}
+use Rattle.std.proofs.lemmas.List.{get_or-append-add, get_or-set_same, get_or-set_other, length-set, length-map, length-replicate, get_or-replicate}
 use Rattle.std.proofs.lemmas.List.Elements.{All-push, All-nil, filter-append, filter_passes}
 use Rattle.std.proofs.lemmas.Option.{slice_get_within, same_Some}
 use Rattle.lert_base.specs.Packet.{Packet, events_of}
 use Rattle.lert_base.specs.Weave.{AreCut, IsBrought, IsPartWoven}
 use Rattle.lert_bay.specs.Files.{Files, IfTold}
-use Rattle.lert_buffers.specs.Rings.{Rings, fill_of, ring_of, with_ring}
-use Rattle.lert_buffers.specs.declared.buffers.Fill.TheVariants.{Low, MustGo, Ready}
+use Rattle.lert_buffers.specs.Rings.{Rings, ring_of, with_ring}
 use Rattle.lert_cone.proofs.SoundLaws.{events_more}
 use Rattle.lert_cone.specs.Listing.{Listing}
-use Rattle.lert_cone.specs.Sound.{IsSound, IsSoundAs, IsSoundOver}
-use Rattle.lert_cone.specs.Stands.{IsSameCone, Standing, StandsFor, WasSound, is_broken, is_refusal}
-use Rattle.lert_cone.specs.declared.refusal.ConeFault.{ConeFault}
-use Rattle.lert_cone.specs.declared.refusal.ConeFault.TheVariants as fault
+use Rattle.lert_cone.specs.Sound.{IsSound, IsSoundAs}
+use Rattle.lert_cone.specs.Stands.{IsSameCone, Standing, StandsFor, WasSound, is_broken}
 use Rattle.lert_cone.specs.declared.state.ConeState.TheVariants.{Finished}
-use Rattle.lert_io.specs.Fault.{HasRisen}
 use Rattle.lert_journal.specs.Payload.{IsJournaled}
 use Rattle.lert_spec.specs.declared.numbers.Numbers.{Numbers}
 use Rattle.lert_spec.specs.Edges.{capacity}
 use Rattle.lert_spec.specs.Limits.{IsValid}
 use Rattle.lert_spec.specs.Mix.{cone_of, part_of}
-use Rattle.lert_ingest.specs.declared.status.Status.{Status}
-use Rattle.lert_ingest.specs.declared.status.Status.TheVariants as status
-use Rattle.lert_ingest.specs.Bays.{AreLater, ArePartWoven, AreWoven, HasFailed, HoldsKeys, HoldsPart, HoldsWeave, IfHeld, IsUntold, bays_of}
+use Rattle.lert_ingest.specs.Bays.{AreOpenWoven, ArePartWoven, AreWoven, HoldsKeys, HoldsOpen, HoldsPart, HoldsWeave, IfHeld, bays_of}
 use Rattle.lert_ingest.specs.Cones.{AreNew}
-use Rattle.lert_ingest.specs.Lanes.{AreDrained, AreLanes, AreShort, IsLane, open_cones, state_of}
-use Rattle.lert_ingest.specs.Run.{AllFit, IsRefused}
-use Rattle.lert_ingest.specs.Status.{cone_status}
-use Rattle.lert_ingest.proofs.BayLaws.{bay_at, bay_is, bays_of-set, failed_since, slice_get-some, slice_get-set_other, slice_get-set_same, untold_since}
+use Rattle.lert_ingest.specs.Lanes.{AreDrained, AreLanes, IsLane, open_cones, state_of}
+use Rattle.lert_ingest.specs.Run.{AllFit}
+use Rattle.lert_ingest.proofs.BayLaws.{bay_is, slice_get-some, slice_get-set_other, slice_get-set_same}
 use Rattle.lert_ingest.proofs.WeaveLaws.{cut_more, part_woven, woven}
 
 -- what holds of each of two lists together holds of each of the second
@@ -45,7 +39,7 @@ eqb_true a b equal =
       | inr other ↦ absurd (let differs = ne_eqb a b other in cc)
     ]
 
-unbroken : (finished : Bool) → is_broken (state_of finished) ≡ false
+pub unbroken : (finished : Bool) → is_broken (state_of finished) ≡ false
 unbroken true = refl
 unbroken false = refl
 
@@ -67,7 +61,7 @@ packet_with keys = record { by = 0; trace = 0; keys = keys }
 
 module _ {B : Type 0} (files : B → Option Files) (leaves : B → Files → Type 0) (faults : B → ℕ) (s : Numbers) where
   -- the same cone's files were sound as it was made
-  sound_still : (old new : Standing B) → IsSameCone old new → WasSound files old → WasSound files new
+  pub sound_still : (old new : Standing B) → IsSameCone old new → WasSound files old → WasSound files new
   sound_still old new same sound = λ first told.
       let was = sound first (ap files (sym same.made) ∙ told) in (
         was.0,
@@ -75,38 +69,21 @@ module _ {B : Type 0} (files : B → Option Files) (leaves : B → Files → Typ
             (subst (λ (t : Numbers). IsSound t old.listing.cone was.0 first) (sym same.settings) was.1),
       )
 
-  -- what the files of a cone hold, broken or not
-  partly_of : (number : ℕ) (keys : List ℕ) (standing : Standing B) (history : List Packet) → StandsFor files leaves faults standing history → WasSound files standing →
-      standing.listing.settings ≡ s → standing.listing.cone ≡ number → IsPartWoven s number 1 (keys ∷ []) history →
-      ((over : Packet) → standing.over ≡ Some over → IsPartWoven s number 1 (keys ∷ []) (history ++ over ∷ [])) → IfTold (files standing.bay) (HoldsPart s keys number)
-  partly_of number keys standing history stands was settings cone part over_part = λ seen told. by_state seen told (is_broken standing.state) refl
-    where
-      of_cone : (h : List Packet) (seen : Files) → IsSound standing.listing.settings standing.listing.cone h seen → IsSound s number h seen
-      of_cone h seen sound = subst (λ n. IsSound s n h seen) cone (subst (λ (t : Numbers). IsSound t standing.listing.cone h seen) settings sound)
-
-      by_sound : (seen : Files) → IsSoundOver standing.listing.settings standing.listing.cone history standing.over seen → HoldsPart s keys number seen
-      by_sound seen (inl sound) = record { history = history; woven = part; sound = of_cone history seen sound }
-      by_sound seen (inr more) = record { history = history ++ more.0 ∷ []; woven = over_part more.0 more.1; sound = of_cone (history ++ more.0 ∷ []) seen more.2 }
-
-      by_state : (seen : Files) → files standing.bay ≡ Some seen → (b : Bool) → is_broken standing.state ≡ b → HoldsPart s keys number seen
-      by_state seen told false is = record { history = history; woven = part; sound = of_cone history seen (stands.whole is was seen told).files.kept.as_read.sound }
-      by_state seen told true is = by_sound seen (stands.broken is was seen told).as_read
-
   module _ (from number : ℕ) (finished : Bool) (keys waiting : List ℕ) (cones : List (Standing B))
       (lane : IsLane files leaves faults s from number (part_of s number keys) finished (slice_get cones number) waiting) where
-    whole_lane : is_broken lane.standing.state ≡ false
+    pub whole_lane : is_broken lane.standing.state ≡ false
     whole_lane = ap is_broken lane.state_is ∙ unbroken finished
 
-    lane_part : IsPartWoven s number 1 (keys ∷ []) lane.history
+    pub lane_part : IsPartWoven s number 1 (keys ∷ []) lane.history
     lane_part = part_woven s number lane.history lane.each lane.cut keys waiting lane.joined
 
-    lane_kept : (seen : Files) → files lane.standing.bay ≡ Some seen → IsSoundAs s number finished lane.history seen
+    pub lane_kept : (seen : Files) → files lane.standing.bay ≡ Some seen → IsSoundAs s number finished lane.history seen
     lane_kept seen told = subst (λ (l : Listing). IsSoundAs l.settings l.cone l.closed lane.history seen) lane.listing_is (lane.stands.whole whole_lane lane.sound seen told).files.kept.as_read
 
     lane_sound : (seen : Files) → files lane.standing.bay ≡ Some seen → IsSound s number lane.history seen
     lane_sound seen told = (lane_kept seen told).sound
 
-    lane_partly : IfHeld files (bays_of cones) number (HoldsPart s keys number)
+    pub lane_partly : IfHeld files (bays_of cones) number (HoldsPart s keys number)
     lane_partly = λ bay found seen told.
         let same = bay_is cones number lane.standing bay lane.cone_is found in
         record { history = lane.history; woven = lane_part; sound = lane_sound seen (ap files (sym same) ∙ told) }
@@ -118,7 +95,18 @@ module _ {B : Type 0} (files : B → Option Files) (leaves : B → Files → Typ
         let kept = subst (λ (b : Bool). IsSoundAs s number b lane.history seen) closed (lane_kept seen (ap files (sym same) ∙ told)) in
         record { history = lane.history; woven = woven s number lane.history lane.each lane.cut keys joined; sound = kept }
 
-    lane_count : (n : ℕ) → n ≡ lane.standing.events → IfHeld files (bays_of cones) number (HoldsKeys s n number)
+    -- an open cone's packets are whole from a number of cones on
+    lane_open : (to : ℕ) → from ≤ to → finished ≡ false → IfHeld files (bays_of cones) number (HoldsOpen s keys to number)
+    lane_open to grows open_is = λ bay found seen told.
+        let same = bay_is cones number lane.standing bay lane.cone_is found in
+        record {
+          history = lane.history;
+          woven = lane_part;
+          sound = subst (λ (b : Bool). IsSoundAs s number b lane.history seen) open_is (lane_kept seen (ap files (sym same) ∙ told));
+          full = λ still. lane.full (omega (arith, grows, still));
+        }
+
+    pub lane_count : (n : ℕ) → n ≡ lane.standing.events → IfHeld files (bays_of cones) number (HoldsKeys s n number)
     lane_count n is = λ bay found seen told.
         let same = bay_is cones number lane.standing bay lane.cone_is found in
         record { history = lane.history; counted = lane.stands.counted ∙ sym is; sound = lane_sound seen (ap files (sym same) ∙ told) }
@@ -129,6 +117,10 @@ module _ {B : Type 0} (files : B → Option Files) (leaves : B → Files → Typ
 
     pub lanes_partly : ArePartWoven files s (bays_of cones) keys
     lanes_partly = λ cone bay found. lane_partly from cone (finished cone) keys (ring_of rings cone) cones (lanes.each cone (named_bay cone bay found)) bay found
+
+    pub lanes_open : (to : ℕ) → from ≤ to → ((cone : ℕ) → finished cone ≡ false) → AreOpenWoven files s to (bays_of cones) keys
+    lanes_open to grows open_are = λ cone bay found.
+        lane_open from cone (finished cone) keys (ring_of rings cone) cones (lanes.each cone (named_bay cone bay found)) to grows (open_are cone) bay found
 
     pub lanes_woven : ((cone : ℕ) → finished cone ≡ true) → AreDrained (2 ^ s.cone_bits) rings → AreWoven files s (bays_of cones) keys
     lanes_woven closed drained = λ cone bay found.
@@ -240,7 +232,7 @@ module _ {B : Type 0} (files : B → Option Files) (leaves : B → Files → Typ
         (subst (λ r. AreLanes files leaves faults s from finished cones r (keys ++ key ∷ [])) (sym rings_are) pushed)
 
     module _ (at : ℕ) (below : at < 2 ^ s.cone_bits) (old : Standing B) (found : slice_get cones at ≡ Some old) where
-      old_is : old ≡ (lanes.each at below).standing
+      pub old_is : old ≡ (lanes.each at below).standing
       old_is = same_Some old (lanes.each at below).standing (sym found ∙ (lanes.each at below).cone_is)
 
       pub lane_listing : old.listing ≡ record { settings = s; cone = at; events = events_of (lanes.each at below).history; closed = finished at }
@@ -259,7 +251,7 @@ module _ {B : Type 0} (files : B → Option Files) (leaves : B → Files → Typ
       abbrev LaneTo : ℕ → Bool → Standing B → List ℕ → Type 0
       LaneTo to b new waiting = IsLane files leaves faults s to at (part_of s at keys) b (slice_get (set cones at new) at) waiting
 
-      inside : at < length cones
+      pub inside : at < length cones
       inside = omega (arith, below, lanes.cones_number)
 
       -- the cones below are as before
@@ -314,57 +306,8 @@ module _ {B : Type 0} (files : B → Option Files) (leaves : B → Files → Typ
                 ];
           }
 
-      -- what the journals hold where a cone isn't finished
-      pub partly_finish : (new : Standing B) → IsSameCone old new → new.over ≡ old.over →
-          ((h : List Packet) → StandsFor files leaves faults old h → StandsFor files leaves faults new h) → ArePartWoven files s (bays_of (set cones at new)) keys
-      partly_finish new kept over_is stands = λ cone bay there.
-          let moved : slice_get (set (bays_of cones) at new.bay) cone ≡ Some bay = ap (λ xs. slice_get xs cone) (sym (bays_of-set cones at new)) ∙ there in
-          let named : cone < 2 ^ s.cone_bits = omega (arith, slice_get_within (bays_of (set cones at new)) cone bay there, length-map (set cones at new) (λ (c : Standing B). c.bay), length-set cones at new, lanes.cones_number) in
-          elim (cases_eq cone at) [
-            | inl equal ↦
-                let here = lanes.each at below in
-                let bay_same = bay_is (set cones at new) at new bay (slice_get-set_same cones at new inside) (ap (slice_get (bays_of (set cones at new))) (sym equal) ∙ there) in
-                let none = lane_stands.none_over (ap is_broken lane_state ∙ unbroken (finished at)) in
-                subst (λ c. IfTold (files bay) (HoldsPart s keys c)) (sym equal) (subst (λ b. IfTold (files b) (HoldsPart s keys at)) (sym bay_same)
-                (partly_of at keys new here.history (stands here.history lane_stands) (sound_still old new kept lane_was_sound)
-                (kept.settings ∙ ap (λ (l : Listing). l.settings) lane_listing)
-                (kept.cone ∙ ap (λ (l : Listing). l.cone) lane_listing)
-                (part_woven s at here.history here.each here.cut keys (ring_of rings at) here.joined)
-                (λ over some. absurd (let gone = sym (over_is ∙ none) ∙ some in cc))))
-            | inr differs ↦
-                lane_partly from cone (finished cone) keys (ring_of rings cone) cones (lanes.each cone named) bay (sym (slice_get-set_other (bays_of cones) at cone new.bay differs) ∙ moved)
-          ]
-
-      -- a cone failed
-      cone_failed : (new : Standing B) → HasRisen (faults old.bay) (faults new.bay) → HasFailed faults (bays_of cones) (bays_of (set cones at new)) at
-      cone_failed new rose = record {
-        before = old.bay;
-        now = new.bay;
-        was = bay_at cones at old found;
-        is = bay_at (set cones at new) at new (slice_get-set_same cones at new inside);
-        rose = rose;
-      }
-
-      -- a cone whose bay doesn't tell its files
-      cone_untold : files old.bay ≡ None → IsUntold files (bays_of cones) at
-      cone_untold none = record {
-        named = slice_get_within (bays_of cones) at old.bay (bay_at cones at old found);
-        untold = λ bay there seen told. let clash = sym none ∙ (ap files (sym (bay_is cones at old bay found there)) ∙ told) in cc;
-      }
-
-      -- why it isn't finished
-      pub unfinished_by : (new : Standing B) (refusal : ConeFault) → is_refusal refusal ≡ false → (refusal ≡ fault.BayFailed → HasRisen (faults old.bay) (faults new.bay)) →
-          ((file place : ℕ) → refusal ≡ fault.Unsound file place → (h : List Packet) → StandsFor files leaves faults old h → WasSound files old → files old.bay ≡ None) →
-          IsRefused files faults s (bays_of cones) (bays_of (set cones at new)) keys (cone_status at refusal)
-      unfinished_by new fault.Closed broke failed unsound = absurd cc
-      unfinished_by new fault.Broken broke failed unsound = absurd cc
-      unfinished_by new (fault.CapacityFull n len) broke failed unsound = absurd cc
-      unfinished_by new fault.BayFailed broke failed unsound = cone_failed new (failed refl)
-      unfinished_by new (fault.Unsound file place) broke failed unsound = cone_untold (unsound file place refl (lanes.each at below).history lane_stands lane_was_sound)
-      unfinished_by new fault.OutOfMemory broke failed unsound = tt
-
       module _ (first : from ≤ at) (some : 1 ≤ length (ring_of rings at)) (few : length (ring_of rings at) ≤ 4 * s.packet) where
-        abbrev ring : List ℕ
+        abbrev pub ring : List ℕ
         ring = ring_of rings at
 
         own_keys : All (λ key. cone_of s key ≡ at) ring
@@ -385,14 +328,14 @@ module _ {B : Type 0} (files : B → Option Files) (leaves : B → Files → Typ
           of_cone = own_keys;
         })
 
-        more_each : All (IsBrought s 1 1) ((lanes.each at below).history ++ packet_with ring ∷ [])
+        pub more_each : All (IsBrought s 1 1) ((lanes.each at below).history ++ packet_with ring ∷ [])
         more_each = All-push (IsBrought s 1 1) (lanes.each at below).history (packet_with ring) (lanes.each at below).each
             (record { some = some; few = few; of_them = omega arith; by_is = refl })
 
-        more_cut : AreCut s.packet ((lanes.each at below).history ++ packet_with ring ∷ [])
+        pub more_cut : AreCut s.packet ((lanes.each at below).history ++ packet_with ring ∷ [])
         more_cut = cut_more s (lanes.each at below).history (packet_with ring) ((lanes.each at below).full first)
 
-        more_joined : events_of ((lanes.each at below).history ++ packet_with ring ∷ []) ++ [] ≡ part_of s at keys
+        pub more_joined : events_of ((lanes.each at below).history ++ packet_with ring ∷ []) ++ [] ≡ part_of s at keys
         more_joined =
             append-nil (events_of ((lanes.each at below).history ++ packet_with ring ∷ []))
             ∙ (events_more (lanes.each at below).history (packet_with ring) ∙ (lanes.each at below).joined)
@@ -434,70 +377,6 @@ module _ {B : Type 0} (files : B → Option Files) (leaves : B → Files → Typ
                   ];
             }
 
-        module _ (new : Standing B) (refusal : ConeFault) (stays : (h : List Packet) → StandsFor files leaves faults old h → StandsFor files leaves faults new h)
-            (unchanged : is_refusal refusal ≡ true → new ≡ old) (left_over : is_refusal refusal ≡ false → new.over ≡ Some (packet_with ring))
-            (kept : IsSameCone old new) where
-          over_woven : (b : Bool) → is_refusal refusal ≡ b → (over : Packet) → new.over ≡ Some over → IsPartWoven s at 1 (keys ∷ []) ((lanes.each at below).history ++ over ∷ [])
-          over_woven true is over there =
-              let none = lane_stands.none_over (ap is_broken lane_state ∙ unbroken (finished at)) in
-              absurd (let gone = sym (ap (λ (c : Standing B). c.over) (unchanged is) ∙ none) ∙ there in cc)
-          over_woven false is over there =
-              subst (λ (p : Packet). IsPartWoven s at 1 (keys ∷ []) ((lanes.each at below).history ++ p ∷ [])) (same_Some (packet_with ring) over (sym (left_over is) ∙ there))
-              (part_woven s at ((lanes.each at below).history ++ packet_with ring ∷ []) more_each more_cut keys [] more_joined)
-
-          -- what the journals hold after a refusal
-          pub partly_refused : ArePartWoven files s (bays_of (set cones at new)) keys
-          partly_refused = λ cone bay there.
-              let moved : slice_get (set (bays_of cones) at new.bay) cone ≡ Some bay = ap (λ xs. slice_get xs cone) (sym (bays_of-set cones at new)) ∙ there in
-              let named : cone < 2 ^ s.cone_bits = omega (arith, slice_get_within (bays_of (set cones at new)) cone bay there, length-map (set cones at new) (λ (c : Standing B). c.bay), length-set cones at new, lanes.cones_number) in
-              elim (cases_eq cone at) [
-                | inl equal ↦
-                    let here = lanes.each at below in
-                    let bay_same = bay_is (set cones at new) at new bay (slice_get-set_same cones at new inside) (ap (slice_get (bays_of (set cones at new))) (sym equal) ∙ there) in
-                    subst (λ c. IfTold (files bay) (HoldsPart s keys c)) (sym equal) (subst (λ b. IfTold (files b) (HoldsPart s keys at)) (sym bay_same)
-                    (partly_of at keys new here.history (stays here.history lane_stands) (sound_still old new kept lane_was_sound)
-                    (kept.settings ∙ ap (λ (l : Listing). l.settings) lane_listing) (kept.cone ∙ ap (λ (l : Listing). l.cone) lane_listing)
-                    (part_woven s at here.history here.each here.cut keys ring here.joined)
-                    (over_woven (is_refusal refusal) refl)))
-                | inr differs ↦
-                    lane_partly from cone (finished cone) keys (ring_of rings cone) cones (lanes.each cone named) bay (sym (slice_get-set_other (bays_of cones) at cone new.bay differs) ∙ moved)
-              ]
-
-          -- why it was refused
-          pub refused_by : (status : Status) → status ≡ cone_status at refusal → refusal ≢ fault.Closed → refusal ≢ fault.Broken →
-              ((n len : ℕ) → refusal ≡ fault.CapacityFull n len → (n ≡ old.events) × (len ≡ length ring) × (capacity old.listing.settings < n + len)) →
-              (refusal ≡ fault.BayFailed → HasRisen (faults old.bay) (faults new.bay)) →
-              ((file place : ℕ) → refusal ≡ fault.Unsound file place → (h : List Packet) → StandsFor files leaves faults old h → WasSound files old → files old.bay ≡ None) →
-              IsRefused files faults s (bays_of cones) (bays_of (set cones at new)) keys status
-          refused_by status is running unbroken_is full failed unsound =
-              subst (IsRefused files faults s (bays_of cones) (bays_of (set cones at new)) keys) (sym is) (by_fault refusal refl)
-            where
-              by_fault : (f : ConeFault) → refusal ≡ f → IsRefused files faults s (bays_of cones) (bays_of (set cones at new)) keys (cone_status at f)
-              by_fault fault.Closed same = absurd (running same)
-              by_fault fault.Broken same = absurd (unbroken_is same)
-              by_fault (fault.CapacityFull n len) same =
-                  let here = lanes.each at below in
-                  let why = full n len same in
-                  let stood : new ≡ old = unchanged (ap is_refusal same) in
-                  let room = ap (λ (l : Listing). capacity l.settings) lane_listing in
-                  let counted : n ≡ here.standing.events = why.0 ∙ ap (λ (c : Standing B). c.events) old_is in
-                  let joined = ap (λ (xs : List ℕ). length xs) here.joined in
-                  let sum = length-append (events_of here.history) ring in (
-                    record {
-                      named = below;
-                      some = omega (arith, some, why.1);
-                      few = omega (arith, few, why.1);
-                      over = omega (arith, why.2, room);
-                      journal = λ bay there.
-                          lane_count from at (finished at) keys ring cones here n counted bay
-                          (bay_at cones at old found ∙ ap Some (sym (bay_is (set cones at new) at new bay (slice_get-set_same cones at new inside) there ∙ ap (λ (c : Standing B). c.bay) stood)));
-                    },
-                    omega (arith, joined, sum, here.stands.counted, counted, why.1),
-                  )
-              by_fault fault.BayFailed same = cone_failed new (failed same)
-              by_fault (fault.Unsound file place) same = cone_untold (unsound file place same (lanes.each at below).history lane_stands lane_was_sound)
-              by_fault fault.OutOfMemory same = tt
-
 -- cones that were just made, with rings that are empty
 pub lanes_new : {B : Type 0} (files : B → Option Files) (leaves : B → Files → Type 0) (faults : B → ℕ) (s : Numbers) (cones : List (Standing B)) (rings : Rings) → IsValid s →
     length cones ≡ 2 ^ s.cone_bits → AreNew files leaves faults s cones → rings ≡ record { packet = s.packet; rings = replicate (2 ^ s.cone_bits) [] } →
@@ -524,103 +403,3 @@ lanes_new {B = B} files leaves faults s cones rings valid number made is = recor
         joined = ap (λ (r : Rings). ring_of r cone) is ∙ get_or-replicate (2 ^ s.cone_bits) cone [] [] named;
       };
 }
-
-pub short_new : (s : Numbers) (rings : Rings) → 1 ≤ s.packet → rings ≡ record { packet = s.packet; rings = replicate (2 ^ s.cone_bits) [] } → AreShort s rings
-short_new s rings some is = λ cone named.
-    let none = ap (λ (r : Rings). length (ring_of r cone)) is ∙ ap (λ (xs : List ℕ). length xs) (get_or-replicate (2 ^ s.cone_bits) cone [] [] named) in
-    omega (arith, none, some)
-
--- a refusal says it of the bays earlier
-pub refused_since : {B : Type 0} (files : B → Option Files) (faults mark : B → ℕ) (s : Numbers) (first then now : List B) (keys : List ℕ) → AreLater files faults mark first then → AreLater files faults mark then now →
-    (status : Status) → IsRefused files faults s then now keys status → IsRefused files faults s first now keys status
-refused_since files faults mark s first then now keys one two status.Done refused = absurd refused
-refused_since files faults mark s first then now keys one two (status.Usage rule) refused = absurd refused
-refused_since files faults mark s first then now keys one two status.PlaceFault refused = absurd refused
-refused_since files faults mark s first then now keys one two (status.TraceFault trace) refused = absurd refused
-refused_since files faults mark s first then now keys one two (status.BadTrace trace at) refused = absurd refused
-refused_since files faults mark s first then now keys one two (status.TooLong trace) refused = absurd refused
-refused_since files faults mark s first then now keys one two (status.NotFresh cone) refused = absurd refused
-refused_since files faults mark s first then now keys one two (status.BayFault cone) refused = failed_since files faults mark first then now cone one two refused
-refused_since files faults mark s first then now keys one two (status.CapacityFull cone n len) refused = refused
-refused_since files faults mark s first then now keys one two (status.Malformed cone file at) refused = untold_since files faults mark first then cone one refused
-refused_since files faults mark s first then now keys one two (status.OtherSettings cone) refused = absurd refused
-refused_since files faults mark s first then now keys one two status.OutFault refused = absurd refused
-refused_since files faults mark s first then now keys one two status.OutOfMemory refused = tt
-
--- a ring without keys is the one that a cone took
-pub ring_stays : (rings : Rings) (at : ℕ) → length (ring_of rings at) ≡ 0 → rings ≡ with_ring rings at []
-ring_stays rings at none =
-    ap (λ (r : List (List ℕ)). record rings { rings = r }) (sym (set-get_or rings.rings at []) ∙ ap (set rings.rings at) (nil_is (ring_of rings at) none))
-  where
-    nil_is : (xs : List ℕ) → length xs ≡ 0 → xs ≡ []
-    nil_is [] is = refl
-    nil_is (x ∷ xs) is = absurd (omega (arith, is))
-
--- an emptied ring is short, and the others are as before
-pub short_emptied : (s : Numbers) (rings : Rings) (at : ℕ) → length rings.rings ≡ 2 ^ s.cone_bits → 1 ≤ s.packet →
-    ((cone : ℕ) → cone < 2 ^ s.cone_bits → cone ≢ at → length (ring_of rings cone) < s.packet) → AreShort s (with_ring rings at [])
-short_emptied s rings at number some others cone named =
-    elim (cases_eq cone at) [
-      | inl same ↦
-          let emptied : ring_of (with_ring rings at []) at ≡ [] = get_or-set_same rings.rings at [] [] (omega (arith, named, same, number)) in
-          let none = ap (λ c. length (get_or (set rings.rings at []) c [])) same ∙ ap (λ (xs : List ℕ). length xs) emptied in
-          omega (arith, none, some)
-      | inr other ↦
-          let kept = ap (λ (xs : List ℕ). length xs) (get_or-set_other rings.rings at cone [] [] other) in
-          omega (arith, kept, others cone named other)
-    ]
-
--- and no ring up to it has a key
-pub drained_more : (s : Numbers) (rings after : Rings) (at : ℕ) → length rings.rings ≡ 2 ^ s.cone_bits → at < 2 ^ s.cone_bits → after ≡ with_ring rings at [] → AreDrained at rings → AreDrained (at + 1) after
-drained_more s rings after at number named is drained cone below =
-    ap (λ r. ring_of r cone) is
-    ∙ elim (cases_eq cone at) [
-      | inl same ↦ ap (λ c. get_or (set rings.rings at []) c []) same ∙ get_or-set_same rings.rings at [] [] (omega (arith, named, number))
-      | inr other ↦ get_or-set_other rings.rings at cone [] [] other ∙ drained cone (omega (arith, below, other))
-    ]
-
--- the ring of a key that came
-pub ring_pushed : (s : Numbers) (rings after : Rings) (at : ℕ) (ring : List ℕ) → length rings.rings ≡ 2 ^ s.cone_bits → at < 2 ^ s.cone_bits → after ≡ with_ring rings at ring → ring_of after at ≡ ring
-ring_pushed s rings after at ring number named is = ap (λ r. ring_of r at) is ∙ get_or-set_same rings.rings at ring [] (omega (arith, named, number))
-
--- the ring of a key that came is short where it asks for nothing
-pub short_pushed : (s : Numbers) (rings : Rings) (at : ℕ) (ring : List ℕ) → length rings.rings ≡ 2 ^ s.cone_bits → length ring < s.packet → AreShort s rings → AreShort s (with_ring rings at ring)
-short_pushed s rings at ring number less short cone named =
-    elim (cases_eq cone at) [
-      | inl same ↦
-          let there : ring_of (with_ring rings at ring) at ≡ ring = get_or-set_same rings.rings at ring [] (omega (arith, named, same, number)) in
-          let here = ap (λ c. length (get_or (set rings.rings at ring) c [])) same ∙ ap (λ (xs : List ℕ). length xs) there in
-          omega (arith, here, less)
-      | inr other ↦
-          let kept = ap (λ (xs : List ℕ). length xs) (get_or-set_other rings.rings at cone ring [] other) in
-          omega (arith, kept, short cone named)
-    ]
-
--- what a ring that had less than a packet asks for
-pub fill_low : (packet n : ℕ) → n < packet → fill_of packet (n + 1) ≡ Low → n + 1 < packet
-fill_low packet n less is =
-    elim (cases_eq (n + 1) packet) [
-      | inl same ↦ absurd (low_not (eqb (n + 1) (4 * packet)) (eqb (n + 1) packet) (eqb (n + 1) (2 * packet) || eqb (n + 1) (3 * packet)) (eq-eqb (n + 1) packet same) is)
-      | inr other ↦ omega (arith, less, other)
-    ]
-  where
-    low_not : (a b d : Bool) → b ≡ true → cond a MustGo (cond (b || d) Ready Low) ≡ Low → ⊥
-    low_not true b d equal is = cc
-    low_not false true d equal is = cc
-    low_not false false d equal is = cc
-
-pub fill_ready : (packet n : ℕ) → n < packet → fill_of packet (n + 1) ≢ Low → n + 1 ≡ packet
-fill_ready packet n less not_low =
-    elim (cases_eq (n + 1) packet) [
-      | inl same ↦ same
-      | inr other ↦ absurd (not_low (low (eqb (n + 1) (4 * packet)) (eqb (n + 1) packet) (eqb (n + 1) (2 * packet)) (eqb (n + 1) (3 * packet))
-          (ne_eqb (n + 1) (4 * packet) (λ is. absurd (omega (arith, is, less)))) (ne_eqb (n + 1) packet other)
-          (ne_eqb (n + 1) (2 * packet) (λ is. absurd (omega (arith, is, less)))) (ne_eqb (n + 1) (3 * packet) (λ is. absurd (omega (arith, is, less))))))
-    ]
-  where
-    low : (a b d e : Bool) → a ≡ false → b ≡ false → d ≡ false → e ≡ false → cond a MustGo (cond (b || (d || e)) Ready Low) ≡ Low
-    low false false false false one two three_is four = refl
-    low true b d e one two three_is four = cc
-    low false true d e one two three_is four = cc
-    low false false true e one two three_is four = cc
-    low false false false true one two three_is four = cc

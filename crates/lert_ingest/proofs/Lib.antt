@@ -2,10 +2,13 @@ pub mod AskedLaws
 pub mod BayLaws
 pub mod ConeLaws
 pub mod ConeTexts
+pub mod EachLaws
 pub mod Ending
 pub mod FreshLaws
 pub mod KeysRead
 pub mod LaneLaws
 pub mod PrintLaws
+pub mod RefusedLaws
+pub mod RingLaws
 pub mod Stopping
 pub mod WeaveLaws

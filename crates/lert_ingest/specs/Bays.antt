@@ -1,12 +1,13 @@
 -- What is known of the bays of a run: those that were opened, and the same ones later, both in ascending cones.
-use Rattle.std.specs.Prelude.{◌≡◌, ℕ, ◌<◌, ◌≤◌, List, [], ◌∷◌, length, map, Option, Some, slice_get, ⊤}
+use Rattle.std.specs.Prelude.{◌≡◌, ◌⊎◌, ℕ, ◌<◌, ◌≤◌, false, List, [], ◌∷◌, length, map, Option, Some, slice_get, ⊤}
 use Rattle.lert_base.specs.Packet.{Packet, events_of}
 use Rattle.lert_base.specs.Weave.{IsWoven, IsPartWoven}
 use Rattle.lert_bay.specs.Files.{Files, IfTold, Turns}
-use Rattle.lert_cone.specs.Sound.{AreEmpty, IsSound, IsSoundClosed}
+use Rattle.lert_cone.specs.Sound.{AreEmpty, IsSound, IsSoundAs, IsSoundClosed}
 use Rattle.lert_cone.specs.Stands.{Standing}
 use Rattle.lert_io.specs.Fault.{HasRisen, IsFaultless}
 use Rattle.lert_spec.specs.declared.numbers.Numbers.{Numbers}
+use Rattle.lert_ingest.specs.Lanes.{AreFull}
 
 -- the bays of cones
 abbrev pub bays_of : {B : Type 0} → List (Standing B) → List B
@@ -22,6 +23,18 @@ pub record IsLater {B : Type 0} (files : B → Option Files) (faults mark : B �
 pub record AreLater {B : Type 0} (files : B → Option Files) (faults mark : B → ℕ) (bays later : List B) : Type 0 where
   pub number : length later ≡ length bays
   pub each : (cone : ℕ) (before now : B) → slice_get bays cone ≡ Some before → slice_get later cone ≡ Some now → IsLater files faults mark before now
+
+-- what is so of each bay, as it was and as it is
+abbrev pub EachBay : {B : Type 0} → (ℕ → B → B → Type 0) → List B → List B → Type 0
+EachBay {B = B} R bays later = (cone : ℕ) (before now : B) → slice_get bays cone ≡ Some before → slice_get later cone ≡ Some now → R cone before now
+
+-- the files of each bay are as they were
+abbrev pub AreKept : {B : Type 0} → (B → Option Files) → List B → List B → Type 0
+AreKept files bays later = EachBay (λ _ before now. files now ≡ files before) bays later
+
+-- the bays behind that of a cone are as they were handed out
+abbrev pub AreUntouched : {B : Type 0} → ℕ → List B → List B → Type 0
+AreUntouched cone bays later = (other : ℕ) → cone < other → slice_get later other ≡ slice_get bays other
 
 -- each bay has its place as its mark
 abbrev pub AreMarked : {B : Type 0} → (B → ℕ) → List B → Type 0
@@ -44,11 +57,15 @@ pub record IsUntold {B : Type 0} (files : B → Option Files) (bays : List B) (c
 abbrev pub AreFresh : {B : Type 0} → (B → Option Files) → List B → Type 0
 AreFresh {B = B} files bays = (cone : ℕ) → IfHeld files bays cone AreEmpty
 
+-- no bay below a number that tells its files has a byte in them
+abbrev pub AreFreshBelow : {B : Type 0} → (B → Option Files) → List B → ℕ → Type 0
+AreFreshBelow files bays number = (cone : ℕ) → cone < number → IfHeld files bays cone AreEmpty
+
 -- a cone is the first of which a file has a byte, as far as the bays tell
 pub record IsStale {B : Type 0} (files : B → Option Files) (bays : List B) (cone : ℕ) : Type 0 where
   pub named : cone < length bays
   pub not_empty : IfHeld files bays cone (λ seen. AreEmpty seen → ⊥)
-  pub lower : (other : ℕ) → other < cone → IfHeld files bays other AreEmpty
+  pub lower : AreFreshBelow files bays cone
 
 -- the count of faults of a cone's bay rose
 pub record HasFailed {B : Type 0} (faults : B → ℕ) (bays later : List B) (cone : ℕ) : Type 0 where
@@ -61,6 +78,10 @@ pub record HasFailed {B : Type 0} (faults : B → ℕ) (bays later : List B) (co
 -- no fault of a bay was counted
 abbrev pub AreFaultless : {B : Type 0} → (B → ℕ) → List B → List B → Type 0
 AreFaultless {B = B} faults bays later = (cone : ℕ) (before now : B) → slice_get bays cone ≡ Some before → slice_get later cone ≡ Some now → IsFaultless (faults before) (faults now)
+
+-- none of the bays up to and with that of a cone
+abbrev pub AreFaultlessTo : {B : Type 0} → (B → ℕ) → ℕ → List B → List B → Type 0
+AreFaultlessTo faults last bays later = EachBay (λ cone before now. cone ≤ last → IsFaultless (faults before) (faults now)) bays later
 
 -- all bays tell their files, which are empty
 abbrev pub AreToldFresh : {B : Type 0} → (B → Option Files) → List B → Type 0
@@ -84,6 +105,27 @@ pub record HoldsKeys (s : Numbers) (number cone : ℕ) (seen : Files) : Type 0 w
   pub counted : length (events_of history) ≡ number
   pub sound : IsSound s cone history seen
 
+-- The files of a cone are sound for a weave of a beginning of its part of a trace's keys, and not closed. From a number of
+-- cones on each packet is full, so that nothing of what waits for a whole packet was handed out.
+pub record HoldsOpen (s : Numbers) (keys : List ℕ) (from cone : ℕ) (seen : Files) : Type 0 where
+  pub history : List Packet
+  pub woven : IsPartWoven s cone 1 (keys ∷ []) history
+  pub sound : IsSoundAs s cone false history seen
+  pub full : from ≤ cone → AreFull s history
+
+-- A run left the files of a cone without a packet: as they were, or, where they had no byte, sound for no packet, and not
+-- closed. A journal with a packet of the run is neither.
+abbrev pub IsUnused : {B : Type 0} → (B → Option Files) → Numbers → ℕ → B → B → Type 0
+IsUnused files s cone before now =
+    (files now ≡ files before) ⊎ (IfTold (files before) AreEmpty × IfTold (files now) (IsSoundAs s cone false []))
+
+-- so it left all of them, but for the cone at which it broke off
+abbrev pub AreUnusedBut : {B : Type 0} → (B → Option Files) → Numbers → (ℕ → Type 0) → List B → List B → Type 0
+AreUnusedBut files s broke bays later = EachBay (λ cone before now. (broke cone → ⊥) → IsUnused files s cone before now) bays later
+
+abbrev pub AreUnused : {B : Type 0} → (B → Option Files) → Numbers → List B → List B → Type 0
+AreUnused files s bays later = EachBay (IsUnused files s) bays later
+
 -- each bay that tells its files holds a weave
 abbrev pub AreWoven : {B : Type 0} → (B → Option Files) → Numbers → List B → List ℕ → Type 0
 AreWoven {B = B} files s bays keys = (cone : ℕ) → IfHeld files bays cone (HoldsWeave s keys cone)
@@ -91,3 +133,7 @@ AreWoven {B = B} files s bays keys = (cone : ℕ) → IfHeld files bays cone (Ho
 -- each bay that tells its files holds a weave of a beginning
 abbrev pub ArePartWoven : {B : Type 0} → (B → Option Files) → Numbers → List B → List ℕ → Type 0
 ArePartWoven {B = B} files s bays keys = (cone : ℕ) → IfHeld files bays cone (HoldsPart s keys cone)
+
+-- each bay that tells its files holds one that isn't closed
+abbrev pub AreOpenWoven : {B : Type 0} → (B → Option Files) → Numbers → ℕ → List B → List ℕ → Type 0
+AreOpenWoven files s from bays keys = (cone : ℕ) → IfHeld files bays cone (HoldsOpen s keys from cone)

@@ -12,7 +12,8 @@ use Rattle.lert_spec.specs.Look.{closing}
 use Rattle.lert_spec.specs.Mix.{part_of}
 use Rattle.lert_spec.specs.Timely.{IsTimely}
 use Rattle.lert_spec.specs.Trace.{left, whole}
-use Rattle.lert_ingest.specs.Bays.{AreFaultless, AreFresh, ArePartWoven, AreTold, AreToldFresh, AreWoven, HasFailed, HoldsKeys, IfHeld, IsStale, IsUntold}
+use Rattle.lert_ingest.specs.Bays.{AreFaultless, AreFaultlessTo, AreFresh, AreFreshBelow, AreKept, AreOpenWoven, ArePartWoven, AreTold, AreToldFresh}
+use Rattle.lert_ingest.specs.Bays.{AreUnused, AreUnusedBut, AreWoven, HasFailed, HoldsKeys, IfHeld, IsStale, IsUntold}
 use Rattle.lert_text.specs.Page.{IsCut}
 use Rattle.lert_ingest.specs.declared.status.Status.{Status}
 use Rattle.lert_ingest.specs.declared.status.Status.TheVariants.{Done, Usage, PlaceFault, TraceFault, BadTrace, TooLong, NotFresh, BayFault, CapacityFull, Malformed, OtherSettings, OutFault, OutOfMemory}
@@ -96,27 +97,32 @@ IsRefused files faults settings bays later keys (BadTrace trace at) = ⊥
 IsRefused files faults settings bays later keys (TooLong trace) = ⊥
 IsRefused files faults settings bays later keys (NotFresh cone) = ⊥
 IsRefused files faults settings bays later keys (BayFault cone) = HasFailed faults bays later cone
-IsRefused files faults settings bays later keys (CapacityFull cone n len) = IsFull files settings later cone n len × HasThem settings keys cone n len
+IsRefused files faults settings bays later keys (CapacityFull cone n len) =
+    IsFull files settings later cone n len × HasThem settings keys cone n len × AreOpenWoven files settings cone later keys
 IsRefused files faults settings bays later keys (Malformed cone file at) = IsUntold files bays cone
 IsRefused files faults settings bays later keys (OtherSettings cone) = ⊥
 IsRefused files faults settings bays later keys OutFault = ⊥
 IsRefused files faults settings bays later keys OutOfMemory = ⊤
 
--- why no cones were made over bays: a file of one isn't empty, a bay failed, or there is no memory
-abbrev pub IsUnmade : {B : Type 0} → (B → Option Files) → (B → ℕ) → List B → List B → Status → Type 0
-IsUnmade files faults bays later Done = ⊥
-IsUnmade files faults bays later (Usage rule) = ⊥
-IsUnmade files faults bays later PlaceFault = ⊥
-IsUnmade files faults bays later (TraceFault trace) = ⊥
-IsUnmade files faults bays later (BadTrace trace at) = ⊥
-IsUnmade files faults bays later (TooLong trace) = ⊥
-IsUnmade files faults bays later (NotFresh cone) = IsStale files bays cone
-IsUnmade files faults bays later (BayFault cone) = HasFailed faults bays later cone
-IsUnmade files faults bays later (CapacityFull cone n len) = ⊥
-IsUnmade files faults bays later (Malformed cone file at) = ⊥
-IsUnmade files faults bays later (OtherSettings cone) = ⊥
-IsUnmade files faults bays later OutFault = ⊥
-IsUnmade files faults bays later OutOfMemory = ⊤
+-- Why no cones were made over bays: a file of one isn't empty, a bay failed, or there is no memory. No journal has a packet
+-- then, but for that of the bay that failed, at which any bytes may stand in the journal's header; and where the cone that
+-- isn't fresh tells its files, all files are as they were.
+abbrev pub IsUnmade : {B : Type 0} → (B → Option Files) → (B → ℕ) → Numbers → List B → List B → Status → Type 0
+IsUnmade files faults settings bays later Done = ⊥
+IsUnmade files faults settings bays later (Usage rule) = ⊥
+IsUnmade files faults settings bays later PlaceFault = ⊥
+IsUnmade files faults settings bays later (TraceFault trace) = ⊥
+IsUnmade files faults settings bays later (BadTrace trace at) = ⊥
+IsUnmade files faults settings bays later (TooLong trace) = ⊥
+IsUnmade files faults settings bays later (NotFresh cone) =
+    IsStale files bays cone × IfHeld files bays cone (λ _. AreKept files bays later) × AreUnused files settings bays later
+IsUnmade files faults settings bays later (BayFault cone) =
+    HasFailed faults bays later cone × AreFreshBelow files bays cone × AreUnusedBut files settings (λ other. other ≡ cone) bays later
+IsUnmade files faults settings bays later (CapacityFull cone n len) = ⊥
+IsUnmade files faults settings bays later (Malformed cone file at) = ⊥
+IsUnmade files faults settings bays later (OtherSettings cone) = ⊥
+IsUnmade files faults settings bays later OutFault = ⊥
+IsUnmade files faults settings bays later OutOfMemory = AreUnused files settings bays later
 
 -- a status that comes only once the files were found to be empty
 abbrev pub is_past_freshness : Status → Bool
@@ -135,72 +141,93 @@ is_past_freshness OutFault = true
 is_past_freshness OutOfMemory = false
 
 module _ {S B : Type 0} (remaining : S → Option (List ℕ)) (faults : S → ℕ) (files : B → Option Files) (bay_faults : B → ℕ) (settings : Numbers) where
+  -- each journal is a weave of a beginning of the cone's keys of the trace
+  abbrev pub ArePartly : S → List B → Type 0
+  ArePartly opened later = IfTold (remaining opened) (λ bytes. ArePartWoven files settings later (whole bytes))
+
+  -- besides, none is closed, and from a number of cones on each packet is full
+  abbrev pub AreOpenPartly : ℕ → S → List B → Type 0
+  AreOpenPartly from opened later = IfTold (remaining opened) (λ bytes. AreOpenWoven files settings from later (whole bytes))
+
   -- why reading a trace into cones stopped early, by the trace and the bays as they were opened and as they are now
   abbrev pub StopShows : S → S → List B → List B → Status → Type 0
   StopShows opened now bays later Done = ⊥
   StopShows opened now bays later (Usage rule) = ⊥
   StopShows opened now bays later PlaceFault = ⊥
-  StopShows opened now bays later (TraceFault trace) = (trace ≡ 0) × HasRisen (faults opened) (faults now)
-  StopShows opened now bays later (BadTrace trace at) = (trace ≡ 0) × IfTold (remaining opened) (λ bytes. left bytes ≡ Some at)
-  StopShows opened now bays later (TooLong trace) = (trace ≡ 0) × IfTold (remaining opened) (λ bytes. most_keys < length (whole bytes))
+  StopShows opened now bays later (TraceFault trace) = (trace ≡ 0) × HasRisen (faults opened) (faults now) × AreOpenPartly 0 opened later
+  StopShows opened now bays later (BadTrace trace at) =
+      (trace ≡ 0) × IfTold (remaining opened) (λ bytes. left bytes ≡ Some at) × AreOpenPartly 0 opened later
+  StopShows opened now bays later (TooLong trace) =
+      (trace ≡ 0) × IfTold (remaining opened) (λ bytes. most_keys < length (whole bytes)) × AreOpenPartly 0 opened later
   StopShows opened now bays later (NotFresh cone) = ⊥
   StopShows opened now bays later (BayFault cone) = HasFailed bay_faults bays later cone
-  StopShows opened now bays later (CapacityFull cone n len) =
-      IsFull files settings later cone n len × IfTold (remaining opened) (λ bytes. HasThem settings (whole bytes) cone n len)
+  StopShows opened now bays later (CapacityFull cone n len) = IsFull files settings later cone n len
+      × IfTold (remaining opened) (λ bytes. HasThem settings (whole bytes) cone n len) × AreOpenPartly cone opened later
   StopShows opened now bays later (Malformed cone file at) = IsUntold files bays cone
   StopShows opened now bays later (OtherSettings cone) = ⊥
   StopShows opened now bays later OutFault = ⊥
   StopShows opened now bays later OutOfMemory = ⊤
 
-  -- each journal is a weave of a beginning of the cone's keys of the trace
-  abbrev pub ArePartly : S → List B → Type 0
-  ArePartly opened later = IfTold (remaining opened) (λ bytes. ArePartWoven files settings later (whole bytes))
-
 -- what the status of a run says, by the trace and the bays as they were opened and as they were put back, and by the sink
--- before and after; what a stale bay shows is told
+-- before and after; what a stale bay shows, and what is so of the bays below one that failed, is told
 module _ {S K B : Type 0} (remaining : S → Option (List ℕ)) (faults : S → ℕ) (taken : K → Option (List ℕ)) (sink_faults : K → ℕ)
     (files : B → Option Files) (bay_faults : B → ℕ) (settings : Numbers) (opened back : S) (before after : K) (bays later : List B) where
-  abbrev pub StatusShows : (ℕ → Type 0) → Status → Type 0
-  -- the trace is well formed and was read to its end, each journal is a weave of the cone's keys, the reports that closed
-  -- cones make of these are in time, and, where all bays tell their files, their text was written. On every bay the text
-  -- is that of cones with their events
-  StatusShows stale Done = IfTold (remaining opened) (λ bytes.
-      IsReadWhole settings bytes (remaining back) × AreWoven files settings later (whole bytes) × AreInTime settings (whole bytes) (2 ^ settings.cone_bits)
+  -- the trace is well formed and was read to its end, each journal is a weave of the cone's keys, and the reports that closed
+  -- cones make of these are in time
+  abbrev pub ReadAll : List ℕ → Type 0
+  ReadAll bytes = IsReadWhole settings bytes (remaining back) × AreWoven files settings later (whole bytes)
+      × AreInTime settings (whole bytes) (2 ^ settings.cone_bits)
+
+  -- on every bay a text is that of cones with their events
+  abbrev pub IsTextOf : List ℕ → (List ℕ → Type 0) → Type 0
+  IsTextOf bytes P = (cones : List Printed) × ArePrinted files settings later (whole bytes) (2 ^ settings.cone_bits) cones × P (lines cones)
+
+  -- before the first byte of the trace was read no journal had a packet; later each is partly woven
+  abbrev pub IsEarly : (ℕ → Type 0) → Type 0
+  IsEarly broke = (back ≡ opened) × AreUnusedBut files settings broke bays later
+
+  abbrev pub StatusShows : (ℕ → Type 0) → (ℕ → Type 0) → Status → Type 0
+  -- all was read, and, where all bays tell their files, the text was written
+  StatusShows stale found Done = IfTold (remaining opened) (λ bytes. ReadAll bytes
       × IfTold (taken before) (λ text. (AreTold files bays → taken after ≡ Some (text ++ text_of settings (whole bytes)))
-      × ((cones : List Printed) × ArePrinted files settings later (whole bytes) (2 ^ settings.cone_bits) cones × (taken after ≡ Some (text ++ lines cones)))))
-  StatusShows stale (Usage rule) = ⊥
-  StatusShows stale PlaceFault = ⊥
-  StatusShows stale (TraceFault trace) =
-      (trace ≡ 0) × HasRisen (faults opened) (faults back) × (after ≡ before) × ArePartly remaining faults files bay_faults settings opened later
-  StatusShows stale (BadTrace trace at) = (trace ≡ 0) × IfTold (remaining opened) (λ bytes. left bytes ≡ Some at) × (after ≡ before)
-      × ArePartly remaining faults files bay_faults settings opened later
-  StatusShows stale (TooLong trace) = (trace ≡ 0) × IfTold (remaining opened) (λ bytes. most_keys < length (whole bytes)) × (after ≡ before)
-      × ArePartly remaining faults files bay_faults settings opened later
-  StatusShows stale (NotFresh cone) = stale cone × (after ≡ before)
-  -- a fault of a bay, or want of memory, comes before the first byte of the trace was read, or leaves such journals too
-  StatusShows stale (BayFault cone) = HasFailed bay_faults bays later cone × (after ≡ before)
-      × ((back ≡ opened) ⊎ ArePartly remaining faults files bay_faults settings opened later)
-  StatusShows stale (CapacityFull cone n len) = IsFull files settings later cone n len
+      × IsTextOf bytes (λ all. taken after ≡ Some (text ++ all))))
+  StatusShows stale found (Usage rule) = ⊥
+  StatusShows stale found PlaceFault = ⊥
+  -- with the fault of a trace, and where a cone is full, the journals aren't closed, and no rest of a ring was handed out
+  StatusShows stale found (TraceFault trace) = (trace ≡ 0) × HasRisen (faults opened) (faults back) × (after ≡ before)
+      × AreOpenPartly remaining faults files bay_faults settings 0 opened later
+  StatusShows stale found (BadTrace trace at) = (trace ≡ 0) × IfTold (remaining opened) (λ bytes. left bytes ≡ Some at) × (after ≡ before)
+      × AreOpenPartly remaining faults files bay_faults settings 0 opened later
+  StatusShows stale found (TooLong trace) = (trace ≡ 0) × IfTold (remaining opened) (λ bytes. most_keys < length (whole bytes)) × (after ≡ before)
+      × AreOpenPartly remaining faults files bay_faults settings 0 opened later
+  -- nothing of the trace was read, and the files are as they were
+  StatusShows stale found (NotFresh cone) = stale cone × (after ≡ before) × (back ≡ opened)
+      × IfHeld files bays cone (λ _. AreKept files bays later) × AreUnused files settings bays later
+  -- a fault of a bay, or want of memory, comes early, or leaves journals that are partly woven
+  StatusShows stale found (BayFault cone) = HasFailed bay_faults bays later cone × (after ≡ before)
+      × (IsEarly (λ other. other ≡ cone) ⊎ ArePartly remaining faults files bay_faults settings opened later) × found cone
+  StatusShows stale found (CapacityFull cone n len) = IsFull files settings later cone n len
       × IfTold (remaining opened) (λ bytes. HasThem settings (whole bytes) cone n len) × (after ≡ before)
-      × ArePartly remaining faults files bay_faults settings opened later
-  StatusShows stale (Malformed cone file at) = IsUntold files bays cone × (after ≡ before) × ArePartly remaining faults files bay_faults settings opened later
-  StatusShows stale (OtherSettings cone) = ⊥
-  -- the trace was read to its end, each journal is a weave, and, where all bays tell their files, a part of the text was
-  -- written
-  StatusShows stale OutFault = HasRisen (sink_faults before) (sink_faults after) × IfTold (remaining opened) (λ bytes.
-      IsReadWhole settings bytes (remaining back) × AreWoven files settings later (whole bytes)
-      × (AreTold files bays → IsCut (taken before) (taken after) (text_of settings (whole bytes))))
-  StatusShows stale OutOfMemory = (after ≡ before) × ((back ≡ opened) ⊎ ArePartly remaining faults files bay_faults settings opened later)
+      × AreOpenPartly remaining faults files bay_faults settings cone opened later
+  StatusShows stale found (Malformed cone file at) =
+      IsUntold files bays cone × (after ≡ before) × ArePartly remaining faults files bay_faults settings opened later
+  StatusShows stale found (OtherSettings cone) = ⊥
+  -- all was read, and of the text a part was written
+  StatusShows stale found OutFault = HasRisen (sink_faults before) (sink_faults after) × IfTold (remaining opened) (λ bytes. ReadAll bytes
+      × (AreTold files bays → IsCut (taken before) (taken after) (text_of settings (whole bytes)))
+      × IsTextOf bytes (IsCut (taken before) (taken after)))
+  StatusShows stale found OutOfMemory = (after ≡ before)
+      × (IsEarly (λ _. ⊥) ⊎ ArePartly remaining faults files bay_faults settings opened later)
 
   -- a run over a trace and bays that were opened: what its status says, and which one comes where no fault was counted.
-  -- Bays that aren't all fresh are answered with the first that isn't. Over fresh bays and within the limit, bytes whose
-  -- whole keys the cones take are answered with the place at which they leave the format, or with the text, and a trace of
-  -- which some cone has more keys than it takes with a full cone
+  -- Bays that aren't all fresh are answered with the first that isn't, whatever those above it do. Over fresh bays and within
+  -- the limit, bytes whose whole keys the cones take are answered with the place at which they leave the format, or with the
+  -- text, and a trace of which some cone has more keys than it takes with a full cone
   pub record HasRun (status : Status) : Type 0 where
-    pub shows : StatusShows (IsStale files bays) status
+    pub shows : StatusShows (IsStale files bays) (AreFreshBelow files bays) status
     pub number : status ≢ OutOfMemory → length bays ≡ 2 ^ settings.cone_bits
     pub fresh : is_past_freshness status ≡ true → AreFresh files bays
-    pub stale_exactly : AreFaultless bay_faults bays later → (cone : ℕ) (bay : B) → slice_get bays cone ≡ Some bay →
+    pub stale_exactly : (cone : ℕ) → AreFaultlessTo bay_faults cone bays later → (bay : B) → slice_get bays cone ≡ Some bay →
         (seen : Files) → files bay ≡ Some seen → (AreEmpty seen → ⊥) →
         ((other : ℕ) (lower : B) → other < cone → slice_get bays other ≡ Some lower → (held : Files) × (files lower ≡ Some held) × AreEmpty held) →
         (status ≡ NotFresh cone) ⊎ (status ≡ OutOfMemory)

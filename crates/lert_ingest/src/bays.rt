@@ -3,8 +3,9 @@
 ghost use Rattle.std.specs.Prelude.{◌≡◌, ◌⊎◌, ℕ, ◌^◌, ◌<◌, ◌≤◌, ◌++◌, [], ◌∷◌, length, slice_get, Some, IfOk, IfErr, OnOk};
 ghost use Rattle.std.specs.VecDeque.{deque_capacity};
 ghost use Rattle.lert_io.specs.Fault.{HasRisen};
-ghost use Rattle.lert_place.specs.Openings.{AreReturned, bay_refused, bays_opened};
-ghost use Rattle.lert_ingest.specs.Bays.{AreFresh, AreLater, AreMarked};
+ghost use Rattle.lert_place.specs.Openings.{AreReturned, AreReturnedSame, bay_refused, bays_opened};
+ghost use Rattle.lert_spec.specs.declared.numbers.Numbers.{Numbers};
+ghost use Rattle.lert_ingest.specs.Bays.{AreFresh, AreKept, AreLater, AreMarked};
 ghost use Rattle.lert_ingest.specs.Run.{IsUnmade};
 
 use crate::status::Status;
@@ -16,7 +17,7 @@ use std::alloc::Global;
 use std::collections::VecDeque;
 
 /// Opens the bays of so many cones in a directory, in ascending order. Where an opening fails, what was
-/// opened is put back, and the status is `PlaceFault`. The only other refusal is want of memory, before the
+/// opened is put back as it was, and the status is `PlaceFault`. The only other refusal is want of memory, before the
 /// first opening.
 pub fn open_bays<P: Place>(
     alloc: Global,
@@ -33,7 +34,8 @@ pub fn open_bays<P: Place>(
     ensures refused { IfErr result (λ status. ((status ≡ Status.OutOfMemory) × (place.new ≡ place.old))
         ⊎ ((status ≡ Status.PlaceFault) × HasRisen (P.faults place.old) (P.faults place.new)
         × ((number : ℕ) × (number < cones) × (P.asked place.new ≡ P.asked place.old ++ (bays_opened dir.now number ++ bay_refused dir.now number ∷ [])))
-        × AreReturned P.Bay.mark (P.handed_bays place.new) (P.returned_bay place.new))) }
+        × AreReturned P.Bay.mark (P.handed_bays place.new) (P.returned_bay place.new)
+        × AreReturnedSame (P.handed_bays place.new) (P.returned_bay place.new))) }
     ensures never_falls { P.faults place.old ≤ P.faults place.new }
     ensures traces { P.handed_traces place.new ≡ P.handed_traces place.old }
 {
@@ -70,14 +72,15 @@ pub fn put_back_bays<P: Place>(place: &mut P, mut bays: VecDeque<P::Bay>)
     bays.destroy_empty();
 }
 
-/// Looks whether the files of all bays are empty, in ascending order, up to the first that aren't.
+/// Looks whether the files of all bays are empty, in ascending order, up to the first that aren't. It changes none.
 pub fn find_stale<B: Bay>(bays: &mut VecDeque<B>) -> Result<(), Status>
     requires small { length bays.old.items < 2 ^ 32 }
     ensures room { deque_capacity bays.new ≡ deque_capacity bays.old }
     ensures later { AreLater B.files B.faults B.mark bays.old.items bays.new.items }
     ensures fresh { OnOk result (AreFresh B.files bays.old.items) }
     ensures fresh_now { OnOk result (AreFresh B.files bays.new.items) }
-    ensures unmade { IfErr result (IsUnmade B.files B.faults bays.old.items bays.new.items) }
+    ensures kept { AreKept B.files bays.old.items bays.new.items }
+    ensures unmade { IfErr result (λ status. (s : Numbers) → IsUnmade B.files B.faults s bays.old.items bays.new.items status) }
 {
     for cone in 0..bays.len() {
         match is_fresh(&mut bays[cone]) {

@@ -3,7 +3,7 @@
 ghost use Rattle.std.specs.Prelude.{◌≡◌, ℕ, ◌+◌, ◌^◌, ◌<◌, ◌≤◌, ◌++◌, [], ◌∷◌, true, false, All, length, slice_get, Some, None, IfOk, IfErr, OnOk, OnErr, vec_len, vec_capacity};
 ghost use Rattle.std.specs.VecDeque.{deque_capacity, deque_len};
 ghost use Rattle.lert_spec.specs.Limits.{IsValid};
-ghost use Rattle.lert_ingest.specs.Bays.{AreFresh, AreLater, bays_of};
+ghost use Rattle.lert_ingest.specs.Bays.{AreFresh, AreLater, AreUnused, bays_of};
 ghost use Rattle.lert_ingest.specs.Cones.{AreNew, IsNewRoom};
 ghost use Rattle.lert_ingest.specs.Run.{IsUnmade};
 ghost use Rattle.lert_ingest.specs.Status.{create_status};
@@ -32,8 +32,9 @@ pub fn make_cones<B: Bay>(
     ensures emptied { OnOk result (bays.new.items ≡ []) }
     ensures room { deque_capacity bays.new ≡ deque_capacity bays.old }
     ensures later { IfOk result (λ cones. AreLater B.files B.faults B.mark bays.old.items (bays_of cones.items)) }
+    ensures unused { IfOk result (λ cones. AreUnused B.files settings.now bays.old.items (bays_of cones.items)) }
     ensures kept { OnErr result (AreLater B.files B.faults B.mark bays.old.items bays.new.items) }
-    ensures unmade { IfErr result (IsUnmade B.files B.faults bays.old.items bays.new.items) }
+    ensures unmade { IfErr result (IsUnmade B.files B.faults settings.now bays.old.items bays.new.items) }
 {
     let mut rooms = make_rooms(alloc, settings)?;
     let Ok(mut cones) = Vec::with_capacity(alloc, settings.cones() as usize) else {
@@ -80,7 +81,8 @@ fn fill_rooms<B: Bay>(
     ensures emptied { OnOk result (bays.new.items ≡ []) }
     ensures room { deque_capacity bays.new ≡ deque_capacity bays.old }
     ensures later { AreLater B.files B.faults B.mark bays.old.items (bays_of cones.new.items ++ bays.new.items) }
-    ensures unmade { IfErr result (IsUnmade B.files B.faults bays.old.items (bays_of cones.new.items ++ bays.new.items)) }
+    ensures unused { OnOk result (AreUnused B.files settings.now bays.old.items (bays_of cones.new.items ++ bays.new.items)) }
+    ensures unmade { IfErr result (IsUnmade B.files B.faults settings.now bays.old.items (bays_of cones.new.items ++ bays.new.items)) }
 {
     for number in 0..settings.cones() {
         let Some(bay) = bays.pop_front() else {

@@ -1,14 +1,14 @@
 //! Runs over one trace.
 
-ghost use Rattle.std.specs.Prelude.{◌≡◌, ◌≢◌, ◌∷◌, ◌^◌, ◌<◌, ◌≤◌, ℕ, List, [], length, slice_get, Some, None, true};
+ghost use Rattle.std.specs.Prelude.{◌≡◌, ◌≢◌, ◌∷◌, ◌^◌, ◌<◌, ◌≤◌, ℕ, List, [], length, slice_get, Some, None, true, ⊤};
 ghost use Rattle.std.specs.VecDeque.{deque_capacity};
 ghost use Rattle.lert_io.specs.Fault.{HasRisen};
 ghost use Rattle.lert_ingest.specs.Asked.{IsAsked, IsAskedForBays};
-ghost use Rattle.lert_ingest.specs.Bays.{AreFresh, AreLater, IsStale, bays_of};
+ghost use Rattle.lert_ingest.specs.Bays.{AreFresh, AreFreshBelow, AreLater, IsStale, bays_of};
 ghost use Rattle.lert_ingest.specs.Cones.{AreNew};
 ghost use Rattle.lert_ingest.specs.Router.{IsTaking};
 ghost use Rattle.lert_ingest.specs.Run.{HasRun, StatusShows, is_past_freshness, most_keys};
-ghost use Rattle.lert_place.specs.Openings.{AreReturned};
+ghost use Rattle.lert_place.specs.Openings.{AreReturned, AreReturnedSame};
 
 use crate::bays::{find_stale, open_bays, put_back_bays};
 use crate::cones::{bring_back, make_cones};
@@ -41,10 +41,9 @@ pub fn run_line<P: Place, K: Sink>(
     out: &mut K,
 ) -> Status
     requires asked { P.asked place.old ≡ [] }
-    requires handed { P.handed_traces place.old ≡ [] }
-    requires handed_bays { P.handed_bays place.old ≡ [] }
     ensures asked { IsAsked trace.now dir.now (2 ^ settings.now.cone_bits) (P.asked place.new) result }
-    ensures place_fault { result ≡ Status.PlaceFault → HasRisen (P.faults place.old) (P.faults place.new) × (out.new ≡ out.old) }
+    ensures place_fault { result ≡ Status.PlaceFault → HasRisen (P.faults place.old) (P.faults place.new) × (out.new ≡ out.old)
+        × AreReturnedSame (P.handed_traces place.new) (P.returned_trace place.new) × AreReturnedSame (P.handed_bays place.new) (P.returned_bay place.new) }
     ensures no_usage { (rule : ℕ) → result ≡ Status.Usage rule → ⊥ }
     ensures returned { AreReturned P.Trace.mark (P.handed_traces place.new) (P.returned_trace place.new)
         × AreReturned P.Bay.mark (P.handed_bays place.new) (P.returned_bay place.new) }
@@ -75,7 +74,8 @@ fn run_trace<P: Place, K: Sink>(
 ) -> (P::Trace, Status)
     requires none { P.handed_bays place.old ≡ [] }
     ensures asked { IsAskedForBays dir.now (2 ^ settings.now.cone_bits) (P.asked place.old) (P.asked place.new) result.1 }
-    ensures place_fault { result.1 ≡ Status.PlaceFault → HasRisen (P.faults place.old) (P.faults place.new) × (out.new ≡ out.old) }
+    ensures place_fault { result.1 ≡ Status.PlaceFault → HasRisen (P.faults place.old) (P.faults place.new) × (out.new ≡ out.old)
+        × (result.0 ≡ trace) × AreReturnedSame (P.handed_bays place.new) (P.returned_bay place.new) }
     ensures returned { AreReturned P.Bay.mark (P.handed_bays place.new) (P.returned_bay place.new) }
     ensures ran { result.1 ≢ Status.PlaceFault → (backs : List P.Bay) ×
         ((cone : ℕ) → cone < length backs → P.returned_bay place.new cone ≡ slice_get backs cone)
@@ -115,7 +115,8 @@ fn run_bays<S: Source, B: Bay, K: Sink>(
     ensures later { AreLater B.files B.faults B.mark bays.old.items bays.new.items }
     ensures fresh { is_past_freshness result ≡ true → AreFresh B.files bays.old.items }
     ensures shows { StatusShows S.remaining S.faults K.taken K.faults B.files B.faults settings.now
-        reader.old.made reader.new.source out.old out.new bays.old.items bays.new.items (IsStale B.files bays.old.items) result }
+        reader.old.made reader.new.source out.old out.new bays.old.items bays.new.items
+        (IsStale B.files bays.old.items) (AreFreshBelow B.files bays.old.items) result }
     ensures mark { S.mark reader.new.source ≡ S.mark reader.old.source }
 {
     if let Err(status) = find_stale(bays) {
@@ -146,7 +147,7 @@ fn run_cones<S: Source, B: Bay, K: Sink>(
     requires made { reader.old.source ≡ reader.old.made }
     ensures later { AreLater B.files B.faults B.mark (bays_of cones.items) (bays_of result.0.items) }
     ensures shows { StatusShows S.remaining S.faults K.taken K.faults B.files B.faults settings.now
-        reader.old.made reader.new.source out.old out.new (bays_of cones.items) (bays_of result.0.items) (λ _. ⊥) result.1 }
+        reader.old.made reader.new.source out.old out.new (bays_of cones.items) (bays_of result.0.items) (λ _. ⊥) (λ _. ⊤) result.1 }
     ensures mark { S.mark reader.new.source ≡ S.mark reader.old.source }
 {
     let mut router = match Router::new(alloc, settings, cones) {
@@ -172,7 +173,7 @@ fn report<S: Source, B: Bay, K: Sink>(
     requires made { reader.old.source ≡ reader.old.made }
     ensures later { AreLater B.files B.faults B.mark (bays_of router.old.cones.items) (bays_of router.new.cones.items) }
     ensures shows { StatusShows S.remaining S.faults K.taken K.faults B.files B.faults router.old.settings
-        reader.old.made reader.new.source out.old out.new (bays_of router.old.cones.items) (bays_of router.new.cones.items) (λ _. ⊥) result }
+        reader.old.made reader.new.source out.old out.new (bays_of router.old.cones.items) (bays_of router.new.cones.items) (λ _. ⊥) (λ _. ⊤) result }
     ensures mark { S.mark reader.new.source ≡ S.mark reader.old.source }
 {
     let mut page = match Page::new(alloc) {

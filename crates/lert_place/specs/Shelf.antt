@@ -3,7 +3,6 @@ use Rattle.std.specs.Prelude.{◌≡◌, ℕ, ◌==◌, ◌&&◌, Bool, List, []
 use Rattle.std.specs.Str.{bytes_eq}
 use Rattle.lert_io.specs.Memory.{Feeding}
 use Rattle.lert_bay.specs.Memory.{Disk}
-use Rattle.lert_place.specs.declared.opening.Opening.{Opening}
 
 -- a trace under a name
 pub record NamedTrace : Type 0 where
@@ -20,15 +19,6 @@ pub record NamedBay : Type 0 where
 pub record Loans (T : Type 0) : Type 0 where
   pub handed : List T
   pub returned : List (Option T)
-
--- the traces and bays that were added, what was asked, what was handed out and came back, and the count of faults
-pub record Shelf : Type 0 where
-  pub traces : List NamedTrace
-  pub bays : List NamedBay
-  pub asked : List Opening
-  pub lent_traces : Loans Feeding
-  pub lent_bays : Loans Disk
-  pub faults : ℕ
 
 -- the first trace that was added under a name
 abbrev pub trace_named : List NamedTrace → List ℕ → Option Feeding

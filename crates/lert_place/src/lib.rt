@@ -4,6 +4,7 @@
 //! `MemPlace` meets it in memory, for tests. The top call opens what it needs at a place, and puts it back there.
 #![tactic(auto)]
 
+mod ledger;
 mod lent;
 mod mem_place;
 mod opening;

@@ -1,14 +1,14 @@
 //! A place in memory, for tests: traces and bays that were added, and what came back.
 
-ghost use Rattle.std.specs.Prelude.{◌≡◌, ◌+◌, ◌≤◌, ◌++◌, ◌∷◌, [], true, false, min, length, slice_index_or, Some, None, IfOk, IfSome, IfNone, OnOk, OnErr};
+ghost use Rattle.std.specs.Prelude.{◌≡◌, ◌+◌, ◌≤◌, ◌++◌, ◌∷◌, [], false, min, length, slice_index_or, is_ok, Some, None, IfOk, IfSome, IfNone, OnOk, OnErr};
 ghost use Rattle.lert_io.specs.Fault.{HasCause, HasRisen};
 ghost use Rattle.lert_place.specs.Shelf.{IsTraceCopy, IsBayCopy, is_of};
 
-use crate::lent::Lent;
+use crate::ledger::Ledger;
 use crate::opening::{Opening, Wanted};
 use crate::place::Place;
 use lert_bay::MemBay;
-use lert_io::{Failed, Faulty, MemSource, OutOfMemory, Seen};
+use lert_io::{Failed, Faulty, MemSource, OutOfMemory};
 use std::alloc::Global;
 use std::marker::Model;
 
@@ -61,46 +61,32 @@ pub struct MemPlace {
     alloc: Global,
     traces: Vec<NamedTrace>,
     bays: Vec<NamedBay>,
-    asked: Seen<Opening>,
-    lent_traces: Lent<MemSource>,
-    lent_bays: Lent<MemBay>,
+    ledger: Ledger<MemSource, MemBay>,
     faults: u64,
 }
 
 impl Model for MemPlace {
-    ghost use Rattle.lert_place.specs.Shelf.{Shelf};
+    ghost use Rattle.lert_place.specs.Kept.{Shelf};
 
     ghost Value = { Shelf };
 
-    ghost view = { λ p. record {
-      traces = p.traces.items;
-      bays = p.bays.items;
-      asked = p.asked;
-      lent_traces = p.lent_traces;
-      lent_bays = p.lent_bays;
-      faults = p.faults;
-    } };
+    ghost view = { λ p. record { traces = p.traces.items; bays = p.bays.items; ledger = p.ledger; faults = p.faults } };
 }
 
 impl MemPlace {
     /// A place with no trace and no bay.
     pub fn new(alloc: Global) -> Result<MemPlace, OutOfMemory>
-        ensures { IfOk result (λ place. place ≡ record {
-          traces = [];
-          bays = [];
-          asked = [];
-          lent_traces = record { handed = []; returned = [] };
-          lent_bays = record { handed = []; returned = [] };
-          faults = 0;
-        }) }
+        ensures empty { IfOk result (λ place. (place.traces ≡ []) × (place.bays ≡ [])) }
+        ensures asked { IfOk result (λ place. place.ledger.asked ≡ []) }
+        ensures traces { IfOk result (λ place. place.ledger.traces ≡ record { handed = []; returned = [] }) }
+        ensures bays { IfOk result (λ place. place.ledger.bays ≡ record { handed = []; returned = [] }) }
+        ensures faults { IfOk result (λ place. place.faults ≡ 0) }
     {
         Ok(MemPlace {
             alloc,
             traces: Vec::new(alloc),
             bays: Vec::new(alloc),
-            asked: Seen::new(),
-            lent_traces: Lent::new(alloc),
-            lent_bays: Lent::new(alloc),
+            ledger: Ledger::new(alloc),
             faults: 0,
         })
     }
@@ -129,76 +115,78 @@ impl MemPlace {
 
     /// The trace that was last put back under a number. None comes exactly where nothing was.
     pub fn trace(&self, number: u32) -> Option<&MemSource>
-        ensures some { IfSome result (λ trace. slice_index_or self.now.lent_traces.returned number None ≡ Some trace.now) }
-        ensures none { IfNone result (slice_index_or self.now.lent_traces.returned number None ≡ None) }
+        ensures some { IfSome result (λ trace. slice_index_or self.now.ledger.traces.returned number None ≡ Some trace.now) }
+        ensures none { IfNone result (slice_index_or self.now.ledger.traces.returned number None ≡ None) }
     {
-        self.lent_traces.returned(number)
+        self.ledger.traces.returned(number)
     }
 
     /// The bay that was last put back under a number. None comes exactly where nothing was.
     pub fn bay(&self, cone: u32) -> Option<&MemBay>
-        ensures some { IfSome result (λ bay. slice_index_or self.now.lent_bays.returned cone None ≡ Some bay.now) }
-        ensures none { IfNone result (slice_index_or self.now.lent_bays.returned cone None ≡ None) }
+        ensures some { IfSome result (λ bay. slice_index_or self.now.ledger.bays.returned cone None ≡ Some bay.now) }
+        ensures none { IfNone result (slice_index_or self.now.ledger.bays.returned cone None ≡ None) }
     {
-        self.lent_bays.returned(cone)
+        self.ledger.bays.returned(cone)
     }
 
     /// An opening of a trace: a copy of the first one that was added under this name, marked with its
     /// number. It fails where no trace has the name, or no memory is left for the copy.
     pub fn hand_out_trace(&mut self, name: &str) -> Result<MemSource, Failed>
-        ensures copy { IfOk result (IsTraceCopy self.old.traces name.now (length self.old.lent_traces.handed)) }
-        ensures opened { IfOk result (λ trace. self.new ≡ record self.old {
-          asked = self.old.asked ++ record { wanted = Wanted.Trace name.now; opened = true } ∷ [];
-          lent_traces = record { handed = self.old.lent_traces.handed ++ trace ∷ []; returned = self.old.lent_traces.returned ++ None ∷ [] };
+        ensures copy { IfOk result (IsTraceCopy self.old.traces name.now (length self.old.ledger.traces.handed)) }
+        ensures asked { self.new.ledger.asked ≡ self.old.ledger.asked ++ record { wanted = Wanted.Trace name.now; opened = is_ok result } ∷ [] }
+        ensures handed { IfOk result (λ trace. self.new.ledger.traces ≡ record {
+          handed = self.old.ledger.traces.handed ++ trace ∷ [];
+          returned = self.old.ledger.traces.returned ++ None ∷ [];
         }) }
-        ensures failed { OnErr result (self.new ≡ record self.old {
-          asked = self.old.asked ++ record { wanted = Wanted.Trace name.now; opened = false } ∷ [];
-          faults = min (self.old.faults + 1) 18446744073709551615;
-        }) }
+        ensures still { OnErr result (self.new.ledger.traces ≡ self.old.ledger.traces) }
+        ensures others { self.new ≡ record self.old { ledger = self.new.ledger; faults = self.new.faults } }
+        ensures bays { self.new.ledger.bays ≡ self.old.ledger.bays }
+        ensures no_fault { OnOk result (self.new.faults ≡ self.old.faults) }
+        ensures failed { OnErr result (self.new.faults ≡ min (self.old.faults + 1) 18446744073709551615) }
         ensures cause { HasCause self.old.faults self.new.faults result }
     {
         let Some(trace) = self.trace_copy(name) else {
             return Err(self.refuse(&Opening::of_trace(name, false)));
         };
-        if self.lent_traces.hand_out(&trace).is_err() {
+        if self.ledger.hand_out_trace(name, &trace).is_err() {
             return Err(self.refuse(&Opening::of_trace(name, false)));
         }
-        self.asked.push(&Opening::of_trace(name, true));
         Ok(trace)
     }
 
     /// An opening of a bay: a copy of the first one that was added for this cone in this directory, marked
     /// with its number. It fails where there is none, or no memory is left for the copy.
     pub fn hand_out_bay(&mut self, dir: &str, cone: u32) -> Result<MemBay, Failed>
-        ensures copy { IfOk result (IsBayCopy self.old.bays dir.now cone (length self.old.lent_bays.handed)) }
-        ensures opened { IfOk result (λ bay. self.new ≡ record self.old {
-          asked = self.old.asked ++ record { wanted = Wanted.Bay dir.now cone; opened = true } ∷ [];
-          lent_bays = record { handed = self.old.lent_bays.handed ++ bay ∷ []; returned = self.old.lent_bays.returned ++ None ∷ [] };
+        ensures copy { IfOk result (IsBayCopy self.old.bays dir.now cone (length self.old.ledger.bays.handed)) }
+        ensures asked { self.new.ledger.asked ≡ self.old.ledger.asked ++ record { wanted = Wanted.Bay dir.now cone; opened = is_ok result } ∷ [] }
+        ensures handed { IfOk result (λ bay. self.new.ledger.bays ≡ record {
+          handed = self.old.ledger.bays.handed ++ bay ∷ [];
+          returned = self.old.ledger.bays.returned ++ None ∷ [];
         }) }
-        ensures failed { OnErr result (self.new ≡ record self.old {
-          asked = self.old.asked ++ record { wanted = Wanted.Bay dir.now cone; opened = false } ∷ [];
-          faults = min (self.old.faults + 1) 18446744073709551615;
-        }) }
+        ensures still { OnErr result (self.new.ledger.bays ≡ self.old.ledger.bays) }
+        ensures others { self.new ≡ record self.old { ledger = self.new.ledger; faults = self.new.faults } }
+        ensures traces { self.new.ledger.traces ≡ self.old.ledger.traces }
+        ensures no_fault { OnOk result (self.new.faults ≡ self.old.faults) }
+        ensures failed { OnErr result (self.new.faults ≡ min (self.old.faults + 1) 18446744073709551615) }
         ensures cause { HasCause self.old.faults self.new.faults result }
     {
         let Some(bay) = self.bay_copy(dir, cone) else {
             return Err(self.refuse(&Opening::of_bay(dir, cone, false)));
         };
-        if self.lent_bays.hand_out(&bay).is_err() {
+        if self.ledger.hand_out_bay(dir, cone, &bay).is_err() {
             return Err(self.refuse(&Opening::of_bay(dir, cone, false)));
         }
-        self.asked.push(&Opening::of_bay(dir, cone, true));
         Ok(bay)
     }
 
     // A copy of the trace of this name, marked with the number of the next trace.
     fn trace_copy(&self, name: &str) -> Option<MemSource>
-        ensures { IfSome result (IsTraceCopy self.now.traces name.now (length self.now.lent_traces.handed)) }
+        ensures { IfSome result (IsTraceCopy self.now.traces name.now (length self.now.ledger.traces.handed)) }
     {
         for trace in &self.traces {
             if trace.name.as_str() == name {
                 let copy = trace.source.copied(self.alloc).ok()?;
-                return Some(copy.marked(u64::from(self.lent_traces.count())));
+                return Some(copy.marked(u64::from(self.ledger.traces.count())));
             }
         }
         None
@@ -206,12 +194,12 @@ impl MemPlace {
 
     // A copy of the bay of this cone in this directory, marked with the number of the next bay.
     fn bay_copy(&self, dir: &str, cone: u32) -> Option<MemBay>
-        ensures { IfSome result (IsBayCopy self.now.bays dir.now cone (length self.now.lent_bays.handed)) }
+        ensures { IfSome result (IsBayCopy self.now.bays dir.now cone (length self.now.ledger.bays.handed)) }
     {
         for bay in &self.bays {
             if bay.is_of(dir, cone) {
                 let copy = bay.bay.copied(self.alloc).ok()?;
-                return Some(copy.marked(u64::from(self.lent_bays.count())));
+                return Some(copy.marked(u64::from(self.ledger.bays.count())));
             }
         }
         None
@@ -219,14 +207,15 @@ impl MemPlace {
 
     // Notes an opening that failed, and counts it.
     fn refuse(&mut self, opening: &Opening) -> Failed
-        ensures refused { self.new ≡ record self.old {
-          asked = self.old.asked ++ opening.now ∷ [];
-          faults = min (self.old.faults + 1) 18446744073709551615;
-        } }
+        requires { opening.now.opened ≡ false }
+        ensures asked { self.new.ledger.asked ≡ self.old.ledger.asked ++ opening.now ∷ [] }
+        ensures traces { self.new.ledger.traces ≡ self.old.ledger.traces }
+        ensures bays { self.new.ledger.bays ≡ self.old.ledger.bays }
+        ensures refused { self.new ≡ record self.old { ledger = self.new.ledger; faults = min (self.old.faults + 1) 18446744073709551615 } }
         ensures counted { HasRisen self.old.faults self.new.faults }
         ensures never_falls { self.old.faults ≤ self.new.faults }
     {
-        self.asked.push(opening);
+        self.ledger.refuse(opening);
         self.faults = self.faults.saturating_add(1);
         Failed
     }
@@ -245,15 +234,19 @@ impl Place for MemPlace {
 
     ghost use Rattle.std.specs.Prelude.{slice_index_or, None};
 
-    ghost asked = { λ p. p.asked };
+    ghost asked = { λ p. p.ledger.asked };
 
-    ghost handed_traces = { λ p. p.lent_traces.handed };
+    ghost handed_traces = { λ p. p.ledger.traces.handed };
 
-    ghost handed_bays = { λ p. p.lent_bays.handed };
+    ghost handed_bays = { λ p. p.ledger.bays.handed };
 
-    ghost returned_trace = { λ p number. slice_index_or p.lent_traces.returned number None };
+    ghost returned_trace = { λ p number. slice_index_or p.ledger.traces.returned number None };
 
-    ghost returned_bay = { λ p number. slice_index_or p.lent_bays.returned number None };
+    ghost returned_bay = { λ p number. slice_index_or p.ledger.bays.returned number None };
+
+    ghost tied_traces = { λ p. p.ledger.tied_traces };
+
+    ghost tied_bays = { λ p. p.ledger.tied_bays };
 
     fn open_trace(&mut self, name: &str) -> Result<MemSource, Failed> {
         self.hand_out_trace(name)
@@ -264,10 +257,10 @@ impl Place for MemPlace {
     }
 
     fn put_back_trace(&mut self, number: u32, trace: MemSource) {
-        self.lent_traces.take_back(number, trace);
+        self.ledger.take_back_trace(number, trace);
     }
 
     fn put_back_bay(&mut self, cone: u32, bay: MemBay) {
-        self.lent_bays.take_back(cone, bay);
+        self.ledger.take_back_bay(cone, bay);
     }
 }

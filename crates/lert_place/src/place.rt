@@ -2,6 +2,7 @@
 
 ghost use Rattle.std.specs.Prelude.{◌≡◌, ◌≢◌, ℕ, ◌<◌, ◌++◌, List, [], ◌∷◌, length, Option, Some, is_ok, IfOk, OnErr};
 ghost use Rattle.lert_io.specs.Fault.{HasCause};
+ghost use Rattle.lert_place.specs.Openings.{bays_granted, traces_granted};
 
 use crate::opening::{Opening, Wanted};
 use lert_bay::Bay;
@@ -85,4 +86,10 @@ pub trait Place: Faulty {
         ensures bays { handed_bays self.new ≡ handed_bays self.old }
         ensures faults { Self.faults self.new ≡ Self.faults self.old }
         ensures mark { Self.mark self.new ≡ Self.mark self.old };
+
+    /// As many traces were handed out as openings of traces were granted.
+    ghost tied_traces: { (place : Self) → length (handed_traces place) ≡ traces_granted (asked place) };
+
+    /// As many bays were handed out as openings of bays were granted.
+    ghost tied_bays: { (place : Self) → length (handed_bays place) ≡ bays_granted (asked place) };
 }

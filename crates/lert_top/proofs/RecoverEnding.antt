@@ -1,5 +1,5 @@
 -- Which status a recovery ends with.
-use Rattle.std.proofs.Common.{◌≡◌, ◌≢◌, ◌⊎◌, ℕ, ◌^◌, ◌<◌, List, length, Option, Some, slice_get, refl, ap, ◌∙◌, subst, inl, inr, arith}
+use Rattle.std.proofs.Common.{◌≡◌, ◌≢◌, ◌⊎◌, ℕ, ◌^◌, ◌<◌, ◌≤◌, List, length, Option, Some, slice_get, refl, ap, ◌∙◌, subst, inl, inr, arith}
 use Rattle.std.proofs.lemmas.Bool.{cases_lt}
 use Rattle.std.proofs.lemmas.Option.{slice_get_within}
 use Rattle.lert_base.specs.declared.kept.Kept.{Kept}
@@ -8,8 +8,8 @@ use Rattle.lert_io.specs.Fault.{IsFaultless}
 use Rattle.lert_files.specs.Headed.{HasOther}
 use Rattle.lert_recover.specs.Replayed.{FirstLeaves}
 use Rattle.lert_spec.specs.declared.numbers.Numbers.{Numbers}
-use Rattle.lert_ingest.specs.Bays.{AreFaultless, IfHeld}
-use Rattle.lert_top.specs.Recovered.{AreSoundBelow, HasRecovered, IsUnopened, NoneIsSound, RecoveryShows}
+use Rattle.lert_ingest.specs.Bays.{AreFaultless, AreFaultlessTo, HasFailed, IfHeld}
+use Rattle.lert_top.specs.Recovered.{AreJournalsSame, AreSoundBelow, HasRecovered, IsUnopened, NoneIsSound, RecoveryShows}
 use Rattle.lert_ingest.specs.declared.status.Status.{Status}
 use Rattle.lert_ingest.specs.declared.status.Status.TheVariants.{Done, Usage, PlaceFault, TraceFault, BadTrace, TooLong, NotFresh, BayFault, CapacityFull, Malformed, OtherSettings, OutFault, OutOfMemory}
 use Rattle.lert_ingest.proofs.BayLaws.{slice_get-some}
@@ -58,15 +58,19 @@ module _ {K B : Type 0} (taken : K → Option (List ℕ)) (sink_faults : K → �
   opens (BadTrace trace at) shows none kept sound = absurd shows
   opens (TooLong trace) shows none kept sound = absurd shows
   opens (NotFresh cone) shows none kept sound = absurd shows
-  opens (BayFault cone) shows none kept sound = absurd (failed_or_not bay_faults bays later cone none shows.0)
+  opens (BayFault cone) shows none kept sound = absurd (failed_or_not bay_faults bays later cone none shows.0.0)
   opens (CapacityFull cone n len) shows none kept sound = absurd shows
   opens (Malformed cone file at) shows none kept sound = absurd (sound_or_not (length bays) cone sound shows.0.0.named shows.0.0.named shows.0.0.unsound)
   opens (OtherSettings cone) shows none kept sound = absurd (sound_or_not (length bays) cone sound shows.0.0.named shows.0.0.named shows.0.0.unsound)
   opens OutFault shows none kept sound = absurd (no_rise (sink_faults before) (sink_faults after) kept shows.0)
   opens OutOfMemory shows none kept sound = inr refl
 
-  module _ (none : AreFaultless bay_faults bays later) (cone : ℕ) (bay : B) (there : slice_get bays cone ≡ Some bay) (below : AreSoundBelow files s bays cone) (seen : Files)
+  module _ (cone : ℕ) (none : AreFaultlessTo bay_faults cone bays later) (bay : B) (there : slice_get bays cone ≡ Some bay) (below : AreSoundBelow files s bays cone) (seen : Files)
       (told : files bay ≡ Some seen) (named : cone < length bays) where
+    -- no bay up to that of the cone failed
+    none_failed : (other : ℕ) → other ≤ cone → HasFailed bay_faults bays later other → ⊥
+    none_failed other reached failed = no_rise (bay_faults failed.before) (bay_faults failed.now) (none other failed.before failed.now failed.was failed.is reached) failed.rose
+
     abbrev Answer : Status → ℕ → ℕ → Type 0
     Answer status file at = (status ≡ Malformed cone file at) ⊎ (status ≡ OutOfMemory)
 
@@ -78,7 +82,11 @@ module _ {K B : Type 0} (taken : K → Option (List ℕ)) (sink_faults : K → �
     spoiled (BadTrace trace place) shows file at leaves = absurd shows
     spoiled (TooLong trace) shows file at leaves = absurd shows
     spoiled (NotFresh other) shows file at leaves = absurd shows
-    spoiled (BayFault other) shows file at leaves = absurd (failed_or_not bay_faults bays later other none shows.0)
+    spoiled (BayFault other) shows file at leaves =
+        elim (cases_lt cone other) [
+          | inl under ↦ absurd ((shows.0.1 cone under bay there seen told).0 file at leaves)
+          | inr reached ↦ absurd (none_failed other reached shows.0.0)
+        ]
     spoiled (CapacityFull other n len) shows file at leaves = absurd shows
     spoiled (Malformed other one place) shows file at leaves =
         elim (cases_lt other cone) [
@@ -116,7 +124,11 @@ module _ {K B : Type 0} (taken : K → Option (List ℕ)) (sink_faults : K → �
     others (BadTrace trace place) shows kept other_is = absurd shows
     others (TooLong trace) shows kept other_is = absurd shows
     others (NotFresh other) shows kept other_is = absurd shows
-    others (BayFault other) shows kept other_is = absurd (failed_or_not bay_faults bays later other none shows.0)
+    others (BayFault other) shows kept other_is =
+        elim (cases_lt cone other) [
+          | inl under ↦ absurd ((shows.0.1 cone under bay there seen told).1 kept other_is)
+          | inr reached ↦ absurd (none_failed other reached shows.0.0)
+        ]
     others (CapacityFull other n len) shows kept other_is = absurd shows
     others (Malformed other one place) shows kept other_is =
         elim (cases_lt other cone) [
@@ -145,14 +157,15 @@ module _ {K B : Type 0} (taken : K → Option (List ℕ)) (sink_faults : K → �
     others OutOfMemory shows kept other_is = inr refl
 
   -- what a status shows decides which one comes
-  pub has_recovered : (status : Status) → Shows status → (status ≢ OutOfMemory → length bays ≡ 2 ^ s.cone_bits) →
+  pub has_recovered : (status : Status) → Shows status → (status ≢ OutOfMemory → length bays ≡ 2 ^ s.cone_bits) → AreJournalsSame files bays later →
       HasRecovered taken sink_faults files bay_faults s before after bays later status
-  has_recovered status shows number = record {
+  has_recovered status shows number journals = record {
     shows = shows;
     number = number;
+    journals = journals;
     opens = opens status shows;
-    spoiled_exactly = λ none cone bay there below seen told.
-        spoiled none cone bay there below seen told (slice_get_within bays cone bay there) status shows;
-    other_exactly = λ none cone bay there below seen told.
-        others none cone bay there below seen told (slice_get_within bays cone bay there) status shows;
+    spoiled_exactly = λ cone none bay there below seen told.
+        spoiled cone none bay there below seen told (slice_get_within bays cone bay there) status shows;
+    other_exactly = λ cone none bay there below seen told.
+        others cone none bay there below seen told (slice_get_within bays cone bay there) status shows;
   }

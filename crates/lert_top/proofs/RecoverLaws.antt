@@ -16,7 +16,7 @@ use Rattle.lert_recover.specs.Reopened.{IsUnsoundAt}
 use Rattle.lert_recover.specs.Replayed.{FirstLeaves}
 use Rattle.lert_reports.specs.Log.{is_closed}
 use Rattle.lert_spec.specs.declared.numbers.Numbers.{Numbers}
-use Rattle.lert_ingest.specs.Bays.{AreLater, IfHeld, bays_of}
+use Rattle.lert_ingest.specs.Bays.{AreLater, AreUntouched, IfHeld, bays_of}
 use Rattle.lert_ingest.specs.Lanes.{state_of}
 use Rattle.lert_ingest.specs.Print.{ArePrintable, printed_as}
 use Rattle.lert_top.specs.Recovered.{AreOpenOver, AreRecovered, IsOpenOver, IsRecovered, IsUnopened, LowerAreFormed, printed_for, reopen_status}
@@ -86,7 +86,8 @@ module _ {B : Type 0} (files : B → Option Files) (leaves : B → Files → Typ
         let opened = open_so_far other cone.0 cone.1 held found in
         (opened.formed seen told, opened.own seen told)
 
-    module _ (back : B) (refusal : ReopenFault) (why : WasRefused files s (length cones) bay refusal) (failed : refusal ≡ fault.Failed → HasRisen (faults bay) (faults back)) where
+    module _ (back : B) (refusal : ReopenFault) (why : WasRefused files s (length cones) bay refusal) (failed : refusal ≡ fault.Failed → HasRisen (faults bay) (faults back))
+        (untouched : AreUntouched (length cones) bays (bays_of cones ++ back ∷ rest)) where
       abbrev later : List B
       later = bays_of cones ++ back ∷ rest
 
@@ -97,7 +98,7 @@ module _ {B : Type 0} (files : B → Option Files) (leaves : B → Files → Typ
       of_bay P holds = λ other found. subst (λ b. IfTold (files b) P) (same_Some bay other (sym there ∙ found)) holds
 
       unopened_as : (f : ReopenFault) → refusal ≡ f → IsUnopened files faults s bays later (reopen_status (length cones) f)
-      unopened_as fault.Failed is = record { before = bay; now = back; was = there; is = back_there; rose = failed is }
+      unopened_as fault.Failed is = (record { before = bay; now = back; was = there; is = back_there; rose = failed is }, lower, untouched)
       unopened_as (fault.Malformed file at) is = (
         record {
           named = slice_get_within bays (length cones) bay there;
@@ -122,6 +123,7 @@ module _ {B : Type 0} (files : B → Option Files) (leaves : B → Files → Typ
           ]);
         },
         lower,
+        untouched,
       )
       unopened_as (fault.OtherSettings kept) is = (
         record {
@@ -140,6 +142,7 @@ module _ {B : Type 0} (files : B → Option Files) (leaves : B → Files → Typ
           ]);
         },
         lower,
+        untouched,
       )
       unopened_as fault.OutOfMemory is = tt
 

@@ -11,12 +11,12 @@ use Rattle.lert_files.specs.declared.fault.ReopenFault.{ReopenFault}
 use Rattle.lert_files.specs.declared.fault.ReopenFault.TheVariants as fault
 use Rattle.lert_files.specs.Headed.{HasOther}
 use Rattle.lert_recover.specs.Reopened.{IsUnsoundAt}
-use Rattle.lert_recover.specs.Replayed.{FirstLeaves}
+use Rattle.lert_recover.specs.Replayed.{FirstLeaves, IsJournalSame}
 use Rattle.lert_reports.specs.Log.{is_closed}
 use Rattle.lert_spec.specs.declared.numbers.Numbers.{Numbers}
 use Rattle.lert_spec.specs.Lines.{Printed, lines}
 use Rattle.lert_spec.specs.Look.{closing, look}
-use Rattle.lert_ingest.specs.Bays.{AreFaultless, HasFailed, IfHeld}
+use Rattle.lert_ingest.specs.Bays.{AreFaultless, AreFaultlessTo, AreUntouched, EachBay, HasFailed, IfHeld}
 use Rattle.lert_ingest.specs.Lanes.{state_of}
 use Rattle.lert_text.specs.Page.{IsCut}
 use Rattle.lert_ingest.specs.declared.status.Status.{Status}
@@ -96,7 +96,8 @@ reopen_status cone (fault.Malformed file at) = Malformed cone file at
 reopen_status cone (fault.OtherSettings kept) = OtherSettings cone
 reopen_status cone fault.OutOfMemory = OutOfMemory
 
--- why it stops, by the bays as they were opened and as they are put back
+-- Why it stops, by the bays as they were opened and as they are put back. A cone that is named is the first that isn't opened:
+-- those below it were, and the bays behind it are as they were handed out.
 abbrev pub IsUnopened : {B : Type 0} → (B → Option Files) → (B → ℕ) → Numbers → List B → List B → Status → Type 0
 IsUnopened files faults s bays later Done = ⊥
 IsUnopened files faults s bays later (Usage rule) = ⊥
@@ -105,14 +106,18 @@ IsUnopened files faults s bays later (TraceFault trace) = ⊥
 IsUnopened files faults s bays later (BadTrace trace at) = ⊥
 IsUnopened files faults s bays later (TooLong trace) = ⊥
 IsUnopened files faults s bays later (NotFresh cone) = ⊥
-IsUnopened files faults s bays later (BayFault cone) = HasFailed faults bays later cone
+IsUnopened files faults s bays later (BayFault cone) = HasFailed faults bays later cone × LowerAreFormed files s bays cone × AreUntouched cone bays later
 IsUnopened files faults s bays later (CapacityFull cone n len) = ⊥
-IsUnopened files faults s bays later (Malformed cone file at) = IsSpoiled files s bays cone file at × LowerAreFormed files s bays cone
-IsUnopened files faults s bays later (OtherSettings cone) = IsOther files s bays cone × LowerAreFormed files s bays cone
+IsUnopened files faults s bays later (Malformed cone file at) = IsSpoiled files s bays cone file at × LowerAreFormed files s bays cone × AreUntouched cone bays later
+IsUnopened files faults s bays later (OtherSettings cone) = IsOther files s bays cone × LowerAreFormed files s bays cone × AreUntouched cone bays later
 IsUnopened files faults s bays later OutFault = ⊥
 IsUnopened files faults s bays later OutOfMemory = ⊤
 
 -- ---- the whole
+
+-- the journal of each bay is as it was
+abbrev pub AreJournalsSame : {B : Type 0} → (B → Option Files) → List B → List B → Type 0
+AreJournalsSame files bays later = EachBay (λ _ before now. IsJournalSame (files before) (files now)) bays later
 
 -- all bays below a number tell files that are sound for some list
 abbrev pub AreSoundBelow : {B : Type 0} → (B → Option Files) → Numbers → List B → ℕ → Type 0
@@ -131,24 +136,26 @@ module _ {K B : Type 0} (taken : K → Option (List ℕ)) (sink_faults : K → �
   RecoveryShows (BadTrace trace at) = ⊥
   RecoveryShows (TooLong trace) = ⊥
   RecoveryShows (NotFresh cone) = ⊥
-  RecoveryShows (BayFault cone) = HasFailed bay_faults bays later cone × (after ≡ before)
+  RecoveryShows (BayFault cone) = (HasFailed bay_faults bays later cone × LowerAreFormed files s bays cone × AreUntouched cone bays later) × (after ≡ before)
   RecoveryShows (CapacityFull cone n len) = ⊥
-  RecoveryShows (Malformed cone file at) = (IsSpoiled files s bays cone file at × LowerAreFormed files s bays cone) × (after ≡ before)
-  RecoveryShows (OtherSettings cone) = (IsOther files s bays cone × LowerAreFormed files s bays cone) × (after ≡ before)
+  RecoveryShows (Malformed cone file at) = (IsSpoiled files s bays cone file at × LowerAreFormed files s bays cone × AreUntouched cone bays later) × (after ≡ before)
+  RecoveryShows (OtherSettings cone) = (IsOther files s bays cone × LowerAreFormed files s bays cone × AreUntouched cone bays later) × (after ≡ before)
   RecoveryShows OutFault = HasRisen (sink_faults before) (sink_faults after) × LowerAreFormed files s bays (length bays)
       × ((cones : List Printed) × AreRecovered files s bays later cones × IsCut (taken before) (taken after) (lines cones))
   RecoveryShows OutOfMemory = after ≡ before
 
   -- A recovery over bays that were opened: what its status says, and which one comes where no fault was counted. Bays that all
   -- tell sound files are answered with the text; and where those below a cone do, and that one's files leave their format or
-  -- begin with other numbers, with this place, or with other settings
+  -- begin with other numbers, with this place, or with other settings, whatever the bays behind it do. Whatever comes, the
+  -- journals are as they were.
   pub record HasRecovered (status : Status) : Type 0 where
     pub shows : RecoveryShows status
     pub number : status ≢ OutOfMemory → length bays ≡ 2 ^ s.cone_bits
+    pub journals : AreJournalsSame files bays later
     pub opens : AreFaultless bay_faults bays later → IsFaultless (sink_faults before) (sink_faults after) → AreSoundBelow files s bays (length bays) →
         (status ≡ Done) ⊎ (status ≡ OutOfMemory)
-    pub spoiled_exactly : AreFaultless bay_faults bays later → (cone : ℕ) (bay : B) → slice_get bays cone ≡ Some bay → AreSoundBelow files s bays cone →
+    pub spoiled_exactly : (cone : ℕ) → AreFaultlessTo bay_faults cone bays later → (bay : B) → slice_get bays cone ≡ Some bay → AreSoundBelow files s bays cone →
         IfTold (files bay) (λ seen. (file at : ℕ) → FirstLeaves s cone seen file at →
         (status ≡ Malformed cone file at) ⊎ (status ≡ OutOfMemory))
-    pub other_exactly : AreFaultless bay_faults bays later → (cone : ℕ) (bay : B) → slice_get bays cone ≡ Some bay → AreSoundBelow files s bays cone →
+    pub other_exactly : (cone : ℕ) → AreFaultlessTo bay_faults cone bays later → (bay : B) → slice_get bays cone ≡ Some bay → AreSoundBelow files s bays cone →
         IfTold (files bay) (λ seen. (kept : Kept) → HasOther s cone (seen 0) kept → (status ≡ OtherSettings cone) ⊎ (status ≡ OutOfMemory))

@@ -4,9 +4,9 @@ ghost use Rattle.std.specs.Prelude.{◌≡◌, ◌≢◌, ◌^◌, ◌<◌, ◌�
 ghost use Rattle.std.specs.VecDeque.{deque_capacity};
 ghost use Rattle.lert_io.specs.Fault.{HasRisen};
 ghost use Rattle.lert_ingest.specs.Asked.{IsAskedForBays};
-ghost use Rattle.lert_place.specs.Openings.{AreReturned};
+ghost use Rattle.lert_place.specs.Openings.{AreReturned, AreReturnedSame, bays_granted};
 ghost use Rattle.lert_ingest.specs.Bays.{AreLater};
-ghost use Rattle.lert_top.specs.Recovered.{HasRecovered, RecoveryShows};
+ghost use Rattle.lert_top.specs.Recovered.{AreJournalsSame, HasRecovered, RecoveryShows};
 
 use crate::reopened_cones::reopen_cones;
 use lert_base::Settings;
@@ -20,7 +20,7 @@ use std::collections::VecDeque;
 
 /// Opens what runs with these settings left of all cones in a directory, and prints it. It opens the bays, takes the memory of
 /// all cones, reopens these in ascending order, up to the first that is refused, prints, and puts the bays back, whatever the
-/// status. It finishes no cone. Nothing is written to the sink before all cones are open.
+/// status. It finishes no cone, and changes no journal. Nothing is written to the sink before all cones are open.
 pub fn recover_to<P: Place, K: Sink>(
     alloc: Global,
     settings: &Settings,
@@ -28,10 +28,11 @@ pub fn recover_to<P: Place, K: Sink>(
     place: &mut P,
     out: &mut K,
 ) -> Status
-    requires handed_bays { P.handed_bays place.old ≡ [] }
+    requires no_bay { bays_granted (P.asked place.old) ≡ 0 }
     // The place is asked for the bays of the cones, and for nothing else.
     ensures asked { IsAskedForBays dir.now (2 ^ settings.now.cone_bits) (P.asked place.old) (P.asked place.new) result }
-    ensures place_fault { result ≡ Status.PlaceFault → HasRisen (P.faults place.old) (P.faults place.new) × (out.new ≡ out.old) }
+    ensures place_fault { result ≡ Status.PlaceFault → HasRisen (P.faults place.old) (P.faults place.new) × (out.new ≡ out.old)
+        × AreReturnedSame (P.handed_bays place.new) (P.returned_bay place.new) }
     // What was opened is put back, whatever the status, which says what came of it.
     ensures returned { AreReturned P.Bay.mark (P.handed_bays place.new) (P.returned_bay place.new) }
     ensures recovered { result ≢ Status.PlaceFault → (backs : List P.Bay) ×
@@ -60,6 +61,7 @@ fn recover_bays<B: Bay, K: Sink>(
     requires number { length bays.old.items ≡ 2 ^ settings.now.cone_bits }
     requires room { length bays.old.items ≤ deque_capacity bays.old }
     ensures later { AreLater B.files B.faults B.mark bays.old.items bays.new.items }
+    ensures journals { AreJournalsSame B.files bays.old.items bays.new.items }
     ensures shows { RecoveryShows K.taken K.faults B.files B.faults settings.now out.old out.new bays.old.items bays.new.items result }
 {
     // Its clause says that the numbers are valid.

@@ -7,7 +7,7 @@ ghost use Rattle.lert_ingest.specs.Asked.{IsAsked, IsAskedForBays};
 ghost use Rattle.lert_ingest.specs.Bays.{AreLater};
 ghost use Rattle.lert_ingest.specs.Run.{HasRun};
 ghost use Rattle.lert_io.specs.Fault.{HasRisen};
-ghost use Rattle.lert_place.specs.Openings.{AreReturned};
+ghost use Rattle.lert_place.specs.Openings.{AreReturned, AreReturnedSame};
 ghost use Rattle.lert_top.specs.Recovered.{HasRecovered};
 
 use crate::recover::recover_to;
@@ -30,15 +30,14 @@ use std::alloc::Global;
 /// `recover` opens what runs left, as `recover_to` does.
 pub fn run<P: Place, K: Sink>(alloc: Global, words: &Words, place: &mut P, out: &mut K) -> Status
     requires asked { P.asked place.old ≡ [] }
-    requires handed { P.handed_traces place.old ≡ [] }
-    requires handed_bays { P.handed_bays place.old ≡ [] }
     // The words alone decide a usage fault. Nothing is asked or written then.
     ensures usage { (rule : ℕ) → (result ≡ Status.Usage rule) ↔ (usage words.now ≡ Some rule) }
     ensures at_usage { (rule : ℕ) → usage words.now ≡ Some rule → (place.new ≡ place.old) × (out.new ≡ out.old) }
     // Otherwise the place is asked for the line's trace, then for the bays of the cones, and for nothing else.
     ensures asked { (line : Line) (trace : ℕ) → command words.now ≡ Some line → line.task ≡ Task.Run trace → usage words.now ≡ None →
         IsAsked (word_at words.now trace) (word_at words.now line.dir) (2 ^ line.settings.cone_bits) (P.asked place.new) result }
-    ensures place_fault { result ≡ Status.PlaceFault → HasRisen (P.faults place.old) (P.faults place.new) × (out.new ≡ out.old) }
+    ensures place_fault { result ≡ Status.PlaceFault → HasRisen (P.faults place.old) (P.faults place.new) × (out.new ≡ out.old)
+        × AreReturnedSame (P.handed_traces place.new) (P.returned_trace place.new) × AreReturnedSame (P.handed_bays place.new) (P.returned_bay place.new) }
     // What was opened is put back, whatever the status, which says what came of it.
     ensures returned { usage words.now ≡ None → AreReturned P.Trace.mark (P.handed_traces place.new) (P.returned_trace place.new)
         × AreReturned P.Bay.mark (P.handed_bays place.new) (P.returned_bay place.new) }

@@ -22,6 +22,11 @@ impl Files {
         }
     }
 
+    /// Whether the files are those.
+    pub fn are(&self, other: &Files) -> bool {
+        self.journal == other.journal && self.log == other.log && self.frames == other.frames
+    }
+
     /// What the files of a bay hold.
     pub fn of_bay(alloc: Global, bay: &MemBay) -> Result<Files, OutOfMemory> {
         let mut files = Files::new(alloc);

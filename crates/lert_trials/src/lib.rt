@@ -11,5 +11,5 @@ mod traces;
 
 pub use cone_files::{Files, bay_of};
 pub use lines::{SMALL, long_form, recover_form, short_form};
-pub use runs::{Ended, Row, recover_files, run_at, run_on, run_row};
+pub use runs::{Ended, Row, recover_files, run_at, run_before_failing, run_on, run_row};
 pub use traces::{HEADER, trace, trace_with};

@@ -72,12 +72,8 @@ fn add_trace(
     trace: &[u8],
     failing_read: u64,
 ) -> Result<(), OutOfMemory>
-    requires asked { place.old.asked ≡ [] }
-    requires traces { place.old.lent_traces.handed ≡ [] }
-    requires bays { place.old.lent_bays.handed ≡ [] }
-    ensures asked { OnOk result (place.new.asked ≡ []) }
-    ensures traces { OnOk result (place.new.lent_traces.handed ≡ []) }
-    ensures bays { OnOk result (place.new.lent_bays.handed ≡ []) }
+    requires { place.old.ledger.asked ≡ [] }
+    ensures { OnOk result (place.new.ledger.asked ≡ []) }
 {
     let source = MemSource::new(alloc, trace, &calls(alloc, failing_read)?)?;
     place.add_trace("a", source)?;
@@ -86,12 +82,8 @@ fn add_trace(
 
 // Gives a place that was asked for nothing yet the empty bays of so many cones in the directory `d`.
 fn add_bays(alloc: Global, place: &mut MemPlace, cones: u32) -> Result<(), OutOfMemory>
-    requires asked { place.old.asked ≡ [] }
-    requires traces { place.old.lent_traces.handed ≡ [] }
-    requires bays { place.old.lent_bays.handed ≡ [] }
-    ensures asked { OnOk result (place.new.asked ≡ []) }
-    ensures traces { OnOk result (place.new.lent_traces.handed ≡ []) }
-    ensures bays { OnOk result (place.new.lent_bays.handed ≡ []) }
+    requires { place.old.ledger.asked ≡ [] }
+    ensures { OnOk result (place.new.ledger.asked ≡ []) }
 {
     for cone in 0..cones {
         place.add_bay("d", cone, MemBay::new(alloc)?)?;
@@ -124,9 +116,7 @@ pub fn run_at(
     place: &mut MemPlace,
     failing_write: u64,
 ) -> Result<Ended, OutOfMemory>
-    requires asked { place.old.asked ≡ [] }
-    requires traces { place.old.lent_traces.handed ≡ [] }
-    requires bays { place.old.lent_bays.handed ≡ [] }
+    requires { place.old.ledger.asked ≡ [] }
 {
     let words = words(alloc, texts)?;
     let mut out = MemSink::new(alloc, 16_384, &calls(alloc, failing_write)?)?;
@@ -143,9 +133,7 @@ pub fn run_at(
 
 // The call alone, so that what it says stands in no goal of its callers.
 fn run_words(alloc: Global, words: &Words, place: &mut MemPlace, out: &mut MemSink) -> Status
-    requires asked { place.old.asked ≡ [] }
-    requires traces { place.old.lent_traces.handed ≡ [] }
-    requires bays { place.old.lent_bays.handed ≡ [] }
+    requires { place.old.ledger.asked ≡ [] }
 {
     run(alloc, words, place, out)
 }
@@ -157,9 +145,7 @@ pub fn run_row(alloc: Global, row: &Row) -> Result<Ended, OutOfMemory> {
 }
 
 fn run_row_at(alloc: Global, row: &Row, place: &mut MemPlace) -> Result<Ended, OutOfMemory>
-    requires asked { place.old.asked ≡ [] }
-    requires traces { place.old.lent_traces.handed ≡ [] }
-    requires bays { place.old.lent_bays.handed ≡ [] }
+    requires { place.old.ledger.asked ≡ [] }
 {
     add_trace(alloc, place, row.trace, row.failing_read)?;
     add_bays(alloc, place, row.cones)?;
@@ -186,15 +172,52 @@ fn run_on_at(
     bay: MemBay,
     place: &mut MemPlace,
 ) -> Result<Ended, OutOfMemory>
-    requires asked { place.old.asked ≡ [] }
-    requires traces { place.old.lent_traces.handed ≡ [] }
-    requires bays { place.old.lent_bays.handed ≡ [] }
+    requires { place.old.ledger.asked ≡ [] }
 {
     // The bay goes first, so that no later exit has to let it go.
     place.add_bay("d", empty, bay)?;
     add_trace(alloc, place, trace, 0)?;
     add_bays(alloc, place, empty)?;
     run_at(alloc, texts, place, 0)
+}
+
+/// Runs these words, of a run or a recovery, over a trace, a bay of cone 0 that has these files, and an empty one of cone 1, of which
+/// this call fails.
+pub fn run_before_failing(
+    alloc: Global,
+    texts: &[&str],
+    trace: &[u8],
+    files: &Files,
+    failing_call: u64,
+) -> Result<Ended, OutOfMemory> {
+    let mut place = MemPlace::new(alloc)?;
+    run_before_failing_at(alloc, texts, trace, files, failing_call, &mut place)
+}
+
+fn run_before_failing_at(
+    alloc: Global,
+    texts: &[&str],
+    trace: &[u8],
+    files: &Files,
+    failing_call: u64,
+    place: &mut MemPlace,
+) -> Result<Ended, OutOfMemory>
+    requires { place.old.ledger.asked ≡ [] }
+{
+    place.add_bay("d", 0, bay_of(alloc, files)?)?;
+    add_failing_bay(alloc, place, failing_call)?;
+    add_trace(alloc, place, trace, 0)?;
+    run_at(alloc, texts, place, 0)
+}
+
+// Gives a place that was asked for nothing yet the empty bay of cone 1 in the directory `d`, of which this call fails.
+fn add_failing_bay(alloc: Global, place: &mut MemPlace, call: u64) -> Result<(), OutOfMemory>
+    requires { place.old.ledger.asked ≡ [] }
+    ensures { OnOk result (place.new.ledger.asked ≡ []) }
+{
+    let mut bay = MemBay::new(alloc)?;
+    bay.fail_at(call);
+    place.add_bay("d", 1, bay)
 }
 
 /// Runs these words, of a recovery, over a place with a bay of cone 0 that has these files.
@@ -210,9 +233,7 @@ fn recover_at(
     bay: MemBay,
     place: &mut MemPlace,
 ) -> Result<Ended, OutOfMemory>
-    requires asked { place.old.asked ≡ [] }
-    requires traces { place.old.lent_traces.handed ≡ [] }
-    requires bays { place.old.lent_bays.handed ≡ [] }
+    requires { place.old.ledger.asked ≡ [] }
 {
     place.add_bay("d", 0, bay)?;
     run_at(alloc, texts, place, 0)

@@ -5,7 +5,7 @@ use Rattle.lert_io.specs.Fault.{HasRisen}
 use Rattle.lert_place.specs.Openings.{bay_refused, bays_opened}
 use Rattle.lert_place.specs.declared.opening.Opening.{Opening}
 use Rattle.lert_place.specs.declared.opening.Wanted.TheVariants.{Bay}
-use Rattle.lert_ingest.proofs.BayLaws.{all_returned}
+use Rattle.lert_ingest.proofs.BayLaws.{all_returned, same_returned}
 use Rattle.lert_ingest.proofs.ConeLaws.{each-push}
 use Rattle.lert_ingest.proofs.bays.open_bays.Goals as goal
 
@@ -29,6 +29,8 @@ returns-in-Err-clause-refused g c =
       ),
       all_returned g.P.Bay.Faulty.mark c.loop-cone.bays.items (g.P.Place.handed_bays c.put_back_bays.new.place) (g.P.Place.returned_bay c.put_back_bays.new.place)
           (c.put_back_bays.ensures.bays ∙ (c.in-Err.ensures.refused ∙ here.opened)) c.put_back_bays.ensures.returned here.marked,
+      same_returned c.loop-cone.bays.items (g.P.Place.handed_bays c.put_back_bays.new.place) (g.P.Place.returned_bay c.put_back_bays.new.place)
+          (c.put_back_bays.ensures.bays ∙ (c.in-Err.ensures.refused ∙ here.opened)) c.put_back_bays.ensures.returned,
     )
 
 pub loop-cone-preserved : goal.loop-cone-preserved

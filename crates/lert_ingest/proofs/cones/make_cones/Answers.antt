@@ -1,5 +1,5 @@
 use Rattle.std.proofs.Common.{◌++◌, ap, sym, ◌∙◌, subst, arith, append-nil}
-use Rattle.lert_ingest.specs.Bays.{AreLater, bays_of}
+use Rattle.lert_ingest.specs.Bays.{AreLater, AreUnused, bays_of}
 use Rattle.lert_ingest.specs.Run.{IsUnmade}
 use Rattle.lert_ingest.proofs.ConeLaws.{cones_and_left}
 use Rattle.lert_ingest.proofs.cones.make_cones.Goals as goal
@@ -8,6 +8,11 @@ pub returns-in-Ok-fill_rooms-clause-later : goal.returns-in-Ok-fill_rooms-clause
 returns-in-Ok-fill_rooms-clause-later g c =
     let made = bays_of c.fill_rooms.new.cones.items in
     subst (AreLater g.B.Bay.files g.B.Faulty.faults g.B.Faulty.mark c.args.bays.now.items) (ap (λ xs. made ++ xs) c.in-Ok-fill_rooms.ensures.emptied ∙ append-nil made) c.fill_rooms.ensures.later
+
+pub returns-in-Ok-fill_rooms-clause-unused : goal.returns-in-Ok-fill_rooms-clause-unused
+returns-in-Ok-fill_rooms-clause-unused g c =
+    let made = bays_of c.fill_rooms.new.cones.items in
+    subst (AreUnused g.B.Bay.files c.args.settings.now c.args.bays.now.items) (ap (λ xs. made ++ xs) c.in-Ok-fill_rooms.ensures.emptied ∙ append-nil made) c.in-Ok-fill_rooms.ensures.unused
 
 pub bring_back-requires : goal.bring_back-requires
 bring_back-requires g c =
@@ -23,4 +28,4 @@ returns-clause-kept g c = subst (AreLater g.B.Bay.files g.B.Faulty.faults g.B.Fa
 
 pub returns-clause-unmade : goal.returns-clause-unmade
 returns-clause-unmade g c =
-    subst (λ xs. IsUnmade g.B.Bay.files g.B.Faulty.faults c.args.bays.now.items xs c.in-Err.status) (sym c.bring_back.ensures.bays) c.in-Err.ensures.unmade
+    subst (λ xs. IsUnmade g.B.Bay.files g.B.Faulty.faults c.args.settings.now c.args.bays.now.items xs c.in-Err.status) (sym c.bring_back.ensures.bays) c.in-Err.ensures.unmade

@@ -1,4 +1,4 @@
-use Rattle.std.proofs.Common.{ℕ, ◌++◌, ◌^◌, ◌≤◌, List, Some, length, map, refl, ap, sym, ◌∙◌, subst, arith}
+use Rattle.std.proofs.Common.{ℕ, ◌++◌, ◌^◌, ◌≤◌, List, Some, length, map, refl, ap, sym, ◌∙◌, subst, inl, arith}
 use Rattle.std.proofs.lemmas.List.{length-map}
 use Rattle.std.proofs.Math.Pow.{pow_mono}
 use Rattle.lert_cone.specs.Stands.{Standing}
@@ -13,9 +13,16 @@ use Rattle.lert_ingest.specs.Print.{ArePrintable, printed_as}
 use Rattle.lert_ingest.specs.Run.{ArePrinted}
 use Rattle.lert_ingest.proofs.BayLaws.{told_later}
 use Rattle.lert_ingest.proofs.ConeTexts.{printed_told}
+use Rattle.lert_ingest.proofs.EachLaws.{unused_but, unused_same}
 use Rattle.lert_ingest.proofs.Ending.{shows_stopped}
 use Rattle.lert_ingest.proofs.PrintLaws.{lanes_printed, printable}
 use Rattle.lert_ingest.proofs.runs.report.Goals as goal
+
+pub returns-in-Err-clause-shows : goal.returns-in-Err-clause-shows
+returns-in-Err-clause-shows g c =
+    let bays = bays_of c.args.router.now.cones.items in
+    let s = c.args.router.now.settings in
+    (refl, inl (c.requires.made, unused_but g.B.Bay.files s (λ _. ⊥) bays bays (unused_same g.B.Bay.files s bays)))
 
 pub returns-in-Err-read_trace-clause-shows : goal.returns-in-Err-read_trace-clause-shows
 returns-in-Err-read_trace-clause-shows g c =
@@ -51,9 +58,7 @@ returns-in-Ok-print_cones-clause-shows g c = λ bytes was.
     let within : 2 ^ s.cone_bits ≤ length bays = omega (arith, number, length-map router.cones.items (λ (cone : Standing g.row.B.Denot). cone.bay), finished.lanes.cones_number) in
     let are = subst (λ (x : Numbers). ArePrinted g.B.Bay.files x bays (whole bytes) (2 ^ x.cone_bits) cones) settings
     (subst (λ (xs : List ℕ). ArePrinted g.B.Bay.files router.settings bays xs (2 ^ router.settings.cone_bits) cones) keys all) in (
-      read,
-      c.in_default.ensures.woven bytes was,
-      λ cone named. IsTimely-closing s (part_of s cone (whole bytes)) c.requires.taking.open_is.lanes.valid (read.fits cone named),
+      (read, c.in_default.ensures.woven bytes was, λ cone named. IsTimely-closing s (part_of s cone (whole bytes)) c.requires.taking.open_is.lanes.valid (read.fits cone named)),
       λ text had.
           let written = c.in-Ok-print_cones.ensures.ok text had ∙ ap (λ (xs : List (Standing g.row.B.Denot)). Some (text ++ lines (map printed_as xs))) c.all.ensures in (
             λ told.
@@ -77,12 +82,15 @@ returns-clause-shows g c =
       λ bytes was.
           let all = lanes_printed g.B.Bay.files g.B.Bay.leaves g.B.Faulty.faults router.settings router.cones.items router.rings router.keys finished.lanes finished.drained in
           let are = subst (λ (x : Numbers). ArePrinted g.B.Bay.files x bays (whole bytes) (2 ^ x.cone_bits) cones) settings
-          (subst (λ (xs : List ℕ). ArePrinted g.B.Bay.files router.settings bays xs (2 ^ router.settings.cone_bits) cones) (c.in_default.ensures.keys bytes was) all) in (
-            c.in_default.ensures.read bytes was,
-            c.in_default.ensures.woven bytes was,
+          (subst (λ (xs : List ℕ). ArePrinted g.B.Bay.files router.settings bays xs (2 ^ router.settings.cone_bits) cones) (c.in_default.ensures.keys bytes was) all) in
+          let read = c.in_default.ensures.read bytes was in
+          let start = g.K.Sink.taken c.args.out.now in
+          let end = g.K.Sink.taken c.print_cones.new.out in
+          let cut = subst (λ (xs : List (Standing g.row.B.Denot)). IsCut start end (lines (map printed_as xs))) c.all.ensures c.in-Err-print_cones.ensures.cut in (
+            (read, c.in_default.ensures.woven bytes was, λ cone named. IsTimely-closing s (part_of s cone (whole bytes)) c.requires.taking.open_is.lanes.valid (read.fits cone named)),
             λ told.
                 let later = told_later g.B.Bay.files g.B.Faulty.faults g.B.Faulty.mark (bays_of c.args.router.now.cones.items) bays c.read_trace.ensures.later told in
-                subst (λ (ps : List Printed). IsCut (g.K.Sink.taken c.args.out.now) (g.K.Sink.taken c.print_cones.new.out) (lines ps))
-                (ap (λ (xs : List (Standing g.row.B.Denot)). map printed_as xs) c.all.ensures ∙ printed_told g.B.Bay.files s bays (whole bytes) (2 ^ s.cone_bits) cones are later within) c.in-Err-print_cones.ensures.cut,
+                subst (λ (ps : List Printed). IsCut start end (lines ps)) (printed_told g.B.Bay.files s bays (whole bytes) (2 ^ s.cone_bits) cones are later within) cut,
+            (cones, are, cut),
           ),
     )

@@ -1,17 +1,18 @@
 use Rattle.std.proofs.Common.{◌++◌, List, length, ap, sym, ◌∙◌, subst, arith, append-nil}
 use Rattle.std.proofs.lemmas.List.{length-map}
 use Rattle.lert_cone.specs.Stands.{Standing}
-use Rattle.lert_ingest.specs.Bays.{AreLater, IsStale, bays_of}
+use Rattle.lert_ingest.specs.Bays.{AreFreshBelow, AreLater, IsStale, bays_of}
 use Rattle.lert_ingest.specs.Run.{StatusShows}
 use Rattle.lert_ingest.proofs.BayLaws.{are_more}
 use Rattle.lert_ingest.proofs.ConeLaws.{unmade_before, unmade_since}
+use Rattle.lert_ingest.proofs.EachLaws.{kept_unused, unused_more}
 use Rattle.lert_ingest.proofs.Ending.{shows_since, shows_unmade}
 use Rattle.lert_ingest.proofs.runs.run_bays.Goals as goal
 
 pub returns-in-Err-clause-shows : goal.returns-in-Err-clause-shows
 returns-in-Err-clause-shows g c =
     shows_unmade {S = g.row.S.Denot} {K = g.row.K.Denot} {B = g.row.B.Denot} g.S.Source.remaining g.S.Faulty.faults g.K.Sink.taken g.K.Faulty.faults g.B.Bay.files g.B.Faulty.faults c.args.settings.now c.args.reader.now.made c.args.reader.now.source c.args.out.now c.args.bays.now.items c.find_stale.new.bays.items
-    c.requires.made c.in-Err.status c.in-Err.ensures.unmade
+    c.requires.made c.in-Err.status (c.in-Err.ensures.unmade c.args.settings.now)
 
 pub returns-in-Err-make_cones-clause-later : goal.returns-in-Err-make_cones-clause-later
 returns-in-Err-make_cones-clause-later g c =
@@ -24,7 +25,8 @@ returns-in-Err-make_cones-clause-shows g c =
     let now = c.make_cones.new.bays.items in
     shows_unmade {S = g.row.S.Denot} {K = g.row.K.Denot} {B = g.row.B.Denot} g.S.Source.remaining g.S.Faulty.faults g.K.Sink.taken g.K.Faulty.faults g.B.Bay.files g.B.Faulty.faults c.args.settings.now c.args.reader.now.made c.args.reader.now.source c.args.out.now first now
     c.requires.made c.in-Err-make_cones.status
-    (unmade_since g.B.Bay.files g.B.Faulty.faults g.B.Faulty.mark first then now c.find_stale.ensures.later c.in-Err-make_cones.ensures.kept c.in_default.ensures.fresh c.in_default.ensures.fresh_now
+    (unmade_since g.B.Bay.files g.B.Faulty.faults g.B.Faulty.mark c.args.settings.now first then now c.find_stale.ensures.later c.in-Err-make_cones.ensures.kept
+    c.find_stale.ensures.kept c.in_default.ensures.fresh c.in_default.ensures.fresh_now
     c.in-Err-make_cones.status c.in-Err-make_cones.ensures.unmade)
 
 pub returns-clause-later : goal.returns-clause-later
@@ -39,16 +41,20 @@ returns-clause-later g c =
 
 pub returns-clause-shows : goal.returns-clause-shows
 returns-clause-shows g c =
+    let s = c.args.settings.now in
     let first = c.args.bays.now.items in
     let then = c.find_stale.new.bays.items in
     let made = bays_of c.in-Ok.cones.items in
     let now = bays_of c.run_cones-cones.result.0.items in
     let back = c.bring_back.ensures.bays ∙ (ap (λ xs. now ++ xs) c.in-Ok.ensures.emptied ∙ append-nil now) in
-    subst (λ (xs : List g.row.B.Denot). StatusShows {S = g.row.S.Denot} {K = g.row.K.Denot} {B = g.row.B.Denot} g.S.Source.remaining g.S.Faulty.faults g.K.Sink.taken g.K.Faulty.faults g.B.Bay.files g.B.Faulty.faults c.args.settings.now c.args.reader.now.made c.run_cones-cones.new.reader.source c.args.out.now c.run_cones-cones.new.out
-    first xs (IsStale g.B.Bay.files first) c.run_cones-cones.result.1) (sym back)
-    (shows_since {S = g.row.S.Denot} {K = g.row.K.Denot} {B = g.row.B.Denot} g.S.Source.remaining g.S.Faulty.faults g.K.Sink.taken g.K.Faulty.faults g.B.Bay.files g.B.Faulty.faults c.args.settings.now g.B.Faulty.mark c.args.reader.now.made c.run_cones-cones.new.reader.source c.args.out.now c.run_cones-cones.new.out
-    first made now (IsStale g.B.Bay.files first) (are_more g.B.Bay.files g.B.Faulty.faults g.B.Faulty.mark first then made c.find_stale.ensures.later c.in-Ok.ensures.later) c.run_cones-cones.ensures.later
-    c.run_cones-cones.result.1 c.run_cones-cones.ensures.shows)
+    let later = are_more g.B.Bay.files g.B.Faulty.faults g.B.Faulty.mark first then made c.find_stale.ensures.later c.in-Ok.ensures.later in
+    let unused = unused_more g.B.Bay.files s first then made c.in-Ok.ensures.later.number (kept_unused g.B.Bay.files s first then c.find_stale.ensures.kept) c.in-Ok.ensures.unused in
+    subst (λ (xs : List g.row.B.Denot). StatusShows {S = g.row.S.Denot} {K = g.row.K.Denot} {B = g.row.B.Denot} g.S.Source.remaining g.S.Faulty.faults
+    g.K.Sink.taken g.K.Faulty.faults g.B.Bay.files g.B.Faulty.faults s c.args.reader.now.made c.run_cones-cones.new.reader.source c.args.out.now c.run_cones-cones.new.out
+    first xs (IsStale g.B.Bay.files first) (AreFreshBelow g.B.Bay.files first) c.run_cones-cones.result.1) (sym back)
+    (shows_since {S = g.row.S.Denot} {K = g.row.K.Denot} {B = g.row.B.Denot} g.S.Source.remaining g.S.Faulty.faults g.K.Sink.taken g.K.Faulty.faults g.B.Bay.files
+    g.B.Faulty.faults s g.B.Faulty.mark c.args.reader.now.made c.run_cones-cones.new.reader.source c.args.out.now c.run_cones-cones.new.out
+    first made now later c.run_cones-cones.ensures.later c.in_default.ensures.fresh unused c.run_cones-cones.result.1 c.run_cones-cones.ensures.shows)
 
 pub find_stale-requires : goal.find_stale-requires
 find_stale-requires g c = record { small = c.requires.small }
@@ -57,7 +63,8 @@ pub returns-in-Err-clause-later : goal.returns-in-Err-clause-later
 returns-in-Err-clause-later g c = c.find_stale.ensures.later
 
 pub returns-in-Err-clause-fresh : goal.returns-in-Err-clause-fresh
-returns-in-Err-clause-fresh g c = λ past. absurd (unmade_before g.B.Bay.files g.B.Faulty.faults c.args.bays.now.items c.find_stale.new.bays.items c.in-Err.status c.in-Err.ensures.unmade past)
+returns-in-Err-clause-fresh g c = λ past. absurd (unmade_before g.B.Bay.files g.B.Faulty.faults c.args.settings.now c.args.bays.now.items c.find_stale.new.bays.items c.in-Err.status
+    (c.in-Err.ensures.unmade c.args.settings.now) past)
 
 pub returns-in-Err-make_cones-clause-fresh : goal.returns-in-Err-make_cones-clause-fresh
 returns-in-Err-make_cones-clause-fresh g c = λ past. c.in_default.ensures.fresh

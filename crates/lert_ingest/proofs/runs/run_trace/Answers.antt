@@ -1,10 +1,11 @@
 use Rattle.std.proofs.Common.{[], List, length, refl, ap, sym, ◌∙◌, subst, arith, inl, inr, append-nil}
 use Rattle.lert_ingest.specs.declared.status.Status.{Status}
 use Rattle.lert_ingest.specs.declared.status.Status.TheVariants.{OutOfMemory}
-use Rattle.lert_ingest.specs.Bays.{AreLater, IsStale}
+use Rattle.lert_ingest.specs.Bays.{AreFreshBelow, AreLater, IsStale}
 use Rattle.lert_ingest.specs.Run.{HasRun}
 use Rattle.lert_ingest.proofs.AskedLaws.{all_back, none_returned}
 use Rattle.lert_ingest.proofs.BayLaws.{are_same, still_marked}
+use Rattle.lert_ingest.proofs.EachLaws.{unused_but, unused_same}
 use Rattle.lert_ingest.proofs.Ending.{HasRun-shows, no_memory_no_place, no_memory_no_usage, no_memory_not_done, no_place_no_usage, not_place_fault, not_usage, shows_along, true_is_false}
 use Rattle.lert_ingest.proofs.runs.run_trace.Goals as goal
 
@@ -25,7 +26,7 @@ pub returns-in-Err-clause-place_fault : goal.returns-in-Err-clause-place_fault
 returns-in-Err-clause-place_fault g c = λ is.
     elim c.in-Err.ensures.refused [
       | inl none ↦ absurd (no_memory_no_place (sym none.0 ∙ is))
-      | inr bay ↦ (bay.1, refl)
+      | inr bay ↦ (bay.1, refl, refl, bay.4)
     ]
 
 pub returns-in-Err-clause-returned : goal.returns-in-Err-clause-returned
@@ -48,7 +49,9 @@ returns-in-Err-clause-ran g c = λ differs.
             subst (λ (xs : List g.row.P-Bay.Denot). AreLater g.P.Bay.Bay.files g.P.Bay.Faulty.faults g.P.Bay.Faulty.mark xs []) (sym same) (are_same g.P.Bay.Bay.files g.P.Bay.Faulty.faults g.P.Bay.Faulty.mark []),
             subst (λ (xs : List g.row.P-Bay.Denot). HasRun {S = g.row.P-Trace.Denot} {K = g.row.K.Denot} {B = g.row.P-Bay.Denot} g.P.Trace.Source.remaining g.P.Trace.Faulty.faults g.K.Sink.taken g.K.Faulty.faults g.P.Bay.Bay.files g.P.Bay.Faulty.faults s trace trace out out xs [] c.in-Err.status) (sym same)
                 (subst (λ (st : Status). HasRun {S = g.row.P-Trace.Denot} {K = g.row.K.Denot} {B = g.row.P-Bay.Denot} g.P.Trace.Source.remaining g.P.Trace.Faulty.faults g.K.Sink.taken g.K.Faulty.faults g.P.Bay.Bay.files g.P.Bay.Faulty.faults s trace trace out out [] [] st) (sym none.0)
-                (HasRun-shows {S = g.row.P-Trace.Denot} {K = g.row.K.Denot} {B = g.row.P-Bay.Denot} g.P.Trace.Source.remaining g.P.Trace.Faulty.faults g.K.Sink.taken g.K.Faulty.faults g.P.Bay.Bay.files g.P.Bay.Faulty.faults s trace trace out out [] [] OutOfMemory (refl, inl refl) (λ other. absurd (other refl)) (λ is. absurd (true_is_false (sym is))))),
+                (HasRun-shows {S = g.row.P-Trace.Denot} {K = g.row.K.Denot} {B = g.row.P-Bay.Denot} g.P.Trace.Source.remaining g.P.Trace.Faulty.faults
+                g.K.Sink.taken g.K.Faulty.faults g.P.Bay.Bay.files g.P.Bay.Faulty.faults s trace trace out out [] [] OutOfMemory
+                (refl, inl (refl, unused_but g.P.Bay.Bay.files s (λ _. ⊥) [] [] (unused_same g.P.Bay.Bay.files s []))) (λ other. absurd (other refl)) (λ is. absurd (true_is_false (sym is))))),
           )
       | inr bay ↦ absurd (differs bay.0)
     ]
@@ -93,7 +96,9 @@ returns-clause-ran g c = λ differs.
     let now = c.run_bays-status.new.bays.items in
     let s = c.args.settings.now in
     let status = c.run_bays-status.result in
-    let shows = shows_along {S = g.row.P-Trace.Denot} {K = g.row.K.Denot} {B = g.row.P-Bay.Denot} g.P.Trace.Source.remaining g.P.Trace.Faulty.faults g.K.Sink.taken g.K.Faulty.faults g.P.Bay.Bay.files g.P.Bay.Faulty.faults s _ c.args.trace _ c.into_source.result c.args.out.now c.run_bays-status.new.out first now (IsStale g.P.Bay.Bay.files first) status
+    let shows = shows_along {S = g.row.P-Trace.Denot} {K = g.row.K.Denot} {B = g.row.P-Bay.Denot} g.P.Trace.Source.remaining g.P.Trace.Faulty.faults
+    g.K.Sink.taken g.K.Faulty.faults g.P.Bay.Bay.files g.P.Bay.Faulty.faults s _ c.args.trace _ c.into_source.result c.args.out.now c.run_bays-status.new.out first now
+    (IsStale g.P.Bay.Bay.files first) (AreFreshBelow g.P.Bay.Bay.files first) status
     (ap (λ r. r.made) c.new-reader.ensures) (sym c.into_source.ensures) c.run_bays-status.ensures.shows in (
       now,
       c.put_back_bays.ensures.returned,

@@ -5,7 +5,8 @@ use Rattle.lert_ingest.specs.Bays.{ArePartWoven, AreWoven, bays_of}
 use Rattle.lert_ingest.specs.Lanes.{closed_cones}
 use Rattle.lert_ingest.specs.Run.{AllFit, IsRefused}
 use Rattle.lert_ingest.proofs.BayLaws.{are_more}
-use Rattle.lert_ingest.proofs.LaneLaws.{lanes_fit, lanes_woven, refused_since}
+use Rattle.lert_ingest.proofs.LaneLaws.{lanes_fit, lanes_woven}
+use Rattle.lert_ingest.proofs.RefusedLaws.{refused_since}
 use Rattle.lert_ingest.proofs.Stopping.{stop_partly, stop_refused}
 use Rattle.lert_ingest.proofs.trace_keys.read_trace.Goals as goal
 

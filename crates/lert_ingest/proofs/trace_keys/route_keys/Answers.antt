@@ -1,13 +1,15 @@
 use Rattle.std.proofs.Common.{◌+◌, ◌++◌, ◌∷◌, [], List, ℕ, take, refl, ap, sym, ◌∙◌, subst, arith}
 use Rattle.lert_spec.specs.declared.numbers.Numbers.{Numbers}
 use Rattle.lert_spec.specs.Trace.{whole}
-use Rattle.lert_ingest.specs.Bays.{ArePartWoven, bays_of}
+use Rattle.lert_trace.specs.Reader.{Means}
+use Rattle.lert_ingest.specs.Bays.{AreOpenWoven, ArePartWoven, bays_of}
 use Rattle.lert_ingest.specs.Lanes.{open_cones}
-use Rattle.lert_ingest.specs.Run.{IsRefused}
+use Rattle.lert_ingest.specs.Run.{IsRefused, StopShows}
 use Rattle.lert_ingest.proofs.BayLaws.{are_more, are_same}
 use Rattle.lert_ingest.proofs.KeysRead.{take-next, take-whole}
-use Rattle.lert_ingest.proofs.LaneLaws.{lanes_partly, refused_since}
-use Rattle.lert_ingest.proofs.Stopping.{begins_taken, stop_partly, stop_refused}
+use Rattle.lert_ingest.proofs.LaneLaws.{lanes_open, lanes_partly}
+use Rattle.lert_ingest.proofs.RefusedLaws.{refused_since}
+use Rattle.lert_ingest.proofs.Stopping.{begins_taken, stop_partly, stop_refused, stopped_by}
 use Rattle.lert_ingest.proofs.trace_keys.route_keys.Goals as goal
 
 pub returns-in-Ok-None-clause-keys : goal.returns-in-Ok-None-clause-keys
@@ -34,6 +36,25 @@ returns-in-Err-clause-partly g c =
     (λ bytes was. begins_taken router.keys (whole bytes) c.loop-key.reader.given (here.keys bytes was))
     (subst (λ (s : Numbers). ArePartWoven g.B.Bay.files s (bays_of router.cones.items) router.keys) here.settings
     (lanes_partly g.B.Bay.files g.B.Bay.leaves g.B.Faulty.faults router.settings 0 open_cones router.cones.items router.rings router.keys here.taking.open_is.lanes))
+
+pub returns-in-Err-clause-stopped : goal.returns-in-Err-clause-stopped
+returns-in-Err-clause-stopped g c =
+    let here = c.loop-key.invariant in
+    let router = c.loop-key.router in
+    let s = c.args.router.now.settings in
+    let made = c.args.reader.now.made in
+    let source = c.next.new.self.source in
+    let first = bays_of c.args.router.now.cones.items in
+    let now = bays_of router.cones.items in
+    let cause = subst (λ (m : g.row.S.Denot). Means g.S.Source.remaining g.S.Faulty.faults m source c.next.new.self.limit c.next.new.self.given c.in-Err.fault)
+    (c.next.ensures.same_reader ∙ here.made) c.in-Err.ensures.cause in
+    subst (StopShows g.S.Source.remaining g.S.Faulty.faults g.B.Bay.files g.B.Faulty.faults s made source first now) (sym c.of_trace.ensures)
+    (stopped_by g.S.Source.remaining g.S.Faulty.faults g.B.Bay.files g.B.Faulty.faults s made source first now router.keys
+    (λ bytes was. begins_taken router.keys (whole bytes) c.loop-key.reader.given (here.keys bytes was))
+    c.next.new.self.limit c.next.new.self.given (c.next.ensures.same_limit ∙ here.limit)
+    (subst (λ (t : Numbers). AreOpenWoven g.B.Bay.files t 0 now router.keys) here.settings
+    (lanes_open g.B.Bay.files g.B.Bay.leaves g.B.Faulty.faults router.settings 0 open_cones router.cones.items router.rings router.keys here.taking.open_is.lanes 0
+    (omega arith) (λ cone. refl))) c.in-Err.fault cause)
 
 pub returns-in-Err-take-clause-later : goal.returns-in-Err-take-clause-later
 returns-in-Err-take-clause-later g c =

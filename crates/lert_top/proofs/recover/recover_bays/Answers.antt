@@ -7,7 +7,8 @@ use Rattle.lert_ingest.specs.Bays.{AreLater, bays_of}
 use Rattle.lert_ingest.proofs.BayLaws.{are_same}
 use Rattle.lert_text.specs.Page.{IsCut}
 use Rattle.lert_ingest.specs.Print.{ArePrintable, printed_as}
-use Rattle.lert_top.specs.Recovered.{AreRecovered}
+use Rattle.lert_top.specs.Recovered.{AreJournalsSame, AreRecovered}
+use Rattle.lert_top.proofs.JournalLaws.{journals_same}
 use Rattle.lert_top.proofs.RecoverEnding.{shows_unopened}
 use Rattle.lert_top.proofs.RecoverLaws.{all_formed, open_printable, open_recovered}
 use Rattle.lert_top.proofs.recover.recover_bays.Goals as goal
@@ -92,3 +93,21 @@ returns-clause-later g c =
     let cones = c.in-Ok-reopen_cones.cones.items in
     let back = c.bring_back.ensures.bays ∙ (ap (λ xs. bays_of cones ++ xs) c.in-Ok-reopen_cones.ensures.emptied ∙ append-nil (bays_of cones)) in
     subst (AreLater g.B.Bay.files g.B.Faulty.faults g.B.Faulty.mark c.args.bays.now.items) (sym back) c.in-Ok-reopen_cones.ensures.later
+
+pub returns-in-Err-clause-journals : goal.returns-in-Err-clause-journals
+returns-in-Err-clause-journals g c = journals_same g.B.Bay.files c.args.bays.now.items
+
+pub returns-in-Err-reopen_cones-clause-journals : goal.returns-in-Err-reopen_cones-clause-journals
+returns-in-Err-reopen_cones-clause-journals g c = c.in-Err-reopen_cones.ensures.journals_kept
+
+pub returns-in-Ok-printed-clause-journals : goal.returns-in-Ok-printed-clause-journals
+returns-in-Ok-printed-clause-journals g c =
+    let cones = c.in-Ok-reopen_cones.cones.items in
+    let back = c.bring_back.ensures.bays ∙ (ap (λ xs. bays_of cones ++ xs) c.in-Ok-reopen_cones.ensures.emptied ∙ append-nil (bays_of cones)) in
+    subst (AreJournalsSame g.B.Bay.files c.args.bays.now.items) (sym back) c.in-Ok-reopen_cones.ensures.journals
+
+pub returns-clause-journals : goal.returns-clause-journals
+returns-clause-journals g c =
+    let cones = c.in-Ok-reopen_cones.cones.items in
+    let back = c.bring_back.ensures.bays ∙ (ap (λ xs. bays_of cones ++ xs) c.in-Ok-reopen_cones.ensures.emptied ∙ append-nil (bays_of cones)) in
+    subst (AreJournalsSame g.B.Bay.files c.args.bays.now.items) (sym back) c.in-Ok-reopen_cones.ensures.journals

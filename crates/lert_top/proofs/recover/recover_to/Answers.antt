@@ -1,11 +1,13 @@
-use Rattle.std.proofs.Common.{[], List, length, refl, ap, sym, ◌∙◌, subst, arith, inl, inr, append-nil}
+use Rattle.std.proofs.Common.{◌≡◌, [], List, length, refl, ap, sym, ◌∙◌, subst, arith, inl, inr, append-nil, rules}
 use Rattle.lert_ingest.specs.declared.status.Status.{Status}
 use Rattle.lert_ingest.specs.declared.status.Status.TheVariants.{OutOfMemory}
 use Rattle.lert_ingest.specs.Bays.{AreLater}
 use Rattle.lert_top.specs.Recovered.{HasRecovered}
-use Rattle.lert_ingest.proofs.AskedLaws.{all_back, none_returned}
+use Rattle.lert_ingest.proofs.AskedLaws.{all_back, none_returned, nothing_handed}
 use Rattle.lert_ingest.proofs.BayLaws.{are_same, still_marked}
 use Rattle.lert_ingest.proofs.Ending.{no_memory_no_place, no_memory_no_usage, no_memory_not_done, no_place_no_usage}
+use Rattle.lert_place.specs.Openings.{bays_granted}
+use Rattle.lert_top.proofs.JournalLaws.{journals_same}
 use Rattle.lert_top.proofs.RecoverEnding.{has_recovered, recovery_not_place_fault, recovery_not_usage}
 use Rattle.lert_top.proofs.recover.recover_to.Goals as goal
 
@@ -26,13 +28,13 @@ pub returns-in-Err-clause-place_fault : goal.returns-in-Err-clause-place_fault
 returns-in-Err-clause-place_fault g c = λ is.
     elim c.in-Err.ensures.refused [
       | inl none ↦ absurd (no_memory_no_place (sym none.0 ∙ is))
-      | inr bay ↦ (bay.1, refl)
+      | inr bay ↦ (bay.1, refl, bay.4)
     ]
 
 pub returns-in-Err-clause-returned : goal.returns-in-Err-clause-returned
 returns-in-Err-clause-returned g c =
     elim c.in-Err.ensures.refused [
-      | inl none ↦ none_returned g.P.Bay.Faulty.mark _ _ (ap g.P.Place.handed_bays none.1 ∙ c.requires.handed_bays)
+      | inl none ↦ none_returned g.P.Bay.Faulty.mark _ _ (ap g.P.Place.handed_bays none.1 ∙ nothing_handed bays_granted (g.P.Place.asked c.args.place.now) (g.P.Place.handed_bays c.args.place.now) (g.met.P.Place.tied_bays c.args.place.now) c.requires.no_bay)
       | inr bay ↦ bay.3
     ]
 
@@ -40,7 +42,7 @@ pub returns-in-Err-clause-recovered : goal.returns-in-Err-clause-recovered
 returns-in-Err-clause-recovered g c = λ differs.
     elim c.in-Err.ensures.refused [
       | inl none ↦
-          let same = ap g.P.Place.handed_bays none.1 ∙ c.requires.handed_bays in
+          let same = ap g.P.Place.handed_bays none.1 ∙ nothing_handed bays_granted (g.P.Place.asked c.args.place.now) (g.P.Place.handed_bays c.args.place.now) (g.met.P.Place.tied_bays c.args.place.now) c.requires.no_bay in
           let out = c.args.out.now in
           let s = c.args.settings.now in (
             [],
@@ -48,7 +50,8 @@ returns-in-Err-clause-recovered g c = λ differs.
             subst (λ (xs : List g.row.P-Bay.Denot). AreLater g.P.Bay.Bay.files g.P.Bay.Faulty.faults g.P.Bay.Faulty.mark xs []) (sym same) (are_same g.P.Bay.Bay.files g.P.Bay.Faulty.faults g.P.Bay.Faulty.mark []),
             subst (λ (xs : List g.row.P-Bay.Denot). HasRecovered {K = g.row.K.Denot} {B = g.row.P-Bay.Denot} g.K.Sink.taken g.K.Faulty.faults g.P.Bay.Bay.files g.P.Bay.Faulty.faults s out out xs [] c.in-Err.status) (sym same)
                 (subst (λ (st : Status). HasRecovered {K = g.row.K.Denot} {B = g.row.P-Bay.Denot} g.K.Sink.taken g.K.Faulty.faults g.P.Bay.Bay.files g.P.Bay.Faulty.faults s out out [] [] st) (sym none.0)
-                (has_recovered {K = g.row.K.Denot} {B = g.row.P-Bay.Denot} g.K.Sink.taken g.K.Faulty.faults g.P.Bay.Bay.files g.P.Bay.Faulty.faults s out out [] [] OutOfMemory refl (λ other. absurd (other refl)))),
+                (has_recovered {K = g.row.K.Denot} {B = g.row.P-Bay.Denot} g.K.Sink.taken g.K.Faulty.faults g.P.Bay.Bay.files g.P.Bay.Faulty.faults s
+                out out [] [] OutOfMemory refl (λ other. absurd (other refl)) (journals_same g.P.Bay.Bay.files []))),
           )
       | inr bay ↦ absurd (differs bay.0)
     ]
@@ -98,7 +101,7 @@ returns-clause-recovered g c = λ differs.
       subst (λ (xs : List g.row.P-Bay.Denot). AreLater g.P.Bay.Bay.files g.P.Bay.Faulty.faults g.P.Bay.Faulty.mark xs now) (sym same) c.recover_bays-status.ensures.later,
       subst (λ (xs : List g.row.P-Bay.Denot). HasRecovered {K = g.row.K.Denot} {B = g.row.P-Bay.Denot} g.K.Sink.taken g.K.Faulty.faults g.P.Bay.Bay.files g.P.Bay.Faulty.faults s c.args.out.now c.recover_bays-status.new.out xs now status) (sym same)
           (has_recovered {K = g.row.K.Denot} {B = g.row.P-Bay.Denot} g.K.Sink.taken g.K.Faulty.faults g.P.Bay.Bay.files g.P.Bay.Faulty.faults s c.args.out.now c.recover_bays-status.new.out first now status c.recover_bays-status.ensures.shows
-          (λ other. c.in-Ok.ensures.number ∙ c.cones.ensures)),
+          (λ other. c.in-Ok.ensures.number ∙ c.cones.ensures) c.recover_bays-status.ensures.journals),
     )
 
 pub put_back_bays-requires-clause-marked : goal.put_back_bays-requires-clause-marked
@@ -119,3 +122,9 @@ recover_bays-status-requires-clause-room g c = omega (arith, c.in-Ok.ensures.num
 
 pub put_back_bays-requires-clause-handed : goal.put_back_bays-requires-clause-handed
 put_back_bays-requires-clause-handed g c = λ lifetimes outlive. c.recover_bays-status.ensures.later.number ∙ ap length (sym c.in-Ok.ensures.opened)
+
+pub open_bays-requires : goal.open_bays-requires
+open_bays-requires g c =
+    let none : g.P.Place.handed_bays c.args.place.now ≡ [] =
+    nothing_handed bays_granted (g.P.Place.asked c.args.place.now) (g.P.Place.handed_bays c.args.place.now) (g.met.P.Place.tied_bays c.args.place.now) c.requires.no_bay in
+    search rules

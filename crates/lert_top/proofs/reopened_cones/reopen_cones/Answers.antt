@@ -1,6 +1,6 @@
 use Rattle.std.proofs.Common.{◌++◌, ap, sym, ◌∙◌, subst, arith, append-nil}
 use Rattle.lert_ingest.specs.Bays.{AreLater, bays_of}
-use Rattle.lert_top.specs.Recovered.{IsUnopened}
+use Rattle.lert_top.specs.Recovered.{AreJournalsSame, IsUnopened}
 use Rattle.lert_ingest.proofs.ConeLaws.{cones_and_left}
 use Rattle.lert_top.proofs.reopened_cones.reopen_cones.Goals as goal
 
@@ -24,3 +24,11 @@ returns-clause-kept g c = subst (AreLater g.B.Bay.files g.B.Faulty.faults g.B.Fa
 pub returns-clause-unopened : goal.returns-clause-unopened
 returns-clause-unopened g c =
     subst (λ xs. IsUnopened g.B.Bay.files g.B.Faulty.faults c.args.settings.now c.args.bays.now.items xs c.in-Err.status) (sym c.bring_back.ensures.bays) c.in-Err.ensures.unopened
+
+pub returns-in-Ok-reopen_rooms-clause-journals : goal.returns-in-Ok-reopen_rooms-clause-journals
+returns-in-Ok-reopen_rooms-clause-journals g c =
+    let made = bays_of c.reopen_rooms.new.cones.items in
+    subst (AreJournalsSame g.B.Bay.files c.args.bays.now.items) (ap (λ xs. made ++ xs) c.in-Ok-reopen_rooms.ensures.emptied ∙ append-nil made) c.reopen_rooms.ensures.journals
+
+pub returns-clause-journals_kept : goal.returns-clause-journals_kept
+returns-clause-journals_kept g c = subst (AreJournalsSame g.B.Bay.files c.args.bays.now.items) (sym c.bring_back.ensures.bays) c.reopen_rooms.ensures.journals

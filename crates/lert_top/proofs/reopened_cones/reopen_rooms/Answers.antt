@@ -1,13 +1,15 @@
 use Rattle.std.proofs.Common.{◌≡◌, ℕ, ◌<◌, ◌^◌, List, ◌++◌, ◌∷◌, [], length, slice_get, Some, refl, ap, sym, ◌∙◌, subst, arith, append_assoc, length-append}
+use Rattle.std.proofs.lemmas.List.{length-map}
 use Rattle.std.proofs.lemmas.List.Elements.{All-pop}
 use Rattle.std.proofs.lemmas.Option.{same_Some, slice_get_within}
 use Rattle.lert_cone.specs.Stands.{Standing}
 use Rattle.lert_spec.specs.declared.numbers.Numbers.{Numbers}
 use Rattle.lert_ingest.specs.Bays.{AreLater, bays_of}
 use Rattle.lert_ingest.specs.Cones.{IsNewRoom}
-use Rattle.lert_top.specs.Recovered.{IsOpenOver, IsUnopened, reopen_status}
-use Rattle.lert_ingest.proofs.BayLaws.{are_same}
+use Rattle.lert_top.specs.Recovered.{AreJournalsSame, IsOpenOver, IsUnopened, reopen_status}
+use Rattle.lert_ingest.proofs.BayLaws.{are_same, slice_get-behind}
 use Rattle.lert_ingest.proofs.ConeLaws.{back_later, bay_there, call_later, each-push, made_later, none_left}
+use Rattle.lert_top.proofs.JournalLaws.{journals_back, journals_made, journals_same}
 use Rattle.lert_top.proofs.RecoverLaws.{WasRefused, open_over, unopened_by}
 use Rattle.lert_top.proofs.reopened_cones.reopen_rooms.Goals as goal
 
@@ -55,10 +57,26 @@ returns-in-Err-clause-unopened g c =
     } in
     let why_here = subst (λ (n : Numbers). WasRefused g.B.Bay.files n (length cones) bay fault) popped.1.0
     (subst (λ (n : ℕ). WasRefused g.B.Bay.files c.in-Some-pop.room.settings n bay fault) (sym here.number) why) in
-    let unopened = unopened_by g.B.Bay.files g.B.Bay.leaves g.B.Faulty.faults g.B.Faulty.mark s bays front bay rest cones there here.open_cones back fault why_here c.in-Err.ensures.failed in
+    let unopened = unopened_by g.B.Bay.files g.B.Bay.leaves g.B.Faulty.faults g.B.Faulty.mark s bays front bay rest cones there here.open_cones back fault why_here c.in-Err.ensures.failed
+    (λ other behind. let sizes = length-map cones (λ (x : Standing g.row.B.Denot). x.bay) in
+    slice_get-behind (bays_of cones) front back bay rest other (sizes ∙ sym here.split.1) (omega (arith, behind, sizes)) ∙ ap (λ xs. slice_get xs other) split) in
     subst (IsUnopened g.B.Bay.files g.B.Faulty.faults s bays (bays_of cones ++ c.push_front_reserved.new.self.items)) (sym c.status_of.ensures)
     (subst (λ xs. IsUnopened g.B.Bay.files g.B.Faulty.faults s bays xs (reopen_status c.loop-number.number fault)) (sym is)
     (subst (λ n. IsUnopened g.B.Bay.files g.B.Faulty.faults s bays (bays_of cones ++ back ∷ rest) (reopen_status n fault)) here.number unopened))
+
+pub returns-in-Err-clause-journals : goal.returns-in-Err-clause-journals
+returns-in-Err-clause-journals g c =
+    let here = c.loop-number.invariant in
+    let bays = c.args.bays.now.items in
+    let cones = c.loop-number.cones.items in
+    let rest = c.pop_front.new.self.items in
+    let back = c.in-Err.refused.bay in
+    let so_far = subst (λ xs. AreJournalsSame g.B.Bay.files bays (bays_of cones ++ xs)) c.in-Some.ensures.items here.journals in
+    subst (AreJournalsSame g.B.Bay.files bays) (ap (λ xs. bays_of cones ++ xs) (sym c.push_front_reserved.ensures.items))
+    (journals_back g.B.Bay.files bays cones c.in-Some.bay rest so_far back c.in-Err.ensures.reads)
+
+pub returns-clause-journals : goal.returns-clause-journals
+returns-clause-journals g c = c.loop-number.invariant.journals
 
 pub returns-clause-open : goal.returns-clause-open
 returns-clause-open g c = c.loop-number.invariant.open_cones
@@ -113,6 +131,8 @@ loop-number-preserved g c =
       split = (front ++ bay ∷ [], omega (arith, length-append front (bay ∷ []), number, here.split.1), append_assoc front (bay ∷ []) rest ∙ split);
       later = subst (λ xs. AreLater g.B.Bay.files g.B.Faulty.faults g.B.Faulty.mark bays (bays_of xs ++ rest)) (sym pushed)
           (made_later g.B.Bay.files g.B.Faulty.faults g.B.Faulty.mark bays front bay rest cones split here.split.1 later cone one);
+      journals = subst (λ xs. AreJournalsSame g.B.Bay.files bays (bays_of xs ++ rest)) (sym pushed)
+          (journals_made g.B.Bay.files bays cones bay rest (subst (λ xs. AreJournalsSame g.B.Bay.files bays (bays_of cones ++ xs)) items here.journals) cone c.in-Ok.ensures.reads);
       open_cones = λ place found is.
           each-push (λ (k : ℕ) (x : Standing g.row.B.Denot). (held : g.row.B.Denot) → slice_get bays k ≡ Some held → IsOpenOver g.B.Bay.files g.B.Bay.leaves g.B.Faulty.faults s k held x) cones cone here.open_cones
           (λ held at. subst (λ (b : g.row.B.Denot). IsOpenOver g.B.Bay.files g.B.Bay.leaves g.B.Faulty.faults s (length cones) b cone) (same_Some bay held (sym there ∙ at)) opened_here)
@@ -131,6 +151,7 @@ loop-number-init g c =
       split = ([], sym (ap length c.requires.none), refl);
       later = subst (λ (xs : List (Standing g.row.B.Denot)). AreLater g.B.Bay.files g.B.Faulty.faults g.B.Faulty.mark bays (bays_of xs ++ bays)) (sym c.requires.none)
           (are_same g.B.Bay.files g.B.Faulty.faults g.B.Faulty.mark bays);
+      journals = subst (λ (xs : List (Standing g.row.B.Denot)). AreJournalsSame g.B.Bay.files bays (bays_of xs ++ bays)) (sym c.requires.none) (journals_same g.B.Bay.files bays);
       open_cones = λ place cone is _ _. absurd (omega (arith, slice_get_within c.args.cones.now.items place cone is, ap length c.requires.none));
       room = refl;
       cones_room = c.requires.cones_room;

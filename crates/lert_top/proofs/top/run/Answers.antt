@@ -1,4 +1,4 @@
-use Rattle.std.proofs.Common.{◌≡◌, ◌^◌, List, ℕ, ap, sym, ◌∙◌, subst}
+use Rattle.std.proofs.Common.{◌≡◌, ◌^◌, List, ℕ, ap, sym, ◌∙◌, subst, rules}
 use Rattle.lert_args.specs.declared.line.Line.{Line}
 use Rattle.lert_args.specs.declared.line.Task.{Task}
 use Rattle.lert_args.specs.declared.line.Task.TheVariants.{Run, Recover}
@@ -7,6 +7,8 @@ use Rattle.lert_top.specs.Recovered.{HasRecovered}
 use Rattle.lert_ingest.specs.Run.{HasRun}
 use Rattle.lert_args.specs.Word.{word_at}
 use Rattle.lert_ingest.proofs.Ending.{some_is}
+use Rattle.lert_ingest.proofs.AskedLaws.{none_returned, none_returned_same, nothing_handed}
+use Rattle.lert_place.specs.Openings.{bays_granted, traces_granted}
 use Rattle.lert_args.proofs.Spelling.{places_of, word_at-slice_get}
 use Rattle.lert_top.proofs.top.run.Goals as goal
 
@@ -67,3 +69,19 @@ returns-in-Recover-clause-recovered g c = λ line spelled task sound differs.
       recovered.2,
       subst (λ (l : Line). HasRecovered {K = g.row.K.Denot} {B = g.row.P-Bay.Denot} g.K.Sink.taken g.K.Faulty.faults g.P.Bay.Bay.files g.P.Bay.Faulty.faults l.settings c.args.out.now c.recover_to.new.out (g.P.Place.handed_bays c.recover_to.new.place) recovered.0 c.recover_to.result) same recovered.3,
     )
+
+pub recover_to-requires : goal.recover_to-requires
+recover_to-requires g c =
+    let none : bays_granted (g.P.Place.asked c.args.place.now) ≡ 0 = ap bays_granted c.requires.asked in
+    search rules
+
+pub returns-in-Recover-clause-place_fault : goal.returns-in-Recover-clause-place_fault
+returns-in-Recover-clause-place_fault g c = λ is.
+    let failed = c.recover_to.ensures.place_fault is in
+    let none = nothing_handed traces_granted (g.P.Place.asked c.args.place.now) (g.P.Place.handed_traces c.args.place.now) (g.met.P.Place.tied_traces c.args.place.now) (ap traces_granted c.requires.asked) in
+    (failed.0, failed.1, none_returned_same _ _ (c.recover_to.ensures.traces ∙ none), failed.2)
+
+pub returns-in-Recover-clause-returned : goal.returns-in-Recover-clause-returned
+returns-in-Recover-clause-returned g c = λ sound.
+    let none = nothing_handed traces_granted (g.P.Place.asked c.args.place.now) (g.P.Place.handed_traces c.args.place.now) (g.met.P.Place.tied_traces c.args.place.now) (ap traces_granted c.requires.asked) in
+    (none_returned g.P.Trace.Faulty.mark _ _ (c.recover_to.ensures.traces ∙ none), c.recover_to.ensures.returned)

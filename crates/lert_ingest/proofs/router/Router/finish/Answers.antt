@@ -4,7 +4,7 @@ use Rattle.lert_spec.specs.declared.numbers.Numbers.{Numbers}
 use Rattle.lert_ingest.specs.Bays.{bays_of}
 use Rattle.lert_ingest.specs.Run.{IsRefused}
 use Rattle.lert_ingest.proofs.BayLaws.{are_more}
-use Rattle.lert_ingest.proofs.LaneLaws.{refused_since}
+use Rattle.lert_ingest.proofs.RefusedLaws.{refused_since}
 use Rattle.lert_ingest.proofs.router.Router.finish.Goals as goal
 
 pub returns-clause-later : goal.returns-clause-later

@@ -8,7 +8,8 @@ use Rattle.lert_ingest.specs.Lanes.{closed_cones}
 use Rattle.lert_ingest.specs.Run.{IsRefused}
 use Rattle.lert_ingest.specs.Status.{cone_status}
 use Rattle.lert_ingest.proofs.BayLaws.{are_more, later_cone}
-use Rattle.lert_ingest.proofs.LaneLaws.{lanes_as, lanes_finish, lanes_partly, partly_finish, refused_since, unfinished_by}
+use Rattle.lert_ingest.proofs.LaneLaws.{lanes_as, lanes_finish, lanes_partly}
+use Rattle.lert_ingest.proofs.RefusedLaws.{partly_finish, refused_since, unfinished_by}
 use Rattle.lert_ingest.proofs.router.Router.finish_cones.Goals as goal
 
 pub returns-in-Err-clause-later : goal.returns-in-Err-clause-later

@@ -10,7 +10,8 @@ use Rattle.lert_journal.specs.Payload.{IsJournaled}
 use Rattle.lert_ingest.specs.Lanes.{AreLanes, open_cones}
 use Rattle.lert_ingest.proofs.BayLaws.{later_cone}
 use Rattle.lert_ingest.proofs.ConeLaws.{call_later}
-use Rattle.lert_ingest.proofs.LaneLaws.{lane_journaled, lane_state, lanes_hand, lanes_partly, packet_with, partly_refused, refused_by}
+use Rattle.lert_ingest.proofs.LaneLaws.{lane_journaled, lane_state, lanes_hand, lanes_partly, packet_with}
+use Rattle.lert_ingest.proofs.RefusedLaws.{partly_refused, refused_by}
 use Rattle.lert_ingest.proofs.router.Router.hand_out.Goals as goal
 
 pub admit-admitted-requires : goal.admit-admitted-requires
@@ -130,7 +131,7 @@ returns-in-Err-clause-refused g c =
     refused_by g.B.Bay.files g.B.Bay.leaves g.B.Faulty.faults router.settings c.requires.taking.0 open_cones router.cones.items router.rings router.keys open_is.lanes at c.requires.named old found
     c.requires.taking.1 c.requires.some c.requires.few new c.in-Err.fault c.in-Err.ensures.stays c.in-Err.ensures.unchanged
     (λ is. ap (λ (s : Standing g.row.B.Denot). s.over) (c.in-Err.ensures.broke is) ∙ ap Some packet_is)
-    c.admit-admitted.ensures.same_cone
+    c.admit-admitted.ensures.same_cone (λ cone. refl)
     c.of_cone.result c.of_cone.ensures
     (λ same. let there = c.in-Err.ensures.closed.0 (ap Err same) in cc)
     (λ same. let there = c.in-Err.ensures.broken.0 (ap Err same) in let state_broken = ap is_broken state in cc)

@@ -4,7 +4,9 @@ use Rattle.lert_ingest.specs.Bays.{ArePartWoven, bays_of}
 use Rattle.lert_ingest.specs.Lanes.{AreShort, open_cones}
 use Rattle.lert_ingest.specs.Run.{IsRefused}
 use Rattle.lert_ingest.proofs.BayLaws.{are_more}
-use Rattle.lert_ingest.proofs.LaneLaws.{drained_more, lanes_partly, refused_since, short_emptied}
+use Rattle.lert_ingest.proofs.LaneLaws.{lanes_partly}
+use Rattle.lert_ingest.proofs.RefusedLaws.{refused_since}
+use Rattle.lert_ingest.proofs.RingLaws.{drained_more, short_emptied}
 use Rattle.lert_ingest.proofs.router.Router.hand_out_all.Goals as goal
 
 pub returns-in-Err-clause-later : goal.returns-in-Err-clause-later

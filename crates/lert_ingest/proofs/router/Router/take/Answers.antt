@@ -6,7 +6,8 @@ use Rattle.lert_buffers.specs.declared.buffers.Fill.{Fill}
 use Rattle.lert_buffers.specs.declared.buffers.Fill.TheVariants.{Low, Ready, MustGo}
 use Rattle.lert_spec.specs.declared.numbers.Numbers.{Numbers}
 use Rattle.lert_ingest.specs.Lanes.{AreShort, open_cones}
-use Rattle.lert_ingest.proofs.LaneLaws.{fill_low, fill_ready, lanes_partly, lanes_pushed, ring_pushed, short_emptied, short_pushed}
+use Rattle.lert_ingest.proofs.LaneLaws.{lanes_partly, lanes_pushed}
+use Rattle.lert_ingest.proofs.RingLaws.{fill_low, fill_ready, ring_pushed, short_emptied, short_pushed}
 use Rattle.lert_ingest.proofs.router.Router.take.Goals as goal
 
 -- a ring that is ready, or must go, isn't low
