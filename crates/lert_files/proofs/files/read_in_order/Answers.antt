@@ -91,12 +91,7 @@ returns-in_err-check g c =
     let log = c.in_ok-end.ensures in
     let restored = c.restore.ensures in
     let check = c.in_err-check.ensures in
-    let checked : OnlyReads (bays g) c.read_whole_log.new.bay c.check.new.bay _ = record {
-      kept = record { time = check.only_read.time; never_falls = check.never_falls; failed = check.failed; mark = check.mark };
-      seen = check.only_read.seen;
-      images = check.only_read.images;
-      moments = check.only_read.moments;
-    } in
+    let checked : OnlyReads (bays g) c.read_whole_log.new.bay c.check.new.bay _ = check.only_reads in
     let end = c.in_ok-end.end in
     rw p.1 (record {
       point = tt;
@@ -131,12 +126,7 @@ returns g c =
     let log = c.in_ok-end.ensures in
     let restored = c.restore.ensures in
     let check = c.in_ok-check.ensures in
-    let checked : OnlyReads (bays g) c.read_whole_log.new.bay c.check.new.bay _ = record {
-      kept = record { time = check.only_read.time; never_falls = check.never_falls; failed = check.failed; mark = check.mark };
-      seen = check.only_read.seen;
-      images = check.only_read.images;
-      moments = check.only_read.moments;
-    } in
+    let checked : OnlyReads (bays g) c.read_whole_log.new.bay c.check.new.bay _ = check.only_reads in
     let end = c.in_ok-end.end in
     let s = c.args.settings.now in
     let own = restored.settings ∙ c.requires.levels in

@@ -40,15 +40,5 @@ returns g c = record {
       let all = c.scan-result.ensures.told seen told events events_ in
       never_malformed (TookFrom g.N.Begun.start c.scan-result.new.totals.due (tallied c.args.levels.now.settings events)) c.scan-result.result all place;
   malformed = c.scan-result.ensures.malformed;
-  reads = record {
-    kept = record {
-      time = c.scan-result.ensures.only_read.time;
-      never_falls = c.scan-result.ensures.never_falls;
-      failed = c.scan-result.ensures.failed;
-      mark = c.scan-result.ensures.mark;
-    };
-    seen = c.scan-result.ensures.only_read.seen;
-    images = c.scan-result.ensures.only_read.images;
-    moments = c.scan-result.ensures.only_read.moments;
-  };
+  reads = c.scan-result.ensures.only_reads;
 }
