@@ -97,7 +97,8 @@ impl<B: Bay, T: CountTable> Cone<B, T> {
     /// Takes the packet whose record stands at this gate of the journal, and answers the next gate. None comes exactly at a
     /// closed gate with as many keys before it as the log's last record has. The keys up to that record's place are only counted
     /// again, and the others are taken as those of a packet that is admitted, with the calls of the bay that they cost there;
-    /// nothing is written to the journal. After a refusal the cone is broken, and is good for its bay alone.
+    /// nothing is written to the journal. After a refusal the cone is broken, and is good for its bay alone: files that were sound
+    /// for a list are so still, and they are as they were where no flush position lies among the record's keys.
     pub fn replay(&mut self, gate: u64) -> Result<Option<u64>, ReplayFault>
         requires replaying { self.old.state ≡ ConeState.Replaying }
         requires reach { gate ≤ 2 ^ 62 }
