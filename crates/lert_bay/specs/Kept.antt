@@ -30,11 +30,3 @@ pub record OnlyReads {B : Type 0} (bays : Bays B) (before after : B) (Failed : T
   pub seen : bays.files after ≡ bays.files before
   pub images : KeepsImages (bays.leaves before) (bays.leaves after)
   pub moments : (image : Files) → bays.left_since after (bays.moment before) image → bays.leaves before image
-
--- the calls read alone: no file and no image changed, also at no moment between
-pub record OnlyRead (files_before files_after : Option Files) (leaves_before leaves_after : Files → Type 0) (first last : ℕ)
-    (since_before since_after : ℕ → Files → Type 0) : Type 0 where
-  pub seen : files_after ≡ files_before
-  pub images : KeepsImages leaves_before leaves_after
-  pub moments : (image : Files) → since_after first image → leaves_before image
-  pub time : Lasts first last since_before since_after

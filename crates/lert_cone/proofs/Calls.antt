@@ -23,13 +23,9 @@ module _ {B : Type 0} (bays : Bays B) (lawful : IsLawful bays) where
       (bays.moment after)
       (bays.left_since before) (bays.left_since between) (bays.left_since after) one two (lawful.since_earlier after)
 
-  pub alone_rest : (kept : ℕ → ℕ → Type 0) (file : ℕ) → file ≢ 2 → (before after : B) →
-      KeepsRest kept (bays.files before) (bays.files after) (bays.leaves before) (bays.moment before) (bays.moment after) (bays.left_since before) (bays.left_since after) →
-      LeavesAlone bays file before after
-  alone_rest kept file other before after rest =
-      leaves_rest kept file other (bays.files before) (bays.files after) (bays.leaves before) (bays.leaves after) (bays.moment before) (bays.moment after) (bays.left_since before)
-      (bays.left_since after)
-      rest (now_since before after rest.time.later)
+  pub alone_rest : (kept : ℕ → ℕ → Type 0) (file : ℕ) → file ≢ 2 → (before after : B) → KeepsRest bays kept before after →
+      Lasts (bays.moment before) (bays.moment after) (bays.left_since before) (bays.left_since after) → LeavesAlone bays file before after
+  alone_rest kept file other before after rest time = leaves_rest bays kept file other before after rest time (now_since before after time.later)
 
   pub alone_others : (log file : ℕ) → file ≢ log → (before after : B) → Turns (OthersStay log) (bays.files before) (bays.files after) →
       IfTold (bays.files before) (λ seen. KeepsOthers (bays.leaves before) (bays.left_since after (bays.moment before)) seen log) →
@@ -40,9 +36,7 @@ module _ {B : Type 0} (bays : Bays B) (lawful : IsLawful bays) where
       turns keeps time (now_since before after time.later)
 
   pub alone_read : (file : ℕ) (before after : B) (Failed : Type 0) → OnlyReads bays before after Failed → LeavesAlone bays file before after
-  alone_read file before after Failed read =
-      leaves_read file (bays.files before) (bays.files after) (bays.leaves before) (bays.leaves after) (bays.moment before) (bays.moment after) (bays.left_since before) (bays.left_since after)
-      (record { seen = read.seen; images = read.images; moments = read.moments; time = read.kept.time }) (now_since before after read.kept.time.later)
+  alone_read file before after Failed read = leaves_read bays file before after Failed read (now_since before after read.kept.time.later)
 
   pub settled_alone : (file : ℕ) (before after : B) → LeavesAlone bays file before after → (old : Files) → bays.files before ≡ Some old → IsWhollySettled (bays.leaves before) old file →
       (new : Files) → bays.files after ≡ Some new → IsWhollySettled (bays.leaves after) new file

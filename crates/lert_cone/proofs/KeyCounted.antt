@@ -66,10 +66,8 @@ module _ {B : Type 0} (bays : Bays B) (lawful : IsLawful bays) (t : Tallied) (ls
         (others_young t ls levels_are valid named young_settings counted fits key tail m tail_is m_is young added (seen 2) some) seen told
         (others_frames t ls levels_are valid named young_settings counted fits key tail m tail_is m_is young added (seen 2) some)
 
-    rest_here : KeepsRest (InNamed t.listing.settings t.rows) (bays.files bay) (bays.files bay_after) (bays.leaves bay) (bays.moment bay) (bays.moment bay_after) (bays.left_since bay)
-        (bays.left_since bay_after)
-    rest_here = subst (λ (s : Numbers). KeepsRest (InNamed s t.rows) (bays.files bay) (bays.files bay_after) (bays.leaves bay) (bays.moment bay) (bays.moment bay_after) (bays.left_since bay)
-        (bays.left_since bay_after)) levels_are brings.rest
+    rest_here : KeepsRest bays (InNamed t.listing.settings t.rows) bay bay_after
+    rest_here = subst (λ (s : Numbers). KeepsRest bays (InNamed s t.rows) bay bay_after) levels_are brings.rest
 
     unflushed_here : edge t.listing.settings 0 (length t.listing.events + 1) ≡ edge t.listing.settings 0 (length t.listing.events) → bay_after ≡ bay
     unflushed_here stays = brings.unflushed (levels_stay stays)

@@ -5,6 +5,9 @@ use Rattle.std.proofs.lemmas.Bool.{false≢true, ne_eqb}
 use Rattle.std.proofs.lemmas.List.{take_all, take_more, take-append-drop}
 use Rattle.lert_base.specs.Packet.{Packet}
 use Rattle.lert_bay.specs.Files.{Files}
+use Rattle.lert_bay.specs.Images.{Lasts}
+use Rattle.lert_bay.specs.Kept.{Bays}
+use Rattle.lert_bay.proofs.KeptLaws.{IsLawful}
 use Rattle.lert_bay.specs.Settled.{Keeps, IsSettled}
 use Rattle.lert_gatelog.specs.Gated.{IsGated, next_gate}
 use Rattle.lert_gatelog.specs.Kept.{InEach, KeepsOthers, KeepsBefore, IsWhollySettled, IsWithOrWithout}
@@ -31,7 +34,7 @@ use Rattle.lert_cone.specs.Tally.{Tallied, IsCounted, IsHeld}
 use Rattle.lert_cone.proofs.LogLaws.{LogsNext, log_between, log_at_flush, payload_is}
 use Rattle.lert_cone.proofs.FlushLaws.{last_flush_grows}
 use Rattle.lert_cone.proofs.RecordLaws.{payload_is_at}
-use Rattle.lert_cone.proofs.WroteLaws.{leaves_rest, settled_through}
+use Rattle.lert_cone.proofs.Calls.{alone_rest, now_since, settled_alone}
 use Rattle.lert_cone.proofs.StepLaws.{journal_since, log_since, frames_since, sound_of, with_or_without, with_record, header_since}
 
 -- a part of the keys is taken
@@ -260,40 +263,40 @@ pub held_of : (leaves : Files → Type 0) (seen : Files) (history : List Packet)
 held_of leaves seen history t log read up = record { frames = up.frames seen read; reports = up.reports_are }
 
 -- taking a key writes no frame that the rows name
-module _ (files_before files_after : Option Files) (leaves leaves_after : Files → Type 0) (first last : ℕ) (since_before since_after : ℕ → Files → Type 0) (history : List Packet) (t : Tallied)
-    (log : LogPlace)
-    (rest : KeepsRest (InNamed t.listing.settings t.rows) files_before files_after leaves first last since_before since_after) (now : (image : Files) → leaves_after image → since_after first image)
-    (counted : IsCounted t) (still : t.listing.closed ≡ false) (seen : Files) (told : files_before ≡ Some seen) (read : leaves seen)
-    (up : IsInStep leaves seen history t.listing t.rows t.due.reports log) where
-  journal_kept : Keeps (since_after first) seen 0 0 (length (seen 0))
+module _ {B : Type 0} (bays : Bays B) (lawful : IsLawful bays) (bay bay_after : B) (history : List Packet) (t : Tallied) (log : LogPlace)
+    (rest : KeepsRest bays (InNamed t.listing.settings t.rows) bay bay_after)
+    (time : Lasts (bays.moment bay) (bays.moment bay_after) (bays.left_since bay) (bays.left_since bay_after))
+    (counted : IsCounted t) (still : t.listing.closed ≡ false) (seen : Files) (told : bays.files bay ≡ Some seen)
+    (up : IsInStep (bays.leaves bay) seen history t.listing t.rows t.due.reports log) where
+  journal_kept : Keeps (bays.left_since bay_after (bays.moment bay)) seen 0 0 (length (seen 0))
   journal_kept = rest.settled seen told 0 0 (length (seen 0)) (inl (λ same. absurd (omega (arith, same)))) up.journal_settled
 
-  log_kept : Keeps (since_after first) seen 1 0 (length (seen 1))
+  log_kept : Keeps (bays.left_since bay_after (bays.moment bay)) seen 1 0 (length (seen 1))
   log_kept = rest.settled seen told 1 0 (length (seen 1)) (inl (λ same. absurd (omega (arith, same)))) up.log_settled
 
-  frames_kept : (from to : ℕ) → InNamed t.listing.settings t.rows from to → IsSettled leaves seen 2 from to → Keeps (since_after first) seen 2 from to
+  frames_kept : (from to : ℕ) → InNamed t.listing.settings t.rows from to → IsSettled (bays.leaves bay) seen 2 from to → Keeps (bays.left_since bay_after (bays.moment bay)) seen 2 from to
   frames_kept from to named settled = rest.settled seen told 2 from to (inr named) settled
 
-  pub sound_rest : (more : List ℕ) → IsPartway t.listing.settings history t.listing.events more → (image : Files) → since_after first image → IsSound t.listing.settings t.listing.cone history image
-  sound_rest more partway = sound_here leaves (since_after first) seen history t log counted up read journal_kept log_kept frames_kept still
+  pub sound_rest : (more : List ℕ) → IsPartway t.listing.settings history t.listing.events more → (image : Files) → bays.left_since bay_after (bays.moment bay) image → IsSound t.listing.settings t.listing.cone history image
+  sound_rest more partway = sound_here (bays.leaves bay) (bays.left_since bay_after (bays.moment bay)) seen history t log counted up (lawful.as_read bay seen told) journal_kept log_kept frames_kept still
       (partway_less t.listing.settings history t.listing.events more partway)
 
-  pub taken_of : (a : Tallied) (key : ℕ) → a.listing ≡ record t.listing { events = t.listing.events ++ key ∷ [] } → (after : Files) → files_after ≡ Some after → leaves_after after →
-      InEach leaves_after 2 (HoldsBins a.listing.settings a.listing.events a.rows) → a.due.reports ≡ reports_of a.listing → IsTaken leaves_after after history t a log up.logged key
+  pub taken_of : (a : Tallied) (key : ℕ) → a.listing ≡ record t.listing { events = t.listing.events ++ key ∷ [] } → (after : Files) → bays.files bay_after ≡ Some after → bays.leaves bay_after after →
+      InEach (bays.leaves bay_after) 2 (HoldsBins a.listing.settings a.listing.events a.rows) → a.due.reports ≡ reports_of a.listing → IsTaken (bays.leaves bay_after) after history t a log up.logged key
   taken_of a key listing_is after told_after read_after frames reports = record {
     log_of = subst (λ closed. IsLogOf t.listing.settings t.listing.cone t.listing.events t.rows closed up.logged) still up.log_of;
     named_is = up.named_is;
     listing_is = listing_is;
     read = read_after;
-    journal = λ image may. journal_here leaves (since_after first) seen history t log counted up read journal_kept log_kept frames_kept image (now image may);
-    journal_settled = settled_through 0 files_before files_after leaves leaves_after first last since_before since_after
-        (leaves_rest (InNamed t.listing.settings t.rows) 0 (λ same. absurd (omega (arith, same))) files_before files_after leaves leaves_after first last since_before since_after rest now) seen
-        told up.journal_settled after told_after;
-    log_there = λ image may. log_here leaves (since_after first) seen history t log counted up read journal_kept log_kept frames_kept image (now image may);
-    log_settled = settled_through 1 files_before files_after leaves leaves_after first last since_before since_after
-        (leaves_rest (InNamed t.listing.settings t.rows) 1 (λ same. absurd (omega (arith, same))) files_before files_after leaves leaves_after first last since_before since_after rest now) seen
-        told up.log_settled after told_after;
-    frames_before = λ image may. frames_here leaves (since_after first) seen history t log counted up read journal_kept log_kept frames_kept image (now image may);
+    journal = λ image may. journal_here (bays.leaves bay) (bays.left_since bay_after (bays.moment bay)) seen history t log counted up (lawful.as_read bay seen told) journal_kept log_kept frames_kept image (now_since bays lawful bay bay_after time.later image may);
+    journal_settled = settled_alone bays lawful 0 bay bay_after
+        (alone_rest bays lawful (InNamed t.listing.settings t.rows) 0 (λ same. absurd (omega (arith, same))) bay bay_after rest time)
+        seen told up.journal_settled after told_after;
+    log_there = λ image may. log_here (bays.leaves bay) (bays.left_since bay_after (bays.moment bay)) seen history t log counted up (lawful.as_read bay seen told) journal_kept log_kept frames_kept image (now_since bays lawful bay bay_after time.later image may);
+    log_settled = settled_alone bays lawful 1 bay bay_after
+        (alone_rest bays lawful (InNamed t.listing.settings t.rows) 1 (λ same. absurd (omega (arith, same))) bay bay_after rest time)
+        seen told up.log_settled after told_after;
+    frames_before = λ image may. frames_here (bays.leaves bay) (bays.left_since bay_after (bays.moment bay)) seen history t log counted up (lawful.as_read bay seen told) journal_kept log_kept frames_kept image (now_since bays lawful bay bay_after time.later image may);
     frames = frames;
     reports_are = reports;
   }

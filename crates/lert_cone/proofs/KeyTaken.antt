@@ -40,9 +40,7 @@ module _ {B : Type 0} (bays : Bays B) (lawful : IsLawful bays) (old : Workplace 
     sound_key : IfTold (bays.files old.bay) (λ seen. (history : List Packet) → IsPartway old.counts.listing.settings history old.counts.listing.events (key ∷ []) → AreInStep bays old seen history →
         (image : Files) → bays.left_since bay (bays.moment old.bay) image → IsSound old.counts.listing.settings old.counts.listing.cone history image)
     sound_key seen told history partway up image may =
-        sound_rest (bays.files old.bay) (bays.files bay) (bays.leaves old.bay) (bays.leaves bay) (bays.moment old.bay) (bays.moment bay) (bays.left_since old.bay)
-        (bays.left_since bay) history old.counts old.log
-        did.rest (now_since bays lawful old.bay bay did.rest.time.later) can.counted can.still seen told (lawful.as_read old.bay seen told) up (key ∷ []) partway image may
+        sound_rest bays lawful old.bay bay history old.counts old.log did.rest did.kept.time can.counted can.still seen told up (key ∷ []) partway image may
 
     held : (seen : Files) → bays.files old.bay ≡ Some seen → (history : List Packet) → AreInStep bays old seen history → IsHeld old.counts seen
     held seen told history up = held_of (bays.leaves old.bay) seen history old.counts old.log (lawful.as_read old.bay seen told) up
@@ -62,7 +60,7 @@ module _ {B : Type 0} (bays : Bays B) (lawful : IsLawful bays) (old : Workplace 
     unflushed = λ passed. did.unflushed (flush_passed old.counts.listing.settings (length old.counts.listing.events) passed);
     keeps = record {
       shows = did.shows;
-      journal = alone_rest bays lawful (InNamed old.counts.listing.settings old.counts.rows) 0 (λ same. absurd (omega (arith, same))) old.bay bay did.rest;
+      journal = alone_rest bays lawful (InNamed old.counts.listing.settings old.counts.rows) 0 (λ same. absurd (omega (arith, same))) old.bay bay did.rest did.kept.time;
       most = refl;
       kept = did.kept;
     };
@@ -90,9 +88,7 @@ module _ {B : Type 0} (bays : Bays B) (lawful : IsLawful bays) (old : Workplace 
         IsTaken (bays.leaves bay) after history old.counts counts old.log up.logged key
     taken seen told history up after told_after =
         let holds = held (Ok tt) did seen told history up in
-        taken_of (bays.files old.bay) (bays.files bay) (bays.leaves old.bay) (bays.leaves bay) (bays.moment old.bay) (bays.moment bay) (bays.left_since old.bay)
-        (bays.left_since bay) history old.counts old.log
-        did.rest (now_since bays lawful old.bay bay did.rest.time.later) can.counted can.still seen told (lawful.as_read old.bay seen told) up counts key is after told_after
+        taken_of bays lawful old.bay bay history old.counts old.log did.rest did.kept.time can.counted can.still seen told up counts key is after told_after
         (lawful.as_read bay after told_after)
         (did.images seen told holds up.frames after told_after) (did.held seen told holds after told_after).reports
 
@@ -109,7 +105,7 @@ module _ {B : Type 0} (bays : Bays B) (lawful : IsLawful bays) (old : Workplace 
     can_log_then = record {
       logging = logging_kept;
       log_shut = shut_alone bays lawful 1 old.log.gate old.bay bay
-          (alone_rest bays lawful (InNamed old.counts.listing.settings old.counts.rows) 1 (λ same. absurd (omega (arith, same))) old.bay bay did.rest) can.can_log.log_shut;
+          (alone_rest bays lawful (InNamed old.counts.listing.settings old.counts.rows) 1 (λ same. absurd (omega (arith, same))) old.bay bay did.rest did.kept.time) can.can_log.log_shut;
     }
 
     -- between two flushes
@@ -134,7 +130,7 @@ module _ {B : Type 0} (bays : Bays B) (lawful : IsLawful bays) (old : Workplace 
           unflushed = λ passed. did.unflushed (flush_passed old.counts.listing.settings (length old.counts.listing.events) passed);
           keeps = record {
             shows = did.shows;
-            journal = alone_rest bays lawful (InNamed old.counts.listing.settings old.counts.rows) 0 (λ same. absurd (omega (arith, same))) old.bay bay did.rest;
+            journal = alone_rest bays lawful (InNamed old.counts.listing.settings old.counts.rows) 0 (λ same. absurd (omega (arith, same))) old.bay bay did.rest did.kept.time;
             most = refl;
             kept = did.kept;
           };
@@ -162,7 +158,7 @@ module _ {B : Type 0} (bays : Bays B) (lawful : IsLawful bays) (old : Workplace 
 
       journal_then : LeavesAlone bays 0 old.bay bay_after
       journal_then =
-          alone_on bays lawful 0 old.bay bay bay_after (alone_rest bays lawful (InNamed old.counts.listing.settings old.counts.rows) 0 (λ same. absurd (omega (arith, same))) old.bay bay did.rest)
+          alone_on bays lawful 0 old.bay bay bay_after (alone_rest bays lawful (InNamed old.counts.listing.settings old.counts.rows) 0 (λ same. absurd (omega (arith, same))) old.bay bay did.rest did.kept.time)
           (alone_others bays lawful 1 0 (λ same. absurd (omega (arith, same))) bay bay_after appends.seen appends.others appends.kept.time)
 
       -- in each image of each moment
@@ -177,7 +173,7 @@ module _ {B : Type 0} (bays : Bays B) (lawful : IsLawful bays) (old : Workplace 
           let each : InEach (bays.left_since bay_after (bays.moment bay)) 1 (IsWithOrWithout (most_record old.counts.listing.settings) 8 (map log_payload_of up.logged) old.log.gate payload) =
           λ earlier left. subst (λ (m : ℕ). IsWithOrWithout m 8 (map log_payload_of up.logged) old.log.gate payload (earlier 1)) can.can_log.logging.most
           (appends.each_moment mid.0 mid.1 8 (map log_payload_of up.logged) all earlier left) in
-          elim (appends.kept.time.known (bays.moment old.bay) image did.rest.time.later may) [
+          elim (appends.kept.time.known (bays.moment old.bay) image did.kept.time.later may) [
             | inl past ↦ sound_key (Ok tt) did seen told history partway up image past
             | inr here ↦ sound_append (bays.leaves bay) mid.0 history old.counts counts old.log up.logged key can.still can.counted did.counted taken_then moves few_here
                 (bays.left_since bay_after (bays.moment bay)) payload refl (appends.others mid.0 mid.1) (appends.before mid.0 mid.1) each partway image here

@@ -6,11 +6,11 @@ use Rattle.lert_bay.specs.Files.{Files, IfTold, Turns, Torn}
 use Rattle.lert_bay.specs.Images.{Lasts}
 use Rattle.lert_bay.specs.Settled.{part, IsSettled}
 use Rattle.lert_bay.proofs.Lasting.{lasts_none, lasts_on}
-use Rattle.lert_bay.specs.Kept.{OnlyRead}
+use Rattle.lert_bay.specs.Kept.{Bays, OnlyReads}
 use Rattle.lert_gatelog.specs.Kept.{KeepsOthers, IsWhollySettled, OthersStay}
 use Rattle.lert_gatelog.proofs.GatedLaws.{byte_of_part, part_within, closed_behind}
 use Rattle.lert_rows.specs.Landing.{KeepsRest}
-use Rattle.lert_cone.specs.Wrote.{LeavesFile, IsShutIfTold}
+use Rattle.lert_cone.specs.Wrote.{LeavesAlone, LeavesFile, IsShutIfTold}
 use Rattle.lert_cone.proofs.SoundLaws.{turns_back}
 
 -- no call
@@ -59,11 +59,10 @@ module _ (file : ℕ) (before between after : Option Files) (leaves_before leave
   }
 
 -- a flush leaves the other files alone
-pub leaves_rest : (kept : ℕ → ℕ → Type 0) (file : ℕ) → file ≢ 2 → (before after : Option Files) (leaves_before leaves_after : Files → Type 0) (first last : ℕ) (since_before since_after : ℕ →
-    Files → Type 0) →
-    KeepsRest kept before after leaves_before first last since_before since_after → ((image : Files) → leaves_after image → since_after first image) →
-    LeavesFile file before after leaves_before leaves_after first last since_before since_after
-leaves_rest kept file other before after leaves_before leaves_after first last since_before since_after rest now = record {
+pub leaves_rest : {B : Type 0} (bays : Bays B) (kept : ℕ → ℕ → Type 0) (file : ℕ) → file ≢ 2 → (before after : B) → KeepsRest bays kept before after →
+    Lasts (bays.moment before) (bays.moment after) (bays.left_since before) (bays.left_since after) →
+    ((image : Files) → bays.leaves after image → bays.left_since after (bays.moment before) image) → LeavesAlone bays file before after
+leaves_rest bays kept file other before after rest time now = record {
   seen = record {
     told = λ old is.
         let came = rest.seen.told old is in
@@ -72,7 +71,7 @@ leaves_rest kept file other before after leaves_before leaves_after first last s
   };
   settled = λ old told from to settled. rest.settled old told file from to (inl other) settled;
   now = now;
-  time = rest.time;
+  time = time;
 }
 
 -- an append to a file leaves the others alone
@@ -93,14 +92,13 @@ leaves_others log file other before after leaves_before leaves_after first last 
 }
 
 -- reads leave all files alone
-pub leaves_read : (file : ℕ) (before after : Option Files) (leaves_before leaves_after : Files → Type 0) (first last : ℕ) (since_before since_after : ℕ → Files → Type 0) →
-    OnlyRead before after leaves_before leaves_after first last since_before since_after → ((image : Files) → leaves_after image → since_after first image) →
-    LeavesFile file before after leaves_before leaves_after first last since_before since_after
-leaves_read file before after leaves_before leaves_after first last since_before since_after read now = record {
+pub leaves_read : {B : Type 0} (bays : Bays B) (file : ℕ) (before after : B) (Failed : Type 0) → OnlyReads bays before after Failed →
+    ((image : Files) → bays.leaves after image → bays.left_since after (bays.moment before) image) → LeavesAlone bays file before after
+leaves_read bays file before after Failed read now = record {
   seen = record { told = λ old is. (old, read.seen ∙ is, refl); untold = λ none. read.seen ∙ none };
   settled = λ old told from to settled image may. settled.same image (read.moments image may);
   now = now;
-  time = read.time;
+  time = read.kept.time;
 }
 
 -- ---- a gate

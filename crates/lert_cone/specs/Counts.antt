@@ -38,8 +38,7 @@ pub record Flushes {B : Type 0} (bays : Bays B) (start : Dues) (m : ℕ) (bay ba
   pub malformed : IfTold (bays.files bay) (λ seen. (at : ℕ) → IsErrOf result (Malformed at) → OneBreaks levels.settings levels.rows (seen FRAMES) at)
   pub unwritten : (at : ℕ) → IsErrOf result (Malformed at) → bays.files bay_after ≡ bays.files bay
   pub durable : OnOk result (IfTold (bays.files bay_after) (λ seen. (image : Files) → bays.leaves bay_after image → image FRAMES ≡ seen FRAMES))
-  pub rest : KeepsRest (InNamed levels.settings levels.rows) (bays.files bay) (bays.files bay_after) (bays.leaves bay) (bays.moment bay) (bays.moment bay_after) (bays.left_since bay)
-      (bays.left_since bay_after)
+  pub rest : KeepsRest bays (InNamed levels.settings levels.rows) bay bay_after
   pub kept : KeepsBay bays bay bay_after (IsErrOf result FlushFailed)
 
 -- The totals come to the reports that the event at position m brings, which level 0 has, its tail being this one: the levels
@@ -68,8 +67,7 @@ pub record Brings {B : Type 0} (bays : Bays B) (start : Dues) (m tail : ℕ) (ba
   pub are : OnOk result (AreRows levels.settings levels.rows → AreRows levels.settings levels_after.rows)
   pub still : edge levels.settings 0 m ≡ edge levels.settings 0 (m - 1) → OnOk result (levels_after.rows ≡ levels.rows)
   pub unflushed : edge levels.settings 0 m ≡ edge levels.settings 0 (m - 1) → bay_after ≡ bay
-  pub rest : KeepsRest (InNamed levels.settings levels.rows) (bays.files bay) (bays.files bay_after) (bays.leaves bay) (bays.moment bay) (bays.moment bay_after) (bays.left_since bay)
-      (bays.left_since bay_after)
+  pub rest : KeepsRest bays (InNamed levels.settings levels.rows) bay bay_after
   pub kept : KeepsBay bays bay bay_after (IsErrOf result FlushFailed)
 
 -- all levels are scanned, with the reports as the taker of the totals
@@ -103,8 +101,7 @@ pub record CountsKey {B : Type 0} (bays : Bays B) (key : ℕ) (bay bay_after : B
   pub whole : IfTold (bays.files bay) (λ seen. HoldsSome old.listing.settings (length old.listing.events) old.rows (seen FRAMES) → (at : ℕ) → result ≢ Err (Unsound FRAMES at))
   pub images : IfTold (bays.files bay) (λ seen. IsHeld old seen → InEach (bays.leaves bay) FRAMES (HoldsBins old.listing.settings old.listing.events old.rows) →
       OnOk result (IfTold (bays.files bay_after) (λ _. InEach (bays.leaves bay_after) FRAMES (HoldsBins new.listing.settings new.listing.events new.rows))))
-  pub rest : KeepsRest (InNamed old.listing.settings old.rows) (bays.files bay) (bays.files bay_after) (bays.leaves bay) (bays.moment bay) (bays.moment bay_after) (bays.left_since bay)
-      (bays.left_since bay_after)
+  pub rest : KeepsRest bays (InNamed old.listing.settings old.rows) bay bay_after
   pub kept : KeepsBay bays bay bay_after (IsErrOf result Failed)
 
 -- All levels are scanned, and the reports listed that are left. It writes nothing.

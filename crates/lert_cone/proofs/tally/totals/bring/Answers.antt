@@ -2,6 +2,8 @@ use Rattle.std.proofs.Common.{◌≡◌, ◌≢◌, ℕ, ◌+◌, ◌<◌, List,
 use Rattle.std.proofs.lemmas.List.Elements.{All-nil}
 use Rattle.std.proofs.lemmas.Option.{same_Some}
 use Rattle.lert_bay.specs.Files.{Files}
+use Rattle.lert_bay.specs.Kept.{Bays}
+use Rattle.lert_bay.proofs.KeptLaws.{IsLawful}
 use Rattle.lert_bay.proofs.Lasting.{lasts_none}
 use Rattle.lert_spec.specs.declared.numbers.Numbers.{Numbers}
 use Rattle.lert_spec.specs.declared.piece.Piece.{Piece}
@@ -17,7 +19,14 @@ use Rattle.lert_rows.proofs.RowLaws.{IsAt-moved, AreRows-moved}
 use Rattle.lert_cone.specs.Due.{TookFrom}
 use Rattle.lert_cone.proofs.TallyLaws.{edge_still, young_total, flush_total, rows_still, flush_moves, dropped_edge, dropped_bins}
 use Rattle.lert_cone.proofs.TotalLaws.{edge_within}
+use Rattle.lert_cone.proofs.tally.totals.bring.Given as given
 use Rattle.lert_cone.proofs.tally.totals.bring.Goals as goal
+
+abbrev bays : (g : given.Over) → Bays g.row.B.Denot
+bays g = record { faults = g.B.Faulty.faults; mark = g.B.Faulty.mark; files = g.B.Bay.files; leaves = g.B.Bay.leaves; moment = g.B.Bay.moment; left_since = g.B.Bay.left_since }
+
+lawful : (g : given.Over) → IsLawful (bays g)
+lawful g = record { as_read = g.met.B.Bay.as_read; since_now = g.met.B.Bay.since_now; only_now = g.met.B.Bay.only_now; since_earlier = g.met.B.Bay.since_earlier }
 
 shallow : (found m : ℕ) (now s : Numbers) → found ≡ depth now m → now ≡ s → found ≡ 0 → depth s m ≡ 0
 shallow found m now s value same none = ap (λ (t : Numbers). depth t m) (sym same) ∙ sym value ∙ none
@@ -55,8 +64,7 @@ returns-then-depth-eq0 g c = record {
   are = λ are. are;
   still = λ stays. refl;
   unflushed = λ stays. refl;
-  rest = rest_none (InNamed c.args.levels.now.settings c.args.levels.now.rows) (g.B.Bay.files c.args.bay.now) (g.B.Bay.leaves c.args.bay.now) (g.B.Bay.moment c.args.bay.now)
-      (g.B.Bay.left_since c.args.bay.now) (g.met.B.Bay.only_now c.args.bay.now);
+  rest = rest_none (bays g) (lawful g) (InNamed c.args.levels.now.settings c.args.levels.now.rows) c.args.bay.now;
   kept = record {
     time = lasts_none (g.B.Bay.moment c.args.bay.now) (g.B.Bay.left_since c.args.bay.now);
     never_falls = omega arith;

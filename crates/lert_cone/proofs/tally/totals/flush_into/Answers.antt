@@ -74,10 +74,5 @@ returns g c = record {
   unwritten = c.flush-result.ensures.unwritten;
   durable = c.flush-result.ensures.durable;
   rest = c.flush-result.ensures.rest;
-  kept = record {
-    time = c.flush-result.ensures.rest.time;
-    never_falls = c.flush-result.ensures.never_falls;
-    failed = c.flush-result.ensures.failed;
-    mark = c.flush-result.ensures.mark;
-  };
+  kept = c.flush-result.ensures.kept;
 }
