@@ -21,8 +21,11 @@ pub trait CountTable: Drop {
     /// At most so many events.
     ghost room: { Self → ℕ };
 
-    /// Tails have so many bits.
-    ghost tail_bits: { Self → ℕ };
+    /// A tail's quotient has so many bits.
+    ghost quotient_bits: { Self → ℕ };
+
+    /// And its remainder so many.
+    ghost width: { Self → ℕ };
 
     /// The cursor was started on this table, and the table is as it was then.
     ghost stands: { Self → Self.Cursor → Type 0 };
@@ -30,25 +33,27 @@ pub trait CountTable: Drop {
     /// The pieces that the cursor has still to give.
     ghost left: { Self → Self.Cursor → List Piece };
 
-    /// An empty table for tails of `quotient_bits + width` bits and at most `events` events.
-    fn new(alloc: Global, quotient_bits: u32, width: u32, events: u64) -> Result<Self, OutOfMemory>
-        requires least_quotient { 6 ≤ quotient_bits }
-        requires most_quotient { quotient_bits ≤ 39 }
-        requires least_width { 8 ≤ width }
-        requires most_width { width ≤ 58 }
+    /// An empty table for at most `events` events, of tails with `quotient` bits above the last `remainder` bits.
+    fn new(alloc: Global, quotient: u32, remainder: u32, events: u64) -> Result<Self, OutOfMemory>
+        requires least_quotient { 6 ≤ quotient }
+        requires most_quotient { quotient ≤ 39 }
+        requires least_width { 8 ≤ remainder }
+        requires most_width { remainder ≤ 58 }
         requires events { events ≤ 2 ^ 39 }
         ensures empty { IfOk result (λ t. pieces t ≡ []) }
         ensures room { IfOk result (λ t. room t ≡ events) }
-        ensures tail_bits { IfOk result (λ t. tail_bits t ≡ quotient_bits + width) };
+        ensures quotient_bits { IfOk result (λ t. quotient_bits t ≡ quotient) }
+        ensures width { IfOk result (λ t. width t ≡ remainder) };
 
     /// Raises the count of `tail` by `n`.
     fn add(&mut self, tail: u64, n: u64)
         requires positive { 1 ≤ n }
         requires has_room { total (pieces self.old) + n ≤ room self.old }
-        requires below { tail < 2 ^ tail_bits self.old }
+        requires below { tail < 2 ^ (quotient_bits self.old + width self.old) }
         ensures pieces { pieces self.new ≡ plus (pieces self.old) tail n }
         ensures room { room self.new ≡ room self.old }
-        ensures tail_bits { tail_bits self.new ≡ tail_bits self.old };
+        ensures quotient_bits { quotient_bits self.new ≡ quotient_bits self.old }
+        ensures width { width self.new ≡ width self.old };
 
     /// How often `tail` was added, 0 where it is absent.
     fn count(&self, tail: u64) -> u64
@@ -59,17 +64,18 @@ pub trait CountTable: Drop {
         ensures sum { result ≡ total (pieces self.now) }
         ensures in_room { result ≤ room self.now };
 
-    /// Empties the table; room and width stay.
+    /// Empties the table. Its room and the bits of its tails stay.
     fn clear(&mut self)
         ensures pieces { pieces self.new ≡ [] }
         ensures room { room self.new ≡ room self.old }
-        ensures tail_bits { tail_bits self.new ≡ tail_bits self.old };
+        ensures quotient_bits { quotient_bits self.new ≡ quotient_bits self.old }
+        ensures width { width self.new ≡ width self.old };
 
     /// A cursor before the first piece.
     fn start(&self) -> Self::Cursor
         ensures stands { stands self.now result }
         ensures left { left self.now result ≡ pieces self.now }
-        ensures ascending { IsTable (2 ^ tail_bits self.now) (pieces self.now) };
+        ensures ascending { IsTable (2 ^ (quotient_bits self.now + width self.now)) (pieces self.now) };
 
     /// The next piece in ascending tails.
     fn step(&self, cursor: &mut Self::Cursor) -> Option<Piece>

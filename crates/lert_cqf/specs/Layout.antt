@@ -36,12 +36,17 @@ homes_from n at (r ∷ rs) = replicate (r.0 - at) false ++ true ∷ homes_from n
 abbrev pub slot_count : ℕ → ℕ → ℕ
 slot_count quotient_bits events = 2 ^ quotient_bits + 2 * events
 
-abbrev pub slots_of : ℕ → ℕ → ℕ → List Piece → List ℕ
-slots_of quotient_bits width events table = cells 0 (slot_count quotient_bits events) (texts width (by_quotient width table))
+-- what a table shows of itself
+pub record Layout : Type 0 where
+  pub slots : List ℕ
+  pub occupied : List Bool
+  pub run_ends : List Bool
 
-abbrev pub run_ends_of : ℕ → ℕ → ℕ → List Piece → List Bool
-run_ends_of quotient_bits width events table =
-    cells false (slot_count quotient_bits events) (marked_ends (texts width (by_quotient width table)))
-
-abbrev pub occupied_of : ℕ → ℕ → List Piece → List Bool
-occupied_of quotient_bits width table = homes_from (2 ^ quotient_bits) 0 (by_quotient width table)
+-- a table with so many bits of quotient and remainder and such a room, laid out anew from its pieces: each run at its
+-- quotient, or right behind the run before it where that reaches further; 0 and false where no run stands
+abbrev pub layout : ℕ → ℕ → ℕ → List Piece → Layout
+layout quotient_bits width room pieces = record {
+  slots = cells 0 (slot_count quotient_bits room) (texts width (by_quotient width pieces));
+  occupied = homes_from (2 ^ quotient_bits) 0 (by_quotient width pieces);
+  run_ends = cells false (slot_count quotient_bits room) (marked_ends (texts width (by_quotient width pieces)));
+}

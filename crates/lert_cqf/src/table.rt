@@ -1,7 +1,7 @@
 //! The table.
 
-ghost use Rattle.std.specs.Prelude.{◌≡◌, ℕ, ◌+◌, ◌/◌, ◌%◌, ◌^◌, ◌<◌, ◌≤◌, List, [], Bool, true, false, drop};
-ghost use Rattle.lert_cqf.specs.Layout.{slots_of, run_ends_of, occupied_of};
+ghost use Rattle.std.specs.Prelude.{◌≡◌, ℕ, ◌+◌, ◌*◌, ◌/◌, ◌%◌, ◌^◌, ◌<◌, ◌≤◌, List, [], Bool, true, false, drop, length};
+ghost use Rattle.lert_cqf.specs.Layout.{layout};
 ghost use Rattle.lert_cqf.specs.Standing.{Stands, IsInRun};
 
 use crate::cursor::CqfCursor;
@@ -51,21 +51,27 @@ impl Model for Cqf {
 impl Cqf {
     /// The slots, with 0 where no run stands.
     pub fn slots(&self) -> &[u64]
-        ensures { result.now ≡ slots_of self.now.quotient_bits self.now.width self.now.room self.now.pieces }
+        ensures laid { result.now ≡
+            (layout self.now.quotient_bits self.now.width self.now.room self.now.pieces).slots }
+        ensures count { length result.now ≡ 2 ^ self.now.quotient_bits + 2 * self.now.room }
     {
         &self.rows.slots
     }
 
     /// The quotients that occur.
     pub fn occupied(&self) -> &Bits
-        ensures { result.now ≡ occupied_of self.now.quotient_bits self.now.width self.now.pieces }
+        ensures laid { result.now ≡
+            (layout self.now.quotient_bits self.now.width self.now.room self.now.pieces).occupied }
+        ensures count { length result.now ≡ 2 ^ self.now.quotient_bits }
     {
         &self.rows.occupied
     }
 
     /// The last slot of each run.
     pub fn run_ends(&self) -> &Bits
-        ensures { result.now ≡ run_ends_of self.now.quotient_bits self.now.width self.now.room self.now.pieces }
+        ensures laid { result.now ≡
+            (layout self.now.quotient_bits self.now.width self.now.room self.now.pieces).run_ends }
+        ensures count { length result.now ≡ 2 ^ self.now.quotient_bits + 2 * self.now.room }
     {
         &self.rows.run_ends
     }
@@ -110,19 +116,16 @@ impl CountTable for Cqf {
 
     ghost room = { λ t. t.room };
 
-    ghost tail_bits = { λ t. t.quotient_bits + t.width };
+    ghost quotient_bits = { λ t. t.quotient_bits };
+
+    ghost width = { λ t. t.width };
 
     ghost stands = { λ t c. Stands t c };
 
     ghost left = { λ t c. drop c.given t.pieces };
 
-    fn new(
-        alloc: Global,
-        quotient_bits: u32,
-        width: u32,
-        events: u64,
-    ) -> Result<Self, OutOfMemory> {
-        let homes = 1u64 << quotient_bits;
+    fn new(alloc: Global, quotient: u32, remainder: u32, events: u64) -> Result<Self, OutOfMemory> {
+        let homes = 1u64 << quotient;
         let slots = homes + 2 * events;
         if slots >= TOO_MANY_SLOTS {
             return Err(OutOfMemory);
@@ -130,8 +133,8 @@ impl CountTable for Cqf {
         let rows = Rows::new(alloc, homes, slots)?;
         Ok(Cqf {
             rows,
-            quotient_bits,
-            width,
+            quotient_bits: quotient,
+            width: remainder,
             events: 0,
             room: events,
             added: Seen::new(),

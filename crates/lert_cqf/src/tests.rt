@@ -84,21 +84,28 @@ fn a_cursor_gives_each_group_of_each_run(rt: HostRuntime) -> Result<(), Fail> {
     Ok(())
 }
 
-/// A tail of 18 bits; the more bits it has, the seldomer it comes.
-fn skewed_tail(i: u64) -> u64
-    ensures { result < 2 ^ 18 }
+/// A tail below `limit`: of an even draw a skewed one, the seldomer the more bits it has, and of an odd one one of the
+/// last 512, so that long runs stand at the end of the slots.
+fn drawn_tail(limit: u64, draw: u64) -> u64
+    requires { 512 ≤ limit }
+    ensures { result < limit }
 {
-    let mixed = i.wrapping_mul(0x9e37_79b9_7f4a_7c15);
-    ((mixed >> 46) & (mixed >> 23)) & ((1 << 18) - 1)
+    let mixed = draw.wrapping_mul(0x9e37_79b9_7f4a_7c15);
+    if draw % 2 == 0 {
+        ((mixed >> 24) & (mixed >> 12)) % limit
+    } else {
+        limit - 1 - (mixed >> 24) % 512
+    }
 }
 
-/// Adds `n` skewed tails.
-fn add_skewed<T: CountTable>(table: &mut T, n: u64)
+/// Adds the tails of the first `n` draws.
+fn add_drawn<T: CountTable>(table: &mut T, limit: u64, n: u64)
     requires room { total (T.pieces table.old) + n ≤ T.room table.old }
-    requires bits { T.tail_bits table.old ≡ 18 }
+    requires limit { limit ≡ 2 ^ (T.quotient_bits table.old + T.width table.old) }
+    requires long { 512 ≤ limit }
 {
-    for i in 0..n {
-        table.add(skewed_tail(i), 1);
+    for draw in 0..n {
+        table.add(drawn_tail(limit, draw), 1);
     }
 }
 
@@ -120,11 +127,28 @@ fn same_pieces<A: CountTable, B: CountTable>(rt: &impl Abort, left: &A, right: &
 fn a_filter_counts_as_a_sorted_list_does(rt: HostRuntime) -> Result<(), Fail> {
     let mut filter = Cqf::new(rt.alloc(), 10, 8, 100_000)?;
     let mut list = PlainTable::new(rt.alloc(), 10, 8, 100_000)?;
-    add_skewed(&mut filter, 100_000);
-    add_skewed(&mut list, 100_000);
+    add_drawn(&mut filter, 1 << 18, 100_000);
+    add_drawn(&mut list, 1 << 18, 100_000);
     for tail in 0..1u64 << 18 {
         assert_eq!(rt; filter.count(tail), list.count(tail));
     }
     same_pieces(&rt, &filter, &list);
+    Ok(())
+}
+
+#[test]
+fn so_does_one_of_a_million_quotients(rt: HostRuntime) -> Result<(), Fail> {
+    let mut filter = Cqf::new(rt.alloc(), 20, 20, 20_000)?;
+    let mut list = PlainTable::new(rt.alloc(), 20, 20, 20_000)?;
+    add_drawn(&mut filter, 1 << 40, 20_000);
+    add_drawn(&mut list, 1 << 40, 20_000);
+    for draw in 0..20_000 {
+        let tail = drawn_tail(1 << 40, draw);
+        assert_eq!(rt; filter.count(tail), list.count(tail));
+        assert_eq!(rt; filter.count(tail ^ 1), list.count(tail ^ 1));
+    }
+    same_pieces(&rt, &filter, &list);
+    assert_eq!(rt; filter.slots().len(), (1 << 20) + 40_000);
+    assert_eq!(rt; filter.occupied().len(), 1 << 20);
     Ok(())
 }

@@ -6,6 +6,7 @@ use Rattle.std.proofs.lemmas.Bool.{cases_lt, cases_eq, lt-ltb, le-ltb, eq-eqb}
 use Rattle.std.proofs.lemmas.List.{get_or-take}
 use Rattle.std.proofs.lemmas.List.Elements.{All-append, All-drop, All-cons, All-nil, Contains-get_or}
 use Rattle.std.proofs.lemmas.List.Sums.{sum_by-cons}
+use Rattle.lert_bay.specs.declared.bay.TheConstants.{FRAMES}
 use Rattle.lert_bay.specs.Files.{Files, Turns}
 use Rattle.lert_frames.specs.Frame.{HoldsFrame, text_len}
 use Rattle.lert_frames.specs.Place.{frame_place, frame_len}
@@ -104,12 +105,12 @@ text_fits s events level bin narrow =
     omega (arith, length_le-total 0 (2 ^ (64 - s.cone_bits)) (tallied s keys) (IsTable-tallied s keys), total-tallied s keys, length-take (bin.to - bin.from) (drop bin.from events))
 
 -- after a flush the frames hold the bins of the rows as they are then
-pub holds_moved : (s : Numbers) (m : ℕ) (events : List ℕ) (rows : List (List BinAt)) (made : List (List Piece)) (old new : Files) → length rows ≡ s.levels → AreRows s rows → HoldsBins s events rows (old 2) → LeavesRest (InNamed s rows) old new →
-    length made ≡ depth s m → AreLanded s m (take (depth s m) rows) (new 2) made (depth s m) → AreNew s m events (take (depth s m) rows) made → HoldsBins s events (moved s m rows) (new 2)
+pub holds_moved : (s : Numbers) (m : ℕ) (events : List ℕ) (rows : List (List BinAt)) (made : List (List Piece)) (old new : Files) → length rows ≡ s.levels → AreRows s rows → HoldsBins s events rows (old FRAMES) → LeavesRest (InNamed s rows) old new →
+    length made ≡ depth s m → AreLanded s m (take (depth s m) rows) (new FRAMES) made (depth s m) → AreNew s m events (take (depth s m) rows) made → HoldsBins s events (moved s m rows) (new FRAMES)
 holds_moved s m events rows made old new len are holds leaves count landed news level from within =
     let row = row_of rows level in
     let d = depth s m in
-    let P : BinAt → Type 0 = λ bin. HoldsFrame (frame_place s level bin.frame) (new 2) (tallied_in s events bin) in
+    let P : BinAt → Type 0 = λ bin. HoldsFrame (frame_place s level bin.frame) (new FRAMES) (tallied_in s events bin) in
     let is = are.each level from within in
     let stay : All P row =
     λ i e below. (
@@ -129,17 +130,17 @@ holds_moved s m events rows made old new len are holds leaves count landed news 
           let own : get_or (take d rows) k [] ≡ row = get_or-take d rows k [] (omega arith) in
           let stands = landed k (omega arith) in
           let new_is = news k (omega arith) in
-          let both = subst (HoldsFrame (frame_place s (k + 1) (landing_frame s m (take d rows) k)) (new 2)) new_is stands in
-          let at_row = subst (λ (r : List BinAt). HoldsFrame (frame_place s (k + 1) (arrived s m (k + 1) r).frame) (new 2) (tallied_in s events (arrived s m (k + 1) r))) own both in
-          let here : P (arrived s m level row) = subst (λ (i : ℕ). HoldsFrame (frame_place s i (arrived s m i row).frame) (new 2) (tallied_in s events (arrived s m i row))) up at_row in
+          let both = subst (HoldsFrame (frame_place s (k + 1) (landing_frame s m (take d rows) k)) (new FRAMES)) new_is stands in
+          let at_row = subst (λ (r : List BinAt). HoldsFrame (frame_place s (k + 1) (arrived s m (k + 1) r).frame) (new FRAMES) (tallied_in s events (arrived s m (k + 1) r))) own both in
+          let here : P (arrived s m level row) = subst (λ (i : ℕ). HoldsFrame (frame_place s i (arrived s m i row).frame) (new FRAMES) (tallied_in s events (arrived s m i row))) up at_row in
           subst (λ t. All P (cond t row (drop dropped written))) (sym (le-ltb d level reached))
           (All-drop P dropped written (All-append P (kept s m level row) (arrived s m level row ∷ []) (All-kept P s m level row stay) (All-cons P (arrived s m level row) [] here (All-nil P)))))
     ])
 
 -- the frames after the new bins were written, as a bay tells them
 pub written_holds : {T E : Type 0} (result : Result T E) (s : Numbers) (m : ℕ) (rows : List (List BinAt)) (made : List (List Piece)) (before after : Option Files) → length rows ≡ s.levels → AreRows s rows → length made ≡ depth s m →
-    Turns (LeavesRest (InNamed s rows)) before after → OnOk result ((seen : Files) → after ≡ Some seen → AreLanded s m (take (depth s m) rows) (seen 2) made (depth s m)) →
-    (seen : Files) → before ≡ Some seen → (events : List ℕ) → HoldsBins s events rows (seen 2) → AreNew s m events (take (depth s m) rows) made →
+    Turns (LeavesRest (InNamed s rows)) before after → OnOk result ((seen : Files) → after ≡ Some seen → AreLanded s m (take (depth s m) rows) (seen FRAMES) made (depth s m)) →
+    (seen : Files) → before ≡ Some seen → (events : List ℕ) → HoldsBins s events rows (seen FRAMES) → AreNew s m events (take (depth s m) rows) made →
     OnOk result ((then : Files) → after ≡ Some then → HoldsBins s events (moved s m rows) (then 2))
 written_holds (Ok value) s m rows made before after len are count turned landed seen told events holds news = λ then then_told.
     let step = turned.told seen told in

@@ -1,5 +1,6 @@
 mod MergeExamples
 mod GatherLaws
+mod SoFarLaws
 pub mod MergedLaws
 pub mod PartLaws
 pub mod MergeLaws

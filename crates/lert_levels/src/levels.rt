@@ -1,10 +1,10 @@
 //! The levels on disk.
 
-ghost use Rattle.std.specs.Prelude.{◌≡◌, ◌⊎◌, ℕ, ◌+◌, ◌-◌, ◌<◌, ◌≤◌, List, [], Some, None, length, map, take, replicate, All, IfOk, IfErr, OnOk, OnErr, MatchResult, IsErrOf, IsErrAnd, slice_index_or, slice_range, vec_capacity};
+ghost use Rattle.std.specs.Prelude.{◌≡◌, ◌⊎◌, ℕ, ◌+◌, ◌-◌, ◌<◌, ◌≤◌, List, [], Some, None, length, map, take, replicate, All, IfOk, IfErr, OnOk, OnErr, MatchResult, IsErr, IsErrOf, IsErrAnd, slice_index_or, slice_range, vec_capacity};
+ghost use Rattle.lert_bay.specs.declared.bay.TheConstants.{FRAMES};
 ghost use Rattle.lert_bay.specs.Files.{Files, IfTold};
-ghost use Rattle.lert_bay.specs.Kept.{OnlyRead};
+ghost use Rattle.lert_bay.specs.Kept.{KeepsBay, OnlyReads};
 ghost use Rattle.lert_frames.specs.Place.{tail_limit};
-ghost use Rattle.lert_io.specs.Fault.{HasRisen, HasCause};
 ghost use Rattle.lert_spec.specs.declared.piece.Piece.{Piece};
 ghost use Rattle.lert_spec.specs.Bins.{tallied};
 ghost use Rattle.lert_spec.specs.Edges.{edge, depth, lookback, capacity};
@@ -133,29 +133,27 @@ impl<T: CountTable> Levels<T> {
 
         // Where the frames held the bins of the events before m, those of the rows then hold theirs, and the totals are the counts
         // above the lookback. Only a call of the bay or memory may fail.
-        ensures told { IfTold (B.files bay.old) (λ seen. (events : List ℕ) → AreEvents self.old m zero.now.bins events (seen 2) → MatchResult result
-            (λ _. IfTold (B.files bay.new) (λ after. HoldsBins self.old.settings events (moved self.old.settings m self.old.rows) (after 2)) ×
+        ensures told { IfTold (B.files bay.old) (λ seen. (events : List ℕ) → AreEvents self.old m zero.now.bins events (seen FRAMES) → MatchResult result
+            (λ _. IfTold (B.files bay.new) (λ after. HoldsBins self.old.settings events (moved self.old.settings m self.old.rows) (after FRAMES)) ×
             O.took totals.new (tallied self.old.settings (slice_range events (lookback self.old.settings m) m)))
             (λ fault. (fault ≡ FlushFault.Failed) ⊎ (fault ≡ FlushFault.OutOfMemory))) }
         ensures took { OnOk result ((list : List Piece) × O.took totals.new list × IsTable (tail_limit self.old.settings) list) }
 
         // After Ok a crash leaves the file of frames as a read gives it. In the other files, and in the frames that the directory
         // named, all reads as before, and what was settled stays settled.
-        ensures durable { OnOk result (IfTold (B.files bay.new) (λ seen. (image : Files) → B.leaves bay.new image → image 2 ≡ seen 2)) }
-        ensures rest { KeepsRest (InNamed self.old.settings self.old.rows) (B.files bay.old) (B.files bay.new) (B.leaves bay.old) (B.moment bay.old) (B.moment bay.new) (B.left_since bay.old) (B.left_since bay.new) }
+        ensures durable { OnOk result (IfTold (B.files bay.new) (λ seen. (image : Files) → B.leaves bay.new image → image FRAMES ≡ seen FRAMES)) }
+        ensures rest { KeepsRest B.Bay (InNamed self.old.settings self.old.rows) bay.old bay.new }
 
         // Malformed comes nowhere where the frames hold bins of their widths, whatever these count.
         ensures sound { IfTold (B.files bay.old) (λ seen. (held : BinAt → List Piece) →
-            AllStand self.old.settings (seen 2) held (take (depth self.old.settings m) self.old.rows) →
+            AllStand self.old.settings (seen FRAMES) held (take (depth self.old.settings m) self.old.rows) →
             IfErr result (λ fault. (fault ≡ FlushFault.Failed) ⊎ (fault ≡ FlushFault.OutOfMemory))) }
         ensures malformed { IfTold (B.files bay.old) (λ seen. (at : ℕ) → IsErrOf result (FlushFault.Malformed at) →
-            OneBreaks self.old.settings (take (depth self.old.settings m) self.old.rows) (seen 2) at) }
+            OneBreaks self.old.settings (take (depth self.old.settings m) self.old.rows) (seen FRAMES) at) }
 
         // Then nothing was written.
         ensures unwritten { (at : ℕ) → IsErrOf result (FlushFault.Malformed at) → B.files bay.new ≡ B.files bay.old }
-        ensures never_falls { B.faults bay.old ≤ B.faults bay.new }
-        ensures failed { IsErrOf result FlushFault.Failed → HasRisen (B.faults bay.old) (B.faults bay.new) }
-        ensures mark { B.mark bay.new ≡ B.mark bay.old }
+        ensures kept { KeepsBay B.Bay bay.old bay.new (IsErrOf result FlushFault.Failed) }
     {
         let _valid = self.settings.numbers();
         let made = self.new_bins(zero, m, bay, totals)?;
@@ -175,19 +173,16 @@ impl<T: CountTable> Levels<T> {
         requires same { zero.now.settings ≡ self.old.settings }
         requires none_taken { O.took totals.old [] }
         ensures same { self.new ≡ self.old }
-        ensures told { IfTold (B.files bay.old) (λ seen. (events : List ℕ) → AreAllEvents self.old zero.now.bins events (seen 2) → MatchResult result
+        ensures told { IfTold (B.files bay.old) (λ seen. (events : List ℕ) → AreAllEvents self.old zero.now.bins events (seen FRAMES) → MatchResult result
             (λ _. O.took totals.new (tallied self.old.settings events))
             (λ fault. (fault ≡ FlushFault.Failed) ⊎ (fault ≡ FlushFault.OutOfMemory))) }
         ensures took { OnOk result ((list : List Piece) × O.took totals.new list × IsTable (tail_limit self.old.settings) list) }
         ensures sound { IfTold (B.files bay.old) (λ seen. (held : BinAt → List Piece) →
-            AllStand self.old.settings (seen 2) held self.old.rows →
+            AllStand self.old.settings (seen FRAMES) held self.old.rows →
             IfErr result (λ fault. (fault ≡ FlushFault.Failed) ⊎ (fault ≡ FlushFault.OutOfMemory))) }
         ensures malformed { IfTold (B.files bay.old) (λ seen. (at : ℕ) → IsErrOf result (FlushFault.Malformed at) →
-            OneBreaks self.old.settings self.old.rows (seen 2) at) }
-        ensures only_read { OnlyRead (B.files bay.old) (B.files bay.new) (B.leaves bay.old) (B.leaves bay.new) (B.moment bay.old) (B.moment bay.new) (B.left_since bay.old) (B.left_since bay.new) }
-        ensures never_falls { B.faults bay.old ≤ B.faults bay.new }
-        ensures failed { IsErrOf result FlushFault.Failed → HasRisen (B.faults bay.old) (B.faults bay.new) }
-        ensures mark { B.mark bay.new ≡ B.mark bay.old }
+            OneBreaks self.old.settings self.old.rows (seen FRAMES) at) }
+        ensures only_reads { OnlyReads B.Bay bay.old bay.new (IsErrOf result FlushFault.Failed) }
     {
         let levels = self.settings.numbers().levels as usize;
         let _made = self.merge(zero, levels, &[], bay, totals)?;
@@ -202,21 +197,18 @@ impl<T: CountTable> Levels<T> {
 
         // Where the file is told, each frame stands after Ok, so that a flush or a scan of these rows finds none malformed.
         // Malformed names the first place at which one leaves its format. Only a call of the bay or memory may fail beside it.
-        ensures stand { IfTold (B.files bay.old) (λ seen. OnOk result (EachStands self.old.settings (seen 2) self.old.rows)) }
+        ensures stand { IfTold (B.files bay.old) (λ seen. OnOk result (EachStands self.old.settings (seen FRAMES) self.old.rows)) }
         ensures held { IfTold (B.files bay.old) (λ seen. (n : ℕ) → IsAt self.old.settings n self.old.rows →
-            OnOk result (AllStand self.old.settings (seen 2) (held_after self.old.settings n (seen 2)) self.old.rows)) }
-        ensures whole { IfTold (B.files bay.old) (λ seen. OnOk result (rows_left self.old.settings (seen 2) self.old.rows ≡ None)) }
+            OnOk result (AllStand self.old.settings (seen FRAMES) (held_after self.old.settings n (seen FRAMES)) self.old.rows)) }
+        ensures whole { IfTold (B.files bay.old) (λ seen. OnOk result (rows_left self.old.settings (seen FRAMES) self.old.rows ≡ None)) }
         ensures malformed { IfTold (B.files bay.old) (λ seen. (at : ℕ) → IsErrOf result (FlushFault.Malformed at) →
-            rows_left self.old.settings (seen 2) self.old.rows ≡ Some at) }
-        ensures refuses { IfTold (B.files bay.old) (λ seen. (at : ℕ) → rows_left self.old.settings (seen 2) self.old.rows ≡ Some at →
+            rows_left self.old.settings (seen FRAMES) self.old.rows ≡ Some at) }
+        ensures refuses { IfTold (B.files bay.old) (λ seen. (at : ℕ) → rows_left self.old.settings (seen FRAMES) self.old.rows ≡ Some at →
             IsErrAnd result (λ fault. (fault ≡ FlushFault.Malformed at) ⊎ ((fault ≡ FlushFault.Failed) ⊎ (fault ≡ FlushFault.OutOfMemory)))) }
         ensures sound { IfTold (B.files bay.old) (λ seen. (held : BinAt → List Piece) →
-            AllStand self.old.settings (seen 2) held self.old.rows →
+            AllStand self.old.settings (seen FRAMES) held self.old.rows →
             IfErr result (λ fault. (fault ≡ FlushFault.Failed) ⊎ (fault ≡ FlushFault.OutOfMemory))) }
-        ensures only_read { OnlyRead (B.files bay.old) (B.files bay.new) (B.leaves bay.old) (B.leaves bay.new) (B.moment bay.old) (B.moment bay.new) (B.left_since bay.old) (B.left_since bay.new) }
-        ensures never_falls { B.faults bay.old ≤ B.faults bay.new }
-        ensures failed { IsErrOf result FlushFault.Failed → HasRisen (B.faults bay.old) (B.faults bay.new) }
-        ensures mark { B.mark bay.new ≡ B.mark bay.old }
+        ensures only_reads { OnlyReads B.Bay bay.old bay.new (IsErrOf result FlushFault.Failed) }
     {
         let _valid = self.settings.numbers();
         check_rows(self.alloc, &self.settings, &self.rows, bay)
@@ -250,14 +242,11 @@ impl<T: CountTable> Levels<T> {
         ensures made { IfOk result (λ made. IsMade self.old.settings zero.now.bins (take depth self.old.rows) parts.now
             (O.took totals.new) (IsFrames (B.files bay.old)) (map (λ pieces. pieces.items) made.items)) }
         ensures sound { IfTold (B.files bay.old) (λ seen. (held : BinAt → List Piece) →
-            AllStand self.old.settings (seen 2) held (take depth self.old.rows) →
+            AllStand self.old.settings (seen FRAMES) held (take depth self.old.rows) →
             IfErr result (λ fault. (fault ≡ FlushFault.Failed) ⊎ (fault ≡ FlushFault.OutOfMemory))) }
         ensures malformed { IfTold (B.files bay.old) (λ seen. (at : ℕ) → IsErrOf result (FlushFault.Malformed at) →
-            OneBreaks self.old.settings (take depth self.old.rows) (seen 2) at) }
-        ensures only_read { OnlyRead (B.files bay.old) (B.files bay.new) (B.leaves bay.old) (B.leaves bay.new) (B.moment bay.old) (B.moment bay.new) (B.left_since bay.old) (B.left_since bay.new) }
-        ensures never_falls { B.faults bay.old ≤ B.faults bay.new }
-        ensures failed { IsErrOf result FlushFault.Failed → HasRisen (B.faults bay.old) (B.faults bay.new) }
-        ensures mark { B.mark bay.new ≡ B.mark bay.old }
+            OneBreaks self.old.settings (take depth self.old.rows) (seen FRAMES) at) }
+        ensures only_reads { OnlyReads B.Bay bay.old bay.new (IsErrOf result FlushFault.Failed) }
     {
         let _valid = self.settings.numbers();
         let rows = self.reached(depth);
@@ -302,20 +291,17 @@ impl<T: CountTable> Levels<T> {
         ensures same { self.new ≡ self.old }
         ensures count { IfOk result (λ made. length made.items ≡ depth self.old.settings m) }
         ensures can { IfOk result (λ made. AllCanStand self.old.settings (map (λ pieces. pieces.items) made.items)) }
-        ensures told { IfTold (B.files bay.old) (λ seen. (events : List ℕ) → AreEvents self.old m zero.now.bins events (seen 2) → MatchResult result
+        ensures told { IfTold (B.files bay.old) (λ seen. (events : List ℕ) → AreEvents self.old m zero.now.bins events (seen FRAMES) → MatchResult result
             (λ made. AreNew self.old.settings m events (take (depth self.old.settings m) self.old.rows) (map (λ pieces. pieces.items) made.items) ×
             O.took totals.new (tallied self.old.settings (slice_range events (lookback self.old.settings m) m)))
             (λ fault. (fault ≡ FlushFault.Failed) ⊎ (fault ≡ FlushFault.OutOfMemory))) }
         ensures sound { IfTold (B.files bay.old) (λ seen. (held : BinAt → List Piece) →
-            AllStand self.old.settings (seen 2) held (take (depth self.old.settings m) self.old.rows) →
+            AllStand self.old.settings (seen FRAMES) held (take (depth self.old.settings m) self.old.rows) →
             IfErr result (λ fault. (fault ≡ FlushFault.Failed) ⊎ (fault ≡ FlushFault.OutOfMemory))) }
         ensures took { OnOk result ((list : List Piece) × O.took totals.new list × IsTable (tail_limit self.old.settings) list) }
         ensures malformed { IfTold (B.files bay.old) (λ seen. (at : ℕ) → IsErrOf result (FlushFault.Malformed at) →
-            OneBreaks self.old.settings (take (depth self.old.settings m) self.old.rows) (seen 2) at) }
-        ensures only_read { OnlyRead (B.files bay.old) (B.files bay.new) (B.leaves bay.old) (B.leaves bay.new) (B.moment bay.old) (B.moment bay.new) (B.left_since bay.old) (B.left_since bay.new) }
-        ensures never_falls { B.faults bay.old ≤ B.faults bay.new }
-        ensures failed { IsErrOf result FlushFault.Failed → HasRisen (B.faults bay.old) (B.faults bay.new) }
-        ensures mark { B.mark bay.new ≡ B.mark bay.old }
+            OneBreaks self.old.settings (take (depth self.old.settings m) self.old.rows) (seen FRAMES) at) }
+        ensures only_reads { OnlyReads B.Bay bay.old bay.new (IsErrOf result FlushFault.Failed) }
     {
         let _valid = self.settings.numbers();
         let depth = self.settings.depth(m) as usize;
@@ -332,13 +318,12 @@ impl<T: CountTable> Levels<T> {
         requires can { AllCanStand self.old.settings (map (λ pieces. pieces.items) made.now) }
         ensures ok { OnOk result (self.new ≡ record self.old { rows = moved self.old.settings m self.old.rows }) }
         ensures refused { OnErr result (self.new ≡ self.old) }
-        ensures holds { IfTold (B.files bay.old) (λ seen. (events : List ℕ) → HoldsBins self.old.settings events self.old.rows (seen 2) →
+        ensures holds { IfTold (B.files bay.old) (λ seen. (events : List ℕ) → HoldsBins self.old.settings events self.old.rows (seen FRAMES) →
             AreNew self.old.settings m events (take (depth self.old.settings m) self.old.rows) (map (λ pieces. pieces.items) made.now) →
-            OnOk result (IfTold (B.files bay.new) (λ after. HoldsBins self.old.settings events (moved self.old.settings m self.old.rows) (after 2)))) }
-        ensures durable { OnOk result (IfTold (B.files bay.new) (λ seen. (image : Files) → B.leaves bay.new image → image 2 ≡ seen 2)) }
-        ensures rest { KeepsRest (InNamed self.old.settings self.old.rows) (B.files bay.old) (B.files bay.new) (B.leaves bay.old) (B.moment bay.old) (B.moment bay.new) (B.left_since bay.old) (B.left_since bay.new) }
-        ensures cause { HasCause (B.faults bay.old) (B.faults bay.new) result }
-        ensures mark { B.mark bay.new ≡ B.mark bay.old }
+            OnOk result (IfTold (B.files bay.new) (λ after. HoldsBins self.old.settings events (moved self.old.settings m self.old.rows) (after FRAMES)))) }
+        ensures durable { OnOk result (IfTold (B.files bay.new) (λ seen. (image : Files) → B.leaves bay.new image → image FRAMES ≡ seen FRAMES)) }
+        ensures rest { KeepsRest B.Bay (InNamed self.old.settings self.old.rows) bay.old bay.new }
+        ensures kept { KeepsBay B.Bay bay.old bay.new (IsErr result) }
     {
         self.write(m, made, bay)?;
         // The frames are durable before the directory moves: a failed write leaves the old one.
@@ -353,13 +338,12 @@ impl<T: CountTable> Levels<T> {
         requires at { IsAt self.now.settings (m - 1) self.now.rows }
         requires count { length made.now ≡ depth self.now.settings m }
         requires can { AllCanStand self.now.settings (map (λ pieces. pieces.items) made.now) }
-        ensures holds { IfTold (B.files bay.old) (λ seen. (events : List ℕ) → HoldsBins self.now.settings events self.now.rows (seen 2) →
+        ensures holds { IfTold (B.files bay.old) (λ seen. (events : List ℕ) → HoldsBins self.now.settings events self.now.rows (seen FRAMES) →
             AreNew self.now.settings m events (take (depth self.now.settings m) self.now.rows) (map (λ pieces. pieces.items) made.now) →
-            OnOk result (IfTold (B.files bay.new) (λ after. HoldsBins self.now.settings events (moved self.now.settings m self.now.rows) (after 2)))) }
-        ensures durable { OnOk result (IfTold (B.files bay.new) (λ seen. (image : Files) → B.leaves bay.new image → image 2 ≡ seen 2)) }
-        ensures rest { KeepsRest (InNamed self.now.settings self.now.rows) (B.files bay.old) (B.files bay.new) (B.leaves bay.old) (B.moment bay.old) (B.moment bay.new) (B.left_since bay.old) (B.left_since bay.new) }
-        ensures cause { HasCause (B.faults bay.old) (B.faults bay.new) result }
-        ensures mark { B.mark bay.new ≡ B.mark bay.old }
+            OnOk result (IfTold (B.files bay.new) (λ after. HoldsBins self.now.settings events (moved self.now.settings m self.now.rows) (after FRAMES)))) }
+        ensures durable { OnOk result (IfTold (B.files bay.new) (λ seen. (image : Files) → B.leaves bay.new image → image FRAMES ≡ seen FRAMES)) }
+        ensures rest { KeepsRest B.Bay (InNamed self.now.settings self.now.rows) bay.old bay.new }
+        ensures kept { KeepsBay B.Bay bay.old bay.new (IsErr result) }
     {
         let depth = self.settings.depth(m) as usize;
         write_arrivals(&self.settings, m, self.reached(depth), made, bay)

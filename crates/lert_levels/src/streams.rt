@@ -1,11 +1,11 @@
 //! Level 0 and some of the levels on disk, as the streams of a merge.
 
 ghost use Rattle.std.specs.Prelude.{◌≡◌, ◌⊎◌, ℕ, ◌+◌, ◌*◌, ◌-◌, ◌<◌, ◌≤◌, ◌++◌, List, [], length, map, All, IfOk, OnOk, MatchResult, IsErrOf, slice_index_or};
+ghost use Rattle.lert_bay.specs.declared.bay.TheConstants.{FRAMES};
 ghost use Rattle.lert_bay.specs.Files.{IfTold};
 ghost use Rattle.lert_frames.specs.Frame.{IsBin};
-ghost use Rattle.lert_bay.specs.Kept.{OnlyRead};
+ghost use Rattle.lert_bay.specs.Kept.{OnlyReads};
 ghost use Rattle.lert_frames.specs.Place.{tail_limit};
-ghost use Rattle.lert_io.specs.Fault.{HasRisen};
 ghost use Rattle.lert_spec.specs.Edges.{span};
 ghost use Rattle.lert_spec.specs.declared.piece.Piece.{Piece};
 ghost use Rattle.lert_rows.specs.declared.bin_at.BinAt.{BinAt};
@@ -32,7 +32,7 @@ pub fn load_levels<T: CountTable, B: Bay>(
     requires few { length rows.now ≤ settings.now.levels }
     requires rows { (k : ℕ) → k < length rows.now → IsRow settings.now (k + 1) (slice_index_or (map (λ row. row.items) rows.now) k []) }
     ensures lists { IfTold (B.files bay.old) (λ seen. (held : BinAt → List Piece) →
-        AllStand settings.now (seen 2) held (map (λ row. row.items) rows.now) → MatchResult result
+        AllStand settings.now (seen FRAMES) held (map (λ row. row.items) rows.now) → MatchResult result
         (λ streams. lists_of streams.items ≡ streams_of zero.now.bins held (map (λ row. row.items) rows.now))
         (λ fault. (fault ≡ FlushFault.Failed) ⊎ (fault ≡ FlushFault.OutOfMemory))) }
     ensures bins { IfOk result (λ streams. AreBins (tail_limit settings.now) (widths_of zero.now.bins (map (λ row. row.items) rows.now)) (lists_of streams.items)) }
@@ -42,11 +42,8 @@ pub fn load_levels<T: CountTable, B: Bay>(
     ensures few { OnOk result (length zero.now.bins ≤ settings.now.bins) }
     ensures fresh { IfOk result (λ streams. All (λ bin. bin.given ≡ 0) streams.items) }
     ensures malformed { IfTold (B.files bay.old) (λ seen. (at : ℕ) → IsErrOf result (FlushFault.Malformed at) →
-        OneBreaks settings.now (map (λ row. row.items) rows.now) (seen 2) at) }
-    ensures only_read { OnlyRead (B.files bay.old) (B.files bay.new) (B.leaves bay.old) (B.leaves bay.new) (B.moment bay.old) (B.moment bay.new) (B.left_since bay.old) (B.left_since bay.new) }
-    ensures never_falls { B.faults bay.old ≤ B.faults bay.new }
-    ensures failed { IsErrOf result FlushFault.Failed → HasRisen (B.faults bay.old) (B.faults bay.new) }
-    ensures mark { B.mark bay.new ≡ B.mark bay.old }
+        OneBreaks settings.now (map (λ row. row.items) rows.now) (seen FRAMES) at) }
+    ensures only_reads { OnlyReads B.Bay bay.old bay.new (IsErrOf result FlushFault.Failed) }
 {
     let mut streams = Vec::new(alloc);
     zero.load(alloc, &mut streams)?;

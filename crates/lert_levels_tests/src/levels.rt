@@ -312,3 +312,60 @@ fn a_check_stops_at_the_first_broken_byte(rt: HostRuntime) -> Result<(), Fail> {
     assert_eq!(rt; places.as_slice(), [None, Some(528), Some(284)].as_slice());
     Ok(())
 }
+
+// The faults of a check and of a scan whose first call of the bay fails.
+fn failed_reads(
+    alloc: Global,
+    zero: &Zero<PlainTable>,
+    levels: &mut Levels<PlainTable>,
+    bay: &mut MemBay,
+) -> [Option<FlushFault>; 2]
+    requires { zero.now.settings ≡ levels.old.settings }
+    ensures { levels.new ≡ levels.old }
+{
+    bay.fail_at(1);
+    let check = levels.check(bay).err();
+    bay.fail_at(1);
+    let scan = levels.scan(bay, zero, &mut Taken::new(alloc)).err();
+    [check, scan]
+}
+
+// The faults of a check, a scan and a flush behind two flushes: first where their first call fails, then where none does.
+#[derive(Drop)]
+struct FirstCalls;
+
+impl Scene for FirstCalls {
+    type Seen = [Option<FlushFault>; 6];
+
+    fn play(
+        &self,
+        alloc: Global,
+        zero: &mut Zero<PlainTable>,
+        levels: &mut Levels<PlainTable>,
+        bay: &mut MemBay,
+    ) -> Result<[Option<FlushFault>; 6], Fail> {
+        directories(alloc, zero, levels, bay, 2)?;
+        let [check, scan] = failed_reads(alloc, zero, levels, bay);
+        bay.fail_at(1);
+        let Err(fault) = flush(alloc, zero, levels, bay, 2) else {
+            return Err(Fail::new("no call of the flush failed"));
+        };
+        Ok([
+            check,
+            scan,
+            Some(fault),
+            levels.check(bay).err(),
+            levels.scan(bay, zero, &mut Taken::new(alloc)).err(),
+            flush(alloc, zero, levels, bay, 2).err(),
+        ])
+    }
+}
+
+// A failed call is no want of memory, and where there is enough of it none is told.
+#[test]
+fn a_failed_call_is_told_as_one(rt: HostRuntime) -> Result<(), Fail> {
+    let failed = Some(FlushFault::Failed);
+    let faults = play(rt.alloc(), &ROUND, &FirstCalls)?;
+    assert_eq!(rt; faults, [failed, failed, failed, None, None, None]);
+    Ok(())
+}

@@ -3,11 +3,12 @@ use Rattle.std.specs.Prelude.{ℕ, ◌≡◌, ◌≤◌, ◌^◌, List}
 use Rattle.lert_spec.specs.declared.piece.Piece.{Piece}
 use Rattle.lert_spec.specs.Table.{total, IsTable}
 
--- its pieces, its room in events, and the bits of its tails
+-- its pieces, its room in events, and the bits of its tails' quotients and remainders
 pub record Contents : Type 0 where
   pub pieces : List Piece
   pub room : ℕ
-  pub tail_bits : ℕ
+  pub quotient_bits : ℕ
+  pub width : ℕ
 
 -- the pieces are a count table of so many events, at most the room, and there is a place for each event
 pub record IsKept (pieces : List Piece) (events room tail_bits capacity : ℕ) : Type 0 where

@@ -15,19 +15,25 @@ pub struct PlainTable {
     pieces: Vec<Piece>,
     events: u64,
     room: u64,
-    tail_bits: u32,
+    quotient_bits: u32,
+    width: u32,
 }
 
 impl Model for PlainTable {
-    ghost use Rattle.std.specs.Prelude.{◌≤◌, ◌≡◌, ◌^◌, vec_capacity};
+    ghost use Rattle.std.specs.Prelude.{◌≤◌, ◌≡◌, ◌+◌, ◌^◌, vec_capacity};
     ghost use Rattle.lert_spec.specs.Table.{total, IsTable};
     ghost use Rattle.lert_plain.specs.Contents.{Contents, IsKept};
 
     ghost Value = { Contents };
 
-    ghost view = { λ t. record { pieces = t.pieces.items; room = t.room; tail_bits = t.tail_bits } };
+    ghost view = { λ t. record {
+      pieces = t.pieces.items;
+      room = t.room;
+      quotient_bits = t.quotient_bits;
+      width = t.width;
+    } };
 
-    ghost invariant = { λ t. IsKept t.pieces.items t.events t.room t.tail_bits (vec_capacity t.pieces) };
+    ghost invariant = { λ t. IsKept t.pieces.items t.events t.room (t.quotient_bits + t.width) (vec_capacity t.pieces) };
 }
 
 /// A place in a `PlainTable`.
@@ -67,24 +73,22 @@ impl CountTable for PlainTable {
 
     ghost room = { λ t. t.room };
 
-    ghost tail_bits = { λ t. t.tail_bits };
+    ghost quotient_bits = { λ t. t.quotient_bits };
+
+    ghost width = { λ t. t.width };
 
     ghost stands = { λ t c. Unit {0} };
 
     ghost left = { λ t c. drop c.at t.pieces };
 
-    fn new(
-        alloc: Global,
-        quotient_bits: u32,
-        width: u32,
-        events: u64,
-    ) -> Result<Self, OutOfMemory> {
+    fn new(alloc: Global, quotient: u32, remainder: u32, events: u64) -> Result<Self, OutOfMemory> {
         let pieces = Vec::with_capacity(alloc, events as usize)?;
         Ok(PlainTable {
             pieces,
             events: 0,
             room: events,
-            tail_bits: quotient_bits + width,
+            quotient_bits: quotient,
+            width: remainder,
         })
     }
 

@@ -14,7 +14,7 @@ use Rattle.lert_spec.specs.Mix.{cone_of, tail_of}
 use Rattle.lert_spec.specs.Table.{count_of, total, plus}
 use Rattle.lert_spec.proofs.MixLaws.{one_key, tail_below, cone_below}
 use Rattle.lert_spec.proofs.TallyLaws.{tails, count_of-tallied, total-tallied, tallied-push}
-use Rattle.lert_reports.specs.Stored.{Stored, AreStored}
+use Rattle.lert_reports.specs.Stored.{Stored, IsOfTails, AreStored}
 
 abbrev pub keys_in : List Report → List ℕ
 keys_in reports = map (λ report. report.key) reports
@@ -48,8 +48,15 @@ all_of_one : (report : Report) → report.key < 2 ^ 64 → All (λ r. r.key < 2 
 all_of_one report below zero d within = below
 all_of_one report below (suc k) d within = absurd (omega arith)
 
-module _ (s : Numbers) (reports : List Report) (capacity : ℕ) (pieces : List Piece) (room tail_bits : ℕ)
-    (kept : AreStored s reports capacity pieces room tail_bits) where
+-- a table of the same numbers
+pub same_numbers : {s : Numbers} {room quotient remainder room' quotient' remainder' : ℕ} → IsOfTails s room quotient remainder →
+    room' ≡ room → quotient' ≡ quotient → remainder' ≡ remainder → IsOfTails s room' quotient' remainder'
+same_numbers {s} {room} {quotient} {remainder} {room'} {quotient'} {remainder'} numbers room_is quotient_is remainder_is =
+    subst (λ q. IsOfTails s room' q remainder') (sym quotient_is)
+    (subst (λ r. IsOfTails s room' quotient r) (sym remainder_is) (subst (λ n. IsOfTails s n quotient remainder) (sym room_is) numbers))
+
+module _ (s : Numbers) (reports : List Report) (capacity : ℕ) (pieces : List Piece) (room quotient remainder : ℕ)
+    (kept : AreStored s reports capacity pieces room quotient remainder) where
   -- a count above 0 of a key's tail says that the key is listed
   pub counted_if_listed : (seen : Stored) (key count : ℕ) → record { settings = s; reports = reports } ≡ seen → key < 2 ^ 64 →
       All (λ report. cone_of seen.settings report.key ≡ cone_of seen.settings key) seen.reports →
@@ -67,16 +74,17 @@ module _ (s : Numbers) (reports : List Report) (capacity : ℕ) (pieces : List P
       let less : length reports < s.room = subst (λ (v : Stored). length v.reports < v.settings.room) (sym is) less_seen in
       let sum : total pieces ≡ length reports =
       ap total kept.counted ∙ total-tallied s (keys_in reports) ∙ length_keys reports in
-      omega (arith, kept.events, sum, less)
+      omega (arith, kept.of_tails.events, sum, less)
 
-  pub tail_fits : (key : ℕ) → tail_of s key < 2 ^ tail_bits
-  tail_fits key = subst (λ bits. tail_of s key < 2 ^ bits) (sym kept.bits) (tail_below s key)
+  pub tail_fits : (key : ℕ) → tail_of s key < 2 ^ (quotient + remainder)
+  tail_fits key = subst (λ bits. tail_of s key < 2 ^ bits) (sym kept.of_tails.whole) (tail_below s key)
 
   -- one report more, and its tail
-  pub AreStored-more : (report : Report) (capacity' : ℕ) (pieces' : List Piece) (room' tail_bits' : ℕ) → length reports < s.room → report.key < 2 ^ 64 →
-      s.room ≤ capacity' → pieces' ≡ plus pieces (tail_of s report.key) 1 → room' ≡ room → tail_bits' ≡ tail_bits →
-      AreStored s (reports ++ report ∷ []) capacity' pieces' room' tail_bits'
-  AreStored-more report capacity' pieces' room' tail_bits' less below reserved added room_is bits_are = record {
+  pub AreStored-more : (report : Report) (capacity' : ℕ) (pieces' : List Piece) (room' quotient' remainder' : ℕ) →
+      length reports < s.room → report.key < 2 ^ 64 → s.room ≤ capacity' → pieces' ≡ plus pieces (tail_of s report.key) 1 →
+      room' ≡ room → quotient' ≡ quotient → remainder' ≡ remainder →
+      AreStored s (reports ++ report ∷ []) capacity' pieces' room' quotient' remainder'
+  AreStored-more report capacity' pieces' room' quotient' remainder' less below reserved added room_is quotient_is remainder_is = record {
     few = omega (arith, less, length-append reports (report ∷ []));
     reserved = reserved;
     keys = All-append (λ r. r.key < 2 ^ 64) reports (report ∷ []) kept.keys (all_of_one report below);
@@ -85,8 +93,7 @@ module _ (s : Numbers) (reports : List Report) (capacity : ℕ) (pieces : List P
         ∙ ap (λ ps. plus ps (tail_of s report.key) 1) kept.counted
         ∙ sym (tallied-push s (keys_in reports) report.key)
         ∙ ap (tallied s) (sym (map-append (λ r. r.key) reports (report ∷ [])));
-    events = room_is ∙ kept.events;
-    bits = bits_are ∙ kept.bits;
+    of_tails = same_numbers kept.of_tails room_is quotient_is remainder_is;
   }
 
 -- where there is one cone, all keys are of it

@@ -1,6 +1,8 @@
 //! Reports in their order, and a table of the tails of their keys.
 
-ghost use Rattle.std.specs.Prelude.{◌≡◌, ℕ, ◌^◌, ◌<◌, ◌≤◌, [], ◌∷◌, ◌++◌, All, length, IfOk};
+ghost use Rattle.std.specs.Prelude.{◌≡◌, ℕ, ◌^◌, ◌<◌, ◌≤◌, [], ◌∷◌, ◌++◌, All, length, map, IfOk};
+ghost use Rattle.lert_reports.specs.Stored.{AreFewest, IsOfTails};
+ghost use Rattle.lert_spec.specs.Bins.{tallied};
 ghost use Rattle.lert_spec.specs.Look.{is_listed};
 ghost use Rattle.lert_spec.specs.Mix.{cone_of};
 
@@ -30,7 +32,7 @@ impl<T: CountTable> Model for ReportStore<T> {
     ghost view = { λ s. record { settings = s.settings; reports = s.reports.items } };
 
     ghost invariant = { λ s. AreStored s.settings s.reports.items (vec_capacity s.reports)
-        (T.pieces s.tails) (T.room s.tails) (T.tail_bits s.tails) };
+        (T.pieces s.tails) (T.room s.tails) (T.quotient_bits s.tails) (T.width s.tails) };
 }
 
 impl<T: CountTable> ReportStore<T> {
@@ -76,6 +78,15 @@ impl<T: CountTable> ReportStore<T> {
         self.reports.as_slice()
     }
 
+    /// The table of the tails of the listed keys, with as many events as the room, the least number of quotient bits from 6
+    /// on that gives each of them a quotient, and the other bits of a tail as its width.
+    pub fn tails(&self) -> &T
+        ensures pieces { T.pieces result.now ≡ tallied self.now.settings (map (λ report. report.key) self.now.reports) }
+        ensures of_tails { IsOfTails self.now.settings (T.room result.now) (T.quotient_bits result.now) (T.width result.now) }
+    {
+        &self.tails
+    }
+
     /// How many reports there are: at most the room.
     pub fn len(&self) -> usize
         ensures count { result ≡ length self.now.reports }
@@ -93,12 +104,15 @@ impl<T: CountTable> ReportStore<T> {
     }
 }
 
-// As many quotient bits as give each report one, at least 6.
+// The least number of quotient bits from 6 on that gives each report a quotient.
 fn quotient_bits(room: u64) -> u32
     requires { room ≤ 4194304 }
-    ensures least { 6 ≤ result }
+    ensures fewest { AreFewest result room }
     ensures most { result ≤ 22 }
-    ensures each { room ≤ 2 ^ result }
 {
-    (6..22).find(|bits| room <= 1 << *bits).unwrap_or(22)
+    let mut bits = 6;
+    while bits < 22 && 1 << bits < room {
+        bits += 1;
+    }
+    bits
 }

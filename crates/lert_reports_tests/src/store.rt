@@ -63,3 +63,17 @@ fn a_store_is_its_list(rt: HostRuntime) -> Result<(), Fail> {
 fn a_store_over_a_quotient_filter_is_its_list(rt: HostRuntime) -> Result<(), Fail> {
     fill_and_clear::<Cqf>(&rt, rt.alloc())
 }
+
+#[test]
+fn the_table_of_a_store_has_a_quotient_for_each_report(rt: HostRuntime) -> Result<(), Fail> {
+    for (room, quotients) in [(64, 64), (65, 128)] {
+        let settings = settings_of(Numbers {
+            room,
+            ..TWO_REPORTS
+        })?;
+        let store: ReportStore<Cqf> = ReportStore::new(rt.alloc(), &settings)?;
+        assert_eq!(rt; store.tails().occupied().len(), quotients);
+        assert_eq!(rt; store.tails().slots().len() as u64, quotients + 2 * room);
+    }
+    Ok(())
+}

@@ -2,16 +2,17 @@
 use Rattle.std.proofs.Common.{ℕ, ◌≡◌, ◌≢◌, ◌+◌, ◌<◌, ◌≤◌, List, [], length, take, get_or, refl, ap, sym, ◌∙◌, arith, inl, inr, ◌⊎◌, subst, Option, Some, Result, length-take, length-drop}
 use Rattle.std.specs.Prelude.{Ok, Err, OnOk, OnErr}
 use Rattle.std.proofs.lemmas.Bool.{cases_eq, cases_lt}
+use Rattle.lert_bay.specs.declared.bay.TheConstants.{FRAMES}
 use Rattle.lert_bay.specs.Files.{Files, Turns, Changes, Holds, Torn, LeftByFailure}
 use Rattle.lert_bay.specs.Images.{Elapses, Settles, KeepsImages}
 use Rattle.lert_bay.specs.Settled.{part, Keeps, IsSettled}
-use Rattle.lert_bay.proofs.Lasting.{lasts_on, lasts_none, lasts_more}
+use Rattle.lert_bay.proofs.KeptLaws.{IsLawful}
 use Rattle.lert_bay.proofs.Settling.{part_torn}
 use Rattle.lert_bay.proofs.Tearing.{torn_held}
 use Rattle.lert_frames.proofs.StoreLaws.{length_frame}
 use Rattle.lert_frames.proofs.WriteLaws.{either_way}
 use Rattle.lert_frames.specs.Frame.{HoldsFrame, frame_text, text_len}
-use Rattle.lert_bay.specs.Kept.{OnlyRead}
+use Rattle.lert_bay.specs.Kept.{Bays, KeepsBay, OnlyReads}
 use Rattle.lert_frames.specs.Place.{frame_place, frame_len, tail_limit}
 use Rattle.lert_frames.proofs.PlaceLaws.{places_apart}
 use Rattle.lert_spec.specs.declared.numbers.Numbers.{Numbers}
@@ -36,28 +37,27 @@ leaves_same : (kept : ℕ → ℕ → Type 0) (files : Files) → LeavesRest kep
 leaves_same kept files = record { others = λ number other. refl; longer = omega arith; rest = λ from to kept_here within. refl }
 
 -- no call
-pub rest_none : (kept : ℕ → ℕ → Type 0) (files : Option Files) (leaves : Files → Type 0) (now : ℕ) (since : ℕ → Files → Type 0) → ((image : Files) → since now image → leaves image) → KeepsRest kept files files leaves now now since since
-rest_none kept files leaves now since only_now = record {
+pub rest_none : {B : Type 0} (bays : Bays B) → IsLawful bays → (kept : ℕ → ℕ → Type 0) (bay : B) → KeepsRest bays kept bay bay
+rest_none bays lawful kept bay = record {
   seen = record { told = λ old told. (old, told, leaves_same kept old); untold = λ untold. untold };
-  settled = λ seen told number from to may settled image since_now. settled.same image (only_now image since_now);
-  time = lasts_none now since;
+  settled = λ seen told number from to may settled image since_now. settled.same image (lawful.only_now bay image since_now);
 }
 
 -- a range that doesn't reach past the end of a file that got no shorter, and reads the same
-settled_middle : (kept : ℕ → ℕ → Type 0) (leaves_before leaves_middle : Files → Type 0) (since : ℕ → Files → Type 0) (first : ℕ) (old middle : Files) (number from to : ℕ) → (number ≢ 2) ⊎ kept from to → LeavesRest kept old middle →
+settled_middle : (kept : ℕ → ℕ → Type 0) (leaves_before leaves_middle : Files → Type 0) (since : ℕ → Files → Type 0) (first : ℕ) (old middle : Files) (number from to : ℕ) → (number ≢ FRAMES) ⊎ kept from to → LeavesRest kept old middle →
     ((image : Files) → leaves_middle image → since first image) → IsSettled leaves_before old number from to → Keeps (since first) old number from to →
     IsSettled leaves_middle middle number from to × (part (middle number) from to ≡ part (old number) from to)
 settled_middle kept leaves_before leaves_middle since first old middle number from to may leaves now settled keeps =
-    elim (cases_eq number 2) [
+    elim (cases_eq number FRAMES) [
       | inr other ↦ (
           let same = leaves.others number other in
           let reads = ap (λ bytes. part bytes from to) same in
           (record { within = omega (arith, ap length same, settled.within); same = λ image left. keeps image (now image left) ∙ sym reads }, reads))
       | inl frames ↦ (
           let kept_here : kept from to = elim may [ inl other ↦ absurd (other frames) | inr kept_range ↦ kept_range ] in
-          let within : to ≤ length (old 2) = subst (λ (n : ℕ). to ≤ length (old n)) frames settled.within in
+          let within : to ≤ length (old FRAMES) = subst (λ (n : ℕ). to ≤ length (old n)) frames settled.within in
           let reads = subst (λ (n : ℕ). part (middle n) from to ≡ part (old n) from to) (sym frames) (leaves.rest from to kept_here within) in
-          let long = subst (λ (n : ℕ). to ≤ length (middle n)) (sym frames) (let longer : to ≤ length (middle 2) = omega (arith, within, leaves.longer) in longer) in
+          let long = subst (λ (n : ℕ). to ≤ length (middle n)) (sym frames) (let longer : to ≤ length (middle FRAMES) = omega (arith, within, leaves.longer) in longer) in
           (record { within = long; same = λ image left. keeps image (now image left) ∙ sym reads }, reads))
     ]
 
@@ -69,11 +69,9 @@ leaves_on kept old middle new one two = record {
 }
 
 -- calls after calls
-pub rest_on : (kept : ℕ → ℕ → Type 0) (files_first files_middle files_last : Option Files) (leaves_first leaves_middle : Files → Type 0) (first middle last : ℕ) (since_first since_middle since_last : ℕ → Files → Type 0) →
-    ((image : Files) → leaves_middle image → since_middle middle image) → ((t u : ℕ) (image : Files) → t ≤ u → since_middle u image → since_middle t image) → ((t u : ℕ) (image : Files) → t ≤ u → since_last u image → since_last t image) →
-    KeepsRest kept files_first files_middle leaves_first first middle since_first since_middle → KeepsRest kept files_middle files_last leaves_middle middle last since_middle since_last →
-    KeepsRest kept files_first files_last leaves_first first last since_first since_last
-rest_on kept files_first files_middle files_last leaves_first leaves_middle first middle last since_first since_middle since_last now earlier_middle earlier_last one two = record {
+pub rest_on : {B : Type 0} (bays : Bays B) → IsLawful bays → (kept : ℕ → ℕ → Type 0) (first middle last : B) (First Failed : Type 0) →
+    KeepsBay bays first middle First → KeepsBay bays middle last Failed → KeepsRest bays kept first middle → KeepsRest bays kept middle last → KeepsRest bays kept first last
+rest_on bays lawful kept first middle last First Failed kept_first kept_last one two = record {
   seen = record {
     told = λ old told.
         let then = one.seen.told old told in
@@ -84,44 +82,44 @@ rest_on kept files_first files_middle files_last leaves_first leaves_middle firs
   settled = λ seen told number from to may settled image since. (
       let then = one.seen.told seen told in
       let keeps = one.settled seen told number from to may settled in
-      let there = settled_middle kept leaves_first leaves_middle since_middle first seen then.0 number from to may then.2
-      (λ other left. earlier_middle first middle other one.time.later (now other left)) settled keeps in
-      elim (two.time.known first image one.time.later since) [
+      let start = bays.moment first in
+      let there = settled_middle kept (bays.leaves first) (bays.leaves middle) (bays.left_since middle) start seen then.0 number from to may then.2
+      (λ other left. lawful.since_earlier middle start (bays.moment middle) other kept_first.time.later (lawful.since_now middle other left)) settled keeps in
+      elim (kept_last.time.known start image kept_first.time.later since) [
         | inl past ↦ keeps image past
         | inr after ↦ two.settled then.0 then.1 number from to may there.0 image after ∙ there.1
       ]);
-  time = lasts_on first middle last since_first since_middle since_last one.time two.time earlier_last;
 }
 
-pub rest_fewer : (kept fewer : ℕ → ℕ → Type 0) (files_before files_after : Option Files) (leaves : Files → Type 0) (first last : ℕ) (since_before since_after : ℕ → Files → Type 0) → ((from to : ℕ) → fewer from to → kept from to) →
-    KeepsRest kept files_before files_after leaves first last since_before since_after → KeepsRest fewer files_before files_after leaves first last since_before since_after
-rest_fewer kept fewer files_before files_after leaves first last since_before since_after weaker keeps = record {
-  seen = turns_fewer kept fewer files_before files_after weaker keeps.seen;
-  settled = λ seen told number from to may settled. keeps.settled seen told number from to (elim may [ inl other ↦ inl other | inr kept_here ↦ inr (weaker from to kept_here) ]) settled;
-  time = keeps.time;
+pub rest_fewer : {B : Type 0} (bays : Bays B) (kept fewer : ℕ → ℕ → Type 0) (before after : B) → ((from to : ℕ) → fewer from to → kept from to) →
+    KeepsRest bays kept before after → KeepsRest bays fewer before after
+rest_fewer bays kept fewer before after weaker keeps = record {
+  seen = turns_fewer kept fewer (bays.files before) (bays.files after) weaker keeps.seen;
+  settled = λ seen told number from to may settled.
+      keeps.settled seen told number from to (elim may [ inl other ↦ inl other | inr kept_here ↦ inr (weaker from to kept_here) ]) settled;
 }
 
 -- ---- the write of one frame
 
-torn_rest : (s : Numbers) (level frame count : ℕ) (old new : Files) → count ≤ frame_len s level → ((number : ℕ) → number ≢ 2 → new number ≡ old number) → Torn (frame_place s level frame) count (old 2) (new 2) → LeavesRest (IsApart s level frame) old new
+torn_rest : (s : Numbers) (level frame count : ℕ) (old new : Files) → count ≤ frame_len s level → ((number : ℕ) → number ≢ FRAMES → new number ≡ old number) → Torn (frame_place s level frame) count (old FRAMES) (new FRAMES) → LeavesRest (IsApart s level frame) old new
 torn_rest s level frame count old new fits others torn = record {
   others = others;
   longer = torn.no_shorter;
-  rest = λ from to apart within. part_torn (frame_place s level frame) count (old 2) (new 2) (old 2) from to torn refl within
+  rest = λ from to apart within. part_torn (frame_place s level frame) count (old FRAMES) (new FRAMES) (old FRAMES) from to torn refl within
       (elim apart [ inl before ↦ inl before | inr behind ↦ inr (omega (arith, behind, fits)) ]);
 }
 
 pub stored_rest : {T E : Type 0} (s : Numbers) (level frame : ℕ) (pieces : List Piece) (result : Result T E) (before after : Option Files) → text_len pieces ≤ frame_len s level →
-    OnOk result (Turns (Changes (Holds (frame_place s level frame) (frame_text pieces)) 2) before after) → OnErr result (Turns (Changes (LeftByFailure (frame_place s level frame) (text_len pieces)) 2) before after) →
+    OnOk result (Turns (Changes (Holds (frame_place s level frame) (frame_text pieces)) FRAMES) before after) → OnErr result (Turns (Changes (LeftByFailure (frame_place s level frame) (text_len pieces)) FRAMES) before after) →
     Turns (LeavesRest (IsApart s level frame)) before after
 stored_rest s level frame pieces result before after fits ok err =
     let place = frame_place s level frame in
-    either_way (Turns (LeavesRest (IsApart s level frame)) before after) (Turns (Changes (Holds place (frame_text pieces)) 2) before after) (Turns (Changes (LeftByFailure place (text_len pieces)) 2) before after) result ok err
+    either_way (Turns (LeavesRest (IsApart s level frame)) before after) (Turns (Changes (Holds place (frame_text pieces)) FRAMES) before after) (Turns (Changes (LeftByFailure place (text_len pieces)) FRAMES) before after) result ok err
     (λ wrote. record {
       told = λ old told. (
           let then = wrote.told old told in
-          let torn = torn_held place (frame_text pieces) (old 2) (then.0 2) then.2.here in
-          (then.0, then.1, torn_rest s level frame (text_len pieces) old then.0 fits then.2.others (subst (λ (n : ℕ). Torn place n (old 2) (then.0 2)) (length_frame pieces) torn)));
+          let torn = torn_held place (frame_text pieces) (old FRAMES) (then.0 FRAMES) then.2.here in
+          (then.0, then.1, torn_rest s level frame (text_len pieces) old then.0 fits then.2.others (subst (λ (n : ℕ). Torn place n (old FRAMES) (then.0 FRAMES)) (length_frame pieces) torn)));
       untold = wrote.untold;
     })
     (λ failed. record {
@@ -132,9 +130,9 @@ stored_rest s level frame pieces result before after fits ok err =
     })
 
 -- a frame in a range that is kept still holds its pieces
-pub holds_stays : (kept : ℕ → ℕ → Type 0) (old new : Files) (place : ℕ) (pieces : List Piece) → LeavesRest kept old new → kept place (place + text_len pieces) → HoldsFrame place (old 2) pieces → HoldsFrame place (new 2) pieces
+pub holds_stays : (kept : ℕ → ℕ → Type 0) (old new : Files) (place : ℕ) (pieces : List Piece) → LeavesRest kept old new → kept place (place + text_len pieces) → HoldsFrame place (old FRAMES) pieces → HoldsFrame place (new FRAMES) pieces
 holds_stays kept old new place pieces leaves kept_here holds =
-    let long : place + text_len pieces ≤ length (old 2) = reaches_end (old 2) place (text_len pieces) (omega arith) (ap length holds ∙ length_frame pieces) in
+    let long : place + text_len pieces ≤ length (old FRAMES) = reaches_end (old FRAMES) place (text_len pieces) (omega arith) (ap length holds ∙ length_frame pieces) in
     leaves.rest place (place + text_len pieces) kept_here long ∙ holds
   where
     reaches_end : (bytes : List ℕ) (from count : ℕ) → 1 ≤ count → length (part bytes from (from + count)) ≡ count → from + count ≤ length bytes
@@ -142,16 +140,15 @@ holds_stays kept old new place pieces leaves kept_here holds =
 
 -- ---- the sync
 
-pub sync_rest : (kept : ℕ → ℕ → Type 0) (files_before files_after : Option Files) (leaves_before leaves_after : Files → Type 0) (first last : ℕ) (since_before since_after : ℕ → Files → Type 0) → files_after ≡ files_before →
-    ((image : Files) → since_before first image → leaves_before image) → ((seen : Files) → files_before ≡ Some seen → (image : Files) → leaves_after image → leaves_before image) → ((t u : ℕ) (image : Files) → t ≤ u → since_before u image → since_before t image) →
-    Elapses first last since_before since_after leaves_after → KeepsRest kept files_before files_after leaves_before first last since_before since_after
-sync_rest kept files_before files_after leaves_before leaves_after first last since_before since_after same only_now was earlier elapsed = record {
+pub sync_rest : {B : Type 0} (bays : Bays B) → IsLawful bays → (kept : ℕ → ℕ → Type 0) (before after : B) →
+    Elapses (bays.moment before) (bays.moment after) (bays.left_since before) (bays.left_since after) (bays.leaves after) → bays.files after ≡ bays.files before →
+    ((seen : Files) → bays.files before ≡ Some seen → (image : Files) → bays.leaves after image → bays.leaves before image) → KeepsRest bays kept before after
+sync_rest bays lawful kept before after elapsed same was = record {
   seen = record { told = λ old told. (old, same ∙ told, leaves_same kept old); untold = λ untold. same ∙ untold };
-  settled = λ seen told number from to may settled image since. elim (elapsed.known first image (omega arith) since) [
-    | inl past ↦ settled.same image (only_now image past)
+  settled = λ seen told number from to may settled image since. elim (elapsed.known (bays.moment before) image (omega arith) since) [
+    | inl past ↦ settled.same image (lawful.only_now before image past)
     | inr now ↦ settled.same image (was seen told image now)
   ];
-  time = lasts_more first first last since_before since_before since_after leaves_after (lasts_none first since_before) elapsed;
 }
 
 -- ---- bin after bin
@@ -165,7 +162,7 @@ room_for s level pieces can = omega (arith, length_le-total 0 (tail_limit s) pie
 module _ (s : Numbers) (m : ℕ) (rows : List (List BinAt)) (bins : List (List Piece)) (rows_are : (k : ℕ) → k < length rows → IsRow s (k + 1) (get_or rows k [])) (len : length bins ≡ length rows) (bins_are : (k : ℕ) → k < length bins → CanStand s (k + 1) (get_or bins k [])) where
   -- a bin more stands, and those before it still do
   pub landed_more : (old new : Files) (i frame : ℕ) (pieces : List Piece) → i < length rows → landing_frame s m rows i ≡ frame → get_or bins i [] ≡ pieces → LeavesRest (IsApart s (i + 1) frame) old new →
-      HoldsFrame (frame_place s (i + 1) frame) (new 2) pieces → AreLanded s m rows (old 2) bins i → AreLanded s m rows (new 2) bins (i + 1)
+      HoldsFrame (frame_place s (i + 1) frame) (new FRAMES) pieces → AreLanded s m rows (old FRAMES) bins i → AreLanded s m rows (new FRAMES) bins (i + 1)
   landed_more old new i frame pieces below frame_is pieces_are leaves here before k within =
       elim (cases_lt k i) [
         | inl earlier ↦ (
@@ -183,39 +180,36 @@ module _ (s : Numbers) (m : ℕ) (rows : List (List BinAt)) (bins : List (List P
             holds_stays (IsApart s (i + 1) frame) old new place list leaves apart (before k earlier))
         | inr last ↦ (
             let same : i ≡ k = omega arith in
-            subst (λ (n : ℕ). HoldsFrame (frame_place s (n + 1) (landing_frame s m rows n)) (new 2) (get_or bins n [])) same
-            (subst (λ (f : ℕ). HoldsFrame (frame_place s (i + 1) f) (new 2) (get_or bins i [])) (sym frame_is)
-            (subst (HoldsFrame (frame_place s (i + 1) frame) (new 2)) (sym pieces_are) here)))
+            subst (λ (n : ℕ). HoldsFrame (frame_place s (n + 1) (landing_frame s m rows n)) (new FRAMES) (get_or bins n [])) same
+            (subst (λ (f : ℕ). HoldsFrame (frame_place s (i + 1) f) (new FRAMES) (get_or bins i [])) (sym frame_is)
+            (subst (HoldsFrame (frame_place s (i + 1) frame) (new FRAMES)) (sym pieces_are) here)))
       ]
 
   -- and the rest is as it was
-  pub rest_more : (i frame : ℕ) (files_first files_middle files_last : Option Files) (leaves_first leaves_middle : Files → Type 0) (first middle last : ℕ) (since_first since_middle since_last : ℕ → Files → Type 0) →
-      i < length rows → landing_frame s m rows i ≡ frame →
-      ((image : Files) → leaves_middle image → since_middle middle image) → ((t u : ℕ) (image : Files) → t ≤ u → since_middle u image → since_middle t image) → ((t u : ℕ) (image : Files) → t ≤ u → since_last u image → since_last t image) →
-      KeepsRest (AreApart s m rows) files_first files_middle leaves_first first middle since_first since_middle → KeepsRest (IsApart s (i + 1) frame) files_middle files_last leaves_middle middle last since_middle since_last →
-      KeepsRest (AreApart s m rows) files_first files_last leaves_first first last since_first since_last
-  rest_more i frame files_first files_middle files_last leaves_first leaves_middle first middle last since_first since_middle since_last below frame_is now earlier_middle earlier_last one two =
-      rest_on (AreApart s m rows) files_first files_middle files_last leaves_first leaves_middle first middle last since_first since_middle since_last now earlier_middle earlier_last one
-      (rest_fewer (IsApart s (i + 1) frame) (AreApart s m rows) files_middle files_last leaves_middle middle last since_middle since_last
+  pub rest_more : {B : Type 0} (bays : Bays B) → IsLawful bays → (i frame : ℕ) (first middle last : B) (First Failed : Type 0) → i < length rows → landing_frame s m rows i ≡ frame →
+      KeepsBay bays first middle First → KeepsBay bays middle last Failed →
+      KeepsRest bays (AreApart s m rows) first middle → KeepsRest bays (IsApart s (i + 1) frame) middle last → KeepsRest bays (AreApart s m rows) first last
+  rest_more bays lawful i frame first middle last First Failed below frame_is kept_first kept_last one two =
+      rest_on bays lawful (AreApart s m rows) first middle last First Failed kept_first kept_last one
+      (rest_fewer bays (IsApart s (i + 1) frame) (AreApart s m rows) middle last
       (λ from to apart. subst (λ (f : ℕ). IsApart s (i + 1) f from to) frame_is (apart i below)) two)
 
 -- after a sync that may have failed each image is one of before
-pub synced_was : {T E : Type 0} (result : Result T E) (files : Option Files) (leaves_before leaves_after : Files → Type 0) → ((seen : Files) → files ≡ Some seen → OnOk result (Settles 2 (seen 2) leaves_before leaves_after)) → OnErr result (KeepsImages leaves_before leaves_after) →
+pub synced_was : {T E : Type 0} (result : Result T E) (files : Option Files) (leaves_before leaves_after : Files → Type 0) → ((seen : Files) → files ≡ Some seen → OnOk result (Settles FRAMES (seen FRAMES) leaves_before leaves_after)) → OnErr result (KeepsImages leaves_before leaves_after) →
     (seen : Files) → files ≡ Some seen → (image : Files) → leaves_after image → leaves_before image
 synced_was result files leaves_before leaves_after durable failed seen told image left =
-    either_way (leaves_before image) (Settles 2 (seen 2) leaves_before leaves_after) (KeepsImages leaves_before leaves_after) result (durable seen told) failed (λ settles. settles.was image left) (λ keeps. (keeps image).0 left)
+    either_way (leaves_before image) (Settles FRAMES (seen FRAMES) leaves_before leaves_after) (KeepsImages leaves_before leaves_after) result (durable seen told) failed (λ settles. settles.was image left) (λ keeps. (keeps image).0 left)
 
 -- and after one that succeeded it has the file as a read gives it
-pub synced_durable : {T E : Type 0} (result : Result T E) (files_before files_after : Option Files) (leaves_before leaves_after : Files → Type 0) → files_after ≡ files_before → ((seen : Files) → files_before ≡ Some seen → OnOk result (Settles 2 (seen 2) leaves_before leaves_after)) →
-    OnOk result ((seen : Files) → files_after ≡ Some seen → (image : Files) → leaves_after image → image 2 ≡ seen 2)
+pub synced_durable : {T E : Type 0} (result : Result T E) (files_before files_after : Option Files) (leaves_before leaves_after : Files → Type 0) → files_after ≡ files_before → ((seen : Files) → files_before ≡ Some seen → OnOk result (Settles FRAMES (seen FRAMES) leaves_before leaves_after)) →
+    OnOk result ((seen : Files) → files_after ≡ Some seen → (image : Files) → leaves_after image → image FRAMES ≡ seen FRAMES)
 synced_durable (Ok value) files_before files_after leaves_before leaves_after same durable = λ seen told image left. (durable seen (sym same ∙ told)).durable image left
 synced_durable (Err error) files_before files_after leaves_before leaves_after same durable = tt
 
 -- ---- calls that read alone leave all
 
-pub read_rest : (kept : ℕ → ℕ → Type 0) (files_before files_after : Option Files) (leaves_before leaves_after : Files → Type 0) (first last : ℕ) (since_before since_after : ℕ → Files → Type 0) → OnlyRead files_before files_after leaves_before leaves_after first last since_before since_after → KeepsRest kept files_before files_after leaves_before first last since_before since_after
-read_rest kept files_before files_after leaves_before leaves_after first last since_before since_after read = record {
+pub read_rest : {B : Type 0} (bays : Bays B) (kept : ℕ → ℕ → Type 0) (before after : B) (Failed : Type 0) → OnlyReads bays before after Failed → KeepsRest bays kept before after
+read_rest bays kept before after Failed read = record {
   seen = record { told = λ old told. (old, read.seen ∙ told, leaves_same kept old); untold = λ untold. read.seen ∙ untold };
   settled = λ seen told number from to may settled image since. settled.same image (read.moments image since);
-  time = read.time;
 }

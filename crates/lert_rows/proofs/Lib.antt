@@ -5,6 +5,9 @@ pub mod Windows
 pub mod CoverLaws
 pub mod DirectoryLaws
 mod YoungLaws
+mod YoungAdds
+mod YoungDrops
+mod YoungCounts
 pub mod YoungBins
 mod LoadLaws
 pub mod ReadLaws

@@ -1,43 +1,30 @@
 -- The bins of levels as they are read: one more, and a level more.
-use Rattle.std.proofs.Common.{ℕ, ◌≡◌, ◌+◌, ◌<◌, ◌≤◌, List, [], ◌∷◌, ◌++◌, length, map, take, get_or, ap, ap₂, flat_map, sym, ◌∙◌, inl, inr, subst, Option, Result, arith}
+use Rattle.std.proofs.Common.{ℕ, ◌≡◌, ◌+◌, ◌<◌, List, [], ◌∷◌, ◌++◌, length, map, take, get_or, refl, ap, ap₂, flat_map, sym, ◌∙◌, subst, Result}
 use Rattle.std.specs.Prelude.{Ok, Err, IsErrAnd}
-use Rattle.std.proofs.lemmas.Bool.{cases_lt}
 use Rattle.std.proofs.lemmas.List.{append_assoc, map_push, map_more, get_or-map, flat_map_more, take_more}
-use Rattle.lert_bay.specs.Files.{Files}
-use Rattle.lert_bay.proofs.Lasting.{lasts_on}
 use Rattle.lert_frames.specs.declared.bin.LoadedBin.{LoadedBin}
 use Rattle.lert_frames.specs.declared.fault.LoadFault.{LoadFault}
 use Rattle.lert_frames.specs.declared.fault.LoadFault.TheVariants.{Failed as LoadFailed, Malformed as LoadMalformed, OutOfMemory as LoadOutOfMemory}
 use Rattle.lert_frames.specs.Frame.{IsBin}
-use Rattle.lert_bay.specs.Kept.{OnlyRead}
-use Rattle.lert_io.specs.Fault.{HasRisen, last_count}
 use Rattle.lert_spec.specs.declared.piece.Piece.{Piece}
 use Rattle.lert_rows.specs.declared.bin_at.BinAt.{BinAt}
 use Rattle.lert_rows.specs.declared.fault.FlushFault.{FlushFault}
-use Rattle.lert_rows.specs.declared.fault.FlushFault.TheVariants.{Malformed}
+use Rattle.lert_rows.specs.declared.fault.FlushFault.TheVariants.{Failed, Malformed}
 use Rattle.lert_rows.specs.Loading.{lists_of, width_of, AreBins, flush_fault}
 
--- where a flush says that a frame is malformed, its load said so
+-- where a flush says that a call of the bay failed, its load said so
+pub failed_there : {T : Type 0} (result : Result T FlushFault) (load : LoadFault) → IsErrAnd result (λ fault. fault ≡ flush_fault load) → result ≡ Err Failed → load ≡ LoadFailed
+failed_there (Ok x) load gave is = absurd (cc)
+failed_there (Err fault) LoadFailed gave is = refl
+failed_there (Err fault) (LoadMalformed there) gave is = absurd (cc)
+failed_there (Err fault) LoadOutOfMemory gave is = absurd (cc)
+
+-- where it says that a frame is malformed, its load said so
 pub malformed_there : {T : Type 0} (result : Result T FlushFault) (load : LoadFault) (at : ℕ) → IsErrAnd result (λ fault. fault ≡ flush_fault load) → result ≡ Err (Malformed at) → load ≡ LoadMalformed at
 malformed_there (Ok x) load at gave is = absurd (cc)
 malformed_there (Err fault) LoadFailed at gave is = absurd (cc)
 malformed_there (Err fault) (LoadMalformed there) at gave is = ap LoadMalformed (let same : there ≡ at = cc in same)
 malformed_there (Err fault) LoadOutOfMemory at gave is = absurd (cc)
-
--- calls that read alone, one after the other
-pub only_read_on : (files_first files_middle files_last : Option Files) (leaves_first leaves_middle leaves_last : Files → Type 0) (first middle last : ℕ) (since_first since_middle since_last : ℕ → Files → Type 0) →
-    ((t u : ℕ) (image : Files) → t ≤ u → since_last u image → since_last t image) →
-    OnlyRead files_first files_middle leaves_first leaves_middle first middle since_first since_middle → OnlyRead files_middle files_last leaves_middle leaves_last middle last since_middle since_last →
-    OnlyRead files_first files_last leaves_first leaves_last first last since_first since_last
-only_read_on files_first files_middle files_last leaves_first leaves_middle leaves_last first middle last since_first since_middle since_last earlier one two = record {
-  seen = two.seen ∙ one.seen;
-  images = λ image. ((λ now. (one.images image).0 ((two.images image).0 now)), (λ was. (two.images image).1 ((one.images image).1 was)));
-  moments = λ image since. elim (two.time.known first image one.time.later since) [
-    | inl past ↦ one.moments image past
-    | inr after ↦ (one.images image).0 (two.moments image after)
-  ];
-  time = lasts_on first middle last since_first since_middle since_last one.time two.time earlier;
-}
 
 -- one bin more
 pub bins_push : (limit : ℕ) (widths : List ℕ) (lists : List (List Piece)) (width : ℕ) (pieces : List Piece) → AreBins limit widths lists → IsBin limit width pieces → AreBins limit (widths ++ width ∷ []) (lists ++ pieces ∷ [])
@@ -84,10 +71,3 @@ flat_more f before rows i now is below =
     ap (λ row. (before ++ flat_map f (take i rows)) ++ f row) (sym is)
     ∙ flat_map_more f before (take i rows) (get_or rows i [])
     ∙ ap (λ rs. before ++ flat_map f rs) (sym (take_more rows i [] below))
-
--- a count that has risen since a later moment
-pub risen : (a b c : ℕ) → a ≤ b → b ≤ c → HasRisen b c → HasRisen a c
-risen a b c before after rose below = elim (cases_lt b last_count) [
-  | inl under ↦ (let more = rose under in omega arith)
-  | inr past ↦ omega arith
-]

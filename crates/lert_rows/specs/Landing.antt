@@ -1,7 +1,8 @@
 -- What calls that write some frames leave of the rest of the files.
-use Rattle.std.specs.Prelude.{◌≡◌, ◌≢◌, ◌⊎◌, ℕ, ◌+◌, ◌<◌, ◌≤◌, List, [], length, Option, Some, slice_index_or}
+use Rattle.std.specs.Prelude.{◌≡◌, ◌≢◌, ◌⊎◌, ℕ, ◌+◌, ◌<◌, ◌≤◌, List, [], length, Some, slice_index_or}
+use Rattle.lert_bay.specs.declared.bay.TheConstants.{FRAMES}
 use Rattle.lert_bay.specs.Files.{Files, Turns}
-use Rattle.lert_bay.specs.Images.{Lasts}
+use Rattle.lert_bay.specs.Kept.{Bays}
 use Rattle.lert_bay.specs.Settled.{part, Keeps, IsSettled}
 use Rattle.lert_frames.specs.Frame.{HoldsFrame}
 use Rattle.lert_frames.specs.Place.{frame_place, frame_len, tail_limit}
@@ -18,15 +19,15 @@ IsApart s level frame from to = (to ≤ frame_place s level frame) ⊎ (frame_pl
 
 -- the other files stay as they are, the file of frames gets no shorter, and reads as before in the ranges that are kept
 pub record LeavesRest (kept : ℕ → ℕ → Type 0) (old new : Files) : Type 0 where
-  pub others : (number : ℕ) → number ≢ 2 → new number ≡ old number
-  pub longer : length (old 2) ≤ length (new 2)
-  pub rest : (from to : ℕ) → kept from to → to ≤ length (old 2) → part (new 2) from to ≡ part (old 2) from to
+  pub others : (number : ℕ) → number ≢ FRAMES → new number ≡ old number
+  pub longer : length (old FRAMES) ≤ length (new FRAMES)
+  pub rest : (from to : ℕ) → kept from to → to ≤ length (old FRAMES) → part (new FRAMES) from to ≡ part (old FRAMES) from to
 
 -- and what is settled in the other files, or in these ranges, stays settled in each image of each moment since
-pub record KeepsRest (kept : ℕ → ℕ → Type 0) (files_before files_after : Option Files) (leaves_before : Files → Type 0) (first last : ℕ) (since_before since_after : ℕ → Files → Type 0) : Type 0 where
-  pub seen : Turns (LeavesRest kept) files_before files_after
-  pub settled : (seen : Files) → files_before ≡ Some seen → (number from to : ℕ) → (number ≢ 2) ⊎ kept from to → IsSettled leaves_before seen number from to → Keeps (since_after first) seen number from to
-  pub time : Lasts first last since_before since_after
+pub record KeepsRest {B : Type 0} (bays : Bays B) (kept : ℕ → ℕ → Type 0) (before after : B) : Type 0 where
+  pub seen : Turns (LeavesRest kept) (bays.files before) (bays.files after)
+  pub settled : (seen : Files) → bays.files before ≡ Some seen → (number from to : ℕ) → (number ≢ FRAMES) ⊎ kept from to →
+      IsSettled (bays.leaves before) seen number from to → Keeps (bays.left_since after (bays.moment before)) seen number from to
 
 -- every range
 abbrev pub Anywhere : ℕ → ℕ → Type 0

@@ -3,7 +3,7 @@ use Rattle.std.specs.Prelude.{ℕ, suc, ◌≡◌, ◌≢◌, ◌+◌, ◌-◌, 
 use Rattle.lert_spec.specs.declared.numbers.Numbers.{Numbers}
 use Rattle.lert_spec.specs.declared.piece.Piece.{Piece}
 use Rattle.lert_spec.specs.Bins.{Bin}
-use Rattle.lert_spec.specs.Edges.{span, capacity}
+use Rattle.lert_spec.specs.Edges.{span, capacity, quotient_bits, width}
 use Rattle.lert_spec.specs.Limits.{IsValid}
 use Rattle.lert_spec.specs.Table.{total, plus}
 
@@ -55,15 +55,20 @@ bins_of wide from to (pieces ∷ tables) =
     then record { from = from; to = min to (from + wide); pieces = pieces } ∷ bins_of wide (from + wide) to tables
     else []
 
+-- a table with the room, the quotient bits and the width of level 0
+pub record IsOfZero (s : Numbers) (room quotient remainder : ℕ) : Type 0 where
+  pub events : room ≡ span s 0
+  pub quotients : quotient ≡ quotient_bits s 0
+  pub remainders : remainder ≡ width s 0
+
 -- the table with this number has the events of its bin, and none where no position is in it
-pub record IsFilled (s : Numbers) (from to number : ℕ) (pieces : List Piece) (room tail_bits : ℕ) : Type 0 where
+pub record IsFilled (s : Numbers) (from to number : ℕ) (pieces : List Piece) (room quotient remainder : ℕ) : Type 0 where
   pub summed : total pieces ≡ min (span s 0) (to - (from + number * span s 0))
   pub unused : to ≤ from + number * span s 0 → pieces ≡ []
-  pub events : room ≡ span s 0
-  pub bits : tail_bits ≡ 64 - s.cone_bits
+  pub of_zero : IsOfZero s room quotient remainder
 
 -- what stands between two calls
-pub record AreFilled {T : Type 0} (pieces : T → List Piece) (room tail_bits : T → ℕ) (s : Numbers) (tables : List T) (from to : ℕ) : Type 0 where
+pub record AreFilled {T : Type 0} (pieces : T → List Piece) (room quotient remainder : T → ℕ) (s : Numbers) (tables : List T) (from to : ℕ) : Type 0 where
   pub valid : IsValid s
   pub len : length tables ≡ s.bins
   pub aligned : from % span s 0 ≡ 0
@@ -71,4 +76,5 @@ pub record AreFilled {T : Type 0} (pieces : T → List Piece) (room tail_bits : 
   pub within : to ≤ from + s.bins * span s 0
   pub last : to ≤ capacity s
   pub each : (k : ℕ) (d : T) → k < length tables →
-      IsFilled s from to k (pieces (slice_index_or tables k d)) (room (slice_index_or tables k d)) (tail_bits (slice_index_or tables k d))
+      IsFilled s from to k (pieces (slice_index_or tables k d)) (room (slice_index_or tables k d))
+      (quotient (slice_index_or tables k d)) (remainder (slice_index_or tables k d))

@@ -1,10 +1,11 @@
 //! The new bins of a flush, as they are written.
 
-ghost use Rattle.std.specs.Prelude.{◌≡◌, ℕ, ◌+◌, ◌<◌, ◌≤◌, [], length, map, OnOk, slice_index_or};
+ghost use Rattle.std.specs.Prelude.{◌≡◌, ℕ, ◌+◌, ◌<◌, ◌≤◌, [], length, map, OnOk, IsErr, slice_index_or};
+ghost use Rattle.lert_bay.specs.declared.bay.TheConstants.{FRAMES};
 ghost use Rattle.lert_bay.specs.Files.{Files, IfTold};
+ghost use Rattle.lert_bay.specs.Kept.{KeepsBay};
 ghost use Rattle.lert_frames.specs.Frame.{HoldsFrame};
 ghost use Rattle.lert_frames.specs.Place.{frame_place};
-ghost use Rattle.lert_io.specs.Fault.{HasCause};
 ghost use Rattle.lert_spec.specs.Edges.{capacity};
 ghost use Rattle.lert_rows.specs.Landing.{IsApart, KeepsRest, Anywhere, AreApart, CanStand, AreLanded};
 ghost use Rattle.lert_rows.specs.Rows.{IsRow};
@@ -32,11 +33,10 @@ pub fn write_arrivals<B: Bay>(
     requires len { length bins.now ≡ length rows.now }
     requires bins { (k : ℕ) → k < length bins.now → CanStand settings.now (k + 1) (slice_index_or (map (λ bin. bin.items) bins.now) k []) }
     ensures stand { OnOk result (IfTold (B.files bay.new) (λ seen.
-        AreLanded settings.now m (map (λ row. row.items) rows.now) (seen 2) (map (λ bin. bin.items) bins.now) (length rows.now))) }
-    ensures durable { OnOk result (IfTold (B.files bay.new) (λ seen. (image : Files) → B.leaves bay.new image → image 2 ≡ seen 2)) }
-    ensures rest { KeepsRest (AreApart settings.now m (map (λ row. row.items) rows.now)) (B.files bay.old) (B.files bay.new) (B.leaves bay.old) (B.moment bay.old) (B.moment bay.new) (B.left_since bay.old) (B.left_since bay.new) }
-    ensures cause { HasCause (B.faults bay.old) (B.faults bay.new) result }
-    ensures mark { B.mark bay.new ≡ B.mark bay.old }
+        AreLanded settings.now m (map (λ row. row.items) rows.now) (seen FRAMES) (map (λ bin. bin.items) bins.now) (length rows.now))) }
+    ensures durable { OnOk result (IfTold (B.files bay.new) (λ seen. (image : Files) → B.leaves bay.new image → image FRAMES ≡ seen FRAMES)) }
+    ensures rest { KeepsRest B.Bay (AreApart settings.now m (map (λ row. row.items) rows.now)) bay.old bay.new }
+    ensures kept { KeepsBay B.Bay bay.old bay.new (IsErr result) }
 {
     store_bins(settings, m, rows, bins, bay)?;
     // One sync behind all frames, before the rows move and a record names them.
@@ -46,10 +46,9 @@ pub fn write_arrivals<B: Bay>(
 // Makes the file of frames durable.
 fn sync_frames<B: Bay>(bay: &mut B) -> Result<(), Failed>
     ensures seen { B.files bay.new ≡ B.files bay.old }
-    ensures durable { OnOk result (IfTold (B.files bay.new) (λ seen. (image : Files) → B.leaves bay.new image → image 2 ≡ seen 2)) }
-    ensures rest { KeepsRest Anywhere (B.files bay.old) (B.files bay.new) (B.leaves bay.old) (B.moment bay.old) (B.moment bay.new) (B.left_since bay.old) (B.left_since bay.new) }
-    ensures cause { HasCause (B.faults bay.old) (B.faults bay.new) result }
-    ensures mark { B.mark bay.new ≡ B.mark bay.old }
+    ensures durable { OnOk result (IfTold (B.files bay.new) (λ seen. (image : Files) → B.leaves bay.new image → image FRAMES ≡ seen FRAMES)) }
+    ensures rest { KeepsRest B.Bay Anywhere bay.old bay.new }
+    ensures kept { KeepsBay B.Bay bay.old bay.new (IsErr result) }
 {
     bay.sync(FRAMES)
 }
@@ -69,10 +68,9 @@ fn store_bins<B: Bay>(
     requires len { length bins.now ≡ length rows.now }
     requires bins { (k : ℕ) → k < length bins.now → CanStand settings.now (k + 1) (slice_index_or (map (λ bin. bin.items) bins.now) k []) }
     ensures stand { OnOk result (IfTold (B.files bay.new) (λ seen.
-        AreLanded settings.now m (map (λ row. row.items) rows.now) (seen 2) (map (λ bin. bin.items) bins.now) (length rows.now))) }
-    ensures rest { KeepsRest (AreApart settings.now m (map (λ row. row.items) rows.now)) (B.files bay.old) (B.files bay.new) (B.leaves bay.old) (B.moment bay.old) (B.moment bay.new) (B.left_since bay.old) (B.left_since bay.new) }
-    ensures cause { HasCause (B.faults bay.old) (B.faults bay.new) result }
-    ensures mark { B.mark bay.new ≡ B.mark bay.old }
+        AreLanded settings.now m (map (λ row. row.items) rows.now) (seen FRAMES) (map (λ bin. bin.items) bins.now) (length rows.now))) }
+    ensures rest { KeepsRest B.Bay (AreApart settings.now m (map (λ row. row.items) rows.now)) bay.old bay.new }
+    ensures kept { KeepsBay B.Bay bay.old bay.new (IsErr result) }
 {
     let _valid = settings.numbers();
     for (lower, row) in rows.iter().enumerate() {
@@ -96,10 +94,9 @@ fn store_bin<B: Bay>(
     requires last { level ≤ settings.now.levels }
     requires frame { frame ≤ settings.now.bins }
     requires pieces { CanStand settings.now level pieces.now }
-    ensures stands { OnOk result (IfTold (B.files bay.new) (λ seen. HoldsFrame (frame_place settings.now level frame) (seen 2) pieces.now)) }
-    ensures rest { KeepsRest (IsApart settings.now level frame) (B.files bay.old) (B.files bay.new) (B.leaves bay.old) (B.moment bay.old) (B.moment bay.new) (B.left_since bay.old) (B.left_since bay.new) }
-    ensures cause { HasCause (B.faults bay.old) (B.faults bay.new) result }
-    ensures mark { B.mark bay.new ≡ B.mark bay.old }
+    ensures stands { OnOk result (IfTold (B.files bay.new) (λ seen. HoldsFrame (frame_place settings.now level frame) (seen FRAMES) pieces.now)) }
+    ensures rest { KeepsRest B.Bay (IsApart settings.now level frame) bay.old bay.new }
+    ensures kept { KeepsBay B.Bay bay.old bay.new (IsErr result) }
 {
     store(settings, level, frame, pieces, bay)
 }

@@ -1,11 +1,11 @@
 //! The bins of levels on disk, as a flush or a scan reads them.
 
 ghost use Rattle.std.specs.Prelude.{◌≡◌, ◌⊎◌, ℕ, ◌+◌, ◌<◌, ◌≤◌, ◌++◌, List, [], length, map, All, IfOk, OnOk, MatchResult, IsErrOf, slice_index_or};
+ghost use Rattle.lert_bay.specs.declared.bay.TheConstants.{FRAMES};
 ghost use Rattle.lert_bay.specs.Files.{IfTold};
 ghost use Rattle.lert_frames.specs.Frame.{IsBin};
-ghost use Rattle.lert_bay.specs.Kept.{OnlyRead};
+ghost use Rattle.lert_bay.specs.Kept.{OnlyReads};
 ghost use Rattle.lert_frames.specs.Place.{tail_limit};
-ghost use Rattle.lert_io.specs.Fault.{HasRisen};
 ghost use Rattle.lert_spec.specs.Edges.{span};
 ghost use Rattle.lert_spec.specs.declared.piece.Piece.{Piece};
 ghost use Rattle.lert_rows.specs.declared.bin_at.BinAt.{BinAt};
@@ -33,7 +33,7 @@ pub fn load_rows<B: Bay>(
 
     // Where the file is told and the frames hold the pieces, these are read; only a call of the bay or memory may fail.
     ensures lists { IfTold (B.files bay.old) (λ seen. (held : BinAt → List Piece) →
-        AllStand settings.now (seen 2) held (map (λ row. row.items) rows.now) → MatchResult result
+        AllStand settings.now (seen FRAMES) held (map (λ row. row.items) rows.now) → MatchResult result
         (λ _. lists_of streams.new.items ≡ lists_of streams.old.items ++ held_in held (map (λ row. row.items) rows.now))
         (λ fault. (fault ≡ FlushFault.Failed) ⊎ (fault ≡ FlushFault.OutOfMemory))) }
 
@@ -42,11 +42,8 @@ pub fn load_rows<B: Bay>(
         (AreBins (tail_limit settings.now) (widths ++ widths_in (map (λ row. row.items) rows.now)) (lists_of streams.new.items)) }
     ensures fresh { OnOk result (All (λ bin. bin.given ≡ 0) streams.old.items → All (λ bin. bin.given ≡ 0) streams.new.items) }
     ensures malformed { IfTold (B.files bay.old) (λ seen. (at : ℕ) → IsErrOf result (FlushFault.Malformed at) →
-        OneBreaks settings.now (map (λ row. row.items) rows.now) (seen 2) at) }
-    ensures only_read { OnlyRead (B.files bay.old) (B.files bay.new) (B.leaves bay.old) (B.leaves bay.new) (B.moment bay.old) (B.moment bay.new) (B.left_since bay.old) (B.left_since bay.new) }
-    ensures never_falls { B.faults bay.old ≤ B.faults bay.new }
-    ensures failed { IsErrOf result FlushFault.Failed → HasRisen (B.faults bay.old) (B.faults bay.new) }
-    ensures mark { B.mark bay.new ≡ B.mark bay.old }
+        OneBreaks settings.now (map (λ row. row.items) rows.now) (seen FRAMES) at) }
+    ensures only_reads { OnlyReads B.Bay bay.old bay.new (IsErrOf result FlushFault.Failed) }
 {
     let _valid = settings.numbers();
     let mut level = 0;
@@ -70,18 +67,15 @@ fn load_row<B: Bay>(
     requires last { level ≤ settings.now.levels }
     requires row { IsRow settings.now level row.now }
     ensures lists { IfTold (B.files bay.old) (λ seen. (held : BinAt → List Piece) →
-        All (Stands settings.now level (seen 2) held) row.now → MatchResult result
+        All (Stands settings.now level (seen FRAMES) held) row.now → MatchResult result
         (λ _. lists_of streams.new.items ≡ lists_of streams.old.items ++ map held row.now)
         (λ fault. (fault ≡ FlushFault.Failed) ⊎ (fault ≡ FlushFault.OutOfMemory))) }
     ensures bins { (widths : List ℕ) → AreBins (tail_limit settings.now) widths (lists_of streams.old.items) → OnOk result
         (AreBins (tail_limit settings.now) (widths ++ map width_of row.now) (lists_of streams.new.items)) }
     ensures fresh { OnOk result (All (λ bin. bin.given ≡ 0) streams.old.items → All (λ bin. bin.given ≡ 0) streams.new.items) }
     ensures malformed { IfTold (B.files bay.old) (λ seen. (at : ℕ) → IsErrOf result (FlushFault.Malformed at) →
-        RowBreaks settings.now level row.now (seen 2) at) }
-    ensures only_read { OnlyRead (B.files bay.old) (B.files bay.new) (B.leaves bay.old) (B.leaves bay.new) (B.moment bay.old) (B.moment bay.new) (B.left_since bay.old) (B.left_since bay.new) }
-    ensures never_falls { B.faults bay.old ≤ B.faults bay.new }
-    ensures failed { IsErrOf result FlushFault.Failed → HasRisen (B.faults bay.old) (B.faults bay.new) }
-    ensures mark { B.mark bay.new ≡ B.mark bay.old }
+        RowBreaks settings.now level row.now (seen FRAMES) at) }
+    ensures only_reads { OnlyReads B.Bay bay.old bay.new (IsErrOf result FlushFault.Failed) }
 {
     for bin in row {
         streams.push(load_bin(alloc, settings, level, bin, bay)?)?;
@@ -103,17 +97,14 @@ fn load_bin<B: Bay>(
     requires some { bin.now.from < bin.now.to }
     requires width { width_of bin.now ≤ span settings.now level }
     ensures lists { IfTold (B.files bay.old) (λ seen. (held : BinAt → List Piece) →
-        Stands settings.now level (seen 2) held bin.now → MatchResult result
+        Stands settings.now level (seen FRAMES) held bin.now → MatchResult result
         (λ loaded. loaded.pieces.items ≡ held bin.now)
         (λ fault. (fault ≡ FlushFault.Failed) ⊎ (fault ≡ FlushFault.OutOfMemory))) }
     ensures bin { IfOk result (λ loaded. IsBin (tail_limit settings.now) (width_of bin.now) loaded.pieces.items) }
     ensures fresh { IfOk result (λ loaded. loaded.given ≡ 0) }
     ensures malformed { IfTold (B.files bay.old) (λ seen. (at : ℕ) → IsErrOf result (FlushFault.Malformed at) →
-        BinBreaks settings.now level bin.now (seen 2) at) }
-    ensures only_read { OnlyRead (B.files bay.old) (B.files bay.new) (B.leaves bay.old) (B.leaves bay.new) (B.moment bay.old) (B.moment bay.new) (B.left_since bay.old) (B.left_since bay.new) }
-    ensures never_falls { B.faults bay.old ≤ B.faults bay.new }
-    ensures failed { IsErrOf result FlushFault.Failed → HasRisen (B.faults bay.old) (B.faults bay.new) }
-    ensures mark { B.mark bay.new ≡ B.mark bay.old }
+        BinBreaks settings.now level bin.now (seen FRAMES) at) }
+    ensures only_reads { OnlyReads B.Bay bay.old bay.new (IsErrOf result FlushFault.Failed) }
 {
     let width = bin.to - bin.from;
     Ok(load(alloc, settings, level, u32::from(bin.frame), width, bay)?)

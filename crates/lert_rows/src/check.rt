@@ -1,9 +1,9 @@
 //! A check of the frames in which the bins of levels stand.
 
 ghost use Rattle.std.specs.Prelude.{◌≡◌, ℕ, ◌+◌, ◌<◌, ◌≤◌, ◌^◌, List, [], Some, None, length, map, OnOk, IsErrOf, slice_index_or};
+ghost use Rattle.lert_bay.specs.declared.bay.TheConstants.{FRAMES};
 ghost use Rattle.lert_bay.specs.Files.{IfTold};
-ghost use Rattle.lert_bay.specs.Kept.{OnlyRead};
-ghost use Rattle.lert_io.specs.Fault.{HasRisen};
+ghost use Rattle.lert_bay.specs.Kept.{OnlyReads};
 ghost use Rattle.lert_spec.specs.Edges.{span};
 ghost use Rattle.lert_rows.specs.Checked.{pieces_in, RowStands, EachStands, bin_left, row_left, rows_left};
 ghost use Rattle.lert_rows.specs.Loading.{width_of, Stands};
@@ -26,14 +26,11 @@ pub fn check_rows<B: Bay>(
 ) -> Result<(), FlushFault>
     requires few { length rows.now ≤ settings.now.levels }
     requires rows { (k : ℕ) → k < length rows.now → IsRow settings.now (k + 1) (slice_index_or (map (λ row. row.items) rows.now) k []) }
-    ensures stand { IfTold (B.files bay.old) (λ seen. OnOk result (EachStands settings.now (seen 2) (map (λ row. row.items) rows.now))) }
-    ensures whole { IfTold (B.files bay.old) (λ seen. OnOk result (rows_left settings.now (seen 2) (map (λ row. row.items) rows.now) ≡ None)) }
+    ensures stand { IfTold (B.files bay.old) (λ seen. OnOk result (EachStands settings.now (seen FRAMES) (map (λ row. row.items) rows.now))) }
+    ensures whole { IfTold (B.files bay.old) (λ seen. OnOk result (rows_left settings.now (seen FRAMES) (map (λ row. row.items) rows.now) ≡ None)) }
     ensures malformed { IfTold (B.files bay.old) (λ seen. (at : ℕ) → IsErrOf result (FlushFault.Malformed at) →
-        rows_left settings.now (seen 2) (map (λ row. row.items) rows.now) ≡ Some at) }
-    ensures only_read { OnlyRead (B.files bay.old) (B.files bay.new) (B.leaves bay.old) (B.leaves bay.new) (B.moment bay.old) (B.moment bay.new) (B.left_since bay.old) (B.left_since bay.new) }
-    ensures never_falls { B.faults bay.old ≤ B.faults bay.new }
-    ensures failed { IsErrOf result FlushFault.Failed → HasRisen (B.faults bay.old) (B.faults bay.new) }
-    ensures mark { B.mark bay.new ≡ B.mark bay.old }
+        rows_left settings.now (seen FRAMES) (map (λ row. row.items) rows.now) ≡ Some at) }
+    ensures only_reads { OnlyReads B.Bay bay.old bay.new (IsErrOf result FlushFault.Failed) }
 {
     let _valid = settings.numbers();
     let mut level = 0;
@@ -55,14 +52,11 @@ fn check_row<B: Bay>(
     requires first { 1 ≤ level }
     requires last { level ≤ settings.now.levels }
     requires row { IsRow settings.now level row.now }
-    ensures stand { IfTold (B.files bay.old) (λ seen. OnOk result (RowStands settings.now (seen 2) level row.now)) }
-    ensures whole { IfTold (B.files bay.old) (λ seen. OnOk result (row_left settings.now (seen 2) level row.now ≡ None)) }
+    ensures stand { IfTold (B.files bay.old) (λ seen. OnOk result (RowStands settings.now (seen FRAMES) level row.now)) }
+    ensures whole { IfTold (B.files bay.old) (λ seen. OnOk result (row_left settings.now (seen FRAMES) level row.now ≡ None)) }
     ensures malformed { IfTold (B.files bay.old) (λ seen. (at : ℕ) → IsErrOf result (FlushFault.Malformed at) →
-        row_left settings.now (seen 2) level row.now ≡ Some at) }
-    ensures only_read { OnlyRead (B.files bay.old) (B.files bay.new) (B.leaves bay.old) (B.leaves bay.new) (B.moment bay.old) (B.moment bay.new) (B.left_since bay.old) (B.left_since bay.new) }
-    ensures never_falls { B.faults bay.old ≤ B.faults bay.new }
-    ensures failed { IsErrOf result FlushFault.Failed → HasRisen (B.faults bay.old) (B.faults bay.new) }
-    ensures mark { B.mark bay.new ≡ B.mark bay.old }
+        row_left settings.now (seen FRAMES) level row.now ≡ Some at) }
+    ensures only_reads { OnlyReads B.Bay bay.old bay.new (IsErrOf result FlushFault.Failed) }
 {
     for bin in row {
         check_bin(alloc, settings, level, bin, bay)?;
@@ -84,14 +78,11 @@ fn check_bin<B: Bay>(
     requires some { bin.now.from < bin.now.to }
     requires width { width_of bin.now ≤ span settings.now level }
     requires end { bin.now.to < 2 ^ 32 }
-    ensures stand { IfTold (B.files bay.old) (λ seen. OnOk result (Stands settings.now level (seen 2) (pieces_in settings.now (seen 2) level) bin.now)) }
-    ensures whole { IfTold (B.files bay.old) (λ seen. OnOk result (bin_left settings.now (seen 2) level bin.now ≡ None)) }
+    ensures stand { IfTold (B.files bay.old) (λ seen. OnOk result (Stands settings.now level (seen FRAMES) (pieces_in settings.now (seen FRAMES) level) bin.now)) }
+    ensures whole { IfTold (B.files bay.old) (λ seen. OnOk result (bin_left settings.now (seen FRAMES) level bin.now ≡ None)) }
     ensures malformed { IfTold (B.files bay.old) (λ seen. (at : ℕ) → IsErrOf result (FlushFault.Malformed at) →
-        bin_left settings.now (seen 2) level bin.now ≡ Some at) }
-    ensures only_read { OnlyRead (B.files bay.old) (B.files bay.new) (B.leaves bay.old) (B.leaves bay.new) (B.moment bay.old) (B.moment bay.new) (B.left_since bay.old) (B.left_since bay.new) }
-    ensures never_falls { B.faults bay.old ≤ B.faults bay.new }
-    ensures failed { IsErrOf result FlushFault.Failed → HasRisen (B.faults bay.old) (B.faults bay.new) }
-    ensures mark { B.mark bay.new ≡ B.mark bay.old }
+        bin_left settings.now (seen FRAMES) level bin.now ≡ Some at) }
+    ensures only_reads { OnlyReads B.Bay bay.old bay.new (IsErrOf result FlushFault.Failed) }
 {
     let width = bin.to - bin.from;
     let _loaded = load(alloc, settings, level, u32::from(bin.frame), width, bay)?;

@@ -1,11 +1,11 @@
 //! Level 0 in memory.
 
 ghost use Rattle.std.specs.Prelude.{◌≡◌, ◌+◌, ◌-◌, ◌/◌, ◌^◌, ◌<◌, ◌≤◌, ◌==◌, if◌then◌else◌, ◌++◌, [], All, drop, length, map, IfOk, OnOk, sum_by};
-ghost use Rattle.lert_spec.specs.Edges.{span};
+ghost use Rattle.lert_spec.specs.Edges.{span, quotient_bits, width};
 ghost use Rattle.lert_frames.specs.Frame.{IsBin};
 ghost use Rattle.lert_spec.specs.Table.{count_of, total, AreGiven};
 ghost use Rattle.lert_rows.specs.Loading.{lists_of};
-ghost use Rattle.lert_rows.specs.Young.{with_event, IsNextPosition};
+ghost use Rattle.lert_rows.specs.Young.{with_event, IsNextPosition, IsOfZero};
 
 use lert_base::{CountTable, Settings};
 use lert_frames::LoadedBin;
@@ -40,7 +40,7 @@ impl<T: CountTable> Model for Zero<T> {
       bins = bins_of (span z.settings 0) z.from z.to (map T.pieces z.tables.items);
     } };
 
-    ghost invariant = { λ z. AreFilled T.pieces T.room T.tail_bits z.settings z.tables.items z.from z.to };
+    ghost invariant = { λ z. AreFilled T.pieces T.room T.quotient_bits T.width z.settings z.tables.items z.from z.to };
 }
 
 impl<T: CountTable> Zero<T> {
@@ -99,7 +99,7 @@ impl<T: CountTable> Zero<T> {
         ensures some { self.now.from < self.now.to → 1 ≤ result }
         ensures few { result ≤ self.now.settings.bins }
     {
-        self.used().len()
+        self.tables().len()
     }
 
     /// Puts the pieces of each bin behind these streams, the oldest bin's first. It takes the memory of the pieces: 16 bytes
@@ -114,13 +114,15 @@ impl<T: CountTable> Zero<T> {
         ensures some { self.now.from < self.now.to → 1 ≤ length self.now.bins }
         ensures few { length self.now.bins ≤ self.now.settings.bins }
     {
-        load_tables(alloc, self.used(), streams)
+        load_tables(alloc, self.tables(), streams)
     }
 
-    // The tables in use, the oldest bin's first.
-    fn used(&self) -> &[T]
+    /// The tables of the bins, the oldest one's first, each with the room, the quotient bits and the width of level 0.
+    pub fn tables(&self) -> &[T]
         ensures pieces { map T.pieces result.now ≡ map (λ bin. bin.pieces) self.now.bins }
-        ensures tables { All (λ table. (T.room table ≤ 2 ^ 47) × (T.tail_bits table ≡ 64 - self.now.settings.cone_bits)) result.now }
+        ensures of_zero { All (λ table. IsOfZero self.now.settings (T.room table) (T.quotient_bits table) (T.width table)) result.now }
+        ensures rooms { All (λ table. (T.room table ≤ 2 ^ 47)
+            × (T.quotient_bits table + T.width table ≡ 64 - self.now.settings.cone_bits)) result.now }
         ensures widths { All (λ bin. total bin.pieces ≡ bin.to - bin.from) self.now.bins }
         ensures narrow { All (λ bin. bin.to - bin.from ≤ span self.now.settings 0) self.now.bins }
         ensures some { self.now.from < self.now.to → 1 ≤ length self.now.bins }
@@ -150,10 +152,10 @@ fn load_tables<T: CountTable>(
     tables: &[T],
     streams: &mut Vec<LoadedBin>,
 ) -> Result<(), OutOfMemory>
-    requires { All (λ table. (T.room table ≤ 2 ^ 47) × (T.tail_bits table ≤ 64)) tables.now }
+    requires { All (λ table. (T.room table ≤ 2 ^ 47) × (T.quotient_bits table + T.width table ≤ 64)) tables.now }
     ensures lists { OnOk result (lists_of streams.new.items ≡ lists_of streams.old.items ++ map T.pieces tables.now) }
     ensures fresh { OnOk result (All (λ bin. bin.given ≡ 0) streams.old.items → All (λ bin. bin.given ≡ 0) streams.new.items) }
-    ensures given { OnOk result (All (λ table. AreGiven (2 ^ T.tail_bits table) (T.pieces table)) tables.now) }
+    ensures given { OnOk result (All (λ table. AreGiven (2 ^ (T.quotient_bits table + T.width table)) (T.pieces table)) tables.now) }
 {
     for table in tables {
         streams.push(load_table(alloc, table)?)?;
@@ -164,10 +166,10 @@ fn load_tables<T: CountTable>(
 // The pieces of a table, of which none was given.
 fn load_table<T: CountTable>(alloc: Global, table: &T) -> Result<LoadedBin, OutOfMemory>
     requires room { T.room table.now ≤ 2 ^ 47 }
-    requires tail_bits { T.tail_bits table.now ≤ 64 }
+    requires bits { T.quotient_bits table.now + T.width table.now ≤ 64 }
     ensures pieces { IfOk result (λ bin. bin.pieces.items ≡ T.pieces table.now) }
     ensures fresh { IfOk result (λ bin. bin.given ≡ 0) }
-    ensures given { OnOk result (AreGiven (2 ^ T.tail_bits table.now) (T.pieces table.now)) }
+    ensures given { OnOk result (AreGiven (2 ^ (T.quotient_bits table.now + T.width table.now)) (T.pieces table.now)) }
 {
     let _in_room = table.events();
     let mut cursor = table.start();
@@ -199,7 +201,8 @@ fn number_of(m: u64, from: u64, span: u64) -> u64
 fn empty_table<T: CountTable>(alloc: Global, settings: &Settings) -> Result<T, OutOfMemory>
     ensures empty { IfOk result (λ table. T.pieces table ≡ []) }
     ensures room { IfOk result (λ table. T.room table ≡ span settings.now 0) }
-    ensures tail_bits { IfOk result (λ table. T.tail_bits table ≡ 64 - settings.now.cone_bits) }
+    ensures quotient_bits { IfOk result (λ table. T.quotient_bits table ≡ quotient_bits settings.now 0) }
+    ensures width { IfOk result (λ table. T.width table ≡ width settings.now 0) }
 {
     let _valid = settings.numbers();
     T::new(

@@ -1,5 +1,5 @@
 -- The text of a run: the groups of remainders that ascend.
-use Rattle.std.specs.Prelude.{ℕ, ◌+◌, ◌≡◌, ◌<◌, ◌≤◌, ◌==◌, List, [], ◌∷◌, ◌++◌, nat_lt, if◌then◌else◌}
+use Rattle.std.specs.Prelude.{ℕ, ◌+◌, ◌^◌, ◌≡◌, ◌<◌, ◌≤◌, ◌==◌, List, [], ◌∷◌, ◌++◌, nat_lt, if◌then◌else◌}
 use Rattle.lert_counter.specs.Group.{group, IsCount}
 
 -- the groups of remainders and their counts, one behind the other
@@ -17,9 +17,14 @@ pub record IsTextOf (width : ℕ) (slots : List ℕ) (ps : List (ℕ × ℕ)) : 
   pub ascend : RemaindersAscend 0 ps
   pub text : slots ≡ run_text width ps
 
--- the slots are a run text
+-- each remainder is below m
+abbrev pub RemaindersBelow : ℕ → List (ℕ × ℕ) → Type 0
+RemaindersBelow m [] = Unit {0}
+RemaindersBelow m (p ∷ ps) = (p.0 < m) × RemaindersBelow m ps
+
+-- the slots are a run text: that of some pairs, whose remainders have at most `width` bits
 abbrev pub IsRunText : ℕ → List ℕ → Type 0
-IsRunText width slots = (ps : List (ℕ × ℕ)) × IsTextOf width slots ps
+IsRunText width slots = (ps : List (ℕ × ℕ)) × IsTextOf width slots ps × RemaindersBelow (2 ^ width) ps
 
 -- how often a remainder stands in the pairs, 0 where it is absent
 abbrev pub count_in : List (ℕ × ℕ) → ℕ → ℕ

@@ -2,7 +2,7 @@
 
 ghost use Rattle.std.specs.Prelude.{◌≡◌, ℕ, ◌≤◌, List};
 ghost use Rattle.lert_runs.specs.Place.{IsPlaceOf};
-ghost use Rattle.lert_runs.specs.RunText.{IsTextOf, IsRunText};
+ghost use Rattle.lert_runs.specs.RunText.{IsTextOf};
 
 use lert_counter::scan_group;
 
@@ -31,7 +31,7 @@ impl Place {
 pub fn find(width: u32, run: &[u64], x: u64) -> Place
     requires narrow { 8 ≤ width }
     requires wide { width ≤ 62 }
-    requires run_text { IsRunText width run.now }
+    requires run_text { (ps : List (ℕ × ℕ)) × IsTextOf width run.now ps }
     ensures { (ps : List (ℕ × ℕ)) → IsTextOf width run.now ps → IsPlaceOf width x ps result }
 {
     let mut start = 0;

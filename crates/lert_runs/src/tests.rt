@@ -9,6 +9,9 @@ fn only_ascending_groups_are_a_run(rt: HostRuntime) {
     // The remainders don't ascend.
     assert!(rt; !read_all(8, &[5, 9, 5]));
     assert!(rt; !read_all(8, &[9, 9, 5, 5]));
+    // A remainder has more bits.
+    assert!(rt; read_all(8, &[255]));
+    assert!(rt; !read_all(8, &[256]));
     // A counter doesn't end.
     assert!(rt; !read_all(8, &[5, 9, 1]));
 }

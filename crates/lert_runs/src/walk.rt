@@ -24,12 +24,13 @@ pub fn group_at(width: u32, run: &[u64], at: usize) -> Option<Group>
     scan_group(width, &run[at..])
 }
 
-/// Whether `run` is a run text.
+/// Whether `run` is a run text, all of whose remainders have at most `width` bits.
 pub fn read_all(width: u32, run: &[u64]) -> bool
     requires narrow { 8 ≤ width }
     requires wide { width ≤ 62 }
     ensures { IsTrue result ↔ IsRunText width run.now }
 {
+    let limit = 1u64 << width;
     let mut at = 0;
     let mut last = 0;
     while at < run.len() {
@@ -37,6 +38,9 @@ pub fn read_all(width: u32, run: &[u64]) -> bool
         let Some(group) = read_group(width, rest) else {
             return false;
         };
+        if group.x >= limit {
+            return false;
+        }
         if at > 0 && group.x <= last {
             return false;
         }

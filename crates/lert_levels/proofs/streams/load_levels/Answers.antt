@@ -1,14 +1,24 @@
-use Rattle.std.proofs.Common.{◌≡◌, ◌-◌, ◌∙◌, ◌++◌, map, length, ap, sym, subst, inr, refl}
+use Rattle.std.proofs.Common.{◌≡◌, ◌-◌, ◌∙◌, ◌++◌, map, length, ap, sym, subst, inr}
 use Rattle.std.proofs.lemmas.Result.{err_from_is_err_and}
 use Rattle.std.specs.List.{All}
 use Rattle.std.proofs.lemmas.List.{length-map}
+use Rattle.lert_bay.specs.Kept.{Bays}
+use Rattle.lert_bay.proofs.KeptLaws.{IsLawful, reads_none, reads_as}
+use Rattle.lert_frames.proofs.WriteLaws.{same_err}
 use Rattle.lert_frames.specs.Frame.{IsBin}
 use Rattle.lert_frames.specs.Place.{tail_limit}
 use Rattle.lert_spec.specs.Bins.{Bin}
 use Rattle.lert_spec.specs.declared.numbers.Numbers.{Numbers}
 use Rattle.lert_rows.specs.Loading.{lists_of, AreBins}
 use Rattle.lert_levels.proofs.MergeLaws.{young_are, streams_count}
+use Rattle.lert_levels.proofs.streams.load_levels.Given as given
 use Rattle.lert_levels.proofs.streams.load_levels.Goals as goal
+
+abbrev bays : (g : given.Over) → Bays g.row.B.Denot
+bays g = record { faults = g.B.Faulty.faults; mark = g.B.Faulty.mark; files = g.B.Bay.files; leaves = g.B.Bay.leaves; moment = g.B.Bay.moment; left_since = g.B.Bay.left_since }
+
+lawful : (g : given.Over) → IsLawful (bays g)
+lawful g = record { as_read = g.met.B.Bay.as_read; since_now = g.met.B.Bay.since_now; only_now = g.met.B.Bay.only_now; since_earlier = g.met.B.Bay.since_earlier }
 
 pub returns-clause-bins : goal.returns-clause-bins
 returns-clause-bins g c =
@@ -70,13 +80,10 @@ returns-in_err-load-clause-malformed g c seen told at is =
     let p = err_from_is_err_and c.from_residual.result c.from_residual.ensures.1 in
     absurd (cc (p.1, p.2))
 
-pub returns-in_err-load-clause-failed : goal.returns-in_err-load-clause-failed
-returns-in_err-load-clause-failed g c is =
+pub returns-in_err-load-clause-only_reads : goal.returns-in_err-load-clause-only_reads
+returns-in_err-load-clause-only_reads g c =
     let p = err_from_is_err_and c.from_residual.result c.from_residual.ensures.1 in
-    absurd (cc (p.1, p.2))
-
-pub returns-in_err-load-clause-mark : goal.returns-in_err-load-clause-mark
-returns-in_err-load-clause-mark g c = refl
+    reads_none (bays g) (lawful g) c.args.bay.now _ (λ is. absurd (cc (p.1, p.2)))
 
 pub returns-in_err-load_rows-clause-lists : goal.returns-in_err-load_rows-clause-lists
 returns-in_err-load_rows-clause-lists g c seen told held stand =
@@ -88,25 +95,11 @@ returns-in_err-load_rows-clause-malformed g c seen told at is =
     let p = err_from_is_err_and c.from_residual-in_err-load_rows.result c.from_residual-in_err-load_rows.ensures.1 in
     c.in_err-load_rows.ensures.malformed seen told at (cc (p.1, p.2))
 
-pub returns-in_err-load_rows-clause-failed : goal.returns-in_err-load_rows-clause-failed
-returns-in_err-load_rows-clause-failed g c is =
+pub returns-in_err-load_rows-clause-only_reads : goal.returns-in_err-load_rows-clause-only_reads
+returns-in_err-load_rows-clause-only_reads g c =
     let p = err_from_is_err_and c.from_residual-in_err-load_rows.result c.from_residual-in_err-load_rows.ensures.1 in
-    c.in_err-load_rows.ensures.failed (cc (p.1, p.2))
+    rw (p.1, p.2) (reads_as (bays g) (lawful g) c.args.bay.now c.load_rows.new.bay _ _ (λ is. same_err _ _ is) c.in_err-load_rows.ensures.only_reads)
 
-pub returns-in_err-load_rows-clause-only_read : goal.returns-in_err-load_rows-clause-only_read
-returns-in_err-load_rows-clause-only_read g c = c.load_rows.ensures.only_read
-
-pub returns-in_err-load_rows-clause-never_falls : goal.returns-in_err-load_rows-clause-never_falls
-returns-in_err-load_rows-clause-never_falls g c = c.load_rows.ensures.never_falls
-
-pub returns-in_err-load_rows-clause-mark : goal.returns-in_err-load_rows-clause-mark
-returns-in_err-load_rows-clause-mark g c = c.load_rows.ensures.mark
-
-pub returns-clause-only_read : goal.returns-clause-only_read
-returns-clause-only_read g c = c.load_rows.ensures.only_read
-
-pub returns-clause-never_falls : goal.returns-clause-never_falls
-returns-clause-never_falls g c = c.load_rows.ensures.never_falls
-
-pub returns-clause-mark : goal.returns-clause-mark
-returns-clause-mark g c = c.load_rows.ensures.mark
+pub returns-clause-only_reads : goal.returns-clause-only_reads
+returns-clause-only_reads g c =
+    reads_as (bays g) (lawful g) c.args.bay.now c.load_rows.new.bay _ _ (λ is. absurd (cc is)) c.in_ok-load_rows.ensures.only_reads

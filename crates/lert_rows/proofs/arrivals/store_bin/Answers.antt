@@ -14,5 +14,4 @@ returns-clause-rest g c =
     record {
       seen = stored_rest s c.args.level c.args.frame pieces c.store.result (g.B.Bay.files c.args.bay.now) (g.B.Bay.files c.store.new.bay) fits c.store.ensures.written c.store.ensures.failed;
       settled = c.store.ensures.outside;
-      time = c.store.ensures.time;
     }

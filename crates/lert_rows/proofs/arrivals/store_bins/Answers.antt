@@ -1,5 +1,7 @@
-use Rattle.std.proofs.Common.{rules, ◌≡◌, ◌+◌, ◌∙◌, List, [], map, get_or, ap, sym, subst, arith}
+use Rattle.std.proofs.Common.{◌≡◌, ◌+◌, ◌∙◌, List, [], map, get_or, ap, sym, subst, arith}
 use Rattle.std.proofs.lemmas.List.{length-map, get_or-map}
+use Rattle.std.proofs.lemmas.Result.{err_from_is_err_and}
+use Rattle.lert_bay.proofs.KeptLaws.{IsLawful, keeps_on, keeps_as}
 use Rattle.lert_frames.proofs.WriteLaws.{turns_back}
 use Rattle.lert_spec.specs.Limits.{IsValid}
 use Rattle.lert_rows.specs.declared.bin_at.BinAt.{BinAt}
@@ -7,7 +9,12 @@ use Rattle.lert_rows.specs.Landing.{IsApart, LeavesRest, landing_frame}
 use Rattle.lert_rows.specs.Rows.{IsRow, arrived}
 use Rattle.lert_rows.proofs.LandLaws.{landing_within, landed_more, rest_more}
 use Rattle.lert_rows.proofs.ReadLaws.{row_here}
+use Rattle.lert_rows.proofs.arrivals.store_bins.Given as given
+use Rattle.lert_rows.proofs.arrivals.store_bins.Invariants.{bays}
 use Rattle.lert_rows.proofs.arrivals.store_bins.Goals as goal
+
+lawful : (g : given.Over) → IsLawful (bays g)
+lawful g = record { as_read = g.met.B.Bay.as_read; since_now = g.met.B.Bay.since_now; only_now = g.met.B.Bay.only_now; since_earlier = g.met.B.Bay.since_earlier }
 
 pub arrival-bin-requires-clause-few : goal.arrival-bin-requires-clause-few
 arrival-bin-requires-clause-few g c =
@@ -36,11 +43,10 @@ returns-in_err-store_bin-clause-rest g c =
     let here = row_here (λ row. row.items) c.args.rows.now i c.index-rows-lower.result c.deref.result.now c.loop-lower-test.true c.index-rows-lower.is c.deref.ensures.value in
     let frame_is : landing_frame s c.args.m rows i ≡ c.from.result =
     ap (λ (row : List BinAt). (arrived s c.args.m (i + 1) row).frame) here ∙ sym (ap (λ (bin : BinAt). bin.frame) c.arrival-bin.ensures) ∙ sym c.from.ensures in
-    rest_more s c.args.m rows bins (λ k below. c.requires.rows k (omega (arith, below, rows_len))) (omega (arith, c.requires.len, rows_len, bins_len)) (λ k below. c.requires.bins k (omega (arith, below, bins_len)))
-    i c.from.result (g.B.Bay.files c.args.bay.now) (g.B.Bay.files c.loop-lower.bay) (g.B.Bay.files c.store_bin.new.bay) (g.B.Bay.leaves c.args.bay.now) (g.B.Bay.leaves c.loop-lower.bay)
-    (g.B.Bay.moment c.args.bay.now) (g.B.Bay.moment c.loop-lower.bay) (g.B.Bay.moment c.store_bin.new.bay) (g.B.Bay.left_since c.args.bay.now) (g.B.Bay.left_since c.loop-lower.bay) (g.B.Bay.left_since c.store_bin.new.bay)
-    (omega (arith, c.loop-lower-test.true, rows_len)) frame_is (g.met.B.Bay.since_now c.loop-lower.bay) (g.met.B.Bay.since_earlier c.loop-lower.bay) (g.met.B.Bay.since_earlier c.store_bin.new.bay)
-    c.loop-lower.invariant.rest c.in_err-store_bin.ensures.rest
+    rest_more s c.args.m rows bins (λ k below. c.requires.rows k (omega (arith, below, rows_len)))
+    (omega (arith, c.requires.len, rows_len, bins_len)) (λ k below. c.requires.bins k (omega (arith, below, bins_len)))
+    (bays g) (lawful g) i c.from.result c.args.bay.now c.loop-lower.bay c.store_bin.new.bay ⊥ _ (omega (arith, c.loop-lower-test.true, rows_len)) frame_is
+    c.loop-lower.invariant.kept c.store_bin.ensures.kept c.loop-lower.invariant.rest c.in_err-store_bin.ensures.rest
 
 pub loop-lower-preserved : goal.loop-lower-preserved
 loop-lower-preserved g c =
@@ -61,11 +67,15 @@ loop-lower-preserved g c =
           landed_more s c.args.m rows bins (λ k below. c.requires.rows k (omega (arith, below, rows_len))) (omega (arith, c.requires.len, rows_len, bins_len)) (λ k below. c.requires.bins k (omega (arith, below, bins_len)))
           back.0 seen i c.from.result c.deref-in-loop-lower.result.now (omega (arith, c.loop-lower-test.true, rows_len)) frame_is pieces_are back.2
           (c.in_ok-store_bin.ensures.stands seen told) (c.loop-lower.invariant.stand back.0 back.1));
-      rest = rest_more s c.args.m rows bins (λ k below. c.requires.rows k (omega (arith, below, rows_len))) (omega (arith, c.requires.len, rows_len, bins_len)) (λ k below. c.requires.bins k (omega (arith, below, bins_len)))
-          i c.from.result (g.B.Bay.files c.args.bay.now) (g.B.Bay.files c.loop-lower.bay) (g.B.Bay.files c.store_bin.new.bay) (g.B.Bay.leaves c.args.bay.now) (g.B.Bay.leaves c.loop-lower.bay)
-          (g.B.Bay.moment c.args.bay.now) (g.B.Bay.moment c.loop-lower.bay) (g.B.Bay.moment c.store_bin.new.bay) (g.B.Bay.left_since c.args.bay.now) (g.B.Bay.left_since c.loop-lower.bay) (g.B.Bay.left_since c.store_bin.new.bay)
-          (omega (arith, c.loop-lower-test.true, rows_len)) frame_is (g.met.B.Bay.since_now c.loop-lower.bay) (g.met.B.Bay.since_earlier c.loop-lower.bay) (g.met.B.Bay.since_earlier c.store_bin.new.bay)
-          c.loop-lower.invariant.rest c.in_ok-store_bin.ensures.rest;
-      never_falls = search rules;
-      mark = search rules;
+      rest = rest_more s c.args.m rows bins (λ k below. c.requires.rows k (omega (arith, below, rows_len)))
+          (omega (arith, c.requires.len, rows_len, bins_len)) (λ k below. c.requires.bins k (omega (arith, below, bins_len)))
+          (bays g) (lawful g) i c.from.result c.args.bay.now c.loop-lower.bay c.store_bin.new.bay ⊥ _ (omega (arith, c.loop-lower-test.true, rows_len)) frame_is
+          c.loop-lower.invariant.kept c.store_bin.ensures.kept c.loop-lower.invariant.rest c.in_ok-store_bin.ensures.rest;
+      kept = keeps_on (bays g) (lawful g) c.args.bay.now c.loop-lower.bay c.store_bin.new.bay ⊥ ⊥ c.loop-lower.invariant.kept
+          (keeps_as (bays g) (lawful g) c.loop-lower.bay c.store_bin.new.bay _ ⊥ (λ none. absurd none) c.store_bin.ensures.kept);
     }
+
+pub returns-in_err-store_bin-clause-kept : goal.returns-in_err-store_bin-clause-kept
+returns-in_err-store_bin-clause-kept g c =
+    let p = err_from_is_err_and c.from_residual.result c.from_residual.ensures.1 in
+    rw p.1 (keeps_on (bays g) (lawful g) c.args.bay.now c.loop-lower.bay c.store_bin.new.bay ⊥ _ c.loop-lower.invariant.kept c.in_err-store_bin.ensures.kept)

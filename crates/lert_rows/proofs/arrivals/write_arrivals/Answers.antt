@@ -1,13 +1,23 @@
 use Rattle.std.proofs.Common.{map}
+use Rattle.lert_bay.specs.Kept.{Bays}
+use Rattle.lert_bay.proofs.KeptLaws.{IsLawful, keeps_on}
 use Rattle.lert_rows.specs.Landing.{Anywhere, AreApart}
 use Rattle.lert_rows.proofs.LandLaws.{rest_on, rest_fewer}
+use Rattle.lert_rows.proofs.arrivals.write_arrivals.Given as given
 use Rattle.lert_rows.proofs.arrivals.write_arrivals.Goals as goal
+
+abbrev bays : (g : given.Over) → Bays g.row.B.Denot
+bays g = record { faults = g.B.Faulty.faults; mark = g.B.Faulty.mark; files = g.B.Bay.files; leaves = g.B.Bay.leaves; moment = g.B.Bay.moment; left_since = g.B.Bay.left_since }
+
+lawful : (g : given.Over) → IsLawful (bays g)
+lawful g = record { as_read = g.met.B.Bay.as_read; since_now = g.met.B.Bay.since_now; only_now = g.met.B.Bay.only_now; since_earlier = g.met.B.Bay.since_earlier }
 
 pub returns-clause-rest : goal.returns-clause-rest
 returns-clause-rest g c =
     let apart = AreApart c.args.settings.now c.args.m (map (λ row. row.items) c.args.rows.now) in
-    rest_on apart (g.B.Bay.files c.args.bay.now) (g.B.Bay.files c.store_bins.new.bay) (g.B.Bay.files c.sync_frames.new.bay) (g.B.Bay.leaves c.args.bay.now) (g.B.Bay.leaves c.store_bins.new.bay)
-    (g.B.Bay.moment c.args.bay.now) (g.B.Bay.moment c.store_bins.new.bay) (g.B.Bay.moment c.sync_frames.new.bay) (g.B.Bay.left_since c.args.bay.now) (g.B.Bay.left_since c.store_bins.new.bay) (g.B.Bay.left_since c.sync_frames.new.bay)
-    (g.met.B.Bay.since_now c.store_bins.new.bay) (g.met.B.Bay.since_earlier c.store_bins.new.bay) (g.met.B.Bay.since_earlier c.sync_frames.new.bay) c.in_ok-store_bins.ensures.rest
-    (rest_fewer Anywhere apart (g.B.Bay.files c.store_bins.new.bay) (g.B.Bay.files c.sync_frames.new.bay) (g.B.Bay.leaves c.store_bins.new.bay) (g.B.Bay.moment c.store_bins.new.bay) (g.B.Bay.moment c.sync_frames.new.bay) (g.B.Bay.left_since c.store_bins.new.bay) (g.B.Bay.left_since c.sync_frames.new.bay)
-    (λ from to kept. tt) c.sync_frames.ensures.rest)
+    rest_on (bays g) (lawful g) apart c.args.bay.now c.store_bins.new.bay c.sync_frames.new.bay _ _ c.store_bins.ensures.kept c.sync_frames.ensures.kept c.in_ok-store_bins.ensures.rest
+    (rest_fewer (bays g) Anywhere apart c.store_bins.new.bay c.sync_frames.new.bay (λ from to kept. tt) c.sync_frames.ensures.rest)
+
+pub returns-clause-kept : goal.returns-clause-kept
+returns-clause-kept g c =
+    keeps_on (bays g) (lawful g) c.args.bay.now c.store_bins.new.bay c.sync_frames.new.bay _ _ c.store_bins.ensures.kept c.sync_frames.ensures.kept

@@ -1,21 +1,23 @@
-use Rattle.std.proofs.Common.{ℕ, ◌≡◌, ◌≤◌, ◌++◌, List, Some, map, take}
+use Rattle.std.proofs.Common.{ℕ, ◌≡◌, ◌++◌, List, Some, map, take}
 use Rattle.std.specs.List.{All}
+use Rattle.lert_bay.specs.declared.bay.TheConstants.{FRAMES}
 use Rattle.lert_bay.specs.Files.{Files}
-use Rattle.lert_bay.specs.Kept.{OnlyRead}
+use Rattle.lert_bay.specs.Kept.{Bays, OnlyReads}
 use Rattle.lert_frames.specs.Place.{tail_limit}
 use Rattle.lert_spec.specs.declared.piece.Piece.{Piece}
 use Rattle.lert_rows.specs.declared.bin_at.BinAt.{BinAt}
 use Rattle.lert_rows.specs.Loading.{lists_of, width_of, AreBins, Stands}
 use Rattle.lert_rows.proofs.bins.load_row.Given as goal
 
+abbrev pub bays : (g : goal.Over) → Bays g.row.B.Denot
+bays g = record { faults = g.B.Faulty.faults; mark = g.B.Faulty.mark; files = g.B.Bay.files; leaves = g.B.Bay.leaves; moment = g.B.Bay.moment; left_since = g.B.Bay.left_since }
+
 -- the bins so far are read, and nothing was changed
 abbrev pub invariant-loop-bin : goal.invariant-loop-bin
 invariant-loop-bin g l = record {
-  lists : (seen : Files) → g.B.Bay.files l.fn.bay ≡ Some seen → (held : BinAt → List Piece) → All (Stands l.settings l.level (seen 2) held) l.row →
+  lists : (seen : Files) → g.B.Bay.files l.fn.bay ≡ Some seen → (held : BinAt → List Piece) → All (Stands l.settings l.level (seen FRAMES) held) l.row →
       lists_of l.streams.items ≡ lists_of l.fn.streams.items ++ map held (take l.bin-index l.row);
   bins : (widths : List ℕ) → AreBins (tail_limit l.settings) widths (lists_of l.fn.streams.items) → AreBins (tail_limit l.settings) (widths ++ map width_of (take l.bin-index l.row)) (lists_of l.streams.items);
   fresh : All (λ bin. bin.given ≡ 0) l.fn.streams.items → All (λ bin. bin.given ≡ 0) l.streams.items;
-  only_read : OnlyRead (g.B.Bay.files l.fn.bay) (g.B.Bay.files l.bay) (g.B.Bay.leaves l.fn.bay) (g.B.Bay.leaves l.bay) (g.B.Bay.moment l.fn.bay) (g.B.Bay.moment l.bay) (g.B.Bay.left_since l.fn.bay) (g.B.Bay.left_since l.bay);
-  never_falls : g.B.Faulty.faults l.fn.bay ≤ g.B.Faulty.faults l.bay;
-  mark : g.B.Faulty.mark l.bay ≡ g.B.Faulty.mark l.fn.bay;
+  only_reads : OnlyReads (bays g) l.fn.bay l.bay ⊥;
 }

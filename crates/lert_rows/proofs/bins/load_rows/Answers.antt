@@ -2,13 +2,20 @@ use Rattle.std.proofs.Common.{ℕ, ◌<◌, ◌∙◌, ◌++◌, List, length, a
 use Rattle.std.specs.List.{All}
 use Rattle.std.proofs.lemmas.List.{take_all, length-map}
 use Rattle.std.proofs.lemmas.Result.{err_from_is_err_and}
+use Rattle.lert_bay.specs.declared.bay.TheConstants.{FRAMES}
+use Rattle.lert_bay.proofs.KeptLaws.{IsLawful, reads_on, reads_as}
 use Rattle.lert_frames.proofs.WriteLaws.{same_err}
 use Rattle.lert_frames.specs.Place.{tail_limit}
 use Rattle.lert_rows.specs.declared.bin_at.BinAt.{BinAt}
 use Rattle.lert_rows.specs.Loading.{lists_of, width_of, AreBins, Stands, RowBreaks, held_in, widths_in}
 use Rattle.lert_rows.specs.Rows.{IsRow}
-use Rattle.lert_rows.proofs.ReadLaws.{only_read_on, row_here, row_to, row_from, flat_more, risen}
+use Rattle.lert_rows.proofs.ReadLaws.{row_here, row_to, row_from, flat_more}
+use Rattle.lert_rows.proofs.bins.load_rows.Given as given
+use Rattle.lert_rows.proofs.bins.load_rows.Invariants.{bays}
 use Rattle.lert_rows.proofs.bins.load_rows.Goals as goal
+
+lawful : (g : given.Over) → IsLawful (bays g)
+lawful g = record { as_read = g.met.B.Bay.as_read; since_now = g.met.B.Bay.since_now; only_now = g.met.B.Bay.only_now; since_earlier = g.met.B.Bay.since_earlier }
 
 pub overflow_add-level : goal.overflow_add-level
 overflow_add-level g c = omega (arith, c.numbers-valid.ensures.valid.limits.levels_to, ap (λ s. s.levels) c.numbers-valid.ensures.value)
@@ -24,8 +31,8 @@ returns-in_err-load_row-clause-lists g c seen told held stand =
     let rows = map (λ row. row.items) c.args.rows.now in
     let here = row_here (λ row. row.items) c.args.rows.now c.loop-row.row-index c.row-item.result c.deref.result.now c.loop-row-test.true c.row-item.is c.deref.ensures.value in
     let p = err_from_is_err_and c.from_residual.result c.from_residual.ensures.1 in
-    rw (p.1, p.2) (c.in_err-load_row.ensures.lists seen (c.loop-row.invariant.only_read.seen ∙ told) held
-    (row_to (λ (level : ℕ) (row : List BinAt). All (Stands c.args.settings.now level (seen 2) held) row) rows c.loop-row.row-index c.loop-row.level c.deref.result.now here c.loop-row.invariant.level
+    rw (p.1, p.2) (c.in_err-load_row.ensures.lists seen (c.loop-row.invariant.only_reads.seen ∙ told) held
+    (row_to (λ (level : ℕ) (row : List BinAt). All (Stands c.args.settings.now level (seen FRAMES) held) row) rows c.loop-row.row-index c.loop-row.level c.deref.result.now here c.loop-row.invariant.level
     (stand c.loop-row.row-index (omega (arith, c.loop-row-test.true, length-map c.args.rows.now (λ row. row.items))))))
 
 pub returns-in_err-load_row-clause-malformed : goal.returns-in_err-load_row-clause-malformed
@@ -36,8 +43,8 @@ returns-in_err-load_row-clause-malformed g c seen told at =
     rw (p.1, p.2) (λ is. record {
       number = c.loop-row.row-index;
       within = omega (arith, c.loop-row-test.true, length-map c.args.rows.now (λ row. row.items));
-      breaks = row_from (λ (level : ℕ) (row : List BinAt). RowBreaks c.args.settings.now level row (seen 2) at) rows c.loop-row.row-index c.loop-row.level c.deref.result.now here c.loop-row.invariant.level
-          (c.in_err-load_row.ensures.malformed seen (c.loop-row.invariant.only_read.seen ∙ told) at (same_err _ _ is));
+      breaks = row_from (λ (level : ℕ) (row : List BinAt). RowBreaks c.args.settings.now level row (seen FRAMES) at) rows c.loop-row.row-index c.loop-row.level c.deref.result.now here c.loop-row.invariant.level
+          (c.in_err-load_row.ensures.malformed seen (c.loop-row.invariant.only_reads.seen ∙ told) at (same_err _ _ is));
     })
 
 pub loop-row-preserved : goal.loop-row-preserved
@@ -50,8 +57,8 @@ loop-row-preserved g c =
     record {
       level = omega arith;
       lists = λ seen told held stand.
-          c.in_ok-load_row.ensures.lists seen (c.loop-row.invariant.only_read.seen ∙ told) held
-          (row_to (λ (level : ℕ) (row : List BinAt). All (Stands c.args.settings.now level (seen 2) held) row) rows i c.loop-row.level now here c.loop-row.invariant.level (stand i below))
+          c.in_ok-load_row.ensures.lists seen (c.loop-row.invariant.only_reads.seen ∙ told) held
+          (row_to (λ (level : ℕ) (row : List BinAt). All (Stands c.args.settings.now level (seen FRAMES) held) row) rows i c.loop-row.level now here c.loop-row.invariant.level (stand i below))
           ∙ ap (λ lists. lists ++ map held now) (c.loop-row.invariant.lists seen told held stand)
           ∙ flat_more (λ row. map held row) (lists_of c.args.streams.now.items) rows i now here below;
       bins = λ widths are.
@@ -59,11 +66,8 @@ loop-row-preserved g c =
           (flat_more (λ row. map width_of row) widths rows i now here below)
           (c.in_ok-load_row.ensures.bins (widths ++ widths_in (take i rows)) (c.loop-row.invariant.bins widths are));
       fresh = λ was. c.in_ok-load_row.ensures.fresh (c.loop-row.invariant.fresh was);
-      only_read = only_read_on (g.B.Bay.files c.args.bay.now) (g.B.Bay.files c.loop-row.bay) (g.B.Bay.files c.load_row.new.bay) (g.B.Bay.leaves c.args.bay.now) (g.B.Bay.leaves c.loop-row.bay) (g.B.Bay.leaves c.load_row.new.bay)
-          (g.B.Bay.moment c.args.bay.now) (g.B.Bay.moment c.loop-row.bay) (g.B.Bay.moment c.load_row.new.bay) (g.B.Bay.left_since c.args.bay.now) (g.B.Bay.left_since c.loop-row.bay) (g.B.Bay.left_since c.load_row.new.bay)
-          (g.met.B.Bay.since_earlier c.load_row.new.bay) c.loop-row.invariant.only_read c.in_ok-load_row.ensures.only_read;
-      never_falls = omega (arith, c.loop-row.invariant.never_falls, c.load_row.ensures.never_falls);
-      mark = c.load_row.ensures.mark ∙ c.loop-row.invariant.mark;
+      only_reads = reads_on (bays g) (lawful g) c.args.bay.now c.loop-row.bay c.load_row.new.bay ⊥ ⊥ c.loop-row.invariant.only_reads
+          (reads_as (bays g) (lawful g) c.loop-row.bay c.load_row.new.bay _ ⊥ (λ none. absurd none) c.load_row.ensures.only_reads);
     }
 
 pub returns-clause-lists : goal.returns-clause-lists
@@ -78,19 +82,8 @@ returns-in_err-load_row-clause-bins g c widths are = let p = err_from_is_err_and
 pub returns-in_err-load_row-clause-fresh : goal.returns-in_err-load_row-clause-fresh
 returns-in_err-load_row-clause-fresh g c = let p = err_from_is_err_and c.from_residual.result c.from_residual.ensures.1 in rw p.1 tt
 
-pub returns-in_err-load_row-clause-only_read : goal.returns-in_err-load_row-clause-only_read
-returns-in_err-load_row-clause-only_read g c = only_read_on (g.B.Bay.files c.args.bay.now) (g.B.Bay.files c.loop-row.bay) (g.B.Bay.files c.load_row.new.bay) (g.B.Bay.leaves c.args.bay.now) (g.B.Bay.leaves c.loop-row.bay) (g.B.Bay.leaves c.load_row.new.bay)
-    (g.B.Bay.moment c.args.bay.now) (g.B.Bay.moment c.loop-row.bay) (g.B.Bay.moment c.load_row.new.bay) (g.B.Bay.left_since c.args.bay.now) (g.B.Bay.left_since c.loop-row.bay) (g.B.Bay.left_since c.load_row.new.bay)
-    (g.met.B.Bay.since_earlier c.load_row.new.bay) c.loop-row.invariant.only_read c.load_row.ensures.only_read
-
-pub returns-in_err-load_row-clause-never_falls : goal.returns-in_err-load_row-clause-never_falls
-returns-in_err-load_row-clause-never_falls g c = omega (arith, c.loop-row.invariant.never_falls, c.load_row.ensures.never_falls)
-
-pub returns-in_err-load_row-clause-failed : goal.returns-in_err-load_row-clause-failed
-returns-in_err-load_row-clause-failed g c is =
+pub returns-in_err-load_row-clause-only_reads : goal.returns-in_err-load_row-clause-only_reads
+returns-in_err-load_row-clause-only_reads g c =
     let p = err_from_is_err_and c.from_residual.result c.from_residual.ensures.1 in
-    risen (g.B.Faulty.faults c.args.bay.now) (g.B.Faulty.faults c.loop-row.bay) (g.B.Faulty.faults c.load_row.new.bay)
-    c.loop-row.invariant.never_falls c.load_row.ensures.never_falls (c.in_err-load_row.ensures.failed (cc (p.1, p.2)))
-
-pub returns-in_err-load_row-clause-mark : goal.returns-in_err-load_row-clause-mark
-returns-in_err-load_row-clause-mark g c = c.load_row.ensures.mark ∙ c.loop-row.invariant.mark
+    rw (p.1, p.2) (reads_as (bays g) (lawful g) c.args.bay.now c.load_row.new.bay _ _ (λ is. same_err _ _ is)
+    (reads_on (bays g) (lawful g) c.args.bay.now c.loop-row.bay c.load_row.new.bay ⊥ _ c.loop-row.invariant.only_reads c.in_err-load_row.ensures.only_reads))

@@ -2,13 +2,20 @@ use Rattle.std.proofs.Common.{ℕ, ◌≡◌, ◌+◌, ◌<◌, ◌∙◌, List,
 use Rattle.std.proofs.lemmas.Bool.{cases_lt}
 use Rattle.std.proofs.lemmas.List.{take_all, length-map}
 use Rattle.std.proofs.lemmas.Result.{err_from_is_err_and}
+use Rattle.lert_bay.specs.declared.bay.TheConstants.{FRAMES}
+use Rattle.lert_bay.proofs.KeptLaws.{IsLawful, reads_on, reads_as}
 use Rattle.lert_frames.proofs.WriteLaws.{same_err}
 use Rattle.lert_rows.specs.declared.bin_at.BinAt.{BinAt}
 use Rattle.lert_rows.specs.Checked.{RowStands, row_left, rows_left}
 use Rattle.lert_rows.specs.Rows.{IsRow}
 use Rattle.lert_rows.proofs.CheckLaws.{rows_more, rows_break}
-use Rattle.lert_rows.proofs.ReadLaws.{only_read_on, row_here, row_to, row_from, risen}
+use Rattle.lert_rows.proofs.ReadLaws.{row_here, row_to, row_from}
+use Rattle.lert_rows.proofs.check.check_rows.Given as given
+use Rattle.lert_rows.proofs.check.check_rows.Invariants.{bays}
 use Rattle.lert_rows.proofs.check.check_rows.Goals as goal
+
+lawful : (g : given.Over) → IsLawful (bays g)
+lawful g = record { as_read = g.met.B.Bay.as_read; since_now = g.met.B.Bay.since_now; only_now = g.met.B.Bay.only_now; since_earlier = g.met.B.Bay.since_earlier }
 
 pub check_row-requires-clause-row : goal.check_row-requires-clause-row
 check_row-requires-clause-row g c =
@@ -23,9 +30,9 @@ returns-in_err-check_row-clause-malformed g c seen told at =
     let now = c.deref.result.now in
     let here = row_here (λ row. row.items) c.args.rows.now i c.row-item.result now c.loop-row-test.true c.row-item.is c.deref.ensures.value in
     let p = err_from_is_err_and c.from_residual.result c.from_residual.ensures.1 in
-    rw (p.1, p.2) (λ is. rows_break c.args.settings.now (seen 2) rows i now here (omega (arith, c.loop-row-test.true, length-map c.args.rows.now (λ row. row.items))) (c.loop-row.invariant.whole seen told) at
-    (subst (λ (level : ℕ). row_left c.args.settings.now (seen 2) (level + 1) now ≡ Some at) c.loop-row.invariant.level
-    (c.in_err-check_row.ensures.malformed seen (c.loop-row.invariant.only_read.seen ∙ told) at (same_err _ _ is))))
+    rw (p.1, p.2) (λ is. rows_break c.args.settings.now (seen FRAMES) rows i now here (omega (arith, c.loop-row-test.true, length-map c.args.rows.now (λ row. row.items))) (c.loop-row.invariant.whole seen told) at
+    (subst (λ (level : ℕ). row_left c.args.settings.now (seen FRAMES) (level + 1) now ≡ Some at) c.loop-row.invariant.level
+    (c.in_err-check_row.ensures.malformed seen (c.loop-row.invariant.only_reads.seen ∙ told) at (same_err _ _ is))))
 
 pub loop-row-preserved : goal.loop-row-preserved
 loop-row-preserved g c =
@@ -40,24 +47,21 @@ loop-row-preserved g c =
         | inl before ↦ c.loop-row.invariant.stand seen told k before
         | inr last ↦ (
             let same : i ≡ k = omega arith in
-            subst (λ (n : ℕ). RowStands c.args.settings.now (seen 2) (n + 1) (get_or rows n [])) same
-            (row_from (λ (level : ℕ) (row : List BinAt). RowStands c.args.settings.now (seen 2) level row) rows i c.loop-row.level now here c.loop-row.invariant.level
-            (c.in_ok-check_row.ensures.stand seen (c.loop-row.invariant.only_read.seen ∙ told))))
+            subst (λ (n : ℕ). RowStands c.args.settings.now (seen FRAMES) (n + 1) (get_or rows n [])) same
+            (row_from (λ (level : ℕ) (row : List BinAt). RowStands c.args.settings.now (seen FRAMES) level row) rows i c.loop-row.level now here c.loop-row.invariant.level
+            (c.in_ok-check_row.ensures.stand seen (c.loop-row.invariant.only_reads.seen ∙ told))))
       ];
       whole = λ seen told.
-          rows_more c.args.settings.now (seen 2) rows i now here below (c.loop-row.invariant.whole seen told)
-          (subst (λ (level : ℕ). row_left c.args.settings.now (seen 2) (level + 1) now ≡ None) c.loop-row.invariant.level (c.in_ok-check_row.ensures.whole seen (c.loop-row.invariant.only_read.seen ∙ told)));
-      only_read = only_read_on (g.B.Bay.files c.args.bay.now) (g.B.Bay.files c.loop-row.bay) (g.B.Bay.files c.check_row.new.bay) (g.B.Bay.leaves c.args.bay.now) (g.B.Bay.leaves c.loop-row.bay) (g.B.Bay.leaves c.check_row.new.bay)
-          (g.B.Bay.moment c.args.bay.now) (g.B.Bay.moment c.loop-row.bay) (g.B.Bay.moment c.check_row.new.bay) (g.B.Bay.left_since c.args.bay.now) (g.B.Bay.left_since c.loop-row.bay) (g.B.Bay.left_since c.check_row.new.bay)
-          (g.met.B.Bay.since_earlier c.check_row.new.bay) c.loop-row.invariant.only_read c.in_ok-check_row.ensures.only_read;
-      never_falls = omega (arith, c.loop-row.invariant.never_falls, c.check_row.ensures.never_falls);
-      mark = c.check_row.ensures.mark ∙ c.loop-row.invariant.mark;
+          rows_more c.args.settings.now (seen FRAMES) rows i now here below (c.loop-row.invariant.whole seen told)
+          (subst (λ (level : ℕ). row_left c.args.settings.now (seen FRAMES) (level + 1) now ≡ None) c.loop-row.invariant.level (c.in_ok-check_row.ensures.whole seen (c.loop-row.invariant.only_reads.seen ∙ told)));
+      only_reads = reads_on (bays g) (lawful g) c.args.bay.now c.loop-row.bay c.check_row.new.bay ⊥ ⊥ c.loop-row.invariant.only_reads
+          (reads_as (bays g) (lawful g) c.loop-row.bay c.check_row.new.bay _ ⊥ (λ none. absurd none) c.check_row.ensures.only_reads);
     }
 
 pub returns-clause-whole : goal.returns-clause-whole
 returns-clause-whole g c seen told =
     let rows = map (λ row. row.items) c.args.rows.now in
-    ap (rows_left c.args.settings.now (seen 2)) (sym (take_all c.loop-row.row-index rows (omega (arith, c.loop-row-test.false, length-map c.args.rows.now (λ row. row.items))))) ∙ c.loop-row.invariant.whole seen told
+    ap (rows_left c.args.settings.now (seen FRAMES)) (sym (take_all c.loop-row.row-index rows (omega (arith, c.loop-row-test.false, length-map c.args.rows.now (λ row. row.items))))) ∙ c.loop-row.invariant.whole seen told
 
 pub returns-in_err-check_row-clause-stand : goal.returns-in_err-check_row-clause-stand
 returns-in_err-check_row-clause-stand g c seen told = let p = err_from_is_err_and c.from_residual.result c.from_residual.ensures.1 in rw p.1 tt
@@ -65,19 +69,8 @@ returns-in_err-check_row-clause-stand g c seen told = let p = err_from_is_err_an
 pub returns-in_err-check_row-clause-whole : goal.returns-in_err-check_row-clause-whole
 returns-in_err-check_row-clause-whole g c seen told = let p = err_from_is_err_and c.from_residual.result c.from_residual.ensures.1 in rw p.1 tt
 
-pub returns-in_err-check_row-clause-only_read : goal.returns-in_err-check_row-clause-only_read
-returns-in_err-check_row-clause-only_read g c = only_read_on (g.B.Bay.files c.args.bay.now) (g.B.Bay.files c.loop-row.bay) (g.B.Bay.files c.check_row.new.bay) (g.B.Bay.leaves c.args.bay.now) (g.B.Bay.leaves c.loop-row.bay) (g.B.Bay.leaves c.check_row.new.bay)
-    (g.B.Bay.moment c.args.bay.now) (g.B.Bay.moment c.loop-row.bay) (g.B.Bay.moment c.check_row.new.bay) (g.B.Bay.left_since c.args.bay.now) (g.B.Bay.left_since c.loop-row.bay) (g.B.Bay.left_since c.check_row.new.bay)
-    (g.met.B.Bay.since_earlier c.check_row.new.bay) c.loop-row.invariant.only_read c.check_row.ensures.only_read
-
-pub returns-in_err-check_row-clause-never_falls : goal.returns-in_err-check_row-clause-never_falls
-returns-in_err-check_row-clause-never_falls g c = omega (arith, c.loop-row.invariant.never_falls, c.check_row.ensures.never_falls)
-
-pub returns-in_err-check_row-clause-failed : goal.returns-in_err-check_row-clause-failed
-returns-in_err-check_row-clause-failed g c is =
+pub returns-in_err-check_row-clause-only_reads : goal.returns-in_err-check_row-clause-only_reads
+returns-in_err-check_row-clause-only_reads g c =
     let p = err_from_is_err_and c.from_residual.result c.from_residual.ensures.1 in
-    risen (g.B.Faulty.faults c.args.bay.now) (g.B.Faulty.faults c.loop-row.bay) (g.B.Faulty.faults c.check_row.new.bay)
-    c.loop-row.invariant.never_falls c.check_row.ensures.never_falls (c.in_err-check_row.ensures.failed (cc (p.1, p.2)))
-
-pub returns-in_err-check_row-clause-mark : goal.returns-in_err-check_row-clause-mark
-returns-in_err-check_row-clause-mark g c = c.check_row.ensures.mark ∙ c.loop-row.invariant.mark
+    rw (p.1, p.2) (reads_as (bays g) (lawful g) c.args.bay.now c.check_row.new.bay _ _ (λ is. same_err _ _ is)
+    (reads_on (bays g) (lawful g) c.args.bay.now c.loop-row.bay c.check_row.new.bay ⊥ _ c.loop-row.invariant.only_reads c.in_err-check_row.ensures.only_reads))

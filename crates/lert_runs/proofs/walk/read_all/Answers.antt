@@ -1,16 +1,18 @@
-use Rattle.std.proofs.Common.{◌≡◌, ◌<◌, ap, length, arith, inl, inr, ◌⊎◌}
+use Rattle.std.proofs.Common.{◌≡◌, ◌^◌, ◌<◌, ap, length, arith, inl, inr, ◌⊎◌, refl}
+use Rattle.std.proofs.lemmas.Nat.{one_shl, pow_pos}
 use Rattle.lert_counter.specs.Group.{group}
 use Rattle.lert_counter.specs.Reading.{read_as}
 use Rattle.lert_counter.specs.declared.group.Group.{Group}
 use Rattle.lert_runs.specs.RunText.{run_text}
 use Rattle.lert_runs.proofs.WalkLemmas.{stands_first, stands_next, next}
-use Rattle.lert_runs.proofs.ReadLemmas.{read_first, read_more, read_some}
+use Rattle.lert_runs.proofs.ReadLemmas.{read_first, read_more, read_some, read_end, below-next}
 use Rattle.lert_runs.proofs.walk.read_all.Goals as goal
 use Rattle.lert_runs.proofs.walk.read_all.Goals.{else-at-gt0-via-then-at-gt0+else-group-last, else-at-gt0-via-else-at-gt0}
 
 pub loop-at-init : goal.loop-at-init
 loop-at-init c = record {
   read = read_first c.args.width c.args.run.now;
+  small = pow_pos c.args.width;
   of_text = λ ps text. (stands_first c.args.width c.args.run.now ps text, λ more. absurd (omega arith));
 }
 
@@ -21,6 +23,20 @@ returns-in_default c = (
       let s = (c.loop-at.invariant.of_text text.0 text.1).0 in
       let n = next c.args.width c.loop-at.at c.args.run.now text.0 s c.loop-at-test.true in
       cc (c.read_group.ensures.in_run (n.pair).0 (n.pair).1 (run_text c.args.width n.back) n.counts n.slots n.follows, c.in_default.is),
+)
+
+pub returns-then-group-limit : goal.returns-then-group-limit
+returns-then-group-limit c = (
+  λ yes. cc yes,
+  λ text.
+      let s = (c.loop-at.invariant.of_text text.0 text.1).0 in
+      let n = next c.args.width c.loop-at.at c.args.run.now text.0 s c.loop-at-test.true in
+      let same : c.in-Some.group ≡ read_as c.args.width (n.pair).0 (n.pair).1 =
+      cc (c.read_group.ensures.in_run (n.pair).0 (n.pair).1 (run_text c.args.width n.back) n.counts n.slots n.follows, c.in-Some.is) in
+      let x = ap (λ (g : Group). g.x) same in
+      let below = below-next (2 ^ c.args.width) text.0 s.done n.back s.rest n.pair s.split n.is text.2 in
+      let limit = one_shl c.args.width 64 (omega arith) in
+      absurd (omega (arith, c.if-group-limit.true)),
 )
 
 pub returns-then-group-last : goal.returns-then-group-last
@@ -53,6 +69,7 @@ loop-at-preserved c =
     ] in
     record {
       read = read_more c.args.width c.loop-at.at c.loop-at.last c.args.run.now c.in-Some.group c.loop-at.invariant.read more c.loop-at-test.true c.in-Some.ensures.begins;
+      small = (let limit = one_shl c.args.width 64 (omega arith) in omega (arith, c.if-group-limit.false));
       of_text = λ ps text.
           let at_text = c.loop-at.invariant.of_text ps text in
           let n = next c.args.width c.loop-at.at c.args.run.now ps at_text.0 c.loop-at-test.true in
@@ -61,3 +78,9 @@ loop-at-preserved c =
           let used : c.in-Some.group.used ≡ length (group c.args.width (n.pair).0 (n.pair).1) = ap (λ (g : Group). g.used) same in
           rw (used, x) (stands_next c.args.width c.loop-at.at c.args.run.now ps at_text.0 n, λ some. omega arith);
     }
+
+pub returns : goal.returns
+returns c = (
+  λ _. read_end c.args.width c.loop-at.at c.loop-at.last c.args.run.now c.loop-at.invariant.read c.loop-at.invariant.small (omega arith),
+  λ _. refl,
+)

@@ -44,7 +44,7 @@ pub overflow_add-at : goal.overflow_add-at
 overflow_add-at c =
     let g = c.requires.growing.2 in
     let bounds = grow_bounds c.requires.growing.0 c.requires.growing.1 c.args.width c.args.home c.args.x c.args.count _ _ _ _ g in
-    let is = grow_of c.requires.growing.0 c.requires.growing.1 c.args.width c.args.home c.args.x c.args.count _ _ _ _ g c.run.result.now c.grown-growth.result (c.run.ensures ∙ bounds.slice) c.grown-growth.ensures in
+    let is = grow_of c.requires.growing.0 c.requires.growing.1 c.args.width c.args.home c.args.x c.args.count _ _ _ _ g c.run.result.now c.grown-growth.result (c.run.ensures ∙ bounds.slice) (c.grown-growth.ensures.grown c.requires.positive) in
     omega (arith, c.start.ensures, bounds.joined, bounds.end, bounds.short, is.within)
 
 pub start-last-requires-clause-within : goal.start-last-requires-clause-within
@@ -69,21 +69,21 @@ pub overflow_add-at-2 : goal.overflow_add-at-2
 overflow_add-at-2 c =
     let g = c.requires.growing.2 in
     let bounds = grow_bounds c.requires.growing.0 c.requires.growing.1 c.args.width c.args.home c.args.x c.args.count _ _ _ _ g in
-    let is = grow_of c.requires.growing.0 c.requires.growing.1 c.args.width c.args.home c.args.x c.args.count _ _ _ _ g c.run.result.now c.grown-growth.result (c.run.ensures ∙ bounds.slice) c.grown-growth.ensures in
+    let is = grow_of c.requires.growing.0 c.requires.growing.1 c.args.width c.args.home c.args.x c.args.count _ _ _ _ g c.run.result.now c.grown-growth.result (c.run.ensures ∙ bounds.slice) (c.grown-growth.ensures.grown c.requires.positive) in
     omega (arith, c.start.ensures, bounds.joined, bounds.end, bounds.short, is.within)
 
 pub overflow_sub-growth : goal.overflow_sub-growth
 overflow_sub-growth c =
     let g = c.requires.growing.2 in
     let bounds = grow_bounds c.requires.growing.0 c.requires.growing.1 c.args.width c.args.home c.args.x c.args.count _ _ _ _ g in
-    let is = grow_of c.requires.growing.0 c.requires.growing.1 c.args.width c.args.home c.args.x c.args.count _ _ _ _ g c.run.result.now c.grown-growth.result (c.run.ensures ∙ bounds.slice) c.grown-growth.ensures in
+    let is = grow_of c.requires.growing.0 c.requires.growing.1 c.args.width c.args.home c.args.x c.args.count _ _ _ _ g c.run.result.now c.grown-growth.result (c.run.ensures ∙ bounds.slice) (c.grown-growth.ensures.grown c.requires.positive) in
     is.longer
 
 pub widen-requires : goal.widen-requires
 widen-requires c =
     let g = c.requires.growing.2 in
     let bounds = grow_bounds c.requires.growing.0 c.requires.growing.1 c.args.width c.args.home c.args.x c.args.count _ _ _ _ g in
-    let is = grow_of c.requires.growing.0 c.requires.growing.1 c.args.width c.args.home c.args.x c.args.count _ _ _ _ g c.run.result.now c.grown-growth.result (c.run.ensures ∙ bounds.slice) c.grown-growth.ensures in (
+    let is = grow_of c.requires.growing.0 c.requires.growing.1 c.args.width c.args.home c.args.x c.args.count _ _ _ _ g c.run.result.now c.grown-growth.result (c.run.ensures ∙ bounds.slice) (c.grown-growth.ensures.grown c.requires.positive) in (
       c.requires.growing.0,
       c.requires.growing.1,
       grow_opening c.requires.growing.0 c.requires.growing.1 c.args.width c.args.home c.args.x c.args.count _ _ _ _ g c.grown-growth.result is
@@ -95,14 +95,14 @@ pub shared_ref_as_front-overwrite : goal.shared_ref_as_front-overwrite
 shared_ref_as_front-overwrite c =
     let g = c.requires.growing.2 in
     let bounds = grow_bounds c.requires.growing.0 c.requires.growing.1 c.args.width c.args.home c.args.x c.args.count _ _ _ _ g in
-    let is = grow_of c.requires.growing.0 c.requires.growing.1 c.args.width c.args.home c.args.x c.args.count _ _ _ _ g c.run.result.now c.grown-growth.result (c.run.ensures ∙ bounds.slice) c.grown-growth.ensures in
+    let is = grow_of c.requires.growing.0 c.requires.growing.1 c.args.width c.args.home c.args.x c.args.count _ _ _ _ g c.run.result.now c.grown-growth.result (c.run.ensures ∙ bounds.slice) (c.grown-growth.ensures.grown c.requires.positive) in
     is.short
 
 pub overwrite-requires : goal.overwrite-requires
 overwrite-requires c =
     let g = c.requires.growing.2 in
     let bounds = grow_bounds c.requires.growing.0 c.requires.growing.1 c.args.width c.args.home c.args.x c.args.count _ _ _ _ g in
-    let is = grow_of c.requires.growing.0 c.requires.growing.1 c.args.width c.args.home c.args.x c.args.count _ _ _ _ g c.run.result.now c.grown-growth.result (c.run.ensures ∙ bounds.slice) c.grown-growth.ensures in
+    let is = grow_of c.requires.growing.0 c.requires.growing.1 c.args.width c.args.home c.args.x c.args.count _ _ _ _ g c.run.result.now c.grown-growth.result (c.run.ensures ∙ bounds.slice) (c.grown-growth.ensures.grown c.requires.positive) in
     let n = c.requires.growing.0 in
     let homes = c.requires.growing.1 in
     let o = grow_opening n homes c.args.width c.args.home c.args.x c.args.count _ _ _ _ g c.grown-growth.result is
@@ -130,7 +130,7 @@ overwrite-requires c =
 pub returns-clause-stand : goal.returns-clause-stand
 returns-clause-stand c = λ n homes g.
     let bounds = grow_bounds n homes c.args.width c.args.home c.args.x c.args.count _ _ _ _ g in
-    let is = grow_of n homes c.args.width c.args.home c.args.x c.args.count _ _ _ _ g c.run.result.now c.grown-growth.result (c.run.ensures ∙ bounds.slice) c.grown-growth.ensures in
+    let is = grow_of n homes c.args.width c.args.home c.args.x c.args.count _ _ _ _ g c.run.result.now c.grown-growth.result (c.run.ensures ∙ bounds.slice) (c.grown-growth.ensures.grown c.requires.positive) in
     let o = grow_opening n homes c.args.width c.args.home c.args.x c.args.count _ _ _ _ g c.grown-growth.result is
     (c.start.result + c.grown-growth.result.start + c.grown-growth.result.old) (c.start-last.result - 1)
     (ap (λ k. k + c.grown-growth.result.start + c.grown-growth.result.old) c.start.ensures) (omega (arith, c.start-last.ensures)) in

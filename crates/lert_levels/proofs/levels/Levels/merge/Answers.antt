@@ -2,21 +2,32 @@ use Rattle.std.proofs.Common.{ℕ, ◌≡◌, ◌+◌, List, map, take, length, 
 use Rattle.std.proofs.lemmas.List.{length-map}
 use Rattle.std.proofs.lemmas.Nat.{mul-le}
 use Rattle.std.proofs.lemmas.Result.{err_from_is_err_and}
+use Rattle.lert_bay.specs.declared.bay.TheConstants.{FRAMES}
+use Rattle.lert_bay.specs.Kept.{Bays}
+use Rattle.lert_bay.proofs.KeptLaws.{IsLawful, reads_as}
 use Rattle.lert_spec.specs.declared.numbers.Numbers.{Numbers}
 use Rattle.lert_spec.specs.Limits.{IsValid}
 use Rattle.lert_rows.specs.declared.bin_at.BinAt.{BinAt}
 use Rattle.lert_rows.specs.Loading.{lists_of, AllStand}
+use Rattle.lert_frames.proofs.WriteLaws.{same_err}
 use Rattle.lert_levels.specs.Merged.{IsMade, IsFrames}
 use Rattle.lert_levels.specs.OnDisk.{OnDisk}
 use Rattle.lert_levels.proofs.MergeLaws.{streams_few}
+use Rattle.lert_levels.proofs.levels.Levels.merge.Given as given
 use Rattle.lert_levels.proofs.levels.Levels.merge.Goals as goal
+
+abbrev bays : (g : given.Over) → Bays g.row.B.Denot
+bays g = record { faults = g.B.Faulty.faults; mark = g.B.Faulty.mark; files = g.B.Bay.files; leaves = g.B.Bay.leaves; moment = g.B.Bay.moment; left_since = g.B.Bay.left_since }
+
+lawful : (g : given.Over) → IsLawful (bays g)
+lawful g = record { as_read = g.met.B.Bay.as_read; since_now = g.met.B.Bay.since_now; only_now = g.met.B.Bay.only_now; since_earlier = g.met.B.Bay.since_earlier }
 
 pub returns-in_err-streams-clause-sound : goal.returns-in_err-streams-clause-sound
 returns-in_err-streams-clause-sound g c seen told held stand =
     let p = err_from_is_err_and c.from_residual.result c.from_residual.ensures.1 in
     let settings_is : c.self.inside.settings ≡ c.args.self.now.settings = ap (λ (v : OnDisk). v.settings) c.self.view_is in
-    let here = subst (λ (s : Numbers). AllStand s (seen 2) held (map (λ row. row.items) c.reached-rows.result.now)) (sym settings_is)
-    (subst (λ (rows : List (List BinAt)). AllStand c.args.self.now.settings (seen 2) held rows) (sym c.reached-rows.ensures.rows) stand) in
+    let here = subst (λ (s : Numbers). AllStand s (seen FRAMES) held (map (λ row. row.items) c.reached-rows.result.now)) (sym settings_is)
+    (subst (λ (rows : List (List BinAt)). AllStand c.args.self.now.settings (seen FRAMES) held rows) (sym c.reached-rows.ensures.rows) stand) in
     rw (p.1, p.2) (c.in_err-streams.ensures.lists seen told held here)
 
 pub gather-requires-clause-room : goal.gather-requires-clause-room
@@ -63,3 +74,12 @@ returns-clause-made g c =
     } in
     subst (λ (n : Numbers). IsMade n young (take c.args.depth c.args.self.now.rows) c.args.parts.now took frames made) settings_is
     (subst (λ (rs : List (List BinAt)). IsMade s young rs c.args.parts.now took frames made) c.reached-rows.ensures.rows is)
+
+pub returns-in_err-streams-clause-only_reads : goal.returns-in_err-streams-clause-only_reads
+returns-in_err-streams-clause-only_reads g c =
+    let p = err_from_is_err_and c.from_residual.result c.from_residual.ensures.1 in
+    rw (p.1, p.2) (reads_as (bays g) (lawful g) c.args.bay.now c.load_levels.new.bay _ _ (λ is. same_err _ _ is) c.in_err-streams.ensures.only_reads)
+
+pub returns-clause-only_reads : goal.returns-clause-only_reads
+returns-clause-only_reads g c =
+    reads_as (bays g) (lawful g) c.args.bay.now c.load_levels.new.bay _ _ (λ is. absurd (cc is)) c.in_ok-streams.ensures.only_reads

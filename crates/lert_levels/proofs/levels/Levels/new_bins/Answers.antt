@@ -2,6 +2,7 @@ use Rattle.std.proofs.Common.{ℕ, ◌≡◌, ◌-◌, ◌≤◌, ◌∙◌, map
 use Rattle.std.specs.List.{All}
 use Rattle.std.proofs.lemmas.Result.{IfOk-weaker}
 use Rattle.std.proofs.lemmas.List.{length-map}
+use Rattle.lert_bay.specs.declared.bay.TheConstants.{FRAMES}
 use Rattle.lert_spec.specs.declared.numbers.Numbers.{Numbers}
 use Rattle.lert_spec.specs.Edges.{depth}
 use Rattle.lert_spec.specs.Limits.{IsValid}
@@ -71,13 +72,13 @@ returns-clause-told g c seen told events of =
     let took = g.O.Totals.took c.merge.new.totals in
     let frames = IsFrames (g.B.Bay.files c.args.bay.now) in
     let are : AreRows s rows = subst (λ (v : OnDisk). AreRows v.settings v.rows) c.self.view_is c.self.invariant.are in
-    let here : IsFrames (g.B.Bay.files c.args.bay.now) (seen 2) = record { seen = seen; told = told; is = λ i. seen 2 } in
+    let here : IsFrames (g.B.Bay.files c.args.bay.now) (seen FRAMES) = record { seen = seen; told = told; is = λ i. seen 2 } in
     let deep : c.depth-depth.result ≤ s.levels = omega (arith, c.depth-depth.ensures.within, ap (λ (n : Numbers). n.levels) settings_is) in
-    let stand = rows_stand s events (m - 1) rows (seen 2) c.requires.at are (omega (arith, of.len)) of.held c.depth-depth.result deep in
+    let stand = rows_stand s events (m - 1) rows (seen FRAMES) c.requires.at are (omega (arith, of.len)) of.held c.depth-depth.result deep in
     matched _ _ c.merge.result
     (IfOk-weaker c.merge.result _ _ (λ v is. (
-      made_new s valid m c.requires.first c.requires.last rows c.requires.at young took frames (map (λ pieces. pieces.items) v.items) (made_turned s young rows c.depth-depth.result (depth s m) c.deref.result.now (parts_at s m (length young) (take (depth s m) rows)) took frames (map (λ pieces. pieces.items) v.items) depth_is parts_are is) (seen 2) events here are of,
-      made_taken s valid m c.requires.first c.requires.last rows c.requires.at young took frames (map (λ pieces. pieces.items) v.items) (made_turned s young rows c.depth-depth.result (depth s m) c.deref.result.now (parts_at s m (length young) (take (depth s m) rows)) took frames (map (λ pieces. pieces.items) v.items) depth_is parts_are is) (seen 2) events here are of,
+      made_new s valid m c.requires.first c.requires.last rows c.requires.at young took frames (map (λ pieces. pieces.items) v.items) (made_turned s young rows c.depth-depth.result (depth s m) c.deref.result.now (parts_at s m (length young) (take (depth s m) rows)) took frames (map (λ pieces. pieces.items) v.items) depth_is parts_are is) (seen FRAMES) events here are of,
+      made_taken s valid m c.requires.first c.requires.last rows c.requires.at young took frames (map (λ pieces. pieces.items) v.items) (made_turned s young rows c.depth-depth.result (depth s m) c.deref.result.now (parts_at s m (length young) (take (depth s m) rows)) took frames (map (λ pieces. pieces.items) v.items) depth_is parts_are is) (seen FRAMES) events here are of,
     )) c.merge.ensures.made)
     (c.merge.ensures.sound seen told (tallied_in s events) stand)
 
@@ -101,7 +102,7 @@ returns-clause-malformed g c seen told at is =
     let rows = c.args.self.now.rows in
     let settings_is : c.self.inside.settings ≡ s = ap (λ (v : OnDisk). v.settings) c.self.view_is in
     let depth_is : c.depth-depth.result ≡ depth s c.args.m = c.depth-depth.ensures.value ∙ ap (λ (n : Numbers). depth n c.args.m) settings_is in
-    subst (λ (d : ℕ). OneBreaks s (take d rows) (seen 2) at) depth_is (c.merge.ensures.malformed seen told at is)
+    subst (λ (d : ℕ). OneBreaks s (take d rows) (seen FRAMES) at) depth_is (c.merge.ensures.malformed seen told at is)
 
 pub returns-clause-sound : goal.returns-clause-sound
 returns-clause-sound g c seen told held stand =
@@ -109,4 +110,4 @@ returns-clause-sound g c seen told held stand =
     let rows = c.args.self.now.rows in
     let settings_is : c.self.inside.settings ≡ s = ap (λ (v : OnDisk). v.settings) c.self.view_is in
     let depth_is : c.depth-depth.result ≡ depth s c.args.m = c.depth-depth.ensures.value ∙ ap (λ (n : Numbers). depth n c.args.m) settings_is in
-    c.merge.ensures.sound seen told held (subst (λ (d : ℕ). AllStand s (seen 2) held (take d rows)) (sym depth_is) stand)
+    c.merge.ensures.sound seen told held (subst (λ (d : ℕ). AllStand s (seen FRAMES) held (take d rows)) (sym depth_is) stand)

@@ -12,22 +12,23 @@ use Rattle.lert_plain.proofs.table.PlainTableCountTable.add.Goals.{After-index_m
 room_in_Ok : (c : After-index_mut) → total c.self.inside.pieces.items + c.args.n ≤ c.self.inside.room
 room_in_Ok c = subst (λ (t : Contents). total t.pieces + c.args.n ≤ t.room) (sym c.self.view_is) c.requires.has_room
 
-below_in_Ok : (c : After-index_mut) → c.args.tail < 2 ^ c.self.inside.tail_bits
-below_in_Ok c = subst (λ (t : Contents). c.args.tail < 2 ^ t.tail_bits) (sym c.self.view_is) c.requires.below
+below_in_Ok : (c : After-index_mut) → c.args.tail < 2 ^ (c.self.inside.quotient_bits + c.self.inside.width)
+below_in_Ok c = subst (λ (t : Contents). c.args.tail < 2 ^ (t.quotient_bits + t.width)) (sym c.self.view_is) c.requires.below
 
 room_in_Err : (c : After-insert) → total c.self.inside.pieces.items + c.args.n ≤ c.self.inside.room
 room_in_Err c = subst (λ (t : Contents). total t.pieces + c.args.n ≤ t.room) (sym c.self.view_is) c.requires.has_room
 
-below_in_Err : (c : After-insert) → c.args.tail < 2 ^ c.self.inside.tail_bits
-below_in_Err c = subst (λ (t : Contents). c.args.tail < 2 ^ t.tail_bits) (sym c.self.view_is) c.requires.below
+below_in_Err : (c : After-insert) → c.args.tail < 2 ^ (c.self.inside.quotient_bits + c.self.inside.width)
+below_in_Err c = subst (λ (t : Contents). c.args.tail < 2 ^ (t.quotient_bits + t.width)) (sym c.self.view_is) c.requires.below
 
 -- the piece whose count is raised in place
-raised : (c : After-index_mut) → plus c.self.inside.pieces.items c.args.tail c.args.n ≡ set c.self.inside.pieces.items c.in-Ok.at (record { tail = c.index_mut.result.now.tail; count = c.index_mut.result.now.count + c.args.n })
+raised : (c : After-index_mut) → plus c.self.inside.pieces.items c.args.tail c.args.n ≡
+    set c.self.inside.pieces.items c.in-Ok.at (record { tail = c.index_mut.result.now.tail; count = c.index_mut.result.now.count + c.args.n })
 raised c =
     let pieces = c.self.inside.pieces.items in
     let here = rw c.deref.ensures.value at c.in-Ok.ensures in
     let item = c.index_mut.ensures.value in
-    plus-present 0 (2 ^ c.self.inside.tail_bits) pieces c.args.tail c.args.n c.in-Ok.at c.index_mut.result.now c.self.invariant.ascending here
+    plus-present 0 (2 ^ (c.self.inside.quotient_bits + c.self.inside.width)) pieces c.args.tail c.args.n c.in-Ok.at c.index_mut.result.now c.self.invariant.ascending here
     ∙ ap₂ (λ tail count. set pieces c.in-Ok.at (record { tail = tail; count = count + c.args.n }))
     (sym (here.same c.index_mut.result.now) ∙ sym (ap (λ p. p.tail) item)) (sym (ap (λ p. p.count) item))
 
@@ -40,8 +41,10 @@ overflow_add-index_mut c =
 pub invariant_of-self : goal.invariant_of-self
 invariant_of-self c =
     let here = (goal.at-invariant_of-self c).After-index_mut in
-    subst (λ pieces. IsKept pieces (c.self.inside.events + c.args.n) c.self.inside.room c.self.inside.tail_bits c.self.inside.pieces.cap) (raised here)
-    (IsKept-plus c.self.inside.pieces.items c.args.tail c.args.n c.self.inside.events c.self.inside.room c.self.inside.tail_bits c.self.inside.pieces.cap c.self.inside.pieces.cap
+    subst (λ pieces. IsKept pieces (c.self.inside.events + c.args.n) c.self.inside.room
+    (c.self.inside.quotient_bits + c.self.inside.width) c.self.inside.pieces.cap) (raised here)
+    (IsKept-plus c.self.inside.pieces.items c.args.tail c.args.n c.self.inside.events c.self.inside.room
+    (c.self.inside.quotient_bits + c.self.inside.width) c.self.inside.pieces.cap c.self.inside.pieces.cap
     c.self.invariant (below_in_Ok here) c.requires.positive (room_in_Ok here) (omega arith))
 
 pub returns-in-Ok-clause-pieces : goal.returns-in-Ok-clause-pieces
@@ -52,7 +55,8 @@ returns-in-Ok-clause-pieces c =
 -- there was a place, so the new piece was put in
 put_in : (c : After-insert) → IsOk c.insert.result
 put_in c =
-    let place = has_place c.self.inside.pieces.items c.self.inside.events c.self.inside.room c.self.inside.tail_bits c.self.inside.pieces.cap c.args.n c.self.invariant c.requires.positive (room_in_Err c) in
+    let place = has_place c.self.inside.pieces.items c.self.inside.events c.self.inside.room
+    (c.self.inside.quotient_bits + c.self.inside.width) c.self.inside.pieces.cap c.args.n c.self.invariant c.requires.positive (room_in_Err c) in
     c.insert.ensures.succeeds (omega (arith, c.self.inside.pieces.ok.0))
 
 grown : (c : After-insert) → plus c.self.inside.pieces.items c.args.tail c.args.n ≡ c.insert.new.self.items
@@ -70,8 +74,10 @@ prove-unreachable-requires c =
 pub invariant_of-self-in-Err : goal.invariant_of-self-in-Err
 invariant_of-self-in-Err c =
     let there = (goal.at-invariant_of-self-in-Err c).After-insert in
-    subst (λ pieces. IsKept pieces (c.self.inside.events + c.args.n) c.self.inside.room c.self.inside.tail_bits (vec_capacity c.insert.new.self)) (grown there)
-    (IsKept-plus c.self.inside.pieces.items c.args.tail c.args.n c.self.inside.events c.self.inside.room c.self.inside.tail_bits c.self.inside.pieces.cap (vec_capacity c.insert.new.self)
+    subst (λ pieces. IsKept pieces (c.self.inside.events + c.args.n) c.self.inside.room
+    (c.self.inside.quotient_bits + c.self.inside.width) (vec_capacity c.insert.new.self)) (grown there)
+    (IsKept-plus c.self.inside.pieces.items c.args.tail c.args.n c.self.inside.events c.self.inside.room
+    (c.self.inside.quotient_bits + c.self.inside.width) c.self.inside.pieces.cap (vec_capacity c.insert.new.self)
     c.self.invariant (below_in_Err there) c.requires.positive (room_in_Err there) c.insert.ensures.capacity)
 
 pub returns-in-Err-clause-pieces : goal.returns-in-Err-clause-pieces

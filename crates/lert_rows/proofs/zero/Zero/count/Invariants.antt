@@ -1,4 +1,4 @@
-use Rattle.lert_rows.proofs.YoungLaws.{IsCounted}
+use Rattle.lert_rows.proofs.YoungCounts.{IsCounted}
 use Rattle.lert_rows.proofs.zero.Zero.count.Given as goal
 
 abbrev pub invariant-loop-table : goal.invariant-loop-table

@@ -1,4 +1,4 @@
-use Rattle.std.proofs.Common.{◌-◌, ◌^◌}
+use Rattle.std.proofs.Common.{◌+◌, ◌-◌, ◌^◌}
 use Rattle.std.proofs.lemmas.Result.{IfOk-weaker}
 use Rattle.lert_rows.proofs.LoadLaws.{each_bin, each_width}
 use Rattle.lert_rows.proofs.zero.Zero.load.Goals as goal
@@ -9,6 +9,7 @@ returns-clause-bins g c =
     let bins = c.args.self.now.bins in
     IfOk-weaker c.load_tables.result _ _
     (λ _ given. each_width (2 ^ bits) bins
-    (each_bin g.T.CountTable.pieces g.T.CountTable.tail_bits bits c.used.result.now bins c.used.ensures.pieces given (λ k d below. (c.used.ensures.tables k d below).1))
-    c.used.ensures.widths)
+    (each_bin g.T.CountTable.pieces (λ table. g.T.CountTable.quotient_bits table + g.T.CountTable.width table) bits c.tables.result.now bins
+    c.tables.ensures.pieces given (λ k d below. (c.tables.ensures.rooms k d below).1))
+    c.tables.ensures.widths)
     c.load_tables.ensures.given
