@@ -1,4 +1,5 @@
 use Rattle.std.proofs.Common.{◌∙◌, arith}
+use Rattle.std.proofs.lemmas.Result.{err_from_is_err_and}
 use Rattle.lert_bay.specs.declared.bay.TheConstants.{JOURNAL}
 use Rattle.lert_bay.proofs.KeptLaws.{IsLawful, reads_as, reads_on}
 use Rattle.lert_recover.proofs.ReplayedLaws.{here}
@@ -40,3 +41,18 @@ returns-in-Left-clause-told g c seen told =
     let last = c.args.last.now in
     let left = rw c.in-Left.is at (c.in_ok-keys.ensures.told seen (now.only_reads.seen ∙ told)) in
     now.onward seen told c.in-Left.at (here c.args.settings.now c.args.cone last.n0 last.closed (seen JOURNAL) c.records.count c.records.log.gate c.in-Left.at left)
+
+-- ---- what the exits keep of the bay
+
+pub returns-in_err-keys-clause-only_reads : goal.returns-in_err-keys-clause-only_reads
+returns-in_err-keys-clause-only_reads g c =
+    let p = err_from_is_err_and c.from_residual.result c.from_residual.ensures.1 in
+    rw p.1 (reads_on (bays g) (lawful g) c.args.bay.now c.records.bay c.find_here.new.bay ⊥ _ c.records.invariant.only_reads c.in_err-keys.ensures.only_reads)
+
+pub returns-in-End-clause-only_reads : goal.returns-in-End-clause-only_reads
+returns-in-End-clause-only_reads g c =
+    reads_on (bays g) (lawful g) c.args.bay.now c.records.bay c.find_here.new.bay ⊥ _ c.records.invariant.only_reads c.in_ok-keys.ensures.only_reads
+
+pub returns-in-Left-clause-only_reads : goal.returns-in-Left-clause-only_reads
+returns-in-Left-clause-only_reads g c =
+    reads_on (bays g) (lawful g) c.args.bay.now c.records.bay c.find_here.new.bay ⊥ _ c.records.invariant.only_reads c.in_ok-keys.ensures.only_reads
