@@ -5,7 +5,7 @@ use Rattle.lert_levels.specs.OnDisk.{OnDisk}
 use Rattle.lert_rows.specs.Rows.{IsAt, AreRows}
 use Rattle.lert_spec.specs.declared.numbers.Numbers.{Numbers}
 use Rattle.lert_bay.specs.declared.bay.TheConstants.{FRAMES}
-use Rattle.lert_bay.specs.Kept.{Bays, OnlyReads}
+use Rattle.lert_bay.specs.Kept.{Bays}
 use Rattle.lert_bay.proofs.KeptLaws.{IsLawful, reads_as}
 use Rattle.lert_files.specs.Opened.{By_call}
 use Rattle.lert_files.proofs.GateLaws.{err_is, not_err, same_fault}
@@ -91,7 +91,6 @@ returns-in_err-check g c =
     let log = c.in_ok-end.ensures in
     let restored = c.restore.ensures in
     let check = c.in_err-check.ensures in
-    let checked : OnlyReads (bays g) c.read_whole_log.new.bay c.check.new.bay _ = check.only_reads in
     let end = c.in_ok-end.end in
     rw p.1 (record {
       point = tt;
@@ -116,7 +115,7 @@ returns-in_err-check g c =
           (quiet_reads (bays g) (lawful g) c.sync_files.new.bay c.read_journal_header.new.bay _ header.only_reads))
           (quiet_reads (bays g) (lawful g) c.read_journal_header.new.bay c.read_whole_log.new.bay _ log.only_reads))
           (quiet_reads (bays g) (lawful g) c.read_whole_log.new.bay c.check.new.bay _
-          (reads_as (bays g) (lawful g) c.read_whole_log.new.bay c.check.new.bay _ _ (λ is. ap Err (check_failed _ (sym p.2 ∙ err_is _ _ is))) checked));
+          (reads_as (bays g) (lawful g) c.read_whole_log.new.bay c.check.new.bay _ _ (λ is. ap Err (check_failed _ (sym p.2 ∙ err_is _ _ is))) check.only_reads));
     })
 
 pub returns : goal.returns
@@ -126,7 +125,6 @@ returns g c =
     let log = c.in_ok-end.ensures in
     let restored = c.restore.ensures in
     let check = c.in_ok-check.ensures in
-    let checked : OnlyReads (bays g) c.read_whole_log.new.bay c.check.new.bay _ = check.only_reads in
     let end = c.in_ok-end.end in
     let s = c.args.settings.now in
     let own = restored.settings ∙ c.requires.levels in
@@ -151,7 +149,7 @@ returns g c =
           let stands = check.stand seen (log.only_reads.seen ∙ (header.only_reads.seen ∙ (synced.quiet.seen ∙ told))) in
           subst (λ (disk : OnDisk). EachStands s (seen FRAMES) disk.rows) after (subst (λ (numbers : Numbers). EachStands numbers (seen FRAMES) rows) own stands);
       durable = λ seen told image may.
-          c.in_ok-sync_files.ensures.durable seen told image ((header.only_reads.images image).0 ((log.only_reads.images image).0 ((checked.images image).0 may)));
+          c.in_ok-sync_files.ensures.durable seen told image ((header.only_reads.images image).0 ((log.only_reads.images image).0 ((check.only_reads.images image).0 may)));
       same = (ap (λ (disk : OnDisk). disk.settings) check.same ∙ restored.settings, log.same);
       quiet = quiet_on (bays g) (lawful g) c.args.bay.now c.read_whole_log.new.bay c.check.new.bay _ _
           (quiet_on (bays g) (lawful g) c.args.bay.now c.read_journal_header.new.bay c.read_whole_log.new.bay _ _
@@ -159,5 +157,5 @@ returns g c =
           (quiet_reads (bays g) (lawful g) c.sync_files.new.bay c.read_journal_header.new.bay _ header.only_reads))
           (quiet_reads (bays g) (lawful g) c.read_journal_header.new.bay c.read_whole_log.new.bay _ log.only_reads))
           (quiet_reads (bays g) (lawful g) c.read_whole_log.new.bay c.check.new.bay _
-          (reads_as (bays g) (lawful g) c.read_whole_log.new.bay c.check.new.bay _ _ (λ is. absurd (not_err _ _ is)) checked));
+          (reads_as (bays g) (lawful g) c.read_whole_log.new.bay c.check.new.bay _ _ (λ is. absurd (not_err _ _ is)) check.only_reads));
     }
