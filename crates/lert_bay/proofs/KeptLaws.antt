@@ -1,11 +1,11 @@
 -- What calls in turn keep of a bay.
 use Rattle.std.proofs.Common.{◌≡◌, ℕ, ◌≤◌, ◌∙◌, Some, refl, inl, inr, arith}
-use Rattle.std.proofs.lemmas.Bool.{cases_lt}
 use Rattle.lert_bay.specs.Files.{Files}
 use Rattle.lert_bay.specs.Images.{Elapses, KeepsImages}
 use Rattle.lert_bay.specs.Kept.{Bays, KeepsBay, OnlyReads}
 use Rattle.lert_bay.proofs.Lasting.{lasts_none, lasts_on, lasts_more}
-use Rattle.lert_io.specs.Fault.{HasRisen, last_count}
+use Rattle.lert_io.specs.Fault.{HasRisen}
+use Rattle.lert_io.proofs.Rising.{risen_since}
 
 -- the laws that each bay keeps
 pub record IsLawful {B : Type 0} (bays : Bays B) : Type 0 where
@@ -13,17 +13,6 @@ pub record IsLawful {B : Type 0} (bays : Bays B) : Type 0 where
   pub since_now : (bay : B) (image : Files) → bays.leaves bay image → bays.left_since bay (bays.moment bay) image
   pub only_now : (bay : B) (image : Files) → bays.left_since bay (bays.moment bay) image → bays.leaves bay image
   pub since_earlier : (bay : B) (t u : ℕ) (image : Files) → t ≤ u → bays.left_since bay u image → bays.left_since bay t image
-
--- a count that rose has risen at each later moment
-pub risen_then : (first middle last : ℕ) → middle ≤ last → HasRisen first middle → HasRisen first last
-risen_then first middle last later rose below = omega (arith, later, rose below)
-
--- and since each earlier one
-pub risen_since : (first middle last : ℕ) → first ≤ middle → middle ≤ last → HasRisen middle last → HasRisen first last
-risen_since first middle last early later rose below = elim (cases_lt middle last_count) [
-  | inl under ↦ omega (arith, early, rose under)
-  | inr over ↦ omega (arith, over, later, below)
-]
 
 module _ {B : Type 0} (bays : Bays B) (lawful : IsLawful bays) where
   -- no call

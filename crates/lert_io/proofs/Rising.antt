@@ -9,3 +9,7 @@ risen_since first before now early later rose below = elim (cases_lt before last
   | inl under ↦ omega (arith, early, rose under)
   | inr over ↦ omega (arith, below, over, later)
 ]
+
+-- and has risen at each later moment
+pub risen_then : (first middle last : ℕ) → middle ≤ last → HasRisen first middle → HasRisen first last
+risen_then first middle last later rose below = omega (arith, later, rose below)

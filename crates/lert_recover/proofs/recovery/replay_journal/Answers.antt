@@ -2,7 +2,8 @@ use Rattle.std.proofs.Common.{◌≡◌, ◌≤◌, ℕ, List, length, ap, sym, 
 use Rattle.std.specs.Prelude.{if◌then◌else◌}
 use Rattle.lert_bay.specs.declared.bay.TheConstants.{JOURNAL}
 use Rattle.lert_bay.specs.Kept.{Bays, KeepsBay, OnlyReads}
-use Rattle.lert_bay.proofs.KeptLaws.{IsLawful, keeps_as, keeps_on, risen_since, risen_then}
+use Rattle.lert_bay.proofs.KeptLaws.{IsLawful, keeps_as, keeps_on}
+use Rattle.lert_io.proofs.Rising.{risen_since, risen_then}
 use Rattle.lert_io.specs.Fault.{HasRisen}
 use Rattle.lert_spec.specs.declared.numbers.Numbers.{Numbers}
 use Rattle.lert_spec.specs.Edges.{capacity}
