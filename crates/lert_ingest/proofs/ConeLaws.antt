@@ -17,7 +17,7 @@ use Rattle.lert_ingest.specs.Status.{create_status}
 use Rattle.lert_ingest.specs.declared.status.Status.{Status}
 use Rattle.lert_ingest.specs.declared.status.Status.TheVariants.{Done, Usage, PlaceFault, TraceFault, BadTrace, TooLong, NotFresh, BayFault, CapacityFull, Malformed, OtherSettings, OutFault, OutOfMemory}
 use Rattle.lert_ingest.proofs.BayLaws.{are_more, bays_of-push, failed_since, later_seam, slice_get-first, slice_get-seam}
-use Rattle.lert_ingest.proofs.EachLaws.{but_more, each_seam, kept_more, kept_refused, kept_unused, new_unused, unused_all, unused_more}
+use Rattle.lert_ingest.proofs.EachLaws.{but_more, each_seam, kept_refused, kept_unused, new_unused, unused_all, unused_more}
 
 -- a fact of each item and its place, with one item more behind the list
 pub each-push : {X : Type 0} (P : ℕ → X → Type 0) (xs : List X) (y : X) → ((k : ℕ) (x : X) → slice_get xs k ≡ Some x → P k x) → P (length xs) y →

@@ -1,5 +1,5 @@
 -- What holds of each of some bays, as it was and as it is.
-use Rattle.std.proofs.Common.{◌≡◌, ◌⊎◌, ℕ, false, List, [], ◌∷◌, ◌++◌, length, set, get_or, Option, Some, None, slice_get, refl, ap, sym, ◌∙◌, subst, inl, inr, arith}
+use Rattle.std.proofs.Common.{◌≡◌, ℕ, List, [], ◌∷◌, ◌++◌, length, set, get_or, Option, Some, None, slice_get, refl, ap, sym, ◌∙◌, subst, inl, inr, arith}
 use Rattle.std.proofs.lemmas.Bool.{cases_eq}
 use Rattle.std.proofs.lemmas.Option.{slice_get-get_or, slice_get_within, same_Some}
 use Rattle.lert_bay.specs.Files.{Files, IfTold, Turns}
@@ -7,7 +7,7 @@ use Rattle.lert_cone.specs.Listing.{Listing}
 use Rattle.lert_cone.specs.Sound.{AreEmpty, IsSoundAs}
 use Rattle.lert_cone.specs.Stands.{Standing, is_broken}
 use Rattle.lert_spec.specs.declared.numbers.Numbers.{Numbers}
-use Rattle.lert_ingest.specs.Bays.{AreKept, AreUnused, AreUnusedBut, EachBay, IsUnused, bays_of}
+use Rattle.lert_ingest.specs.Bays.{AreKept, AreUnused, AreUnusedBut, EachBay, IsUnused}
 use Rattle.lert_ingest.specs.Cones.{IsNew}
 use Rattle.lert_ingest.proofs.BayLaws.{set-seam, slice_get-seam, slice_get-set_other, slice_get-set_same}
 

@@ -8,7 +8,7 @@ use Rattle.std.proofs.lemmas.List.Elements.{All-push, All-nil, filter-append, fi
 use Rattle.std.proofs.lemmas.Option.{slice_get_within, same_Some}
 use Rattle.lert_base.specs.Packet.{Packet, events_of}
 use Rattle.lert_base.specs.Weave.{AreCut, IsBrought, IsPartWoven}
-use Rattle.lert_bay.specs.Files.{Files, IfTold}
+use Rattle.lert_bay.specs.Files.{Files}
 use Rattle.lert_buffers.specs.Rings.{Rings, ring_of, with_ring}
 use Rattle.lert_cone.proofs.SoundLaws.{events_more}
 use Rattle.lert_cone.specs.Listing.{Listing}

@@ -1,4 +1,4 @@
-use Rattle.std.proofs.Common.{◌≡◌, ℕ, ◌<◌, ◌≤◌, slice_get}
+use Rattle.std.proofs.Common.{◌≡◌, ℕ, ◌≤◌, slice_get}
 use Rattle.std.specs.VecDeque.{deque_capacity}
 use Rattle.lert_ingest.specs.Bays.{AreFreshBelow, AreKept, AreLater}
 use Rattle.lert_ingest.proofs.bays.find_stale.Given as goal

@@ -1,4 +1,4 @@
-use Rattle.std.proofs.Common.{List, refl, ap, sym, ◌∙◌, subst, inl}
+use Rattle.std.proofs.Common.{List, refl, ap, sym, subst, inl}
 use Rattle.std.specs.Prelude.{⊤}
 use Rattle.lert_cone.specs.Stands.{Standing}
 use Rattle.lert_spec.specs.declared.numbers.Numbers.{Numbers}
