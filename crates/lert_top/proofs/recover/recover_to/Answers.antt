@@ -1,4 +1,4 @@
-use Rattle.std.proofs.Common.{◌≡◌, [], List, length, refl, ap, sym, ◌∙◌, subst, arith, inl, inr, append-nil, rules}
+use Rattle.std.proofs.Common.{[], List, length, refl, ap, sym, ◌∙◌, subst, arith, inl, inr, append-nil}
 use Rattle.lert_ingest.specs.declared.status.Status.{Status}
 use Rattle.lert_ingest.specs.declared.status.Status.TheVariants.{OutOfMemory}
 use Rattle.lert_ingest.specs.Bays.{AreLater}
@@ -123,8 +123,6 @@ recover_bays-status-requires-clause-room g c = omega (arith, c.in-Ok.ensures.num
 pub put_back_bays-requires-clause-handed : goal.put_back_bays-requires-clause-handed
 put_back_bays-requires-clause-handed g c = λ lifetimes outlive. c.recover_bays-status.ensures.later.number ∙ ap length (sym c.in-Ok.ensures.opened)
 
-pub open_bays-requires : goal.open_bays-requires
-open_bays-requires g c =
-    let none : g.P.Place.handed_bays c.args.place.now ≡ [] =
-    nothing_handed bays_granted (g.P.Place.asked c.args.place.now) (g.P.Place.handed_bays c.args.place.now) (g.met.P.Place.tied_bays c.args.place.now) c.requires.no_bay in
-    search rules
+pub open_bays-requires-clause-none : goal.open_bays-requires-clause-none
+open_bays-requires-clause-none g c = λ lifetimes outlive.
+    nothing_handed bays_granted (g.P.Place.asked c.args.place.now) (g.P.Place.handed_bays c.args.place.now) (g.met.P.Place.tied_bays c.args.place.now) c.requires.no_bay
