@@ -1,5 +1,6 @@
 -- What a parse of decimal digits says of the number that a word spells.
-use Rattle.std.proofs.Common.{◌≡◌, ℕ, ◌<◌, ◌≤◌, ◌^◌, Bool, true, false, ◌&&◌, ltb, leb, cond, List, length, Some, None, Result, Ok, Err, ap, sym, ◌∙◌, rules, lt-ltb, le-leb, le-ltb, inl, inr}
+use Rattle.std.proofs.Common.{◌≡◌, ℕ, ◌<◌, ◌≤◌, ◌^◌, Bool, true, false, ◌&&◌, ltb, leb, cond, List, length, Some, None, Result, Ok, Err, ap, sym, ◌∙◌, rules}
+use Rattle.std.proofs.Common.{lt-ltb, le-leb, le-ltb, inl, inr}
 use Rattle.std.proofs.lemmas.Bool.{cases_lt}
 use Rattle.std.specs.Char.{is_ascii_digit}
 use Rattle.std.specs.List.{list_all}
@@ -14,7 +15,8 @@ digits = numerals_by_value _ (search rules)
 module _ (word : List ℕ) (some : 0 < length word) (few : length word ≤ 20) (all : list_all is_ascii_digit word ≡ true) where
   number_of-digits : (b : Bool) → ltb (digits_value 10 word) 18446744073709551616 ≡ b → number_of word ≡ cond b (Some (digits_value 10 word)) None
   number_of-digits b fits =
-      ap (λ x. cond (x && leb (length word) 20 && list_all is_ascii_digit word && ltb (digits_value 10 word) 18446744073709551616) (Some (digits_value 10 word)) None) (lt-ltb 0 (length word) some)
+      ap (λ x. cond (x && leb (length word) 20 && list_all is_ascii_digit word && ltb (digits_value 10 word) 18446744073709551616) (Some (digits_value 10 word)) None)
+      (lt-ltb 0 (length word) some)
       ∙ ap (λ x. cond (x && list_all is_ascii_digit word && ltb (digits_value 10 word) 18446744073709551616) (Some (digits_value 10 word)) None) (le-leb (length word) 20 few)
       ∙ ap (λ x. cond (x && ltb (digits_value 10 word) 18446744073709551616) (Some (digits_value 10 word)) None) all
       ∙ ap (λ x. cond x (Some (digits_value 10 word)) None) fits

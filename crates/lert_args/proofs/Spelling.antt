@@ -1,5 +1,6 @@
 -- What a line breaks, by the form that spells it.
-use Rattle.std.proofs.Common.{◌≡◌, ℕ, ◌<◌, Bool, true, false, cond, ◌&&◌, List, [], length, Option, Some, None, slice_get, Result, Ok, Err, IfErr, MatchResult, refl, ap, sym, ◌∙◌, subst, arith}
+use Rattle.std.proofs.Common.{◌≡◌, ℕ, ◌<◌, Bool, true, false, cond, ◌&&◌, List, [], length, Option, Some, None, slice_get, Result, Ok, Err, IfErr, MatchResult, refl, ap, sym}
+use Rattle.std.proofs.Common.{◌∙◌, subst, arith}
 use Rattle.std.specs.Prelude.{◌==◌, codes, if◌then◌else◌}
 use Rattle.std.proofs.lemmas.Bool.{eqb-true}
 use Rattle.std.proofs.lemmas.Option.{get_or_from_slice_get}
@@ -8,7 +9,8 @@ use Rattle.lert_spec.specs.Limits.{first_broken}
 use Rattle.lert_args.specs.declared.line.Line.{Line}
 use Rattle.lert_args.specs.declared.line.Task.TheVariants.{Run, Recover}
 use Rattle.lert_args.specs.declared.line.Usage.{Usage}
-use Rattle.lert_args.specs.Command.{are_options, command, has_long_words, has_recover_words, has_short_words, usage, usage_of, is_short_form, short_settings, is_long_form, is_recover_form, long_settings}
+use Rattle.lert_args.specs.Command.{are_options, command, has_long_words, has_recover_words, has_short_words, usage, usage_of, is_short_form, short_settings, is_long_form, is_recover_form}
+use Rattle.lert_args.specs.Command.{long_settings}
 use Rattle.lert_args.specs.Word.{are_names, is_named, is_option, is_word, word_at}
 
 -- what a test gave, and what it stands for
@@ -77,7 +79,8 @@ module _ (words : List (List ℕ)) (line : Line) where
       subst (ArePlaces words) same (record { dir = omega (arith, len); trace = λ trace task. absurd (cc) })
   by_recover false form is = absurd (cc)
 
-  by_long : (b : Bool) → is_long_form words ≡ b → cond b (Some (record { settings = long_settings words; dir = 17; task = Run 18 })) (if is_recover_form words then Some (record { settings = long_settings words; dir = 17; task = Recover }) else None) ≡ Some line → ArePlaces words line
+  by_long : (b : Bool) → is_long_form words ≡ b → cond b (Some (record { settings = long_settings words; dir = 17; task = Run 18 }))
+      (if is_recover_form words then Some (record { settings = long_settings words; dir = 17; task = Recover }) else None) ≡ Some line → ArePlaces words line
   by_long true form is =
       let len : length words ≡ 19 = eqb-true (length words) 19
       (first_of_three (length words == 19) (is_word words 0 (codes "run")) (are_names words 17) (both (has_long_words words) (are_options words) form).0) in

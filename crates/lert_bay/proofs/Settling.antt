@@ -1,5 +1,6 @@
 -- Settled ranges through calls: what a write leaves alone, every image keeps.
-use Rattle.std.proofs.Common.{◌≡◌, ◌≢◌, ℕ, ◌+◌, ◌-◌, ◌<◌, ◌≤◌, List, [], length, take, get_or, sym, ap, ◌∙◌, ◌⊎◌, subst, inl, inr, arith, length-take, length-drop}
+use Rattle.std.proofs.Common.{◌≡◌, ◌≢◌, ℕ, ◌+◌, ◌-◌, ◌<◌, ◌≤◌, List, [], length, take, get_or, sym, ap, ◌∙◌, ◌⊎◌, subst, inl, inr, arith, length-take}
+use Rattle.std.proofs.Common.{length-drop}
 use Rattle.std.proofs.lemmas.Bool.{cases_lt, cases_eq}
 use Rattle.std.proofs.lemmas.List.{get_or-take, get_or-drop, drop_all, ext_get_or, length-take-le}
 use Rattle.lert_bay.specs.Files.{Files, Changes, IsOutside, Torn}

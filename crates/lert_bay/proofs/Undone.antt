@@ -68,7 +68,8 @@ torn_by_put (Err _) at landing bytes piece old new part is ok err = subst (λ (x
 -- writes are taken back and the end is cut off: the file still is an image
 pub pending_crashed : (now synced : List ℕ) (written : List Extent) (least : ℕ) (unsynced : List Overwrite) (back left : List ℕ) (n : ℕ) →
     IsPending now synced written least unsynced → length back ≡ length now →
-    ((place : ℕ) → All (λ w. IsOutside w.at (length w.old.items) place) unsynced → get_or back place 0 ≡ get_or now place 0) → least ≤ n → n ≤ length back → left ≡ take n back →
+    ((place : ℕ) → All (λ w. IsOutside w.at (length w.old.items) place) unsynced → get_or back place 0 ≡ get_or now place 0) → least ≤ n → n ≤ length back →
+    left ≡ take n back →
     IsPending left synced written least unsynced
 pending_crashed now synced written least unsynced back left n pending long elsewhere lower upper is =
     subst (λ (xs : List ℕ). IsPending xs synced written least unsynced) (sym is)

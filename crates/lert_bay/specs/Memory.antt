@@ -1,5 +1,6 @@
 -- What a bay in memory is seen as, and the meanings that it gives to the members of `Bay`.
-use Rattle.std.specs.Prelude.{◌≡◌, ℕ, ◌+◌, ◌-◌, ◌<◌, ◌≤◌, min, Result, OnOk, OnErr, List, [], ◌∷◌, ◌++◌, length, slice_index_or, slice_set, Some, None, option_map, IsSomeAnd}
+use Rattle.std.specs.Prelude.{◌≡◌, ℕ, ◌+◌, ◌-◌, ◌<◌, ◌≤◌, min, Result, OnOk, OnErr, List, [], ◌∷◌, ◌++◌, length, slice_index_or, slice_set, Some, None}
+use Rattle.std.specs.Prelude.{option_map, IsSomeAnd}
 use Rattle.std.proofs.Common.{◌⊎◌, inl, inr, ap, arith}
 use Rattle.lert_bay.specs.Files.{Files}
 use Rattle.lert_bay.specs.Images.{Elapses}

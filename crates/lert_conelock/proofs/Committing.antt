@@ -1,5 +1,6 @@
 -- The pass that has the lock counts its packet in, and the rule goes on.
-use Rattle.std.proofs.Common.{◌≡◌, ◌≢◌, ℕ, ◌+◌, ◌%◌, ◌^◌, ◌<◌, ◌≤◌, eqb, List, [], ◌∷◌, ◌++◌, length, get_or, set, Some, sym, refl, ap, ◌∙◌, subst, inl, ⊎_elim, arith, append-nil, length-append, length-set, get_or-set_same, get_or-set_other, mod-eq_of_lt, ne_eqb}
+use Rattle.std.proofs.Common.{◌≡◌, ◌≢◌, ℕ, ◌+◌, ◌%◌, ◌^◌, ◌<◌, ◌≤◌, eqb, List, [], ◌∷◌, ◌++◌, length, get_or, set, Some, sym, refl, ap, ◌∙◌}
+use Rattle.std.proofs.Common.{subst, inl, ⊎_elim, arith, append-nil, length-append, length-set, get_or-set_same, get_or-set_other, mod-eq_of_lt, ne_eqb}
 use Rattle.std.proofs.lemmas.Option.{same_Some}
 use Rattle.std.proofs.lemmas.Bool.{cond-false}
 use Rattle.std.proofs.lemmas.List.Elements.{Contains-push_cases, filter-append}

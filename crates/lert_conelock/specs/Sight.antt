@@ -1,5 +1,6 @@
 -- What callers see of a pass and of a lock.
-use Rattle.std.specs.Prelude.{◌≡◌, ℕ, ◌+◌, ◌<◌, ◌≤◌, ◌==◌, Bool, false, ◌||◌, List, [], ◌∷◌, ◌++◌, ◌⊎◌, filter, Option, Some, None, is_none, IsTrue, Contains}
+use Rattle.std.specs.Prelude.{◌≡◌, ℕ, ◌+◌, ◌<◌, ◌≤◌, ◌==◌, Bool, false, ◌||◌, List, [], ◌∷◌, ◌++◌, ◌⊎◌, filter, Option, Some, None, is_none, IsTrue}
+use Rattle.std.specs.Prelude.{Contains}
 use Rattle.atomic_table.specs.Seated.{TableId}
 use Rattle.lert_base.specs.declared.held.Held.{Ghosts as HeldOf}
 use Rattle.lert_base.specs.Packet.{Packet, own}

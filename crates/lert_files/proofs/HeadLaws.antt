@@ -157,7 +157,8 @@ read_whole count head file long few is whole =
 pub whole_file : (count : ℕ) (head file : List ℕ) → take count head ≡ take 32 file → 32 ≤ length (take count head) → 32 ≤ length file
 whole_file count head file is whole = omega (arith, whole, ap (λ (xs : List ℕ). length xs) is, length-take 32 file)
 
-pub gateless_there : (s : Numbers) (cone at : ℕ) (head file : List ℕ) (kept : Kept) → head ≡ take 32 file → take 8 head ≡ magic → 32 ≤ length file → at ≡ length file → at ≤ 32 →
+pub gateless_there : (s : Numbers) (cone at : ℕ) (head file : List ℕ) (kept : Kept) → head ≡ take 32 file → take 8 head ≡ magic → 32 ≤ length file → at ≡ length file →
+    at ≤ 32 →
     kept ≡ kept_in head →
     kept ≡ record { cone = cone; numbers = s } → IsHeaderFault s cone file (Malformed JOURNAL at)
 gateless_there s cone at head file kept is begun long at_is short kept_is own =

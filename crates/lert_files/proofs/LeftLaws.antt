@@ -9,7 +9,8 @@ use Rattle.lert_spec.specs.declared.numbers.Numbers.{Numbers}
 use Rattle.lert_spec.specs.Edges.{capacity}
 use Rattle.lert_spec.specs.Mix.{cone_of}
 use Rattle.lert_reports.specs.declared.log.LogBefore.{LogBefore}
-use Rattle.lert_reports.specs.LogText.{Field, is_broken, left_at, log_left, number_in, n0_in, next_flush, kind_field, n0_field, offset_field, first_field, head_fields, bin_count, level_place, frame_field}
+use Rattle.lert_reports.specs.LogText.{Field, is_broken, left_at, log_left, number_in, n0_in, next_flush, kind_field, n0_field, offset_field, first_field, head_fields, bin_count, level_place}
+use Rattle.lert_reports.specs.LogText.{frame_field}
 use Rattle.lert_reports.specs.LogText.{level_fields, directory_fields, reports_place, reports_in, at_before, key_field, at_field, count_field, report_fields, all_report_fields, end_field}
 use Rattle.lert_reports.proofs.DirectoryLaws.{level_place-next, later_place}
 use Rattle.lert_reports.proofs.FieldLaws.{broken, kept, whole, none_left, stops, goes_on, parted, first_kept, keeps_rule, each_none, in_first}

@@ -1,5 +1,6 @@
 -- What a log says of its last record keeps the rules, also where it has none.
-use Rattle.std.proofs.Common.{ℕ, suc, ◌≡◌, ◌+◌, ◌-◌, ◌/◌, ◌^◌, ◌≤◌, Bool, false, Ok, Err, Result, List, [], ◌∷◌, ◌++◌, length, replicate, get_or, ap, sym, ◌∙◌, subst, arith, lit≤}
+use Rattle.std.proofs.Common.{ℕ, suc, ◌≡◌, ◌+◌, ◌-◌, ◌/◌, ◌^◌, ◌≤◌, Bool, false, Ok, Err, Result, List, [], ◌∷◌, ◌++◌, length, replicate, get_or, ap, sym}
+use Rattle.std.proofs.Common.{◌∙◌, subst, arith, lit≤}
 use Rattle.std.specs.Prelude.{IfOk}
 use Rattle.std.proofs.lemmas.List.{length-replicate, get_or-replicate}
 use Rattle.lert_spec.specs.declared.numbers.Numbers.{Numbers}

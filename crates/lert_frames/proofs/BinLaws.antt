@@ -1,7 +1,8 @@
 -- The first pieces, and one more, below the bound of the pieces.
 use Rattle.std.specs.List.{slice_get}
 use Rattle.std.proofs.lemmas.Option.{slice_get_within, get_or_from_slice_get}
-use Rattle.std.proofs.Common.{ℕ, zero, suc, ◌≡◌, ◌+◌, ◌-◌, nat_lt, nat_le, Some, ◌^◌, ◌≤◌, ◌<◌, ◌++◌, [], ◌∷◌, List, length, take, get_or, map, refl, arith, sym, ap, ◌∙◌}
+use Rattle.std.proofs.Common.{ℕ, zero, suc, ◌≡◌, ◌+◌, ◌-◌, nat_lt, nat_le, Some, ◌^◌, ◌≤◌, ◌<◌, ◌++◌, [], ◌∷◌, List, length, take, get_or, map, refl, arith}
+use Rattle.std.proofs.Common.{sym, ap, ◌∙◌}
 use Rattle.std.specs.List.{range_with_len}
 use Rattle.std.proofs.lemmas.List.FromFn.{map-range_with_len_more}
 use Rattle.lert_spec.proofs.GivenLaws.{given_take, given_more, given_wide}

@@ -84,7 +84,8 @@ lower_before s level frame other below =
     let more = mul-le-mul_right (frame_len s level) (let up : frame + 1 ≤ other = omega (arith, below) in up) in
     omega (arith, more)
 
-pub places_apart : (s : Numbers) (level frame other_level other : ℕ) → 1 ≤ level → frame ≤ s.bins → 1 ≤ other_level → other ≤ s.bins → (other_level ≢ level) ⊎ (other ≢ frame) →
+pub places_apart : (s : Numbers) (level frame other_level other : ℕ) → 1 ≤ level → frame ≤ s.bins → 1 ≤ other_level → other ≤ s.bins →
+    (other_level ≢ level) ⊎ (other ≢ frame) →
     (frame_place s other_level other + frame_len s other_level ≤ frame_place s level frame)
     ⊎ (frame_place s level frame + frame_len s level ≤ frame_place s other_level other)
 places_apart s level frame other_level other from within other_from other_within differ = elim (cases_order other_level level) [

@@ -112,7 +112,8 @@ left_on at more first old middle new one two =
 
 -- ---- all files
 
-changes_on : (file : ℕ) (one two both : List ℕ → List ℕ → Type 0) (old middle new : Files) → ((a b c : List ℕ) → one a b → two b c → both a c) → Changes one file old middle →
+changes_on : (file : ℕ) (one two both : List ℕ → List ℕ → Type 0) (old middle new : Files) → ((a b c : List ℕ) → one a b → two b c → both a c) →
+    Changes one file old middle →
     Changes two file middle new → Changes both file old new
 changes_on file one two both old middle new join first second = record {
   here = join (old file) (middle file) (new file) first.here second.here;

@@ -1,5 +1,6 @@
 -- The two writes of an append, each with its sync: the record behind the closed gate, then the gate.
-use Rattle.std.proofs.Common.{◌≡◌, ◌≢◌, ℕ, ◌+◌, ◌<◌, ◌≤◌, List, [], ◌∷◌, ◌++◌, Some, Result, Ok, length, sym, ap, ◌∙◌, ◌⊎◌, subst, inl, inr, arith}
+use Rattle.std.proofs.Common.{◌≡◌, ◌≢◌, ℕ, ◌+◌, ◌<◌, ◌≤◌, List, [], ◌∷◌, ◌++◌, Some, Result, Ok, length, sym, ap, ◌∙◌, ◌⊎◌, subst, inl, inr}
+use Rattle.std.proofs.Common.{arith}
 use Rattle.lert_bay.specs.Files.{Files, IfTold, Changes, Turns, Holds, Torn}
 use Rattle.lert_bay.specs.Images.{ComesByWrite}
 use Rattle.lert_bay.specs.Kept.{Bays}

@@ -1,5 +1,6 @@
 -- What a header's text is, and what the bytes at a gate say.
-use Rattle.std.proofs.Common.{◌≡◌, ℕ, ◌+◌, ◌<◌, ◌≤◌, List, [], ◌∷◌, ◌++◌, length, take, drop, get_or, refl, sym, ap, ◌∙◌, subst, inl, arith, length-append, length-drop, append-nil, append_assoc}
+use Rattle.std.proofs.Common.{◌≡◌, ℕ, ◌+◌, ◌<◌, ◌≤◌, List, [], ◌∷◌, ◌++◌, length, take, drop, get_or, refl, sym, ap, ◌∙◌, subst, inl, arith, length-append}
+use Rattle.std.proofs.Common.{length-drop, append-nil, append_assoc}
 use Rattle.std.proofs.lemmas.List.{get_or_at, drop_more, drop_all, take_at, take_all, drop-take}
 use Rattle.byteorder.specs.Endian.{little_number}
 use Rattle.lert_bay.specs.Files.{Holds, CopiesFrom}

@@ -1,5 +1,6 @@
 -- Who wins a tournament, and how one entrant more changes it.
-use Rattle.std.proofs.Common.{◌≡◌, ◌≢◌, ℕ, zero, suc, ◌+◌, ◌*◌, ◌/◌, ◌<◌, ◌≤◌, Bool, true, false, List, length, set, drop, get_or, arith, sym, ap, ◌∙◌, refl, subst, inl, inr, ◌⊎◌, get_or-set_other, get_or-set_same, length-set, length-drop, ◌-◌}
+use Rattle.std.proofs.Common.{◌≡◌, ◌≢◌, ℕ, zero, suc, ◌+◌, ◌*◌, ◌/◌, ◌<◌, ◌≤◌, Bool, true, false, List, length, set, drop, get_or, arith, sym, ap, ◌∙◌}
+use Rattle.std.proofs.Common.{refl, subst, inl, inr, ◌⊎◌, get_or-set_other, get_or-set_same, length-set, length-drop, ◌-◌}
 use Rattle.std.proofs.lemmas.Bool.{cases_eq, cases_lt}
 use Rattle.std.proofs.lemmas.List.{get_or_default, get_or-drop, drop-set-lt, drop-set-add}
 use Rattle.lert_merge.specs.declared.tournament.Entrant.{Entrant}
@@ -87,8 +88,10 @@ drawn_more places streams next winner is some below wins =
       len = length-set places next winner ∙ is.len;
       played = λ j j_some j_below ne. elim (cases_eq j next) [
         | inl same ↦ subst (λ n. Wins (entrant_at (set places next winner) (2 * n)) (entrant_at (set places next winner) (2 * n + 1)) (entrant_at (set places next winner) n)) (sym same)
-            (subst (λ (x : Entrant). Wins x (entrant_at (set places next winner) (2 * next + 1)) (entrant_at (set places next winner) next)) (sym (get_or-set_other places next (2 * next) winner nobody (omega arith)))
-            (subst (λ (x : Entrant). Wins (entrant_at places (2 * next)) x (entrant_at (set places next winner) next)) (sym (get_or-set_other places next (2 * next + 1) winner nobody (omega arith)))
+            (subst (λ (x : Entrant). Wins x (entrant_at (set places next winner) (2 * next + 1)) (entrant_at (set places next winner) next))
+            (sym (get_or-set_other places next (2 * next) winner nobody (omega arith)))
+            (subst (λ (x : Entrant). Wins (entrant_at places (2 * next)) x (entrant_at (set places next winner) next))
+            (sym (get_or-set_other places next (2 * next + 1) winner nobody (omega arith)))
             (subst (λ (x : Entrant). Wins (entrant_at places (2 * next)) (entrant_at places (2 * next + 1)) x) (sym (get_or-set_same places next winner nobody inside)) wins)))
         | inr other ↦ wins_same places next j winner (omega arith) (omega arith) other (is.played j j_some j_below other)
       ];
@@ -164,7 +167,8 @@ all_of places streams k is under =
 pub none_takes_part : (places : List Entrant) (streams : ℕ) → IsDrawn places streams → streams ≡ 0 → AreOut (drop streams places)
 none_takes_part places streams is none k under = let at = all_of places streams k is under in absurd (let low : k < streams = at.0 in omega arith)
 
-pub all_are_out : (places : List Entrant) (streams : ℕ) (first d : Entrant) → IsDrawn places streams → streams ≢ 0 → first ≡ get_or places 1 d → first.is_out ≡ true → AreOut (drop streams places)
+pub all_are_out : (places : List Entrant) (streams : ℕ) (first d : Entrant) → IsDrawn places streams → streams ≢ 0 → first ≡ get_or places 1 d → first.is_out ≡ true →
+    AreOut (drop streams places)
 all_are_out places streams first d is some at out k under =
     let len : length places ≡ streams + streams = is.len in
     let here = all_of places streams k is under in
@@ -175,7 +179,8 @@ all_are_out places streams first d is some at out k under =
       | inr takes ↦ absurd (let no : true ≡ false = sym out ∙ ap (λ (e : Entrant). e.is_out) whole ∙ takes.0 in cc)
     ]
 
-pub one_is_first : (places : List Entrant) (streams room capacity : ℕ) (first d : Entrant) → IsKept places streams room capacity → streams ≢ 0 → first ≡ get_or places 1 d → first.is_out ≡ false →
+pub one_is_first : (places : List Entrant) (streams room capacity : ℕ) (first d : Entrant) → IsKept places streams room capacity → streams ≢ 0 → first ≡ get_or places 1 d →
+    first.is_out ≡ false →
     IsFirst (drop streams places) first
 one_is_first places streams room capacity first d is some at takes =
     let len : length places ≡ streams + streams = is.drawn.len in
@@ -267,7 +272,8 @@ all_under_one (suc most) place low some = elim (cases_eq place 1) [
       record { matches = suc half.matches; comes = sym (halved_half half.matches place) ∙ half.comes }
 ]
 
-beats_under : (places : List Entrant) (streams : ℕ) → IsDrawn places streams → (matches above place : ℕ) → halved matches place ≡ above → 1 ≤ above → place < streams + streams →
+beats_under : (places : List Entrant) (streams : ℕ) → IsDrawn places streams → (matches above place : ℕ) → halved matches place ≡ above → 1 ≤ above →
+    place < streams + streams →
     Beats (entrant_at places above) (entrant_at places place)
 unfolding halved
 beats_under places streams is zero above place comes some within = subst (λ n. Beats (entrant_at places n) (entrant_at places place)) comes (beats_itself (entrant_at places place))
@@ -306,7 +312,8 @@ alone_begins places streams stream tail within = record {
   alone = record { others = λ place high low ne under takes. absurd (alone_itself streams stream place under.matches high low ne under.comes) };
 }
 
-alone_under : (places : List Entrant) (streams stream tail above place rival other matches : ℕ) → IsDrawn places streams → IsAloneUnder places streams stream tail place → AreRivals above place rival →
+alone_under : (places : List Entrant) (streams stream tail above place rival other matches : ℕ) → IsDrawn places streams → IsAloneUnder places streams stream tail place →
+    AreRivals above place rival →
     1 ≤ above → above < streams → ((entrant_at places rival).is_out ≡ false → tail < (entrant_at places rival).tail) →
     streams ≤ other → other < streams + streams → other ≢ streams + stream → halved matches other ≡ above → (entrant_at places other).is_out ≡ false →
     tail < (entrant_at places other).tail

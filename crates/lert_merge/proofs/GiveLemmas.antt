@@ -1,5 +1,6 @@
 -- The pieces of the least tail are given.
-use Rattle.std.proofs.Common.{◌≡◌, ℕ, ◌+◌, ◌<◌, ◌≤◌, ◌^◌, Bool, if◌then◌else◌, Option, Some, List, [], ◌∷◌, ◌++◌, length, get_or, sum_by, All, arith, sym, ap, ◌∙◌, refl, subst, inl, inr, length-append, append-nil}
+use Rattle.std.proofs.Common.{◌≡◌, ℕ, ◌+◌, ◌<◌, ◌≤◌, ◌^◌, Bool, if◌then◌else◌, Option, Some, List, [], ◌∷◌, ◌++◌, length, get_or, sum_by, All, arith, sym}
+use Rattle.std.proofs.Common.{ap, ◌∙◌, refl, subst, inl, inr, length-append, append-nil}
 use Rattle.std.proofs.Math.Seq.{get_or-append_seam}
 use Rattle.std.proofs.lemmas.Bool.{cases_eq, eq-eqb, ne_eqb}
 use Rattle.std.proofs.lemmas.List.Sums.{get_or-le-sum_by}
@@ -87,7 +88,8 @@ merging_after given limit m after tail count is read least out =
       room = omega arith;
       len = out.len ∙ is.len;
       seated = λ k d under. subst (λ (s : Seat). IsSeated (limit (get_or m.streams k d)) (given (get_or m.streams k d)) (Some tail) s.head) (sym (out.seats k (omega arith)))
-          (seated_after tail (limit (get_or m.streams k d)) (given (get_or m.streams k d)) m.last (seat_at m.seats k).head (read k under) (λ p at. least.least k p (omega arith) at) (is.seated k d under));
+          (seated_after tail (limit (get_or m.streams k d)) (given (get_or m.streams k d)) m.last (seat_at m.seats k).head (read k under) (λ p at. least.least k p (omega arith) at)
+          (is.seated k d under));
     }
 
 -- what was given of a stream after
@@ -102,7 +104,8 @@ taken_read tail limit given last p pieces is was = elim (cases_eq p.tail tail) [
       (was ∙ ap (λ xs. xs ++ p ∷ []) (sym (append-nil pieces)))
 ]
 
-taken_after : (tail limit : ℕ) (given : List Piece) (last : Option ℕ) (head : Head) (pieces : List Piece) → (head ≡ Unread → ⊥) → IsSeated limit given last head → given ≡ pieces ++ ahead head →
+taken_after : (tail limit : ℕ) (given : List Piece) (last : Option ℕ) (head : Head) (pieces : List Piece) → (head ≡ Unread → ⊥) → IsSeated limit given last head →
+    given ≡ pieces ++ ahead head →
     given ≡ (pieces ++ part_of tail (shared_head tail head).share) ++ ahead (shared_head tail head).head
 taken_after tail limit given last Unread pieces asked is was = absurd (asked refl)
 taken_after tail limit given last (Read p) pieces asked is was = taken_read tail limit given last p pieces is was

@@ -1,4 +1,5 @@
 pub mod ShareLemmas
+pub mod SilenceLemmas
 pub mod BeginLemmas
 pub mod DrawLemmas
 pub mod FillLemmas

@@ -1,5 +1,6 @@
 -- One stream of a merge is asked, and the others stay.
-use Rattle.std.proofs.Common.{◌≡◌, ◌≢◌, ℕ, ◌+◌, ◌<◌, ◌≤◌, Option, Some, None, List, [], ◌∷◌, ◌++◌, length, set, get_or, arith, sym, ap, ◌∙◌, refl, subst, inl, inr, MatchOption, get_or-set_same, get_or-set_other, length-set, option_to_list, append_assoc, ◌↔◌}
+use Rattle.std.proofs.Common.{◌≡◌, ◌≢◌, ℕ, ◌+◌, ◌<◌, ◌≤◌, Option, Some, None, List, [], ◌∷◌, ◌++◌, length, set, get_or, arith, sym, ap, ◌∙◌, refl}
+use Rattle.std.proofs.Common.{subst, inl, inr, MatchOption, get_or-set_same, get_or-set_other, length-set, option_to_list, append_assoc, ◌↔◌}
 use Rattle.std.proofs.lemmas.Bool.{cases_eq}
 use Rattle.std.proofs.lemmas.List.{get_or_default}
 use Rattle.lert_spec.specs.declared.piece.Piece.{Piece}
@@ -95,7 +96,8 @@ merging_put given limit streams seats room last i old new piece seat after is wi
     })
 
 -- one stream stays with what is read ahead of it, and the others are as they were
-pub all_stay_at : {P C : Type 0} (to_come : P → C → Option (List Piece)) (given : P → List Piece) (limit : P → ℕ) (breaks : P → C → ℕ → Type 0) (keeps : C → C → Type 0) (a b : C) (before : Merging P)
+pub all_stay_at : {P C : Type 0} (to_come : P → C → Option (List Piece)) (given : P → List Piece) (limit : P → ℕ) (breaks : P → C → ℕ → Type 0) (keeps : C → C → Type 0)
+    (a b : C) (before : Merging P)
     (streams : List P) (seats : List Seat) (room : ℕ) (last : Option ℕ) (i : ℕ) (old new : P) (after : Seats) →
     record { streams = streams; seats = seats; room = room; last = last } ≡ before → i < length streams → old ≡ get_or streams i old →
     length after.seats ≡ length seats → after.room ≡ room → ((k : ℕ) → (seat_at after.seats k).share ≡ (seat_at seats k).share) →
@@ -126,7 +128,8 @@ ahead_from None = refl
 ahead_from (Some p) = refl
 
 -- a stream stays where its answer is put down
-pub all_stay_put : {P C : Type 0} (to_come : P → C → Option (List Piece)) (given : P → List Piece) (limit : P → ℕ) (breaks : P → C → ℕ → Type 0) (keeps : C → C → Type 0) (a b : C) (before : Merging P)
+pub all_stay_put : {P C : Type 0} (to_come : P → C → Option (List Piece)) (given : P → List Piece) (limit : P → ℕ) (breaks : P → C → ℕ → Type 0) (keeps : C → C → Type 0)
+    (a b : C) (before : Merging P)
     (streams : List P) (seats : List Seat) (room : ℕ) (last : Option ℕ) (i : ℕ) (old new : P) (piece : Option Piece) (seat : Seat) (after : Seats) →
     record { streams = streams; seats = seats; room = room; last = last } ≡ before → length seats ≡ length streams → i < length streams → old ≡ get_or streams i old →
     (seat_at seats i).head ≡ Unread → seat.head ≡ head_from piece → seat.share ≡ (seat_at seats i).share → after ≡ record { seats = set seats i seat; room = room } →

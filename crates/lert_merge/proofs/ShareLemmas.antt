@@ -1,5 +1,6 @@
 -- What sharing a tail out gives, seat by seat.
-use Rattle.std.proofs.Common.{◌≡◌, ◌≢◌, ℕ, ◌+◌, ◌*◌, ◌^◌, ◌<◌, ◌≤◌, if◌then◌else◌, List, length, sum_by, set, arith, sym, ap, ◌∙◌, refl, below_more, subst, Bool, true, false, ◌⊎◌, inl, inr, get_or-set_other, get_or-set_same, length-set, length-append, [], ◌∷◌, ◌++◌, get_or}
+use Rattle.std.proofs.Common.{◌≡◌, ◌≢◌, ℕ, ◌+◌, ◌*◌, ◌^◌, ◌<◌, ◌≤◌, if◌then◌else◌, List, length, sum_by, set, arith, sym, ap, ◌∙◌, refl}
+use Rattle.std.proofs.Common.{subst, Bool, true, false, ◌⊎◌, inl, inr, get_or-set_other, get_or-set_same, length-set, length-append, [], ◌∷◌, ◌++◌, get_or}
 use Rattle.std.proofs.Math.ListN.{get_or-append}
 use Rattle.std.proofs.Math.Seq.{get_or-append_seam}
 use Rattle.std.proofs.lemmas.Bool.{cases_eq, cases_lt}
@@ -13,54 +14,6 @@ use Rattle.lert_merge.specs.declared.tournament.Entrant.{Entrant}
 use Rattle.lert_merge.specs.Draws.{Draw, nobody, entrant_at, HasTail, HasNoTail, AreOthersAbove}
 use Rattle.lert_merge.specs.Seats.{seat_at, shared, shared_head, silent, fresh, entrant_of, IsIn, AreEntered, AreDue, HasShares, AreAsked, AreSilent, AreSmall, IsLeast}
 use Rattle.lert_merge.proofs.GiveLemmas.{shared_here, shared_other}
-
--- the first `count` of those named have no share, and the seats are the same otherwise
-pub record IsSilencing (old seats : List Seat) (given : List ℕ) (count : ℕ) : Type 0 where
-  pub len : length seats ≡ length old
-  pub heads : (k : ℕ) → (seat_at seats k).head ≡ (seat_at old k).head
-  pub shares : (k : ℕ) → ((seat_at seats k).share ≡ 0) ⊎ ((seat_at seats k).share ≡ (seat_at old k).share)
-  pub done : (j : ℕ) → j < count → (seat_at seats (get_or given j 0)).share ≡ 0
-
-pub silencing_more : (old seats : List Seat) (given : List ℕ) (i stream : ℕ) (d : Seat) → IsSilencing old seats given i → stream < length seats → stream ≡ get_or given i 0 →
-    IsSilencing old (set seats stream (record { head = (get_or seats stream d).head; share = 0 })) given (i + 1)
-silencing_more old seats given i stream d is within here =
-    let one : Seat = record { head = (get_or seats stream d).head; share = 0 } in
-    let head : one.head ≡ (seat_at seats stream).head = ap (λ (s : Seat). s.head) (get_or_default seats stream d fresh within) in
-    let each : (k : ℕ) → (seat_at (set seats stream one) k ≡ one) × (k ≡ stream) ⊎ (seat_at (set seats stream one) k ≡ seat_at seats k) = λ k. elim (cases_eq k stream) [
-      | inl same ↦ inl (ap (seat_at (set seats stream one)) same ∙ get_or-set_same seats stream one fresh within, same)
-      | inr ne ↦ inr (get_or-set_other seats stream k one fresh ne)
-    ] in
-    let silent_at : (k : ℕ) → (seat_at seats k).share ≡ 0 → (seat_at (set seats stream one) k).share ≡ 0 = λ k none. elim (each k) [
-      | inl now ↦ ap (λ (s : Seat). s.share) now.0
-      | inr same ↦ ap (λ (s : Seat). s.share) same ∙ none
-    ] in record {
-      len = length-set seats stream one ∙ is.len;
-      heads = λ k. elim (each k) [
-        | inl now ↦ ap (λ (s : Seat). s.head) now.0 ∙ head ∙ ap (λ n. (seat_at seats n).head) (sym now.1) ∙ is.heads k
-        | inr same ↦ ap (λ (s : Seat). s.head) same ∙ is.heads k
-      ];
-      shares = λ k. elim (each k) [
-        | inl now ↦ inl (ap (λ (s : Seat). s.share) now.0)
-        | inr same ↦ elim (is.shares k) [
-          | inl none ↦ inl (ap (λ (s : Seat). s.share) same ∙ none)
-          | inr was ↦ inr (ap (λ (s : Seat). s.share) same ∙ was)
-        ]
-      ];
-      done = λ j under. below_more (λ j. (seat_at (set seats stream one) (get_or given j 0)).share ≡ 0) i
-          (λ j under. silent_at (get_or given j 0) (is.done j under))
-          (ap (λ n. (seat_at (set seats stream one) n).share) (sym here) ∙ ap (λ (s : Seat). s.share) (get_or-set_same seats stream one fresh within)) j under;
-    }
-
-pub silencing_ends : (old seats : List Seat) (given : List ℕ) (k : ℕ) → IsSilencing old seats given (length given) → HasShares old given → k < length old →
-    seat_at seats k ≡ silent (seat_at old k)
-silencing_ends old seats given k is has under =
-    let none : (seat_at seats k).share ≡ 0 = elim (is.shares k) [
-      | inl none ↦ none
-      | inr was ↦ elim (cases_eq (seat_at old k).share 0) [
-        | inl zero ↦ was ∙ zero
-        | inr some ↦ let at = has k under some in ap (λ n. (seat_at seats n).share) (sym at.is) ∙ is.done at.place at.within
-      ]
-    ] in λ i. record { head = is.heads k i; share = none i }
 
 -- 1 for a stream that a piece was read ahead of
 abbrev pub read_head : Head → ℕ
@@ -134,7 +87,8 @@ is_read k tail Unread entrant is takes its = absurd (let no : true ≡ false = s
 is_read k tail (Read p) entrant is takes its = record { piece = p; read = refl; its_tail = sym (ap (λ (e : Entrant). e.tail) is) ∙ its }
 is_read k tail Ended entrant is takes its = absurd (let no : true ≡ false = sym (ap (λ (e : Entrant). e.is_out) is) ∙ takes in cc)
 
-pub read_at : (old seats : List Seat) (before now : Draw) (given : List ℕ) (tail sum capacity new_capacity stream : ℕ) → IsSharing old seats before now given tail sum capacity new_capacity →
+pub read_at : (old seats : List Seat) (before now : Draw) (given : List ℕ) (tail sum capacity new_capacity stream : ℕ) →
+    IsSharing old seats before now given tail sum capacity new_capacity →
     HasTail now.entrants tail stream → IsReadOne (seat_at seats stream).head tail
 read_at old seats before now given tail sum capacity new_capacity stream is has =
     let len : length now.entrants ≡ length seats = is.entered.len in let within : stream < length now.entrants = has.within in
@@ -148,7 +102,8 @@ pub record WasRead (old seat : Seat) (tail : ℕ) : Type 0 where
   pub silent : seat.share ≡ 0
   pub was_read : read_one seat ≡ 1
 
-pub was_read : (old seats : List Seat) (before now : Draw) (given : List ℕ) (tail sum capacity new_capacity stream : ℕ) → IsSharing old seats before now given tail sum capacity new_capacity →
+pub was_read : (old seats : List Seat) (before now : Draw) (given : List ℕ) (tail sum capacity new_capacity stream : ℕ) →
+    IsSharing old seats before now given tail sum capacity new_capacity →
     HasTail now.entrants tail stream → AreSmall old → ((k : ℕ) → k < length old → (seat_at old k).share ≡ 0) → WasRead (seat_at old stream) (seat_at seats stream) tail
 was_read old seats before now given tail sum capacity new_capacity stream is has small silent =
     let len : length now.entrants ≡ length seats = is.entered.len in let within : stream < length now.entrants = has.within in let lens : length seats ≡ length old = is.len in
@@ -170,7 +125,8 @@ was_read old seats before now given tail sum capacity new_capacity stream is has
     }
 
 -- no tail that takes part is less than the least one
-pub tail_is_least : (old seats : List Seat) (before now : Draw) (given : List ℕ) (tail sum capacity new_capacity : ℕ) → IsSharing old seats before now given tail sum capacity new_capacity →
+pub tail_is_least : (old seats : List Seat) (before now : Draw) (given : List ℕ) (tail sum capacity new_capacity : ℕ) →
+    IsSharing old seats before now given tail sum capacity new_capacity →
     IsLeast old (length old) tail → (k : ℕ) → k < length now.entrants → (entrant_at now.entrants k).is_out ≡ false → tail ≤ (entrant_at now.entrants k).tail
 tail_is_least old seats before now given tail sum capacity new_capacity is least k under takes =
     let len : length now.entrants ≡ length seats = is.entered.len in let lens : length seats ≡ length old = is.len in
@@ -210,7 +166,8 @@ sharing_more old seats before now given tail sum capacity new_capacity newer str
     let share : seat.share ≡ (shared tail (seat_at seats stream)).share = ap (λ (s : Seat). s.share) becomes in
     let unread : seat.head ≡ Unread = ap (λ (s : Seat). s.head) (becomes ∙ was.given) in
     let at_it : seat_at (set seats stream seat) stream ≡ seat = get_or-set_same seats stream seat fresh inside in
-    let summed : sum_by (λ s. s.share) (set seats stream seat) + (seat_at seats stream).share ≡ sum_by (λ s. s.share) seats + seat.share = sum_by-set (λ s. s.share) seats stream seat fresh inside in
+    let summed : sum_by (λ s. s.share) (set seats stream seat) + (seat_at seats stream).share ≡ sum_by (λ s. s.share) seats + seat.share =
+    sum_by-set (λ s. s.share) seats stream seat fresh inside in
     let counted : sum_by read_one (set seats stream seat) + read_one (seat_at seats stream) ≡ sum_by read_one seats + read_one seat = sum_by-set read_one seats stream seat fresh inside in
     let no_more : read_one seat ≡ 0 = ap read_head unread in
     let one_less : read_one (seat_at seats stream) ≡ 1 = was.was_read in
@@ -358,7 +315,8 @@ sharing_step old seats before now after given items tail sum part capacity new_c
     subst (λ (draw : Draw). IsSharing old (set seats stream seat) before draw items tail (sum + part) capacity newer) (sym after_is)
     (subst (λ (numbers : List ℕ). IsSharing old (set seats stream seat) before (record { entrants = set now.entrants stream nobody; room = now.room }) numbers tail (sum + part) capacity newer)
     (sym (items_are ∙ ap (λ (b : Bool). if b then given ++ stream ∷ [] else given) pushed))
-    (subst (λ n. IsSharing old (set seats stream seat) before (record { entrants = set now.entrants stream nobody; room = now.room }) (given ++ stream ∷ []) tail (sum + n) capacity newer) (sym part_is)
+    (subst (λ n. IsSharing old (set seats stream seat) before (record { entrants = set now.entrants stream nobody; room = now.room }) (given ++ stream ∷ []) tail (sum + n) capacity newer)
+    (sym part_is)
     (sharing_more old seats before now given tail sum capacity new_capacity newer stream d seat is has small silent seat_is grows)))
 
 -- seats without their shares have the same least tail
@@ -382,12 +340,14 @@ pub alone_shared : (old seats : List Seat) (before now : Draw) (given items : Li
     IsSharedOff old (set seats stream seat) now.entrants items tail (sum + part)
 alone_shared old seats before now given items tail sum part capacity new_capacity newer stream d seat is_pushed is has small silent seat_is part_is items_are pushed grows others asked few =
     let left : Draw = record { entrants = set now.entrants stream nobody; room = now.room } in
-    let more = sharing_step old seats before now left given items tail sum part capacity new_capacity newer stream d seat is_pushed is has small silent seat_is part_is refl items_are pushed grows in
+    let more = sharing_step old seats before now left given items tail sum part capacity new_capacity newer stream d seat is_pushed is has small silent seat_is part_is refl items_are pushed grows
+    in
     let len : length (set now.entrants stream nobody) ≡ length now.entrants = length-set now.entrants stream nobody in
     let within : stream < length now.entrants = has.within in
     let off = sharing_ends old (set seats stream seat) before left items tail (sum + part) capacity newer more
     (λ k under takes. elim (cases_eq k stream) [
-      | inl here ↦ absurd (let no : true ≡ false = sym (ap (λ (e : Entrant). e.is_out) (ap (entrant_at (set now.entrants stream nobody)) here ∙ get_or-set_same now.entrants stream nobody nobody within)) ∙ takes in cc)
+      | inl here ↦ absurd (let no : true ≡ false = sym (ap (λ (e : Entrant). e.is_out)
+          (ap (entrant_at (set now.entrants stream nobody)) here ∙ get_or-set_same now.entrants stream nobody nobody within)) ∙ takes in cc)
       | inr ne ↦ let same : entrant_at (set now.entrants stream nobody) k ≡ entrant_at now.entrants k = get_or-set_other now.entrants stream k nobody nobody ne in
           subst (λ (e : Entrant). e.tail ≢ tail) (sym same)
           (let above = others k (omega arith) ne (sym (ap (λ (e : Entrant). e.is_out) same) ∙ takes) in λ equal. absurd (omega arith))

@@ -1,5 +1,6 @@
 -- What is to come of a merge after the pieces of the least tail were given.
-use Rattle.std.proofs.Common.{◌≡◌, ℕ, suc, ◌+◌, ◌<◌, ◌≤◌, Option, Some, None, List, [], ◌∷◌, ◌++◌, length, map, get_or, sum_by, All, arith, sym, ap, ap₂, ◌∙◌, refl, subst, inl, inr, MatchOption}
+use Rattle.std.proofs.Common.{◌≡◌, ℕ, suc, ◌+◌, ◌<◌, ◌≤◌, Option, Some, None, List, [], ◌∷◌, ◌++◌, length, map, get_or, sum_by, All, arith, sym, ap, ap₂}
+use Rattle.std.proofs.Common.{◌∙◌, refl, subst, inl, inr, MatchOption}
 use Rattle.std.proofs.lemmas.Bool.{cases_eq}
 use Rattle.std.proofs.lemmas.List.{get_or-map, length-map}
 use Rattle.std.proofs.lemmas.List.Elements.{All-cons}
@@ -20,7 +21,8 @@ record ToldShare {P C : Type 0} (to_come : P → C → Option (List Piece)) (ctx
   least : All (λ other. tail ≤ other.tail) pieces
   then : IsToCome to_come ctx s seat.head (behind tail pieces)
 
-above_all : (least limit tail : ℕ) (p : Piece) (rest : List Piece) → tail ≤ p.tail → p.tail + 1 ≤ least → AscendsFrom least limit rest → All (λ other. tail ≤ other.tail) (p ∷ rest)
+above_all : (least limit tail : ℕ) (p : Piece) (rest : List Piece) → tail ≤ p.tail → p.tail + 1 ≤ least → AscendsFrom least limit rest →
+    All (λ other. tail ≤ other.tail) (p ∷ rest)
 above_all least limit tail p rest low next up = All-cons (λ other. tail ≤ other.tail) p rest low
     (λ k d under. let at : least ≤ (get_or rest k d).tail = tail_at_least least limit rest k d up under in omega arith)
 
@@ -43,7 +45,8 @@ told_read to_come ctx s tail limit given last p rest low is told are =
       })
     ]
 
-told_share : {P C : Type 0} (to_come : P → C → Option (List Piece)) (given : P → List Piece) (limit : P → ℕ) (ctx : C) (s : P) (tail : ℕ) (last : Option ℕ) (head : Head) (pieces : List Piece) →
+told_share : {P C : Type 0} (to_come : P → C → Option (List Piece)) (given : P → List Piece) (limit : P → ℕ) (ctx : C) (s : P) (tail : ℕ) (last : Option ℕ) (head : Head)
+    (pieces : List Piece) →
     ((ps : List Piece) → to_come s ctx ≡ Some ps → AreGiven (limit s) (given s ++ ps)) →
     (head ≡ Unread → ⊥) → ((p : Piece) → head ≡ Read p → tail ≤ p.tail) → IsSeated (limit s) (given s) last head → IsToCome to_come ctx s head pieces →
     ToldShare to_come ctx s tail (shared_head tail head) pieces
@@ -94,7 +97,8 @@ told_next {P} {C} to_come given limit ctx m after tail count lists is read least
       },
     )
 
-over_head : {P C : Type 0} (to_come : P → C → Option (List Piece)) (ctx : C) (s : P) (head : Head) (pieces : List Piece) → (head ≡ Unread → ⊥) → ((p : Piece) → head ≡ Read p → ⊥) →
+over_head : {P C : Type 0} (to_come : P → C → Option (List Piece)) (ctx : C) (s : P) (head : Head) (pieces : List Piece) → (head ≡ Unread → ⊥) →
+    ((p : Piece) → head ≡ Read p → ⊥) →
     IsToCome to_come ctx s head pieces → pieces ≡ []
 over_head to_come ctx s Unread pieces asked none come = absurd (asked refl)
 over_head to_come ctx s (Read p) pieces asked none come = absurd (none p refl)

@@ -1,5 +1,6 @@
 -- A merge of streams: what was read ahead, what it gave of each stream, and what is still to come.
-use Rattle.std.specs.Prelude.{ℕ, ◌≡◌, ◌<◌, ◌≤◌, ◌==◌, ◌↔◌, All, Option, Some, None, List, [], ◌∷◌, ◌++◌, length, sum_by, if◌then◌else◌, slice_index_or, ◌^◌, Result, Ok, Err}
+use Rattle.std.specs.Prelude.{ℕ, ◌≡◌, ◌<◌, ◌≤◌, ◌==◌, ◌↔◌, All, Option, Some, None, List, [], ◌∷◌, ◌++◌, length, sum_by, if◌then◌else◌, slice_index_or}
+use Rattle.std.specs.Prelude.{◌^◌, Result, Ok, Err}
 use Rattle.lert_base.specs.declared.pieces.PieceFault.{PieceFault}
 use Rattle.lert_spec.specs.declared.piece.Piece.{Piece}
 use Rattle.lert_spec.specs.Table.{AreGiven, count_of}

@@ -1,5 +1,6 @@
 -- The seats of a merge: for each stream what was read ahead of it, and its share of the piece given last.
-use Rattle.std.specs.Prelude.{ℕ, ◌≡◌, ◌≢◌, ◌<◌, ◌≤◌, ◌==◌, ◌^◌, Option, Some, None, List, [], ◌∷◌, length, if◌then◌else◌, slice_index, slice_index_or, sum_by, false}
+use Rattle.std.specs.Prelude.{ℕ, ◌≡◌, ◌≢◌, ◌<◌, ◌≤◌, ◌==◌, ◌^◌, Option, Some, None, List, [], ◌∷◌, length, if◌then◌else◌, slice_index, slice_index_or}
+use Rattle.std.specs.Prelude.{sum_by, false}
 use Rattle.lert_spec.specs.declared.piece.Piece.{Piece}
 use Rattle.lert_merge.specs.declared.heads.Head.{Head}
 use Rattle.lert_merge.specs.declared.heads.Head.TheVariants.{Unread, Read, Ended}

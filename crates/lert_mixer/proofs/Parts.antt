@@ -12,7 +12,8 @@ pub low_part : (m cone_bits : ℕ) → cone_bits ≤ 64 → bit_and m ((2 ^ 64 -
 low_part m cone_bits within = ap (bit_and m) (ones_shr 64 cone_bits within) ∙ and_mask m (64 - cone_bits)
 
 -- the cone in front of the tail
-pub joined : (cone tail cone_bits : ℕ) → cone_bits ≤ 32 → cone < 2 ^ cone_bits → tail < 2 ^ (64 - cone_bits) → bit_or (cone * 2 ^ 32 % 2 ^ 64 * 2 ^ (32 - cone_bits) % 2 ^ 64) tail ≡ cone * 2 ^ (64 - cone_bits) + tail
+pub joined : (cone tail cone_bits : ℕ) → cone_bits ≤ 32 → cone < 2 ^ cone_bits → tail < 2 ^ (64 - cone_bits) → bit_or (cone * 2 ^ 32 % 2 ^ 64 * 2 ^ (32 - cone_bits) % 2 ^ 64) tail
+    ≡ cone * 2 ^ (64 - cone_bits) + tail
 joined cone tail cone_bits within cone_below tail_below =
     let first = shl_whole cone cone_bits 32 64 cone_below (omega arith) in
     let second = shl_whole (cone * 2 ^ 32) (cone_bits + 32) (32 - cone_bits) 64 (shl_below cone cone_bits 32 cone_below) (omega arith) in

@@ -1,5 +1,6 @@
 -- Counting the set bits of a row.
-use Rattle.std.proofs.Common.{◌≡◌, ℕ, suc, zero, ◌+◌, ◌-◌, ◌*◌, ◌/◌, ◌%◌, ◌^◌, ◌<◌, ◌≤◌, Bool, true, false, cond, ◌==◌, List, [], ◌∷◌, ◌++◌, length, take, drop, get_or, refl, sym, ap, ◌∙◌, arith}
+use Rattle.std.proofs.Common.{◌≡◌, ℕ, suc, zero, ◌+◌, ◌-◌, ◌*◌, ◌/◌, ◌%◌, ◌^◌, ◌<◌, ◌≤◌, Bool, true, false, cond, ◌==◌, List, [], ◌∷◌, ◌++◌}
+use Rattle.std.proofs.Common.{length, take, drop, get_or, refl, sym, ap, ◌∙◌, arith}
 use Rattle.std.specs.Prelude.{count_ones}
 use Rattle.std.specs.Int.{bit_at}
 use Rattle.std.proofs.lemmas.List.{drop_at, take-append-le, drop-drop, take_all, get_or-drop, length-drop}
@@ -62,7 +63,8 @@ front_of_row [] r h k = absurd (omega arith)
 front_of_row (w ∷ ws) r h k = take-append-le r (word_bits w) (row_of ws) (let long = length_word_bits w in omega arith)
 
 -- the bits below a place in a word
-pub trues_to : (ws : List ℕ) (j r : ℕ) → j < length ws → r ≤ 64 → trues (take (64 * j + r) (row_of ws)) ≡ trues (take (64 * j) (row_of ws)) + trues (take r (word_bits (get_or ws j 0)))
+pub trues_to : (ws : List ℕ) (j r : ℕ) → j < length ws → r ≤ 64 → trues (take (64 * j + r) (row_of ws)) ≡ trues (take (64 * j) (row_of ws))
+    + trues (take r (word_bits (get_or ws j 0)))
 trues_to ws j r inside short =
     let first : get_or (drop j ws) 0 0 ≡ get_or ws j 0 = get_or-drop j ws 0 0 ∙ ap (λ n. get_or ws n 0) (let e : j + 0 ≡ j = omega arith in e) in
     ap trues (take-add (64 * j) r (row_of ws)) ∙ trues-append (take (64 * j) (row_of ws)) (take r (drop (64 * j) (row_of ws)))
@@ -73,7 +75,8 @@ pub trues_word_more : (ws : List ℕ) (j : ℕ) → j < length ws → get_or ws 
     → trues (take (64 * (j + 1)) (row_of ws)) ≡ trues (take (64 * j) (row_of ws)) + count_ones (get_or ws j 0)
 trues_word_more ws j inside fits =
     let e : 64 * (j + 1) ≡ 64 * j + 64 = omega arith in
-    rw e (trues_to ws j 64 inside (omega arith)) ∙ ap (λ n. trues (take (64 * j) (row_of ws)) + n) (ap trues (take_all 64 (word_bits (get_or ws j 0)) (let long = length_word_bits (get_or ws j 0) in omega arith)) ∙ trues-word (get_or ws j 0) fits)
+    rw e (trues_to ws j 64 inside (omega arith)) ∙ ap (λ n. trues (take (64 * j) (row_of ws)) + n)
+    (ap trues (take_all 64 (word_bits (get_or ws j 0)) (let long = length_word_bits (get_or ws j 0) in omega arith)) ∙ trues-word (get_or ws j 0) fits)
 
 -- one bit more of a word
 pub trues_bit_more : (n at : ℕ) → at < 64 → trues (take (at + 1) (word_bits n)) ≡ trues (take at (word_bits n)) + cond (bit_at n at == 1) 1 0
@@ -88,7 +91,8 @@ pub bit_yes : (n at : ℕ) → at < 64 → bit_at n at ≡ 1 → trues (take (at
 bit_yes n at h one = trues_bit_more n at h ∙ ap (λ k. trues (take at (word_bits n)) + cond (k == 1) 1 0) one
 
 pub bit_no : (n at : ℕ) → at < 64 → bit_at n at ≡ 0 → trues (take (at + 1) (word_bits n)) ≡ trues (take at (word_bits n))
-bit_no n at h none = trues_bit_more n at h ∙ ap (λ k. trues (take at (word_bits n)) + cond (k == 1) 1 0) none ∙ (let e : trues (take at (word_bits n)) + 0 ≡ trues (take at (word_bits n)) = omega arith in e)
+bit_no n at h none = trues_bit_more n at h ∙ ap (λ k. trues (take at (word_bits n)) + cond (k == 1) 1 0) none
+    ∙ (let e : trues (take at (word_bits n)) + 0 ≡ trues (take at (word_bits n)) = omega arith in e)
 
 -- all words
 pub trues_whole : (ws : List ℕ) (j : ℕ) → length ws ≤ j → trues (take (64 * j) (row_of ws)) ≡ trues (row_of ws)

@@ -1,5 +1,6 @@
 -- Bits of a kind in a word.
-use Rattle.std.proofs.Common.{◌≡◌, ℕ, suc, zero, ◌+◌, ◌-◌, ◌*◌, ◌/◌, ◌%◌, ◌^◌, ◌<◌, ◌≤◌, ◌≢◌, Bool, true, false, cond, ◌==◌, List, length, get_or, refl, sym, ap, ◌∙◌, inl, inr, arith}
+use Rattle.std.proofs.Common.{◌≡◌, ℕ, suc, zero, ◌+◌, ◌-◌, ◌*◌, ◌/◌, ◌%◌, ◌^◌, ◌<◌, ◌≤◌, ◌≢◌, Bool, true, false, cond, ◌==◌, List, length}
+use Rattle.std.proofs.Common.{get_or, refl, sym, ap, ◌∙◌, inl, inr, arith}
 use Rattle.std.specs.Int.{bit_at}
 use Rattle.std.proofs.lemmas.Bool.{cases_lt, false≢true}
 use Rattle.std.proofs.lemmas.Nat.{shl_whole, shr_below, pow_pos}
@@ -63,7 +64,8 @@ marks_first on ws from word first inside marked below behind =
 
 -- none of the kind up to the next word
 pub passed_word : (on : Bool) (ws : List ℕ) (from index word : ℕ) → word ≡ 0 → Marks on ws from index word
-    → ((k : ℕ) → from ≤ k → k < 64 * index → get_or (row_of ws) k false ≡ on → ⊥) → (k : ℕ) → from ≤ k → k < 64 * (index + 1) → get_or (row_of ws) k false ≡ on → ⊥
+    → ((k : ℕ) → from ≤ k → k < 64 * index → get_or (row_of ws) k false ≡ on → ⊥) → (k : ℕ) → from ≤ k → k < 64 * (index + 1) → get_or (row_of ws) k false ≡ on →
+    ⊥
 passed_word on ws from index word none marks passed k h less same =
     elim (cases_lt k (64 * index)) [
       | inl before ↦ passed k h before same

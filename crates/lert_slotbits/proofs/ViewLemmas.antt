@@ -1,5 +1,6 @@
 -- The bits of a row that are shown: the first so many of its words'.
-use Rattle.std.proofs.Common.{◌≡◌, ℕ, suc, zero, ◌+◌, ◌*◌, ◌/◌, ◌<◌, ◌≤◌, Bool, true, false, List, ◌∷◌, ◌++◌, length, take, drop, get_or, set, replicate, refl, sym, ap, ◌∙◌, arith, Some, slice_get}
+use Rattle.std.proofs.Common.{◌≡◌, ℕ, suc, zero, ◌+◌, ◌*◌, ◌/◌, ◌<◌, ◌≤◌, Bool, true, false, List, ◌∷◌, ◌++◌, length, take, drop, get_or, set, replicate}
+use Rattle.std.proofs.Common.{refl, sym, ap, ◌∙◌, arith, Some, slice_get}
 use Rattle.std.proofs.lemmas.List.{length-take-le, take-append-drop, take_at, take-replicate, replicate-append-replicate, set-append_left, take-take, get_or-take, length-set}
 use Rattle.std.proofs.lemmas.List.Edits.{insert-append_left, remove-append_left, length-remove}
 use Rattle.std.proofs.lemmas.Option.{slice_get-get_or}

@@ -40,7 +40,8 @@ module _ (word low high carry : ℕ) (order : low ≤ high) (small : carry < 2) 
   pub moved_below : (i : ℕ) → i < low → bit_at (moved_word word low high carry) i ≡ bit_at word i
   moved_below i less = bit_at_cat_low _ low (word % 2 ^ low) i less ∙ bit_at-mod word low i less
 
-  upper_bit : (i : ℕ) → low ≤ i → bit_at (moved_word word low high carry) i ≡ bit_at ((word / 2 ^ high / 2 ^ 1 * 2 ^ (high - low) + word / 2 ^ low % 2 ^ (high - low)) * 2 ^ 1 + carry) (i - low)
+  upper_bit : (i : ℕ) → low ≤ i → bit_at (moved_word word low high carry) i ≡ bit_at ((word / 2 ^ high / 2 ^ 1 * 2 ^ (high - low) + word / 2 ^ low % 2 ^ (high - low)) * 2 ^ 1 + carry)
+      (i - low)
   upper_bit i h = bit_at_cat_high _ low (word % 2 ^ low) i (mod_below word (2 ^ low) (pow_pos low)) h
 
   pub moved_first : bit_at (moved_word word low high carry) low ≡ carry
@@ -66,7 +67,8 @@ module _ (word low high carry : ℕ) (order : low ≤ high) (small : carry < 2) 
   pub moved_above : (i : ℕ) → high < i → bit_at (moved_word word low high carry) i ≡ bit_at word i
   moved_above i h =
       behind_first i (omega arith)
-      ∙ bit_at_cat_high (word / 2 ^ high / 2 ^ 1) (high - low) (word / 2 ^ low % 2 ^ (high - low)) (i - low - 1) (mod_below (word / 2 ^ low) (2 ^ (high - low)) (pow_pos (high - low))) (omega arith)
+      ∙ bit_at_cat_high (word / 2 ^ high / 2 ^ 1) (high - low) (word / 2 ^ low % 2 ^ (high - low)) (i - low - 1) (mod_below (word / 2 ^ low) (2 ^ (high - low)) (pow_pos (high - low)))
+      (omega arith)
       ∙ bit_at-div (word / 2 ^ high) 1 (i - low - 1 - (high - low))
       ∙ bit_at-div word high (1 + (i - low - 1 - (high - low)))
       ∙ ap (bit_at word) (let e : high + (1 + (i - low - 1 - (high - low))) ≡ i = omega arith in e)
@@ -84,7 +86,8 @@ module _ (word low high carry : ℕ) (order : low ≤ high) (narrow : high < 64)
   middle_below : word / 2 ^ high / 2 ^ 1 * 2 ^ (high - low) + word / 2 ^ low % 2 ^ (high - low) < 2 ^ (63 - low)
   middle_below =
       let e : 63 - high + (high - low) ≡ 63 - low = omega arith in
-      rw (← e) (joined_below (word / 2 ^ high / 2 ^ 1) (word / 2 ^ low % 2 ^ (high - low)) (63 - high) (high - low) part_above (mod_below (word / 2 ^ low) (2 ^ (high - low)) (pow_pos (high - low))))
+      rw (← e) (joined_below (word / 2 ^ high / 2 ^ 1) (word / 2 ^ low % 2 ^ (high - low)) (63 - high) (high - low) part_above
+      (mod_below (word / 2 ^ low) (2 ^ (high - low)) (pow_pos (high - low))))
 
   pub middle_fits : word / 2 ^ high / 2 ^ 1 * 2 ^ (high - low) + word / 2 ^ low % 2 ^ (high - low) < 2 ^ (64 - 1)
   middle_fits = let h : 63 - low ≤ 64 - 1 = omega arith in let wider = pow_mono h in let p = middle_below in omega arith

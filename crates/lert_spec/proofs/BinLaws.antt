@@ -1,5 +1,6 @@
 -- How the bins of a level change as the edges around it move: the oldest is dropped, and the newest grows or begins.
-use Rattle.std.proofs.Common.{ℕ, ◌≡◌, ◌+◌, ◌-◌, ◌*◌, ◌/◌, ◌<◌, ◌≤◌, zero, suc, Bool, cond, ltb, List, [], ◌∷◌, ◌++◌, length, map, filter, min, max, refl, ap, ap₂, sym, ◌∙◌, arith, slice_range, append-nil, length-append}
+use Rattle.std.proofs.Common.{ℕ, ◌≡◌, ◌+◌, ◌-◌, ◌*◌, ◌/◌, ◌<◌, ◌≤◌, zero, suc, Bool, cond, ltb, List, [], ◌∷◌, ◌++◌, length, map, filter, min, max}
+use Rattle.std.proofs.Common.{refl, ap, ap₂, sym, ◌∙◌, arith, slice_range, append-nil, length-append}
 use Rattle.std.specs.List.{range_with_len}
 use Rattle.std.proofs.lemmas.Bool.{lt-ltb, le-ltb}
 use Rattle.std.proofs.lemmas.List.{map-append}
@@ -32,14 +33,16 @@ range-split first (suc m) n =
     ap (range_with_len first) (let same : suc m + n ≡ suc (m + n) = omega arith in same)
     ∙ ap (λ xs. first ∷ xs) (range-split (first + 1) m n ∙ ap (λ k. range_with_len (first + 1) m ++ range_with_len k n) (let same : first + 1 + m ≡ first + suc m = omega arith in same))
 
-cuts-split : (s : Numbers) (events : List ℕ) (wide low high first m n : ℕ) → cuts s events wide low high first (m + n) ≡ cuts s events wide low high first m ++ cuts s events wide low high (first + m) n
+cuts-split : (s : Numbers) (events : List ℕ) (wide low high first m n : ℕ) → cuts s events wide low high first (m + n) ≡ cuts s events wide low high first m
+    ++ cuts s events wide low high (first + m) n
 cuts-split s events wide low high first m n =
     ap (λ ks. filter holds_some (map (cut s events wide low high) ks)) (range-split first m n)
     ∙ ap (filter holds_some) (map-append (cut s events wide low high) (range_with_len first m) (range_with_len (first + m) n))
     ∙ filter-append holds_some (map (cut s events wide low high) (range_with_len first m)) (map (cut s events wide low high) (range_with_len (first + m) n))
 
 -- intervals that all lie outside
-cuts-none : (s : Numbers) (events : List ℕ) (wide low high first n : ℕ) → ((k : ℕ) → first ≤ k → k < first + n → min high (suc k * wide) ≤ max low (k * wide)) → cuts s events wide low high first n ≡ []
+cuts-none : (s : Numbers) (events : List ℕ) (wide low high first n : ℕ) → ((k : ℕ) → first ≤ k → k < first + n → min high (suc k * wide) ≤ max low (k * wide)) →
+    cuts s events wide low high first n ≡ []
 cuts-none s events wide low high first zero outside = refl
 cuts-none s events wide low high first (suc n) outside =
     let here = le-ltb (max low (first * wide)) (min high (suc first * wide)) (outside first (omega arith) (omega arith)) in
@@ -47,7 +50,9 @@ cuts-none s events wide low high first (suc n) outside =
     ap (λ t. cond t (cut s events wide low high first ∷ cuts s events wide low high (first + 1) n) (cuts s events wide low high (first + 1) n)) here ∙ rest
 
 -- intervals that are cut alike
-cuts-same : (s : Numbers) (events : List ℕ) (wide low high low' high' first n : ℕ) → ((k : ℕ) → first ≤ k → k < first + n → (max low (k * wide) ≡ max low' (k * wide)) × (min high (suc k * wide) ≡ min high' (suc k * wide))) → cuts s events wide low high first n ≡ cuts s events wide low' high' first n
+cuts-same : (s : Numbers) (events : List ℕ) (wide low high low' high' first n : ℕ) →
+    ((k : ℕ) → first ≤ k → k < first + n → (max low (k * wide) ≡ max low' (k * wide)) × (min high (suc k * wide) ≡ min high' (suc k * wide))) →
+    cuts s events wide low high first n ≡ cuts s events wide low' high' first n
 cuts-same s events wide low high low' high' first zero alike = refl
 cuts-same s events wide low high low' high' first (suc n) alike =
     let ends = alike first (omega arith) (omega arith) in
@@ -56,7 +61,8 @@ cuts-same s events wide low high low' high' first (suc n) alike =
     ap₂ (λ bin others. cond (holds_some bin) (bin ∷ others) others) here rest
 
 -- one interval
-cuts-one : (s : Numbers) (events : List ℕ) (wide low high k : ℕ) → cuts s events wide low high k 1 ≡ cond {A = List Bin} (ltb (max low (k * wide)) (min high (suc k * wide))) (cut s events wide low high k ∷ []) []
+cuts-one : (s : Numbers) (events : List ℕ) (wide low high k : ℕ) → cuts s events wide low high k 1 ≡ cond {A = List Bin} (ltb (max low (k * wide)) (min high (suc k * wide)))
+    (cut s events wide low high k ∷ []) []
 cuts-one s events wide low high k = refl
 
 -- intervals behind the upper edge add nothing
@@ -69,7 +75,8 @@ cuts-enough s events wide low high n more covers =
     ∙ append-nil (cuts s events wide low high 0 n)
 
 -- where the lower edge moves by a whole interval, the oldest bin is dropped
-pub cuts-drop : (s : Numbers) (events : List ℕ) (wide high j n : ℕ) → 1 ≤ wide → suc j * wide ≤ high → suc j ≤ n → cuts s events wide (j * wide) high 0 n ≡ made s events (j * wide) (suc j * wide) ∷ cuts s events wide (suc j * wide) high 0 n
+pub cuts-drop : (s : Numbers) (events : List ℕ) (wide high j n : ℕ) → 1 ≤ wide → suc j * wide ≤ high → suc j ≤ n →
+    cuts s events wide (j * wide) high 0 n ≡ made s events (j * wide) (suc j * wide) ∷ cuts s events wide (suc j * wide) high 0 n
 cuts-drop s events wide high j n positive within covers =
     let low = j * wide in
     let next = suc j * wide in
@@ -83,7 +90,8 @@ cuts-drop s events wide high j n positive within covers =
     (λ k above below. (let less = mul-le-mul_right wide (let at_most : suc k ≤ suc j = omega arith in at_most) in omega arith)) in
     let one : cuts s events wide low high (0 + j) 1 ≡ made s events low next ∷ [] =
     ap (λ k. cuts s events wide low high k 1) (let same : 0 + j ≡ j = omega arith in same)
-    ∙ ap₂ (λ from to. cond {A = List Bin} (ltb from to) (made s events from to ∷ []) []) (let start : max low low ≡ low = omega arith in start) (let end : min high next ≡ next = omega arith in end)
+    ∙ ap₂ (λ from to. cond {A = List Bin} (ltb from to) (made s events from to ∷ []) []) (let start : max low low ≡ low = omega arith in start) (let end : min high next ≡ next =
+    omega arith in end)
     ∙ ap (λ t. cond {A = List Bin} t (made s events low next ∷ []) []) (lt-ltb low next (omega arith)) in
     let later : cuts s events wide low high (0 + j + 1) rest ≡ cuts s events wide next high (0 + suc j) rest =
     ap (λ k. cuts s events wide low high k rest) (let same : 0 + j + 1 ≡ 0 + suc j = omega arith in same)
@@ -92,10 +100,12 @@ cuts-drop s events wide high j n positive within covers =
     ap (cuts s events wide low high 0) whole
     ∙ cuts-split s events wide low high 0 j (1 + rest)
     ∙ ap₂ (λ a b. a ++ b) before (cuts-split s events wide low high (0 + j) 1 rest ∙ ap₂ (λ a b. a ++ b) one later)
-    ∙ ap (λ bs. made s events low next ∷ bs) (sym (ap₂ (λ a b. a ++ b) before' refl) ∙ sym (cuts-split s events wide next high 0 (suc j) rest) ∙ ap (cuts s events wide next high 0) (sym whole'))
+    ∙ ap (λ bs. made s events low next ∷ bs) (sym (ap₂ (λ a b. a ++ b) before' refl) ∙ sym (cuts-split s events wide next high 0 (suc j) rest)
+    ∙ ap (cuts s events wide next high 0) (sym whole'))
 
 -- the newest bin stands last: the part of the interval in which the upper edge lies
-pub cuts-newest : (s : Numbers) (events : List ℕ) (wide low high k n : ℕ) → k * wide ≤ high → high ≤ suc k * wide → suc k ≤ n → cuts s events wide low high 0 n ≡ cuts s events wide low high 0 k ++ cond {A = List Bin} (ltb (max low (k * wide)) high) (made s events (max low (k * wide)) high ∷ []) []
+pub cuts-newest : (s : Numbers) (events : List ℕ) (wide low high k n : ℕ) → k * wide ≤ high → high ≤ suc k * wide → suc k ≤ n →
+    cuts s events wide low high 0 n ≡ cuts s events wide low high 0 k ++ cond {A = List Bin} (ltb (max low (k * wide)) high) (made s events (max low (k * wide)) high ∷ []) []
 cuts-newest s events wide low high k n above below covers =
     let rest = n - suc k in
     let whole : n ≡ k + (1 + rest) = omega arith in
@@ -107,7 +117,8 @@ cuts-newest s events wide low high k n above below covers =
     ap (cuts s events wide low high 0) whole
     ∙ cuts-split s events wide low high 0 k (1 + rest)
     ∙ ap (λ bs. cuts s events wide low high 0 k ++ bs)
-    (cuts-split s events wide low high (0 + k) 1 rest ∙ ap₂ (λ a b. a ++ b) one none ∙ append-nil (cond {A = List Bin} (ltb (max low (k * wide)) high) (made s events (max low (k * wide)) high ∷ []) []))
+    (cuts-split s events wide low high (0 + k) 1 rest ∙ ap₂ (λ a b. a ++ b) one none
+    ∙ append-nil (cond {A = List Bin} (ltb (max low (k * wide)) high) (made s events (max low (k * wide)) high ∷ []) []))
 
 -- and the bins before it don't change as that edge moves within the interval
 pub cuts-front : (s : Numbers) (events : List ℕ) (wide low high high' k : ℕ) → k * wide ≤ high → high ≤ high' → cuts s events wide low high' 0 k ≡ cuts s events wide low high 0 k
@@ -116,7 +127,8 @@ cuts-front s events wide low high high' k above grows =
     (λ i from to. (let less = mul-le-mul_right wide (let at_most : suc i ≤ k = omega arith in at_most) in (refl, omega arith)))
 
 -- the bins of a level are its cut intervals
-pub bins-cuts : (s : Numbers) (events : List ℕ) (level : ℕ) → bins s events level ≡ cuts s events (span s level) (edge s level (length events)) (edge s (level - 1) (length events)) 0 (suc (length events / span s level))
+pub bins-cuts : (s : Numbers) (events : List ℕ) (level : ℕ) → bins s events level ≡ cuts s events (span s level) (edge s level (length events)) (edge s (level - 1) (length events)) 0
+    (suc (length events / span s level))
 bins-cuts s events level = refl
 
 -- a bin of earlier events is the same with later ones behind them
@@ -124,7 +136,8 @@ pub made-append : (s : Numbers) (events others : List ℕ) (from to : ℕ) → t
 made-append s events others from to within =
     ap (λ keys. record { from = from; to = to; pieces = tallied s keys }) (slice_range-append events others from to within)
 
-pub cuts-append : (s : Numbers) (events others : List ℕ) (wide low high first n : ℕ) → high ≤ length events → cuts s (events ++ others) wide low high first n ≡ cuts s events wide low high first n
+pub cuts-append : (s : Numbers) (events others : List ℕ) (wide low high first n : ℕ) → high ≤ length events →
+    cuts s (events ++ others) wide low high first n ≡ cuts s events wide low high first n
 cuts-append s events others wide low high first zero within = refl
 cuts-append s events others wide low high first (suc n) within =
     let here : cut s (events ++ others) wide low high first ≡ cut s events wide low high first =
@@ -136,7 +149,8 @@ pub edge_within : (s : Numbers) (level n : ℕ) → edge s level n ≤ n
 edge_within s level n = omega (arith, mul-div-le (n - offset s level) (span s level))
 
 -- while neither edge of a level moves, its bins stay
-pub bins-still : (s : Numbers) (events : List ℕ) (event level : ℕ) → 1 ≤ s.base → 1 ≤ s.ratio → edge s level (suc (length events)) ≡ edge s level (length events) → edge s (level - 1) (suc (length events)) ≡ edge s (level - 1) (length events) → bins s (events ++ event ∷ []) level ≡ bins s events level
+pub bins-still : (s : Numbers) (events : List ℕ) (event level : ℕ) → 1 ≤ s.base → 1 ≤ s.ratio → edge s level (suc (length events)) ≡ edge s level (length events) →
+    edge s (level - 1) (suc (length events)) ≡ edge s (level - 1) (length events) → bins s (events ++ event ∷ []) level ≡ bins s events level
 bins-still s events event level base ratio low_stays high_stays =
     let n = length events in
     let all = events ++ event ∷ [] in
@@ -181,7 +195,8 @@ one_interval s level count base ratio =
     omega (arith, mul_comm (span s (suc level)) (suc (count / s.ratio)))
 
 pub cuts-grow : (s : Numbers) (events : List ℕ) (level low count n : ℕ) → 1 ≤ s.base → 1 ≤ s.ratio → low ≤ span s level * count → suc (count / s.ratio) ≤ n →
-    Grows s events (span s level * count) (span s level * suc count) (cuts s events (span s (suc level)) low (span s level * count) 0 n) (cuts s events (span s (suc level)) low (span s level * suc count) 0 n)
+    Grows s events (span s level * count) (span s level * suc count) (cuts s events (span s (suc level)) low (span s level * count) 0 n)
+    (cuts s events (span s (suc level)) low (span s level * suc count) 0 n)
 cuts-grow s events level low count n base ratio under covers =
     let wide = span s (suc level) in
     let width = span s level in

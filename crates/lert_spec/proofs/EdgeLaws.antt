@@ -1,6 +1,7 @@
 -- The laws of edges: they are nested, they move together, and a lookback reaches far enough in time.
 use Rattle.std.proofs.Common.{ℕ, ◌≡◌, ◌≢◌, ◌+◌, ◌-◌, ◌*◌, ◌/◌, ◌%◌, ◌^◌, ◌<◌, ◌≤◌, zero, suc, ap, sym, ◌∙◌, arith, inl, inr, cond}
-use Rattle.std.proofs.Math.Nat.{mul-div-le, div-div-eq-div-mul, mul-le-mul_left, pow-suc, one-le-pow, mul_assoc, mul_comm, mul-add, add-mul-div_right, div-lt_iff_lt-mul, le-div_iff_mul-le, div-mul-le_self, div-eq_of_lt-le, mul-div_right, add-zero, add-suc, mul-suc, div-add-mod, mod-lt, mul-le-mul_right}
+use Rattle.std.proofs.Math.Nat.{mul-div-le, div-div-eq-div-mul, mul-le-mul_left, pow-suc, one-le-pow, mul_assoc, mul_comm, mul-add, add-mul-div_right, div-lt_iff_lt-mul, le-div_iff_mul-le}
+use Rattle.std.proofs.Math.Nat.{div-mul-le_self, div-eq_of_lt-le, mul-div_right, add-zero, add-suc, mul-suc, div-add-mod, mod-lt, mul-le-mul_right}
 use Rattle.std.proofs.lemmas.Bool.{cases_lt, cases_eq, eq-eqb, ne_eqb}
 use Rattle.std.proofs.lemmas.Nat.{mul-le}
 use Rattle.lert_spec.specs.declared.numbers.Numbers.{Numbers}
@@ -302,7 +303,8 @@ module _ (s : Numbers) (base : 1 ≤ s.base) (ratio : 1 ≤ s.ratio) where
   stays_together level (suc more) m stays = rw (add-suc level more) (moves_together (level + more) m (m - 1) (stays_together level more m stays))
 
   -- a flush reaches as many levels as move in a row
-  pub deepest_is : (top reached m : ℕ) → reached ≤ top → ((level : ℕ) → level < reached → edge s level m ≢ edge s level (m - 1)) → (reached < top → edge s reached m ≡ edge s reached (m - 1)) → deepest s top m ≡ reached
+  pub deepest_is : (top reached m : ℕ) → reached ≤ top → ((level : ℕ) → level < reached → edge s level m ≢ edge s level (m - 1)) →
+      (reached < top → edge s reached m ≡ edge s reached (m - 1)) → deepest s top m ≡ reached
   deepest_is zero reached m within moves stays = omega arith
   deepest_is (suc top) reached m within moves stays =
       elim (cases_lt top reached) [

@@ -42,7 +42,8 @@ first_pass test low (suc n) m from within passes =
     ]
 
 -- a number that passes, where none before it does, is the one found
-pub find_is : (test : ℕ → Bool) (low n at : ℕ) → low ≤ at → at < low + n → test at ≡ true → ((k : ℕ) → low ≤ k → k < at → test k ≡ false) → find test (range_with_len low n) ≡ Some at
+pub find_is : (test : ℕ → Bool) (low n at : ℕ) → low ≤ at → at < low + n → test at ≡ true → ((k : ℕ) → low ≤ k → k < at → test k ≡ false) →
+    find test (range_with_len low n) ≡ Some at
 find_is test low zero at from within passes earlier = absurd (omega arith)
 find_is test low (suc n) at from within passes earlier =
     elim (cases_lt low at) [

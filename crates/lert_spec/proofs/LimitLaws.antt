@@ -1,5 +1,6 @@
 -- What the rules of the settings give, and how large a level's numbers get.
-use Rattle.std.proofs.Common.{ℕ, ◌≡◌, ◌+◌, ◌-◌, ◌*◌, ◌^◌, ◌<◌, ◌≤◌, zero, suc, Bool, true, false, not, leb, List, [], ◌∷◌, ◌++◌, length, get_or, Some, None, refl, ap, sym, ◌∙◌, arith, inl, inr, ◌⊎◌, lit<, unwrap_or, max}
+use Rattle.std.proofs.Common.{ℕ, ◌≡◌, ◌+◌, ◌-◌, ◌*◌, ◌^◌, ◌<◌, ◌≤◌, zero, suc, Bool, true, false, not, leb, List, [], ◌∷◌, ◌++◌, length, get_or, Some}
+use Rattle.std.proofs.Common.{None, refl, ap, sym, ◌∙◌, arith, inl, inr, ◌⊎◌, lit<, unwrap_or, max}
 use Rattle.std.specs.Int.Count.{count_leading_zeros}
 use Rattle.std.proofs.lemmas.Nat.{leading_top}
 use Rattle.std.specs.List.{position_from}
@@ -137,7 +138,8 @@ span_from_base : (s : Numbers) → IsValid s → 4 ≤ span s 0
 span_from_base s valid = mul-le 4 1 s.base (s.ratio ^ 0) valid.limits.base_from (one-le-pow 0 s.ratio (omega (arith, valid.limits.ratio_from)))
 
 -- the least number of bits by the zeros in front of the last event of a span
-pub quotient_bits_by_zeros : (s : Numbers) (level : ℕ) → IsValid s → level ≤ s.levels → (max (64 - count_leading_zeros 64 (span s level - 1)) 6 ≡ quotient_bits s level) × (max (64 - count_leading_zeros 64 (span s level - 1)) 6 ≤ 32)
+pub quotient_bits_by_zeros : (s : Numbers) (level : ℕ) → IsValid s → level ≤ s.levels → (max (64 - count_leading_zeros 64 (span s level - 1)) 6 ≡ quotient_bits s level)
+    × (max (64 - count_leading_zeros 64 (span s level - 1)) 6 ≤ 32)
 quotient_bits_by_zeros s level valid within =
     let ratio : 1 ≤ s.ratio = omega (arith, valid.limits.ratio_from) in
     let grows = span_grows s level s.levels ratio within in
@@ -152,8 +154,11 @@ quotient_bits_by_zeros s level valid within =
     ] in
     elim (cases_lt 6 (suc j)) [
       | inl above ↦ (
-          let q : max (64 - count_leading_zeros 64 (span s level - 1)) 6 ≡ suc j = omega (arith, top.1) in
-          (q ∙ sym (quotient_bits_is s level (suc j) (omega arith) (omega arith) (omega (arith, top.3)) (λ _. (let same : suc j - 1 ≡ j = omega arith in let power = ap (λ n. 2 ^ n) same in omega (arith, top.2)))), omega arith))
+          let q : max (64 - count_leading_zeros 64 (span s level - 1)) 6 ≡ suc j = omega (arith, top.1) in (
+            q ∙ sym (quotient_bits_is s level (suc j) (omega arith) (omega arith) (omega (arith, top.3))
+                (λ _. (let same : suc j - 1 ≡ j = omega arith in let power = ap (λ n. 2 ^ n) same in omega (arith, top.2)))),
+            omega arith,
+          ))
       | inr below ↦ (
           let q : max (64 - count_leading_zeros 64 (span s level - 1)) 6 ≡ 6 = omega (arith, top.1) in
           let power = pow-le-pow_right {n = 2} (lit< tt) {i = suc j} {j = 6} below in

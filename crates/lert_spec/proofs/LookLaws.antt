@@ -1,5 +1,6 @@
 -- How the reports grow with one more event.
-use Rattle.std.proofs.Common.{ℕ, ◌≡◌, ◌≢◌, ◌+◌, ◌-◌, ◌^◌, ◌<◌, ◌≤◌, zero, suc, Bool, true, false, cond, eqb, leb, not, ◌&&◌, List, [], ◌∷◌, ◌++◌, length, take, drop, map, filter, refl, ap, ap₂, sym, ◌∙◌, arith, inl, inr, subst, sum_by, length-append, length-drop, slice_range}
+use Rattle.std.proofs.Common.{ℕ, ◌≡◌, ◌≢◌, ◌+◌, ◌-◌, ◌^◌, ◌<◌, ◌≤◌, zero, suc, Bool, true, false, cond, eqb, leb, not, ◌&&◌, List, [], ◌∷◌, ◌++◌}
+use Rattle.std.proofs.Common.{length, take, drop, map, filter, refl, ap, ap₂, sym, ◌∙◌, arith, inl, inr, subst, sum_by, length-append, length-drop, slice_range}
 use Rattle.std.proofs.Math.Nat.{mul-div-le}
 use Rattle.std.proofs.Math.Seq.{drop-append_seam}
 use Rattle.std.proofs.lemmas.Bool.{cases_lt, cases_eq, cases_order, cases_Bool, false≢true, and_parts, leb-true}
@@ -16,7 +17,8 @@ use Rattle.lert_spec.proofs.EdgeLaws.{deepest_is, lookback_within, edge_never_fa
 use Rattle.lert_spec.proofs.WindowLaws.{count_none, count_parts, count_never_falls}
 use Rattle.lert_spec.proofs.TimeBound.{listed_then, not_due_if_listed}
 use Rattle.lert_spec.proofs.MixLaws.{mix_is_one_to_one}
-use Rattle.lert_spec.proofs.ReportLaws.{times, times-cons_same, times-cons_other, times-filter, times-below, times-mixed_order, count_le-times, MixedFrom, MixedFrom-mixed_order, insert_before, insert_same, insert_behind}
+use Rattle.lert_spec.proofs.ReportLaws.{times, times-cons_same, times-cons_other, times-filter, times-below, times-mixed_order, count_le-times, MixedFrom, MixedFrom-mixed_order, insert_before}
+use Rattle.lert_spec.proofs.ReportLaws.{insert_same, insert_behind}
 
 -- each key fits 64 bits
 abbrev pub AreKeys : List ℕ → Type 0
@@ -65,7 +67,8 @@ MixedFrom-filter test low (key ∷ keys) ordered =
     kept_or_not test key keys (MixedFrom low) (ordered.0, rest) (MixedFrom-lower low (mix key) (filter test keys) ordered.0 rest)
 
 -- keys in order of their mixed values are one list where each stands as often in both
-pub one_order : (low : ℕ) (keys others : List ℕ) → MixedFrom low keys → MixedFrom low others → AreKeys keys → AreKeys others → ((key : ℕ) → times key keys ≡ times key others) → keys ≡ others
+pub one_order : (low : ℕ) (keys others : List ℕ) → MixedFrom low keys → MixedFrom low others → AreKeys keys → AreKeys others →
+    ((key : ℕ) → times key keys ≡ times key others) → keys ≡ others
 one_order low [] [] ordered other_ordered fit other_fit same = refl
 one_order low [] (other ∷ others) ordered other_ordered fit other_fit same =
     absurd (omega (arith, same other, times-cons_same other other others refl))
@@ -106,18 +109,21 @@ count-append key events others from to within = ap (λ xs. sum_by (λ event. con
 times-append : (key : ℕ) (events others : List ℕ) → times key (events ++ others) ≡ times key events + times key others
 times-append key events others = sum_by-append (λ event. cond {A = ℕ} (eqb event key) 1 0) events others
 
-is_due-append : (threshold : ℕ) (events others : List ℕ) (from to : ℕ) (reports : List Report) (key : ℕ) → to ≤ length events → is_due threshold (events ++ others) from to reports key ≡ is_due threshold events from to reports key
+is_due-append : (threshold : ℕ) (events others : List ℕ) (from to : ℕ) (reports : List Report) (key : ℕ) → to ≤ length events →
+    is_due threshold (events ++ others) from to reports key ≡ is_due threshold events from to reports key
 is_due-append threshold events others from to reports key within =
     ap (λ n. leb threshold n && not (is_listed key reports)) (count-append key events others from to within)
 
 -- a due key occurs
-pub due_occurs : (threshold : ℕ) (events : List ℕ) (from to : ℕ) (reports : List Report) (key : ℕ) → 1 ≤ threshold → is_due threshold events from to reports key ≡ true → 1 ≤ times key events
+pub due_occurs : (threshold : ℕ) (events : List ℕ) (from to : ℕ) (reports : List Report) (key : ℕ) → 1 ≤ threshold → is_due threshold events from to reports key ≡ true →
+    1 ≤ times key events
 due_occurs threshold events from to reports key positive due =
     let parts = and_parts (leb threshold (count key events from to)) (not (is_listed key reports)) due in
     omega (arith, leb-true threshold (count key events from to) parts.0, count_le-times key events from to)
 
 -- the due keys of a window of the earlier events are the same with later ones behind them
-due_keys-append : (threshold : ℕ) (events others : List ℕ) (from to : ℕ) (reports : List Report) → 1 ≤ threshold → AreKeys events → AreKeys others → to ≤ length events → filter (is_due threshold (events ++ others) from to reports) (mixed_order (events ++ others)) ≡ filter (is_due threshold events from to reports) (mixed_order events)
+due_keys-append : (threshold : ℕ) (events others : List ℕ) (from to : ℕ) (reports : List Report) → 1 ≤ threshold → AreKeys events → AreKeys others → to ≤ length events →
+    filter (is_due threshold (events ++ others) from to reports) (mixed_order (events ++ others)) ≡ filter (is_due threshold events from to reports) (mixed_order events)
 due_keys-append threshold events others from to reports positive fit more within =
     let all = events ++ others in
     let before : ℕ → Bool = is_due threshold events from to reports in
@@ -146,7 +152,8 @@ due_keys-append threshold events others from to reports positive fit more within
     ])
 
 -- later events change no report made before them
-pub look_to-append : (s : Numbers) (events others : List ℕ) (m : ℕ) → 1 ≤ s.threshold → AreKeys events → AreKeys others → m ≤ length events → look_to s (events ++ others) m ≡ look_to s events m
+pub look_to-append : (s : Numbers) (events others : List ℕ) (m : ℕ) → 1 ≤ s.threshold → AreKeys events → AreKeys others → m ≤ length events →
+    look_to s (events ++ others) m ≡ look_to s events m
 look_to-append s events others zero positive fit more within = refl
 look_to-append s events others (suc m) positive fit more within =
     let before = look_to-append s events others m positive fit more (omega arith) in
@@ -225,7 +232,8 @@ new_there true event = times-cons_same event event [] refl
 new_there false event = refl
 
 -- a test that only one key of the order can pass keeps that key or none
-only_one : (test : ℕ → Bool) (events : List ℕ) (event : ℕ) → AreKeys events → event < 2 ^ 64 → 1 ≤ times event events → ((key : ℕ) → event ≢ key → test key ≡ false) → filter test (mixed_order events) ≡ cond (test event) (event ∷ []) []
+only_one : (test : ℕ → Bool) (events : List ℕ) (event : ℕ) → AreKeys events → event < 2 ^ 64 → 1 ≤ times event events → ((key : ℕ) → event ≢ key → test key ≡ false) →
+    filter test (mixed_order events) ≡ cond (test event) (event ∷ []) []
 only_one test events event fit below occurs others =
     one_order 0 (filter test (mixed_order events)) (cond (test event) (event ∷ []) [])
     (MixedFrom-filter test 0 (mixed_order events) (MixedFrom-mixed_order events))

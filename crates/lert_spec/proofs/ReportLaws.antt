@@ -1,5 +1,6 @@
 -- How often a key is reported: each key that is due is listed once, and no other.
-use Rattle.std.proofs.Common.{ℕ, ◌≡◌, ◌≢◌, ◌+◌, ◌-◌, ◌<◌, ◌≤◌, Bool, true, false, cond, eqb, ltb, ◌||◌, List, [], ◌∷◌, ◌++◌, take, drop, map, filter, refl, ap, sym, ◌∙◌, arith, inl, inr, count_by, sum_by}
+use Rattle.std.proofs.Common.{ℕ, ◌≡◌, ◌≢◌, ◌+◌, ◌-◌, ◌<◌, ◌≤◌, Bool, true, false, cond, eqb, ltb, ◌||◌, List, [], ◌∷◌, ◌++◌, take, drop, map, filter}
+use Rattle.std.proofs.Common.{refl, ap, sym, ◌∙◌, arith, inl, inr, count_by, sum_by}
 use Rattle.std.proofs.lemmas.Bool.{cases_lt, cases_eq, cases_Bool, eq-eqb, ne_eqb, lt-ltb}
 use Rattle.std.proofs.lemmas.Bool.Decides.{nat_tests}
 use Rattle.std.proofs.lemmas.List.{take-append-drop}
@@ -200,7 +201,8 @@ is_listed-times key (report ∷ reports) =
     ap (λ b. eqb report.key key || b) rest ∙ one_or_more (eqb report.key key) (times_listed key reports) ∙ ap (ltb 0) (sym parts)
 
 -- what a window adds to the reports of a key
-pub times_listed-with_due : (threshold : ℕ) (events : List ℕ) (from to : ℕ) (reports : List Report) (key : ℕ) → times_listed key (with_due threshold events from to reports) ≡ times_listed key reports + cond (is_due threshold events from to reports key) (times key (mixed_order events)) 0
+pub times_listed-with_due : (threshold : ℕ) (events : List ℕ) (from to : ℕ) (reports : List Report) (key : ℕ) →
+    times_listed key (with_due threshold events from to reports) ≡ times_listed key reports + cond (is_due threshold events from to reports key) (times key (mixed_order events)) 0
 times_listed-with_due threshold events from to reports key =
     let due = filter (is_due threshold events from to reports) (mixed_order events) in
     times_listed-append key reports (map (λ k. record { key = k; at = to }) due)

@@ -16,7 +16,8 @@ pub plus_behind : (p : Piece) (ps : List Piece) (tail n : ℕ) → p.tail < tail
 plus_behind p ps tail n h = grind (arith, nat_tests)
 
 -- raising a count keeps a count table
-pub AscendsFrom-plus : (least limit : ℕ) (ps : List Piece) (tail n : ℕ) → least ≤ tail → tail < limit → 1 ≤ n → AscendsFrom least limit ps → AscendsFrom least limit (plus ps tail n)
+pub AscendsFrom-plus : (least limit : ℕ) (ps : List Piece) (tail n : ℕ) → least ≤ tail → tail < limit → 1 ≤ n → AscendsFrom least limit ps →
+    AscendsFrom least limit (plus ps tail n)
 AscendsFrom-plus least limit [] tail n low high positive t = (low, high, positive, tt)
 AscendsFrom-plus least limit (p ∷ ps) tail n low high positive t =
     elim (cases_order p.tail tail) [

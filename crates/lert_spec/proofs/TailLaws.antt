@@ -1,5 +1,6 @@
 -- The keys that are due in a window, in mixed order, are those of the tails in the window's table, in ascending order.
-use Rattle.std.proofs.Common.{ℕ, ◌≡◌, ◌≢◌, ◌+◌, ◌-◌, ◌*◌, ◌/◌, ◌%◌, ◌^◌, ◌<◌, ◌≤◌, zero, suc, Bool, cond, eqb, leb, not, ◌&&◌, List, [], ◌∷◌, take, drop, map, filter, refl, ap, ap₂, sym, ◌∙◌, arith, inl, inr, ◌⊎◌, subst, slice_range}
+use Rattle.std.proofs.Common.{ℕ, ◌≡◌, ◌≢◌, ◌+◌, ◌-◌, ◌*◌, ◌/◌, ◌%◌, ◌^◌, ◌<◌, ◌≤◌, zero, suc, Bool, cond, eqb, leb, not, ◌&&◌, List, []}
+use Rattle.std.proofs.Common.{◌∷◌, take, drop, map, filter, refl, ap, ap₂, sym, ◌∙◌, arith, inl, inr, ◌⊎◌, subst, slice_range}
 use Rattle.std.proofs.lemmas.Bool.{cases_lt, cases_eq, cases_Bool, eq-eqb, ne_eqb, lt-leb}
 use Rattle.std.proofs.lemmas.List.Sums.{sum_by-cons}
 use Rattle.std.proofs.lemmas.Nat.{mul-add-lt, shr_high, mod_low, pow-add}
@@ -83,11 +84,13 @@ module _ (s : Numbers) (cone : ℕ) (bits : s.cone_bits ≤ 64) (named : cone < 
       let rest = AscendsFrom-filter test (p.tail + 1) limit ps ascends.3 in
       elim (cases_Bool (test p)) [
         | inl passes ↦ subst (AscendsFrom least limit) (sym (ap (λ t. cond t (p ∷ filter test ps) (filter test ps)) passes)) (ascends.0, ascends.1, ascends.2, rest)
-        | inr fails ↦ subst (AscendsFrom least limit) (sym (ap (λ t. cond t (p ∷ filter test ps) (filter test ps)) fails)) (AscendsFrom-lower least (p.tail + 1) limit (filter test ps) (omega (arith, ascends.0)) rest)
+        | inr fails ↦ subst (AscendsFrom least limit) (sym (ap (λ t. cond t (p ∷ filter test ps) (filter test ps)) fails))
+            (AscendsFrom-lower least (p.tail + 1) limit (filter test ps) (omega (arith, ascends.0)) rest)
       ]
 
   -- a key of another cone isn't among the keys of pieces
-  times-other_cone : (key least : ℕ) (pieces : List Piece) → AscendsFrom least (2 ^ (64 - s.cone_bits)) pieces → ((key < 2 ^ 64) × (cone_of s key ≡ cone) → ⊥) → times key (keys_of s cone pieces) ≡ 0
+  times-other_cone : (key least : ℕ) (pieces : List Piece) → AscendsFrom least (2 ^ (64 - s.cone_bits)) pieces → ((key < 2 ^ 64) × (cone_of s key ≡ cone) → ⊥) →
+      times key (keys_of s cone pieces) ≡ 0
   times-other_cone key least [] ascends other = refl
   times-other_cone key least (p ∷ ps) ascends other =
       let differs : key_with s cone p.tail ≢ key = λ same. other
@@ -206,7 +209,8 @@ cases_of_cone s cone key =
     ]
 
 -- the keys that are due in a window, in mixed order, are those of the due pieces of the window's table, in ascending tails
-pub due_by_tails : (s : Numbers) (cone threshold : ℕ) (events : List ℕ) (from to : ℕ) (reports : List Report) → s.cone_bits ≤ 64 → cone < 2 ^ s.cone_bits → 1 ≤ threshold → AreKeys events → AreOfCone s cone events →
+pub due_by_tails : (s : Numbers) (cone threshold : ℕ) (events : List ℕ) (from to : ℕ) (reports : List Report) → s.cone_bits ≤ 64 → cone < 2 ^ s.cone_bits → 1 ≤ threshold →
+    AreKeys events → AreOfCone s cone events →
     filter (is_due threshold events from to reports) (mixed_order events)
     ≡ keys_of s cone (filter (is_due_piece s cone threshold reports) (tallied s (slice_range events from to)))
 due_by_tails s cone threshold events from to reports bits named positive fit of =

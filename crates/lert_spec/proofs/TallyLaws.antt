@@ -1,5 +1,6 @@
 -- The counts of the tails of a list of keys, as a count table.
-use Rattle.std.proofs.Common.{ℕ, ◌≡◌, ◌≢◌, ◌+◌, ◌-◌, ◌^◌, cond, eqb, List, [], ◌∷◌, ◌++◌, length, refl, ap, ap₂, sym, ◌∙◌, arith, inl, inr, subst, count_by, fold}
+use Rattle.std.proofs.Common.{ℕ, ◌≡◌, ◌≢◌, ◌+◌, ◌-◌, ◌^◌, cond, eqb, List, [], ◌∷◌, ◌++◌, length, refl, ap, ap₂, sym, ◌∙◌, arith, inl, inr, subst}
+use Rattle.std.proofs.Common.{count_by, fold}
 use Rattle.std.proofs.lemmas.Bool.{cases_lt, cases_order, eq-eqb, ne_eqb}
 use Rattle.std.proofs.lemmas.List.Sums.{sum_by-cons, sum_by-append, fold-append}
 use Rattle.lert_spec.specs.declared.numbers.Numbers.{Numbers}
@@ -65,7 +66,8 @@ added-table s pieces (key ∷ keys) table =
     added-table s (plus pieces (tail_of s key) 1) keys
     (AscendsFrom-plus 0 (2 ^ (64 - s.cone_bits)) pieces (tail_of s key) 1 (omega arith) (tail_below s key) (omega arith) table)
 
-count_of-added : (s : Numbers) (pieces : List Piece) (keys : List ℕ) (tail : ℕ) → IsTable (2 ^ (64 - s.cone_bits)) pieces → count_of (added s pieces keys) tail ≡ count_of pieces tail + tails s tail keys
+count_of-added : (s : Numbers) (pieces : List Piece) (keys : List ℕ) (tail : ℕ) → IsTable (2 ^ (64 - s.cone_bits)) pieces →
+    count_of (added s pieces keys) tail ≡ count_of pieces tail + tails s tail keys
 count_of-added s pieces [] tail table = omega arith
 count_of-added s pieces (key ∷ keys) tail table =
     let limit = 2 ^ (64 - s.cone_bits) in
@@ -100,7 +102,8 @@ pub tallied-push : (s : Numbers) (keys : List ℕ) (key : ℕ) → tallied s (ke
 tallied-push s keys key = fold-append (λ table k. plus table (tail_of s k) 1) [] keys (key ∷ [])
 
 -- a table with the counts of two lists together is that of the joined list
-pub tallied-append : (s : Numbers) (keys others : List ℕ) (pieces : List Piece) → IsTable (2 ^ (64 - s.cone_bits)) pieces → ((tail : ℕ) → count_of pieces tail ≡ count_of (tallied s keys) tail + count_of (tallied s others) tail) → pieces ≡ tallied s (keys ++ others)
+pub tallied-append : (s : Numbers) (keys others : List ℕ) (pieces : List Piece) → IsTable (2 ^ (64 - s.cone_bits)) pieces →
+    ((tail : ℕ) → count_of pieces tail ≡ count_of (tallied s keys) tail + count_of (tallied s others) tail) → pieces ≡ tallied s (keys ++ others)
 tallied-append s keys others pieces table sums =
     one_table 0 (2 ^ (64 - s.cone_bits)) pieces (tallied s (keys ++ others)) table (IsTable-tallied s (keys ++ others))
     (λ tail. omega (arith, sums tail, count_of-tallied s keys tail, count_of-tallied s others tail, count_of-tallied s (keys ++ others) tail, tails-append s tail keys others))

@@ -1,5 +1,6 @@
 -- Every report is in time: the reports of a closed cone are timely for its events, and those made so far are timely so far.
-use Rattle.std.proofs.Common.{ℕ, ◌≡◌, ◌+◌, ◌-◌, ◌*◌, ◌<◌, ◌≤◌, zero, suc, true, false, cond, leb, not, ◌&&◌, List, [], ◌∷◌, ◌++◌, length, get_or, take, drop, map, filter, sum_by, eqb, ap, ap₂, ◌∙◌, arith, inl, inr, ◌⊎◌, subst}
+use Rattle.std.proofs.Common.{ℕ, ◌≡◌, ◌+◌, ◌-◌, ◌*◌, ◌<◌, ◌≤◌, zero, suc, true, false, cond, leb, not, ◌&&◌, List, [], ◌∷◌, ◌++◌, length, get_or, take}
+use Rattle.std.proofs.Common.{drop, map, filter, sum_by, eqb, ap, ap₂, ◌∙◌, arith, inl, inr, ◌⊎◌, subst}
 use Rattle.std.specs.Prelude.{Contains}
 use Rattle.std.specs.List.Sorted.{IsNonDecreasing}
 use Rattle.std.proofs.Math.Nat.{mul-le-mul_right}
@@ -99,7 +100,8 @@ module _ (threshold : ℕ) (events : List ℕ) (from to : ℕ) (reports : List R
       ]
 
   -- a key that is listed only now had enough in the window, and is listed at its end
-  newly_listed : times_listed key reports ≡ 0 → times_listed key (with_due threshold events from to reports) ≡ 1 → (threshold ≤ count key events from to) × Contains (with_due threshold events from to reports) (report_of to key)
+  newly_listed : times_listed key reports ≡ 0 → times_listed key (with_due threshold events from to reports) ≡ 1 →
+      (threshold ≤ count key events from to) × Contains (with_due threshold events from to reports) (report_of to key)
   newly_listed missing now =
       elim (cases_Bool (is_due threshold events from to reports key)) [
         | inl due ↦ (
@@ -133,7 +135,8 @@ UpTo-append high [] [] below = tt
 UpTo-append high [] (key ∷ keys) below = (omega arith, UpTo-append high [] keys tt)
 UpTo-append high (report ∷ reports) keys below = (below.0, UpTo-append high reports keys below.1)
 
-Rising-append : (low high : ℕ) (reports : List Report) (keys : List ℕ) → low ≤ high → UpTo high reports → Rising low reports → Rising low (reports ++ map (λ k. record { key = k; at = high }) keys)
+Rising-append : (low high : ℕ) (reports : List Report) (keys : List ℕ) → low ≤ high → UpTo high reports → Rising low reports →
+    Rising low (reports ++ map (λ k. record { key = k; at = high }) keys)
 Rising-append low high [] [] order below rising = tt
 Rising-append low high [] (key ∷ keys) order below rising = (order, Rising-append high high [] keys (omega arith) tt tt)
 Rising-append low high (report ∷ reports) keys order below rising =
@@ -275,7 +278,8 @@ module _ (s : Numbers) (valid : IsValid s) (events : List ℕ) where
           omega (arith, count_never_falls key events reached.at at due_at_latest.from, reached.enough)
 
       -- a report that stands at a position up to there is in time
-      reported : (m : ℕ) (found : ListedAt s events key m) → m ≤ length events → found.at ≤ due_at_latest.at → times_listed key (look s events) ≡ 1 → IsReportedOnTime s.threshold s.bins events (look s events) key
+      reported : (m : ℕ) (found : ListedAt s events key m) → m ≤ length events → found.at ≤ due_at_latest.at → times_listed key (look s events) ≡ 1 →
+          IsReportedOnTime s.threshold s.bins events (look s events) key
       reported m found so_far soon once = record {
         at = found.at;
         first_at = begun.at;
@@ -297,7 +301,8 @@ module _ (s : Numbers) (valid : IsValid s) (events : List ℕ) where
       }
 
       -- a key is reported in time, or is missing and needn't be reported yet
-      reported_or_missing : IsReportedOnTime s.threshold s.bins events (look s events) key ⊎ ((times_listed key (look s events) ≡ 0) × ((length events - reached.at) * (s.bins - 1) < reached.at - begun.at))
+      reported_or_missing : IsReportedOnTime s.threshold s.bins events (look s events) key
+          ⊎ ((times_listed key (look s events) ≡ 0) × ((length events - reached.at) * (s.bins - 1) < reached.at - begun.at))
       reported_or_missing =
           let last = length events in
           elim (cases_lt last due_at_latest.at) [

@@ -1,5 +1,6 @@
 -- Laws of counts in windows of a list of events, and of the first position up to which a key occurs so often.
-use Rattle.std.proofs.Common.{ℕ, ◌≡◌, ◌+◌, ◌-◌, ◌<◌, ◌≤◌, Bool, cond, eqb, leb, List, ◌++◌, length, take, drop, Some, refl, ap, sym, ◌∙◌, arith, inl, inr, sum_by}
+use Rattle.std.proofs.Common.{ℕ, ◌≡◌, ◌+◌, ◌-◌, ◌<◌, ◌≤◌, Bool, cond, eqb, leb, List, ◌++◌, length, take, drop, Some, refl, ap, sym, ◌∙◌, arith, inl, inr}
+use Rattle.std.proofs.Common.{sum_by}
 use Rattle.std.proofs.Math.Seq.{take-add}
 use Rattle.std.proofs.lemmas.Bool.{cases_lt, le-leb, leb-true, leb-false}
 use Rattle.std.proofs.lemmas.List.Sums.{sum_by-append}

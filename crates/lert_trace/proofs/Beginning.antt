@@ -1,5 +1,6 @@
 -- What a reader knows once the header was taken, or couldn't be.
-use Rattle.std.proofs.Common.{◌≡◌, ℕ, ◌+◌, ◌-◌, ◌*◌, ◌/◌, ◌%◌, ◌<◌, ◌≤◌, Bool, true, false, ltb, eqb, cond, List, ◌++◌, length, drop, Option, Some, None, ap, sym, ◌∙◌, subst, inl, inr, arith, lt-ltb}
+use Rattle.std.proofs.Common.{◌≡◌, ℕ, ◌+◌, ◌-◌, ◌*◌, ◌/◌, ◌%◌, ◌<◌, ◌≤◌, Bool, true, false, ltb, eqb, cond, List, ◌++◌, length, drop, Option, Some, None}
+use Rattle.std.proofs.Common.{ap, sym, ◌∙◌, subst, inl, inr, arith, lt-ltb}
 use Rattle.std.proofs.lemmas.Bool.{cases_lt}
 use Rattle.lert_io.specs.Fault.{HasRisen}
 use Rattle.lert_io.specs.Reading.{IfTold}

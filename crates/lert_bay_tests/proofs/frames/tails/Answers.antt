@@ -6,7 +6,8 @@ use Rattle.lert_bay_tests.proofs.frames.tails.Goals as goal
 
 pub loop-tail-preserved : goal.loop-tail-preserved
 loop-tail-preserved c = record {
-  given = subst (AreGiven (c.loop-tail.tail + 1)) (sym c.in_ok-push.ensures.items) (given_more c.loop-tail.tail c.loop-tail.pieces.items record { tail = c.loop-tail.tail; count = 1 } c.loop-tail.invariant.given (omega arith) (omega arith) (omega arith));
+  given = subst (AreGiven (c.loop-tail.tail + 1)) (sym c.in_ok-push.ensures.items)
+      (given_more c.loop-tail.tail c.loop-tail.pieces.items record { tail = c.loop-tail.tail; count = 1 } c.loop-tail.invariant.given (omega arith) (omega arith) (omega arith));
   summed = ap total c.in_ok-push.ensures.items ∙ (total-push c.loop-tail.pieces.items record { tail = c.loop-tail.tail; count = 1 } ∙ ap (λ n. n + 1) c.loop-tail.invariant.summed);
 }
 

@@ -1,4 +1,4 @@
-use Rattle.lert_merge.proofs.ShareLemmas.{IsSilencing}
+use Rattle.lert_merge.proofs.SilenceLemmas.{IsSilencing}
 use Rattle.lert_merge.proofs.heads.clear_shares.Given as goal
 
 abbrev pub invariant-loop-stream : goal.invariant-loop-stream

@@ -19,4 +19,9 @@ returns-clause-value c = value (goal.at-returns-clause-value c).After-mix
 pub returns-clause-below : goal.returns-clause-below
 returns-clause-below c =
     let bits = ap (λ (s : Numbers). s.cone_bits) c.numbers-cone_bits.ensures.value in
-    omega (arith, value (goal.at-returns-clause-below c).After-mix, cone_below c.args.settings.now c.args.key (omega (arith, bits, c.numbers-cone_bits.ensures.valid.limits.cone_bits_to)) c.ranges.key.fits)
+    omega (
+      arith,
+      value (goal.at-returns-clause-below c).After-mix,
+      cone_below c.args.settings.now c.args.key (omega (arith, bits, c.numbers-cone_bits.ensures.valid.limits.cone_bits_to))
+          c.ranges.key.fits,
+    )

@@ -24,4 +24,9 @@ far c =
 
 pub overflow_mul-result : goal.overflow_mul-result
 overflow_mul-result c =
-    omega (arith, far (goal.at-overflow_mul-result c).After-loop-younger, offset_within c.args.s.now c.args.level c.requires.valid.limits (omega (arith, c.requires.level, c.requires.valid.limits.levels_to)))
+    omega (
+      arith,
+      far (goal.at-overflow_mul-result c).After-loop-younger,
+      offset_within c.args.s.now c.args.level c.requires.valid.limits
+          (omega (arith, c.requires.level, c.requires.valid.limits.levels_to)),
+    )

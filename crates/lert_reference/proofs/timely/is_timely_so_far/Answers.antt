@@ -15,7 +15,8 @@ returns-then-are_heavy c =
             λ reported. record {
               in_order = c.are_in_order.ensures.0 w.if-are_in_order.true;
               light = light_isn't_listed threshold events reports (w.are_heavy.ensures.0 (sym w.value-is ∙ c.if-are_heavy.true));
-              heavy = each_heavy (λ key. IsReportedOnTime threshold c.args.bins events reports key ⊎ IsNotYetDue threshold c.args.bins events reports key) threshold events c.requires (c.are_reported_so_far.ensures.0 reported);
+              heavy = each_heavy (λ key. IsReportedOnTime threshold c.args.bins events reports key ⊎ IsNotYetDue threshold c.args.bins events reports key) threshold events c.requires
+                  (c.are_reported_so_far.ensures.0 reported);
             },
             λ timely. c.are_reported_so_far.ensures.1 (λ k d within. timely.heavy _),
           )

@@ -7,7 +7,8 @@ use Rattle.lert_slotbits.proofs.count.place_in.Goals as goal
 use Rattle.lert_slotbits.proofs.count.place_in.Goals.{then-bit_of-eq1+else-left-eq0, else-bit_of-eq1}
 
 pub returns-then-left-eq0-clause-set : goal.returns-then-left-eq0-clause-set
-returns-then-left-eq0-clause-set c = bit_of_word c.args.word c.loop-at.at c.loop-at-test.true ∙ (let one : bit_at c.args.word c.loop-at.at ≡ 1 = omega (arith, c.bit_of.ensures.value) in rw one refl)
+returns-then-left-eq0-clause-set c = bit_of_word c.args.word c.loop-at.at c.loop-at-test.true
+    ∙ (let one : bit_at c.args.word c.loop-at.at ≡ 1 = omega (arith, c.bit_of.ensures.value) in rw one refl)
 
 pub loop-at-preserved : goal.loop-at-preserved
 loop-at-preserved c =

@@ -28,7 +28,8 @@ loop-index-preserved c =
     }) in
     let index_is : index + 1 - 1 ≡ index = omega arith in
     record {
-      done = gap_goes_on old c.args.from c.args.to c.requires.order c.requires.within now index c.moved_part.result c.loop-index.carry c.loop-index.auto.words (omega arith) (omega arith) (omega arith)
+      done = gap_goes_on old c.args.from c.args.to c.requires.order c.requires.within now index c.moved_part.result c.loop-index.carry c.loop-index.auto.words (omega arith) (omega arith)
+          (omega arith)
           c.loop-index.invariant.first c.loop-index.invariant.carried part c.loop-index.invariant.done;
       todo = λ j h. get_or-set_other now index j c.moved_part.result 0 (omega arith) ∙ c.loop-index.invariant.todo j (omega arith);
       first = λ e. absurd (omega arith);

@@ -10,7 +10,8 @@ loop-word-init c = record {
   reached = omega arith;
   fits = c.cleared_below-word.type_inv;
   passed = λ k h less same. absurd (omega arith);
-  marks = marks_first c.args.on c.args.words.now c.args.from c.marked.result c.cleared_below-word.result (omega arith) c.marked.ensures c.cleared_below-word.ensures.below c.cleared_below-word.ensures.from;
+  marks = marks_first c.args.on c.args.words.now c.args.from c.marked.result c.cleared_below-word.result (omega arith) c.marked.ensures c.cleared_below-word.ensures.below
+      c.cleared_below-word.ensures.from;
 }
 
 pub returns-then-index-words : goal.returns-then-index-words
@@ -28,5 +29,6 @@ loop-word-preserved c = record {
 
 pub returns : goal.returns
 returns c =
-    first_of c.args.on c.args.words.now c.args.from c.loop-word.index c.loop-word.word c.from.result c.loop-word.invariant.within c.loop-word-test.false c.loop-word.invariant.fits c.loop-word.invariant.marks c.loop-word.invariant.passed
+    first_of c.args.on c.args.words.now c.args.from c.loop-word.index c.loop-word.word c.from.result c.loop-word.invariant.within c.loop-word-test.false c.loop-word.invariant.fits
+    c.loop-word.invariant.marks c.loop-word.invariant.passed
     (rw c.from.ensures (bit_at-trailing_zeros w64 c.loop-word.word (omega arith) c.loop-word.invariant.fits))

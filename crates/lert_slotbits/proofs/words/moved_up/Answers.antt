@@ -10,7 +10,8 @@ joined-upper-requires-clause-high c =
 
 pub joined-requires-2-clause-high : goal.joined-requires-2-clause-high
 joined-requires-2-clause-high c =
-    rw (c.joined-upper.ensures, c.joined.ensures, c.lowest-moved.ensures) (upper_fits c.args.word c.args.low c.args.high c.args.carry c.requires.order c.requires.high c.requires.carry c.ranges.word.fits)
+    rw (c.joined-upper.ensures, c.joined.ensures, c.lowest-moved.ensures) (upper_fits c.args.word c.args.low c.args.high c.args.carry c.requires.order c.requires.high c.requires.carry
+    c.ranges.word.fits)
 
 pub returns-clause-below : goal.returns-clause-below
 returns-clause-below c = λ i less.

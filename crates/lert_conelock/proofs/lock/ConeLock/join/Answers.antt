@@ -19,6 +19,7 @@ pub returns : goal.returns
 returns g c = let me = idles c.pass.inside.seat.me c.pass.invariant.0 c.pass.invariant.1 in
     let them = idles c.other.inside.seat.me c.other.invariant.0 c.other.invariant.1 in
     let both = c.join.ensures.joined me.pass them.pass (trier me) (trier them) in
-    seen_joined _ _ _ c.pass.inside.seat.me c.other.inside.seat.me c.agree.new.seat.me _ _ c.pass.view_is c.other.view_is me.pass them.pass (trier me) (trier them) (c.agree.ensures.seat.0 ∙ c.join.ensures.seat)
+    seen_joined _ _ _ c.pass.inside.seat.me c.other.inside.seat.me c.agree.new.seat.me _ _ c.pass.view_is c.other.view_is me.pass them.pass (trier me) (trier them)
+    (c.agree.ensures.seat.0 ∙ c.join.ensures.seat)
     (λ i. ((c.agree.ensures.seat.2 ∙ both) i).0) c.requires.meets
     (λ r is. c.agree.ensures.agreed r ((λ i. (sym c.agree.ensures.seat.2 i).0) ∙ is))

@@ -21,8 +21,10 @@ pub returns-clause-stay : goal.returns-clause-stay
 returns-clause-stay g c =
     let within = subst (λ (m : Merging _). c.args.stream < length m.streams) (sym c.self.view_is) c.requires.within in
     let unread = subst (λ (m : Merging _). (seat_at m.seats c.args.stream).head ≡ Unread) (sym c.self.view_is) c.requires.unread in
-    all_stay_put g.P.Pieces.to_come g.P.Pieces.given g.P.Pieces.limit g.P.Pieces.breaks g.P.Pieces.keeps _ _ _ _ _ _ _ _ _ _ _ _ _ c.self.view_is c.self.invariant.len within c.index_mut.ensures.value
-    unread refl refl c.put.ensures c.in_ok-piece.ensures.given c.next.ensures.untold c.next.ensures.limit c.next.ensures.breaks g.met.P.Pieces.keeps_untold g.met.P.Pieces.keeps_breaks c.next.ensures.keeps
+    all_stay_put g.P.Pieces.to_come g.P.Pieces.given g.P.Pieces.limit g.P.Pieces.breaks g.P.Pieces.keeps _ _ _ _ _ _ _ _ _ _ _ _ _ c.self.view_is c.self.invariant.len within
+    c.index_mut.ensures.value
+    unread refl refl c.put.ensures c.in_ok-piece.ensures.given c.next.ensures.untold c.next.ensures.limit c.next.ensures.breaks g.met.P.Pieces.keeps_untold g.met.P.Pieces.keeps_breaks
+    c.next.ensures.keeps
 
 pub returns-clause-told : goal.returns-clause-told
 returns-clause-told g c =
