@@ -3,8 +3,8 @@
 use lert_bay::{FRAMES, JOURNAL, LOG};
 use lert_top::{MemPlace, Status};
 use lert_trials::{
-    Ended, Files, Row, SMALL, long_form, recover_files, recover_form, run_at, run_before_failing,
-    run_row, trace, trace_with,
+    Ended, Files, Row, SMALL, long_form, recover_files, recover_form, run_at, run_row, trace,
+    trace_with,
 };
 use std::process::Abort;
 use std::test::Fail;
@@ -48,18 +48,6 @@ fn check(
     assert!(rt; ended.wrote(text), "the text");
     let Ended { files, .. } = ended;
     Ok(files)
-}
-
-// Recovers files with these numbers, wants this refusal, and the files as they were.
-fn check_refused(
-    rt: &(impl Abort + AllocGlobal),
-    numbers: [&str; 8],
-    files: &Files,
-    status: Status,
-) -> Result<(), Fail> {
-    let left = check(rt, numbers, files, status, "")?;
-    assert!(rt; left.are(files), "the files");
-    Ok(())
 }
 
 // What a run over the keys 7, 7, 7 left.
@@ -109,67 +97,6 @@ fn a_run_that_was_full_is_recovered_open(rt: HostRuntime) -> Result<(), Fail> {
     Ok(())
 }
 
-// Runs over these bytes, of which this read fails, or none where it is 0, and recovers what was left.
-fn check_stopped(
-    rt: &(impl Abort + AllocGlobal),
-    bytes: &[u8],
-    failing_read: u64,
-    status: Status,
-    text: &str,
-) -> Result<(), Fail> {
-    let row = Row {
-        words: &long_form(SMALL),
-        cones: 1,
-        trace: bytes,
-        failing_read,
-        failing_write: 0,
-    };
-    let ended = run_row(rt.alloc(), &row)?;
-    assert!(rt; ended.ended_with(status), "the status");
-    check(rt, SMALL, &ended.files, Status::Done, text)?;
-    Ok(())
-}
-
-#[test]
-fn a_run_that_its_trace_stopped_is_recovered_open_without_a_rest(
-    rt: HostRuntime,
-) -> Result<(), Fail> {
-    // Of ten whole keys eight are a packet, and two wait for theirs.
-    let whole = trace_with(rt.alloc(), 10, &[])?;
-    let mut cut = trace_with(rt.alloc(), 11, &[])?;
-    cut.truncate(93);
-    let bad = Status::BadTrace { trace: 0, at: 88 };
-    let text = "cone 0 events 8 reports 0 open\ntotal events 8 reports 0\n";
-    check_stopped(&rt, cut.as_slice(), 0, bad, text)?;
-    let failed = Status::TraceFault { trace: 0 };
-    check_stopped(&rt, whole.as_slice(), 2, failed, text)
-}
-
-#[test]
-fn the_first_cone_that_is_refused_is_named_though_a_later_one_fails(
-    rt: HostRuntime,
-) -> Result<(), Fail> {
-    let halves = ["3", "3", "2", "4", "2", "1", "32", "8"];
-    let bytes = trace(rt.alloc(), &[7])?;
-    let mut files = Files::new(rt.alloc());
-    files.journal.push(0)?;
-    let malformed = Status::Malformed {
-        cone: 0,
-        file: JOURNAL,
-        at: 0,
-    };
-    let rows: [(&[&str], Status); 2] = [
-        (&long_form(halves), Status::NotFresh { cone: 0 }),
-        (&recover_form(halves), malformed),
-    ];
-    for (words, status) in rows {
-        let ended = run_before_failing(rt.alloc(), words, bytes.as_slice(), &files, 1)?;
-        assert!(rt; ended.ended_with(status), "the status");
-        assert!(rt; ended.files.are(&files), "the files");
-    }
-    Ok(())
-}
-
 #[test]
 fn reports_of_a_flush_and_of_keys_behind_it_are_recovered(rt: HostRuntime) -> Result<(), Fail> {
     // Key 7 is due at the flush at 16, key 8 at its third place behind that, and the cone is full.
@@ -187,7 +114,9 @@ fn reports_of_a_flush_and_of_keys_behind_it_are_recovered(rt: HostRuntime) -> Re
     let text = "cone 0 events 64 reports 2 open\n7 16\n8 63\ntotal events 64 reports 2\n";
     let again = check(&rt, SMALL, &left, Status::Done, text)?;
     // A recovery leaves the files as it found them, and may be repeated.
-    assert!(rt; again.are(&left), "the files");
+    assert_eq!(rt; again.journal.as_slice(), left.journal.as_slice());
+    assert_eq!(rt; again.log.as_slice(), left.log.as_slice());
+    assert_eq!(rt; again.frames.as_slice(), left.frames.as_slice());
     Ok(())
 }
 
@@ -211,7 +140,8 @@ fn the_last_records_name_the_frames_of_the_bins(rt: HostRuntime) -> Result<(), F
 fn files_of_other_settings_are_refused(rt: HostRuntime) -> Result<(), Fail> {
     let numbers = ["4", "3", "2", "4", "2", "0", "32", "8"];
     let files = sevens(&rt, 0)?;
-    check_refused(&rt, numbers, &files, Status::OtherSettings { cone: 0 })
+    check(&rt, numbers, &files, Status::OtherSettings { cone: 0 }, "")?;
+    Ok(())
 }
 
 #[test]
@@ -236,7 +166,7 @@ fn a_changed_byte_is_named_by_its_file_and_place(rt: HostRuntime) -> Result<(), 
             file,
             at: place,
         };
-        check_refused(&rt, SMALL, &files, status)?;
+        check(&rt, SMALL, &files, status, "")?;
     }
     Ok(())
 }
@@ -254,7 +184,8 @@ fn a_broken_frame_is_named_by_its_place(rt: HostRuntime) -> Result<(), Fail> {
         file: FRAMES,
         at: 132,
     };
-    check_refused(&rt, SMALL, &left, status)
+    check(&rt, SMALL, &left, status, "")?;
+    Ok(())
 }
 
 #[test]
@@ -265,7 +196,8 @@ fn empty_files_are_no_journal(rt: HostRuntime) -> Result<(), Fail> {
         file: JOURNAL,
         at: 0,
     };
-    check_refused(&rt, SMALL, &files, status)
+    check(&rt, SMALL, &files, status, "")?;
+    Ok(())
 }
 
 #[test]
