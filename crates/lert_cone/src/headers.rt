@@ -17,10 +17,7 @@ use lert_bay::{Bay, FRAMES, JOURNAL, LOG};
 use lert_gatelog::GateLog;
 use lert_io::Failed;
 use lert_journal::{HEADER_LEN, write_header};
-use lert_reports::greatest_record;
-
-// The letters LERTL, and version 1.
-const LOG_HEADER: [u8; 8] = [0x4c, 0x45, 0x52, 0x54, 0x4c, 0x01, 0x00, 0x00];
+use lert_reports::{LOG_HEADER, greatest_record};
 
 /// The greatest length of a packet's payload in a journal: eight bytes, and eight for each of its keys, which are at most
 /// four times as many as a packet of the settings has.
