@@ -25,35 +25,12 @@ use Rattle.lert_ingest.specs.Cones.{AreNew}
 use Rattle.lert_ingest.specs.Lanes.{AreDrained, AreLanes, IsLane, open_cones, state_of}
 use Rattle.lert_ingest.specs.Run.{AllFit}
 use Rattle.lert_ingest.proofs.BayLaws.{bay_is, slice_get-some, slice_get-set_other, slice_get-set_same}
+use Rattle.lert_ingest.proofs.PartLaws.{All-behind, eqb_true, part-push_same, part-push_other}
 use Rattle.lert_ingest.proofs.WeaveLaws.{cut_more, part_woven, woven}
-
--- what holds of each of two lists together holds of each of the second
-All-behind : {X : Type 0} (P : X → Type 0) (xs ys : List X) → All P (xs ++ ys) → All P ys
-All-behind P xs ys all = λ k d below.
-    subst P (get_or-append-add xs ys k d) (all (length xs + k) d (omega (arith, length-append xs ys)))
-
-eqb_true : (a b : ℕ) → eqb a b ≡ true → a ≡ b
-eqb_true a b equal =
-    elim (cases_eq a b) [
-      | inl same ↦ same
-      | inr other ↦ absurd (let differs = ne_eqb a b other in cc)
-    ]
 
 pub unbroken : (finished : Bool) → is_broken (state_of finished) ≡ false
 unbroken true = refl
 unbroken false = refl
-
--- a key more for its cone, and for another one
-part-push_same : (s : Numbers) (cone key : ℕ) (keys : List ℕ) → cone_of s key ≡ cone → part_of s cone (keys ++ key ∷ []) ≡ part_of s cone keys ++ key ∷ []
-part-push_same s cone key keys same =
-    filter-append (λ k. eqb (cone_of s k) cone) keys (key ∷ [])
-    ∙ ap (λ (b : Bool). part_of s cone keys ++ cond b (key ∷ []) []) (eq-eqb (cone_of s key) cone same)
-
-part-push_other : (s : Numbers) (cone key : ℕ) (keys : List ℕ) → cone_of s key ≢ cone → part_of s cone (keys ++ key ∷ []) ≡ part_of s cone keys
-part-push_other s cone key keys other =
-    filter-append (λ k. eqb (cone_of s k) cone) keys (key ∷ [])
-    ∙ (ap (λ (b : Bool). part_of s cone keys ++ cond b (key ∷ []) []) (ne_eqb (cone_of s key) cone other)
-    ∙ append-nil (part_of s cone keys))
 
 -- the packet of a ring
 abbrev pub packet_with : List ℕ → Packet
@@ -376,30 +353,3 @@ module _ {B : Type 0} (files : B → Option Files) (leaves : B → Files → Typ
                     | inr differs ↦ other_lane to cone (finished cone) new (get_or (set rings.rings at []) cone []) grows differs named refl (get_or-set_other rings.rings at cone [] [] differs)
                   ];
             }
-
--- cones that were just made, with rings that are empty
-pub lanes_new : {B : Type 0} (files : B → Option Files) (leaves : B → Files → Type 0) (faults : B → ℕ) (s : Numbers) (cones : List (Standing B)) (rings : Rings) → IsValid s →
-    length cones ≡ 2 ^ s.cone_bits → AreNew files leaves faults s cones → rings ≡ record { packet = s.packet; rings = replicate (2 ^ s.cone_bits) [] } →
-    AreLanes files leaves faults s 0 open_cones cones rings []
-lanes_new {B = B} files leaves faults s cones rings valid number made is = record {
-  valid = valid;
-  cones_number = number;
-  rings_number = ap (λ (r : Rings). length r.rings) is ∙ length-replicate (2 ^ s.cone_bits) [];
-  packet = ap (λ (r : Rings). r.packet) is;
-  each = λ cone named.
-      let there = slice_get-some cones cone (omega (arith, named, number)) in
-      let new = made cone there.0 there.1 in
-      record {
-        standing = there.0;
-        history = [];
-        cone_is = there.1;
-        stands = new.stands;
-        sound = new.sound;
-        listing_is = new.listing_is;
-        state_is = new.state_is;
-        each = All-nil (IsBrought s 1 1);
-        cut = λ place packet within found. absurd (omega (arith, within));
-        full = λ still. All-nil (λ (p : Packet). length p.keys ≡ s.packet);
-        joined = ap (λ (r : Rings). ring_of r cone) is ∙ get_or-replicate (2 ^ s.cone_bits) cone [] [] named;
-      };
-}

@@ -7,6 +7,8 @@ pub mod Ending
 pub mod FreshLaws
 pub mod KeysRead
 pub mod LaneLaws
+pub mod NewLanes
+pub mod PartLaws
 pub mod PrintLaws
 pub mod RefusedLaws
 pub mod RingLaws

@@ -1,6 +1,6 @@
 use Rattle.std.proofs.Common.{List, ℕ, sym, subst}
 use Rattle.lert_ingest.specs.Lanes.{AreLanes, open_cones}
-use Rattle.lert_ingest.proofs.LaneLaws.{lanes_new}
+use Rattle.lert_ingest.proofs.NewLanes.{lanes_new}
 use Rattle.lert_ingest.proofs.RingLaws.{short_new}
 use Rattle.lert_ingest.proofs.router.Router.new.Goals as goal
 
