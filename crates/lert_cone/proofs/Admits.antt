@@ -1,12 +1,10 @@
 -- What a cone answers to a packet: it refuses it before the first step, or breaks off in the middle, or takes it.
-use Rattle.std.proofs.Common.{◌≡◌, ◌≢◌, ℕ, ◌+◌, ◌<◌, ◌≤◌, true, false, List, [], ◌∷◌, ◌++◌, length, Some, None, Result, Err, OnOk, OnErr, refl, sym, ap, ◌∙◌, subst, inl, arith}
+use Rattle.std.proofs.Common.{◌≡◌, ◌≢◌, ℕ, ◌+◌, ◌<◌, true, false, List, [], ◌∷◌, ◌++◌, length, Some, None, Result, Err, OnOk, OnErr, refl, sym, ap, ◌∙◌, subst, inl}
 use Rattle.std.specs.Prelude.{◌↔◌, IfOk, IfErr, IsErrOf}
 use Rattle.std.specs.Result.{IsErrAnd}
 use Rattle.std.proofs.lemmas.Bool.{false≢true}
 use Rattle.lert_base.specs.Packet.{Packet, events_of}
 use Rattle.lert_bay.specs.Files.{Files, IfTold, Turns}
-use Rattle.lert_bay.specs.Images.{Lasts}
-use Rattle.lert_bay.proofs.Lasting.{lasts_none}
 use Rattle.lert_gatelog.specs.Gated.{next_gate}
 use Rattle.lert_io.specs.Fault.{HasRisen}
 use Rattle.lert_journal.specs.Payload.{payload_of}
@@ -16,12 +14,12 @@ use Rattle.lert_cone.specs.declared.acked.Acked.{Acked}
 use Rattle.lert_cone.specs.declared.refusal.ConeFault.{ConeFault}
 use Rattle.lert_cone.specs.declared.refusal.ConeFault.TheVariants.{Closed, Broken, CapacityFull, BayFailed, Unsound, OutOfMemory}
 use Rattle.lert_cone.specs.declared.state.ConeState.TheVariants.{Running, Finished, BrokenByBay, BrokenByRead, BrokenByMemory}
-use Rattle.lert_bay.specs.Kept.{Bays}
+use Rattle.lert_bay.specs.Kept.{Bays, KeepsBay}
 use Rattle.lert_cone.specs.Sound.{IsSoundOver}
 use Rattle.lert_cone.specs.Stands.{Standing, StandsFor, WasSound, Answers, IsSameCone, is_broken, is_refusal}
 use Rattle.lert_cone.specs.Tally.{Shows}
 use Rattle.lert_cone.specs.Wrote.{Anything}
-use Rattle.lert_bay.proofs.KeptLaws.{IsLawful}
+use Rattle.lert_bay.proofs.KeptLaws.{IsLawful, keeps_none}
 use Rattle.lert_cone.proofs.FaultLaws.{untold}
 use Rattle.lert_cone.proofs.TakeLaws.{handed_on}
 
@@ -65,9 +63,7 @@ pub record Admits {B : Type 0} (bays : Bays B) (packet : Packet) (old new : Stan
   pub each_moment : is_broken old.state ≡ false → WasSound bays.files old → IfTold (bays.files old.bay) (λ _. (h : List Packet) → StandsFor bays.files bays.leaves bays.faults old h →
       (image : Files) → bays.left_since new.bay (bays.moment old.bay) image → IsSoundOver old.listing.settings old.listing.cone h (Some packet) image)
   pub seen : Turns Anything (bays.files old.bay) (bays.files new.bay)
-  pub time : Lasts (bays.moment old.bay) (bays.moment new.bay) (bays.left_since old.bay) (bays.left_since new.bay)
-  pub never_falls : bays.faults old.bay ≤ bays.faults new.bay
-  pub mark : bays.mark new.bay ≡ bays.mark old.bay
+  pub kept : KeepsBay bays old.bay new.bay (IsErrOf result BayFailed)
 
 module _ {B : Type 0} (bays : Bays B) (lawful : IsLawful bays) (packet : Packet) where
   refused_by : {T : Type 0} (old : Standing B) (fault : ConeFault) → is_refusal fault ≡ true → ((◌≡◌ {A = Result T ConeFault} (Err fault) (Err Closed)) ↔ (old.state ≡ Finished)) →
@@ -99,9 +95,7 @@ module _ {B : Type 0} (bays : Bays B) (lawful : IsLawful bays) (packet : Packet)
     each_moment = λ still sound seen told h stands image may.
         inl ((stands.whole still sound seen told).files.kept.images image (lawful.only_now old.bay image may)).sound;
     seen = record { told = λ seen told. (seen, told, tt); untold = λ none. none };
-    time = lasts_none (bays.moment old.bay) (bays.left_since old.bay);
-    never_falls = omega arith;
-    mark = refl;
+    kept = keeps_none bays lawful old.bay _ (λ same. (let inner : fault ≡ BayFailed = cc in false≢true (sym (ap is_refusal inner) ∙ refusal)));
   }
 
   -- before the first step

@@ -20,7 +20,7 @@ use Rattle.lert_cone.specs.Stands.{Standing, StandsFor, WasSound, IsSameCone, is
 use Rattle.lert_cone.specs.Takes.{TakesPacket}
 use Rattle.lert_cone.specs.Tally.{Tallied}
 use Rattle.lert_cone.specs.Wrote.{Anything}
-use Rattle.lert_bay.proofs.KeptLaws.{IsLawful}
+use Rattle.lert_bay.proofs.KeptLaws.{IsLawful, keeps_as}
 use Rattle.lert_cone.proofs.SoundLaws.{turns_back, counted_more, end_more}
 use Rattle.lert_cone.proofs.AppendLaws.{whole_of, some_more, keys_more}
 use Rattle.lert_cone.proofs.StandLaws.{stands_whole, reports_running}
@@ -289,7 +289,5 @@ module _ {B : Type 0} (bays : Bays B) (lawful : IsLawful bays) (packet : Packet)
         out_of_memory = λ given. absurd (let never : ⊥ = cc in never);
         each_moment = λ unbroken sound seen told h stands image may. did.each_moment seen told h (stands.whole unbroken sound seen told) image may;
         seen = did.seen;
-        time = did.kept.time;
-        never_falls = did.kept.never_falls;
-        mark = did.kept.mark;
+        kept = keeps_as bays lawful bay bay_after _ _ (λ given. absurd (let never : ⊥ = cc in never)) did.kept;
       }

@@ -18,7 +18,7 @@ use Rattle.lert_cone.specs.Stands.{IsSameCone, is_broken, is_finished, is_refusa
 use Rattle.lert_cone.specs.Takes.{TakesPacket}
 use Rattle.lert_cone.specs.Tally.{Tallied}
 use Rattle.lert_cone.specs.Wrote.{Anything}
-use Rattle.lert_bay.proofs.KeptLaws.{IsLawful}
+use Rattle.lert_bay.proofs.KeptLaws.{IsLawful, keeps_as}
 use Rattle.lert_cone.proofs.SoundLaws.{turns_back}
 use Rattle.lert_cone.proofs.StandLaws.{stands_broken}
 use Rattle.lert_cone.proofs.FaultLaws.{kept_since, turned_none, untold, is_broken_by, not_replaying_by, by_bay_of, by_read_of, failed_of, unsound_of, memory_of, no_refusal}
@@ -171,7 +171,5 @@ module _ {B : Type 0} (bays : Bays B) (lawful : IsLawful bays) (packet : Packet)
           out_of_memory = λ given. (let inner : cone_fault fault ≡ OutOfMemory = cc in state_is ∙ ap broken_by (memory_of fault inner));
           each_moment = λ still sound seen told h stands image may. did.each_moment seen told h (stands.whole still sound seen told) image may;
           seen = did.seen;
-          time = did.kept.time;
-          never_falls = did.kept.never_falls;
-          mark = did.kept.mark;
+          kept = keeps_as bays lawful bay bay_after _ _ (λ given. (let inner : cone_fault fault ≡ BayFailed = cc in ap Err (failed_of fault inner))) did.kept;
         }

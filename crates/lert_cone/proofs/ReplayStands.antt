@@ -99,6 +99,15 @@ unsound_keys TakeFailed file at same = absurd (let never : ⊥ = cc in never)
 unsound_keys (TakeUnsound other place) file at same = (let is : TakeUnsound other place ≡ TakeUnsound file at = cc in is)
 unsound_keys TakeOutOfMemory file at same = absurd (let never : ⊥ = cc in never)
 
+pub failed_keys : (fault : TakeFault) → of_take_fault fault ≡ Failed → fault ≡ TakeFailed
+failed_keys TakeFailed same = refl
+failed_keys (TakeUnsound file at) same = absurd (let never : ⊥ = cc in never)
+failed_keys TakeOutOfMemory same = absurd (let never : ⊥ = cc in never)
+
+pub failed_record : (fault : LogFault) → of_log_fault fault ≡ Failed → fault ≡ LogFailed
+failed_record LogFailed same = refl
+failed_record (LogMalformed at) same = absurd (let never : ⊥ = cc in never)
+
 pub never_unsound : (fault : LogFault) (file at : ℕ) → of_log_fault fault ≡ Unsound file at → ⊥
 never_unsound LogFailed file at same = (let never : ⊥ = cc in never)
 never_unsound (LogMalformed place) file at same = (let never : ⊥ = cc in never)

@@ -1,10 +1,11 @@
 //! A cone over its files.
 
-ghost use Rattle.std.specs.Prelude.{◌≡◌, ◌≢◌, ℕ, ◌+◌, ◌<◌, ◌≤◌, ◌^◌, ◌↔◌, ◌++◌, [], ◌∷◌, true, false, All, List, length, replicate, Some, None, Err, IfOk, IfErr, OnOk, OnErr, IsErrOf};
+ghost use Rattle.std.specs.Prelude.{◌≡◌, ◌≢◌, ℕ, ◌+◌, ◌<◌, ◌≤◌, ◌^◌, ◌↔◌, ◌++◌, [], ◌∷◌, true, false, All, List, length, replicate, Some, None, Err, IfOk, IfErr, MatchResult, OnOk, OnErr, IsErrOf};
 ghost use Rattle.lert_base.specs.Entries.{packet_of};
 ghost use Rattle.lert_base.specs.Packet.{Packet, events_of};
 ghost use Rattle.lert_bay.specs.Files.{Files, IfTold, Turns};
-ghost use Rattle.lert_bay.specs.Images.{Lasts, KeepsImages};
+ghost use Rattle.lert_bay.specs.Images.{KeepsImages};
+ghost use Rattle.lert_bay.specs.Kept.{KeepsBay};
 ghost use Rattle.lert_bay.specs.declared.bay.TheConstants.{JOURNAL, FRAMES};
 ghost use Rattle.lert_gatelog.specs.Gated.{next_gate};
 ghost use Rattle.lert_reports.specs.Log.{most_record};
@@ -123,8 +124,7 @@ impl<B: Bay, T: CountTable> Cone<B, T> {
         ensures was_sound { IfOk result (λ c. WasSound B.files c) }
         ensures stands_for { IfOk result (λ c. StandsFor B.files B.leaves B.faults c []) }
         ensures frames { IfOk result (λ c. Turns FramesStay (B.files bay) (B.files c.bay)) }
-        ensures never_falls { IfOk result (λ c. B.faults bay ≤ B.faults c.bay) }
-        ensures mark { IfOk result (λ c. B.mark c.bay ≡ B.mark bay) }
+        ensures kept { MatchResult result (λ c. KeepsBay B.Bay bay c.bay ⊥) (λ refused. KeepsBay B.Bay bay refused.bay (refused.fault ≡ CreateFault.Failed)) }
 
         // Where the bay tells its files, Ok comes only where all are empty, and NotFresh only where one isn't.
         ensures fresh { IfTold (B.files bay) (λ seen. OnOk result (AreEmpty seen)) }
@@ -133,10 +133,7 @@ impl<B: Bay, T: CountTable> Cone<B, T> {
         // Nothing is written but into empty files.
         ensures unwritten { IfTold (B.files bay) (λ seen. IfErr result (λ refused. (AreEmpty seen → ⊥) →
             (B.files refused.bay ≡ B.files bay) × KeepsImages (B.leaves bay) (B.leaves refused.bay))) }
-        ensures handed_back { IfErr result (λ refused. (refused.room ≡ room)
-            × Turns FramesStay (B.files bay) (B.files refused.bay)
-            × (B.faults bay ≤ B.faults refused.bay) × (B.mark refused.bay ≡ B.mark bay)) }
-        ensures failed { IfErr result (λ refused. refused.fault ≡ CreateFault.Failed → HasRisen (B.faults bay) (B.faults refused.bay)) }
+        ensures handed_back { IfErr result (λ refused. (refused.room ≡ room) × Turns FramesStay (B.files bay) (B.files refused.bay)) }
     {
         match begin(&mut bay, &room.settings, cone) {
             Ok((journal, log)) => {
@@ -227,9 +224,7 @@ impl<B: Bay, T: CountTable> Cone<B, T> {
             B.left_since self.new.bay (B.moment self.old.bay) image →
             IsSoundOver self.old.listing.settings self.old.listing.cone h (Some (packet_of entry.now)) image) }
         ensures seen { Turns Anything (B.files self.old.bay) (B.files self.new.bay) }
-        ensures time { Lasts (B.moment self.old.bay) (B.moment self.new.bay) (B.left_since self.old.bay) (B.left_since self.new.bay) }
-        ensures never_falls { B.faults self.old.bay ≤ B.faults self.new.bay }
-        ensures mark { B.mark self.new.bay ≡ B.mark self.old.bay }
+        ensures kept { KeepsBay B.Bay self.old.bay self.new.bay (IsErrOf result ConeFault.BayFailed) }
     {
         let len = entry.keys.len() as u64;
         // The tests first: a packet that is refused leaves cone and files as they were.
@@ -337,9 +332,7 @@ fn begin<B: Bay>(
     ensures unwritten { IfTold (B.files bay.old) (λ seen. OnErr result ((AreEmpty seen → ⊥) →
         (B.files bay.new ≡ B.files bay.old) × KeepsImages (B.leaves bay.old) (B.leaves bay.new))) }
     ensures frames { Turns FramesStay (B.files bay.old) (B.files bay.new) }
-    ensures never_falls { B.faults bay.old ≤ B.faults bay.new }
-    ensures failed { IsErrOf result CreateFault.Failed → HasRisen (B.faults bay.old) (B.faults bay.new) }
-    ensures mark { B.mark bay.new ≡ B.mark bay.old }
+    ensures kept { KeepsBay B.Bay bay.old bay.new (IsErrOf result CreateFault.Failed) }
 {
     // Nothing is written before all three files are found empty.
     if !is_fresh(bay)? {

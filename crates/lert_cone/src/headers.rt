@@ -2,10 +2,8 @@
 
 ghost use Rattle.std.specs.Prelude.{◌≡◌, ◌↔◌, ◌<◌, ◌≤◌, ◌^◌, [], IsTrue, IfOk, OnOk, OnErr, IsErr};
 ghost use Rattle.lert_bay.specs.Files.{Files, IfTold, Turns};
-ghost use Rattle.lert_bay.specs.Images.{KeepsImages, Lasts};
-ghost use Rattle.lert_bay.specs.Kept.{KeepsBay};
+ghost use Rattle.lert_bay.specs.Kept.{KeepsBay, OnlyReads};
 ghost use Rattle.lert_bay.specs.declared.bay.TheConstants.{JOURNAL};
-ghost use Rattle.lert_io.specs.Fault.{HasCause};
 ghost use Rattle.lert_cone.specs.History.{most_payload};
 ghost use Rattle.lert_reports.specs.Log.{most_record};
 ghost use Rattle.lert_cone.specs.Sound.{AreEmpty, FramesStay};
@@ -17,10 +15,7 @@ use lert_bay::{Bay, FRAMES, JOURNAL, LOG};
 use lert_gatelog::GateLog;
 use lert_io::Failed;
 use lert_journal::{HEADER_LEN, write_header};
-use lert_reports::greatest_record;
-
-// The letters LERTL, and version 1.
-const LOG_HEADER: [u8; 8] = [0x4c, 0x45, 0x52, 0x54, 0x4c, 0x01, 0x00, 0x00];
+use lert_reports::{LOG_HEADER, greatest_record};
 
 /// The greatest length of a packet's payload in a journal: eight bytes, and eight for each of its keys, which are at most
 /// four times as many as a packet of the settings has.
@@ -34,11 +29,7 @@ pub fn greatest_payload(settings: &Settings) -> u32
 /// Whether all three files are empty. It changes none.
 pub fn is_fresh<B: Bay>(bay: &mut B) -> Result<bool, Failed>
     ensures fresh { IfTold (B.files bay.old) (λ seen. IfOk result (λ fresh. IsTrue fresh ↔ AreEmpty seen)) }
-    ensures seen { B.files bay.new ≡ B.files bay.old }
-    ensures images { KeepsImages (B.leaves bay.old) (B.leaves bay.new) }
-    ensures time { Lasts (B.moment bay.old) (B.moment bay.new) (B.left_since bay.old) (B.left_since bay.new) }
-    ensures cause { HasCause (B.faults bay.old) (B.faults bay.new) result }
-    ensures mark { B.mark bay.new ≡ B.mark bay.old }
+    ensures only_reads { OnlyReads B.Bay bay.old bay.new (IsErr result) }
 {
     if bay.len(JOURNAL)? != 0 {
         return Ok(false);

@@ -23,7 +23,7 @@ mod tally;
 
 pub use acked::Acked;
 pub use cone::{Cone, ConeTerms};
-pub use headers::is_fresh;
+pub use headers::{greatest_payload, is_fresh};
 pub use lert_reports::LogPoint;
 pub use refusal::{ConeFault, CreateFault, CreateRefused, ReplayFault};
 pub use room::ConeRoom;

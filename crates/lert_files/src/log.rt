@@ -12,12 +12,12 @@ ghost use Rattle.lert_reports.specs.LogText.{LogRecord};
 
 use crate::directory::Directory;
 use crate::fault::ReopenFault;
-use crate::log_header::{LOG_HEADER_LEN, read_log_header};
+use crate::log_header::read_log_header;
 use crate::log_record::{Progress, read_log_record};
 use lert_base::{CountTable, Settings};
 use lert_bay::{Bay, LOG};
 use lert_gatelog::GateLog;
-use lert_reports::{LogPoint, ReportStore, greatest_record};
+use lert_reports::{LOG_HEADER_LEN, LogPoint, ReportStore, greatest_record};
 
 /// Reads the log of a cone from its header to its closed gate. The reports of all records come into the store, which is empty
 /// before, and the directory of the last record takes the place of what is in `directory`. After a fault any of these may be in

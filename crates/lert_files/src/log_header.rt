@@ -10,13 +10,8 @@ ghost use Rattle.lert_spec.specs.Trace.{agreed};
 
 use crate::fault::ReopenFault;
 use lert_bay::{Bay, LOG};
+use lert_reports::{LOG_HEADER, LOG_HEADER_LEN};
 use lert_spec::agreed;
-
-/// How many bytes begin a log. The first gate stands behind them.
-pub const LOG_HEADER_LEN: usize = 8;
-
-// The letters LERTL, and version 1.
-const LOG_HEADER: [u8; LOG_HEADER_LEN] = [0x4c, 0x45, 0x52, 0x54, 0x4c, 0x01, 0x00, 0x00];
 
 /// Reads the header of the log.
 pub fn read_log_header<B: Bay>(bay: &mut B) -> Result<(), ReopenFault>

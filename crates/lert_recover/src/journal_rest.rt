@@ -16,7 +16,7 @@ ghost use Rattle.lert_spec.specs.Edges.{capacity};
 use crate::replay::Stop;
 use lert_base::Settings;
 use lert_bay::{Bay, JOURNAL};
-use lert_cone::{LogPoint, ReplayFault};
+use lert_cone::{LogPoint, ReplayFault, greatest_payload};
 use lert_files::ReopenFault;
 use lert_gatelog::{GateLog, LogFault};
 use lert_io::Failed;
@@ -55,8 +55,9 @@ pub fn find_left<B: Bay>(
     ensures only_reads { OnlyReads B.Bay bay.old bay.new (IsErr result) }
 {
     let mut buffer = [0; PAYLOAD_ROOM];
-    let most = 8 + 32 * settings.numbers().packet as u32;
-    let mut log = GateLog::at_gate(JOURNAL, gate, most);
+    // Its clause says that the numbers are valid.
+    let _ = settings.numbers();
+    let mut log = GateLog::at_gate(JOURNAL, gate, greatest_payload(settings));
     let mut count = events;
     'records: loop {
         match find_here(&mut log, bay, settings, cone, last, count, &mut buffer)? {

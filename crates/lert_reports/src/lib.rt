@@ -12,6 +12,8 @@ mod log_point;
 mod store;
 
 pub use directory::bins;
-pub use log::{LogBefore, LogKind, LogParts, greatest_record, read_log, write_log};
+pub use log::{
+    LOG_HEADER, LOG_HEADER_LEN, LogBefore, LogKind, LogParts, greatest_record, read_log, write_log,
+};
 pub use log_point::{FIRST, LogPoint, OFFSET};
 pub use store::ReportStore;

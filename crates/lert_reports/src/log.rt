@@ -11,6 +11,13 @@ use lert_bay::fields::{put, put_u32, put_u64};
 pub use read::read_log;
 
 mod read;
+
+/// How many bytes begin a log. The first gate stands behind them.
+pub const LOG_HEADER_LEN: usize = 8;
+
+/// The bytes that begin a log: the letters LERTL, and version 1.
+pub const LOG_HEADER: [u8; LOG_HEADER_LEN] = [0x4c, 0x45, 0x52, 0x54, 0x4c, 0x01, 0x00, 0x00];
+
 /// What a record of a log is.
 #[derive(Clone, Copy, Debug, PartialEq, Eq)]
 pub enum LogKind {

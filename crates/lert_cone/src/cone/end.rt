@@ -1,9 +1,9 @@
 //! The end of a cone, and its reports.
 
-ghost use Rattle.std.specs.Prelude.{◌≡◌, ◌↔◌, ◌≤◌, ℕ, List, length, true, false, None, Err, IfOk, IfErr, OnOk, OnErr, IsErrOf};
+ghost use Rattle.std.specs.Prelude.{◌≡◌, ◌↔◌, ℕ, List, length, true, false, None, Err, IfOk, IfErr, OnOk, OnErr, IsErrOf};
 ghost use Rattle.lert_base.specs.Packet.{Packet, events_of};
 ghost use Rattle.lert_bay.specs.Files.{Files, IfTold, Turns};
-ghost use Rattle.lert_bay.specs.Images.{Lasts};
+ghost use Rattle.lert_bay.specs.Kept.{KeepsBay};
 ghost use Rattle.lert_bay.specs.declared.bay.TheConstants.{FRAMES};
 ghost use Rattle.lert_io.specs.Fault.{HasRisen};
 ghost use Rattle.lert_spec.specs.Look.{look, closing};
@@ -76,9 +76,7 @@ impl<B: Bay, T: CountTable> Cone<B, T> {
         ensures sound_closed { OnOk result (WasSound B.files self.old → IfTold (B.files self.new.bay) (λ seen. (h : List Packet) → StandsFor B.files B.leaves B.faults self.old h →
             IsKept (B.leaves self.new.bay) seen (IsSoundClosed self.old.listing.settings self.old.listing.cone h))) }
         ensures seen { Turns Anything (B.files self.old.bay) (B.files self.new.bay) }
-        ensures time { Lasts (B.moment self.old.bay) (B.moment self.new.bay) (B.left_since self.old.bay) (B.left_since self.new.bay) }
-        ensures never_falls { B.faults self.old.bay ≤ B.faults self.new.bay }
-        ensures mark { B.mark self.new.bay ≡ B.mark self.old.bay }
+        ensures kept { KeepsBay B.Bay self.old.bay self.new.bay (IsErrOf result ConeFault.BayFailed) }
     {
         self.test_state()?;
         if let Err(fault) = finish(

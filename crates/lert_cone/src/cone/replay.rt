@@ -3,10 +3,10 @@
 ghost use Rattle.std.specs.Prelude.{◌≡◌, ◌≢◌, ◌⊎◌, ℕ, ◌+◌, ◌<◌, ◌≤◌, ◌^◌, if◌then◌else◌, max, List, [], ◌∷◌, ◌++◌, length, All, None, Err, IfErr, IfNone, IfOk, IfSome, IsErrOf, OnErr, OnOk};
 ghost use Rattle.lert_base.specs.Packet.{Packet, events_of};
 ghost use Rattle.lert_bay.specs.Files.{Files, IfTold};
+ghost use Rattle.lert_bay.specs.Kept.{KeepsBay};
 ghost use Rattle.lert_bay.specs.Settled.{IsSettled};
 ghost use Rattle.lert_bay.specs.declared.bay.TheConstants.{JOURNAL, LOG, FRAMES};
 ghost use Rattle.lert_gatelog.specs.Kept.{IsWhollySettled};
-ghost use Rattle.lert_io.specs.Fault.{HasRisen};
 ghost use Rattle.lert_levels.specs.Flushed.{InNamed};
 ghost use Rattle.lert_reports.specs.Log.{HasLog, most_record};
 ghost use Rattle.lert_reports.specs.LogText.{LogRecord};
@@ -136,11 +136,9 @@ impl<B: Bay, T: CountTable> Cone<B, T> {
         // Why it refuses where neither the format is left nor a list's journal goes on.
         ensures unsound { (file at : ℕ) → IsErrOf result (ReplayFault.Unsound file at) →
             IfTold (B.files self.new.bay) (λ seen. Shows self.new.listing.settings self.new.rows self.new.reports (seen FRAMES) file at) }
-        ensures failed { IsErrOf result ReplayFault.Failed → HasRisen (B.faults self.old.bay) (B.faults self.new.bay) }
         ensures same_cone { IsSameCone self.old self.new }
         ensures journal { LeavesAlone B.Bay JOURNAL self.old.bay self.new.bay }
-        ensures never_falls { B.faults self.old.bay ≤ B.faults self.new.bay }
-        ensures mark { B.mark self.new.bay ≡ B.mark self.old.bay }
+        ensures kept { KeepsBay B.Bay self.old.bay self.new.bay (IsErrOf result ReplayFault.Failed) }
     {
         let most = greatest_payload(self.tally.settings());
         self.journal = GateLog::at_gate(JOURNAL, gate, most);

@@ -17,9 +17,9 @@ returns-in-Ok-false-clause-later g c =
     let cone = c.loop-cone.cone in
     let old = c.index_mut.result.now in
     let new = c.is_fresh.new.bay in
-    let seen = c.is_fresh.ensures.seen in
-    let falls = c.is_fresh.ensures.cause.never_falls in
-    let mark = c.is_fresh.ensures.mark in
+    let seen = c.is_fresh.ensures.only_reads.seen in
+    let falls = c.is_fresh.ensures.only_reads.kept.never_falls in
+    let mark = c.is_fresh.ensures.only_reads.kept.mark in
     let inside : cone < length bays = omega (arith, c.loop-cone-test.true, c.loop-cone.auto.cone-end, c.len-cone-end.ensures, here.later.number) in
     let found = slice_get_read bays (length bays) cone old refl inside c.index_mut.ensures.value in
     looked_later g.B.Bay.files g.B.Faulty.faults g.B.Faulty.mark first bays cone old new here.later here.rest found seen falls mark
@@ -32,9 +32,9 @@ returns-in-Ok-false-clause-kept g c =
     let cone = c.loop-cone.cone in
     let old = c.index_mut.result.now in
     let new = c.is_fresh.new.bay in
-    let seen = c.is_fresh.ensures.seen in
-    let falls = c.is_fresh.ensures.cause.never_falls in
-    let mark = c.is_fresh.ensures.mark in
+    let seen = c.is_fresh.ensures.only_reads.seen in
+    let falls = c.is_fresh.ensures.only_reads.kept.never_falls in
+    let mark = c.is_fresh.ensures.only_reads.kept.mark in
     let inside : cone < length bays = omega (arith, c.loop-cone-test.true, c.loop-cone.auto.cone-end, c.len-cone-end.ensures, here.later.number) in
     let found = slice_get_read bays (length bays) cone old refl inside c.index_mut.ensures.value in
     looked_kept g.B.Bay.files g.B.Faulty.faults g.B.Faulty.mark first bays cone old new here.later here.rest found seen falls mark here.kept
@@ -47,9 +47,9 @@ returns-in-Ok-false-clause-unmade g c =
     let cone = c.loop-cone.cone in
     let old = c.index_mut.result.now in
     let new = c.is_fresh.new.bay in
-    let seen = c.is_fresh.ensures.seen in
-    let falls = c.is_fresh.ensures.cause.never_falls in
-    let mark = c.is_fresh.ensures.mark in
+    let seen = c.is_fresh.ensures.only_reads.seen in
+    let falls = c.is_fresh.ensures.only_reads.kept.never_falls in
+    let mark = c.is_fresh.ensures.only_reads.kept.mark in
     let inside : cone < length bays = omega (arith, c.loop-cone-test.true, c.loop-cone.auto.cone-end, c.len-cone-end.ensures, here.later.number) in
     let found = slice_get_read bays (length bays) cone old refl inside c.index_mut.ensures.value in
     stale_unmade g.B.Bay.files g.B.Faulty.faults g.B.Faulty.mark first bays cone old new here.later here.rest found seen falls mark here.kept here.fresh
@@ -66,9 +66,9 @@ returns-in-Err-clause-later g c =
     let cone = c.loop-cone.cone in
     let old = c.index_mut.result.now in
     let new = c.is_fresh.new.bay in
-    let seen = c.is_fresh.ensures.seen in
-    let falls = c.is_fresh.ensures.cause.never_falls in
-    let mark = c.is_fresh.ensures.mark in
+    let seen = c.is_fresh.ensures.only_reads.seen in
+    let falls = c.is_fresh.ensures.only_reads.kept.never_falls in
+    let mark = c.is_fresh.ensures.only_reads.kept.mark in
     let inside : cone < length bays = omega (arith, c.loop-cone-test.true, c.loop-cone.auto.cone-end, c.len-cone-end.ensures, here.later.number) in
     let found = slice_get_read bays (length bays) cone old refl inside c.index_mut.ensures.value in
     looked_later g.B.Bay.files g.B.Faulty.faults g.B.Faulty.mark first bays cone old new here.later here.rest found seen falls mark
@@ -81,9 +81,9 @@ returns-in-Err-clause-kept g c =
     let cone = c.loop-cone.cone in
     let old = c.index_mut.result.now in
     let new = c.is_fresh.new.bay in
-    let seen = c.is_fresh.ensures.seen in
-    let falls = c.is_fresh.ensures.cause.never_falls in
-    let mark = c.is_fresh.ensures.mark in
+    let seen = c.is_fresh.ensures.only_reads.seen in
+    let falls = c.is_fresh.ensures.only_reads.kept.never_falls in
+    let mark = c.is_fresh.ensures.only_reads.kept.mark in
     let inside : cone < length bays = omega (arith, c.loop-cone-test.true, c.loop-cone.auto.cone-end, c.len-cone-end.ensures, here.later.number) in
     let found = slice_get_read bays (length bays) cone old refl inside c.index_mut.ensures.value in
     looked_kept g.B.Bay.files g.B.Faulty.faults g.B.Faulty.mark first bays cone old new here.later here.rest found seen falls mark here.kept
@@ -96,13 +96,13 @@ returns-in-Err-clause-unmade g c =
     let cone = c.loop-cone.cone in
     let old = c.index_mut.result.now in
     let new = c.is_fresh.new.bay in
-    let seen = c.is_fresh.ensures.seen in
-    let falls = c.is_fresh.ensures.cause.never_falls in
-    let mark = c.is_fresh.ensures.mark in
+    let seen = c.is_fresh.ensures.only_reads.seen in
+    let falls = c.is_fresh.ensures.only_reads.kept.never_falls in
+    let mark = c.is_fresh.ensures.only_reads.kept.mark in
     let inside : cone < length bays = omega (arith, c.loop-cone-test.true, c.loop-cone.auto.cone-end, c.len-cone-end.ensures, here.later.number) in
     let found = slice_get_read bays (length bays) cone old refl inside c.index_mut.ensures.value in
     failed_unmade g.B.Bay.files g.B.Faulty.faults g.B.Faulty.mark first bays cone old new here.later here.rest found seen falls mark
-    here.kept here.fresh (c.is_fresh.ensures.cause.failed (search rules))
+    here.kept here.fresh (c.is_fresh.ensures.only_reads.kept.failed (search rules))
 
 pub loop-cone-preserved : goal.loop-cone-preserved
 loop-cone-preserved g c =
@@ -112,9 +112,9 @@ loop-cone-preserved g c =
     let cone = c.loop-cone.cone in
     let old = c.index_mut.result.now in
     let new = c.is_fresh.new.bay in
-    let seen = c.is_fresh.ensures.seen in
-    let falls = c.is_fresh.ensures.cause.never_falls in
-    let mark = c.is_fresh.ensures.mark in
+    let seen = c.is_fresh.ensures.only_reads.seen in
+    let falls = c.is_fresh.ensures.only_reads.kept.never_falls in
+    let mark = c.is_fresh.ensures.only_reads.kept.mark in
     let inside : cone < length bays = omega (arith, c.loop-cone-test.true, c.loop-cone.auto.cone-end, c.len-cone-end.ensures, here.later.number) in
     let found = slice_get_read bays (length bays) cone old refl inside c.index_mut.ensures.value in
     let empty = λ (files : Files) (told : g.B.Bay.files old ≡ Some files). (c.in-Ok-true.ensures.fresh files told).0 c.in-Ok-true.field-0-test in

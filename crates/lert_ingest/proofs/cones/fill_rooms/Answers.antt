@@ -26,8 +26,8 @@ returns-in-Err-clause-later g c =
     let front = here.split.0 in
     let split = ap (λ xs. front ++ xs) (sym items) ∙ here.split.2 in
     let later = subst (λ xs. AreLater g.B.Bay.files g.B.Faulty.faults g.B.Faulty.mark bays (bays_of cones ++ xs)) items here.later in
-    let back = c.in-Err.ensures.handed_back in
-    let one = call_later g.B.Bay.files g.B.Faulty.faults g.B.Faulty.mark bay c.in-Err.refused.bay back.3 back.2 back.1 in
+    let kept = c.in-Err.ensures.kept in
+    let one = call_later g.B.Bay.files g.B.Faulty.faults g.B.Faulty.mark bay c.in-Err.refused.bay kept.mark kept.never_falls c.in-Err.ensures.handed_back.1 in
     let is = ap (λ xs. bays_of cones ++ xs) (c.push_front_reserved.ensures.items ∙ ap (λ b. b ∷ rest) c.bay_of.ensures) in
     subst (AreLater g.B.Bay.files g.B.Faulty.faults g.B.Faulty.mark bays) (sym is)
     (back_later g.B.Bay.files g.B.Faulty.faults g.B.Faulty.mark bays front bay rest cones split here.split.1 later c.in-Err.refused.bay one)
@@ -49,7 +49,7 @@ returns-in-Err-clause-unmade g c =
     let unused = subst (λ xs. AreUnused g.B.Bay.files s bays (bays_of cones ++ xs)) items here.unused in
     let back = c.in-Err.refused.bay in
     let unmade = unmade_by g.B.Bay.files g.B.Faulty.faults g.B.Faulty.mark bays front bay rest cones split here.split.1 later s unused back fault
-    c.requires.fresh c.in-Err.ensures.handed_back.1 c.in-Err.ensures.not_fresh c.in-Err.ensures.failed in
+    c.requires.fresh c.in-Err.ensures.handed_back.1 c.in-Err.ensures.not_fresh c.in-Err.ensures.kept.failed in
     subst (IsUnmade g.B.Bay.files g.B.Faulty.faults s bays (bays_of cones ++ c.push_front_reserved.new.self.items)) (sym c.status_of.ensures)
     (subst (λ xs. IsUnmade g.B.Bay.files g.B.Faulty.faults s bays xs (create_status c.loop-number.number fault)) (sym is)
     (subst (λ n. IsUnmade g.B.Bay.files g.B.Faulty.faults s bays (bays_of cones ++ back ∷ rest) (create_status n fault)) here.number unmade))
@@ -91,7 +91,7 @@ loop-number-preserved g c =
     let bays = c.args.bays.now.items in
     let split = ap (λ xs. front ++ xs) (sym items) ∙ here.split.2 in
     let later = subst (λ xs. AreLater g.B.Bay.files g.B.Faulty.faults g.B.Faulty.mark bays (bays_of cones ++ xs)) items here.later in
-    let one = call_later g.B.Bay.files g.B.Faulty.faults g.B.Faulty.mark bay cone.bay c.in-Ok.ensures.mark c.in-Ok.ensures.never_falls c.in-Ok.ensures.frames in
+    let one = call_later g.B.Bay.files g.B.Faulty.faults g.B.Faulty.mark bay cone.bay c.in-Ok.ensures.kept.mark c.in-Ok.ensures.kept.never_falls c.in-Ok.ensures.frames in
     let pushed = c.push_reserved.ensures.items in
     let popped = All-pop (IsNewRoom s) c.loop-number.rooms.items c.pop.new.self.items (Some room) c.in-Some-pop.ensures.items here.rooms in
     let number = ap length pushed ∙ length-append cones (cone ∷ []) in

@@ -1,7 +1,7 @@
 use Rattle.std.proofs.Common.{◌≡◌, ◌+◌, ◌-◌, ◌<◌, ◌≤◌, [], ◌∷◌, ◌++◌, length, refl, ap, sym, ◌∙◌, subst, arith, length-append, Err, List, ℕ}
 use Rattle.lert_bay.specs.declared.bay.TheConstants.{JOURNAL}
 use Rattle.lert_bay.specs.Kept.{KeepsBay}
-use Rattle.lert_bay.proofs.KeptLaws.{IsLawful, keeps_none, keeps_on, reads_none}
+use Rattle.lert_bay.proofs.KeptLaws.{IsLawful, keeps_as, keeps_none, keeps_on, reads_none}
 use Rattle.lert_spec.specs.declared.numbers.Numbers.{Numbers}
 use Rattle.lert_spec.specs.Edges.{capacity}
 use Rattle.lert_spec.proofs.LimitLaws.{capacity_to}
@@ -71,7 +71,7 @@ packets-preserved g c =
     let new = c.replay.new.self in
     let now = c.packets.invariant in
     let step : KeepsBay (bays g) old.bay new.bay ⊥ =
-    record { time = c.replay.ensures.journal.time; never_falls = c.replay.ensures.never_falls; failed = λ never. absurd never; mark = c.replay.ensures.mark } in
+    keeps_as (bays g) (lawful g) old.bay new.bay _ ⊥ (λ never. absurd never) c.replay.ensures.kept in
     let took = rw c.in-Ok-Some.field-0-is at c.in-Ok-Some.ensures.taken in
     let next = rw c.in-Ok-Some.field-0-is at c.in-Ok-Some.ensures.forward in
     let keys = took.packet.keys in
@@ -114,7 +114,7 @@ returns-in-Ok-None g c =
     let new = c.replay.new.self in
     let now = c.packets.invariant in
     let step : KeepsBay (bays g) old.bay new.bay ⊥ =
-    record { time = c.replay.ensures.journal.time; never_falls = c.replay.ensures.never_falls; failed = λ never. absurd never; mark = c.replay.ensures.mark } in
+    keeps_as (bays g) (lawful g) old.bay new.bay _ ⊥ (λ never. absurd never) c.replay.ensures.kept in
     let gate = c.packets.gate in
     let ended = rw c.in-Ok-None.field-0-is at c.in-Ok-None.ensures.ended in
     let events_are = ap (λ (k : Standing g.row.B.Denot). k.listing.events) ended.is in
@@ -159,7 +159,7 @@ returns-in-Err g c =
     let new = c.replay.new.self in
     let now = c.packets.invariant in
     let step : KeepsBay (bays g) old.bay new.bay ⊥ =
-    record { time = c.replay.ensures.journal.time; never_falls = c.replay.ensures.never_falls; failed = λ never. absurd never; mark = c.replay.ensures.mark } in
+    keeps_as (bays g) (lawful g) old.bay new.bay _ ⊥ (λ never. absurd never) c.replay.ensures.kept in
     let count = c.events-events.ensures.count ∙ now.counted in
     record {
       told = λ seen told. (
@@ -197,10 +197,5 @@ returns-in-Err g c =
           (quiet_of (bays g) old.bay new.bay ⊥ step
           (c.replay.ensures.unflushed there.0 there.1 (still_on files start old new seen told now.same now.journal c.packets.gate (now.read seen told) nothing)));
       kept = keeps_on (bays g) (lawful g) start.bay old.bay new.bay ⊥ _ now.kept
-          (record {
-            time = c.replay.ensures.journal.time;
-            never_falls = c.replay.ensures.never_falls;
-            failed = λ is. c.in-Err.ensures.failed (ap Err is);
-            mark = c.replay.ensures.mark;
-          });
+          (keeps_as (bays g) (lawful g) old.bay new.bay _ _ (λ is. c.in-Err.is ∙ ap Err is) c.replay.ensures.kept);
     }

@@ -51,9 +51,7 @@ returns-in_err-test g c =
       out_of_memory = all.out_of_memory;
       each_moment = all.each_moment;
       seen = all.seen;
-      time = all.time;
-      never_falls = all.never_falls;
-      mark = all.mark;
+      kept = all.kept;
     }
 
 pub take_packet-requires : goal.take_packet-requires
@@ -160,9 +158,7 @@ returns-in-Err g c =
       out_of_memory = all.out_of_memory;
       each_moment = all.each_moment;
       seen = all.seen;
-      time = all.time;
-      never_falls = all.never_falls;
-      mark = all.mark;
+      kept = all.kept;
     }
 
 -- all keys are taken
@@ -231,7 +227,5 @@ returns g c =
       out_of_memory = all.out_of_memory;
       each_moment = all.each_moment;
       seen = all.seen;
-      time = all.time;
-      never_falls = all.never_falls;
-      mark = all.mark;
+      kept = all.kept;
     }

@@ -2,23 +2,34 @@ use Rattle.std.proofs.Common.{ℕ, ◌≡◌, ◌∙◌, List, Err, refl, length
 use Rattle.std.specs.List.{length_refill}
 use Rattle.lert_base.specs.Packet.{Packet, events_of}
 use Rattle.lert_bay.specs.Files.{IfTold}
+use Rattle.lert_bay.specs.Kept.{Bays}
+use Rattle.lert_bay.proofs.KeptLaws.{IsLawful, keeps_as, keeps_none}
+use Rattle.std.proofs.lemmas.Bool.{false≢true}
 use Rattle.lert_spec.specs.declared.numbers.Numbers.{Numbers}
 use Rattle.lert_spec.specs.Look.{closing}
 use Rattle.lert_spec.specs.Timely.{IsTimely}
-use Rattle.lert_cone.specs.declared.refusal.ConeFault.TheVariants.{Unsound}
+use Rattle.lert_cone.specs.declared.refusal.ConeFault.TheVariants.{BayFailed, Unsound}
 use Rattle.lert_cone.specs.declared.state.ConeState.TheVariants.{Running, Finished}
 use Rattle.lert_cone.specs.InStep.{IsLogging}
 use Rattle.lert_cone.specs.Listing.{Listing}
 use Rattle.lert_cone.specs.Sound.{IsKept, IsSound, IsSoundAs, IsSoundOver}
-use Rattle.lert_cone.specs.Stands.{Standing, WasSound, over_of, is_broken, is_finished, broken_by}
+use Rattle.lert_cone.specs.Stands.{Standing, WasSound, over_of, is_broken, is_finished, is_refusal, broken_by}
 use Rattle.lert_reports.specs.Stored.{Stored}
 use Rattle.lert_cone.proofs.SoundLaws.{turns_back}
 use Rattle.lert_io.proofs.Rising.{risen_since}
 use Rattle.lert_cone.proofs.AppendLaws.{whole_of}
 use Rattle.lert_cone.proofs.StandLaws.{stands_whole, stands_broken, ended_cone, broken_cone, reports_finished}
-use Rattle.lert_cone.proofs.FaultLaws.{any_turn, kept_since, turned_none, untold, is_broken_by, not_replaying_by, by_bay_of, by_read_of, unsound_of}
+use Rattle.lert_cone.proofs.FaultLaws.{any_turn, kept_since, turned_none, untold, is_broken_by, not_replaying_by, by_bay_of, by_read_of, failed_of, unsound_of}
 use Rattle.lert_cone.proofs.TimeLaws.{timely}
+use Rattle.lert_cone.proofs.TakeLaws.{handed_on}
+use Rattle.lert_cone.proofs.cone.Cone.finish.Given as given
 use Rattle.lert_cone.proofs.cone.Cone.finish.Goals as goal
+
+abbrev bays : (g : given.Over) → Bays g.row.B.Denot
+bays g = record { faults = g.B.Faulty.faults; mark = g.B.Faulty.mark; files = g.B.Bay.files; leaves = g.B.Bay.leaves; moment = g.B.Bay.moment; left_since = g.B.Bay.left_since }
+
+lawful : (g : given.Over) → IsLawful (bays g)
+lawful g = record { as_read = g.met.B.Bay.as_read; since_now = g.met.B.Bay.since_now; only_now = g.met.B.Bay.only_now; since_earlier = g.met.B.Bay.since_earlier }
 
 pub finish-requires : goal.finish-requires
 finish-requires g c =
@@ -40,6 +51,14 @@ finish-requires g c =
 pub returns-in_err-test_state-clause-each_moment : goal.returns-in_err-test_state-clause-each_moment
 returns-in_err-test_state-clause-each_moment g c = λ still sound seen told h stands image may.
     ((stands.whole still sound seen told).files.kept.images image (g.met.B.Bay.only_now c.args.self.now.bay image may)).sound
+
+pub returns-in_err-test_state-clause-kept : goal.returns-in_err-test_state-clause-kept
+returns-in_err-test_state-clause-kept g c =
+    let given = handed_on c.from_residual.result c.in_err-test_state.field-0.0 c.from_residual.ensures.1 in
+    let refusal = rw c.in_err-test_state.was at c.test_state.ensures.refusal in
+    keeps_none (bays g) (lawful g) c.args.self.now.bay _ (λ same.
+    let inner : c.in_err-test_state.field-0.0 ≡ BayFailed = cc in
+    false≢true (sym (ap is_refusal inner) ∙ refusal))
 
 -- a refusal in the middle
 pub returns-in-Err-clause-stays : goal.returns-in-Err-clause-stays
@@ -123,8 +142,12 @@ returns-in-Err-clause-each_moment g c = rw (← c.self.view_is) (λ still sound 
 pub returns-in-Err-clause-seen : goal.returns-in-Err-clause-seen
 returns-in-Err-clause-seen g c = rw (← c.self.view_is) (any_turn (λ old new. new 0 ≡ old 0) (g.B.Bay.files c.self.inside.bay) (g.B.Bay.files c.finish.new.bay) c.finish.ensures.keeps.journal.seen)
 
-pub returns-in-Err-clause-time : goal.returns-in-Err-clause-time
-returns-in-Err-clause-time g c = rw (← c.self.view_is) c.finish.ensures.keeps.journal.time
+pub returns-in-Err-clause-kept : goal.returns-in-Err-clause-kept
+returns-in-Err-clause-kept g c = rw (← c.self.view_is) (keeps_as (bays g) (lawful g) c.self.inside.bay c.finish.new.bay _ _
+    (λ same.
+    let answer : c.from.result ≡ BayFailed = cc in
+    c.in-Err.is ∙ ap Err (failed_of c.in-Err.fault (sym c.from.ensures ∙ answer)))
+    c.finish.ensures.keeps.kept)
 
 -- the end
 pub invariant_of-self-2 : goal.invariant_of-self-2
@@ -218,8 +241,8 @@ returns-clause-sound_closed g c = rw (← c.self.view_is) (λ sound seen told h 
 pub returns-clause-seen : goal.returns-clause-seen
 returns-clause-seen g c = rw (← c.self.view_is) (any_turn (λ old new. new 0 ≡ old 0) (g.B.Bay.files c.self.inside.bay) (g.B.Bay.files c.finish.new.bay) c.finish.ensures.keeps.journal.seen)
 
-pub returns-clause-time : goal.returns-clause-time
-returns-clause-time g c = rw (← c.self.view_is) c.finish.ensures.keeps.journal.time
+pub returns-clause-kept : goal.returns-clause-kept
+returns-clause-kept g c = rw (← c.self.view_is) (keeps_as (bays g) (lawful g) c.self.inside.bay c.finish.new.bay _ _ (λ same. absurd (let never : ⊥ = cc in never)) c.finish.ensures.keeps.kept)
 
 pub returns-in-Err-clause-shows : goal.returns-in-Err-clause-shows
 returns-in-Err-clause-shows g c = λ file at same.

@@ -4,7 +4,7 @@ use Rattle.lert_base.specs.Entries.{packet_of}
 use Rattle.lert_base.specs.Packet.{events_of}
 use Rattle.lert_bay.specs.Files.{Files}
 use Rattle.lert_bay.specs.Kept.{Bays}
-use Rattle.lert_bay.proofs.KeptLaws.{IsLawful}
+use Rattle.lert_bay.proofs.KeptLaws.{IsLawful, keeps_as, keeps_on}
 use Rattle.lert_gatelog.specs.Gated.{IsClosed, Log, next_gate}
 use Rattle.lert_journal.specs.Journal.{HoldsPacket}
 use Rattle.lert_journal.specs.Payload.{payload_of}
@@ -25,7 +25,7 @@ use Rattle.lert_cone.proofs.GateLaws.{past_more}
 use Rattle.lert_cone.proofs.ReplayLaws.{never_on_way}
 use Rattle.lert_cone.proofs.ReplayCalls.{alone_behind, ended_at, ended_replays, held_at, keys_stay, keys_unwritten, length_more, listing_more, moved_on, read_stays, read_unwritten, refilled, seen_as}
 use Rattle.lert_cone.proofs.ReplayCalls.{with_keys}
-use Rattle.lert_cone.proofs.ReplayStands.{leaves_listing, near_then, never_unsound, unsound_keys, only_by_bay, only_failed, read_settled, read_shut, refused_keys, refused_record, replaying_cone}
+use Rattle.lert_cone.proofs.ReplayStands.{leaves_listing, near_then, never_unsound, failed_keys, failed_record, unsound_keys, only_by_bay, only_failed, read_settled, read_shut, refused_keys, refused_record, replaying_cone}
 use Rattle.lert_cone.proofs.ReplayStands.{settled_then}
 use Rattle.lert_cone.proofs.ReplayStep.{told_once}
 use Rattle.lert_io.proofs.Rising.{risen_since}
@@ -395,3 +395,28 @@ returns-in-Err-clause-stays_sound g c =
 
 pub returns-in-Err-clause-unflushed : goal.returns-in-Err-clause-unflushed
 returns-in-Err-clause-unflushed g c = rw (← c.self.view_is) (λ seen told none. read_unwritten (bays g) (lawful g) c.self.inside.bay c.read_packet.new.bay _ _ _ _ _ c.read_packet.ensures.keeps)
+
+-- what it keeps of the bay
+pub returns-in-Err-replay_keys-clause-kept : goal.returns-in-Err-replay_keys-clause-kept
+returns-in-Err-replay_keys-clause-kept g c = rw (← c.self.view_is)
+    (keeps_on (bays g) (lawful g) c.self.inside.bay c.read_packet.new.bay c.replay_keys.new.bay _ _ c.read_packet.ensures.keeps.reads.kept
+    (keeps_as (bays g) (lawful g) c.read_packet.new.bay c.replay_keys.new.bay _ _ (λ same.
+    let answer : c.from.result ≡ Failed = cc in
+    c.in-Err-replay_keys.is ∙ ap Err (failed_keys c.in-Err-replay_keys.fault (sym c.from.ensures ∙ answer)))
+    c.replay_keys.ensures.keeps.kept))
+
+pub returns-in_default-clause-kept : goal.returns-in_default-clause-kept
+returns-in_default-clause-kept g c = rw (← c.self.view_is)
+    (keeps_on (bays g) (lawful g) c.self.inside.bay c.read_packet.new.bay c.replay_keys.new.bay _ _ c.read_packet.ensures.keeps.reads.kept
+    (keeps_as (bays g) (lawful g) c.read_packet.new.bay c.replay_keys.new.bay _ _ (λ same. absurd (let never : ⊥ = cc in never)) c.replay_keys.ensures.keeps.kept))
+
+pub returns-in-Ok-false-clause-kept : goal.returns-in-Ok-false-clause-kept
+returns-in-Ok-false-clause-kept g c = rw (← c.self.view_is)
+    (keeps_as (bays g) (lawful g) c.self.inside.bay c.read_packet.new.bay _ _ (λ same. absurd (let never : ⊥ = cc in never)) c.read_packet.ensures.keeps.reads.kept)
+
+pub returns-in-Err-clause-kept : goal.returns-in-Err-clause-kept
+returns-in-Err-clause-kept g c = rw (← c.self.view_is)
+    (keeps_as (bays g) (lawful g) c.self.inside.bay c.read_packet.new.bay _ _ (λ same.
+    let answer : c.from-fault.result ≡ Failed = cc in
+    c.in-Err.is ∙ ap Err (failed_record c.in-Err.fault (sym c.from-fault.ensures ∙ answer)))
+    c.read_packet.ensures.keeps.reads.kept)

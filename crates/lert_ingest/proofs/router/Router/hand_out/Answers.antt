@@ -66,7 +66,7 @@ returns-in-Ok-clause-later g c =
     let inside : at < length router.cones.items = omega (arith, c.requires.named, c.requires.taking.2.lanes.cones_number) in
     let found = slice_get_read router.cones.items (length router.cones.items) at old refl inside c.index_mut.ensures.value in
     later_cone g.B.Bay.files g.B.Faulty.faults g.B.Faulty.mark router.cones.items at old new found
-    (call_later g.B.Bay.files g.B.Faulty.faults g.B.Faulty.mark old.bay new.bay c.admit-admitted.ensures.mark c.admit-admitted.ensures.never_falls c.admit-admitted.ensures.seen)
+    (call_later g.B.Bay.files g.B.Faulty.faults g.B.Faulty.mark old.bay new.bay c.admit-admitted.ensures.kept.mark c.admit-admitted.ensures.kept.never_falls c.admit-admitted.ensures.seen)
 
 pub returns-in-Err-clause-later : goal.returns-in-Err-clause-later
 returns-in-Err-clause-later g c =
@@ -77,7 +77,7 @@ returns-in-Err-clause-later g c =
     let inside : at < length router.cones.items = omega (arith, c.requires.named, c.requires.taking.2.lanes.cones_number) in
     let found = slice_get_read router.cones.items (length router.cones.items) at old refl inside c.index_mut.ensures.value in
     later_cone g.B.Bay.files g.B.Faulty.faults g.B.Faulty.mark router.cones.items at old new found
-    (call_later g.B.Bay.files g.B.Faulty.faults g.B.Faulty.mark old.bay new.bay c.admit-admitted.ensures.mark c.admit-admitted.ensures.never_falls c.admit-admitted.ensures.seen)
+    (call_later g.B.Bay.files g.B.Faulty.faults g.B.Faulty.mark old.bay new.bay c.admit-admitted.ensures.kept.mark c.admit-admitted.ensures.kept.never_falls c.admit-admitted.ensures.seen)
 
 pub returns-in-Ok-clause-partly : goal.returns-in-Ok-clause-partly
 returns-in-Ok-clause-partly g c =
