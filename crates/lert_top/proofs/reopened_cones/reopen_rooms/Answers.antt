@@ -27,7 +27,7 @@ returns-in-Err-clause-later g c =
     let front = here.split.0 in
     let split = ap (λ xs. front ++ xs) (sym items) ∙ here.split.2 in
     let later = subst (λ xs. AreLater g.B.Bay.files g.B.Faulty.faults g.B.Faulty.mark bays (bays_of cones ++ xs)) items here.later in
-    let one = call_later g.B.Bay.files g.B.Faulty.faults g.B.Faulty.mark bay c.in-Err.refused.bay c.in-Err.ensures.mark c.in-Err.ensures.never_falls c.in-Err.ensures.reads in
+    let one = call_later g.B.Bay.files g.B.Faulty.faults g.B.Faulty.mark bay c.in-Err.refused.bay c.in-Err.ensures.kept.mark c.in-Err.ensures.kept.never_falls c.in-Err.ensures.reads in
     subst (AreLater g.B.Bay.files g.B.Faulty.faults g.B.Faulty.mark bays) (ap (λ xs. bays_of cones ++ xs) (sym c.push_front_reserved.ensures.items))
     (back_later g.B.Bay.files g.B.Faulty.faults g.B.Faulty.mark bays front bay rest cones split here.split.1 later c.in-Err.refused.bay one)
 
@@ -57,7 +57,7 @@ returns-in-Err-clause-unopened g c =
     } in
     let why_here = subst (λ (n : Numbers). WasRefused g.B.Bay.files n (length cones) bay fault) popped.1.0
     (subst (λ (n : ℕ). WasRefused g.B.Bay.files c.in-Some-pop.room.settings n bay fault) (sym here.number) why) in
-    let unopened = unopened_by g.B.Bay.files g.B.Bay.leaves g.B.Faulty.faults g.B.Faulty.mark s bays front bay rest cones there here.open_cones back fault why_here c.in-Err.ensures.failed
+    let unopened = unopened_by g.B.Bay.files g.B.Bay.leaves g.B.Faulty.faults g.B.Faulty.mark s bays front bay rest cones there here.open_cones back fault why_here c.in-Err.ensures.kept.failed
     (λ other behind. let sizes = length-map cones (λ (x : Standing g.row.B.Denot). x.bay) in
     slice_get-behind (bays_of cones) front back bay rest other (sizes ∙ sym here.split.1) (omega (arith, behind, sizes)) ∙ ap (λ xs. slice_get xs other) split) in
     subst (IsUnopened g.B.Bay.files g.B.Faulty.faults s bays (bays_of cones ++ c.push_front_reserved.new.self.items)) (sym c.status_of.ensures)
@@ -113,7 +113,7 @@ loop-number-preserved g c =
     let split = ap (λ xs. front ++ xs) (sym items) ∙ here.split.2 in
     let later = subst (λ xs. AreLater g.B.Bay.files g.B.Faulty.faults g.B.Faulty.mark bays (bays_of cones ++ xs)) items here.later in
     let there = bay_there g.B.Bay.files g.B.Faulty.faults g.B.Faulty.mark bays front bay rest cones split here.split.1 later in
-    let one = call_later g.B.Bay.files g.B.Faulty.faults g.B.Faulty.mark bay cone.bay c.in-Ok.ensures.mark c.in-Ok.ensures.never_falls c.in-Ok.ensures.reads in
+    let one = call_later g.B.Bay.files g.B.Faulty.faults g.B.Faulty.mark bay cone.bay c.in-Ok.ensures.kept.mark c.in-Ok.ensures.kept.never_falls c.in-Ok.ensures.reads in
     let pushed = c.push_reserved.ensures.items in
     let popped = All-pop (IsNewRoom s) c.loop-number.rooms.items c.pop.new.self.items (Some room) c.in-Some-pop.ensures.items here.rooms in
     let number = ap length pushed ∙ length-append cones (cone ∷ []) in
