@@ -1,5 +1,6 @@
 -- What a cone answers to a packet: it refuses it before the first step, or breaks off in the middle, or takes it.
-use Rattle.std.proofs.Common.{◌≡◌, ◌≢◌, ℕ, ◌+◌, ◌<◌, true, false, List, [], ◌∷◌, ◌++◌, length, Some, None, Result, Err, OnOk, OnErr, refl, sym, ap, ◌∙◌, subst, inl}
+use Rattle.std.proofs.Common.{◌≡◌, ◌≢◌, ℕ, ◌+◌, ◌<◌, true, false, List, [], ◌∷◌, ◌++◌, length, Some, None, Result, Err, OnOk, OnErr, refl, sym, ap, ◌∙◌}
+use Rattle.std.proofs.Common.{subst, inl}
 use Rattle.std.specs.Prelude.{◌↔◌, IfOk, IfErr, IsErrOf}
 use Rattle.std.specs.Result.{IsErrAnd}
 use Rattle.std.proofs.lemmas.Bool.{false≢true}
@@ -54,7 +55,8 @@ pub record Admits {B : Type 0} (bays : Bays B) (packet : Packet) (old new : Stan
   pub same_cone : IsSameCone old new
   pub closed : (result ≡ Err Closed) ↔ (old.state ≡ Finished)
   pub broken : (result ≡ Err Broken) ↔ (is_broken old.state ≡ true)
-  pub full : (n len : ℕ) → (result ≡ Err (CapacityFull n len)) ↔ ((old.state ≡ Running) × (n ≡ old.events) × (len ≡ length packet.keys) × (capacity old.listing.settings < n + len))
+  pub full : (n len : ℕ) → (result ≡ Err (CapacityFull n len)) ↔ ((old.state ≡ Running) × (n ≡ old.events) × (len ≡ length packet.keys)
+      × (capacity old.listing.settings < n + len))
   pub bay_failed : IsErrOf result BayFailed → (new.state ≡ BrokenByBay) × HasRisen (bays.faults old.bay) (bays.faults new.bay)
   pub unsound : (file at : ℕ) → IsErrOf result (Unsound file at) → (new.state ≡ BrokenByRead file at) × ((h : List Packet) → StandsFor bays.files bays.leaves bays.faults old h →
       WasSound bays.files old → bays.files old.bay ≡ None)
@@ -66,7 +68,8 @@ pub record Admits {B : Type 0} (bays : Bays B) (packet : Packet) (old new : Stan
   pub kept : KeepsBay bays old.bay new.bay (IsErrOf result BayFailed)
 
 module _ {B : Type 0} (bays : Bays B) (lawful : IsLawful bays) (packet : Packet) where
-  refused_by : {T : Type 0} (old : Standing B) (fault : ConeFault) → is_refusal fault ≡ true → ((◌≡◌ {A = Result T ConeFault} (Err fault) (Err Closed)) ↔ (old.state ≡ Finished)) →
+  refused_by : {T : Type 0} (old : Standing B) (fault : ConeFault) → is_refusal fault ≡ true →
+      ((◌≡◌ {A = Result T ConeFault} (Err fault) (Err Closed)) ↔ (old.state ≡ Finished)) →
       ((◌≡◌ {A = Result T ConeFault} (Err fault) (Err Broken)) ↔ (is_broken old.state ≡ true)) →
       ((n len : ℕ) → (◌≡◌ {A = Result T ConeFault} (Err fault) (Err (CapacityFull n len))) ↔ ((old.state ≡ Running) × (n ≡ old.events) × (len ≡ length packet.keys) ×
       (capacity old.listing.settings < n + len))) →
@@ -110,4 +113,5 @@ module _ {B : Type 0} (bays : Bays B) (lawful : IsLawful bays) (packet : Packet)
       (subst (λ (r : Result T ConeFault). (r ≡ Err Broken) ↔ (is_broken old.state ≡ true)) is broken)
       (λ n more. subst (λ (k : ℕ). ◌↔◌ (◌≡◌ {A = Result T ConeFault} (Err fault) (Err (CapacityFull n more))) ((old.state ≡ Running) × (n ≡ old.events) × (more ≡ k) ×
       (capacity old.listing.settings < n + more))) len_is
-      (subst (λ (r : Result T ConeFault). (r ≡ Err (CapacityFull n more)) ↔ ((old.state ≡ Running) × (n ≡ old.events) × (more ≡ len) × (capacity old.listing.settings < n + more))) is (full n more))))
+      (subst (λ (r : Result T ConeFault). (r ≡ Err (CapacityFull n more)) ↔ ((old.state ≡ Running) × (n ≡ old.events) × (more ≡ len) × (capacity old.listing.settings < n + more))) is
+      (full n more))))

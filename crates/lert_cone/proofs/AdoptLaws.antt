@@ -1,5 +1,6 @@
 -- What sound files and what was read of their log make of a cone that goes through the journal anew.
-use Rattle.std.proofs.Common.{◌≡◌, ℕ, ◌-◌, ◌≤◌, Bool, true, false, cond, List, [], ◌∷◌, length, take, get_or, map, max, All, refl, sym, ap, ◌∙◌, subst, inl, inr, arith}
+use Rattle.std.proofs.Common.{◌≡◌, ℕ, ◌-◌, ◌≤◌, Bool, true, false, cond, List, [], ◌∷◌, length, take, get_or, map, max, All, refl, sym, ap, ◌∙◌, subst, inl, inr}
+use Rattle.std.proofs.Common.{arith}
 use Rattle.std.specs.Prelude.{slice_index_or}
 use Rattle.std.proofs.lemmas.Bool.{cases_Bool}
 use Rattle.std.proofs.lemmas.List.{get_or-map, length-take-le, take_all}
@@ -46,7 +47,8 @@ pub bins_there : (s : Numbers) (events : List ℕ) (rows : List (List BinAt)) (d
 bins_there s events rows directory file at named holds level first last =
     let row = row_of rows level in
     let frames_are : slice_index_or directory (level - 1) [] ≡ map (λ (bin : BinAt). bin.frame) row =
-    ap (λ (d : List (List ℕ)). get_or d (level - 1) []) named ∙ get_or-map (λ (r : List BinAt). map (λ (bin : BinAt). bin.frame) r) rows (level - 1) [] [] (omega (arith, at.levels, first, last)) in
+    ap (λ (d : List (List ℕ)). get_or d (level - 1) []) named ∙ get_or-map (λ (r : List BinAt). map (λ (bin : BinAt). bin.frame) r) rows (level - 1) [] []
+    (omega (arith, at.levels, first, last)) in
     let bins_are : bins s events level ≡ map (filled s events) (map range_of row) =
     bins-ranges s events level ∙ ap (map (filled s events)) (sym (at.each level first last)) in
     from_frames s events file level row
@@ -63,7 +65,8 @@ frames_settled leaves seen s events rows are holds settled =
 
 -- ---- a cone that is adopted
 
-module _ (leaves : Files → Type 0) (seen : Files) (s : Numbers) (cone : ℕ) (history : List Packet) (rows : List (List BinAt)) (reports : List Report) (records : List LogRecord) (log_end n0 : ℕ)
+module _ (leaves : Files → Type 0) (seen : Files) (s : Numbers) (cone : ℕ) (history : List Packet) (rows : List (List BinAt)) (reports : List Report) (records : List LogRecord)
+    (log_end n0 : ℕ)
     (closed : Bool)
     (valid : IsValid s) (at : IsAt s n0 rows) (are : AreRows s rows) (log : HasLog s cone (seen 1) records log_end) (last : IsLastOf s n0 closed rows reports records)
     (journal_settled : IsWhollySettled leaves seen 0) (log_settled : IsWhollySettled leaves seen 1) (named_settled : (from to : ℕ) → InNamed s rows from to → to ≤ length (seen 2) →

@@ -1,5 +1,6 @@
 -- What goes together with memory through the append of a packet to the journal.
-use Rattle.std.proofs.Common.{◌≡◌, ◌≢◌, ℕ, ◌+◌, ◌-◌, ◌^◌, ◌<◌, ◌≤◌, true, false, List, [], ◌∷◌, ◌++◌, length, Some, All, Result, Ok, Err, OnOk, refl, sym, ap, ◌∙◌, subst, inl, inr, arith}
+use Rattle.std.proofs.Common.{◌≡◌, ◌≢◌, ℕ, ◌+◌, ◌-◌, ◌^◌, ◌<◌, ◌≤◌, true, false, List, [], ◌∷◌, ◌++◌, length, Some, All, Result, Ok, Err, OnOk, refl}
+use Rattle.std.proofs.Common.{sym, ap, ◌∙◌, subst, inl, inr, arith}
 use Rattle.std.proofs.Common.{length-append, append-nil}
 use Rattle.std.proofs.lemmas.Bool.{false≢true}
 use Rattle.std.proofs.lemmas.List.{take_at}
@@ -77,7 +78,8 @@ module _ (leaves since : Files → Type 0) (seen : Files) (t : Tallied) (log : L
   })
 
   log_then : InEach since 1 (λ bytes. HasLog t.listing.settings t.listing.cone bytes up.logged log.gate)
-  log_then = log_since since seen t.listing.settings t.listing.cone up.logged log.gate (up.log_there seen read) (others 1 0 (length (seen 1)) (λ same. absurd (omega (arith, same))) up.log_settled)
+  log_then = log_since since seen t.listing.settings t.listing.cone up.logged log.gate (up.log_there seen read)
+      (others 1 0 (length (seen 1)) (λ same. absurd (omega (arith, same))) up.log_settled)
 
   frames_then : InEach since 2 (HoldsBins t.listing.settings t.listing.events t.rows)
   frames_then = frames_since leaves since seen t.listing.settings t.listing.events t.rows counted.are read up.frames (λ from to named. others 2 from to (λ same. absurd (omega (arith, same))))
@@ -140,8 +142,10 @@ module _ (leaves since : Files → Type 0) (seen : Files) (t : Tallied) (log : L
   ]
 
   -- after Ok
-  pub up_appended : (after : Files → Type 0) (seen_after : Files) (gate_after : ℕ) → ((image : Files) → after image → since image) → gate_after ≡ next_gate gate (payload_of packet) →
-      InEach after 0 (λ bytes. HasPackets (most_payload t.listing.settings) bytes 32 (history ++ packet ∷ []) gate_after) → IsWhollySettled after seen_after 0 → IsWhollySettled after seen_after 1 →
+  pub up_appended : (after : Files → Type 0) (seen_after : Files) (gate_after : ℕ) → ((image : Files) → after image → since image) →
+      gate_after ≡ next_gate gate (payload_of packet) →
+      InEach after 0 (λ bytes. HasPackets (most_payload t.listing.settings) bytes 32 (history ++ packet ∷ []) gate_after) → IsWhollySettled after seen_after 0 →
+      IsWhollySettled after seen_after 1 →
       IsInStep after seen_after (history ++ packet ∷ []) t.listing t.rows t.due.reports log
   up_appended after seen_after gate_after now is there journal_settled log_settled = record {
     logged = up.logged;
@@ -161,7 +165,8 @@ when_ok (Ok _) answered holds = holds
 when_ok (Err _) answered holds = absurd (false≢true (sym answered))
 
 -- what an append says of a log's file and greatest payload, said of the journal
-pub appended_there : {T E : Type 0} (result : Result T E) (leaves after : Files → Type 0) (s : Numbers) (file most gate gate_after : ℕ) (packet : Packet) → file ≡ 0 → most ≡ most_payload s →
+pub appended_there : {T E : Type 0} (result : Result T E) (leaves after : Files → Type 0) (s : Numbers) (file most gate gate_after : ℕ) (packet : Packet) → file ≡ 0 →
+    most ≡ most_payload s →
     is_err result ≡ false
     → ((first : ℕ) (packets : List Packet) → InEach leaves file (λ bytes. HasPackets most bytes first packets gate) → OnOk result (InEach after file (λ bytes. HasPackets most bytes first
     (packets ++ packet ∷ []) gate_after)))

@@ -29,7 +29,8 @@ module _ {B : Type 0} (bays : Bays B) (lawful : IsLawful bays) (packet : Packet)
       (last : LogPoint)
       (running : state ≡ Running) (within : events + length packet.keys ≤ capacity tally.listing.settings) where
     -- in the middle
-    pub broken_off : (state_after : ConeState) (over_after : Option Packet) (fault : TakeFault) → state_after ≡ broken_by fault → over_after ≡ Some packet → bays.faults made ≤ bays.faults bay →
+    pub broken_off : (state_after : ConeState) (over_after : Option Packet) (fault : TakeFault) → state_after ≡ broken_by fault → over_after ≡ Some packet →
+        bays.faults made ≤ bays.faults bay →
         TakesPacket bays packet (record { bay = bay; counts = tally; log = log; room = room }) (record {
           bay = bay_after;
           counts = after;
@@ -124,7 +125,8 @@ module _ {B : Type 0} (bays : Bays B) (lawful : IsLawful bays) (packet : Packet)
                 last = last;
               }) h same
               (ap is_broken state_is ∙ is_broken_by fault) (λ never. not_replaying_by fault (sym state_is ∙ never)) refl
-              (λ by_bay. risen_since (bays.faults made) (bays.faults bay) (bays.faults bay_after) risen did.kept.never_falls (did.kept.failed (ap Err (by_bay_of fault (sym state_is ∙ by_bay)))))
+              (λ by_bay. risen_since (bays.faults made) (bays.faults bay) (bays.faults bay_after) risen did.kept.never_falls
+              (did.kept.failed (ap Err (by_bay_of fault (sym state_is ∙ by_bay)))))
               (λ file at by_read sound. turned_none (bays.files bay) (bays.files bay_after) did.seen (untold (bays.files bay)
               (λ seen told. did.sound seen told h (stands.whole (ap is_broken running) sound seen told) file at (ap Err (by_read_of fault file at (sym state_is ∙ by_read))))))
               (λ sound seen told.
@@ -165,7 +167,8 @@ module _ {B : Type 0} (bays : Bays B) (lawful : IsLawful bays) (packet : Packet)
           bay_failed = λ given. (let inner : cone_fault fault ≡ BayFailed = cc in (state_is ∙ ap broken_by (failed_of fault inner), did.kept.failed (ap Err (failed_of fault inner))));
           unsound = λ file at given. (let inner : cone_fault fault ≡ Unsound file at = cc in (
             state_is ∙ ap broken_by (unsound_of fault file at inner),
-            (λ h stands sound. untold (bays.files bay) (λ seen told. did.sound seen told h (stands.whole (ap is_broken running) sound seen told) file at (ap Err (unsound_of fault file at inner)))),
+            (λ h stands sound. untold (bays.files bay) (λ seen told. did.sound seen told h (stands.whole (ap is_broken running) sound seen told) file at
+                (ap Err (unsound_of fault file at inner)))),
           ));
           shows = λ file at given seen told. (let inner : cone_fault fault ≡ Unsound file at = cc in did.shows seen told file at (ap Err (unsound_of fault file at inner)));
           out_of_memory = λ given. (let inner : cone_fault fault ≡ OutOfMemory = cc in state_is ∙ ap broken_by (memory_of fault inner));

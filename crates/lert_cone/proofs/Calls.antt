@@ -38,13 +38,16 @@ module _ {B : Type 0} (bays : Bays B) (lawful : IsLawful bays) where
   pub alone_read : (file : ℕ) (before after : B) (Failed : Type 0) → OnlyReads bays before after Failed → LeavesAlone bays file before after
   alone_read file before after Failed read = leaves_read bays file before after Failed read (now_since before after read.kept.time.later)
 
-  pub settled_alone : (file : ℕ) (before after : B) → LeavesAlone bays file before after → (old : Files) → bays.files before ≡ Some old → IsWhollySettled (bays.leaves before) old file →
+  pub settled_alone : (file : ℕ) (before after : B) → LeavesAlone bays file before after → (old : Files) → bays.files before ≡ Some old →
+      IsWhollySettled (bays.leaves before) old file →
       (new : Files) → bays.files after ≡ Some new → IsWhollySettled (bays.leaves after) new file
   settled_alone file before after =
       settled_through file (bays.files before) (bays.files after) (bays.leaves before) (bays.leaves after) (bays.moment before) (bays.moment after) (bays.left_since before) (bays.left_since after)
 
-  pub shut_alone : (file gate : ℕ) (before after : B) → LeavesAlone bays file before after → IsShutIfTold (bays.files before) (bays.leaves before) file gate → IsShutIfTold (bays.files after)
+  pub shut_alone : (file gate : ℕ) (before after : B) → LeavesAlone bays file before after → IsShutIfTold (bays.files before) (bays.leaves before) file gate →
+      IsShutIfTold (bays.files after)
       (bays.leaves after) file gate
   shut_alone file gate before after left =
-      shut_through file gate (bays.files before) (bays.files after) (bays.leaves before) (bays.leaves after) (bays.moment before) (bays.moment after) (bays.left_since before) (bays.left_since after)
+      shut_through file gate (bays.files before) (bays.files after) (bays.leaves before) (bays.leaves after) (bays.moment before) (bays.moment after) (bays.left_since before)
+      (bays.left_since after)
       left (lawful.as_read before)

@@ -1,5 +1,6 @@
 -- What totals bring: the reports of one total more.
-use Rattle.std.proofs.Common.{ℕ, ◌≡◌, ◌+◌, ◌-◌, ◌^◌, ◌<◌, ◌≤◌, suc, Bool, true, false, cond, eqb, leb, not, ◌&&◌, ◌||◌, List, [], ◌∷◌, ◌++◌, length, map, filter, All, Option, Some, None, refl, ap}
+use Rattle.std.proofs.Common.{ℕ, ◌≡◌, ◌+◌, ◌-◌, ◌^◌, ◌<◌, ◌≤◌, suc, Bool, true, false, cond, eqb, leb, not, ◌&&◌, ◌||◌, List, [], ◌∷◌, ◌++◌, length}
+use Rattle.std.proofs.Common.{map, filter, All, Option, Some, None, refl, ap}
 use Rattle.std.proofs.Common.{sym, ◌∙◌, arith, inl, inr, subst, append_assoc, length-append}
 use Rattle.std.proofs.lemmas.Bool.{cases_Bool, cases_eq, eq-eqb, ne_eqb, le-leb, lt-leb, false≢true}
 use Rattle.std.proofs.lemmas.List.{map-append}
@@ -197,7 +198,8 @@ module _ (d : Dues) (p : Piece) where
       TookTotals (with_report d key) pieces → TookFrom start (with_report d key) pieces
   after_report start None pieces same took = record { settings_are = same.0; cone_is = same.1; before_is = same.2; at_is = same.3; grows = same.4; took = took }
   after_report start (Some key) pieces same took =
-      elim (eqb (length d.reports) d.settings.room) as (λ t. TookTotals (cond t (record d { is_full = true }) (record d { reports = d.reports ++ record { key = key; at = d.at } ∷ [] })) pieces →
+      elim (eqb (length d.reports) d.settings.room) as (λ t. TookTotals (cond t (record d { is_full = true }) (record d { reports = d.reports ++ record { key = key; at = d.at } ∷ [] })) pieces
+      →
       TookFrom start (cond t (record d { is_full = true }) (record d { reports = d.reports ++ record { key = key; at = d.at } ∷ [] })) pieces) [
         | true ↦ λ is. record { settings_are = same.0; cone_is = same.1; before_is = same.2; at_is = same.3; grows = same.4; took = is }
         | false ↦ λ is. record {
@@ -210,7 +212,8 @@ module _ (d : Dues) (p : Piece) where
         }
       ] took
 
-  pub from_total : (start : Dues) (pieces : List Piece) → d.settings.cone_bits ≤ 64 → d.cone < 2 ^ d.settings.cone_bits → TookFrom start d pieces → All (λ piece. piece.tail < p.tail) pieces →
+  pub from_total : (start : Dues) (pieces : List Piece) → d.settings.cone_bits ≤ 64 → d.cone < 2 ^ d.settings.cone_bits → TookFrom start d pieces →
+      All (λ piece. piece.tail < p.tail) pieces →
       TookFrom start (with_total d p) (pieces ++ p ∷ [])
   from_total start pieces bits named from less =
       let same : (d.settings ≡ start.settings) × (d.cone ≡ start.cone) × (d.before ≡ start.before) × (d.at ≡ start.at) × (length d.before ≤ length d.reports) =

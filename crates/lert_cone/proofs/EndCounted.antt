@@ -23,7 +23,8 @@ use Rattle.lert_cone.proofs.TakeLaws.{rows_end, fits_end, from_end, young_end, f
 module _ {B : Type 0} (bays : Bays B) (lawful : IsLawful bays) (t : Tallied) (ls : Numbers) (levels_are : ls ≡ t.listing.settings) (valid : IsValid t.listing.settings)
     (named : t.listing.cone < 2 ^ t.listing.settings.cone_bits) (counted : IsCounted t)
     (m : ℕ) (m_is : m ≡ length t.listing.events) (start due : Dues) (start_is : start ≡ started t.due m) (bay bay_after : B) (levels_after : OnDisk) where
-  with_rows : (result : Result (Unit {0}) FlushFault) → Scans bays start bay bay_after t.young (record { settings = ls; rows = t.rows }) levels_after due result → (closed : Bool) (given : Result
+  with_rows : (result : Result (Unit {0}) FlushFault) → Scans bays start bay bay_after t.young (record { settings = ls; rows = t.rows }) levels_after due result →
+      (closed : Bool) (given : Result
       (Unit {0}) TakeFault) →
       CountsEnd bays bay bay_after t (record {
         listing = record { settings = t.listing.settings; cone = t.listing.cone; events = t.listing.events; closed = closed };

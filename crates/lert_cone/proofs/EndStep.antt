@@ -1,5 +1,6 @@
 -- The end of a cone through the scan and the closing record.
-use Rattle.std.proofs.Common.{◌≡◌, ℕ, ◌-◌, ◌≤◌, Bool, true, false, List, [], ◌∷◌, ◌++◌, length, map, sym, ap, ◌∙◌, subst, inl, inr, arith, append-nil, take, drop, length-append}
+use Rattle.std.proofs.Common.{◌≡◌, ℕ, ◌-◌, ◌≤◌, Bool, true, false, List, [], ◌∷◌, ◌++◌, length, map, sym, ap, ◌∙◌, subst, inl, inr, arith, append-nil, take, drop}
+use Rattle.std.proofs.Common.{length-append}
 use Rattle.std.proofs.lemmas.Bool.{false≢true}
 use Rattle.std.proofs.lemmas.Grind.{flat_map-append}
 use Rattle.std.proofs.lemmas.List.{take-append-drop}
@@ -26,7 +27,8 @@ use Rattle.lert_cone.proofs.FlushLaws.{last_flush_grows}
 use Rattle.lert_cone.proofs.StepLaws.{sound_of}
 
 -- all keys are taken
-pub partway_all : (s : Numbers) (history : List Packet) (events : List ℕ) → events ≡ events_of history → length (events_of (but_last history)) ≤ length events → IsPartway s history events []
+pub partway_all : (s : Numbers) (history : List Packet) (events : List ℕ) → events ≡ events_of history → length (events_of (but_last history)) ≤ length events →
+    IsPartway s history events []
 partway_all s history events all late = record { rest = []; is = sym all ∙ sym (append-nil events); late = last_flush_grows s (length (events_of (but_last history))) (length events) late }
 
 -- what is known once the levels are scanned, of the bay then, where memory and the files went together before (`t`) and no
@@ -124,13 +126,15 @@ pub late_all : (history : List Packet) (events : List ℕ) → events ≡ events
 late_all history events all =
     let front = take (length history - 1) history in
     let back = drop (length history - 1) history in
-    let split : events_of history ≡ events_of front ++ events_of back = ap events_of (sym (take-append-drop (length history - 1) history)) ∙ flat_map-append (λ (p : Packet). p.keys) front back in
+    let split : events_of history ≡ events_of front ++ events_of back = ap events_of (sym (take-append-drop (length history - 1) history))
+    ∙ flat_map-append (λ (p : Packet). p.keys) front back in
     omega (arith, ap length all, ap length split, length-append (events_of front) (events_of back))
 
 -- after calls that read alone
 pub ending_of : (leaves leaves_after : Files → Type 0) (seen : Files) (history : List Packet) (t a : Tallied) (log : LogPlace) → t.listing.closed ≡ false →
     (up : IsInStep leaves seen history t.listing t.rows t.due.reports log) →
-    a.listing ≡ record t.listing { closed = true } → a.rows ≡ t.rows → ((image : Files) → leaves_after image → leaves image) → leaves_after seen → a.due.reports ≡ reports_of a.listing →
+    a.listing ≡ record t.listing { closed = true } → a.rows ≡ t.rows → ((image : Files) → leaves_after image → leaves image) → leaves_after seen →
+    a.due.reports ≡ reports_of a.listing →
     t.listing.events ≡ events_of history →
     IsEnding leaves_after seen history t a log up.logged
 ending_of leaves leaves_after seen history t a log still up listing_is rows_are back read reports_are all = record {

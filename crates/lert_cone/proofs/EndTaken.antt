@@ -32,13 +32,15 @@ module _ {B : Type 0} (bays : Bays B) (lawful : IsLawful bays) (old : Workplace 
   held : (seen : Files) → bays.files old.bay ≡ Some seen → (history : List Packet) → AreInStep bays old seen history → IsHeld old.counts seen
   held seen told history up = held_of (bays.leaves old.bay) seen history old.counts old.log (lawful.as_read old.bay seen told) up
 
-  sound_before : (seen : Files) (history : List Packet) → old.counts.listing.events ≡ events_of history → AreInStep bays old seen history → (image : Files) → bays.leaves old.bay image →
+  sound_before : (seen : Files) (history : List Packet) → old.counts.listing.events ≡ events_of history → AreInStep bays old seen history → (image : Files) →
+      bays.leaves old.bay image →
       IsSound old.counts.listing.settings old.counts.listing.cone history image
   sound_before seen history all up image may =
       sound_now (bays.leaves old.bay) seen history old.counts old.log [] can.counted can.still up
       (partway_all old.counts.listing.settings history old.counts.listing.events all (late_all history old.counts.listing.events all)) image may
 
-  refused_by : (fault : TakeFault) → CountsEnd bays old.bay bay old.counts counts (Err fault) → TakesEnd bays old (record { bay = bay; counts = counts; log = old.log; room = old.room }) (Err fault)
+  refused_by : (fault : TakeFault) → CountsEnd bays old.bay bay old.counts counts (Err fault) →
+      TakesEnd bays old (record { bay = bay; counts = counts; log = old.log; room = old.room }) (Err fault)
   refused_by fault did = record {
     listing = did.listing;
     rows = did.rows;
@@ -121,7 +123,8 @@ module _ {B : Type 0} (bays : Bays B) (lawful : IsLawful bays) (old : Workplace 
     -- the closing record isn't appended
     pub close_failed : length counts.due.reports ≤ counts.listing.settings.room → {E : Type 0} (failed : E) (bay_after : B) (log_after : LogPlace) (room : ℕ) → room ≡ old.room →
         AppendsRecord bays LogKind.Closing (length counts.listing.events) (directory_text counts.rows) counts.due.reports bay bay_after old.log log_after (Err failed) →
-        (given : Result (Unit {0}) TakeFault) → IsErrAnd given (λ fault. fault ≡ Failed) → TakesEnd bays old (record { bay = bay_after; counts = counts; log = log_after; room = room }) given
+        (given : Result (Unit {0}) TakeFault) → IsErrAnd given (λ fault. fault ≡ Failed) →
+        TakesEnd bays old (record { bay = bay_after; counts = counts; log = log_after; room = room }) given
     close_failed few failed bay_after log_after room room_is appends given given_is =
         subst (λ (r : Result (Unit {0}) TakeFault). TakesEnd bays old (record { bay = bay_after; counts = counts; log = log_after; room = room }) r) (handed_on given Failed given_is) (record {
           listing = did.listing;

@@ -133,7 +133,8 @@ log = record {
   rules = records_more small 0 [] ending (records_none small 0) refl ending_keeps (λ i j d less within. absurd (omega (arith, less, within)));
 }
 
-no_bins : (level : ℕ) → 1 ≤ level → level ≤ 2 → HoldFrames small level [] (slice_index_or (last_directory small (ending ∷ [])) (level - 1) []) (bins small (take 3 (events_of (sevens ∷ []))) level)
+no_bins : (level : ℕ) → 1 ≤ level → level ≤ 2 → HoldFrames small level [] (slice_index_or (last_directory small (ending ∷ [])) (level - 1) [])
+    (bins small (take 3 (events_of (sevens ∷ []))) level)
 no_bins zero first last = absurd (omega (arith, first))
 no_bins (suc zero) first last = tt
 no_bins (suc (suc zero)) first last = tt

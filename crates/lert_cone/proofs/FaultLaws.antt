@@ -68,7 +68,8 @@ any_turn step before after turns = record {
 }
 
 -- what holds in each image of each moment holds as the files read then, and in each image
-pub kept_since : (after since : Files → Type 0) (seen : Files) (P : Files → Type 0) → after seen → ((image : Files) → after image → since image) → ((image : Files) → since image → P image) →
+pub kept_since : (after since : Files → Type 0) (seen : Files) (P : Files → Type 0) → after seen → ((image : Files) → after image → since image) →
+    ((image : Files) → since image → P image) →
     IsKept after seen P
 kept_since after since seen P read now each = record { as_read = each seen (now seen read); images = λ image may. each image (now image may) }
 

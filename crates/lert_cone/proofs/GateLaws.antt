@@ -1,5 +1,6 @@
 -- What stands at the gates of a journal that is read anew: the packets of its history in turn, and nothing else.
-use Rattle.std.proofs.Common.{◌≡◌, ℕ, ◌+◌, ◌<◌, ◌≤◌, ◌^◌, Bool, true, false, List, [], ◌∷◌, ◌++◌, length, take, drop, map, All, refl, sym, ap, ◌∙◌, subst, inl, inr, ◌⊎◌, arith, length-append}
+use Rattle.std.proofs.Common.{◌≡◌, ℕ, ◌+◌, ◌<◌, ◌≤◌, ◌^◌, Bool, true, false, List, [], ◌∷◌, ◌++◌, length, take, drop, map, All, refl, sym, ap, ◌∙◌, subst}
+use Rattle.std.proofs.Common.{inl, inr, ◌⊎◌, arith, length-append}
 use Rattle.std.proofs.Common.{append-nil, append_assoc}
 use Rattle.std.proofs.Math.Seq.{get_or-append_seam}
 use Rattle.std.proofs.lemmas.Bool.{false≢true}
@@ -80,7 +81,8 @@ packet_or_leaves s cone n0 closed n bytes gate at packet holds may (Too_many oth
     absurd (omega (arith, many, ap (λ (p : Packet). length p.keys) (one_packet s cone bytes gate packet other holds there), may.within))
 
 -- a closed gate behind enough events, or a place
-pub closed_or_leaves : (s : Numbers) (cone n0 : ℕ) (closed : Bool) (n : ℕ) (bytes : List ℕ) (gate at : ℕ) → IsClosed bytes gate → n0 ≤ n → ReplayLeavesAt s cone n0 closed n bytes gate at → ⊥
+pub closed_or_leaves : (s : Numbers) (cone n0 : ℕ) (closed : Bool) (n : ℕ) (bytes : List ℕ) (gate at : ℕ) → IsClosed bytes gate → n0 ≤ n →
+    ReplayLeavesAt s cone n0 closed n bytes gate at → ⊥
 closed_or_leaves s cone n0 closed n bytes gate at shut enough (In_record leaves) = closed_or_left s cone (most_payload s) bytes gate at shut leaves
 closed_or_leaves s cone n0 closed n bytes gate at shut enough (Too_few too few at_is) = absurd (omega (arith, few, enough))
 closed_or_leaves s cone n0 closed n bytes gate at shut enough (Past_the_end packet there ended goes at_is) = open_or_closed (most_payload s) bytes gate (payload_of packet) there.stands shut
@@ -142,7 +144,8 @@ abbrev pub NextOrEnd : Numbers → ℕ → List ℕ → List Packet → List Pac
 NextOrEnd s cone bytes history done gate =
     ((done ≡ history) × IsClosed bytes gate) ⊎ ((packet : Packet) × IsNext history done packet × HoldsPacket s cone (most_payload s) bytes gate packet)
 
-module _ (s : Numbers) (cone : ℕ) (bytes : List ℕ) (history done : List Packet) (events : List ℕ) (gate : ℕ) (journal : IsJournal s cone history bytes) (past : IsPast history done events gate) where
+module _ (s : Numbers) (cone : ℕ) (bytes : List ℕ) (history done : List Packet) (events : List ℕ) (gate : ℕ) (journal : IsJournal s cone history bytes)
+    (past : IsPast history done events gate) where
   next_by : (rest : List Packet) → history ≡ done ++ rest → NextOrEnd s cone bytes history done gate
   next_by [] is =
       let all : done ≡ history = sym (is ∙ append-nil done) in
@@ -154,7 +157,8 @@ module _ (s : Numbers) (cone : ℕ) (bytes : List ℕ) (history done : List Pack
         packet,
         record { rest = rest; is = is },
         record {
-          stands = subst (λ (g : ℕ). IsOpen (most_payload s) bytes g (payload_of packet)) (sym past.gate_is) (from_gate (most_payload s) bytes [] done (packet ∷ rest) (end_of history) there).0;
+          stands = subst (λ (g : ℕ). IsOpen (most_payload s) bytes g (payload_of packet)) (sym past.gate_is)
+              (from_gate (most_payload s) bytes [] done (packet ∷ rest) (end_of history) there).0;
           journaled = at_seam (IsJournaled s cone) done rest packet (subst (All (IsJournaled s cone)) is journal.journaled);
           fits = at_seam (λ (p : Packet). All (λ key. key < 2 ^ 64) p.keys) done rest packet (subst KeysFit is journal.fit);
         },

@@ -1,5 +1,6 @@
 -- A key through the counts: its totals don't come to the reports, or a report finds no room, or it is counted.
-use Rattle.std.proofs.Common.{◌≡◌, ℕ, suc, ◌+◌, ◌^◌, ◌<◌, ◌-◌, ◌≢◌, true, false, List, [], ◌∷◌, ◌++◌, length, Some, Result, Ok, Err, refl, sym, ap, ◌∙◌, subst, arith}
+use Rattle.std.proofs.Common.{◌≡◌, ℕ, suc, ◌+◌, ◌^◌, ◌<◌, ◌-◌, ◌≢◌, true, false, List, [], ◌∷◌, ◌++◌, length, Some, Result, Ok, Err, refl, sym, ap}
+use Rattle.std.proofs.Common.{◌∙◌, subst, arith}
 use Rattle.std.specs.Result.{IsErrAnd}
 use Rattle.lert_bay.specs.Files.{Files}
 use Rattle.lert_gatelog.specs.Kept.{InEach}
@@ -59,7 +60,8 @@ module _ {B : Type 0} (bays : Bays B) (lawful : IsLawful bays) (t : Tallied) (ls
     never_malformed_held : (seen : Files) → bays.files bay ≡ Some seen → IsHeld t seen → (at : ℕ) → result ≢ Err (Malformed at)
     never_malformed_held seen told held = brings.sound (t.listing.events ++ key ∷ []) long now_young seen told (now_frames seen held)
 
-    never_malformed_some : (seen : Files) → bays.files bay ≡ Some seen → HoldsSome t.listing.settings (length t.listing.events) t.rows (seen 2) → (at : ℕ) → result ≢ Err (Malformed at)
+    never_malformed_some : (seen : Files) → bays.files bay ≡ Some seen → HoldsSome t.listing.settings (length t.listing.events) t.rows (seen 2) → (at : ℕ) →
+        result ≢ Err (Malformed at)
     never_malformed_some seen told some =
         brings.sound (others t ls levels_are valid named young_settings counted fits key tail m tail_is m_is young added (seen 2) some)
         (others_long t ls levels_are valid named young_settings counted fits key tail m tail_is m_is young added (seen 2) some)
@@ -113,7 +115,8 @@ module _ {B : Type 0} (bays : Bays B) (lawful : IsLawful bays) (t : Tallied) (ls
   not_counted result fault is brings given given_is =
       subst (λ (r : Result (Unit {0}) TakeFault). CountsKey bays key bay bay_after t (record { listing = t.listing; young = young_after; rows = levels_after.rows; due = due }) r) (handed_on given
       (take_fault fault) given_is)
-      (refused_by fault (subst (λ (r : Result (Unit {0}) FlushFault). Brings bays start m tail bay bay_after young young_after (record { settings = ls; rows = t.rows }) levels_after due r) is brings))
+      (refused_by fault (subst (λ (r : Result (Unit {0}) FlushFault). Brings bays start m tail bay bay_after young young_after (record { settings = ls; rows = t.rows }) levels_after due r) is
+      brings))
 
   module _ (below : key < 2 ^ 64) (own : cone_of t.listing.settings key ≡ t.listing.cone) (still : t.listing.closed ≡ false)
       (brings : Brings bays start m tail bay bay_after young young_after (record { settings = ls; rows = t.rows }) levels_after due (Ok tt)) where
@@ -171,7 +174,8 @@ module _ {B : Type 0} (bays : Bays B) (lawful : IsLawful bays) (t : Tallied) (ls
         record {
           listing = refl;
           taken = events_are;
-          counted = counted_next t ls levels_are valid named young_settings counted fits key tail m tail_is m_is young added below own start due start_is young_after levels_after.rows after after_is
+          counted = counted_next t ls levels_are valid named young_settings counted fits key tail m tail_is m_is young added below own start due start_is young_after levels_after.rows after
+              after_is
               brings.from brings.to (brings.bins (t.listing.events ++ key ∷ []) long now_young) brings.rows (brings.are (subst (λ (v : Numbers). AreRows v t.rows)
               (sym levels_are) counted.are)) brings.took;
           grows = omega (arith, brings.took.1.grows, ap (λ (d : Dues). length d.before) start_is, ap (length {A = Report}) brings.took.1.before_is);

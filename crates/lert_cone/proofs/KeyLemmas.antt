@@ -1,5 +1,6 @@
 -- Keys of a cone: one by one, and by their tails.
-use Rattle.std.proofs.Common.{ℕ, ◌≡◌, ◌≢◌, ◌+◌, ◌-◌, ◌*◌, ◌/◌, ◌%◌, ◌^◌, ◌<◌, ◌≤◌, zero, suc, cond, eqb, List, [], ◌∷◌, ◌++◌, take, drop, refl, ap, sym, ◌∙◌, arith, inl, inr, slice_range}
+use Rattle.std.proofs.Common.{ℕ, ◌≡◌, ◌≢◌, ◌+◌, ◌-◌, ◌*◌, ◌/◌, ◌%◌, ◌^◌, ◌<◌, ◌≤◌, zero, suc, cond, eqb, List, [], ◌∷◌, ◌++◌, take, drop}
+use Rattle.std.proofs.Common.{refl, ap, sym, ◌∙◌, arith, inl, inr, slice_range}
 use Rattle.std.proofs.lemmas.Bool.{cases_eq, eq-eqb, ne_eqb}
 use Rattle.std.proofs.lemmas.List.Sums.{sum_by-cons}
 use Rattle.std.proofs.lemmas.Nat.{mul-add-lt, shr_high, mod_low, pow-add}
@@ -43,7 +44,8 @@ AreOfCone-drop s cone (suc n) [] own = tt
 AreOfCone-drop s cone (suc n) (key ∷ keys) own = AreOfCone-drop s cone n keys own.1
 
 -- among keys of a cone a tail occurs as often as its key
-tails-times : (s : Numbers) (cone key : ℕ) (keys : List ℕ) → key < 2 ^ 64 → cone_of s key ≡ cone → AreKeys keys → AreOfCone s cone keys → tails s (tail_of s key) keys ≡ times key keys
+tails-times : (s : Numbers) (cone key : ℕ) (keys : List ℕ) → key < 2 ^ 64 → cone_of s key ≡ cone → AreKeys keys → AreOfCone s cone keys →
+    tails s (tail_of s key) keys ≡ times key keys
 tails-times s cone key [] below is fit own = refl
 tails-times s cone key (other ∷ others) below is fit own =
     let rest = tails-times s cone key others below is fit.1 own.1 in

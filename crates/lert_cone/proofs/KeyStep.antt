@@ -1,5 +1,6 @@
 -- A key and the end through the calls that they make: the files stay sound, and go together with memory again.
-use Rattle.std.proofs.Common.{◌≡◌, ◌≢◌, ℕ, suc, ◌+◌, ◌-◌, ◌<◌, ◌≤◌, Bool, false, cond, List, [], ◌∷◌, ◌++◌, length, take, drop, get_or, map, Option, Some, sym, ap, ◌∙◌, subst, inl, inr, ◌⊎◌, arith}
+use Rattle.std.proofs.Common.{◌≡◌, ◌≢◌, ℕ, suc, ◌+◌, ◌-◌, ◌<◌, ◌≤◌, Bool, false, cond, List, [], ◌∷◌, ◌++◌, length, take, drop, get_or, map, Option, Some}
+use Rattle.std.proofs.Common.{sym, ap, ◌∙◌, subst, inl, inr, ◌⊎◌, arith}
 use Rattle.std.proofs.Common.{length-append, append_assoc}
 use Rattle.std.proofs.lemmas.Bool.{false≢true, ne_eqb}
 use Rattle.std.proofs.lemmas.List.{take_all, take_more, take-append-drop}
@@ -71,7 +72,8 @@ module _ (leaves since : Files → Type 0) (seen : Files) (history : List Packet
   frames_here = frames_since leaves since seen t.listing.settings t.listing.events t.rows counted.are read up.frames frames_keep
 
   -- they stay sound
-  pub sound_here : t.listing.closed ≡ false → IsPartway t.listing.settings history t.listing.events [] → (image : Files) → since image → IsSound t.listing.settings t.listing.cone history image
+  pub sound_here : t.listing.closed ≡ false → IsPartway t.listing.settings history t.listing.events [] → (image : Files) → since image →
+      IsSound t.listing.settings t.listing.cone history image
   sound_here still partway image may =
       sound_of t.listing.settings t.listing.cone history t.listing.events t.rows t.listing.closed up.logged log.gate counted.valid counted.rows partway
       (λ ended. absurd (false≢true (sym still ∙ ended))) up.log_of image (journal_here image may) (log_here image may) (frames_here image may)
@@ -187,7 +189,8 @@ module _ (leaves : Files → Type 0) (seen : Files) (history : List Packet) (t a
     rows_at : IsAt t.listing.settings (suc (length t.listing.events)) a.rows
     rows_at = subst (λ n. IsAt t.listing.settings n a.rows) long (to_listing (λ s cone events closed. IsAt s (length events) a.rows) counted.rows)
 
-    pub next : LogsNext t.listing.settings t.listing.cone (t.listing.events ++ key ∷ []) a.rows false logged (next_record LogKind.Flush (suc (length t.listing.events)) a.rows logged a.due.reports)
+    pub next : LogsNext t.listing.settings t.listing.cone (t.listing.events ++ key ∷ []) a.rows false logged
+        (next_record LogKind.Flush (suc (length t.listing.events)) a.rows logged a.due.reports)
     next =
         log_at_flush t.listing.settings before.valid t.listing.cone t.listing.events key t.rows a.rows logged a.due.reports
         (omega (arith, long, to_listing (λ s cone events closed. length events ≤ capacity s) counted.fits)) moves_here
@@ -217,7 +220,8 @@ module _ (leaves : Files → Type 0) (seen : Files) (history : List Packet) (t a
           earlier in
           elim (log_beside leaves since seen s cone history logged one log.gate payload taken.read taken.journal taken.journal_settled taken.log_there next.is.rules payload_here others earlier
           each image may) [
-            | inl without ↦ sound_of s cone history t.listing.events t.rows false logged log.gate before.valid before.rows (partway_less t.listing.settings history t.listing.events (key ∷ []) partway)
+            | inl without ↦ sound_of s cone history t.listing.events t.rows false logged log.gate before.valid before.rows
+                (partway_less t.listing.settings history t.listing.events (key ∷ []) partway)
                 (λ never. absurd (false≢true never)) taken.log_of image journal without (beside t.listing.events t.rows before.are taken.frames_before image may)
             | inr with_it ↦ sound_of s cone history (t.listing.events ++ key ∷ []) a.rows false (logged ++ one ∷ []) (next_gate log.gate payload) before.valid
                 (subst (λ n. IsAt t.listing.settings n a.rows) (sym long) rows_at) (partway_more t.listing.settings history t.listing.events key partway)
@@ -258,7 +262,8 @@ module _ (leaves : Files → Type 0) (seen : Files) (history : List Packet) (t a
 -- ---- where a bay tells its files
 
 -- what goes together with memory holds what memory asks of the files
-pub held_of : (leaves : Files → Type 0) (seen : Files) (history : List Packet) (t : Tallied) (log : LogPlace) → leaves seen → IsInStep leaves seen history t.listing t.rows t.due.reports log →
+pub held_of : (leaves : Files → Type 0) (seen : Files) (history : List Packet) (t : Tallied) (log : LogPlace) → leaves seen →
+    IsInStep leaves seen history t.listing t.rows t.due.reports log →
     IsHeld t seen
 held_of leaves seen history t log read up = record { frames = up.frames seen read; reports = up.reports_are }
 
@@ -277,26 +282,33 @@ module _ {B : Type 0} (bays : Bays B) (lawful : IsLawful bays) (bay bay_after : 
   frames_kept : (from to : ℕ) → InNamed t.listing.settings t.rows from to → IsSettled (bays.leaves bay) seen 2 from to → Keeps (bays.left_since bay_after (bays.moment bay)) seen 2 from to
   frames_kept from to named settled = rest.settled seen told 2 from to (inr named) settled
 
-  pub sound_rest : (more : List ℕ) → IsPartway t.listing.settings history t.listing.events more → (image : Files) → bays.left_since bay_after (bays.moment bay) image → IsSound t.listing.settings t.listing.cone history image
-  sound_rest more partway = sound_here (bays.leaves bay) (bays.left_since bay_after (bays.moment bay)) seen history t log counted up (lawful.as_read bay seen told) journal_kept log_kept frames_kept still
+  pub sound_rest : (more : List ℕ) → IsPartway t.listing.settings history t.listing.events more → (image : Files) → bays.left_since bay_after (bays.moment bay) image →
+      IsSound t.listing.settings t.listing.cone history image
+  sound_rest more partway = sound_here (bays.leaves bay) (bays.left_since bay_after (bays.moment bay)) seen history t log counted up (lawful.as_read bay seen told) journal_kept log_kept
+      frames_kept still
       (partway_less t.listing.settings history t.listing.events more partway)
 
-  pub taken_of : (a : Tallied) (key : ℕ) → a.listing ≡ record t.listing { events = t.listing.events ++ key ∷ [] } → (after : Files) → bays.files bay_after ≡ Some after → bays.leaves bay_after after →
-      InEach (bays.leaves bay_after) 2 (HoldsBins a.listing.settings a.listing.events a.rows) → a.due.reports ≡ reports_of a.listing → IsTaken (bays.leaves bay_after) after history t a log up.logged key
+  pub taken_of : (a : Tallied) (key : ℕ) → a.listing ≡ record t.listing { events = t.listing.events ++ key ∷ [] } → (after : Files) → bays.files bay_after ≡ Some after →
+      bays.leaves bay_after after →
+      InEach (bays.leaves bay_after) 2 (HoldsBins a.listing.settings a.listing.events a.rows) → a.due.reports ≡ reports_of a.listing →
+      IsTaken (bays.leaves bay_after) after history t a log up.logged key
   taken_of a key listing_is after told_after read_after frames reports = record {
     log_of = subst (λ closed. IsLogOf t.listing.settings t.listing.cone t.listing.events t.rows closed up.logged) still up.log_of;
     named_is = up.named_is;
     listing_is = listing_is;
     read = read_after;
-    journal = λ image may. journal_here (bays.leaves bay) (bays.left_since bay_after (bays.moment bay)) seen history t log counted up (lawful.as_read bay seen told) journal_kept log_kept frames_kept image (now_since bays lawful bay bay_after time.later image may);
+    journal = λ image may. journal_here (bays.leaves bay) (bays.left_since bay_after (bays.moment bay)) seen history t log counted up (lawful.as_read bay seen told) journal_kept log_kept
+        frames_kept image (now_since bays lawful bay bay_after time.later image may);
     journal_settled = settled_alone bays lawful 0 bay bay_after
         (alone_rest bays lawful (InNamed t.listing.settings t.rows) 0 (λ same. absurd (omega (arith, same))) bay bay_after rest time)
         seen told up.journal_settled after told_after;
-    log_there = λ image may. log_here (bays.leaves bay) (bays.left_since bay_after (bays.moment bay)) seen history t log counted up (lawful.as_read bay seen told) journal_kept log_kept frames_kept image (now_since bays lawful bay bay_after time.later image may);
+    log_there = λ image may. log_here (bays.leaves bay) (bays.left_since bay_after (bays.moment bay)) seen history t log counted up (lawful.as_read bay seen told) journal_kept log_kept
+        frames_kept image (now_since bays lawful bay bay_after time.later image may);
     log_settled = settled_alone bays lawful 1 bay bay_after
         (alone_rest bays lawful (InNamed t.listing.settings t.rows) 1 (λ same. absurd (omega (arith, same))) bay bay_after rest time)
         seen told up.log_settled after told_after;
-    frames_before = λ image may. frames_here (bays.leaves bay) (bays.left_since bay_after (bays.moment bay)) seen history t log counted up (lawful.as_read bay seen told) journal_kept log_kept frames_kept image (now_since bays lawful bay bay_after time.later image may);
+    frames_before = λ image may. frames_here (bays.leaves bay) (bays.left_since bay_after (bays.moment bay)) seen history t log counted up (lawful.as_read bay seen told) journal_kept log_kept
+        frames_kept image (now_since bays lawful bay bay_after time.later image may);
     frames = frames;
     reports_are = reports;
   }
@@ -315,4 +327,5 @@ sound_now leaves seen history t log more counted still up partway image may =
 -- in each image of each moment of a key behind others: either it was left before, or since the key began
 pub sound_behind : (listing first : Listing) (history : List Packet) (image : Files) → listing.settings ≡ first.settings → listing.cone ≡ first.cone →
     IsSound listing.settings listing.cone history image → IsSound first.settings first.cone history image
-sound_behind listing first history image settings cone sound = subst (λ n. IsSound first.settings n history image) cone (subst (λ (s : Numbers). IsSound s listing.cone history image) settings sound)
+sound_behind listing first history image settings cone sound = subst (λ n. IsSound first.settings n history image) cone
+    (subst (λ (s : Numbers). IsSound s listing.cone history image) settings sound)

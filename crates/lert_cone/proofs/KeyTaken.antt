@@ -1,5 +1,6 @@
 -- A key through the calls that it makes: it isn't counted, no flush comes with it, or a flush and its record.
-use Rattle.std.proofs.Common.{◌≡◌, ◌≢◌, ℕ, ◌+◌, ◌-◌, ◌≤◌, List, [], ◌∷◌, ◌++◌, length, map, Result, Ok, Err, Some, refl, sym, ap, ◌∙◌, subst, inl, inr, arith, length-append}
+use Rattle.std.proofs.Common.{◌≡◌, ◌≢◌, ℕ, ◌+◌, ◌-◌, ◌≤◌, List, [], ◌∷◌, ◌++◌, length, map, Result, Ok, Err, Some, refl, sym, ap, ◌∙◌, subst, inl, inr}
+use Rattle.std.proofs.Common.{arith, length-append}
 use Rattle.lert_bay.specs.Kept.{Bays}
 use Rattle.lert_bay.specs.Files.{Files, IfTold}
 use Rattle.lert_gatelog.specs.Gated.{IsGated}
@@ -37,7 +38,8 @@ use Rattle.std.specs.Result.{IsErrAnd}
 module _ {B : Type 0} (bays : Bays B) (lawful : IsLawful bays) (old : Workplace B) (key : ℕ) (can : CanTake bays (key ∷ []) old) (bay : B) (counts : Tallied) where
   -- whatever comes of it, the frames of before stand at each moment
   module _ (result : Result (Unit {0}) TakeFault) (did : CountsKey bays key old.bay bay old.counts counts result) where
-    sound_key : IfTold (bays.files old.bay) (λ seen. (history : List Packet) → IsPartway old.counts.listing.settings history old.counts.listing.events (key ∷ []) → AreInStep bays old seen history →
+    sound_key : IfTold (bays.files old.bay) (λ seen. (history : List Packet) → IsPartway old.counts.listing.settings history old.counts.listing.events (key ∷ []) →
+        AreInStep bays old seen history →
         (image : Files) → bays.left_since bay (bays.moment old.bay) image → IsSound old.counts.listing.settings old.counts.listing.cone history image)
     sound_key seen told history partway up image may =
         sound_rest bays lawful old.bay bay history old.counts old.log did.rest did.kept.time can.counted can.still seen told up (key ∷ []) partway image may
@@ -158,7 +160,8 @@ module _ {B : Type 0} (bays : Bays B) (lawful : IsLawful bays) (old : Workplace 
 
       journal_then : LeavesAlone bays 0 old.bay bay_after
       journal_then =
-          alone_on bays lawful 0 old.bay bay bay_after (alone_rest bays lawful (InNamed old.counts.listing.settings old.counts.rows) 0 (λ same. absurd (omega (arith, same))) old.bay bay did.rest did.kept.time)
+          alone_on bays lawful 0 old.bay bay bay_after (alone_rest bays lawful (InNamed old.counts.listing.settings old.counts.rows) 0 (λ same. absurd (omega (arith, same))) old.bay bay did.rest
+          did.kept.time)
           (alone_others bays lawful 1 0 (λ same. absurd (omega (arith, same))) bay bay_after appends.seen appends.others appends.kept.time)
 
       -- in each image of each moment
@@ -169,7 +172,8 @@ module _ {B : Type 0} (bays : Bays B) (lawful : IsLawful bays) (old : Workplace 
           let mid = did.rest.seen.told seen told in
           let taken_then = taken seen told history up mid.0 mid.1 in
           let all : InEach (bays.leaves bay) 1 (λ bytes. IsGated old.log.most bytes 8 (map log_payload_of up.logged) old.log.gate) =
-          λ earlier left. subst (λ (m : ℕ). IsGated m (earlier 1) 8 (map log_payload_of up.logged) old.log.gate) (sym can.can_log.logging.most) (taken_then.log_there earlier left).records_stand in
+          λ earlier left. subst (λ (m : ℕ). IsGated m (earlier 1) 8 (map log_payload_of up.logged) old.log.gate) (sym can.can_log.logging.most)
+          (taken_then.log_there earlier left).records_stand in
           let each : InEach (bays.left_since bay_after (bays.moment bay)) 1 (IsWithOrWithout (most_record old.counts.listing.settings) 8 (map log_payload_of up.logged) old.log.gate payload) =
           λ earlier left. subst (λ (m : ℕ). IsWithOrWithout m 8 (map log_payload_of up.logged) old.log.gate payload (earlier 1)) can.can_log.logging.most
           (appends.each_moment mid.0 mid.1 8 (map log_payload_of up.logged) all earlier left) in
@@ -238,7 +242,8 @@ module _ {B : Type 0} (bays : Bays B) (lawful : IsLawful bays) (old : Workplace 
           let mid = did.rest.seen.told seen told in
           let taken_then = taken seen told history up mid.0 mid.1 in
           let all : InEach (bays.leaves bay) 1 (λ bytes. IsGated old.log.most bytes 8 (map log_payload_of up.logged) old.log.gate) =
-          λ earlier left. subst (λ (m : ℕ). IsGated m (earlier 1) 8 (map log_payload_of up.logged) old.log.gate) (sym can.can_log.logging.most) (taken_then.log_there earlier left).records_stand in
+          λ earlier left. subst (λ (m : ℕ). IsGated m (earlier 1) 8 (map log_payload_of up.logged) old.log.gate) (sym can.can_log.logging.most)
+          (taken_then.log_there earlier left).records_stand in
           let pay = payload_at old.log LogKind.Flush (length counts.listing.events) (directory_text counts.rows) counts.due.reports in
           let stands : InEach (bays.leaves bay_after) 1 (λ bytes. IsGated (most_record old.counts.listing.settings) bytes 8 (map log_payload_of up.logged ++ pay ∷ []) log_after.gate) =
           λ later left. subst (λ (m : ℕ). IsGated m (later 1) 8 (map log_payload_of up.logged ++ pay ∷ []) log_after.gate) can.can_log.logging.most

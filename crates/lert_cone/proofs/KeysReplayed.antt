@@ -1,5 +1,6 @@
 -- Keys of a journal that are taken again: all are counted again, or others stand behind those.
-use Rattle.std.proofs.Common.{◌≡◌, ℕ, ◌+◌, ◌-◌, ◌<◌, ◌≤◌, Bool, true, false, List, ◌++◌, All, length, take, drop, min, max, Result, Ok, refl, sym, ap, ◌∙◌, subst, arith, length-append, length-take}
+use Rattle.std.proofs.Common.{◌≡◌, ℕ, ◌+◌, ◌-◌, ◌<◌, ◌≤◌, Bool, true, false, List, ◌++◌, All, length, take, drop, min, max, Result, Ok, refl, sym, ap, ◌∙◌}
+use Rattle.std.proofs.Common.{subst, arith, length-append, length-take}
 use Rattle.std.proofs.Common.{length-drop, append_assoc}
 use Rattle.std.proofs.lemmas.List.{take_all, take-append-drop}
 use Rattle.std.proofs.lemmas.List.Elements.{All-drop}
@@ -33,7 +34,8 @@ never_true false never = refl
 
 -- `counts` is what the cone counted once the first keys are counted again, and nothing else changed
 module _ {B : Type 0} (bays : Bays B) (lawful : IsLawful bays) (old : Workplace B) (n0 count : ℕ) (keys : List ℕ) (can : CanReplay bays n0 keys old) (counts : Tallied)
-    (count_is : count ≡ min (n0 - length old.counts.listing.events) (length keys)) (listing_is : counts.listing ≡ record old.counts.listing { events = old.counts.listing.events ++ take count keys })
+    (count_is : count ≡ min (n0 - length old.counts.listing.events) (length keys))
+    (listing_is : counts.listing ≡ record old.counts.listing { events = old.counts.listing.events ++ take count keys })
     (rows_are : counts.rows ≡ old.counts.rows) (due_is : counts.due ≡ old.counts.due) (recounted : IsRecounted counts n0) where
   settings_are : counts.listing.settings ≡ old.counts.listing.settings
   settings_are = ap (λ (l : Listing). l.settings) listing_is
@@ -67,14 +69,16 @@ module _ {B : Type 0} (bays : Bays B) (lawful : IsLawful bays) (old : Workplace 
         recounted = recounted;
         can_log = can_log_then;
         on_way = λ seen told history rest is on_way after told_after.
-            subst (λ (files : Files). IsOnWay (bays.leaves old.bay) files history counts.listing counts.rows counts.due.reports old.log n0) (told_once (bays.files old.bay) seen after told told_after)
+            subst (λ (files : Files). IsOnWay (bays.leaves old.bay) files history counts.listing counts.rows counts.due.reports old.log n0)
+            (told_once (bays.files old.bay) seen after told told_after)
             (way_counted (bays.leaves old.bay) seen history old.counts counts old.log n0 count keys rest on_way is early listing_is rows_are due_is);
         sound = λ seen told history rest is on_way file at same. (let never : ⊥ = cc in never);
         each_moment = λ seen told history rest is on_way image may.
             sound_recounted (bays.leaves old.bay) seen history old.counts old.log n0 can.recounted on_way (keys ++ rest) is image (lawful.only_now old.bay image may);
         unflushed = λ passed. refl;
         framed = λ seen told some after told_after.
-            let same : max n0 (length old.counts.listing.events) ≡ max n0 (length counts.listing.events) = omega (arith, count_is, counted, none, length-take count keys, length-drop count keys) in
+            let same : max n0 (length old.counts.listing.events) ≡ max n0 (length counts.listing.events) =
+            omega (arith, count_is, counted, none, length-take count keys, length-drop count keys) in
             subst (λ (s : Numbers). HoldsSome s (max n0 (length counts.listing.events)) counts.rows (after 2)) (sym settings_are)
             (subst (λ (rows : List (List BinAt)). HoldsSome old.counts.listing.settings (max n0 (length counts.listing.events)) rows (after 2)) (sym rows_are)
             (subst (λ n. HoldsSome old.counts.listing.settings n old.counts.rows (after 2)) same
@@ -140,8 +144,10 @@ module _ {B : Type 0} (bays : Bays B) (lawful : IsLawful bays) (old : Workplace 
               on_ok _ _ (IfTold (bays.files new.bay) (λ after. IsOnWay (bays.leaves new.bay) after history new.counts.listing new.counts.rows new.counts.due.reports new.log n0)) result
               (did.in_step seen told history step) did.taken
               (λ up (took : new.counts.listing.events ≡ counts.listing.events ++ drop count keys) after told_after.
-              way_taken (bays.leaves old.bay) seen history old.counts counts old.log n0 count keys rest on_way is early listing_is rows_are due_is enough (bays.leaves new.bay) after new.counts new.log
-              (did.listing ∙ ap (λ (ks : List ℕ). record { settings = counts.listing.settings; cone = counts.listing.cone; events = ks; closed = counts.listing.closed }) took) (up after told_after));
+              way_taken (bays.leaves old.bay) seen history old.counts counts old.log n0 count keys rest on_way is early listing_is rows_are due_is enough (bays.leaves new.bay) after new.counts
+              new.log
+              (did.listing ∙ ap (λ (ks : List ℕ). record { settings = counts.listing.settings; cone = counts.listing.cone; events = ks; closed = counts.listing.closed }) took)
+              (up after told_after));
           sound = λ seen told history rest is on_way.
               did.sound seen told history (way_in_step (bays.leaves old.bay) seen history old.counts counts old.log n0 count keys rest on_way is early listing_is rows_are due_is enough);
           each_moment = λ seen told history rest is on_way image may.

@@ -1,5 +1,6 @@
 -- Keys in turn: none, one more, and one that isn't taken.
-use Rattle.std.proofs.Common.{◌≡◌, ℕ, ◌+◌, ◌<◌, ◌≤◌, List, [], ◌∷◌, ◌++◌, All, length, take, drop, get_or, Result, Ok, Err, OnOk, refl, sym, ap, ◌∙◌, subst, inl, inr, arith, length-append}
+use Rattle.std.proofs.Common.{◌≡◌, ℕ, ◌+◌, ◌<◌, ◌≤◌, List, [], ◌∷◌, ◌++◌, All, length, take, drop, get_or, Result, Ok, Err, OnOk, refl, sym, ap, ◌∙◌, subst}
+use Rattle.std.proofs.Common.{inl, inr, arith, length-append}
 use Rattle.std.proofs.Common.{append_assoc, append-nil, length-take}
 use Rattle.std.specs.Result.{IsErrAnd}
 use Rattle.std.proofs.lemmas.List.{take_all, take_more, take-append-drop}
@@ -78,57 +79,59 @@ module _ {B : Type 0} (bays : Bays B) (lawful : IsLawful bays) where
   }
 
   -- some, and then others
-  module _ (old mid new : Workplace B) (front back : List ℕ) (result : Result (Unit {0}) TakeFault) (first : TakesKeys bays front old mid (Ok tt)) (second : TakesKeys bays back mid new result) where
-    mid_is : mid.counts.listing ≡ record old.counts.listing { events = old.counts.listing.events ++ front }
-    mid_is = first.listing ∙ ap (λ (keys : List ℕ). record { settings = old.counts.listing.settings; cone = old.counts.listing.cone; events = keys; closed = old.counts.listing.closed }) first.taken
+  module _ (old mid new : Workplace B) (front back : List ℕ) (result : Result (Unit {0}) TakeFault) (first : TakesKeys bays front old mid (Ok tt)) (second : TakesKeys bays back mid new result)
+    where
+      mid_is : mid.counts.listing ≡ record old.counts.listing { events = old.counts.listing.events ++ front }
+      mid_is = first.listing ∙ ap (λ (keys : List ℕ). record { settings = old.counts.listing.settings; cone = old.counts.listing.cone; events = keys; closed = old.counts.listing.closed })
+          first.taken
 
-    mid_long : length mid.counts.listing.events ≡ length old.counts.listing.events + length front
-    mid_long = ap (length {A = ℕ}) first.taken ∙ length-append old.counts.listing.events front
+      mid_long : length mid.counts.listing.events ≡ length old.counts.listing.events + length front
+      mid_long = ap (length {A = ℕ}) first.taken ∙ length-append old.counts.listing.events front
 
-    back_passed : last_flush old.counts.listing.settings (length old.counts.listing.events + length (front ++ back)) ≤ length old.counts.listing.events →
-        last_flush mid.counts.listing.settings (length mid.counts.listing.events + length back) ≤ length mid.counts.listing.events
-    back_passed passed =
-        let same : length mid.counts.listing.events + length back ≡ length old.counts.listing.events + length (front ++ back) = omega (arith, mid_long, length-append front back) in
-        subst (λ (s : Numbers). last_flush s (length mid.counts.listing.events + length back) ≤ length mid.counts.listing.events) (sym (ap (λ (l : Listing). l.settings) mid_is))
-        (omega (arith, passed, mid_long, ap (last_flush old.counts.listing.settings) same))
+      back_passed : last_flush old.counts.listing.settings (length old.counts.listing.events + length (front ++ back)) ≤ length old.counts.listing.events →
+          last_flush mid.counts.listing.settings (length mid.counts.listing.events + length back) ≤ length mid.counts.listing.events
+      back_passed passed =
+          let same : length mid.counts.listing.events + length back ≡ length old.counts.listing.events + length (front ++ back) = omega (arith, mid_long, length-append front back) in
+          subst (λ (s : Numbers). last_flush s (length mid.counts.listing.events + length back) ≤ length mid.counts.listing.events) (sym (ap (λ (l : Listing). l.settings) mid_is))
+          (omega (arith, passed, mid_long, ap (last_flush old.counts.listing.settings) same))
 
-    pub takes_more : TakesKeys bays (front ++ back) old new result
-    takes_more = record {
-      listing = second.listing ∙ ap (λ (l : Listing). record { settings = l.settings; cone = l.cone; events = new.counts.listing.events; closed = l.closed }) first.listing;
-      taken = map_ok result (λ (took : new.counts.listing.events ≡ mid.counts.listing.events ++ back).
-          took ∙ ap (λ (keys : List ℕ). keys ++ back) first.taken ∙ append_assoc old.counts.listing.events front back) second.taken;
-      counted = second.counted;
-      can_log = second.can_log;
-      in_step = λ seen told history up.
-          let came = first.keeps.journal.seen.told seen told in
-          second.in_step came.0 came.1 history (first.in_step seen told history up came.0 came.1);
-      each_moment = λ seen told history partway up image may.
-          let came = first.keeps.journal.seen.told seen told in
-          let here_up = first.in_step seen told history up came.0 came.1 in
-          let behind = subst (λ (l : Listing). IsPartway l.settings history l.events back) (sym mid_is)
-          (partway_back old.counts.listing.settings history old.counts.listing.events front back partway) in
-          elim (second.keeps.journal.time.known (bays.moment old.bay) image first.keeps.journal.time.later may) [
-            | inl past ↦ first.each_moment seen told history (partway_front old.counts.listing.settings history old.counts.listing.events front back partway) up image past
-            | inr here ↦ sound_behind mid.counts.listing old.counts.listing history image (ap (λ (l : Listing). l.settings) first.listing) (ap (λ (l : Listing). l.cone) first.listing)
-                (second.each_moment came.0 came.1 history behind here_up image here)
-          ];
-      sound = λ seen told history up.
-          let came = first.keeps.journal.seen.told seen told in
-          second.sound came.0 came.1 history (first.in_step seen told history up came.0 came.1);
-      framed = λ seen told some.
-          let came = first.keeps.journal.seen.told seen told in
-          second.framed came.0 came.1 (first.framed seen told some came.0 came.1);
-      whole = λ seen told some.
-          let came = first.keeps.journal.seen.told seen told in
-          second.whole came.0 came.1 (first.framed seen told some came.0 came.1);
-      unflushed = λ passed. second.unflushed (back_passed passed) ∙ first.unflushed (front_passed old.counts.listing.settings (length old.counts.listing.events) front back passed);
-      keeps = record {
-        shows = second.keeps.shows;
-        journal = alone_on bays lawful 0 old.bay mid.bay new.bay first.keeps.journal second.keeps.journal;
-        most = second.keeps.most ∙ first.keeps.most;
-        kept = keeps_on bays lawful old.bay mid.bay new.bay _ _ first.keeps.kept second.keeps.kept;
-      };
-    }
+      pub takes_more : TakesKeys bays (front ++ back) old new result
+      takes_more = record {
+        listing = second.listing ∙ ap (λ (l : Listing). record { settings = l.settings; cone = l.cone; events = new.counts.listing.events; closed = l.closed }) first.listing;
+        taken = map_ok result (λ (took : new.counts.listing.events ≡ mid.counts.listing.events ++ back).
+            took ∙ ap (λ (keys : List ℕ). keys ++ back) first.taken ∙ append_assoc old.counts.listing.events front back) second.taken;
+        counted = second.counted;
+        can_log = second.can_log;
+        in_step = λ seen told history up.
+            let came = first.keeps.journal.seen.told seen told in
+            second.in_step came.0 came.1 history (first.in_step seen told history up came.0 came.1);
+        each_moment = λ seen told history partway up image may.
+            let came = first.keeps.journal.seen.told seen told in
+            let here_up = first.in_step seen told history up came.0 came.1 in
+            let behind = subst (λ (l : Listing). IsPartway l.settings history l.events back) (sym mid_is)
+            (partway_back old.counts.listing.settings history old.counts.listing.events front back partway) in
+            elim (second.keeps.journal.time.known (bays.moment old.bay) image first.keeps.journal.time.later may) [
+              | inl past ↦ first.each_moment seen told history (partway_front old.counts.listing.settings history old.counts.listing.events front back partway) up image past
+              | inr here ↦ sound_behind mid.counts.listing old.counts.listing history image (ap (λ (l : Listing). l.settings) first.listing) (ap (λ (l : Listing). l.cone) first.listing)
+                  (second.each_moment came.0 came.1 history behind here_up image here)
+            ];
+        sound = λ seen told history up.
+            let came = first.keeps.journal.seen.told seen told in
+            second.sound came.0 came.1 history (first.in_step seen told history up came.0 came.1);
+        framed = λ seen told some.
+            let came = first.keeps.journal.seen.told seen told in
+            second.framed came.0 came.1 (first.framed seen told some came.0 came.1);
+        whole = λ seen told some.
+            let came = first.keeps.journal.seen.told seen told in
+            second.whole came.0 came.1 (first.framed seen told some came.0 came.1);
+        unflushed = λ passed. second.unflushed (back_passed passed) ∙ first.unflushed (front_passed old.counts.listing.settings (length old.counts.listing.events) front back passed);
+        keeps = record {
+          shows = second.keeps.shows;
+          journal = alone_on bays lawful 0 old.bay mid.bay new.bay first.keeps.journal second.keeps.journal;
+          most = second.keeps.most ∙ first.keeps.most;
+          kept = keeps_on bays lawful old.bay mid.bay new.bay _ _ first.keeps.kept second.keeps.kept;
+        };
+      }
 
   -- where a key isn't taken no other is
   takes_fewer : (old new : Workplace B) (front back : List ℕ) (fault : TakeFault) → TakesKeys bays front old new (Err fault) → TakesKeys bays (front ++ back) old new (Err fault)
@@ -152,7 +155,8 @@ module _ {B : Type 0} (bays : Bays B) (lawful : IsLawful bays) where
   module _ (old mid : Workplace B) (keys : List ℕ) (i : ℕ) (first : TakesKeys bays (take i keys) old mid (Ok tt)) where
     pub next_can : CanTake bays keys old → i < length keys → CanTake bays (get_or keys i 0 ∷ []) mid
     next_can can within =
-        let is = first.listing ∙ ap (λ (ks : List ℕ). record { settings = old.counts.listing.settings; cone = old.counts.listing.cone; events = ks; closed = old.counts.listing.closed }) first.taken in
+        let is = first.listing ∙ ap (λ (ks : List ℕ). record { settings = old.counts.listing.settings; cone = old.counts.listing.cone; events = ks; closed = old.counts.listing.closed })
+        first.taken in
         record {
           still = ap (λ (l : Listing). l.closed) is ∙ can.still;
           own = subst (λ (l : Listing). All (λ key. cone_of l.settings key ≡ l.cone) (get_or keys i 0 ∷ [])) (sym is)
@@ -168,11 +172,13 @@ module _ {B : Type 0} (bays : Bays B) (lawful : IsLawful bays) where
     next_takes new within second =
         subst (λ (front : List ℕ). TakesKeys bays front old new (Ok tt)) (sym (take_more keys i 0 within)) (takes_more old mid new (take i keys) (get_or keys i 0 ∷ []) (Ok tt) first second)
 
-    pub next_refused : (new : Workplace B) → i < length keys → (result : Result (Unit {0}) TakeFault) (fault : TakeFault) → result ≡ Err fault → TakesKeys bays (get_or keys i 0 ∷ []) mid new result →
+    pub next_refused : (new : Workplace B) → i < length keys → (result : Result (Unit {0}) TakeFault) (fault : TakeFault) → result ≡ Err fault →
+        TakesKeys bays (get_or keys i 0 ∷ []) mid new result →
         (given : Result (Unit {0}) TakeFault) → IsErrAnd given (λ g. g ≡ fault) → TakesKeys bays keys old new given
     next_refused new within result fault is second given given_is =
         let failed : TakesKeys bays (get_or keys i 0 ∷ []) mid new (Err fault) = subst (λ (r : Result (Unit {0}) TakeFault). TakesKeys bays (get_or keys i 0 ∷ []) mid new r) is second in
-        let split : (take i keys ++ get_or keys i 0 ∷ []) ++ drop (i + 1) keys ≡ keys = ap (λ front. front ++ drop (i + 1) keys) (sym (take_more keys i 0 within)) ∙ take-append-drop (i + 1) keys in
+        let split : (take i keys ++ get_or keys i 0 ∷ []) ++ drop (i + 1) keys ≡ keys = ap (λ front. front ++ drop (i + 1) keys) (sym (take_more keys i 0 within))
+        ∙ take-append-drop (i + 1) keys in
         subst (λ (r : Result (Unit {0}) TakeFault). TakesKeys bays keys old new r) (handed_on given fault given_is)
         (subst (λ (all : List ℕ). TakesKeys bays all old new (Err fault)) split
         (takes_fewer old new (take i keys ++ get_or keys i 0 ∷ []) (drop (i + 1) keys) fault (takes_more old mid new (take i keys) (get_or keys i 0 ∷ []) (Err fault) first failed)))

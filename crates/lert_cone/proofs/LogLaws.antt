@@ -1,5 +1,6 @@
 -- The records of a cone's log as events come: none at first, one more at each flush, and the closing one.
-use Rattle.std.proofs.Common.{ℕ, zero, suc, ◌≡◌, ◌≢◌, ◌+◌, ◌-◌, ◌*◌, ◌/◌, ◌<◌, ◌≤◌, Bool, true, false, ltb, List, [], ◌∷◌, ◌++◌, length, take, drop, get_or, map, min, max, All, refl, ap, sym, ◌∙◌}
+use Rattle.std.proofs.Common.{ℕ, zero, suc, ◌≡◌, ◌≢◌, ◌+◌, ◌-◌, ◌*◌, ◌/◌, ◌<◌, ◌≤◌, Bool, true, false, ltb, List, [], ◌∷◌, ◌++◌, length, take}
+use Rattle.std.proofs.Common.{drop, get_or, map, min, max, All, refl, ap, sym, ◌∙◌}
 use Rattle.std.proofs.Common.{arith, inl, inr, subst, length-append, append_assoc}
 use Rattle.std.specs.Prelude.{flat_map, slice_index_or, replicate, count_by}
 use Rattle.std.specs.List.{AllPairs, range_with_len}
@@ -223,13 +224,15 @@ log_at_flush s valid cone events key rows_before rows records reports within mov
         closed_is = is_closed-push records one;
         n0_is = last_n0-push records one ∙ sym last;
         directory_is = last_directory-push s records one;
-        reports_are = all_listed s valid cone LogKind.Flush (suc n) rows records reports within turn at are_rows are few begun is.rules is.closed_is ∙ reports_are ∙ ap (look s) (sym flushed_all);
+        reports_are = all_listed s valid cone LogKind.Flush (suc n) rows records reports within turn at are_rows are few begun is.rules is.closed_is ∙ reports_are
+            ∙ ap (look s) (sym flushed_all);
       };
     }
 
 -- closing adds a record after all events, with the rows of the last flush, and lists all reports
 pub log_at_close : (s : Numbers) (valid : IsValid s) (cone : ℕ) (events : List ℕ) (rows : List (List BinAt)) (records : List LogRecord) (reports : List Report) →
-    length events ≤ capacity s → AreKeys events → AreOfCone s cone events → IsAt s (length events) rows → AreRows s rows → reports ≡ closing s events → length reports ≤ s.room →
+    length events ≤ capacity s → AreKeys events → AreOfCone s cone events → IsAt s (length events) rows → AreRows s rows → reports ≡ closing s events →
+    length reports ≤ s.room →
     IsLogOf s cone events rows false records →
     LogsNext s cone events rows true records (next_record LogKind.Closing (length events) rows records reports)
 log_at_close s valid cone events rows records reports within keys own at are_rows reports_are few is =

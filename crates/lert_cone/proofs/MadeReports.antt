@@ -1,5 +1,6 @@
 -- The reports of a cone as they are made, of which earlier ones begin later ones.
-use Rattle.std.proofs.Common.{ℕ, zero, suc, ◌≡◌, ◌≢◌, ◌+◌, ◌-◌, ◌^◌, ◌<◌, ◌≤◌, Bool, cond, eqb, List, [], ◌∷◌, ◌++◌, length, take, drop, get_or, map, filter, All, refl, ap, sym, ◌∙◌, arith, inl, inr}
+use Rattle.std.proofs.Common.{ℕ, zero, suc, ◌≡◌, ◌≢◌, ◌+◌, ◌-◌, ◌^◌, ◌<◌, ◌≤◌, Bool, cond, eqb, List, [], ◌∷◌, ◌++◌, length, take, drop, get_or, map}
+use Rattle.std.proofs.Common.{filter, All, refl, ap, sym, ◌∙◌, arith, inl, inr}
 use Rattle.std.proofs.Common.{subst, length-append, append_assoc}
 use Rattle.std.specs.Prelude.{count_by}
 use Rattle.std.specs.List.{AllPairs}
@@ -104,7 +105,8 @@ module _ (s : Numbers) (cone : ℕ) where
       (keys_each at keys from fit.1 own.1)
 
   -- those that a window adds, behind earlier ones
-  due_each : (threshold from to n : ℕ) (events : List ℕ) (reports : List Report) → n ≤ to → 1 ≤ to → AreKeys events → AreOfCone s cone events → All (IsReport s cone n) reports →
+  due_each : (threshold from to n : ℕ) (events : List ℕ) (reports : List Report) → n ≤ to → 1 ≤ to → AreKeys events → AreOfCone s cone events →
+      All (IsReport s cone n) reports →
       All (IsReport s cone to) (with_due threshold events from to reports)
   due_each threshold from to n events reports later some fit own are =
       let test : ℕ → Bool = is_due threshold events from to reports in

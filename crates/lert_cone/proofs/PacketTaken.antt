@@ -1,6 +1,7 @@
 -- A packet through the calls that it makes: it isn't appended, or it is, and its keys are taken.
 use Rattle.std.specs.Prelude.{IsErr}
-use Rattle.std.proofs.Common.{◌≡◌, ℕ, ◌+◌, ◌^◌, ◌<◌, ◌≤◌, List, [], ◌∷◌, ◌++◌, All, length, Result, Ok, Err, OnOk, OnErr, Some, refl, ap, ◌∙◌, subst, inl, inr, arith}
+use Rattle.std.proofs.Common.{◌≡◌, ℕ, ◌+◌, ◌^◌, ◌<◌, ◌≤◌, List, [], ◌∷◌, ◌++◌, All, length, Result, Ok, Err, OnOk, OnErr, Some, refl, ap, ◌∙◌, subst, inl}
+use Rattle.std.proofs.Common.{inr, arith}
 use Rattle.std.specs.Result.{IsErrAnd}
 use Rattle.lert_base.specs.Packet.{Packet, events_of}
 use Rattle.lert_bay.specs.Files.{Files, IfTold, Turns}
@@ -104,7 +105,8 @@ module _ {B : Type 0} (bays : Bays B) (lawful : IsLawful bays) (old : Workplace 
   }
 
   -- it isn't appended
-  pub packet_refused : {E : Type 0} (result : Result (Unit {0}) E) (failed : E) → result ≡ Err failed → AppendsPacket bays packet old.bay bay journal journal_after result → (room : ℕ) →
+  pub packet_refused : {E : Type 0} (result : Result (Unit {0}) E) (failed : E) → result ≡ Err failed → AppendsPacket bays packet old.bay bay journal journal_after result →
+      (room : ℕ) →
       (given : Result (Unit {0}) TakeFault) → IsErrAnd given (λ fault. fault ≡ Failed) → TakesPacket bays packet old (record {
         bay = bay;
         counts = old.counts;
@@ -149,7 +151,8 @@ module _ {B : Type 0} (bays : Bays B) (lawful : IsLawful bays) (old : Workplace 
         let appended_here = appended_there {T = Unit {0}} {E = E} (Ok tt) (bays.leaves old.bay) (bays.leaves bay) old.counts.listing.settings journal.file journal.most journal.gate
         journal_after.gate packet can.file can.most refl
         (appends.appended seen told) history (there (Ok tt) appends seen told history whole) in
-        up_appended (bays.leaves old.bay) (bays.left_since bay (bays.moment old.bay)) seen old.counts old.log journal.gate history packet can.counted can.still (lawful.as_read old.bay seen told) whole
+        up_appended (bays.leaves old.bay) (bays.left_since bay (bays.moment old.bay)) seen old.counts old.log journal.gate history packet can.counted can.still (lawful.as_read old.bay seen told)
+        whole
         can.journaled fit (fits_here (Ok tt) appends seen history whole) (others_here (Ok tt) appends seen told) (before_here (Ok tt) appends seen told) (bays.leaves bay) mid journal_after.gate
         (now (Ok tt) appends)
         (ap (λ (j : Log). j.gate) appends.moved) appended_here

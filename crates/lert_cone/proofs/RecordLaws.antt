@@ -1,5 +1,6 @@
 -- The text of a record, as it is appended.
-use Rattle.std.proofs.Common.{◌≡◌, ℕ, ◌+◌, ◌-◌, ◌*◌, ◌≤◌, List, [], ◌∷◌, ◌++◌, length, take, drop, get_or, All, Result, Err, refl, sym, ap, subst, ◌∙◌, arith, length-drop, length-append}
+use Rattle.std.proofs.Common.{◌≡◌, ℕ, ◌+◌, ◌-◌, ◌*◌, ◌≤◌, List, [], ◌∷◌, ◌++◌, length, take, drop, get_or, All, Result, Err, refl, sym, ap, subst, ◌∙◌}
+use Rattle.std.proofs.Common.{arith, length-drop, length-append}
 use Rattle.std.specs.Prelude.{flat_map}
 use Rattle.std.proofs.lemmas.List.{take_all, get_or_default}
 use Rattle.std.proofs.lemmas.Nat.{mul-le}
@@ -48,7 +49,8 @@ length_payload kind n0 directory new =
       length_reports new,
     )
 
-pub payload_long : (log : LogPlace) (kind : LogKind) (n0 : ℕ) (directory : List ℕ) (reports : List Report) → length (payload_at log kind n0 directory reports) ≡ payload_len log directory reports
+pub payload_long : (log : LogPlace) (kind : LogKind) (n0 : ℕ) (directory : List ℕ) (reports : List Report) →
+    length (payload_at log kind n0 directory reports) ≡ payload_len log directory reports
 payload_long log kind n0 directory reports = ap length (sym (payload_is_at log kind n0 directory reports)) ∙ length_payload kind n0 directory (drop log.named reports)
 
 -- ---- a text that was written, of the reports behind the named ones
@@ -97,9 +99,11 @@ most_few s valid =
     omega (arith, product, valid.limits.room_to)
 
 -- and a record more leaves a log in its bounds
-pub logging_more : (t a : Tallied) (log log_after : LogPlace) (room room_after : ℕ) (key : ℕ) (directory : List ℕ) (reports : List Report) → IsValid t.listing.settings → IsLogging t log room →
+pub logging_more : (t a : Tallied) (log log_after : LogPlace) (room room_after : ℕ) (key : ℕ) (directory : List ℕ) (reports : List Report) → IsValid t.listing.settings →
+    IsLogging t log room →
     a.listing ≡ record t.listing { events = t.listing.events ++ key ∷ [] } →
-    log_after.most ≡ log.most → log_after.named ≡ length a.due.reports → log_after.gate ≡ log.gate + 5 + payload_len log directory reports → payload_len log directory reports ≤ log.most →
+    log_after.most ≡ log.most → log_after.named ≡ length a.due.reports → log_after.gate ≡ log.gate + 5 + payload_len log directory reports →
+    payload_len log directory reports ≤ log.most →
     room_after ≡ room → IsLogging a log_after room_after
 logging_more t a log log_after room room_after key directory reports valid logging is most_is named_is gate_is fits room_is = record {
   most = most_is ∙ logging.most ∙ ap (λ (l : Listing). most_record l.settings) (sym is);
@@ -121,6 +125,7 @@ same_record bays kind n n_now directory directory_now reports reports_now bay ba
 
 pub refused_record : {B E : Type 0} (bays : Bays B) (kind : LogKind) (n : ℕ) (directory : List ℕ) (reports : List Report) (bay bay_after : B) (old new : LogPlace) (given : Result (Unit {0}) E)
     (failed : E) →
-    IsErrAnd given (λ g. g ≡ failed) → AppendsRecord bays kind n directory reports bay bay_after old new (Err failed) → AppendsRecord bays kind n directory reports bay bay_after old new given
+    IsErrAnd given (λ g. g ≡ failed) → AppendsRecord bays kind n directory reports bay bay_after old new (Err failed) →
+    AppendsRecord bays kind n directory reports bay bay_after old new given
 refused_record {B} {E} bays kind n directory reports bay bay_after old new given failed given_is =
     subst (λ (r : Result (Unit {0}) E). AppendsRecord bays kind n directory reports bay bay_after old new r) (handed_on given failed given_is)

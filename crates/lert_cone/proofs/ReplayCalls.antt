@@ -53,7 +53,8 @@ pub held_at : {s : Numbers} {cone most gate at : ℕ} {bytes : List ℕ} {packet
 held_at {s} {cone} {most} {gate} {at} {bytes} {packet} is holds = subst (λ g. HoldsPacket s cone most bytes g packet) is holds
 
 -- a journal that moved on
-pub moved_on : {journal after : Log} {at : ℕ} (payload : List ℕ) → after ≡ record journal { gate = next_gate journal.gate payload } → journal.gate ≡ at → after.gate ≡ next_gate at payload
+pub moved_on : {journal after : Log} {at : ℕ} (payload : List ℕ) → after ≡ record journal { gate = next_gate journal.gate payload } → journal.gate ≡ at →
+    after.gate ≡ next_gate at payload
 moved_on payload moved gate_is = ap (λ (j : Log). j.gate) moved ∙ ap (λ gate. next_gate gate payload) gate_is
 
 -- a listing with keys more
@@ -172,8 +173,10 @@ module _ {B : Type 0} (bays : Bays B) (lawful : IsLawful bays) where
             (λ image may. sound_recounted (bays.leaves bay) seen history t log last.n0 recounted on_way (events_of past.rest) (keys_past history done t.listing.events gate past) image
             (read.reads.moments image may))
 
-        pub keys_stay : (packet : Packet) → HoldsPacket t.listing.settings t.listing.cone (most_payload t.listing.settings) (seen 0) gate packet → (keys : List ℕ) → keys ≡ packet.keys →
-            (buffer : ℕ) (new : Workplace B) (result : Result (Unit {0}) TakeFault) → ReplaysKeys bays last.n0 keys (record { bay = bay_read; counts = t; log = log; room = buffer }) new result →
+        pub keys_stay : (packet : Packet) → HoldsPacket t.listing.settings t.listing.cone (most_payload t.listing.settings) (seen 0) gate packet → (keys : List ℕ) →
+            keys ≡ packet.keys →
+            (buffer : ℕ) (new : Workplace B) (result : Result (Unit {0}) TakeFault) →
+            ReplaysKeys bays last.n0 keys (record { bay = bay_read; counts = t; log = log; room = buffer }) new result →
             StaysSound bays t.listing.settings t.listing.cone history bay new.bay
         keys_stay packet holds keys keys_are buffer new result did =
             with_keys packet holds keys keys_are (λ told_read next is on_read.

@@ -1,6 +1,7 @@
 -- What a cone keeps on its way through its journal: up to n0 events the files go together with memory as after n0 events, and
 -- from then on as after the keys so far.
-use Rattle.std.proofs.Common.{◌≡◌, ℕ, zero, suc, ◌+◌, ◌-◌, ◌<◌, ◌≤◌, true, false, cond, List, [], ◌++◌, length, take, drop, min, max, refl, sym, ap, ◌∙◌, subst, inl, inr, arith, length-append}
+use Rattle.std.proofs.Common.{◌≡◌, ℕ, zero, suc, ◌+◌, ◌-◌, ◌<◌, ◌≤◌, true, false, cond, List, [], ◌++◌, length, take, drop, min, max, refl, sym, ap, ◌∙◌, subst}
+use Rattle.std.proofs.Common.{inl, inr, arith, length-append}
 use Rattle.std.proofs.Common.{length-take, length-drop, append-nil, append_assoc}
 use Rattle.std.proofs.lemmas.Bool.{cases_eq, cases_lt, cases_Bool, eq-eqb, ne_eqb}
 use Rattle.std.proofs.lemmas.List.{take_at, take_all, take-append-drop, length-take-le}
@@ -91,7 +92,8 @@ module _ (leaves : Files → Type 0) (seen : Files) (history : List Packet) (lis
   partway_behind keys rest is enough = record { rest = rest; is = is; late = late_at listing.settings n0 (length (events_of (but_last history))) (length listing.events) on_way.n0_least enough }
 
   -- in every image the files are sound for the history, before n0 events are there as behind them
-  pub sound_on_way : IsValid listing.settings → IsAt listing.settings (max n0 (length listing.events)) rows → length listing.events ≤ length (events_of history) → (image : Files) → leaves image →
+  pub sound_on_way : IsValid listing.settings → IsAt listing.settings (max n0 (length listing.events)) rows → length listing.events ≤ length (events_of history) → (image : Files) →
+      leaves image →
       IsSound listing.settings listing.cone history image
   sound_on_way valid at within image may =
       let s = listing.settings in
@@ -112,7 +114,8 @@ module _ (leaves : Files → Type 0) (seen : Files) (history : List Packet) (lis
   -- where files and memory go together after more keys, by calls that may have written, the cone is on its way
   pub on_way_behind : (leaves_after : Files → Type 0) (seen_after : Files) (later : Listing) (rows_after : List (List BinAt)) (reports_after : List Report) (log_after : LogPlace)
       (events rest : List ℕ) →
-      later ≡ record listing { events = events } → events_of history ≡ events ++ rest → n0 ≤ length events → IsInStep leaves_after seen_after history later rows_after reports_after log_after →
+      later ≡ record listing { events = events } → events_of history ≡ events ++ rest → n0 ≤ length events →
+      IsInStep leaves_after seen_after history later rows_after reports_after log_after →
       IsOnWay leaves_after seen_after history later rows_after reports_after log_after n0
   on_way_behind leaves_after seen_after later rows_after reports_after log_after events rest is begins enough step =
       let n_is : max n0 (length events) ≡ length events = omega (arith, enough) in

@@ -1,6 +1,7 @@
 -- A cone that is given the packets of its journal again: what is so of it, what the record at a gate makes of it, and which
 -- lists it stands for at the end.
-use Rattle.std.proofs.Common.{◌≡◌, ℕ, ◌+◌, ◌*◌, ◌^◌, ◌<◌, ◌≤◌, Bool, true, false, cond, List, [], length, Option, Some, None, All, refl, sym, ap, ◌∙◌, subst, inl, inr, ◌⊎◌, arith}
+use Rattle.std.proofs.Common.{◌≡◌, ℕ, ◌+◌, ◌*◌, ◌^◌, ◌<◌, ◌≤◌, Bool, true, false, cond, List, [], length, Option, Some, None, All, refl, sym, ap, ◌∙◌, subst}
+use Rattle.std.proofs.Common.{inl, inr, ◌⊎◌, arith}
 use Rattle.std.proofs.lemmas.Bool.{false≢true}
 use Rattle.lert_base.specs.Packet.{Packet, events_of}
 use Rattle.lert_bay.specs.Files.{Files, IfTold}
@@ -50,7 +51,8 @@ read_settled file before after leaves leaves_after same images settled seen told
     record { within = was.within; same = λ image may. was.same image ((images image).0 may) }
 
 -- and a gate in it closed
-pub read_shut : (file gate : ℕ) (before after : Option Files) (leaves leaves_after : Files → Type 0) → after ≡ before → KeepsImages leaves leaves_after → IsShutIfTold before leaves file gate →
+pub read_shut : (file gate : ℕ) (before after : Option Files) (leaves leaves_after : Files → Type 0) → after ≡ before → KeepsImages leaves leaves_after →
+    IsShutIfTold before leaves file gate →
     IsShutIfTold after leaves_after file gate
 read_shut file gate before after leaves leaves_after same images shut seen told =
     let was = shut seen (sym same ∙ told) in
@@ -60,7 +62,8 @@ read_shut file gate before after leaves leaves_after same images shut seen told 
     }
 
 -- a gate that is closed as the file reads is closed in every image, where the file is settled
-pub shut_there : (file gate : ℕ) (told : Option Files) (leaves : Files → Type 0) → IfTold told (λ seen. IsWhollySettled leaves seen file) → IfTold told (λ seen. IsClosed (seen file) gate) →
+pub shut_there : (file gate : ℕ) (told : Option Files) (leaves : Files → Type 0) → IfTold told (λ seen. IsWhollySettled leaves seen file) →
+    IfTold told (λ seen. IsClosed (seen file) gate) →
     IsShutIfTold told leaves file gate
 shut_there file gate told leaves settled closed seen is = record {
   settled = settled seen is;
@@ -72,7 +75,8 @@ shut_there file gate told leaves settled closed seen is = record {
 -- a packet that stands at the gate behind those that were read is the next one
 pub next_there : (leaves : Files → Type 0) (seen : Files) (history done : List Packet) (listing : Listing) (rows : List (List BinAt)) (reports : List Report) (log : LogPlace) (n0 gate : ℕ)
     (packet : Packet) →
-    IsOnWay leaves seen history listing rows reports log n0 → leaves seen → IsPast history done listing.events gate → HoldsPacket listing.settings listing.cone (most_payload listing.settings)
+    IsOnWay leaves seen history listing rows reports log n0 → leaves seen → IsPast history done listing.events gate →
+    HoldsPacket listing.settings listing.cone (most_payload listing.settings)
     (seen 0) gate packet → IsNext history done packet
 next_there leaves seen history done listing rows reports log n0 gate packet on_way read past holds =
     is_next listing.settings listing.cone (seen 0) history done listing.events gate (journal_on_way leaves seen history listing rows reports log n0 on_way read) past packet holds
@@ -128,7 +132,8 @@ ends_finished true = refl
 ends_finished false = refl
 
 module _ {B : Type 0} (files : B → Option Files) (leaves : B → Files → Type 0) (faults : B → ℕ) where
-  pub replaying_cone : (cone : Standing B) (tally : Tallied) (journal : Log) (room keys_room : ℕ) → cone.state ≡ Replaying → journal.file ≡ 0 → journal.most ≡ most_payload cone.listing.settings
+  pub replaying_cone : (cone : Standing B) (tally : Tallied) (journal : Log) (room keys_room : ℕ) → cone.state ≡ Replaying → journal.file ≡ 0 →
+      journal.most ≡ most_payload cone.listing.settings
       → room ≡ room_of cone.listing.settings → keys_room ≡ 4 * cone.listing.settings.packet → cone.events ≤ capacity cone.listing.settings → IsValid cone.listing.settings →
       faults cone.made ≤ faults cone.bay
       → IsReplaying files leaves cone tally room → IsCone files leaves faults cone tally journal room keys_room
@@ -266,8 +271,10 @@ module _ {B : Type 0} (files : B → Option Files) (leaves : B → Files → Typ
         replaying = λ never. absurd (false≢true (sym whole ∙ ap is_broken never));
       }
 
-  pub ready_stands : (bay made : B) (tally : Tallied) (events gate gate_after : ℕ) (log : LogPlace) (last : LogPoint) (over : Option Packet) (state state_after : ConeState) (history : List Packet)
-      → state_after ≡ cond last.closed Finished Running → gate_after ≡ gate → IsRecounted tally last.n0 → last.n0 ≤ length tally.listing.events → over ≡ None → IsValid tally.listing.settings →
+  pub ready_stands : (bay made : B) (tally : Tallied) (events gate gate_after : ℕ) (log : LogPlace) (last : LogPoint) (over : Option Packet) (state state_after : ConeState)
+      (history : List Packet)
+      → state_after ≡ cond last.closed Finished Running → gate_after ≡ gate → IsRecounted tally last.n0 → last.n0 ≤ length tally.listing.events → over ≡ None →
+      IsValid tally.listing.settings →
       events ≤ capacity tally.listing.settings
       → All (λ packet. 0 < length packet.keys) history → length (events_of history) ≡ events → IfTold (files bay) (leaves bay)
       → (WasSound files (record {
@@ -328,7 +335,8 @@ module _ {B : Type 0} (files : B → Option Files) (leaves : B → Files → Typ
       }
 
   -- what it is adopted with is on the way
-  pub adopted_replays : (bay made : B) (s : Numbers) (cone gate : ℕ) (tally : Tallied) (log : LogPlace) (last : LogPoint) (rows : List (List BinAt)) (reports : List Report) (history : List Packet)
+  pub adopted_replays : (bay made : B) (s : Numbers) (cone gate : ℕ) (tally : Tallied) (log : LogPlace) (last : LogPoint) (rows : List (List BinAt)) (reports : List Report)
+      (history : List Packet)
       (seen : Files)
       → tally.listing ≡ record { settings = s; cone = cone; events = []; closed = last.closed } → tally.rows ≡ rows → tally.due.reports ≡ reports → gate ≡ 32 → log ≡ record {
         gate = last.log_end;
@@ -359,7 +367,8 @@ module _ {B : Type 0} (files : B → Option Files) (leaves : B → Files → Typ
     on_way = λ after told_after.
         subst (λ (f : Files). IsOnWay (leaves bay) f history tally.listing tally.rows tally.due.reports log last.n0) (told_once (files bay) seen after told told_after)
         (subst (λ (l : Listing). IsOnWay (leaves bay) seen history l tally.rows tally.due.reports log last.n0) (sym is)
-        (subst (λ (rs : List (List BinAt)). IsOnWay (leaves bay) seen history (record { settings = s; cone = cone; events = []; closed = last.closed }) rs tally.due.reports log last.n0) (sym rows_are)
+        (subst (λ (rs : List (List BinAt)). IsOnWay (leaves bay) seen history (record { settings = s; cone = cone; events = []; closed = last.closed }) rs tally.due.reports log last.n0)
+        (sym rows_are)
         (subst (λ (rs : List Report). IsOnWay (leaves bay) seen history (record { settings = s; cone = cone; events = []; closed = last.closed }) rows rs log last.n0) (sym reports_are)
         (subst (λ (l : LogPlace). IsOnWay (leaves bay) seen history (record { settings = s; cone = cone; events = []; closed = last.closed }) rows reports l last.n0) (sym log_is) on_way))));
   }

@@ -1,5 +1,6 @@
 -- Keys of a journal that is read again: the first of them are counted again, and the others are taken.
-use Rattle.std.proofs.Common.{◌≡◌, ℕ, ◌-◌, ◌<◌, ◌≤◌, List, ◌++◌, length, take, drop, min, Option, Some, sym, ap, ◌∙◌, subst, arith, append_assoc, length-append, length-take, length-drop}
+use Rattle.std.proofs.Common.{◌≡◌, ℕ, ◌-◌, ◌<◌, ◌≤◌, List, ◌++◌, length, take, drop, min, Option, Some, sym, ap, ◌∙◌, subst, arith, append_assoc, length-append}
+use Rattle.std.proofs.Common.{length-take, length-drop}
 use Rattle.std.proofs.lemmas.Option.{same_Some}
 use Rattle.lert_base.specs.Packet.{Packet, events_of}
 use Rattle.lert_bay.specs.Files.{Files}
@@ -37,7 +38,8 @@ module _ (leaves : Files → Type 0) (seen : Files) (history : List Packet) (t a
     pub way_partway : IsPartway a.listing.settings history a.listing.events (drop count keys)
     way_partway = partway_behind leaves seen history a.listing a.rows a.due.reports log n0 way_counted (drop count keys) rest ahead enough
 
-    pub way_taken : (leaves_after : Files → Type 0) (after : Files) (last : Tallied) (log_after : LogPlace) → last.listing ≡ record a.listing { events = a.listing.events ++ drop count keys } →
+    pub way_taken : (leaves_after : Files → Type 0) (after : Files) (last : Tallied) (log_after : LogPlace) →
+        last.listing ≡ record a.listing { events = a.listing.events ++ drop count keys } →
         IsInStep leaves_after after history last.listing last.rows last.due.reports log_after → IsOnWay leaves_after after history last.listing last.rows last.due.reports log_after n0
     way_taken leaves_after after last log_after last_is step =
         on_way_behind leaves seen history a.listing a.rows a.due.reports log n0 way_counted leaves_after after last.listing last.rows last.due.reports log_after

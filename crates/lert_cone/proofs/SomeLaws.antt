@@ -1,5 +1,6 @@
 -- Frames that hold the bins of some events, whatever these are, through a key and the flush that it may bring.
-use Rattle.std.proofs.Common.{ℕ, ◌≡◌, ◌+◌, ◌-◌, ◌*◌, ◌/◌, ◌≤◌, suc, ltb, List, [], ◌∷◌, ◌++◌, length, map, filter, take, drop, get_or, min, max, All, ap, sym, ◌∙◌, arith, subst, slice_range}
+use Rattle.std.proofs.Common.{ℕ, ◌≡◌, ◌+◌, ◌-◌, ◌*◌, ◌/◌, ◌≤◌, suc, ltb, List, [], ◌∷◌, ◌++◌, length, map, filter, take, drop, get_or, min, max, All, ap}
+use Rattle.std.proofs.Common.{sym, ◌∙◌, arith, subst, slice_range}
 use Rattle.std.proofs.Common.{length-append}
 use Rattle.std.specs.List.{range_with_len}
 use Rattle.std.proofs.lemmas.List.{take-append-drop, length-take, length-drop}
@@ -28,11 +29,13 @@ module _ (s : Numbers) (valid : IsValid s) where
       let high = edge s (level - 1) n in
       let cuts = subst (All (IsCut wide high)) (sym (at.each level from within)) (cuts_are wide (edge s level n) high 0 (suc (n / wide))) in
       let up : 0 + (level - 1) ≡ level - 1 = omega arith in
-      let below : high ≤ edge s 0 n = subst (λ i. edge s i n ≤ edge s 0 n) up (edge_descends_to s (omega (arith, valid.limits.base_from)) (omega (arith, valid.limits.ratio_from)) 0 (level - 1) n) in
+      let below : high ≤ edge s 0 n = subst (λ i. edge s i n ≤ edge s 0 n) up
+      (edge_descends_to s (omega (arith, valid.limits.base_from)) (omega (arith, valid.limits.ratio_from)) 0 (level - 1) n) in
       λ k d inside. (let cut = All-ranges (IsCut wide high) (row_of rows level) cuts k d inside in omega (arith, cut.end, below))
 
   -- so further events behind those of the older levels change nothing, and neither does it to leave them out
-  some_more : (n : ℕ) (rows : List (List BinAt)) (events others file : List ℕ) → IsAt s n rows → length events ≡ edge s 0 n → HoldsBins s events rows file → HoldsBins s (events ++ others) rows file
+  some_more : (n : ℕ) (rows : List (List BinAt)) (events others file : List ℕ) → IsAt s n rows → length events ≡ edge s 0 n → HoldsBins s events rows file →
+      HoldsBins s (events ++ others) rows file
   some_more n rows events others file at len holds level from within k d below =
       let end = bins_under n rows at level from within k d below in
       let bin = get_or (row_of rows level) k d in
@@ -91,11 +94,13 @@ module _ (s : Numbers) (valid : IsValid s) where
     pub with_key_holds : HoldsBins s with_key rows file
     with_key_holds = some_more (length events) rows some.events (drop (edge s 0 (length events)) (events ++ key ∷ [])) file at some.len some.holds
 
-    pub with_key_some : (new_rows : List (List BinAt)) (new : List ℕ) → IsAt s (suc (length events)) new_rows → HoldsBins s with_key new_rows new → HoldsSome s (suc (length events)) new_rows new
+    pub with_key_some : (new_rows : List (List BinAt)) (new : List ℕ) → IsAt s (suc (length events)) new_rows → HoldsBins s with_key new_rows new →
+        HoldsSome s (suc (length events)) new_rows new
     with_key_some new_rows new at_new holds = some_fewer (suc (length events)) new_rows with_key new at_new (omega (arith, with_key_len, edge_within s 0 (suc (length events)))) holds
 
 -- the same rows with other words for how many events there are
-pub some_counted : (before after : Tallied) (n : ℕ) (file : List ℕ) → after.listing.settings ≡ before.listing.settings → after.rows ≡ before.rows → n ≡ length after.listing.events →
+pub some_counted : (before after : Tallied) (n : ℕ) (file : List ℕ) → after.listing.settings ≡ before.listing.settings → after.rows ≡ before.rows →
+    n ≡ length after.listing.events →
     HoldsSome before.listing.settings n before.rows file → HoldsSome after.listing.settings (length after.listing.events) after.rows file
 some_counted before after n file settings_are rows_are n_is some =
     subst (λ (s : Numbers). HoldsSome s (length after.listing.events) after.rows file) (sym settings_are)

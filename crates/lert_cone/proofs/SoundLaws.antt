@@ -1,5 +1,6 @@
 -- The files of a cone as their headers leave them, and through an append.
-use Rattle.std.proofs.Common.{◌≡◌, ℕ, ◌+◌, ◌*◌, ◌^◌, ◌<◌, ◌≤◌, List, [], ◌∷◌, ◌++◌, length, take, get_or, Option, Some, None, All, refl, sym, ap, ◌∙◌, subst, arith, length-append}
+use Rattle.std.proofs.Common.{◌≡◌, ℕ, ◌+◌, ◌*◌, ◌^◌, ◌<◌, ◌≤◌, List, [], ◌∷◌, ◌++◌, length, take, get_or, Option, Some, None, All, refl, sym, ap, ◌∙◌}
+use Rattle.std.proofs.Common.{subst, arith, length-append}
 use Rattle.std.proofs.Common.{append-nil, suc}
 use Rattle.std.proofs.Math.Seq.{get_or-append_seam}
 use Rattle.std.proofs.lemmas.Grind.{flat_map-append}
@@ -25,7 +26,8 @@ use Rattle.lert_reports.proofs.LogLaws.{records_none}
 -- ---- told files
 
 -- files that are told after a step were told before it
-pub turns_back : (step : Files → Files → Type 0) (before after : Option Files) → Turns step before after → (new : Files) → after ≡ Some new → (old : Files) × (before ≡ Some old) × step old new
+pub turns_back : (step : Files → Files → Type 0) (before after : Option Files) → Turns step before after → (new : Files) → after ≡ Some new →
+    (old : Files) × (before ≡ Some old) × step old new
 turns_back step (Some old) after turns new told =
     let came = turns.told old refl in
     (old, refl, subst (step old) (same_Some came.0 new (sym came.1 ∙ told)) came.2)

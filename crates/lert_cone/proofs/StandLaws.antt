@@ -1,5 +1,6 @@
 -- Which lists a cone stands for: when it is made, through an append and the keys behind it, and when it is finished.
-use Rattle.std.proofs.Common.{◌≡◌, ◌≢◌, ℕ, ◌+◌, ◌-◌, ◌*◌, ◌<◌, ◌≤◌, true, false, List, [], ◌++◌, length, Option, None, All, cond, refl, sym, ap, ◌∙◌, subst, arith, length-append}
+use Rattle.std.proofs.Common.{◌≡◌, ◌≢◌, ℕ, ◌+◌, ◌-◌, ◌*◌, ◌<◌, ◌≤◌, true, false, List, [], ◌++◌, length, Option, None, All, cond, refl, sym, ap, ◌∙◌}
+use Rattle.std.proofs.Common.{subst, arith, length-append}
 use Rattle.std.specs.Prelude.{replicate}
 use Rattle.std.proofs.lemmas.Bool.{false≢true}
 use Rattle.std.proofs.lemmas.List.Elements.{All-nil}
@@ -60,7 +61,8 @@ module _ {B : Type 0} (files : B → Option Files) (leaves : B → Files → Typ
         reports_are = refl;
       })
 
-  new_whole : (bay : B) (s : Numbers) (cone : ℕ) (tally : Tallied) (gate : ℕ) (log : LogPlace) → tally.listing ≡ record { settings = s; cone = cone; events = []; closed = false } → gate ≡ 32
+  new_whole : (bay : B) (s : Numbers) (cone : ℕ) (tally : Tallied) (gate : ℕ) (log : LogPlace) → tally.listing ≡ record { settings = s; cone = cone; events = []; closed = false } →
+      gate ≡ 32
       → log ≡ record { gate = 8; most = most_record s; named = 0 } → tally.rows ≡ replicate s.levels [] → tally.due.reports ≡ [] → IsCounted tally
       → IfTold (files bay) (λ seen. AreNew s cone (leaves bay) seen) → IfTold (files bay) (leaves bay)
       → IfTold (files bay) (λ seen. IsWhole (leaves bay) seen tally.listing tally.rows tally.due.reports gate log [])
@@ -177,7 +179,8 @@ module _ {B : Type 0} (files : B → Option Files) (leaves : B → Files → Typ
   -- one in another state that isn't broken, or with a packet more
   pub stands_whole : (old new : Standing B) (history more : List Packet) → IsSameCone old new → is_broken new.state ≡ false → new.over ≡ None
       → All (λ packet. 0 < length packet.keys) more → length (events_of more) ≡ new.events → new.events ≤ capacity old.listing.settings
-      → (WasSound files old → IfTold (files new.bay) (λ seen. IsWhole (leaves new.bay) seen new.listing new.rows new.reports new.gate new.log more)) → StandsFor files leaves faults old history
+      → (WasSound files old → IfTold (files new.bay) (λ seen. IsWhole (leaves new.bay) seen new.listing new.rows new.reports new.gate new.log more)) →
+      StandsFor files leaves faults old history
       → StandsFor files leaves faults new more
   stands_whole old new history more same still none_over some counted within whole stands = record {
     some = some;
@@ -217,7 +220,8 @@ module _ {B : Type 0} (files : B → Option Files) (leaves : B → Files → Typ
       → state ≡ Running → after.listing ≡ record tally.listing { events = tally.listing.events ++ packet.keys } → IsCounted after → events_after ≡ events + length packet.keys
       → journal_after ≡ record journal { gate = next_gate journal.gate (payload_of packet) } → room_after ≡ room → 0 < length packet.keys →
       events + length packet.keys ≤ capacity tally.listing.settings
-      → faults bay ≤ faults last → IsShutIfTold (files last) (leaves last) 0 journal_after.gate → IsLogging after log_after room_after → IsShutIfTold (files last) (leaves last) 1 log_after.gate
+      → faults bay ≤ faults last → IsShutIfTold (files last) (leaves last) 0 journal_after.gate → IsLogging after log_after room_after →
+      IsShutIfTold (files last) (leaves last) 1 log_after.gate
       → IsCone files leaves faults (record {
         bay = bay;
         made = made;
@@ -318,25 +322,27 @@ module _ {B : Type 0} (files : B → Option Files) (leaves : B → Files → Typ
   -- one that broke off
   pub broken_cone : (old new : Standing B) (tally after : Tallied) (journal journal_after : Log) (room room_after keys_room keys_room_after : ℕ) → is_broken new.state ≡ true →
       new.state ≢ Replaying → new.listing.settings ≡ old.listing.settings → new.events ≡ old.events → new.made ≡ old.made
-      → journal_after.file ≡ journal.file → journal_after.most ≡ journal.most → room_after ≡ room → keys_room_after ≡ keys_room → faults old.bay ≤ faults new.bay → (new.state ≡ BrokenByBay →
+      → journal_after.file ≡ journal.file → journal_after.most ≡ journal.most → room_after ≡ room → keys_room_after ≡ keys_room → faults old.bay ≤ faults new.bay →
+      (new.state ≡ BrokenByBay →
       HasRisen (faults new.made) (faults new.bay))
       → IsCone files leaves faults old tally journal room keys_room → IsCone files leaves faults new after journal_after room_after keys_room_after
-  broken_cone old new tally after journal journal_after room room_after keys_room keys_room_after broken ready same events_are made_is file_is most_is room_is keys_room_is falls by_bay cone = record {
-    file = file_is ∙ cone.file;
-    most = most_is ∙ cone.most ∙ ap most_payload (sym same);
-    roomy = room_is ∙ cone.roomy ∙ ap room_of (sym same);
-    keys_roomy = keys_room_is ∙ cone.keys_roomy ∙ ap (λ (s : Numbers). 4 * s.packet) (sym same);
-    within = subst (λ (s : Numbers). new.events ≤ capacity s) (sym same) (omega (arith, events_are, cone.within));
-    valid = subst IsValid (sym same) cone.valid;
-    never_falls = omega (arith, ap faults made_is, cone.never_falls, falls);
-    by_bay = by_bay;
-    none_over = λ still. absurd (false≢true (sym still ∙ broken));
-    counted = λ still. absurd (false≢true (sym still ∙ broken));
-    tallied = λ still. absurd (false≢true (sym still ∙ broken));
-    closed = λ still. absurd (false≢true (sym still ∙ broken));
-    near = λ still. absurd (false≢true (sym still ∙ broken));
-    shut = λ never. absurd (false≢true (sym (ap is_broken never) ∙ broken));
-    logging = λ never. absurd (false≢true (sym (ap is_broken never) ∙ broken));
-    log_shut = λ never. absurd (false≢true (sym (ap is_broken never) ∙ broken));
-    replaying = λ never. absurd (ready never);
-  }
+  broken_cone old new tally after journal journal_after room room_after keys_room keys_room_after broken ready same events_are made_is file_is most_is room_is keys_room_is falls by_bay cone =
+      record {
+        file = file_is ∙ cone.file;
+        most = most_is ∙ cone.most ∙ ap most_payload (sym same);
+        roomy = room_is ∙ cone.roomy ∙ ap room_of (sym same);
+        keys_roomy = keys_room_is ∙ cone.keys_roomy ∙ ap (λ (s : Numbers). 4 * s.packet) (sym same);
+        within = subst (λ (s : Numbers). new.events ≤ capacity s) (sym same) (omega (arith, events_are, cone.within));
+        valid = subst IsValid (sym same) cone.valid;
+        never_falls = omega (arith, ap faults made_is, cone.never_falls, falls);
+        by_bay = by_bay;
+        none_over = λ still. absurd (false≢true (sym still ∙ broken));
+        counted = λ still. absurd (false≢true (sym still ∙ broken));
+        tallied = λ still. absurd (false≢true (sym still ∙ broken));
+        closed = λ still. absurd (false≢true (sym still ∙ broken));
+        near = λ still. absurd (false≢true (sym still ∙ broken));
+        shut = λ never. absurd (false≢true (sym (ap is_broken never) ∙ broken));
+        logging = λ never. absurd (false≢true (sym (ap is_broken never) ∙ broken));
+        log_shut = λ never. absurd (false≢true (sym (ap is_broken never) ∙ broken));
+        replaying = λ never. absurd (ready never);
+      }

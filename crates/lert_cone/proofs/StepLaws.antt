@@ -1,5 +1,6 @@
 -- The files of a cone between two calls: when they are sound, and what they keep through calls that leave them alone.
-use Rattle.std.proofs.Common.{◌≡◌, ℕ, suc, ◌+◌, ◌-◌, ◌^◌, ◌≤◌, Bool, true, false, cond, List, [], ◌∷◌, ◌++◌, length, take, drop, get_or, map, All, sym, ap, ◌∙◌, subst, inl, inr, ◌⊎◌, arith}
+use Rattle.std.proofs.Common.{◌≡◌, ℕ, suc, ◌+◌, ◌-◌, ◌^◌, ◌≤◌, Bool, true, false, cond, List, [], ◌∷◌, ◌++◌, length, take, drop, get_or, map, All, sym, ap}
+use Rattle.std.proofs.Common.{◌∙◌, subst, inl, inr, ◌⊎◌, arith}
 use Rattle.std.proofs.Common.{length-append, slice_range}
 use Rattle.std.specs.Prelude.{slice_index_or}
 use Rattle.std.proofs.lemmas.Bool.{cases_Bool}
@@ -44,7 +45,8 @@ use Rattle.lert_cone.proofs.WroteLaws.{torn_behind}
 first_same : (image read : List ℕ) (all few : ℕ) → few ≤ all → part image 0 all ≡ part read 0 all → part image 0 few ≡ part read 0 few
 first_same image read all few less same = sym (take-take few all image less) ∙ ap (take few) same ∙ take-take few all read less
 
-pub journal_since : (since : Files → Type 0) (seen : Files) (s : Numbers) (cone : ℕ) (history : List Packet) → IsJournal s cone history (seen 0) → Keeps since seen 0 0 (length (seen 0)) →
+pub journal_since : (since : Files → Type 0) (seen : Files) (s : Numbers) (cone : ℕ) (history : List Packet) → IsJournal s cone history (seen 0) →
+    Keeps since seen 0 0 (length (seen 0)) →
     InEach since 0 (IsJournal s cone history)
 journal_since since seen s cone history journal keeps image may = record {
   headed = first_same (image 0) (seen 0) (length (seen 0)) 32 (omega (arith, journal.records.closed.within)) (keeps image may) ∙ journal.headed;
@@ -63,7 +65,8 @@ pub log_since : (since : Files → Type 0) (seen : Files) (s : Numbers) (cone : 
     (seen 1)) → InEach since 1 (λ bytes. HasLog s cone bytes logged gate)
 log_since since seen s cone logged gate log keeps image may = record {
   headed = first_same (image 1) (seen 1) (length (seen 1)) 8 (omega (arith, log.records_stand.closed.within, log_reaches s cone (seen 1) logged gate log)) (keeps image may) ∙ log.headed;
-  records_stand = gated_behind (most_record s) 8 (map log_payload_of logged) gate (length (image 1)) (seen 1) (image 1) log.records_stand (torn_behind (seen 1) (image 1) (gate + 1) (keeps image may));
+  records_stand = gated_behind (most_record s) 8 (map log_payload_of logged) gate (length (image 1)) (seen 1) (image 1) log.records_stand
+      (torn_behind (seen 1) (image 1) (gate + 1) (keeps image may));
   rules = log.rules;
 }
 
@@ -194,7 +197,8 @@ module _ (s : Numbers) (cone : ℕ) (history : List Packet) (events : List ℕ) 
 -- ---- one record more
 
 -- behind a closed gate stands a record, or it doesn't
-pub with_or_without : (s : Numbers) (cone : ℕ) (logged : List LogRecord) (one : LogRecord) (gate : ℕ) (payload bytes : List ℕ) → payload ≡ log_payload_of one → AreRecords s cone logged →
+pub with_or_without : (s : Numbers) (cone : ℕ) (logged : List LogRecord) (one : LogRecord) (gate : ℕ) (payload bytes : List ℕ) → payload ≡ log_payload_of one →
+    AreRecords s cone logged →
     AreRecords s cone (logged ++ one ∷ []) →
     part bytes 0 8 ≡ log_header → IsWithOrWithout (most_record s) 8 (map log_payload_of logged) gate payload bytes →
     HasLog s cone bytes logged gate ⊎ HasLog s cone bytes (logged ++ one ∷ []) (next_gate gate payload)
@@ -206,15 +210,18 @@ with_or_without s cone logged one gate payload bytes is rules more headed (inr w
       rules = more;
     })
   where
-    pushed : (logged : List LogRecord) (one : LogRecord) (payload : List ℕ) → payload ≡ log_payload_of one → map log_payload_of logged ++ payload ∷ [] ≡ map log_payload_of (logged ++ one ∷ [])
+    pushed : (logged : List LogRecord) (one : LogRecord) (payload : List ℕ) → payload ≡ log_payload_of one →
+        map log_payload_of logged ++ payload ∷ [] ≡ map log_payload_of (logged ++ one ∷ [])
     pushed logged one payload is = ap (λ p. map log_payload_of logged ++ p ∷ []) is ∙ sym (map-append log_payload_of logged (one ∷ []))
 
 -- with it
-pub with_record : (s : Numbers) (cone : ℕ) (logged : List LogRecord) (one : LogRecord) (gate : ℕ) (payload bytes : List ℕ) → payload ≡ log_payload_of one → AreRecords s cone (logged ++ one ∷ []) →
+pub with_record : (s : Numbers) (cone : ℕ) (logged : List LogRecord) (one : LogRecord) (gate : ℕ) (payload bytes : List ℕ) → payload ≡ log_payload_of one →
+    AreRecords s cone (logged ++ one ∷ []) →
     part bytes 0 8 ≡ log_header → IsGated (most_record s) bytes 8 (map log_payload_of logged ++ payload ∷ []) gate → HasLog s cone bytes (logged ++ one ∷ []) gate
 with_record s cone logged one gate payload bytes is more headed stands = record {
   headed = headed;
-  records_stand = subst (λ (payloads : List (List ℕ)). IsGated (most_record s) bytes 8 payloads gate) (ap (λ p. map log_payload_of logged ++ p ∷ []) is ∙ sym (map-append log_payload_of logged
+  records_stand = subst (λ (payloads : List (List ℕ)). IsGated (most_record s) bytes 8 payloads gate)
+      (ap (λ p. map log_payload_of logged ++ p ∷ []) is ∙ sym (map-append log_payload_of logged
       (one ∷ []))) stands;
   rules = more;
 }

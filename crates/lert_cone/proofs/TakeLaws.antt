@@ -1,5 +1,6 @@
 -- A cone with one more key, from what the parts of the step say.
-use Rattle.std.proofs.Common.{ℕ, ◌≡◌, ◌≢◌, ◌+◌, ◌-◌, ◌^◌, ◌<◌, ◌≤◌, suc, true, false, cond, List, [], ◌∷◌, ◌++◌, length, take, Result, Ok, Err, OnOk, ◌⊎◌, inl, inr, refl, ap, ap₂, sym, ◌∙◌, arith}
+use Rattle.std.proofs.Common.{ℕ, ◌≡◌, ◌≢◌, ◌+◌, ◌-◌, ◌^◌, ◌<◌, ◌≤◌, suc, true, false, cond, List, [], ◌∷◌, ◌++◌, length, take, Result, Ok, Err, OnOk}
+use Rattle.std.proofs.Common.{◌⊎◌, inl, inr, refl, ap, ap₂, sym, ◌∙◌, arith}
 use Rattle.std.proofs.Common.{subst, length-append}
 use Rattle.std.specs.Prelude.{MatchResult, IsErrOf}
 use Rattle.std.proofs.lemmas.List.{length-take, get_or-take}
@@ -122,7 +123,8 @@ module _ (t : Tallied) (ls : Numbers) (levels_are : ls ≡ t.listing.settings) (
 
     -- the parts after the step make a cone again
     pub counted_next : (next : Young) (rows : List (List BinAt)) (after : Tallied) → after ≡ record { listing = record t.listing { events = all }; young = next; rows = rows; due = due } →
-        next.from ≡ edge ls 0 m → next.to ≡ m → AreYoung ls all (edge ls 0 m) next.bins → IsAt ls m rows → AreRows ls rows → (pieces : List Piece) × TookFrom start due pieces → IsCounted after
+        next.from ≡ edge ls 0 m → next.to ≡ m → AreYoung ls all (edge ls 0 m) next.bins → IsAt ls m rows → AreRows ls rows → (pieces : List Piece) × TookFrom start due pieces →
+        IsCounted after
     counted_next next rows after after_is from to bins at are took =
         subst (λ (v : Tallied). IsCounted v) (sym after_is) (record {
           valid = valid;
@@ -163,7 +165,8 @@ module _ (t : Tallied) (ls : Numbers) (levels_are : ls ≡ t.listing.settings) (
           start_settings start_cone (ap (λ (d : Dues). d.before) start_is ∙ looked) (ap (λ (d : Dues). d.at) start_is ∙ m_is) table took_here all_looked full in
           omega (arith, look_fits t.listing.settings all valid (omega (arith, all_long, m_is)))
 
-      pub held_next : (next : Young) (rows : List (List BinAt)) (now : Tallied) (after : Files) → now ≡ record { listing = record t.listing { events = all }; young = next; rows = rows; due = due } →
+      pub held_next : (next : Young) (rows : List (List BinAt)) (now : Tallied) (after : Files) →
+          now ≡ record { listing = record t.listing { events = all }; young = next; rows = rows; due = due } →
           due.is_full ≡ false → HoldsBins ls all rows (after 2) → IsHeld now after
       held_next next rows now after now_is room frames =
           subst (λ (v : Tallied). IsHeld v after) (sym now_is) (record {
@@ -243,7 +246,8 @@ sound_fault (Malformed place) fine file at same = fine place refl
 sound_fault NoMemory fine file at same = cc
 
 -- and what a call that hands on a fault answers
-pub err_is : (result : Result (Unit {0}) TakeFault) (fault : FlushFault) → IsErrAnd result (λ taken. taken ≡ take_fault fault) → ((at : ℕ) → fault ≢ Malformed at) → (file at : ℕ) → result ≢ Err
+pub err_is : (result : Result (Unit {0}) TakeFault) (fault : FlushFault) → IsErrAnd result (λ taken. taken ≡ take_fault fault) → ((at : ℕ) → fault ≢ Malformed at) →
+    (file at : ℕ) → result ≢ Err
     (Unsound file at)
 err_is (Ok done) fault is fine file at same = cc
 err_is (Err taken) fault is fine file at same = sound_fault fault fine file at (sym is ∙ (let inner : taken ≡ Unsound file at = cc in inner))
@@ -294,7 +298,8 @@ pub on_ok : {T E : Type 0} (A B C : Type 0) (result : Result T E) → OnOk resul
 on_ok A B C (Ok done) one two goes = goes one two
 on_ok A B C (Err fault) one two goes = tt
 
-pub never_malformed : (A : Type 0) (result : Result (Unit {0}) FlushFault) → MatchResult result (λ _. A) (λ fault. (fault ≡ FlushFailed) ⊎ (fault ≡ NoMemory)) → (at : ℕ) → result ≢ Err (Malformed at)
+pub never_malformed : (A : Type 0) (result : Result (Unit {0}) FlushFault) → MatchResult result (λ _. A) (λ fault. (fault ≡ FlushFailed) ⊎ (fault ≡ NoMemory)) → (at : ℕ) →
+    result ≢ Err (Malformed at)
 never_malformed A (Ok done) holds at same = cc
 never_malformed A (Err fault) (inl failed) at same = cc
 never_malformed A (Err fault) (inr none) at same = cc

@@ -1,5 +1,6 @@
 -- Level 0 and the rows as the next key comes.
-use Rattle.std.proofs.Common.{ℕ, ◌≡◌, ◌≢◌, ◌+◌, ◌-◌, ◌*◌, ◌/◌, ◌%◌, ◌<◌, ◌≤◌, zero, suc, cond, eqb, not, List, [], ◌∷◌, ◌++◌, length, drop, get_or, map, All, refl, ap, ap₂, sym, ◌∙◌, arith, inl, inr}
+use Rattle.std.proofs.Common.{ℕ, ◌≡◌, ◌≢◌, ◌+◌, ◌-◌, ◌*◌, ◌/◌, ◌%◌, ◌<◌, ◌≤◌, zero, suc, cond, eqb, not, List, [], ◌∷◌, ◌++◌, length, drop}
+use Rattle.std.proofs.Common.{get_or, map, All, refl, ap, ap₂, sym, ◌∙◌, arith, inl, inr}
 use Rattle.std.proofs.Common.{subst, slice_range, sum_by, replicate}
 use Rattle.std.proofs.Math.Nat.{div-add-mod, mod-lt, mul-mod_left, mul_comm, mul-suc, suc-mul}
 use Rattle.std.specs.Prelude.{IsTrue, IsFalse}
@@ -68,7 +69,8 @@ module _ (s : Numbers) (valid : IsValid s) where
     pub next_from : (tail : ℕ) → (with_event y tail (suc (length events))).from ≡ edge s 0 (length events)
     next_from tail =
         elim (cases_eq y.from y.to) [
-          | inl same ↦ ap (λ t. cond {A = ℕ} t (suc (length events) - 1) y.from) (eq-eqb y.from y.to same) ∙ (let last : suc (length events) - 1 ≡ edge s 0 (length events) = omega arith in last)
+          | inl same ↦ ap (λ t. cond {A = ℕ} t (suc (length events) - 1) y.from) (eq-eqb y.from y.to same)
+              ∙ (let last : suc (length events) - 1 ≡ edge s 0 (length events) = omega arith in last)
           | inr differs ↦ ap (λ t. cond {A = ℕ} t (suc (length events) - 1) y.from) (ne_eqb y.from y.to differs) ∙ from
         ]
 
@@ -124,13 +126,15 @@ module _ (s : Numbers) (valid : IsValid s) where
       ∙ young_cover s events tail from base ratio within
       ∙ ap₂ (λ a b. count_of (tallied s (slice_range events a b)) tail) from_is long in
       ap (λ c. record { tail = tail; count = c } ∷ []) here
-      ∙ ap (λ t. cond {A = List Piece} t (record { tail = tail; count = count_of (tallied s (slice_range events (edge s 0 (m - 1)) m)) tail } ∷ []) (tallied s (slice_range events (lookback s m) m)))
+      ∙ ap (λ t. cond {A = List Piece} t (record { tail = tail; count = count_of (tallied s (slice_range events (edge s 0 (m - 1)) m)) tail } ∷ [])
+      (tallied s (slice_range events (lookback s m) m)))
       (sym (eq-eqb (depth s m) 0 shallow))
 
   -- at a flush they are those of its window
   pub flush_total : (events : List ℕ) (m tail : ℕ) → depth s m ≢ 0 → tallied s (slice_range events (lookback s m) m) ≡ totals_at s events m tail
   flush_total events m tail deep =
-      ap (λ t. cond {A = List Piece} t (record { tail = tail; count = count_of (tallied s (slice_range events (edge s 0 (m - 1)) m)) tail } ∷ []) (tallied s (slice_range events (lookback s m) m)))
+      ap (λ t. cond {A = List Piece} t (record { tail = tail; count = count_of (tallied s (slice_range events (edge s 0 (m - 1)) m)) tail } ∷ [])
+      (tallied s (slice_range events (lookback s m) m)))
       (sym (ne_eqb (depth s m) 0 deep))
 
   -- where no edge moves the rows stay
@@ -165,7 +169,8 @@ module _ (s : Numbers) (valid : IsValid s) where
 
     pub frames_more : HoldsBins s events rows file → HoldsBins s (events ++ others) rows file
     frames_more holds level first last k d within =
-        subst (λ keys. HoldsFrame (frame_place s level (get_or (row_of rows level) k d).frame) file (tallied s keys)) (sym (slice_same level first last k d within)) (holds level first last k d within)
+        subst (λ keys. HoldsFrame (frame_place s level (get_or (row_of rows level) k d).frame) file (tallied s keys)) (sym (slice_same level first last k d within))
+        (holds level first last k d within)
 
   -- before the first event no level has a bin
   no_range : (ranges : List Range) (wide : ℕ) → All (IsCut wide 0) ranges → ranges ≡ []

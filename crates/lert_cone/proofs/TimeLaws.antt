@@ -10,7 +10,8 @@ use Rattle.lert_cone.specs.Stands.{Standing, StandsFor, WasSound, is_broken}
 use Rattle.lert_cone.proofs.StandLaws.{reports_running, reports_finished}
 
 -- those of a cone whose reports aren't those at the end yet
-pub timely_so_far : {B : Type 0} (files : B → Option Files) (leaves : B → Files → Type 0) (faults : B → ℕ) (cone : Standing B) (history : List Packet) → is_broken cone.state ≡ false →
+pub timely_so_far : {B : Type 0} (files : B → Option Files) (leaves : B → Files → Type 0) (faults : B → ℕ) (cone : Standing B) (history : List Packet) →
+    is_broken cone.state ≡ false →
     cone.listing.closed ≡ false → StandsFor files leaves faults cone history → WasSound files cone →
     IfTold (files cone.bay) (λ _. IsTimelySoFar cone.listing.settings.threshold cone.listing.settings.bins (events_of history) cone.reports)
 timely_so_far files leaves faults cone history unbroken still stands sound seen told =

@@ -1,5 +1,6 @@
 -- The reports that the next key brings, and those of the end, by the totals that a taker gets.
-use Rattle.std.proofs.Common.{ℕ, ◌≡◌, ◌+◌, ◌-◌, ◌^◌, ◌<◌, ◌≤◌, suc, Bool, true, false, cond, leb, not, ◌&&◌, List, [], ◌∷◌, ◌++◌, length, map, ap, sym, ◌∙◌, arith, inl, inr, subst, slice_range}
+use Rattle.std.proofs.Common.{ℕ, ◌≡◌, ◌+◌, ◌-◌, ◌^◌, ◌<◌, ◌≤◌, suc, Bool, true, false, cond, leb, not, ◌&&◌, List, [], ◌∷◌, ◌++◌, length, map, ap, sym}
+use Rattle.std.proofs.Common.{◌∙◌, arith, inl, inr, subst, slice_range}
 use Rattle.std.proofs.Common.{length-append}
 use Rattle.std.proofs.Math.Nat.{mul-div-le}
 use Rattle.std.proofs.Math.Seq.{take-length}
@@ -92,7 +93,8 @@ module _ (s : Numbers) (cone : ℕ) (events : List ℕ) (valid : IsValid s) (nam
     pub totals_table : IsTable (2 ^ (64 - s.cone_bits)) (totals_at s all (suc (length events)) tail)
     totals_table =
         elim (cases_eq (depth s (suc (length events))) 0) [
-          | inl shallow ↦ subst (λ t. IsTable (2 ^ (64 - s.cone_bits)) (cond t (record { tail = tail; count = window } ∷ []) (tallied s (slice_range all (lookback s (suc (length events))) (suc
+          | inl shallow ↦ subst (λ t. IsTable (2 ^ (64 - s.cone_bits)) (cond t (record { tail = tail; count = window } ∷ [])
+              (tallied s (slice_range all (lookback s (suc (length events))) (suc
               (length events))))))
               (sym (eq-eqb (depth s (suc (length events))) 0 shallow)) (omega arith, tail_below s key, some, tt)
           | inr deep ↦ subst (λ t. IsTable (2 ^ (64 - s.cone_bits)) (cond t (record { tail = tail; count = window } ∷ []) (tallied s (slice_range all (lookback s (suc (length events))) (suc
@@ -111,7 +113,8 @@ module _ (s : Numbers) (cone : ℕ) (events : List ℕ) (valid : IsValid s) (nam
         } ∷ []) []))) same
         ∙ shown (leb s.threshold c && not (is_listed key listed))
       where
-        shown : (t : Bool) → map (λ x. record { key = x; at = at }) (map (λ (p : Piece). key_with s cone p.tail) (cond t (record { tail = tail; count = c } ∷ []) [])) ≡ cond {A = List Report} t
+        shown : (t : Bool) → map (λ x. record { key = x; at = at }) (map (λ (p : Piece). key_with s cone p.tail) (cond t (record { tail = tail; count = c } ∷ []) []))
+            ≡ cond {A = List Report} t
             (record { key = key; at = at } ∷ []) []
         shown true = ap (λ k. record { key = k; at = at } ∷ []) (key_with-tail s cone bits named key below mine)
         shown false = λ _. []
@@ -129,7 +132,8 @@ module _ (s : Numbers) (cone : ℕ) (events : List ℕ) (valid : IsValid s) (nam
               (depth s m) 0 shallow))
           | inr deep ↦
               look-push s events key valid.limits.threshold_from keys below
-              ∙ ap (λ ks. reports ++ map (λ k. record { key = k; at = m }) ks) (due_by_tails s cone s.threshold all (lookback s m) m reports bits named valid.limits.threshold_from all_keys all_own)
+              ∙ ap (λ ks. reports ++ map (λ k. record { key = k; at = m }) ks)
+              (due_by_tails s cone s.threshold all (lookback s m) m reports bits named valid.limits.threshold_from all_keys all_own)
               ∙ ap (λ t. reports ++ due_reports s cone reports m (cond t (record { tail = tail; count = window } ∷ []) (tallied s (slice_range all (lookback s m) m)))) (sym (ne_eqb
               (depth s m) 0 deep))
         ]

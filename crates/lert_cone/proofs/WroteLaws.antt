@@ -14,7 +14,8 @@ use Rattle.lert_cone.specs.Wrote.{LeavesAlone, LeavesFile, IsShutIfTold}
 use Rattle.lert_cone.proofs.SoundLaws.{turns_back}
 
 -- no call
-pub leaves_none : (file : ℕ) (files : Option Files) (leaves : Files → Type 0) (moment : ℕ) (since : ℕ → Files → Type 0) → ((image : Files) → since moment image → leaves image) → ((image : Files) →
+pub leaves_none : (file : ℕ) (files : Option Files) (leaves : Files → Type 0) (moment : ℕ) (since : ℕ → Files → Type 0) →
+    ((image : Files) → since moment image → leaves image) → ((image : Files) →
     leaves image → since moment image) →
     LeavesFile file files files leaves leaves moment moment since since
 leaves_none file files leaves moment since only_now since_now = record {
@@ -25,7 +26,8 @@ leaves_none file files leaves moment since only_now since_now = record {
 }
 
 -- calls after calls
-module _ (file : ℕ) (before between after : Option Files) (leaves_before leaves_between leaves_after : Files → Type 0) (first middle last : ℕ) (since_first since_middle since_last : ℕ → Files →
+module _ (file : ℕ) (before between after : Option Files) (leaves_before leaves_between leaves_after : Files → Type 0) (first middle last : ℕ) (since_first since_middle since_last : ℕ →
+    Files →
     Type 0)
     (one : LeavesFile file before between leaves_before leaves_between first middle since_first since_middle) (two : LeavesFile file between after leaves_between leaves_after middle last
     since_middle since_last)
@@ -36,7 +38,8 @@ module _ (file : ℕ) (before between after : Option Files) (leaves_before leave
       let went = two.seen.told came.0 came.1 in
       (went.0, went.1, went.2 ∙ came.2)
 
-  settled_on : (old : Files) → before ≡ Some old → (from to : ℕ) → IsSettled leaves_before old file from to → (image : Files) → since_last first image → part (image file) from to ≡ part
+  settled_on : (old : Files) → before ≡ Some old → (from to : ℕ) → IsSettled leaves_before old file from to → (image : Files) → since_last first image →
+      part (image file) from to ≡ part
       (old file) from to
   settled_on old told from to settled image may =
       elim (two.time.known first image one.time.later may) [
@@ -75,7 +78,8 @@ leaves_rest bays kept file other before after rest time now = record {
 }
 
 -- an append to a file leaves the others alone
-pub leaves_others : (log file : ℕ) → file ≢ log → (before after : Option Files) (leaves_before leaves_after : Files → Type 0) (first last : ℕ) (since_before since_after : ℕ → Files → Type 0) →
+pub leaves_others : (log file : ℕ) → file ≢ log → (before after : Option Files) (leaves_before leaves_after : Files → Type 0) (first last : ℕ)
+    (since_before since_after : ℕ → Files → Type 0) →
     Turns (OthersStay log) before after → IfTold before (λ seen. KeepsOthers leaves_before (since_after first) seen log) → Lasts first last since_before since_after → ((image : Files) →
     leaves_after image → since_after first image) →
     LeavesFile file before after leaves_before leaves_after first last since_before since_after

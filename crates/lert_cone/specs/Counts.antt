@@ -49,7 +49,8 @@ pub record Brings {B : Type 0} (bays : Bays B) (start : Dues) (m tail : ℕ) (ba
   pub settings : levels_after.settings ≡ levels.settings
   pub from : OnOk result (zero_after.from ≡ edge levels.settings 0 m)
   pub to : OnOk result (zero_after.to ≡ m)
-  pub bins : (events : List ℕ) → length events ≡ m → AreYoung levels.settings events zero.from zero.bins → OnOk result (AreYoung levels.settings events (edge levels.settings 0 m) zero_after.bins)
+  pub bins : (events : List ℕ) → length events ≡ m → AreYoung levels.settings events zero.from zero.bins →
+      OnOk result (AreYoung levels.settings events (edge levels.settings 0 m) zero_after.bins)
   pub rows : OnOk result (IsAt levels.settings m levels_after.rows)
   pub holds : (events : List ℕ) → length events ≡ m → AreYoung levels.settings events zero.from zero.bins →
       IfTold (bays.files bay) (λ seen. HoldsBins levels.settings events levels.rows (seen FRAMES) →

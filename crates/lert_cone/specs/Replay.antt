@@ -30,11 +30,12 @@ pub record IsLastOf (s : Numbers) (n0 : ℕ) (closed : Bool) (rows : List (List 
 -- The journal has the packets of a history, of which the listing has the keys so far. Memory and files go together as after
 -- n0 events, the place of the log's last record, until more are there, and from then on as after the keys so far. No flush
 -- position lies between n0 and the last packet, and a closing record stands behind all events.
-pub record IsOnWay (leaves : Files → Type 0) (seen : Files) (history : List Packet) (listing : Listing) (rows : List (List BinAt)) (reports : List Report) (log : LogPlace) (n0 : ℕ) : Type 0 where
-  pub n0_most : n0 ≤ length (events_of history)
-  pub n0_least : last_flush listing.settings (length (events_of (but_last history))) ≤ n0
-  pub closed_behind : listing.closed ≡ true → n0 ≡ length (events_of history)
-  pub in_step : IsInStep leaves seen history (record listing { events = take (max n0 (length listing.events)) (events_of history) }) rows reports log
+pub record IsOnWay (leaves : Files → Type 0) (seen : Files) (history : List Packet) (listing : Listing) (rows : List (List BinAt)) (reports : List Report) (log : LogPlace) (n0 : ℕ) : Type 0
+  where
+    pub n0_most : n0 ≤ length (events_of history)
+    pub n0_least : last_flush listing.settings (length (events_of (but_last history))) ≤ n0
+    pub closed_behind : listing.closed ≡ true → n0 ≡ length (events_of history)
+    pub in_step : IsInStep leaves seen history (record listing { events = take (max n0 (length listing.events)) (events_of history) }) rows reports log
 
 -- the first packets of a history were read: these are their keys, and the gate behind them is the next one
 pub record IsPast (history done : List Packet) (events : List ℕ) (gate : ℕ) : Type 0 where
@@ -60,6 +61,7 @@ pub record MayFollow (s : Numbers) (n0 : ℕ) (closed : Bool) (n : ℕ) (packet 
 pub data ReplayLeavesAt (s : Numbers) (cone n0 : ℕ) (closed : Bool) (n : ℕ) (bytes : List ℕ) (gate at : ℕ) : Type 0 where
   In_record : LeavesAt s cone (most_payload s) bytes gate at → ReplayLeavesAt s cone n0 closed n bytes gate at
   Too_few : IsClosed bytes gate → n < n0 → at ≡ gate → ReplayLeavesAt s cone n0 closed n bytes gate at
-  Past_the_end : (packet : Packet) → HoldsPacket s cone (most_payload s) bytes gate packet → closed ≡ true → n0 < n + length packet.keys → at ≡ gate → ReplayLeavesAt s cone n0 closed n bytes gate at
+  Past_the_end : (packet : Packet) → HoldsPacket s cone (most_payload s) bytes gate packet → closed ≡ true → n0 < n + length packet.keys → at ≡ gate →
+      ReplayLeavesAt s cone n0 closed n bytes gate at
   Too_many : (packet : Packet) → HoldsPacket s cone (most_payload s) bytes gate packet → closed ≡ false → capacity s < n + length packet.keys → at ≡ gate + 1 →
       ReplayLeavesAt s cone n0 closed n bytes gate at

@@ -120,11 +120,12 @@ WasSound files cone = WereSound files (terms_of cone)
 -- are sound for it, with a closing record exactly where the cone is finished, and with the last record of a running one
 -- at the last flush. The journal and the log are settled. In every image the log has its records, which say of the keys
 -- what memory has of them, and the frames that the rows name hold the older levels. Memory holds the keys and reports.
-pub record IsWhole (leaves : Files → Type 0) (seen : Files) (listing : Listing) (rows : List (List BinAt)) (reports : List Report) (gate : ℕ) (log : LogPlace) (history : List Packet) : Type 0 where
-  pub files : IsKeptWhole leaves seen (IsSoundAs listing.settings listing.cone listing.closed history)
-  pub gate_is : gate ≡ end_of history
-  pub keys : listing.events ≡ events_of history
-  pub in_step : IsInStep leaves seen history listing rows reports log
+pub record IsWhole (leaves : Files → Type 0) (seen : Files) (listing : Listing) (rows : List (List BinAt)) (reports : List Report) (gate : ℕ) (log : LogPlace) (history : List Packet) : Type 0
+  where
+    pub files : IsKeptWhole leaves seen (IsSoundAs listing.settings listing.cone listing.closed history)
+    pub gate_is : gate ≡ end_of history
+    pub keys : listing.events ≡ events_of history
+    pub in_step : IsInStep leaves seen history listing rows reports log
 
 -- A cone stands for a list of packets. Each has a key, and together they have as many as the cone acknowledged, which are
 -- no more than it takes, and all are read. Where its bay tells its files, they are sound for the list; of a broken cone for
@@ -137,7 +138,8 @@ pub record StandsFor {B : Type 0} (files : B → Option Files) (leaves : B → F
   pub within : cone.events ≤ capacity cone.listing.settings
   pub valid : IsValid cone.listing.settings
   pub ready : cone.state ≢ Replaying
-  pub whole : is_broken cone.state ≡ false → WasSound files cone → IfTold (files cone.bay) (λ seen. IsWhole (leaves cone.bay) seen cone.listing cone.rows cone.reports cone.gate cone.log history)
+  pub whole : is_broken cone.state ≡ false → WasSound files cone → IfTold (files cone.bay)
+      (λ seen. IsWhole (leaves cone.bay) seen cone.listing cone.rows cone.reports cone.gate cone.log history)
   pub broken : is_broken cone.state ≡ true → WasSound files cone → IfTold (files cone.bay) (λ seen.
       IsKept (leaves cone.bay) seen (IsSoundOver cone.listing.settings cone.listing.cone history cone.over))
   pub none_over : is_broken cone.state ≡ false → cone.over ≡ None
@@ -160,7 +162,8 @@ pub record IsReplaying {B : Type 0} (files : B → Option Files) (leaves : B →
 -- what is so of every cone, of its journal's place and of the rooms of its buffer and of its list of keys. A cone that isn't
 -- broken has nothing left over, its counts are those of its keys, and a key takes at most 21 bytes of its journal. The gates
 -- of a running one are closed in every image, and the journal and the log are settled
-pub record IsCone {B : Type 0} (files : B → Option Files) (leaves : B → Files → Type 0) (faults : B → ℕ) (cone : Standing B) (tally : Tallied) (journal : Log) (room keys_room : ℕ) : Type 0 where
+pub record IsCone {B : Type 0} (files : B → Option Files) (leaves : B → Files → Type 0) (faults : B → ℕ) (cone : Standing B) (tally : Tallied) (journal : Log) (room keys_room : ℕ)
+    : Type 0 where
   pub file : journal.file ≡ JOURNAL
   pub most : journal.most ≡ most_payload cone.listing.settings
   pub roomy : room ≡ room_of cone.listing.settings

@@ -1,5 +1,6 @@
 -- What keys, a packet, and the end make of a cone's counts, its log and its bay.
-use Rattle.std.specs.Prelude.{◌≡◌, ◌≢◌, ℕ, ◌+◌, ◌*◌, ◌^◌, ◌<◌, ◌≤◌, max, true, false, List, [], ◌∷◌, ◌++◌, All, length, Some, Result, Err, OnOk, IsErrOf}
+use Rattle.std.specs.Prelude.{◌≡◌, ◌≢◌, ℕ, ◌+◌, ◌*◌, ◌^◌, ◌<◌, ◌≤◌, max, true, false, List, [], ◌∷◌, ◌++◌, All, length, Some, Result, Err, OnOk}
+use Rattle.std.specs.Prelude.{IsErrOf}
 use Rattle.lert_base.specs.Packet.{Packet, events_of}
 use Rattle.lert_bay.specs.Kept.{Bays, KeepsBay}
 use Rattle.lert_bay.specs.Files.{Files, IfTold, Turns}
@@ -66,12 +67,14 @@ pub record TakesKeys {B : Type 0} (bays : Bays B) (keys : List ℕ) (old new : W
   pub can_log : OnOk result (CanLog bays new)
   pub in_step : IfTold (bays.files old.bay) (λ seen. (history : List Packet) → AreInStep bays old seen history →
       OnOk result (IfTold (bays.files new.bay) (λ after. AreInStep bays new after history)))
-  pub each_moment : IfTold (bays.files old.bay) (λ seen. (history : List Packet) → IsPartway old.counts.listing.settings history old.counts.listing.events keys → AreInStep bays old seen history →
+  pub each_moment : IfTold (bays.files old.bay) (λ seen. (history : List Packet) → IsPartway old.counts.listing.settings history old.counts.listing.events keys →
+      AreInStep bays old seen history →
       (image : Files) → bays.left_since new.bay (bays.moment old.bay) image → IsSound old.counts.listing.settings old.counts.listing.cone history image)
   pub sound : IfTold (bays.files old.bay) (λ seen. (history : List Packet) → AreInStep bays old seen history → (file at : ℕ) → result ≢ Err (Unsound file at))
   pub framed : IfTold (bays.files old.bay) (λ seen. HoldsSome old.counts.listing.settings (length old.counts.listing.events) old.counts.rows (seen FRAMES) →
       OnOk result (IfTold (bays.files new.bay) (λ after. HoldsSome new.counts.listing.settings (length new.counts.listing.events) new.counts.rows (after FRAMES))))
-  pub whole : IfTold (bays.files old.bay) (λ seen. HoldsSome old.counts.listing.settings (length old.counts.listing.events) old.counts.rows (seen FRAMES) → (at : ℕ) → result ≢ Err (Unsound FRAMES at))
+  pub whole : IfTold (bays.files old.bay) (λ seen. HoldsSome old.counts.listing.settings (length old.counts.listing.events) old.counts.rows (seen FRAMES) → (at : ℕ) →
+      result ≢ Err (Unsound FRAMES at))
   pub unflushed : last_flush old.counts.listing.settings (length old.counts.listing.events + length keys) ≤ length old.counts.listing.events → new.bay ≡ old.bay
   pub keeps : KeepsJournal bays old new result
 

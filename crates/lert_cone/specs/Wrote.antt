@@ -8,7 +8,8 @@ use Rattle.lert_gatelog.specs.Gated.{IsClosed}
 use Rattle.lert_gatelog.specs.Kept.{InEach, IsWhollySettled}
 
 -- the file reads as before, what is settled in it stays settled at each moment, and time goes on
-pub record LeavesFile (file : ℕ) (files_before files_after : Option Files) (leaves_before leaves_after : Files → Type 0) (first last : ℕ) (since_before since_after : ℕ → Files → Type 0) : Type 0 where
+pub record LeavesFile (file : ℕ) (files_before files_after : Option Files) (leaves_before leaves_after : Files → Type 0) (first last : ℕ) (since_before since_after : ℕ → Files →
+    Type 0) : Type 0 where
   pub seen : Turns (λ old new. new file ≡ old file) files_before files_after
   pub settled : (old : Files) → files_before ≡ Some old → (from to : ℕ) → IsSettled leaves_before old file from to → Keeps (since_after first) old file from to
   pub now : (image : Files) → leaves_after image → since_after first image

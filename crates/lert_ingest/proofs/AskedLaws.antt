@@ -17,7 +17,8 @@ asked_along dir dir' n n' before before' asked asked' status one two three_is fo
     (subst (λ b. IsAskedForBays dir n b asked' status) three_is
     (subst (λ a. IsAskedForBays dir n before a status) four are)))
 
-pub returned_along : {T : Type 0} (mark : T → ℕ) (handed handed' : List T) (returned returned' : ℕ → Option T) → handed' ≡ handed → ((number : ℕ) → returned' number ≡ returned number) →
+pub returned_along : {T : Type 0} (mark : T → ℕ) (handed handed' : List T) (returned returned' : ℕ → Option T) → handed' ≡ handed →
+    ((number : ℕ) → returned' number ≡ returned number) →
     AreReturned mark handed returned → AreReturned mark handed' returned'
 returned_along mark handed handed' returned returned' same each are = λ number within.
     let back = are number (subst (λ (xs : List _). number < length xs) same within) in
@@ -26,12 +27,14 @@ returned_along mark handed handed' returned returned' same each are = λ number 
 pub none_returned : {T : Type 0} (mark : T → ℕ) (handed : List T) (returned : ℕ → Option T) → handed ≡ [] → AreReturned mark handed returned
 none_returned mark handed returned none = λ number within. absurd (omega (arith, within, ap length none))
 
-pub one_returned : {T : Type 0} (mark : T → ℕ) (object back : T) (handed : List T) (returned : ℕ → Option T) → handed ≡ object ∷ [] → returned 0 ≡ Some back → mark back ≡ 0 → AreReturned mark handed returned
+pub one_returned : {T : Type 0} (mark : T → ℕ) (object back : T) (handed : List T) (returned : ℕ → Option T) → handed ≡ object ∷ [] → returned 0 ≡ Some back →
+    mark back ≡ 0 → AreReturned mark handed returned
 one_returned mark object back handed returned one is marked = λ number within.
     let first : number ≡ 0 = omega (arith, within, ap length one) in
     (back, ap returned first ∙ is, marked ∙ sym first)
 
-pub all_back : {B : Type 0} (files : B → Option Files) (faults mark : B → ℕ) (bays later handed : List B) (returned : ℕ → Option B) → handed ≡ bays → AreLater files faults mark bays later → AreMarked mark bays →
+pub all_back : {B : Type 0} (files : B → Option Files) (faults mark : B → ℕ) (bays later handed : List B) (returned : ℕ → Option B) → handed ≡ bays →
+    AreLater files faults mark bays later → AreMarked mark bays →
     ((cone : ℕ) → cone < length later → returned cone ≡ slice_get later cone) → AreReturned mark handed returned
 all_back files faults mark bays later handed returned same are marked back = λ number within.
     let below : number < length later = omega (arith, within, ap length same, are.number) in

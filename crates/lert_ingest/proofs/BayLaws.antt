@@ -1,5 +1,6 @@
 -- Bays later, in lists, and in cones.
-use Rattle.std.proofs.Common.{◌≡◌, ◌≢◌, ℕ, ◌+◌, ◌<◌, ◌≤◌, zero, suc, List, [], ◌∷◌, ◌++◌, length, set, get_or, Option, Some, slice_get, refl, ap, sym, ◌∙◌, subst, inl, inr, arith}
+use Rattle.std.proofs.Common.{◌≡◌, ◌≢◌, ℕ, ◌+◌, ◌<◌, ◌≤◌, zero, suc, List, [], ◌∷◌, ◌++◌, length, set, get_or, Option, Some, slice_get, refl, ap, sym}
+use Rattle.std.proofs.Common.{◌∙◌, subst, inl, inr, arith}
 use Rattle.std.proofs.lemmas.Bool.{cases_eq}
 use Rattle.std.proofs.lemmas.List.{get_or-set_same, length-set}
 use Rattle.std.proofs.lemmas.Option.{slice_get-get_or, slice_get_within, same_Some}
@@ -123,7 +124,8 @@ module _ {B : Type 0} (files : B → Option Files) (faults mark : B → ℕ) whe
       (are.each cone (get_or bays cone bay) bay was is).marked ∙ marked cone (get_or bays cone bay) was
 
   -- a bay that failed since a later moment failed since an earlier one
-  pub failed_since : (first then now : List B) (cone : ℕ) → AreLater files faults mark first then → AreLater files faults mark then now → HasFailed faults then now cone → HasFailed faults first now cone
+  pub failed_since : (first then now : List B) (cone : ℕ) → AreLater files faults mark first then → AreLater files faults mark then now → HasFailed faults then now cone →
+      HasFailed faults first now cone
   failed_since first then now cone one two failed =
       let was = slice_get-get_or first cone failed.before (omega (arith, slice_get_within then cone failed.before failed.was, one.number)) in
       let before = get_or first cone failed.before in

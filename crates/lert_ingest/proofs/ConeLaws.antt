@@ -1,5 +1,6 @@
 -- Cones that are made over bays one by one.
-use Rattle.std.proofs.Common.{◌≡◌, ℕ, ◌+◌, ◌<◌, ◌≤◌, true, List, [], ◌∷◌, ◌++◌, length, get_or, Option, Some, slice_get, refl, ap, sym, ◌∙◌, subst, inl, inr, arith, length-append}
+use Rattle.std.proofs.Common.{◌≡◌, ℕ, ◌+◌, ◌<◌, ◌≤◌, true, List, [], ◌∷◌, ◌++◌, length, get_or, Option, Some, slice_get, refl, ap, sym, ◌∙◌, subst, inl, inr}
+use Rattle.std.proofs.Common.{arith, length-append}
 use Rattle.std.proofs.lemmas.Bool.{cases_eq}
 use Rattle.std.proofs.lemmas.List.{length-map}
 use Rattle.std.proofs.lemmas.Option.{slice_get-get_or, slice_get_within, same_Some}
@@ -15,7 +16,8 @@ use Rattle.lert_ingest.specs.Cones.{IsNew}
 use Rattle.lert_ingest.specs.Run.{IsUnmade, is_past_freshness}
 use Rattle.lert_ingest.specs.Status.{create_status}
 use Rattle.lert_ingest.specs.declared.status.Status.{Status}
-use Rattle.lert_ingest.specs.declared.status.Status.TheVariants.{Done, Usage, PlaceFault, TraceFault, BadTrace, TooLong, NotFresh, BayFault, CapacityFull, Malformed, OtherSettings, OutFault, OutOfMemory}
+use Rattle.lert_ingest.specs.declared.status.Status.TheVariants.{Done, Usage, PlaceFault, TraceFault, BadTrace, TooLong, NotFresh, BayFault, CapacityFull, Malformed, OtherSettings, OutFault}
+use Rattle.lert_ingest.specs.declared.status.Status.TheVariants.{OutOfMemory}
 use Rattle.lert_ingest.proofs.BayLaws.{are_more, bays_of-push, failed_since, later_seam, slice_get-first, slice_get-seam}
 use Rattle.lert_ingest.proofs.EachLaws.{but_more, each_seam, kept_refused, kept_unused, new_unused, unused_all, unused_more}
 
@@ -43,7 +45,8 @@ module _ {B : Type 0} (files : B → Option Files) (faults mark : B → ℕ) whe
   cones_and_left bays cones rest later = omega (arith, later.number, length-append (bays_of cones) rest, length-map cones (λ (c : Standing B). c.bay))
 
   -- what a call of a bay leaves
-  pub call_later : (old new : B) → mark new ≡ mark old → faults old ≤ faults new → {step : Files → Files → Type 0} → Turns step (files old) (files new) → IsLater files faults mark old new
+  pub call_later : (old new : B) → mark new ≡ mark old → faults old ≤ faults new → {step : Files → Files → Type 0} → Turns step (files old) (files new) →
+      IsLater files faults mark old new
   call_later old new marked falls turns = record {
     marked = marked;
     never_falls = falls;

@@ -1,5 +1,6 @@
 -- The texts of cones, one behind the other.
-use Rattle.std.proofs.Common.{◌≡◌, ℕ, ◌+◌, ◌≤◌, zero, suc, true, List, [], ◌∷◌, ◌++◌, length, map, get_or, slice_get, take, drop, sum_by, Option, Some, ap, sym, ◌∙◌, subst, arith, append_assoc, append-nil}
+use Rattle.std.proofs.Common.{◌≡◌, ℕ, ◌+◌, ◌≤◌, zero, suc, true, List, [], ◌∷◌, ◌++◌, length, map, get_or, slice_get, take, drop, sum_by, Option, Some, ap, sym}
+use Rattle.std.proofs.Common.{◌∙◌, subst, arith, append_assoc, append-nil}
 use Rattle.std.proofs.lemmas.List.{length-map, length-take-le, take-append-drop}
 use Rattle.std.proofs.lemmas.List.FromFn.{fill_by_all}
 use Rattle.std.proofs.lemmas.Option.{same_Some, slice_get-get_or, slice_get_within}
@@ -42,7 +43,8 @@ lines_are cones events reports events_are reports_are =
     ∙ ap (λ n. cone_texts 0 cones ++ total_line (sum_by (λ (p : Printed). p.events) cones) n) reports_are
 
 -- the first cones and the next one
-pub printed_next : {B : Type 0} (cones : List (Standing B)) (n : ℕ) (cone : Standing B) → slice_get cones n ≡ Some cone → take n (map printed_as cones) ++ printed_as cone ∷ [] ≡ take (n + 1) (map printed_as cones)
+pub printed_next : {B : Type 0} (cones : List (Standing B)) (n : ℕ) (cone : Standing B) → slice_get cones n ≡ Some cone →
+    take n (map printed_as cones) ++ printed_as cone ∷ [] ≡ take (n + 1) (map printed_as cones)
 printed_next [] n cone found = absurd (omega (arith, slice_get_within [] n cone found))
 printed_next (x ∷ xs) zero cone found = ap (λ (c : Standing _). printed_as c ∷ []) (sym (same_Some x cone found))
 printed_next (x ∷ xs) (suc n) cone found =
@@ -87,7 +89,8 @@ module _ {B : Type 0} (files : B → Option Files) (s : Numbers) (bays : List B)
         let seen = told cone bay.0 bay.1 in
         one_is cone one is.events_are (is.reports_are bay.0 bay.1 seen.0 seen.1) is.closed_is)
       where
-        one_is : (cone : ℕ) (one : Printed) → one.events ≡ length (part_of s cone keys) → one.reports ≡ closing s (part_of s cone keys) → one.closed ≡ true → one ≡ printed_of s keys cone
+        one_is : (cone : ℕ) (one : Printed) → one.events ≡ length (part_of s cone keys) → one.reports ≡ closing s (part_of s cone keys) → one.closed ≡ true →
+            one ≡ printed_of s keys cone
         one_is cone one events reports closed = λ i. record { events = events i; reports = reports i; closed = closed i }
 
 -- what is a part of a text that begins another is one of that

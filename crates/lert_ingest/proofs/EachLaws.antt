@@ -41,7 +41,8 @@ module _ {B : Type 0} (R : ℕ → B → B → Type 0) where
       subst (EachBay R (xs ++ old ∷ ys)) (set-seam xs old new ys)
       (each_set still (xs ++ old ∷ ys) (length xs) old new (slice_get-seam xs old ys) here)
 
-pub each_weaker : {B : Type 0} (R Q : ℕ → B → B → Type 0) → ((cone : ℕ) (a b : B) → R cone a b → Q cone a b) → (bays later : List B) → EachBay R bays later → EachBay Q bays later
+pub each_weaker : {B : Type 0} (R Q : ℕ → B → B → Type 0) → ((cone : ℕ) (a b : B) → R cone a b → Q cone a b) → (bays later : List B) → EachBay R bays later →
+    EachBay Q bays later
 each_weaker R Q weaker bays later each = λ cone before now was is. weaker cone before now (each cone before now was is)
 
 module _ {B : Type 0} (files : B → Option Files) where
@@ -84,7 +85,8 @@ module _ {B : Type 0} (files : B → Option Files) where
     kept_unused bays later kept = λ cone before now was is. inl (kept cone before now was is)
 
     -- a cone was made over a bay without a byte
-    pub new_unused : (leaves : B → Files → Type 0) (faults : B → ℕ) (number : ℕ) (bay : B) (cone : Standing B) → IfTold (files bay) AreEmpty → IsNew files leaves faults s number cone →
+    pub new_unused : (leaves : B → Files → Type 0) (faults : B → ℕ) (number : ℕ) (bay : B) (cone : Standing B) → IfTold (files bay) AreEmpty →
+        IsNew files leaves faults s number cone →
         IsUnused files s number bay cone.bay
     new_unused leaves faults number bay cone empty new = inr (
       empty,

@@ -1,5 +1,6 @@
 -- Which status a run ends with.
-use Rattle.std.proofs.Common.{◌≡◌, ◌≢◌, ◌⊎◌, ℕ, ◌^◌, ◌<◌, ◌≤◌, true, false, List, length, Option, Some, None, slice_get, refl, ap, sym, ◌∙◌, subst, inl, inr, arith}
+use Rattle.std.proofs.Common.{◌≡◌, ◌≢◌, ◌⊎◌, ℕ, ◌^◌, ◌<◌, ◌≤◌, true, false, List, length, Option, Some, None, slice_get, refl, ap, sym, ◌∙◌, subst, inl}
+use Rattle.std.proofs.Common.{inr, arith}
 use Rattle.std.proofs.lemmas.Bool.{cases_lt}
 use Rattle.lert_bay.specs.Files.{Files}
 use Rattle.lert_cone.specs.Sound.{AreEmpty}
@@ -7,7 +8,8 @@ use Rattle.lert_io.specs.Fault.{HasRisen, IsFaultless}
 use Rattle.lert_spec.specs.Trace.{left, whole}
 use Rattle.lert_spec.specs.declared.numbers.Numbers.{Numbers}
 use Rattle.lert_ingest.specs.declared.status.Status.{Status}
-use Rattle.lert_ingest.specs.declared.status.Status.TheVariants.{Done, Usage, PlaceFault, TraceFault, BadTrace, TooLong, NotFresh, BayFault, CapacityFull, Malformed, OtherSettings, OutFault, OutOfMemory}
+use Rattle.lert_ingest.specs.declared.status.Status.TheVariants.{Done, Usage, PlaceFault, TraceFault, BadTrace, TooLong, NotFresh, BayFault, CapacityFull, Malformed, OtherSettings, OutFault}
+use Rattle.lert_ingest.specs.declared.status.Status.TheVariants.{OutOfMemory}
 use Rattle.std.specs.Prelude.{⊤}
 use Rattle.lert_ingest.specs.Bays.{AreFaultless, AreFaultlessTo, AreFresh, AreFreshBelow, AreLater, AreToldFresh, AreUnused, HasFailed, IsStale, IsUntold}
 use Rattle.lert_ingest.specs.Run.{AllFit, HasRun, HasThem, IsFull, IsOver, IsUnmade, StatusShows, StopShows, ArePartly, is_past_freshness, most_keys}
@@ -60,7 +62,8 @@ untold_or_not files bays cone fresh untold =
     let held = fresh cone there.0 there.1 in
     untold.untold there.0 there.1 held.0 held.1
 
-module _ {S K B : Type 0} (remaining : S → Option (List ℕ)) (faults : S → ℕ) (taken : K → Option (List ℕ)) (sink_faults : K → ℕ) (files : B → Option Files) (bay_faults : B → ℕ)
+module _ {S K B : Type 0} (remaining : S → Option (List ℕ)) (faults : S → ℕ) (taken : K → Option (List ℕ)) (sink_faults : K → ℕ) (files : B → Option Files)
+    (bay_faults : B → ℕ)
     (settings : Numbers) where
   -- the same trace and the same source behind it
   pub shows_along : (made opened source back : S) (before after : K) (bays later : List B) (stale found : ℕ → Type 0) (status : Status) → made ≡ opened → source ≡ back →
@@ -161,7 +164,8 @@ module _ {S K B : Type 0} (remaining : S → Option (List ℕ)) (faults : S → 
     full_or_not : (keys : List ℕ) (cone n len : ℕ) → IsFull files settings later cone n len → HasThem settings keys cone n len → AllFit settings keys → ⊥
     full_or_not keys cone n len full has fits = absurd (omega (arith, full.over, has, fits cone full.named))
 
-    stale_exactly : (cone : ℕ) (bay : B) (seen : Files) → AreFaultlessTo bay_faults cone bays later → slice_get bays cone ≡ Some bay → files bay ≡ Some seen → (AreEmpty seen → ⊥) →
+    stale_exactly : (cone : ℕ) (bay : B) (seen : Files) → AreFaultlessTo bay_faults cone bays later → slice_get bays cone ≡ Some bay → files bay ≡ Some seen →
+        (AreEmpty seen → ⊥) →
         ((other : ℕ) (lower : B) → other < cone → slice_get bays other ≡ Some lower → (held : Files) × (files lower ≡ Some held) × AreEmpty held) →
         (status : Status) → Shows status → (is_past_freshness status ≡ true → AreFresh files bays) → (status ≡ NotFresh cone) ⊎ (status ≡ OutOfMemory)
     stale_exactly cone bay seen none there told not_empty lower Done shows fresh = absurd (not_empty (fresh refl cone bay there seen told))
@@ -229,7 +233,8 @@ module _ {S K B : Type 0} (remaining : S → Option (List ℕ)) (faults : S → 
       full_exactly OutFault shows formed over named many = absurd (over_or_not (whole bytes) over named (shows.1 bytes was).0.0.fits many)
       full_exactly OutOfMemory shows formed over named many = inr refl
 
-      complete : (status : Status) → Shows status → IsFaultless (sink_faults before) (sink_faults after) → left bytes ≡ None → AllFit settings (whole bytes) → (status ≡ Done) ⊎ (status ≡ OutOfMemory)
+      complete : (status : Status) → Shows status → IsFaultless (sink_faults before) (sink_faults after) → left bytes ≡ None → AllFit settings (whole bytes) →
+          (status ≡ Done) ⊎ (status ≡ OutOfMemory)
       complete Done shows kept formed fits = inl refl
       complete (Usage rule) shows kept formed fits = absurd shows
       complete PlaceFault shows kept formed fits = absurd shows
@@ -244,7 +249,8 @@ module _ {S K B : Type 0} (remaining : S → Option (List ℕ)) (faults : S → 
       complete OutFault shows kept formed fits = absurd (no_rise (sink_faults before) (sink_faults after) kept shows.0)
       complete OutOfMemory shows kept formed fits = inr refl
 
-    pub HasRun-shows : (status : Status) → Shows status → (status ≢ OutOfMemory → length bays ≡ 2 ^ settings.cone_bits) → (is_past_freshness status ≡ true → AreFresh files bays) →
+    pub HasRun-shows : (status : Status) → Shows status → (status ≢ OutOfMemory → length bays ≡ 2 ^ settings.cone_bits) →
+        (is_past_freshness status ≡ true → AreFresh files bays) →
         HasRun remaining faults taken sink_faults files bay_faults settings opened back before after bays later status
     HasRun-shows status shows number fresh = record {
       shows = shows;

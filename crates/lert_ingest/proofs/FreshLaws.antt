@@ -35,7 +35,8 @@ module _ {B : Type 0} (files : B → Option Files) (faults mark : B → ℕ) (ba
   pub looked_rest : (other : ℕ) → cone + 1 ≤ other → slice_get (set now cone new) other ≡ slice_get bays other
   looked_rest other above = slice_get-set_other now cone other new (λ equal. absurd (omega (arith, above, equal))) ∙ rest other (omega (arith, above))
 
-  pub looked_fresh : ((other : ℕ) → other < cone → IfHeld files bays other AreEmpty) → IfTold (files old) AreEmpty → (other : ℕ) → other < cone + 1 → IfHeld files bays other AreEmpty
+  pub looked_fresh : ((other : ℕ) → other < cone → IfHeld files bays other AreEmpty) → IfTold (files old) AreEmpty → (other : ℕ) → other < cone + 1 →
+      IfHeld files bays other AreEmpty
   looked_fresh lower empty other below =
       elim (cases_eq other cone) [
         | inl equal ↦ λ bay there. subst (λ b. IfTold (files b) AreEmpty) (same_Some old bay (sym here ∙ (ap (slice_get bays) (sym equal) ∙ there))) empty

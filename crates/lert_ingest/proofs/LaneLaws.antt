@@ -201,10 +201,12 @@ module _ {B : Type 0} (files : B → Option Files) (leaves : B → Files → Typ
               ];
         }
 
-    pub lanes_pushed : (at key : ℕ) (after : Rings) (more : List ℕ) → at ≡ cone_of s key → at < 2 ^ s.cone_bits → after ≡ with_ring rings at (ring_of rings at ++ key ∷ []) → more ≡ keys ++ key ∷ [] →
+    pub lanes_pushed : (at key : ℕ) (after : Rings) (more : List ℕ) → at ≡ cone_of s key → at < 2 ^ s.cone_bits → after ≡ with_ring rings at (ring_of rings at ++ key ∷ []) →
+        more ≡ keys ++ key ∷ [] →
         AreLanes files leaves faults s from finished cones after more
     lanes_pushed at key after more is named rings_are keys_are =
-        let pushed = subst (λ a. AreLanes files leaves faults s from finished cones (with_ring rings a (ring_of rings a ++ key ∷ [])) (keys ++ key ∷ [])) (sym is) (lanes_push key (omega (arith, named, is))) in
+        let pushed = subst (λ a. AreLanes files leaves faults s from finished cones (with_ring rings a (ring_of rings a ++ key ∷ [])) (keys ++ key ∷ [])) (sym is)
+        (lanes_push key (omega (arith, named, is))) in
         subst (λ ks. AreLanes files leaves faults s from finished cones after ks) (sym keys_are)
         (subst (λ r. AreLanes files leaves faults s from finished cones r (keys ++ key ∷ [])) (sym rings_are) pushed)
 
@@ -232,7 +234,8 @@ module _ {B : Type 0} (files : B → Option Files) (leaves : B → Files → Typ
       inside = omega (arith, below, lanes.cones_number)
 
       -- the cones below are as before
-      other_lane : (to cone : ℕ) (b : Bool) (new : Standing B) (waiting : List ℕ) → from ≤ to → cone ≢ at → cone < 2 ^ s.cone_bits → finished cone ≡ b → waiting ≡ ring_of rings cone →
+      other_lane : (to cone : ℕ) (b : Bool) (new : Standing B) (waiting : List ℕ) → from ≤ to → cone ≢ at → cone < 2 ^ s.cone_bits → finished cone ≡ b →
+          waiting ≡ ring_of rings cone →
           IsLane files leaves faults s to cone (part_of s cone keys) b (slice_get (set cones at new) cone) waiting
       other_lane to cone b new waiting grows other named is same =
           let lane = lanes.each cone named in
@@ -253,7 +256,8 @@ module _ {B : Type 0} (files : B → Option Files) (leaves : B → Files → Typ
       -- a cone is finished
       pub lanes_finish : (new : Standing B) → IsSameCone old new → new.listing ≡ record old.listing { closed = true } → new.state ≡ Finished →
           ((h : List Packet) → StandsFor files leaves faults old h → StandsFor files leaves faults new h) →
-          (other : ℕ → Bool) → other at ≡ true → ((cone : ℕ) → cone ≢ at → finished cone ≡ other cone) → AreLanes files leaves faults s from other (set cones at new) rings keys
+          (other : ℕ → Bool) → other at ≡ true → ((cone : ℕ) → cone ≢ at → finished cone ≡ other cone) →
+          AreLanes files leaves faults s from other (set cones at new) rings keys
       lanes_finish new kept listed state stands other ends same =
           let here = lanes.each at below in
           record {
@@ -334,22 +338,23 @@ module _ {B : Type 0} (files : B → Option Files) (leaves : B → Files → Typ
               packet = lanes.packet;
               each = λ cone named.
                   elim (cases_eq cone at) [
-                    | inl equal ↦ subst (λ c. IsLane files leaves faults s to c (part_of s c keys) (finished c) (slice_get (set cones at new) c) (get_or (set rings.rings at []) c [])) (sym equal) (record {
-                      standing = new;
-                      history = here.history ++ packet ∷ [];
-                      cone_is = slice_get-set_same cones at new inside;
-                      stands = stands here.history lane_stands;
-                      sound = sound_still old new kept lane_was_sound;
-                      listing_is =
-                          listed
-                          ∙ (ap (λ (l : Listing). record l { events = l.events ++ ring }) lane_listing
-                          ∙ ap (λ (events : List ℕ). record { settings = s; cone = at; events = events; closed = finished at }) (sym (events_more here.history packet)));
-                      state_is = state ∙ lane_state;
-                      each = more_each;
-                      cut = more_cut;
-                      full = λ still. All-push (λ (p : Packet). length p.keys ≡ s.packet) here.history packet (here.full first) (full still);
-                      joined = ap (λ xs. events_of (here.history ++ packet ∷ []) ++ xs) emptied ∙ more_joined;
-                    })
+                    | inl equal ↦ subst (λ c. IsLane files leaves faults s to c (part_of s c keys) (finished c) (slice_get (set cones at new) c) (get_or (set rings.rings at []) c []))
+                        (sym equal) (record {
+                          standing = new;
+                          history = here.history ++ packet ∷ [];
+                          cone_is = slice_get-set_same cones at new inside;
+                          stands = stands here.history lane_stands;
+                          sound = sound_still old new kept lane_was_sound;
+                          listing_is =
+                              listed
+                              ∙ (ap (λ (l : Listing). record l { events = l.events ++ ring }) lane_listing
+                              ∙ ap (λ (events : List ℕ). record { settings = s; cone = at; events = events; closed = finished at }) (sym (events_more here.history packet)));
+                          state_is = state ∙ lane_state;
+                          each = more_each;
+                          cut = more_cut;
+                          full = λ still. All-push (λ (p : Packet). length p.keys ≡ s.packet) here.history packet (here.full first) (full still);
+                          joined = ap (λ xs. events_of (here.history ++ packet ∷ []) ++ xs) emptied ∙ more_joined;
+                        })
                     | inr differs ↦ other_lane to cone (finished cone) new (get_or (set rings.rings at []) cone []) grows differs named refl (get_or-set_other rings.rings at cone [] [] differs)
                   ];
             }

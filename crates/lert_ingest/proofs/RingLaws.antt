@@ -1,5 +1,6 @@
 -- Rings that are short, emptied and filled.
-use Rattle.std.proofs.Common.{◌≡◌, ◌≢◌, ℕ, ◌+◌, ◌*◌, ◌^◌, ◌<◌, ◌≤◌, Bool, true, false, cond, eqb, ◌||◌, List, [], ◌∷◌, length, set, get_or, replicate, refl, ap, sym, ◌∙◌, inl, inr, arith}
+use Rattle.std.proofs.Common.{◌≡◌, ◌≢◌, ℕ, ◌+◌, ◌*◌, ◌^◌, ◌<◌, ◌≤◌, Bool, true, false, cond, eqb, ◌||◌, List, [], ◌∷◌, length, set, get_or, replicate}
+use Rattle.std.proofs.Common.{refl, ap, sym, ◌∙◌, inl, inr, arith}
 use Rattle.std.proofs.lemmas.Bool.{cases_eq, eq-eqb, ne_eqb}
 use Rattle.std.proofs.lemmas.List.{get_or-set_same, get_or-set_other, get_or-replicate, set-get_or}
 use Rattle.lert_buffers.specs.Rings.{Rings, fill_of, ring_of, with_ring}
@@ -46,11 +47,13 @@ drained_more s rings after at number named is drained cone below =
     ]
 
 -- the ring of a key that came
-pub ring_pushed : (s : Numbers) (rings after : Rings) (at : ℕ) (ring : List ℕ) → length rings.rings ≡ 2 ^ s.cone_bits → at < 2 ^ s.cone_bits → after ≡ with_ring rings at ring → ring_of after at ≡ ring
+pub ring_pushed : (s : Numbers) (rings after : Rings) (at : ℕ) (ring : List ℕ) → length rings.rings ≡ 2 ^ s.cone_bits → at < 2 ^ s.cone_bits → after ≡ with_ring rings at ring →
+    ring_of after at ≡ ring
 ring_pushed s rings after at ring number named is = ap (λ r. ring_of r at) is ∙ get_or-set_same rings.rings at ring [] (omega (arith, named, number))
 
 -- the ring of a key that came is short where it asks for nothing
-pub short_pushed : (s : Numbers) (rings : Rings) (at : ℕ) (ring : List ℕ) → length rings.rings ≡ 2 ^ s.cone_bits → length ring < s.packet → AreShort s rings → AreShort s (with_ring rings at ring)
+pub short_pushed : (s : Numbers) (rings : Rings) (at : ℕ) (ring : List ℕ) → length rings.rings ≡ 2 ^ s.cone_bits → length ring < s.packet → AreShort s rings →
+    AreShort s (with_ring rings at ring)
 short_pushed s rings at ring number less short cone named =
     elim (cases_eq cone at) [
       | inl same ↦

@@ -30,7 +30,8 @@ has_more s cone n len keys all begins has =
     let parts = ap (λ (xs : List ℕ). length xs) (filter-append (λ k. eqb (cone_of s k) cone) keys begins.0) in
     omega (arith, has, whole_is, parts, length-append (part_of s cone keys) (part_of s cone begins.0))
 
-module _ {S B : Type 0} (remaining : S → Option (List ℕ)) (faults : S → ℕ) (files : B → Option Files) (bay_faults : B → ℕ) (s : Numbers) (made now : S) (bays later : List B) (keys : List ℕ)
+module _ {S B : Type 0} (remaining : S → Option (List ℕ)) (faults : S → ℕ) (files : B → Option Files) (bay_faults : B → ℕ) (s : Numbers) (made now : S) (bays later : List B)
+    (keys : List ℕ)
     (begins : IfTold (remaining made) (λ bytes. BeginsWith (whole bytes) keys)) where
   -- each journal
   pub stop_partly : ArePartWoven files s later keys → ArePartly remaining faults files bay_faults s made later

@@ -1,5 +1,6 @@
 -- Packets of one trace and one worker weave its keys.
-use Rattle.std.proofs.Common.{◌≡◌, ℕ, ◌<◌, zero, suc, eqb, cond, List, [], ◌∷◌, ◌++◌, length, Some, slice_get, refl, ap, sym, ◌∙◌, subst, arith, append_assoc, length-append}
+use Rattle.std.proofs.Common.{◌≡◌, ℕ, ◌<◌, zero, suc, eqb, cond, List, [], ◌∷◌, ◌++◌, length, Some, slice_get, refl, ap, sym, ◌∙◌, subst, arith, append_assoc}
+use Rattle.std.proofs.Common.{length-append}
 use Rattle.std.specs.Prelude.{All}
 use Rattle.std.proofs.lemmas.Bool.{eq-eqb}
 use Rattle.std.proofs.lemmas.List.Elements.{All-head, All-tail, filter-append}
@@ -62,7 +63,8 @@ module _ (s : Numbers) (cone : ℕ) (history : List Packet) (each : All (IsBroug
   }
 
 -- a weave of a beginning of some keys is one of more keys
-pub part_woven-more : (s : Numbers) (cone : ℕ) (keys more : List ℕ) (history : List Packet) → IsPartWoven s cone 1 (keys ∷ []) history → IsPartWoven s cone 1 ((keys ++ more) ∷ []) history
+pub part_woven-more : (s : Numbers) (cone : ℕ) (keys more : List ℕ) (history : List Packet) → IsPartWoven s cone 1 (keys ∷ []) history →
+    IsPartWoven s cone 1 ((keys ++ more) ∷ []) history
 part_woven-more s cone keys more history part =
     let first = part.joined 0 keys refl in
     record {

@@ -22,7 +22,8 @@ AreFull s history = All (λ packet. length packet.keys ≡ s.packet) history
 
 -- a cone, which is finished or not, and whose files were sound as it was made, stands for packets whose keys are with those that wait in its ring its part; from a
 -- number of cones on, the rest of the ring is still to come, so that each packet is full
-pub record IsLane {B : Type 0} (files : B → Option Files) (leaves : B → Files → Type 0) (faults : B → ℕ) (s : Numbers) (from number : ℕ) (part : List ℕ) (finished : Bool) (cone : Option (Standing B)) (waiting : List ℕ) : Type 0 where
+pub record IsLane {B : Type 0} (files : B → Option Files) (leaves : B → Files → Type 0) (faults : B → ℕ) (s : Numbers) (from number : ℕ) (part : List ℕ) (finished : Bool)
+    (cone : Option (Standing B)) (waiting : List ℕ) : Type 0 where
   pub standing : Standing B
   pub history : List Packet
   pub cone_is : cone ≡ Some standing
@@ -36,7 +37,8 @@ pub record IsLane {B : Type 0} (files : B → Option Files) (leaves : B → File
   pub joined : events_of history ++ waiting ≡ part
 
 -- each cone has a ring, and both together have its part of the keys; which cones are finished is known by their number
-pub record AreLanes {B : Type 0} (files : B → Option Files) (leaves : B → Files → Type 0) (faults : B → ℕ) (s : Numbers) (from : ℕ) (finished : ℕ → Bool) (cones : List (Standing B)) (rings : Rings) (keys : List ℕ) : Type 0 where
+pub record AreLanes {B : Type 0} (files : B → Option Files) (leaves : B → Files → Type 0) (faults : B → ℕ) (s : Numbers) (from : ℕ) (finished : ℕ → Bool)
+    (cones : List (Standing B)) (rings : Rings) (keys : List ℕ) : Type 0 where
   pub valid : IsValid s
   pub cones_number : length cones ≡ 2 ^ s.cone_bits
   pub rings_number : length rings.rings ≡ 2 ^ s.cone_bits

@@ -1,5 +1,6 @@
 -- What a run says of the trace that it read, of the bays of its cones, and of the text that it wrote.
-use Rattle.std.specs.Prelude.{◌≡◌, ◌≢◌, ◌⊎◌, ℕ, ◌+◌, ◌*◌, ◌^◌, ◌<◌, ◌≤◌, Bool, true, false, List, [], ◌++◌, length, map, Option, Some, None, slice_get, ⊤}
+use Rattle.std.specs.Prelude.{◌≡◌, ◌≢◌, ◌⊎◌, ℕ, ◌+◌, ◌*◌, ◌^◌, ◌<◌, ◌≤◌, Bool, true, false, List, [], ◌++◌, length, map, Option, Some, None}
+use Rattle.std.specs.Prelude.{slice_get, ⊤}
 use Rattle.std.specs.List.{range_with_len}
 use Rattle.lert_bay.specs.Files.{Files}
 use Rattle.lert_cone.specs.Sound.{AreEmpty}
@@ -16,7 +17,8 @@ use Rattle.lert_ingest.specs.Bays.{AreFaultless, AreFaultlessTo, AreFresh, AreFr
 use Rattle.lert_ingest.specs.Bays.{AreUnused, AreUnusedBut, AreWoven, HasFailed, HoldsKeys, IfHeld, IsStale, IsUntold}
 use Rattle.lert_text.specs.Page.{IsCut}
 use Rattle.lert_ingest.specs.declared.status.Status.{Status}
-use Rattle.lert_ingest.specs.declared.status.Status.TheVariants.{Done, Usage, PlaceFault, TraceFault, BadTrace, TooLong, NotFresh, BayFault, CapacityFull, Malformed, OtherSettings, OutFault, OutOfMemory}
+use Rattle.lert_ingest.specs.declared.status.Status.TheVariants.{Done, Usage, PlaceFault, TraceFault, BadTrace, TooLong, NotFresh, BayFault, CapacityFull, Malformed, OtherSettings, OutFault}
+use Rattle.lert_ingest.specs.declared.status.Status.TheVariants.{OutOfMemory}
 
 -- the most keys that a trace may have, 2^36
 abbrev pub most_keys : ℕ

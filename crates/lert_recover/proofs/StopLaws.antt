@@ -27,7 +27,8 @@ module _ (s : Numbers) (cone n0 : ℕ) (closed : Bool) (bytes : List ℕ) (gate 
   start_ends ends = ends_from_start s cone n0 closed bytes gate events has (subst (λ (m : ℕ). JournalEnds s cone n0 closed bytes m gate) n_is ends)
 
   pub stopped_of : (fault : ReopenFault) (replay : ReplayFault) → IsWhy s cone n0 closed bytes n gate replay fault →
-      ((at : ℕ) → replay ≡ ReplayMalformed at → ReplayLeavesAt s cone n0 closed n bytes gate at) → ((file at : ℕ) → replay ≡ ReplayUnsound file at → (file ≡ LOG) × (at ≡ 0)) →
+      ((at : ℕ) → replay ≡ ReplayMalformed at → ReplayLeavesAt s cone n0 closed n bytes gate at) →
+      ((file at : ℕ) → replay ≡ ReplayUnsound file at → (file ≡ LOG) × (at ≡ 0)) →
       IsStopped s cone n0 closed bytes fault
   stopped_of fault ReplayFailed why left shown = At_call why
   stopped_of fault ReplayOutOfMemory why left shown = At_memory why

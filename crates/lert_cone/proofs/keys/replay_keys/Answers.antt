@@ -15,7 +15,8 @@ lawful : (g : given.Over) → IsLawful (bays g)
 lawful g = record { as_read = g.met.B.Bay.as_read; since_now = g.met.B.Bay.since_now; only_now = g.met.B.Bay.only_now; since_earlier = g.met.B.Bay.since_earlier }
 
 pub count_again-requires-clause-own : goal.count_again-requires-clause-own
-count_again-requires-clause-own g c = subst (λ (keys : List ℕ). All (λ key. cone_of c.args.tally.now.listing.settings key ≡ c.args.tally.now.listing.cone) keys) (sym c.split_at.ensures.front)
+count_again-requires-clause-own g c = subst (λ (keys : List ℕ). All (λ key. cone_of c.args.tally.now.listing.settings key ≡ c.args.tally.now.listing.cone) keys)
+    (sym c.split_at.ensures.front)
     (All-take (λ key. cone_of c.args.tally.now.listing.settings key ≡ c.args.tally.now.listing.cone) c.min-count.result c.args.keys.now c.requires.own)
 
 pub count_again-requires-clause-within : goal.count_again-requires-clause-within
@@ -56,7 +57,8 @@ take_keys-requires g c =
     (sym c.split_at.ensures.back)
     (can_take_ahead (bays g) (lawful g)
     (record { bay = c.args.bay.now; counts = c.args.tally.now; log = c.args.log.now; room = length c.args.buffer.now })
-    c.args.n0 c.min-count.result c.args.keys.now c.requires c.count_again.new.tally count_is listing_is c.count_again.ensures.rows c.count_again.ensures.due c.count_again.ensures.recounted some_left)
+    c.args.n0 c.min-count.result c.args.keys.now c.requires c.count_again.new.tally count_is listing_is c.count_again.ensures.rows c.count_again.ensures.due c.count_again.ensures.recounted
+    some_left)
 
 pub returns : goal.returns
 returns g c =
@@ -71,7 +73,8 @@ returns g c =
     let some_left : 0 < length (drop c.min-count.result c.args.keys.now) = omega (arith, some, ap (length {A = ℕ}) c.split_at.ensures.back) in
     others_ahead (bays g) (lawful g)
     (record { bay = c.args.bay.now; counts = c.args.tally.now; log = c.args.log.now; room = length c.args.buffer.now })
-    c.args.n0 c.min-count.result c.args.keys.now c.requires c.count_again.new.tally count_is listing_is c.count_again.ensures.rows c.count_again.ensures.due c.count_again.ensures.recounted some_left
+    c.args.n0 c.min-count.result c.args.keys.now c.requires c.count_again.new.tally count_is listing_is c.count_again.ensures.rows c.count_again.ensures.due c.count_again.ensures.recounted
+    some_left
     (record { bay = c.take_keys.new.bay; counts = c.take_keys.new.tally; log = c.take_keys.new.log; room = length c.take_keys.new.buffer }) c.take_keys.result
     (subst (λ (keys : List ℕ). TakesKeys (bays g) keys (record { bay = c.args.bay.now; counts = c.count_again.new.tally; log = c.args.log.now; room = length c.args.buffer.now })
     (record { bay = c.take_keys.new.bay; counts = c.take_keys.new.tally; log = c.take_keys.new.log; room = length c.take_keys.new.buffer }) c.take_keys.result) c.split_at.ensures.back

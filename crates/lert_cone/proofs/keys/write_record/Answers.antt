@@ -13,7 +13,13 @@ bays g = record { faults = g.B.Faulty.faults; mark = g.B.Faulty.mark; files = g.
 pub returns-clause-few : goal.returns-clause-few
 returns-clause-few g c =
     let reports_are = c.list-reports.ensures.reports ∙ ap (λ (v : Stored). v.reports) c.store.ensures in
-    omega (arith, c.list-reports.ensures.room, ap (length {A = Report}) reports_are, ap (λ (v : Stored). v.settings.room) c.store.ensures, ap (λ (s : Numbers). s.room) c.requires.counted.due_settings)
+    omega (
+      arith,
+      c.list-reports.ensures.room,
+      ap (length {A = Report}) reports_are,
+      ap (λ (v : Stored). v.settings.room) c.store.ensures,
+      ap (λ (s : Numbers). s.room) c.requires.counted.due_settings,
+    )
 
 pub append-requires-clause-named : goal.append-requires-clause-named
 append-requires-clause-named g c =

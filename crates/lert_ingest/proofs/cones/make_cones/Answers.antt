@@ -7,7 +7,8 @@ use Rattle.lert_ingest.proofs.cones.make_cones.Goals as goal
 pub returns-in-Ok-fill_rooms-clause-later : goal.returns-in-Ok-fill_rooms-clause-later
 returns-in-Ok-fill_rooms-clause-later g c =
     let made = bays_of c.fill_rooms.new.cones.items in
-    subst (AreLater g.B.Bay.files g.B.Faulty.faults g.B.Faulty.mark c.args.bays.now.items) (ap (λ xs. made ++ xs) c.in-Ok-fill_rooms.ensures.emptied ∙ append-nil made) c.fill_rooms.ensures.later
+    subst (AreLater g.B.Bay.files g.B.Faulty.faults g.B.Faulty.mark c.args.bays.now.items) (ap (λ xs. made ++ xs) c.in-Ok-fill_rooms.ensures.emptied ∙ append-nil made)
+    c.fill_rooms.ensures.later
 
 pub returns-in-Ok-fill_rooms-clause-unused : goal.returns-in-Ok-fill_rooms-clause-unused
 returns-in-Ok-fill_rooms-clause-unused g c =

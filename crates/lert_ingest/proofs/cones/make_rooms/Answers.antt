@@ -10,5 +10,6 @@ loop-preserved c =
     let items = c.in_ok-push.ensures.items in
     record {
       number = ap length items ∙ (length-append c.loop.rooms.items (room ∷ []) ∙ ap (λ n. n + 1) here.number);
-      each = All-same (IsNewRoom c.args.settings.now) c.push.new.self.items _ items (All-push (IsNewRoom c.args.settings.now) c.loop.rooms.items room here.each (c.in_ok-new.ensures.settings, c.in_ok-new.ensures.room));
+      each = All-same (IsNewRoom c.args.settings.now) c.push.new.self.items _ items
+          (All-push (IsNewRoom c.args.settings.now) c.loop.rooms.items room here.each (c.in_ok-new.ensures.settings, c.in_ok-new.ensures.room));
     }

@@ -52,7 +52,8 @@ returns-in_err-print_cone-clause-cause g c =
     rw p.1
     (record {
       never_falls = omega (arith, here.falls, cause.never_falls);
-      failed = λ failed. risen_since (g.K.Faulty.faults c.args.out.now) (g.K.Faulty.faults c.loop-number.out) (g.K.Faulty.faults c.print_cone.new.out) here.falls (omega arith) (cause.failed refl);
+      failed = λ failed. risen_since (g.K.Faulty.faults c.args.out.now) (g.K.Faulty.faults c.loop-number.out) (g.K.Faulty.faults c.print_cone.new.out) here.falls (omega arith)
+          (cause.failed refl);
     })
 
 pub numbers_of-events_here-requires-clause-settings : goal.numbers_of-events_here-requires-clause-settings
@@ -88,8 +89,20 @@ loop-number-preserved g c =
     record {
       printing = subst (IsPrinting start now c.print_cone.new.page) (texts_next cones n cone one found is)
           (c.in_ok-print_cone.ensures.ok start (cone_texts 0 (take n all)) here.printing);
-      events = omega (arith, here.events, counts.events, sum_by_push (λ (p : Printed). p.events) (take n all) (printed_as cone), ap (λ (ps : List Printed). sum_by (λ (p : Printed). p.events) ps) next);
-      reports = omega (arith, here.reports, counts.reports, sum_by_push (λ (p : Printed). length p.reports) (take n all) (printed_as cone), ap (λ (ps : List Printed). sum_by (λ (p : Printed). length p.reports) ps) next);
+      events = omega (
+        arith,
+        here.events,
+        counts.events,
+        sum_by_push (λ (p : Printed). p.events) (take n all) (printed_as cone),
+        ap (λ (ps : List Printed). sum_by (λ (p : Printed). p.events) ps) next,
+      );
+      reports = omega (
+        arith,
+        here.reports,
+        counts.reports,
+        sum_by_push (λ (p : Printed). length p.reports) (take n all) (printed_as cone),
+        ap (λ (ps : List Printed). sum_by (λ (p : Printed). length p.reports) ps) next,
+      );
       few_events = omega (arith, here.few_events, counts.few_events);
       few_reports = omega (arith, here.few_reports, counts.few_reports);
       falls = omega (arith, here.falls, c.print_cone.ensures.cause.never_falls);
@@ -135,7 +148,8 @@ returns-clause-cause g c =
     let cause = c.print_total.ensures.cause in
     record {
       never_falls = omega (arith, here.falls, cause.never_falls);
-      failed = λ failed. risen_since (g.K.Faulty.faults c.args.out.now) (g.K.Faulty.faults c.loop-number.out) (g.K.Faulty.faults c.print_total.new.out) here.falls cause.never_falls (cause.failed failed);
+      failed = λ failed. risen_since (g.K.Faulty.faults c.args.out.now) (g.K.Faulty.faults c.loop-number.out) (g.K.Faulty.faults c.print_total.new.out) here.falls cause.never_falls
+          (cause.failed failed);
     }
 
 pub overflow_add-events : goal.overflow_add-events

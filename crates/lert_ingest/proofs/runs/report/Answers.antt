@@ -26,8 +26,10 @@ returns-in-Err-clause-shows g c =
 
 pub returns-in-Err-read_trace-clause-shows : goal.returns-in-Err-read_trace-clause-shows
 returns-in-Err-read_trace-clause-shows g c =
-    shows_stopped {S = g.row.S.Denot} {K = g.row.K.Denot} {B = g.row.B.Denot} g.S.Source.remaining g.S.Faulty.faults g.K.Sink.taken g.K.Faulty.faults g.B.Bay.files g.B.Faulty.faults c.args.router.now.settings c.args.reader.now.made c.read_trace.new.reader.source c.args.out.now
-    (bays_of c.args.router.now.cones.items) (bays_of c.read_trace.new.router.cones.items) (λ cone. ⊥) c.in-Err-read_trace.ensures.partly c.in-Err-read_trace.status c.in-Err-read_trace.ensures.stopped
+    shows_stopped {S = g.row.S.Denot} {K = g.row.K.Denot} {B = g.row.B.Denot} g.S.Source.remaining g.S.Faulty.faults g.K.Sink.taken g.K.Faulty.faults g.B.Bay.files g.B.Faulty.faults
+    c.args.router.now.settings c.args.reader.now.made c.read_trace.new.reader.source c.args.out.now
+    (bays_of c.args.router.now.cones.items) (bays_of c.read_trace.new.router.cones.items) (λ cone. ⊥) c.in-Err-read_trace.ensures.partly c.in-Err-read_trace.status
+    c.in-Err-read_trace.ensures.stopped
 
 pub print_cones-requires-clause-few : goal.print_cones-requires-clause-few
 print_cones-requires-clause-few g c =

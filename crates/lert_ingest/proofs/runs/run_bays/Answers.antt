@@ -11,19 +11,22 @@ use Rattle.lert_ingest.proofs.runs.run_bays.Goals as goal
 
 pub returns-in-Err-clause-shows : goal.returns-in-Err-clause-shows
 returns-in-Err-clause-shows g c =
-    shows_unmade {S = g.row.S.Denot} {K = g.row.K.Denot} {B = g.row.B.Denot} g.S.Source.remaining g.S.Faulty.faults g.K.Sink.taken g.K.Faulty.faults g.B.Bay.files g.B.Faulty.faults c.args.settings.now c.args.reader.now.made c.args.reader.now.source c.args.out.now c.args.bays.now.items c.find_stale.new.bays.items
+    shows_unmade {S = g.row.S.Denot} {K = g.row.K.Denot} {B = g.row.B.Denot} g.S.Source.remaining g.S.Faulty.faults g.K.Sink.taken g.K.Faulty.faults g.B.Bay.files g.B.Faulty.faults
+    c.args.settings.now c.args.reader.now.made c.args.reader.now.source c.args.out.now c.args.bays.now.items c.find_stale.new.bays.items
     c.requires.made c.in-Err.status (c.in-Err.ensures.unmade c.args.settings.now)
 
 pub returns-in-Err-make_cones-clause-later : goal.returns-in-Err-make_cones-clause-later
 returns-in-Err-make_cones-clause-later g c =
-    are_more g.B.Bay.files g.B.Faulty.faults g.B.Faulty.mark c.args.bays.now.items c.find_stale.new.bays.items c.make_cones.new.bays.items c.find_stale.ensures.later c.in-Err-make_cones.ensures.kept
+    are_more g.B.Bay.files g.B.Faulty.faults g.B.Faulty.mark c.args.bays.now.items c.find_stale.new.bays.items c.make_cones.new.bays.items c.find_stale.ensures.later
+    c.in-Err-make_cones.ensures.kept
 
 pub returns-in-Err-make_cones-clause-shows : goal.returns-in-Err-make_cones-clause-shows
 returns-in-Err-make_cones-clause-shows g c =
     let first = c.args.bays.now.items in
     let then = c.find_stale.new.bays.items in
     let now = c.make_cones.new.bays.items in
-    shows_unmade {S = g.row.S.Denot} {K = g.row.K.Denot} {B = g.row.B.Denot} g.S.Source.remaining g.S.Faulty.faults g.K.Sink.taken g.K.Faulty.faults g.B.Bay.files g.B.Faulty.faults c.args.settings.now c.args.reader.now.made c.args.reader.now.source c.args.out.now first now
+    shows_unmade {S = g.row.S.Denot} {K = g.row.K.Denot} {B = g.row.B.Denot} g.S.Source.remaining g.S.Faulty.faults g.K.Sink.taken g.K.Faulty.faults g.B.Bay.files g.B.Faulty.faults
+    c.args.settings.now c.args.reader.now.made c.args.reader.now.source c.args.out.now first now
     c.requires.made c.in-Err-make_cones.status
     (unmade_since g.B.Bay.files g.B.Faulty.faults g.B.Faulty.mark c.args.settings.now first then now c.find_stale.ensures.later c.in-Err-make_cones.ensures.kept
     c.find_stale.ensures.kept c.in_default.ensures.fresh c.in_default.ensures.fresh_now
@@ -37,7 +40,8 @@ returns-clause-later g c =
     let now = bays_of c.run_cones-cones.result.0.items in
     let back = c.bring_back.ensures.bays ∙ (ap (λ xs. now ++ xs) c.in-Ok.ensures.emptied ∙ append-nil now) in
     subst (AreLater g.B.Bay.files g.B.Faulty.faults g.B.Faulty.mark first) (sym back)
-    (are_more g.B.Bay.files g.B.Faulty.faults g.B.Faulty.mark first then now c.find_stale.ensures.later (are_more g.B.Bay.files g.B.Faulty.faults g.B.Faulty.mark then made now c.in-Ok.ensures.later c.run_cones-cones.ensures.later))
+    (are_more g.B.Bay.files g.B.Faulty.faults g.B.Faulty.mark first then now c.find_stale.ensures.later
+    (are_more g.B.Bay.files g.B.Faulty.faults g.B.Faulty.mark then made now c.in-Ok.ensures.later c.run_cones-cones.ensures.later))
 
 pub returns-clause-shows : goal.returns-clause-shows
 returns-clause-shows g c =

@@ -17,8 +17,10 @@ returns-in-Err-clause-asked g c = inl (record {
 
 pub returns-in-Err-clause-returned : goal.returns-in-Err-clause-returned
 returns-in-Err-clause-returned g c = (
-  none_returned g.P.Trace.Faulty.mark _ _ (c.in-Err.ensures.refused ∙ nothing_handed traces_granted (g.P.Place.asked c.args.place.now) (g.P.Place.handed_traces c.args.place.now) (g.met.P.Place.tied_traces c.args.place.now) (ap traces_granted c.requires.asked)),
-  none_returned g.P.Bay.Faulty.mark _ _ (c.open_trace.ensures.bays ∙ nothing_handed bays_granted (g.P.Place.asked c.args.place.now) (g.P.Place.handed_bays c.args.place.now) (g.met.P.Place.tied_bays c.args.place.now) (ap bays_granted c.requires.asked)),
+  none_returned g.P.Trace.Faulty.mark _ _ (c.in-Err.ensures.refused ∙ nothing_handed traces_granted (g.P.Place.asked c.args.place.now) (g.P.Place.handed_traces c.args.place.now)
+      (g.met.P.Place.tied_traces c.args.place.now) (ap traces_granted c.requires.asked)),
+  none_returned g.P.Bay.Faulty.mark _ _ (c.open_trace.ensures.bays ∙ nothing_handed bays_granted (g.P.Place.asked c.args.place.now) (g.P.Place.handed_bays c.args.place.now)
+      (g.met.P.Place.tied_bays c.args.place.now) (ap bays_granted c.requires.asked)),
 )
 
 pub returns-clause-asked : goal.returns-clause-asked
@@ -32,7 +34,8 @@ returns-clause-place_fault g c = λ is.
     let failed = c.run_trace-trace.ensures.place_fault is in
     let rose = risen_since (g.P.Faulty.faults c.args.place.now) (g.P.Faulty.faults c.open_trace.new.self) (g.P.Faulty.faults c.run_trace-trace.new.place) c.open_trace.ensures.cause.never_falls
     c.run_trace-trace.ensures.never_falls failed.0 in
-    let none = nothing_handed traces_granted (g.P.Place.asked c.args.place.now) (g.P.Place.handed_traces c.args.place.now) (g.met.P.Place.tied_traces c.args.place.now) (ap traces_granted c.requires.asked) in
+    let none = nothing_handed traces_granted (g.P.Place.asked c.args.place.now) (g.P.Place.handed_traces c.args.place.now) (g.met.P.Place.tied_traces c.args.place.now)
+    (ap traces_granted c.requires.asked) in
     let handed = c.put_back_trace.ensures.traces ∙ (c.run_trace-trace.ensures.traces ∙ (c.in-Ok.ensures.handed ∙ ap (λ xs. xs ++ c.in-Ok.trace ∷ []) none)) in (
       subst (HasRisen (g.P.Faulty.faults c.args.place.now)) (sym c.put_back_trace.ensures.faults) rose,
       failed.1,
@@ -44,8 +47,10 @@ pub returns-in-Err-clause-place_fault : goal.returns-in-Err-clause-place_fault
 returns-in-Err-clause-place_fault g c = λ is. (
   c.in-Err.ensures.cause.failed refl,
   refl,
-  none_returned_same _ _ (c.in-Err.ensures.refused ∙ nothing_handed traces_granted (g.P.Place.asked c.args.place.now) (g.P.Place.handed_traces c.args.place.now) (g.met.P.Place.tied_traces c.args.place.now) (ap traces_granted c.requires.asked)),
-  none_returned_same _ _ (c.open_trace.ensures.bays ∙ nothing_handed bays_granted (g.P.Place.asked c.args.place.now) (g.P.Place.handed_bays c.args.place.now) (g.met.P.Place.tied_bays c.args.place.now) (ap bays_granted c.requires.asked)),
+  none_returned_same _ _ (c.in-Err.ensures.refused ∙ nothing_handed traces_granted (g.P.Place.asked c.args.place.now) (g.P.Place.handed_traces c.args.place.now)
+      (g.met.P.Place.tied_traces c.args.place.now) (ap traces_granted c.requires.asked)),
+  none_returned_same _ _ (c.open_trace.ensures.bays ∙ nothing_handed bays_granted (g.P.Place.asked c.args.place.now) (g.P.Place.handed_bays c.args.place.now)
+      (g.met.P.Place.tied_bays c.args.place.now) (ap bays_granted c.requires.asked)),
 )
 
 pub run_trace-trace-requires : goal.run_trace-trace-requires
@@ -56,7 +61,8 @@ run_trace-trace-requires g c =
 
 pub returns-clause-returned : goal.returns-clause-returned
 returns-clause-returned g c =
-    let none = nothing_handed traces_granted (g.P.Place.asked c.args.place.now) (g.P.Place.handed_traces c.args.place.now) (g.met.P.Place.tied_traces c.args.place.now) (ap traces_granted c.requires.asked) in (
+    let none = nothing_handed traces_granted (g.P.Place.asked c.args.place.now) (g.P.Place.handed_traces c.args.place.now) (g.met.P.Place.tied_traces c.args.place.now)
+    (ap traces_granted c.requires.asked) in (
       one_returned g.P.Trace.Faulty.mark c.in-Ok.trace c.run_trace-trace.result.0 _ _
           (c.put_back_trace.ensures.traces ∙ (c.run_trace-trace.ensures.traces ∙ (c.in-Ok.ensures.handed ∙ ap (λ xs. xs ++ c.in-Ok.trace ∷ []) none)))
           c.put_back_trace.ensures.returned (c.run_trace-trace.ensures.mark ∙ (c.in-Ok.ensures.number ∙ ap length none)),
@@ -68,7 +74,8 @@ returns-clause-ran g c = λ differs.
     let ran = c.run_trace-trace.ensures.ran differs in
     let trace = c.in-Ok.trace in
     let back = c.run_trace-trace.result.0 in
-    let none = nothing_handed traces_granted (g.P.Place.asked c.args.place.now) (g.P.Place.handed_traces c.args.place.now) (g.met.P.Place.tied_traces c.args.place.now) (ap traces_granted c.requires.asked) in
+    let none = nothing_handed traces_granted (g.P.Place.asked c.args.place.now) (g.P.Place.handed_traces c.args.place.now) (g.met.P.Place.tied_traces c.args.place.now)
+    (ap traces_granted c.requires.asked) in
     let handed = c.put_back_trace.ensures.bays in (
       trace,
       back,
@@ -77,7 +84,8 @@ returns-clause-ran g c = λ differs.
       c.put_back_trace.ensures.returned,
       λ cone below. c.put_back_trace.ensures.returned_bays cone ∙ ran.1 cone below,
       subst (λ (xs : List g.row.P-Bay.Denot). AreLater g.P.Bay.Bay.files g.P.Bay.Faulty.faults g.P.Bay.Faulty.mark xs ran.0) (sym handed) ran.2,
-      subst (λ (xs : List g.row.P-Bay.Denot). HasRun {S = g.row.P-Trace.Denot} {K = g.row.K.Denot} {B = g.row.P-Bay.Denot} g.P.Trace.Source.remaining g.P.Trace.Faulty.faults g.K.Sink.taken g.K.Faulty.faults g.P.Bay.Bay.files g.P.Bay.Faulty.faults c.args.settings.now trace back c.args.out.now c.run_trace-trace.new.out xs ran.0 c.run_trace-trace.result.1) (sym handed) ran.3,
+      subst (λ (xs : List g.row.P-Bay.Denot). HasRun {S = g.row.P-Trace.Denot} {K = g.row.K.Denot} {B = g.row.P-Bay.Denot} g.P.Trace.Source.remaining g.P.Trace.Faulty.faults g.K.Sink.taken
+          g.K.Faulty.faults g.P.Bay.Bay.files g.P.Bay.Faulty.faults c.args.settings.now trace back c.args.out.now c.run_trace-trace.new.out xs ran.0 c.run_trace-trace.result.1) (sym handed) ran.3,
     )
 
 pub returns-clause-no_usage : goal.returns-clause-no_usage

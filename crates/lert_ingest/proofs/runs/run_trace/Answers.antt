@@ -46,12 +46,16 @@ returns-in-Err-clause-ran g c = λ differs.
           let s = c.args.settings.now in (
             [],
             λ cone below. absurd (omega (arith, below)),
-            subst (λ (xs : List g.row.P-Bay.Denot). AreLater g.P.Bay.Bay.files g.P.Bay.Faulty.faults g.P.Bay.Faulty.mark xs []) (sym same) (are_same g.P.Bay.Bay.files g.P.Bay.Faulty.faults g.P.Bay.Faulty.mark []),
-            subst (λ (xs : List g.row.P-Bay.Denot). HasRun {S = g.row.P-Trace.Denot} {K = g.row.K.Denot} {B = g.row.P-Bay.Denot} g.P.Trace.Source.remaining g.P.Trace.Faulty.faults g.K.Sink.taken g.K.Faulty.faults g.P.Bay.Bay.files g.P.Bay.Faulty.faults s trace trace out out xs [] c.in-Err.status) (sym same)
-                (subst (λ (st : Status). HasRun {S = g.row.P-Trace.Denot} {K = g.row.K.Denot} {B = g.row.P-Bay.Denot} g.P.Trace.Source.remaining g.P.Trace.Faulty.faults g.K.Sink.taken g.K.Faulty.faults g.P.Bay.Bay.files g.P.Bay.Faulty.faults s trace trace out out [] [] st) (sym none.0)
+            subst (λ (xs : List g.row.P-Bay.Denot). AreLater g.P.Bay.Bay.files g.P.Bay.Faulty.faults g.P.Bay.Faulty.mark xs []) (sym same)
+                (are_same g.P.Bay.Bay.files g.P.Bay.Faulty.faults g.P.Bay.Faulty.mark []),
+            subst (λ (xs : List g.row.P-Bay.Denot). HasRun {S = g.row.P-Trace.Denot} {K = g.row.K.Denot} {B = g.row.P-Bay.Denot} g.P.Trace.Source.remaining g.P.Trace.Faulty.faults g.K.Sink.taken
+                g.K.Faulty.faults g.P.Bay.Bay.files g.P.Bay.Faulty.faults s trace trace out out xs [] c.in-Err.status) (sym same)
+                (subst (λ (st : Status). HasRun {S = g.row.P-Trace.Denot} {K = g.row.K.Denot} {B = g.row.P-Bay.Denot} g.P.Trace.Source.remaining g.P.Trace.Faulty.faults g.K.Sink.taken
+                g.K.Faulty.faults g.P.Bay.Bay.files g.P.Bay.Faulty.faults s trace trace out out [] [] st) (sym none.0)
                 (HasRun-shows {S = g.row.P-Trace.Denot} {K = g.row.K.Denot} {B = g.row.P-Bay.Denot} g.P.Trace.Source.remaining g.P.Trace.Faulty.faults
                 g.K.Sink.taken g.K.Faulty.faults g.P.Bay.Bay.files g.P.Bay.Faulty.faults s trace trace out out [] [] OutOfMemory
-                (refl, inl (refl, unused_but g.P.Bay.Bay.files s (λ _. ⊥) [] [] (unused_same g.P.Bay.Bay.files s []))) (λ other. absurd (other refl)) (λ is. absurd (true_is_false (sym is))))),
+                (refl, inl (refl, unused_but g.P.Bay.Bay.files s (λ _. ⊥) [] [] (unused_same g.P.Bay.Bay.files s []))) (λ other. absurd (other refl))
+                (λ is. absurd (true_is_false (sym is))))),
           )
       | inr bay ↦ absurd (differs bay.0)
     ]
@@ -70,23 +74,28 @@ returns-clause-asked g c =
       number = c.cones.result;
       within = omega (arith, c.cones.ensures);
       asked_is = c.put_back_bays.ensures.asked ∙ c.in-Ok.ensures.asked;
-      no_fault = not_place_fault {S = g.row.P-Trace.Denot} {K = g.row.K.Denot} {B = g.row.P-Bay.Denot} g.P.Trace.Source.remaining g.P.Trace.Faulty.faults g.K.Sink.taken g.K.Faulty.faults g.P.Bay.Bay.files g.P.Bay.Faulty.faults c.args.settings.now _ _ c.args.out.now c.run_bays-status.new.out c.in-Ok.bays.items c.run_bays-status.new.bays.items c.run_bays-status.result shows;
+      no_fault = not_place_fault {S = g.row.P-Trace.Denot} {K = g.row.K.Denot} {B = g.row.P-Bay.Denot} g.P.Trace.Source.remaining g.P.Trace.Faulty.faults g.K.Sink.taken g.K.Faulty.faults
+          g.P.Bay.Bay.files g.P.Bay.Faulty.faults c.args.settings.now _ _ c.args.out.now c.run_bays-status.new.out c.in-Ok.bays.items c.run_bays-status.new.bays.items c.run_bays-status.result
+          shows;
       all = λ is. c.cones.ensures;
     })
 
 pub returns-clause-place_fault : goal.returns-clause-place_fault
 returns-clause-place_fault g c = λ is.
-    absurd (not_place_fault {S = g.row.P-Trace.Denot} {K = g.row.K.Denot} {B = g.row.P-Bay.Denot} g.P.Trace.Source.remaining g.P.Trace.Faulty.faults g.K.Sink.taken g.K.Faulty.faults g.P.Bay.Bay.files g.P.Bay.Faulty.faults c.args.settings.now _ _ c.args.out.now c.run_bays-status.new.out c.in-Ok.bays.items c.run_bays-status.new.bays.items c.run_bays-status.result
+    absurd (not_place_fault {S = g.row.P-Trace.Denot} {K = g.row.K.Denot} {B = g.row.P-Bay.Denot} g.P.Trace.Source.remaining g.P.Trace.Faulty.faults g.K.Sink.taken g.K.Faulty.faults
+    g.P.Bay.Bay.files g.P.Bay.Faulty.faults c.args.settings.now _ _ c.args.out.now c.run_bays-status.new.out c.in-Ok.bays.items c.run_bays-status.new.bays.items c.run_bays-status.result
     c.run_bays-status.ensures.shows is)
 
 pub returns-clause-no_usage : goal.returns-clause-no_usage
 returns-clause-no_usage g c = λ rule is.
-    not_usage {S = g.row.P-Trace.Denot} {K = g.row.K.Denot} {B = g.row.P-Bay.Denot} g.P.Trace.Source.remaining g.P.Trace.Faulty.faults g.K.Sink.taken g.K.Faulty.faults g.P.Bay.Bay.files g.P.Bay.Faulty.faults c.args.settings.now _ _ c.args.out.now c.run_bays-status.new.out c.in-Ok.bays.items c.run_bays-status.new.bays.items rule c.run_bays-status.result
+    not_usage {S = g.row.P-Trace.Denot} {K = g.row.K.Denot} {B = g.row.P-Bay.Denot} g.P.Trace.Source.remaining g.P.Trace.Faulty.faults g.K.Sink.taken g.K.Faulty.faults g.P.Bay.Bay.files
+    g.P.Bay.Faulty.faults c.args.settings.now _ _ c.args.out.now c.run_bays-status.new.out c.in-Ok.bays.items c.run_bays-status.new.bays.items rule c.run_bays-status.result
     c.run_bays-status.ensures.shows is
 
 pub returns-clause-returned : goal.returns-clause-returned
 returns-clause-returned g c =
-    all_back g.P.Bay.Bay.files g.P.Bay.Faulty.faults g.P.Bay.Faulty.mark c.in-Ok.bays.items c.run_bays-status.new.bays.items _ _ (c.put_back_bays.ensures.bays ∙ c.in-Ok.ensures.opened) c.run_bays-status.ensures.later c.in-Ok.ensures.marked
+    all_back g.P.Bay.Bay.files g.P.Bay.Faulty.faults g.P.Bay.Faulty.mark c.in-Ok.bays.items c.run_bays-status.new.bays.items _ _ (c.put_back_bays.ensures.bays ∙ c.in-Ok.ensures.opened)
+    c.run_bays-status.ensures.later c.in-Ok.ensures.marked
     c.put_back_bays.ensures.returned
 
 pub returns-clause-ran : goal.returns-clause-ran
@@ -103,8 +112,10 @@ returns-clause-ran g c = λ differs.
       now,
       c.put_back_bays.ensures.returned,
       subst (λ (xs : List g.row.P-Bay.Denot). AreLater g.P.Bay.Bay.files g.P.Bay.Faulty.faults g.P.Bay.Faulty.mark xs now) (sym same) c.run_bays-status.ensures.later,
-      subst (λ (xs : List g.row.P-Bay.Denot). HasRun {S = g.row.P-Trace.Denot} {K = g.row.K.Denot} {B = g.row.P-Bay.Denot} g.P.Trace.Source.remaining g.P.Trace.Faulty.faults g.K.Sink.taken g.K.Faulty.faults g.P.Bay.Bay.files g.P.Bay.Faulty.faults s c.args.trace c.into_source.result c.args.out.now c.run_bays-status.new.out xs now status) (sym same)
-          (HasRun-shows {S = g.row.P-Trace.Denot} {K = g.row.K.Denot} {B = g.row.P-Bay.Denot} g.P.Trace.Source.remaining g.P.Trace.Faulty.faults g.K.Sink.taken g.K.Faulty.faults g.P.Bay.Bay.files g.P.Bay.Faulty.faults s c.args.trace c.into_source.result c.args.out.now c.run_bays-status.new.out first now status shows
+      subst (λ (xs : List g.row.P-Bay.Denot). HasRun {S = g.row.P-Trace.Denot} {K = g.row.K.Denot} {B = g.row.P-Bay.Denot} g.P.Trace.Source.remaining g.P.Trace.Faulty.faults g.K.Sink.taken
+          g.K.Faulty.faults g.P.Bay.Bay.files g.P.Bay.Faulty.faults s c.args.trace c.into_source.result c.args.out.now c.run_bays-status.new.out xs now status) (sym same)
+          (HasRun-shows {S = g.row.P-Trace.Denot} {K = g.row.K.Denot} {B = g.row.P-Bay.Denot} g.P.Trace.Source.remaining g.P.Trace.Faulty.faults g.K.Sink.taken g.K.Faulty.faults g.P.Bay.Bay.files
+          g.P.Bay.Faulty.faults s c.args.trace c.into_source.result c.args.out.now c.run_bays-status.new.out first now status shows
           (λ other. c.in-Ok.ensures.number ∙ c.cones.ensures) c.run_bays-status.ensures.fresh),
     )
 

@@ -19,7 +19,8 @@ returns-in-Ok-clause-read g c = λ bytes was.
     record {
       to_end = c.in_default.ensures.read bytes was;
       fits = subst (λ (s : Numbers). AllFit s (whole bytes)) settings
-          (subst (AllFit after.settings) keys (lanes_fit g.B.Bay.files g.B.Bay.leaves g.B.Faulty.faults after.settings _ closed_cones after.cones.items after.rings after.keys finished.lanes finished.drained));
+          (subst (AllFit after.settings) keys (lanes_fit g.B.Bay.files g.B.Bay.leaves g.B.Faulty.faults after.settings _ closed_cones after.cones.items after.rings after.keys finished.lanes
+          finished.drained));
     }
 
 pub returns-in-Ok-clause-woven : goal.returns-in-Ok-clause-woven
@@ -34,11 +35,13 @@ returns-in-Ok-clause-woven g c = λ bytes was.
 
 pub returns-in-Ok-clause-later : goal.returns-in-Ok-clause-later
 returns-in-Ok-clause-later g c =
-    are_more g.B.Bay.files g.B.Faulty.faults g.B.Faulty.mark (bays_of c.args.router.now.cones.items) (bays_of c.route_keys.new.router.cones.items) (bays_of c.finish.new.self.cones.items) c.route_keys.ensures.later c.finish.ensures.later
+    are_more g.B.Bay.files g.B.Faulty.faults g.B.Faulty.mark (bays_of c.args.router.now.cones.items) (bays_of c.route_keys.new.router.cones.items) (bays_of c.finish.new.self.cones.items)
+    c.route_keys.ensures.later c.finish.ensures.later
 
 pub returns-in-Err-finish-clause-later : goal.returns-in-Err-finish-clause-later
 returns-in-Err-finish-clause-later g c =
-    are_more g.B.Bay.files g.B.Faulty.faults g.B.Faulty.mark (bays_of c.args.router.now.cones.items) (bays_of c.route_keys.new.router.cones.items) (bays_of c.finish.new.self.cones.items) c.route_keys.ensures.later c.finish.ensures.later
+    are_more g.B.Bay.files g.B.Faulty.faults g.B.Faulty.mark (bays_of c.args.router.now.cones.items) (bays_of c.route_keys.new.router.cones.items) (bays_of c.finish.new.self.cones.items)
+    c.route_keys.ensures.later c.finish.ensures.later
 
 pub returns-in-Err-finish-clause-partly : goal.returns-in-Err-finish-clause-partly
 returns-in-Err-finish-clause-partly g c =

@@ -177,7 +177,8 @@ invariant_of-self-2 g c =
     let len_is : c.self.inside.buffer.len ≡ length c.self.inside.buffer.items = omega (arith, c.self.inside.buffer.ok) in
     let room_is = sym (length_refill c.self.inside.buffer.len c.self.inside.buffer.items c.take_packet.new.buffer len_is) ∙ len_is in
     let long : length c.take_packet.new.buffer ≡ length c.self.inside.buffer.items = c.take_packet.auto.buffer ∙ ap (length {A = ℕ}) c.deref_mut.ensures.value in
-    more_cone g.B.Bay.files g.B.Bay.leaves g.B.Faulty.faults c.self.inside.bay c.self.inside.made.value c.take_packet.new.bay c.self.inside.tally c.take_packet.new.tally c.self.inside.events _ _ _ _
+    more_cone g.B.Bay.files g.B.Bay.leaves g.B.Faulty.faults c.self.inside.bay c.self.inside.made.value c.take_packet.new.bay c.self.inside.tally c.take_packet.new.tally c.self.inside.events _ _ _
+    _
     c.self.inside.state (over_of c.self.inside.over) c.self.inside.journal c.take_packet.new.journal c.self.inside.log c.take_packet.new.log c.self.inside.last (packet_of c.args.entry.now)
     ok.0 is did.counted (ap (λ n. c.self.inside.events + n) c.len-len.ensures) did.moved room_is journaled.some (omega (arith, ok.1, c.len-len.ensures)) did.kept.never_falls did.shut
     (subst (λ n. IsLogging c.take_packet.new.tally c.take_packet.new.log n) (long ∙ sym room_is) did.can_log.logging) did.can_log.log_shut c.self.invariant

@@ -140,7 +140,8 @@ returns-in-Err-clause-each_moment g c = rw (← c.self.view_is) (λ still sound 
     c.finish.ensures.each_moment seen told h whole.keys whole.in_step image may)
 
 pub returns-in-Err-clause-seen : goal.returns-in-Err-clause-seen
-returns-in-Err-clause-seen g c = rw (← c.self.view_is) (any_turn (λ old new. new 0 ≡ old 0) (g.B.Bay.files c.self.inside.bay) (g.B.Bay.files c.finish.new.bay) c.finish.ensures.keeps.journal.seen)
+returns-in-Err-clause-seen g c = rw (← c.self.view_is) (any_turn (λ old new. new 0 ≡ old 0) (g.B.Bay.files c.self.inside.bay) (g.B.Bay.files c.finish.new.bay)
+    c.finish.ensures.keeps.journal.seen)
 
 pub returns-in-Err-clause-kept : goal.returns-in-Err-clause-kept
 returns-in-Err-clause-kept g c = rw (← c.self.view_is) (keeps_as (bays g) (lawful g) c.self.inside.bay c.finish.new.bay _ _
@@ -242,7 +243,8 @@ pub returns-clause-seen : goal.returns-clause-seen
 returns-clause-seen g c = rw (← c.self.view_is) (any_turn (λ old new. new 0 ≡ old 0) (g.B.Bay.files c.self.inside.bay) (g.B.Bay.files c.finish.new.bay) c.finish.ensures.keeps.journal.seen)
 
 pub returns-clause-kept : goal.returns-clause-kept
-returns-clause-kept g c = rw (← c.self.view_is) (keeps_as (bays g) (lawful g) c.self.inside.bay c.finish.new.bay _ _ (λ same. absurd (let never : ⊥ = cc in never)) c.finish.ensures.keeps.kept)
+returns-clause-kept g c = rw (← c.self.view_is) (keeps_as (bays g) (lawful g) c.self.inside.bay c.finish.new.bay _ _ (λ same. absurd (let never : ⊥ = cc in never))
+    c.finish.ensures.keeps.kept)
 
 pub returns-in-Err-clause-shows : goal.returns-in-Err-clause-shows
 returns-in-Err-clause-shows g c = λ file at same.

@@ -1,4 +1,5 @@
-use Rattle.std.proofs.Common.{rules, ◌≡◌, ◌∙◌, ℕ, ◌+◌, ◌*◌, ◌++◌, ◌∷◌, [], All, List, length, take, drop, max, Some, Err, IsTrue, IsFalse, refl, sym, ap, subst, inl, ◌⊎◌, arith, length-append}
+use Rattle.std.proofs.Common.{rules, ◌≡◌, ◌∙◌, ℕ, ◌+◌, ◌*◌, ◌++◌, ◌∷◌, [], All, List, length, take, drop, max, Some, Err, IsTrue, IsFalse, refl, sym, ap, subst}
+use Rattle.std.proofs.Common.{inl, ◌⊎◌, arith, length-append}
 use Rattle.std.specs.List.{length_refill}
 use Rattle.lert_base.specs.Entries.{packet_of}
 use Rattle.lert_base.specs.Packet.{events_of}
@@ -23,9 +24,11 @@ use Rattle.lert_cone.specs.Room.{room_of}
 use Rattle.lert_cone.specs.Stands.{Standing, is_broken, over_of}
 use Rattle.lert_cone.proofs.GateLaws.{past_more}
 use Rattle.lert_cone.proofs.ReplayLaws.{never_on_way}
-use Rattle.lert_cone.proofs.ReplayCalls.{alone_behind, ended_at, ended_replays, held_at, keys_stay, keys_unwritten, length_more, listing_more, moved_on, read_stays, read_unwritten, refilled, seen_as}
+use Rattle.lert_cone.proofs.ReplayCalls.{alone_behind, ended_at, ended_replays, held_at, keys_stay, keys_unwritten, length_more, listing_more, moved_on, read_stays, read_unwritten, refilled}
+use Rattle.lert_cone.proofs.ReplayCalls.{seen_as}
 use Rattle.lert_cone.proofs.ReplayCalls.{with_keys}
-use Rattle.lert_cone.proofs.ReplayStands.{leaves_listing, near_then, never_unsound, failed_keys, failed_record, unsound_keys, only_by_bay, only_failed, read_settled, read_shut, refused_keys, refused_record, replaying_cone}
+use Rattle.lert_cone.proofs.ReplayStands.{leaves_listing, near_then, never_unsound, failed_keys, failed_record, unsound_keys, only_by_bay, only_failed, read_settled, read_shut, refused_keys}
+use Rattle.lert_cone.proofs.ReplayStands.{refused_record, replaying_cone}
 use Rattle.lert_cone.proofs.ReplayStands.{settled_then}
 use Rattle.lert_cone.proofs.ReplayStep.{told_once}
 use Rattle.lert_io.proofs.Rising.{risen_since}
@@ -57,7 +60,8 @@ replay_keys-requires g c =
       recounted = was.recounted;
       can_log = record {
         logging = subst (λ n. IsLogging c.self.inside.tally c.self.inside.log n) (sym room) was.logging;
-        log_shut = read_shut 1 c.self.inside.log.gate (g.B.Bay.files c.self.inside.bay) (g.B.Bay.files c.read_packet.new.bay) (g.B.Bay.leaves c.self.inside.bay) (g.B.Bay.leaves c.read_packet.new.bay)
+        log_shut = read_shut 1 c.self.inside.log.gate (g.B.Bay.files c.self.inside.bay) (g.B.Bay.files c.read_packet.new.bay) (g.B.Bay.leaves c.self.inside.bay)
+            (g.B.Bay.leaves c.read_packet.new.bay)
             c.read_packet.ensures.keeps.reads.seen c.read_packet.ensures.keeps.reads.images was.log_shut;
       };
     }
@@ -67,9 +71,11 @@ pub invariant_of-self : goal.invariant_of-self
 invariant_of-self g c =
     let len_is : c.self.inside.buffer.len ≡ length c.self.inside.buffer.items = omega (arith, c.self.inside.buffer.ok) in
     broken_cone g.B.Bay.files g.B.Bay.leaves g.B.Faulty.faults (seen_as c.self.inside.bay c.self.inside.made.value c.self.inside.tally c.self.inside.events c.self.inside.state
-    (over_of c.self.inside.over) c.self.inside.journal.gate c.self.inside.log c.self.inside.last) _ c.self.inside.tally c.replay_keys.new.tally c.self.inside.journal c.read_packet.new.journal _ _ _ _
+    (over_of c.self.inside.over) c.self.inside.journal.gate c.self.inside.log c.self.inside.last) _ c.self.inside.tally c.replay_keys.new.tally c.self.inside.journal c.read_packet.new.journal _ _
+    _ _
     (ap is_broken c.broken_by-self-inside.ensures ∙ is_broken_by c.in-Err-replay_keys.fault) (λ same. not_replaying_by c.in-Err-replay_keys.fault (sym c.broken_by-self-inside.ensures ∙ same))
-    (ap (λ (l : Listing). l.settings) c.replay_keys.ensures.listing) refl refl ((c.read_packet.ensures.keeps.file ∙ ap (λ (j : Log). j.file) c.at_gate-self-inside.ensures) ∙ sym c.self.invariant.file)
+    (ap (λ (l : Listing). l.settings) c.replay_keys.ensures.listing) refl refl
+    ((c.read_packet.ensures.keeps.file ∙ ap (λ (j : Log). j.file) c.at_gate-self-inside.ensures) ∙ sym c.self.invariant.file)
     ((c.read_packet.ensures.keeps.most ∙ ap (λ (j : Log). j.most) c.at_gate-self-inside.ensures ∙ c.greatest_payload-most.ensures.value ∙ ap most_payload c.settings.ensures)
     ∙ sym c.self.invariant.most) (sym (length_refill c.self.inside.buffer.len (take c.self.inside.buffer.len (c.read_packet.new.buffer ++ drop
     (length c.read_packet.new.buffer) c.self.inside.buffer.items)) c.replay_keys.new.buffer (length_refill c.self.inside.buffer.len c.self.inside.buffer.items c.read_packet.new.buffer len_is))
@@ -136,7 +142,8 @@ invariant_of-self-in-Ok-true g c =
     (take c.self.inside.buffer.len (c.read_packet.new.buffer ++ drop (length c.read_packet.new.buffer) c.self.inside.buffer.items)))) =
     lent ∙ ap (length {A = ℕ}) c.deref_mut-in-Ok-true.ensures.value ∙ read_long ∙ sym then_long in
     replaying_cone g.B.Bay.files g.B.Bay.leaves g.B.Faulty.faults _ _ _ _ _ replaying (c.read_packet.ensures.keeps.file ∙ ap (λ (j : Log). j.file) c.at_gate-self-inside.ensures)
-    ((c.read_packet.ensures.keeps.most ∙ ap (λ (j : Log). j.most) c.at_gate-self-inside.ensures ∙ c.greatest_payload-most.ensures.value ∙ ap most_payload c.settings.ensures) ∙ ap most_payload
+    ((c.read_packet.ensures.keeps.most ∙ ap (λ (j : Log). j.most) c.at_gate-self-inside.ensures ∙ c.greatest_payload-most.ensures.value ∙ ap most_payload c.settings.ensures)
+    ∙ ap most_payload
     (sym settings_are)) ((sym (length_refill c.self.inside.buffer.len (take c.self.inside.buffer.len (c.read_packet.new.buffer ++ drop
     (length c.read_packet.new.buffer) c.self.inside.buffer.items)) c.replay_keys.new.buffer (length_refill c.self.inside.buffer.len c.self.inside.buffer.items c.read_packet.new.buffer len_is))
     ∙ len_is) ∙ c.self.invariant.roomy ∙ ap room_of (sym settings_are))
@@ -383,7 +390,8 @@ returns-in-Ok-false-clause-stays_sound g c =
     (c.self.invariant.replaying replaying).recounted)
 
 pub returns-in-Ok-false-clause-unflushed : goal.returns-in-Ok-false-clause-unflushed
-returns-in-Ok-false-clause-unflushed g c = rw (← c.self.view_is) (λ seen told none. read_unwritten (bays g) (lawful g) c.self.inside.bay c.read_packet.new.bay _ _ _ _ _ c.read_packet.ensures.keeps)
+returns-in-Ok-false-clause-unflushed g c = rw (← c.self.view_is) (λ seen told none. read_unwritten (bays g) (lawful g) c.self.inside.bay c.read_packet.new.bay _ _ _ _ _
+    c.read_packet.ensures.keeps)
 
 pub returns-in-Err-clause-stays_sound : goal.returns-in-Err-clause-stays_sound
 returns-in-Err-clause-stays_sound g c =

@@ -32,14 +32,16 @@ returns-in_err-append g c =
       moved = tt;
       stayed = ap (λ (l : Log). record { gate = l.gate; most = l.most; named = c.self.inside.named }) c.in_err-append.ensures.stayed ∙ c.self.view_is;
       long = (let log : LogPlace = record { gate = c.self.inside.log.gate; most = c.self.inside.log.most; named = c.self.inside.named } in
-          subst (λ (v : LogPlace). next_gate v.gate (payload_at v c.args.kind c.args.n0 c.args.directory.now c.args.reports.now) ≡ v.gate + 5 + payload_len v c.args.directory.now c.args.reports.now)
+          subst (λ (v : LogPlace). next_gate v.gate (payload_at v c.args.kind c.args.n0 c.args.directory.now c.args.reports.now) ≡ v.gate + 5
+          + payload_len v c.args.directory.now c.args.reports.now)
           c.self.view_is
           (ap (λ n. log.gate + 5 + n) (payload_long log c.args.kind c.args.n0 c.args.directory.now c.args.reports.now)));
       each_moment = λ seen told first payloads all image may.
           (let log : LogPlace = record { gate = c.self.inside.log.gate; most = c.self.inside.log.most; named = c.self.inside.named } in
           let payload = payload_at log c.args.kind c.args.n0 c.args.directory.now c.args.reports.now in
           let all_here : InEach (g.B.Bay.leaves c.args.bay.now) c.self.inside.log.file (λ bytes. IsGated c.self.inside.log.most bytes first payloads c.self.inside.log.gate) =
-          λ earlier left. subst (λ (f : ℕ). IsGated log.most (earlier f) first payloads log.gate) (sym c.self.invariant) (subst (λ (v : LogPlace). IsGated v.most (earlier 1) first payloads v.gate)
+          λ earlier left. subst (λ (f : ℕ). IsGated log.most (earlier f) first payloads log.gate) (sym c.self.invariant)
+          (subst (λ (v : LogPlace). IsGated v.most (earlier 1) first payloads v.gate)
           (sym c.self.view_is) (all earlier left)) in
           subst (λ (v : LogPlace). IsWithOrWithout v.most first payloads v.gate (payload_at v c.args.kind c.args.n0 c.args.directory.now c.args.reports.now) (image 1)) c.self.view_is
           (subst (λ (f : ℕ). IsWithOrWithout log.most first payloads log.gate payload (image f)) c.self.invariant
@@ -48,7 +50,8 @@ returns-in_err-append g c =
       appended = λ seen told first payloads all. tt;
       closed = λ seen told. tt;
       settled = tt;
-      before = λ seen told. subst (λ (v : LogPlace). KeepsBefore (g.B.Bay.leaves c.args.bay.now) (g.B.Bay.left_since c.append.new.bay (g.B.Bay.moment c.args.bay.now)) seen 1 v.gate) c.self.view_is
+      before = λ seen told. subst (λ (v : LogPlace). KeepsBefore (g.B.Bay.leaves c.args.bay.now) (g.B.Bay.left_since c.append.new.bay (g.B.Bay.moment c.args.bay.now)) seen 1 v.gate)
+          c.self.view_is
           (subst (λ (f : ℕ). KeepsBefore (g.B.Bay.leaves c.args.bay.now) (g.B.Bay.left_since c.append.new.bay (g.B.Bay.moment c.args.bay.now)) seen f c.self.inside.log.gate) c.self.invariant
           (c.append.ensures.before seen told));
       others = λ seen told. subst (λ (f : ℕ). KeepsOthers (g.B.Bay.leaves c.args.bay.now) (g.B.Bay.left_since c.append.new.bay (g.B.Bay.moment c.args.bay.now)) seen f) c.self.invariant
@@ -81,14 +84,16 @@ returns g c = record {
       (λ i. record { gate = gate_is i; most = most_is i; named = length c.args.reports.now }));
   stayed = tt;
   long = (let log : LogPlace = record { gate = c.self.inside.log.gate; most = c.self.inside.log.most; named = c.self.inside.named } in
-      subst (λ (v : LogPlace). next_gate v.gate (payload_at v c.args.kind c.args.n0 c.args.directory.now c.args.reports.now) ≡ v.gate + 5 + payload_len v c.args.directory.now c.args.reports.now)
+      subst (λ (v : LogPlace). next_gate v.gate (payload_at v c.args.kind c.args.n0 c.args.directory.now c.args.reports.now) ≡ v.gate + 5
+      + payload_len v c.args.directory.now c.args.reports.now)
       c.self.view_is
       (ap (λ n. log.gate + 5 + n) (payload_long log c.args.kind c.args.n0 c.args.directory.now c.args.reports.now)));
   each_moment = λ seen told first payloads all image may.
       (let log : LogPlace = record { gate = c.self.inside.log.gate; most = c.self.inside.log.most; named = c.self.inside.named } in
       let payload = payload_at log c.args.kind c.args.n0 c.args.directory.now c.args.reports.now in
       let all_here : InEach (g.B.Bay.leaves c.args.bay.now) c.self.inside.log.file (λ bytes. IsGated c.self.inside.log.most bytes first payloads c.self.inside.log.gate) =
-      λ earlier left. subst (λ (f : ℕ). IsGated log.most (earlier f) first payloads log.gate) (sym c.self.invariant) (subst (λ (v : LogPlace). IsGated v.most (earlier 1) first payloads v.gate)
+      λ earlier left. subst (λ (f : ℕ). IsGated log.most (earlier f) first payloads log.gate) (sym c.self.invariant)
+      (subst (λ (v : LogPlace). IsGated v.most (earlier 1) first payloads v.gate)
       (sym c.self.view_is) (all earlier left)) in
       subst (λ (v : LogPlace). IsWithOrWithout v.most first payloads v.gate (payload_at v c.args.kind c.args.n0 c.args.directory.now c.args.reports.now) (image 1)) c.self.view_is
       (subst (λ (f : ℕ). IsWithOrWithout log.most first payloads log.gate payload (image f)) c.self.invariant
@@ -98,13 +103,16 @@ returns g c = record {
       (let log : LogPlace = record { gate = c.self.inside.log.gate; most = c.self.inside.log.most; named = c.self.inside.named } in
       let payload = payload_at log c.args.kind c.args.n0 c.args.directory.now c.args.reports.now in
       let all_here : InEach (g.B.Bay.leaves c.args.bay.now) c.self.inside.log.file (λ bytes. IsGated c.self.inside.log.most bytes first payloads c.self.inside.log.gate) =
-      λ earlier left. subst (λ (f : ℕ). IsGated log.most (earlier f) first payloads log.gate) (sym c.self.invariant) (subst (λ (v : LogPlace). IsGated v.most (earlier 1) first payloads v.gate)
+      λ earlier left. subst (λ (f : ℕ). IsGated log.most (earlier f) first payloads log.gate) (sym c.self.invariant)
+      (subst (λ (v : LogPlace). IsGated v.most (earlier 1) first payloads v.gate)
       (sym c.self.view_is) (all earlier left)) in
-      subst (λ (v : LogPlace). IsGated v.most (image 1) first (payloads ++ payload_at v c.args.kind c.args.n0 c.args.directory.now c.args.reports.now ∷ []) c.append.new.self.gate) c.self.view_is
+      subst (λ (v : LogPlace). IsGated v.most (image 1) first (payloads ++ payload_at v c.args.kind c.args.n0 c.args.directory.now c.args.reports.now ∷ []) c.append.new.self.gate)
+      c.self.view_is
       (subst (λ (f : ℕ). IsGated log.most (image f) first (payloads ++ payload ∷ []) c.append.new.self.gate) c.self.invariant
       (c.in_ok-append.ensures.appended seen told first payloads payload (text_at log c.args.kind c.args.n0 c.args.directory.now c.args.reports.now c.write_log-len.result c.write_log-len.new.into
       c.write_log-len.ensures.text) all_here image may)));
-  closed = λ seen told. subst (λ (f : ℕ). InEach (g.B.Bay.leaves c.append.new.bay) f (λ bytes. IsClosed bytes c.append.new.self.gate)) c.self.invariant (c.in_ok-append.ensures.closed seen told);
+  closed = λ seen told. subst (λ (f : ℕ). InEach (g.B.Bay.leaves c.append.new.bay) f (λ bytes. IsClosed bytes c.append.new.self.gate)) c.self.invariant
+      (c.in_ok-append.ensures.closed seen told);
   settled = λ seen told. subst (λ (f : ℕ). IsWhollySettled (g.B.Bay.leaves c.append.new.bay) seen f) c.self.invariant (c.in_ok-append.ensures.settled seen told);
   before = λ seen told. subst (λ (v : LogPlace). KeepsBefore (g.B.Bay.leaves c.args.bay.now) (g.B.Bay.left_since c.append.new.bay (g.B.Bay.moment c.args.bay.now)) seen 1 v.gate) c.self.view_is
       (subst (λ (f : ℕ). KeepsBefore (g.B.Bay.leaves c.args.bay.now) (g.B.Bay.left_since c.append.new.bay (g.B.Bay.moment c.args.bay.now)) seen f c.self.inside.log.gate) c.self.invariant

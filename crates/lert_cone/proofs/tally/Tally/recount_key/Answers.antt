@@ -40,7 +40,8 @@ returns-clause-recounted g c =
     let recounted : IsRecounted t c.args.n0 = subst (λ (v : Tallied). IsRecounted v c.args.n0) (sym c.self.view_is) c.requires.recounted in
     let before : length c.self.inside.taken < c.args.n0 = subst (λ (v : Tallied). length v.listing.events < c.args.n0) (sym c.self.view_is) c.requires.within in
     let m_is : c.self.inside.len + 1 ≡ suc (length c.self.inside.taken) = omega (arith, c.self.invariant.len_is) in
-    let own : cone_of c.self.inside.settings c.args.key ≡ c.self.inside.cone = subst (λ (v : Tallied). cone_of v.listing.settings c.args.key ≡ v.listing.cone) (sym c.self.view_is) c.requires.own in
+    let own : cone_of c.self.inside.settings c.args.key ≡ c.self.inside.cone =
+    subst (λ (v : Tallied). cone_of v.listing.settings c.args.key ≡ v.listing.cone) (sym c.self.view_is) c.requires.own in
     recounted_more t c.args.n0 recounted c.self.invariant.young_settings before c.args.key c.tail_of-tail.result (c.self.inside.len + 1) c.tail_of-tail.ensures.value m_is c.ranges.key.fits own
     c.count_again.new.zero c.count_again.ensures
     (record {

@@ -25,7 +25,8 @@ bring-due-requires-clause-rows g c =
       due = due_in c.self.inside.due;
     } in
     let counted : IsCounted t = subst (λ (v : Tallied). IsCounted v) (sym c.self.view_is) c.requires.counted in
-    let fits : length c.self.inside.taken < capacity c.self.inside.settings = subst (λ (v : Tallied). length v.listing.events < capacity v.listing.settings) (sym c.self.view_is) c.requires.fits in
+    let fits : length c.self.inside.taken < capacity c.self.inside.settings = subst (λ (v : Tallied). length v.listing.events < capacity v.listing.settings) (sym c.self.view_is) c.requires.fits
+    in
     let m_is : c.self.inside.len + 1 ≡ suc (length c.self.inside.taken) = omega (arith, c.self.invariant.len_is) in
     rows_before t c.self.inside.levels.settings c.self.invariant.levels_settings c.self.invariant.valid c.self.invariant.named c.self.invariant.young_settings counted fits c.args.key
     c.tail_of-tail.result (c.self.inside.len + 1) c.tail_of-tail.ensures.value m_is c.add.new.self c.add.ensures
@@ -38,7 +39,8 @@ returns-in_err-result g c =
       rows = c.self.inside.levels.rows;
       due = due_in c.self.inside.due;
     }) = subst (λ (v : Tallied). IsCounted v) (sym c.self.view_is) c.requires.counted in
-    let fits : length c.self.inside.taken < capacity c.self.inside.settings = subst (λ (v : Tallied). length v.listing.events < capacity v.listing.settings) (sym c.self.view_is) c.requires.fits in
+    let fits : length c.self.inside.taken < capacity c.self.inside.settings = subst (λ (v : Tallied). length v.listing.events < capacity v.listing.settings) (sym c.self.view_is) c.requires.fits
+    in
     let m_is : c.self.inside.len + 1 ≡ suc (length c.self.inside.taken) = omega (arith, c.self.invariant.len_is) in
     let start_is : c.begin.new.self ≡ started (due_in c.self.inside.due) (c.self.inside.len + 1) =
     c.begin.ensures.begun ∙ ap (λ (d : Option Dues). started (due_in d) (c.self.inside.len + 1)) (sym c.in-Some.is ∙ c.take.ensures.value) in
@@ -62,11 +64,13 @@ returns-then-is_full g c =
       rows = c.self.inside.levels.rows;
       due = due_in c.self.inside.due;
     }) = subst (λ (v : Tallied). IsCounted v) (sym c.self.view_is) c.requires.counted in
-    let fits : length c.self.inside.taken < capacity c.self.inside.settings = subst (λ (v : Tallied). length v.listing.events < capacity v.listing.settings) (sym c.self.view_is) c.requires.fits in
+    let fits : length c.self.inside.taken < capacity c.self.inside.settings = subst (λ (v : Tallied). length v.listing.events < capacity v.listing.settings) (sym c.self.view_is) c.requires.fits
+    in
     let m_is : c.self.inside.len + 1 ≡ suc (length c.self.inside.taken) = omega (arith, c.self.invariant.len_is) in
     let start_is : c.begin.new.self ≡ started (due_in c.self.inside.due) (c.self.inside.len + 1) =
     c.begin.ensures.begun ∙ ap (λ (d : Option Dues). started (due_in d) (c.self.inside.len + 1)) (sym c.in-Some.is ∙ c.take.ensures.value) in
-    let own : cone_of c.self.inside.settings c.args.key ≡ c.self.inside.cone = subst (λ (v : Tallied). cone_of v.listing.settings c.args.key ≡ v.listing.cone) (sym c.self.view_is) c.requires.own in
+    let own : cone_of c.self.inside.settings c.args.key ≡ c.self.inside.cone =
+    subst (λ (v : Tallied). cone_of v.listing.settings c.args.key ≡ v.listing.cone) (sym c.self.view_is) c.requires.own in
     let still : c.self.inside.closed ≡ false = subst (λ (v : Tallied). v.listing.closed ≡ false) (sym c.self.view_is) c.requires.still in
     let brings = rw c.in_ok-result.was at c.bring-due.ensures in
     rw (← c.self.view_is) (no_room (bays g) (lawful g)
@@ -89,11 +93,13 @@ returns g c =
       rows = c.self.inside.levels.rows;
       due = due_in c.self.inside.due;
     }) = subst (λ (v : Tallied). IsCounted v) (sym c.self.view_is) c.requires.counted in
-    let fits : length c.self.inside.taken < capacity c.self.inside.settings = subst (λ (v : Tallied). length v.listing.events < capacity v.listing.settings) (sym c.self.view_is) c.requires.fits in
+    let fits : length c.self.inside.taken < capacity c.self.inside.settings = subst (λ (v : Tallied). length v.listing.events < capacity v.listing.settings) (sym c.self.view_is) c.requires.fits
+    in
     let m_is : c.self.inside.len + 1 ≡ suc (length c.self.inside.taken) = omega (arith, c.self.invariant.len_is) in
     let start_is : c.begin.new.self ≡ started (due_in c.self.inside.due) (c.self.inside.len + 1) =
     c.begin.ensures.begun ∙ ap (λ (d : Option Dues). started (due_in d) (c.self.inside.len + 1)) (sym c.in-Some.is ∙ c.take.ensures.value) in
-    let own : cone_of c.self.inside.settings c.args.key ≡ c.self.inside.cone = subst (λ (v : Tallied). cone_of v.listing.settings c.args.key ≡ v.listing.cone) (sym c.self.view_is) c.requires.own in
+    let own : cone_of c.self.inside.settings c.args.key ≡ c.self.inside.cone =
+    subst (λ (v : Tallied). cone_of v.listing.settings c.args.key ≡ v.listing.cone) (sym c.self.view_is) c.requires.own in
     let still : c.self.inside.closed ≡ false = subst (λ (v : Tallied). v.listing.closed ≡ false) (sym c.self.view_is) c.requires.still in
     let brings = rw c.in_ok-result.was at c.bring-due.ensures in
     rw (← c.self.view_is) (key_counted (bays g) (lawful g)

@@ -96,7 +96,8 @@ returns-in-Ok g c = record {
       ∙ sym next);
   to = ap (λ (y : Young). y.to) c.drop_oldest.ensures ∙ c.requires.to;
   bins = λ events long bins.
-      let dropped = dropped_bins c.args.levels.now.settings c.requires.valid events c.args.m long (deep c.depth.result c.args.m c.settings.result.now c.args.levels.now.settings c.depth.ensures.value
+      let dropped = dropped_bins c.args.levels.now.settings c.requires.valid events c.args.m long
+      (deep c.depth.result c.args.m c.settings.result.now c.args.levels.now.settings c.depth.ensures.value
       (c.settings.ensures ∙ c.requires.settings) c.if-depth-eq0.false) in
       record {
         is = ap (λ (y : Young). y.bins) c.drop_oldest.ensures

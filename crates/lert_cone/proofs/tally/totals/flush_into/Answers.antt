@@ -44,7 +44,8 @@ returns g c = record {
         held = holds;
       } in
       let both = c.flush-result.ensures.told seen told events events_ in
-      subst (λ (v : Dues). OnOk c.flush-result.result (TookFrom g.N.Begun.start v (tallied c.args.levels.now.settings (slice_range events (lookback c.args.levels.now.settings c.args.m) c.args.m))))
+      subst (λ (v : Dues). OnOk c.flush-result.result (TookFrom g.N.Begun.start v
+      (tallied c.args.levels.now.settings (slice_range events (lookback c.args.levels.now.settings c.args.m) c.args.m))))
       (sym c.into_due.ensures)
       (on_ok (IfTold (g.B.Bay.files c.flush-result.new.bay) (λ after. HoldsBins c.args.levels.now.settings events (moved c.args.levels.now.settings c.args.m c.args.levels.now.rows)
       (after 2)) × TookFrom g.N.Begun.start c.flush-result.new.totals.due (tallied c.args.levels.now.settings (slice_range events (lookback c.args.levels.now.settings c.args.m) c.args.m)))
@@ -53,7 +54,8 @@ returns g c = record {
       (TookFrom g.N.Begun.start c.flush-result.new.totals.due (tallied c.args.levels.now.settings (slice_range events (lookback c.args.levels.now.settings c.args.m) c.args.m)))
       c.flush-result.result (ok_of (IfTold (g.B.Bay.files c.flush-result.new.bay) (λ after. HoldsBins c.args.levels.now.settings events
       (moved c.args.levels.now.settings c.args.m c.args.levels.now.rows) (after 2)) × TookFrom g.N.Begun.start c.flush-result.new.totals.due (tallied c.args.levels.now.settings
-      (slice_range events (lookback c.args.levels.now.settings c.args.m) c.args.m))) (λ (fault : FlushFault). (fault ≡ Failed) ⊎ (fault ≡ OutOfMemory)) c.flush-result.result both) (ok_of (IfTold
+      (slice_range events (lookback c.args.levels.now.settings c.args.m) c.args.m))) (λ (fault : FlushFault). (fault ≡ Failed) ⊎ (fault ≡ OutOfMemory)) c.flush-result.result both)
+      (ok_of (IfTold
       (g.B.Bay.files c.flush-result.new.bay) (λ after. HoldsBins c.args.levels.now.settings events (moved c.args.levels.now.settings c.args.m c.args.levels.now.rows)
       (after 2)) × TookFrom g.N.Begun.start c.flush-result.new.totals.due (tallied c.args.levels.now.settings (slice_range events (lookback c.args.levels.now.settings c.args.m) c.args.m))) (λ
       (fault : FlushFault). (fault ≡ Failed) ⊎ (fault ≡ OutOfMemory)) c.flush-result.result both) (λ _ parts. parts.1));

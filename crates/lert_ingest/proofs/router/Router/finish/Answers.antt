@@ -9,7 +9,8 @@ use Rattle.lert_ingest.proofs.router.Router.finish.Goals as goal
 
 pub returns-clause-later : goal.returns-clause-later
 returns-clause-later g c =
-    are_more g.B.Bay.files g.B.Faulty.faults g.B.Faulty.mark (bays_of c.args.self.now.cones.items) (bays_of c.hand_out_all.new.self.cones.items) (bays_of c.finish_cones.new.self.cones.items) c.hand_out_all.ensures.later c.finish_cones.ensures.later
+    are_more g.B.Bay.files g.B.Faulty.faults g.B.Faulty.mark (bays_of c.args.self.now.cones.items) (bays_of c.hand_out_all.new.self.cones.items) (bays_of c.finish_cones.new.self.cones.items)
+    c.hand_out_all.ensures.later c.finish_cones.ensures.later
 
 pub returns-clause-refused : goal.returns-clause-refused
 returns-clause-refused g c =

@@ -27,7 +27,8 @@ admit-admitted-requires g c =
     let packet_is : packet_of c.take.new.entry ≡ packet_with ring = ap packet_of c.take.ensures.entry ∙ (λ i. record { by = idle.by_is i; trace = idle.trace_is i; keys = ring }) in
     record {
       fits = subst (IsJournaled old.listing.settings old.listing.cone) (sym packet_is)
-          (lane_journaled g.B.Bay.files g.B.Bay.leaves g.B.Faulty.faults router.settings c.requires.taking.0 open_cones router.cones.items router.rings router.keys lanes at c.requires.named old found
+          (lane_journaled g.B.Bay.files g.B.Bay.leaves g.B.Faulty.faults router.settings c.requires.taking.0 open_cones router.cones.items router.rings router.keys lanes at c.requires.named old
+          found
           c.requires.taking.1 c.requires.some c.requires.few);
     }
 
@@ -40,10 +41,12 @@ returns-in-Ok-clause-taking g c = λ from to open_is first grows full.
     let ring = ring_of router.rings at in
     let inside : at < length router.cones.items = omega (arith, c.requires.named, open_is.lanes.cones_number) in
     let found = slice_get_read router.cones.items (length router.cones.items) at old refl inside c.index_mut.ensures.value in
-    let packet_is : packet_of c.take.new.entry ≡ packet_with ring = ap packet_of c.take.ensures.entry ∙ (λ i. record { by = open_is.idle.by_is i; trace = open_is.idle.trace_is i; keys = ring }) in
+    let packet_is : packet_of c.take.new.entry ≡ packet_with ring = ap packet_of c.take.ensures.entry
+    ∙ (λ i. record { by = open_is.idle.by_is i; trace = open_is.idle.trace_is i; keys = ring }) in
     let keys_are = ap (λ (e : Entry). e.keys.keys) c.take.ensures.entry in
     record {
-      lanes = subst (λ (rings : Rings). AreLanes g.B.Bay.files g.B.Bay.leaves g.B.Faulty.faults router.settings to open_cones (set router.cones.items at new) rings router.keys) (sym c.take.ensures.rings)
+      lanes = subst (λ (rings : Rings). AreLanes g.B.Bay.files g.B.Bay.leaves g.B.Faulty.faults router.settings to open_cones (set router.cones.items at new) rings router.keys)
+          (sym c.take.ensures.rings)
           (lanes_hand g.B.Bay.files g.B.Bay.leaves g.B.Faulty.faults router.settings from open_cones router.cones.items router.rings router.keys open_is.lanes at c.requires.named old found
           first c.requires.some c.requires.few to grows full new c.admit-admitted.ensures.same_cone
           (λ h stood. subst (λ (p : Packet). StandsFor g.B.Bay.files g.B.Bay.leaves g.B.Faulty.faults new (h ++ p ∷ [])) packet_is (c.in-Ok.ensures.stands_for h stood))
@@ -90,7 +93,8 @@ returns-in-Ok-clause-partly g c =
     let ring = ring_of router.rings at in
     let inside : at < length router.cones.items = omega (arith, c.requires.named, open_is.lanes.cones_number) in
     let found = slice_get_read router.cones.items (length router.cones.items) at old refl inside c.index_mut.ensures.value in
-    let packet_is : packet_of c.take.new.entry ≡ packet_with ring = ap packet_of c.take.ensures.entry ∙ (λ i. record { by = open_is.idle.by_is i; trace = open_is.idle.trace_is i; keys = ring }) in
+    let packet_is : packet_of c.take.new.entry ≡ packet_with ring = ap packet_of c.take.ensures.entry
+    ∙ (λ i. record { by = open_is.idle.by_is i; trace = open_is.idle.trace_is i; keys = ring }) in
     let keys_are = ap (λ (e : Entry). e.keys.keys) c.take.ensures.entry in
     lanes_partly g.B.Bay.files g.B.Bay.leaves g.B.Faulty.faults router.settings (at + 1) open_cones (set router.cones.items at new) _ router.keys
     (lanes_hand g.B.Bay.files g.B.Bay.leaves g.B.Faulty.faults router.settings from open_cones router.cones.items router.rings router.keys open_is.lanes at c.requires.named old found
@@ -109,8 +113,10 @@ returns-in-Err-clause-partly g c =
     let ring = ring_of router.rings at in
     let inside : at < length router.cones.items = omega (arith, c.requires.named, open_is.lanes.cones_number) in
     let found = slice_get_read router.cones.items (length router.cones.items) at old refl inside c.index_mut.ensures.value in
-    let packet_is : packet_of c.take.new.entry ≡ packet_with ring = ap packet_of c.take.ensures.entry ∙ (λ i. record { by = open_is.idle.by_is i; trace = open_is.idle.trace_is i; keys = ring }) in
-    partly_refused g.B.Bay.files g.B.Bay.leaves g.B.Faulty.faults router.settings c.requires.taking.0 open_cones router.cones.items router.rings router.keys open_is.lanes at c.requires.named old found
+    let packet_is : packet_of c.take.new.entry ≡ packet_with ring = ap packet_of c.take.ensures.entry
+    ∙ (λ i. record { by = open_is.idle.by_is i; trace = open_is.idle.trace_is i; keys = ring }) in
+    partly_refused g.B.Bay.files g.B.Bay.leaves g.B.Faulty.faults router.settings c.requires.taking.0 open_cones router.cones.items router.rings router.keys open_is.lanes at c.requires.named old
+    found
     c.requires.taking.1 c.requires.some c.requires.few new c.in-Err.fault c.in-Err.ensures.stays c.in-Err.ensures.unchanged
     (λ is. ap (λ (s : Standing g.row.B.Denot). s.over) (c.in-Err.ensures.broke is) ∙ ap Some packet_is)
     c.admit-admitted.ensures.same_cone
@@ -125,9 +131,11 @@ returns-in-Err-clause-refused g c =
     let ring = ring_of router.rings at in
     let inside : at < length router.cones.items = omega (arith, c.requires.named, open_is.lanes.cones_number) in
     let found = slice_get_read router.cones.items (length router.cones.items) at old refl inside c.index_mut.ensures.value in
-    let packet_is : packet_of c.take.new.entry ≡ packet_with ring = ap packet_of c.take.ensures.entry ∙ (λ i. record { by = open_is.idle.by_is i; trace = open_is.idle.trace_is i; keys = ring }) in
+    let packet_is : packet_of c.take.new.entry ≡ packet_with ring = ap packet_of c.take.ensures.entry
+    ∙ (λ i. record { by = open_is.idle.by_is i; trace = open_is.idle.trace_is i; keys = ring }) in
     let keys_are = ap (λ (e : Entry). length e.keys.keys) c.take.ensures.entry in
-    let state = lane_state g.B.Bay.files g.B.Bay.leaves g.B.Faulty.faults router.settings c.requires.taking.0 open_cones router.cones.items router.rings router.keys open_is.lanes at c.requires.named old found in
+    let state = lane_state g.B.Bay.files g.B.Bay.leaves g.B.Faulty.faults router.settings c.requires.taking.0 open_cones router.cones.items router.rings router.keys open_is.lanes at
+    c.requires.named old found in
     refused_by g.B.Bay.files g.B.Bay.leaves g.B.Faulty.faults router.settings c.requires.taking.0 open_cones router.cones.items router.rings router.keys open_is.lanes at c.requires.named old found
     c.requires.taking.1 c.requires.some c.requires.few new c.in-Err.fault c.in-Err.ensures.stays c.in-Err.ensures.unchanged
     (λ is. ap (λ (s : Standing g.row.B.Denot). s.over) (c.in-Err.ensures.broke is) ∙ ap Some packet_is)

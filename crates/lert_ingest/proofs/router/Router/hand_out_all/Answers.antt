@@ -11,7 +11,8 @@ use Rattle.lert_ingest.proofs.router.Router.hand_out_all.Goals as goal
 
 pub returns-in-Err-clause-later : goal.returns-in-Err-clause-later
 returns-in-Err-clause-later g c =
-    are_more g.B.Bay.files g.B.Faulty.faults g.B.Faulty.mark (bays_of c.args.self.now.cones.items) (bays_of c.loop-cone.self.cones.items) (bays_of c.hand_out_rest.new.self.cones.items) c.loop-cone.invariant.later c.hand_out_rest.ensures.later
+    are_more g.B.Bay.files g.B.Faulty.faults g.B.Faulty.mark (bays_of c.args.self.now.cones.items) (bays_of c.loop-cone.self.cones.items) (bays_of c.hand_out_rest.new.self.cones.items)
+    c.loop-cone.invariant.later c.hand_out_rest.ensures.later
 
 pub returns-in-Err-clause-partly : goal.returns-in-Err-clause-partly
 returns-in-Err-clause-partly g c =
@@ -45,7 +46,8 @@ loop-cone-preserved g c =
           (subst (AreShort router.settings) (sym c.hand_out_rest.ensures.rings)
           (short_emptied router.settings router.rings at lanes.rings_number lanes.valid.limits.packet_from (λ cone named differs. here.short cone named)));
       drained = drained_more router.settings router.rings after.rings at lanes.rings_number below c.hand_out_rest.ensures.rings here.drained;
-      later = are_more g.B.Bay.files g.B.Faulty.faults g.B.Faulty.mark (bays_of c.args.self.now.cones.items) (bays_of router.cones.items) (bays_of after.cones.items) here.later c.hand_out_rest.ensures.later;
+      later = are_more g.B.Bay.files g.B.Faulty.faults g.B.Faulty.mark (bays_of c.args.self.now.cones.items) (bays_of router.cones.items) (bays_of after.cones.items) here.later
+          c.hand_out_rest.ensures.later;
     }
 
 pub returns-clause-partly : goal.returns-clause-partly

@@ -9,7 +9,8 @@ pub returns-then-len-eq0-clause-taking : goal.returns-then-len-eq0-clause-taking
 returns-then-len-eq0-clause-taking g c =
     let router = c.args.self.now in
     record {
-      lanes = lanes_from g.B.Bay.files g.B.Bay.leaves g.B.Faulty.faults router.settings c.args.cone open_cones router.cones.items router.rings router.keys c.requires.taking.lanes (c.args.cone + 1) (omega arith);
+      lanes = lanes_from g.B.Bay.files g.B.Bay.leaves g.B.Faulty.faults router.settings c.args.cone open_cones router.cones.items router.rings router.keys c.requires.taking.lanes (c.args.cone + 1)
+          (omega arith);
       idle = c.requires.taking.idle;
     }
 
