@@ -25,6 +25,7 @@ pub use acked::Acked;
 pub use cone::{Cone, ConeTerms};
 pub use headers::{greatest_payload, is_fresh};
 pub use lert_reports::LogPoint;
+pub use packets::{end_left, packet_left};
 pub use refusal::{ConeFault, CreateFault, CreateRefused, ReplayFault};
 pub use room::ConeRoom;
 pub use state::ConeState;

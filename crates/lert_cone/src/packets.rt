@@ -1,6 +1,6 @@
 //! The records of a journal that is read again.
 
-ghost use Rattle.std.specs.Prelude.{◌≡◌, ℕ, ◌+◌, ◌*◌, ◌<◌, ◌≤◌, ◌^◌, length, IfOk, IsErrOf, IsFalse, IsTrue};
+ghost use Rattle.std.specs.Prelude.{◌≡◌, ◌⊎◌, ℕ, ◌+◌, ◌*◌, ◌<◌, ◌≤◌, ◌^◌, length, true, false, IfOk, IsErrOf, IsFalse, IsTrue, MatchOption};
 ghost use Rattle.lert_base.specs.Entries.{packet_of};
 ghost use Rattle.lert_bay.specs.Files.{Files, IfTold};
 ghost use Rattle.lert_bay.specs.declared.bay.TheConstants.{JOURNAL};
@@ -14,7 +14,7 @@ ghost use Rattle.lert_cone.specs.Replay.{MayFollow, ReplayLeavesAt};
 
 use crate::keys::keys_of;
 use crate::tally::Tally;
-use lert_base::{CountTable, Entry};
+use lert_base::{CountTable, Entry, Settings};
 use lert_bay::Bay;
 use lert_gatelog::{GateLog, LogFault};
 use lert_journal::read_entry;
@@ -59,25 +59,60 @@ pub fn read_packet<B: Bay, T: CountTable>(
     ensures keeps { OnlyReadsJournal B.Bay bay.old bay.new journal.old journal.new entry.old.keys.room entry.new.keys.room (IsErrOf result LogFault.Failed) }
 {
     let settings = tally.settings();
-    let capacity = settings.capacity();
     let n = tally.len();
     let gate = journal.gate();
     let is_packet = read_entry(journal, bay, settings, tally.cone(), entry, buffer)?;
     if !is_packet {
-        if n < last.n0 {
-            return Err(LogFault::Malformed { at: gate });
-        }
-        return Ok(false);
+        return match end_left(last, n, gate) {
+            Some(at) => Err(LogFault::Malformed { at }),
+            None => Ok(false),
+        };
     }
     let len = keys_of(entry).len() as u64;
+    match packet_left(settings, last, n, len, gate) {
+        Some(at) => Err(LogFault::Malformed { at }),
+        None => Ok(true),
+    }
+}
+
+/// The place at which a closed gate of a journal leaves the format, behind so many keys: the gate, where the log's last record
+/// has more. None where the journal may end there.
+pub fn end_left(last: &LogPoint, events: u64, gate: u64) -> Option<u64>
+    ensures { MatchOption result (last.now.n0 ≤ events) (λ at. (events < last.now.n0) × (at ≡ gate)) }
+{
+    if events < last.n0 {
+        return Some(gate);
+    }
+    None
+}
+
+/// The place at which a packet with so many keys leaves the format of a journal, behind so many: its gate, where it goes past a
+/// closing record of the log; and its length, which stands behind the gate, where a cone takes no more. None where it may follow.
+pub fn packet_left(
+    settings: &Settings,
+    last: &LogPoint,
+    events: u64,
+    keys: u64,
+    gate: u64,
+) -> Option<u64>
+    requires within { events ≤ capacity settings.now }
+    requires few { keys < 2 ^ 63 }
+    requires reach { gate < 2 ^ 63 }
+    requires place { last.now.n0 ≤ capacity settings.now }
+    ensures { MatchOption result
+        ((events + keys ≤ capacity settings.now) × (last.now.closed ≡ true → events + keys ≤ last.now.n0))
+        (λ at. ((last.now.closed ≡ true) × (last.now.n0 < events + keys) × (at ≡ gate))
+        ⊎ ((last.now.closed ≡ false) × (capacity settings.now < events + keys) × (at ≡ gate + 1))) }
+{
+    let capacity = settings.capacity();
     if last.closed {
-        if last.n0 < n + len {
-            return Err(LogFault::Malformed { at: gate });
+        if last.n0 < events + keys {
+            return Some(gate);
         }
-        return Ok(true);
+        return None;
     }
-    if capacity < n + len {
-        return Err(LogFault::Malformed { at: gate + 1 });
+    if capacity < events + keys {
+        return Some(gate + 1);
     }
-    Ok(true)
+    None
 }

@@ -16,7 +16,7 @@ ghost use Rattle.lert_spec.specs.Edges.{capacity};
 use crate::replay::Stop;
 use lert_base::Settings;
 use lert_bay::{Bay, JOURNAL};
-use lert_cone::{LogPoint, ReplayFault, greatest_payload};
+use lert_cone::{LogPoint, ReplayFault, end_left, greatest_payload, packet_left};
 use lert_files::ReopenFault;
 use lert_gatelog::{GateLog, LogFault};
 use lert_io::Failed;
@@ -137,10 +137,10 @@ fn end_here(last: &LogPoint, events: u64, gate: u64) -> Found
     ensures told { (s : Numbers) (cone : ℕ) (bytes : List ℕ) (next : ℕ) → IsClosed bytes gate → IsFound s cone last.now.n0 last.now.closed events bytes gate next result }
     ensures forward { (s : Numbers) (next : ℕ) → GoesOn s events gate next result }
 {
-    if events < last.n0 {
-        return Found::Left { at: gate };
+    match end_left(last, events, gate) {
+        Some(at) => Found::Left { at },
+        None => Found::End,
     }
-    Found::End
 }
 
 // What an open record with this payload is.
@@ -168,14 +168,8 @@ fn packet_here(
         };
     }
     let keys = (payload.len() as u64 - 8) / 8;
-    if last.closed {
-        if last.n0 < events + keys {
-            return Found::Left { at: gate };
-        }
-        return Found::Packet { keys };
+    match packet_left(settings, last, events, keys, gate) {
+        Some(at) => Found::Left { at },
+        None => Found::Packet { keys },
     }
-    if settings.capacity() < events + keys {
-        return Found::Left { at: gate + 1 };
-    }
-    Found::Packet { keys }
 }

@@ -1,4 +1,4 @@
-use Rattle.std.proofs.Common.{◌≡◌, ◌∙◌, ℕ, ◌+◌, ◌<◌, ◌^◌, All, List, ap, arith, length, rules, subst, sym}
+use Rattle.std.proofs.Common.{◌≡◌, ◌∙◌, ℕ, ◌+◌, ◌<◌, ◌^◌, All, List, ap, arith, inl, inr, length, rules, subst, sym}
 use Rattle.lert_base.specs.Entries.{packet_of}
 use Rattle.lert_base.specs.Packet.{Packet}
 use Rattle.lert_bay.specs.Files.{Files}
@@ -21,32 +21,26 @@ held_at s cone most file gate seen packet file_is most_is opened journaled fits 
   fits = fits;
 }
 
-pub returns-then-last-n-clause-malformed : goal.returns-then-last-n-clause-malformed
-returns-then-last-n-clause-malformed g c = λ seen told at same.
+pub packet_left-requires-clause-few : goal.packet_left-requires-clause-few
+packet_left-requires-clause-few g c = omega (arith, ap (length {A = ℕ}) c.keys_of.ensures.value)
+
+pub returns-in-Some-packet_left-clause-malformed : goal.returns-in-Some-packet_left-clause-malformed
+returns-in-Some-packet_left-clause-malformed g c = λ seen told at same.
     let fits = subst (λ (keys : List ℕ). All (λ key. key < 2 ^ 64) keys) c.keys_of.ensures.value c.keys_of.ensures.fit in
+    let packet = packet_of c.read_entry.new.entry in
     let holds = held_at c.args.tally.now.listing.settings c.args.tally.now.listing.cone c.args.journal.now.most c.args.journal.now.file c.args.journal.now.gate seen
-    (packet_of c.read_entry.new.entry) c.requires.file c.requires.most (c.in_ok-is_packet.ensures.found seen told (search rules)) (search rules) fits in
-    let at_is : c.gate-gate.result ≡ at = cc in
-    Past_the_end (packet_of c.read_entry.new.entry) holds c.if-last.true (omega (arith, c.if-last-n.true, ap (length {A = ℕ}) c.keys_of.ensures.value)) (sym at_is ∙ c.gate-gate.ensures.value)
+    packet c.requires.file c.requires.most (c.in_ok-is_packet.ensures.found seen told (search rules)) (search rules) fits in
+    let at_is : c.in-Some-packet_left.at ≡ at = cc in
+    let count = ap (length {A = ℕ}) c.keys_of.ensures.value in
+    let left = rw c.in-Some-packet_left.is at c.packet_left.ensures in
+    elim left [
+      | inl past ↦ Past_the_end packet holds past.0 (omega (arith, past.1, c.len-n.ensures, count)) (sym at_is ∙ past.2 ∙ c.gate-gate.ensures.value)
+      | inr many ↦ Too_many packet holds many.0 (omega (arith, many.1, c.len-n.ensures, count, ap capacity c.settings-settings.ensures))
+          (sym at_is ∙ many.2 ∙ ap (λ n. n + 1) c.gate-gate.ensures.value)
+    ]
 
-pub returns-then-last-clause-found : goal.returns-then-last-clause-found
-returns-then-last-clause-found g c = λ seen told _.
-    let fits = subst (λ (keys : List ℕ). All (λ key. key < 2 ^ 64) keys) c.keys_of.ensures.value c.keys_of.ensures.fit in
-    held_at c.args.tally.now.listing.settings c.args.tally.now.listing.cone c.args.journal.now.most c.args.journal.now.file c.args.journal.now.gate seen
-    (packet_of c.read_entry.new.entry) c.requires.file c.requires.most (c.in_ok-is_packet.ensures.found seen told (search rules)) (search rules) fits
-
-pub returns-then-capacity-n-clause-malformed : goal.returns-then-capacity-n-clause-malformed
-returns-then-capacity-n-clause-malformed g c = λ seen told at same.
-    let fits = subst (λ (keys : List ℕ). All (λ key. key < 2 ^ 64) keys) c.keys_of.ensures.value c.keys_of.ensures.fit in
-    let holds = held_at c.args.tally.now.listing.settings c.args.tally.now.listing.cone c.args.journal.now.most c.args.journal.now.file c.args.journal.now.gate seen
-    (packet_of c.read_entry.new.entry) c.requires.file c.requires.most (c.in_ok-is_packet.ensures.found seen told (search rules)) (search rules) fits in
-    let at_is : c.gate-gate.result + 1 ≡ at = cc in
-    let most_is = c.capacity-capacity.ensures.value ∙ ap capacity c.settings-settings.ensures in
-    Too_many (packet_of c.read_entry.new.entry) holds c.if-last.false (omega (arith, c.if-capacity-n.true, most_is, c.len-n.ensures, ap (length {A = ℕ}) c.keys_of.ensures.value)) (sym at_is ∙ ap
-    (λ n. n + 1) c.gate-gate.ensures.value)
-
-pub returns-clause-found : goal.returns-clause-found
-returns-clause-found g c = λ seen told _.
+pub returns-in-None-packet_left-clause-found : goal.returns-in-None-packet_left-clause-found
+returns-in-None-packet_left-clause-found g c = λ seen told _.
     let fits = subst (λ (keys : List ℕ). All (λ key. key < 2 ^ 64) keys) c.keys_of.ensures.value c.keys_of.ensures.fit in
     held_at c.args.tally.now.listing.settings c.args.tally.now.listing.cone c.args.journal.now.most c.args.journal.now.file c.args.journal.now.gate seen
     (packet_of c.read_entry.new.entry) c.requires.file c.requires.most (c.in_ok-is_packet.ensures.found seen told (search rules)) (search rules) fits

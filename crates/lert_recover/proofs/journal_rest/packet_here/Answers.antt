@@ -1,7 +1,6 @@
-use Rattle.std.proofs.Common.{refl, sym, ◌∙◌, subst, arith}
-use Rattle.std.proofs.lemmas.Bool.{true≢false}
+use Rattle.std.proofs.Common.{ℕ, refl, sym, subst, inl, inr, arith}
+use Rattle.lert_cone.specs.Replay.{ReplayLeavesAt}
 use Rattle.lert_spec.specs.Limits.{IsValid}
-use Rattle.lert_spec.proofs.LimitLaws.{capacity_to}
 use Rattle.lert_recover.proofs.RestLaws.{found_many, found_packet, found_past, some_keys}
 use Rattle.lert_recover.proofs.journal_rest.packet_here.Goals as goal
 
@@ -10,42 +9,34 @@ place_left-requires c =
     let valid = subst IsValid c.numbers.ensures.value c.numbers.ensures.valid in
     omega (arith, c.requires.short, valid.limits.packet_to)
 
-pub overflow_add-events : goal.overflow_add-events
-overflow_add-events c =
+pub packet_left-requires-clause-few : goal.packet_left-requires-clause-few
+packet_left-requires-clause-few c =
     let valid = subst IsValid c.numbers.ensures.value c.numbers.ensures.valid in
-    omega (arith, c.requires.within, c.requires.short, valid.limits.packet_to, capacity_to c.args.settings.now valid)
+    omega (arith, c.requires.short, valid.limits.packet_to)
 
-pub returns-then-last-events-clause-told : goal.returns-then-last-events-clause-told
-returns-then-last-events-clause-told c bytes opened =
-    found_past c.args.payload.now (λ k. (c.type_inv.payload k).fits) c.args.settings.now c.args.cone c.args.last.now.n0 c.args.last.now.closed c.args.events bytes c.args.gate _
-    (sym c.in_default.ensures.place) refl opened c.if-last.true c.if-last-events.true
+pub returns-in-Some-packet_left-clause-told : goal.returns-in-Some-packet_left-clause-told
+returns-in-Some-packet_left-clause-told c bytes opened =
+    let s = c.args.settings.now in
+    let last = c.args.last.now in
+    let payload = c.args.payload.now in
+    let none = sym c.in_default.ensures.place in
+    let leaves = λ (at : ℕ). ReplayLeavesAt s c.args.cone last.n0 last.closed c.args.events bytes c.args.gate at in
+    elim (rw c.in-Some-packet_left.is at c.packet_left.ensures) [
+      | inl past ↦ subst leaves (sym past.2)
+          (found_past payload (λ k. (c.type_inv.payload k).fits) s c.args.cone last.n0 last.closed c.args.events bytes c.args.gate _ none refl opened past.0 past.1)
+      | inr many ↦ subst leaves (sym many.2)
+          (found_many payload (λ k. (c.type_inv.payload k).fits) s c.args.cone last.n0 last.closed c.args.events bytes c.args.gate _ none refl opened many.0 many.1)
+    ]
 
-pub returns-then-last-clause-told : goal.returns-then-last-clause-told
-returns-then-last-clause-told c bytes opened =
+pub returns-in-None-clause-told : goal.returns-in-None-clause-told
+returns-in-None-clause-told c bytes opened =
+    let may = rw c.in-None.is at c.packet_left.ensures in
     found_packet c.args.payload.now (λ k. (c.type_inv.payload k).fits) c.args.settings.now c.args.cone c.args.last.now.n0 c.args.last.now.closed c.args.events bytes c.args.gate
-    _ (sym c.in_default.ensures.place) refl opened
-    (omega (arith, c.if-last-events.false, c.requires.place)) (λ ended. omega (arith, c.if-last-events.false))
+    _ (sym c.in_default.ensures.place) refl opened may.0 may.1
 
-pub returns-then-last-clause-forward : goal.returns-then-last-clause-forward
-returns-then-last-clause-forward c =
+pub returns-in-None-clause-forward : goal.returns-in-None-clause-forward
+returns-in-None-clause-forward c =
+    let may = rw c.in-None.is at c.packet_left.ensures in
     let valid = subst IsValid c.numbers.ensures.value c.numbers.ensures.valid in
     let some = some_keys c.args.payload.now (λ k. (c.type_inv.payload k).fits) c.args.settings.now c.args.cone (sym c.in_default.ensures.place) in
-    (omega (arith, some.1), omega (arith, c.if-last-events.false, c.requires.place), omega (arith, c.requires.short, valid.limits.packet_to))
-
-pub returns-then-capacity-events-clause-told : goal.returns-then-capacity-events-clause-told
-returns-then-capacity-events-clause-told c bytes opened =
-    found_many c.args.payload.now (λ k. (c.type_inv.payload k).fits) c.args.settings.now c.args.cone c.args.last.now.n0 c.args.last.now.closed c.args.events bytes c.args.gate _
-    (sym c.in_default.ensures.place) refl opened c.if-last.false
-    (omega (arith, c.if-capacity-events.true, c.capacity.ensures.value))
-
-pub returns-clause-told : goal.returns-clause-told
-returns-clause-told c bytes opened =
-    found_packet c.args.payload.now (λ k. (c.type_inv.payload k).fits) c.args.settings.now c.args.cone c.args.last.now.n0 c.args.last.now.closed c.args.events bytes c.args.gate
-    _ (sym c.in_default.ensures.place) refl opened
-    (omega (arith, c.if-capacity-events.false, c.capacity.ensures.value)) (λ ended. absurd (true≢false (sym ended ∙ c.if-last.false)))
-
-pub returns-clause-forward : goal.returns-clause-forward
-returns-clause-forward c =
-    let valid = subst IsValid c.numbers.ensures.value c.numbers.ensures.valid in
-    let some = some_keys c.args.payload.now (λ k. (c.type_inv.payload k).fits) c.args.settings.now c.args.cone (sym c.in_default.ensures.place) in
-    (omega (arith, some.1), omega (arith, c.if-capacity-events.false, c.capacity.ensures.value), omega (arith, c.requires.short, valid.limits.packet_to))
+    (omega (arith, some.1), may.0, omega (arith, c.requires.short, valid.limits.packet_to))
