@@ -6,7 +6,7 @@ use lert_cone::{Cone, ConeRoom, ConeState};
 use lert_plain::PlainTable;
 use lert_recover::{ReopenFault, reopen};
 use std::alloc::Global;
-use std::test::Fail;
+use std::process::Abort;
 
 // The journal of a packet of three keys 7, of that and another one, and of one that reaches the first flush.
 const THREE: [u8; 70] =
@@ -27,12 +27,12 @@ const CLOSED: [u8; 61] =
 const FLUSHED: [u8; 62] =
     *b"LERTL\x01\0\0\x010\0\0\0\x01\x0c\0\0\0\0\0\0\0 \0\0\0\0\0\0\0\x01\0\0\0\0\0\0\0\x01\0\0\x01\0\0\0\x07\0\0\0\0\0\0\0\x03\0\0\0\0\0\0\0\0";
 
-fn bay(alloc: Global, files: &[&[u8]; 3]) -> Result<MemBay, Fail> {
-    let mut bay = MemBay::new(alloc)?;
-    bay.load(JOURNAL, files[0])?;
-    bay.load(LOG, files[1])?;
-    bay.load(FRAMES, files[2])?;
-    Ok(bay)
+fn bay(rt: &impl Abort, alloc: Global, files: &[&[u8]; 3]) -> MemBay {
+    let mut bay = MemBay::new(alloc).expect(rt, "memory");
+    bay.load(JOURNAL, files[0]).expect(rt, "memory");
+    bay.load(LOG, files[1]).expect(rt, "memory");
+    bay.load(FRAMES, files[2]).expect(rt, "memory");
+    bay
 }
 
 // What there is to see of a cone that was reopened, or why there is none.
@@ -51,18 +51,18 @@ struct Found {
     bay: MemBay,
 }
 
-fn reopened(alloc: Global, bay: MemBay) -> Result<Found, Fail> {
-    let settings = alone()?;
-    let room: ConeRoom<PlainTable> = ConeRoom::new(alloc, &settings)?;
+fn reopened(rt: &impl Abort, alloc: Global, bay: MemBay) -> Found {
+    let settings = alone(rt);
+    let room: ConeRoom<PlainTable> = ConeRoom::new(alloc, &settings).expect(rt, "memory");
     match reopen(room, 0, bay) {
-        Ok(cone) => Ok(Found {
+        Ok(cone) => Found {
             answer: answer_of(&cone),
             bay: cone.into_bay(),
-        }),
-        Err(refused) => Ok(Found {
+        },
+        Err(refused) => Found {
             answer: is_refused(refused.fault),
             bay: refused.bay,
-        }),
+        },
     }
 }
 
@@ -93,7 +93,7 @@ fn is_left(file: u8, at: u64) -> Answer {
 }
 
 #[test]
-fn files_make_a_cone_or_leave_their_format(rt: HostRuntime) -> Result<(), Fail> {
+fn files_make_a_cone_or_leave_their_format(rt: HostRuntime) {
     let mut other_letter = THREE;
     other_letter[4] = b'L';
     let mut many_callers = THREE;
@@ -113,34 +113,31 @@ fn files_make_a_cone_or_leave_their_format(rt: HostRuntime) -> Result<(), Fail> 
         ([&empty[..32], &CLOSED, &[]], is_left(JOURNAL, 32)),
     ];
     for (files, wanted) in rows {
-        let found = reopened(rt.alloc(), bay(rt.alloc(), &files)?)?;
+        let found = reopened(&rt, rt.alloc(), bay(&rt, rt.alloc(), &files));
         assert_eq!(rt; found.answer, wanted);
     }
-    Ok(())
 }
 
 #[test]
-fn a_flush_that_the_run_did_not_come_to(rt: HostRuntime) -> Result<(), Fail> {
+fn a_flush_that_the_run_did_not_come_to(rt: HostRuntime) {
     let alloc = rt.alloc();
-    let first = reopened(alloc, bay(alloc, &[&TWELVE, &BEGUN, &[]])?)?;
+    let first = reopened(&rt, alloc, bay(&rt, alloc, &[&TWELVE, &BEGUN, &[]]));
     assert_eq!(rt; first.bay.bytes(LOG), FLUSHED.as_slice());
     let frames = first.bay.bytes(FRAMES);
-    let cut = frames.get(..10).ok_or("a frame was written")?;
-    let again = reopened(alloc, bay(alloc, &[&TWELVE, &FLUSHED, frames])?)?;
+    let cut = frames.get(..10).expect(&rt, "a frame was written");
+    let again = reopened(&rt, alloc, bay(&rt, alloc, &[&TWELVE, &FLUSHED, frames]));
     assert_eq!(rt; again.answer, is_open(ConeState::Running, 12, 1));
-    let short = reopened(alloc, bay(alloc, &[&TWELVE, &FLUSHED, cut])?)?;
+    let short = reopened(&rt, alloc, bay(&rt, alloc, &[&TWELVE, &FLUSHED, cut]));
     assert_eq!(rt; short.answer, is_left(FRAMES, 10));
-    Ok(())
 }
 
 #[test]
-fn a_call_that_fails_is_told(rt: HostRuntime) -> Result<(), Fail> {
+fn a_call_that_fails_is_told(rt: HostRuntime) {
     for call in 1..9 {
-        let mut failing = bay(rt.alloc(), &[&THREE, &CLOSED, &[]])?;
+        let mut failing = bay(&rt, rt.alloc(), &[&THREE, &CLOSED, &[]]);
         failing.fail_at(call);
-        let refused = reopened(rt.alloc(), failing)?;
+        let refused = reopened(&rt, rt.alloc(), failing);
         assert_eq!(rt; refused.answer, is_refused(ReopenFault::Failed));
         assert_eq!(rt; refused.bay.bytes(JOURNAL), THREE.as_slice());
     }
-    Ok(())
 }

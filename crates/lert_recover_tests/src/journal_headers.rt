@@ -5,7 +5,7 @@ use lert_base::{Kept, Numbers, Settings};
 use lert_bay::{JOURNAL, MemBay};
 use lert_files::{ReopenFault, read_journal_header};
 use std::alloc::Global;
-use std::test::Fail;
+use std::process::Abort;
 
 const OTHERS: Numbers = Numbers {
     threshold: 4,
@@ -25,20 +25,19 @@ fn malformed(at: u64) -> Result<(), ReopenFault> {
 
 // What is read of a journal of these bytes, with these numbers.
 fn answer_to(
+    rt: &impl Abort,
     alloc: Global,
     numbers: Numbers,
     bytes: &[u8],
-) -> Result<Result<(), ReopenFault>, Fail> {
-    let Ok(settings) = Settings::new(numbers) else {
-        return Err(Fail::new("the numbers are no settings"));
-    };
-    let mut bay = MemBay::new(alloc)?;
-    bay.load(JOURNAL, bytes)?;
-    Ok(read_journal_header(&mut bay, &settings, 0))
+) -> Result<(), ReopenFault> {
+    let settings = Settings::new(numbers).expect(rt, "settings");
+    let mut bay = MemBay::new(alloc).expect(rt, "memory");
+    bay.load(JOURNAL, bytes).expect(rt, "memory");
+    read_journal_header(&mut bay, &settings, 0)
 }
 
 #[test]
-fn a_header_is_this_cones_or_anothers_or_none(rt: HostRuntime) -> Result<(), Fail> {
+fn a_header_is_this_cones_or_anothers_or_none(rt: HostRuntime) {
     let own = Kept {
         cone: 0,
         numbers: ALONE,
@@ -58,7 +57,6 @@ fn a_header_is_this_cones_or_anothers_or_none(rt: HostRuntime) -> Result<(), Fai
         (ALONE, b"", malformed(0)),
     ];
     for (numbers, bytes, wanted) in cases {
-        assert_eq!(rt; answer_to(rt.alloc(), numbers, bytes)?, wanted);
+        assert_eq!(rt; answer_to(&rt, rt.alloc(), numbers, bytes), wanted);
     }
-    Ok(())
 }

@@ -7,7 +7,7 @@ use lert_files::{Directory, ReopenFault, read_whole_log};
 use lert_plain::PlainTable;
 use lert_reports::{LogPoint, ReportStore};
 use std::alloc::Global;
-use std::test::Fail;
+use std::process::Abort;
 
 // The log of a cone that was closed after three keys 7.
 const CLOSED: [u8; 61] =
@@ -25,11 +25,13 @@ struct Found {
     directory: Directory,
 }
 
-fn read(alloc: Global, bytes: &[u8]) -> Result<Found, Fail> {
-    let settings = alone()?;
-    let mut bay = MemBay::new(alloc)?;
-    bay.load(LOG, bytes)?;
-    let mut store: ReportStore<PlainTable> = ReportStore::new(alloc, &settings)?;
+fn read(rt: &impl Abort, alloc: Global, bytes: &[u8]) -> Found {
+    let settings = alone(rt);
+    let mut bay = MemBay::new(alloc).expect(rt, "memory");
+    bay.load(LOG, bytes).expect(rt, "memory");
+    let mut store: ReportStore<PlainTable> = ReportStore::new(alloc, &settings).expect(
+        rt, "memory",
+    );
     let mut directory = Directory::new();
     let mut buffer = [0; 549];
     let answer = read_whole_log(
@@ -40,15 +42,15 @@ fn read(alloc: Global, bytes: &[u8]) -> Result<Found, Fail> {
         &mut directory,
         &mut buffer,
     );
-    Ok(Found {
+    Found {
         answer,
-        reports: store.list().to_vec(alloc)?,
+        reports: store.list().to_vec(alloc).expect(rt, "memory"),
         directory,
-    })
+    }
 }
 
 #[test]
-fn whole_logs_are_read(rt: HostRuntime) -> Result<(), Fail> {
+fn whole_logs_are_read(rt: HostRuntime) {
     let seven = Report { key: 7, at: 3 };
     let first = Report { key: 7, at: 12 };
     let second = Report { key: 8, at: 13 };
@@ -79,16 +81,15 @@ fn whole_logs_are_read(rt: HostRuntime) -> Result<(), Fail> {
         (&TWO_RECORDS, later, &[first, second], &[1, 0, 0]),
     ];
     for (bytes, end, reports, directory) in logs {
-        let found = read(rt.alloc(), bytes)?;
+        let found = read(&rt, rt.alloc(), bytes);
         assert_eq!(rt; found.answer, Ok(end));
         assert_eq!(rt; found.reports.as_slice(), reports);
         assert_eq!(rt; found.directory.bytes(), directory);
     }
-    Ok(())
 }
 
 #[test]
-fn a_log_leaves_its_format_at_a_place(rt: HostRuntime) -> Result<(), Fail> {
+fn a_log_leaves_its_format_at_a_place(rt: HostRuntime) {
     let mut other_header = CLOSED;
     other_header[0] = b'l';
     let mut opened_again = CLOSED;
@@ -115,8 +116,7 @@ fn a_log_leaves_its_format_at_a_place(rt: HostRuntime) -> Result<(), Fail> {
         (&late_alone, 106),
     ];
     for (bytes, at) in broken {
-        let found = read(rt.alloc(), bytes)?;
+        let found = read(&rt, rt.alloc(), bytes);
         assert_eq!(rt; found.answer, Err(ReopenFault::Malformed { file: LOG, at }));
     }
-    Ok(())
 }

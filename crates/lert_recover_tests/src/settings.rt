@@ -1,9 +1,9 @@
 //! The settings that the texts of these tests were written with.
 
-ghost use Rattle.std.specs.Prelude.{◌≡◌, IfOk};
+ghost use Rattle.std.specs.Prelude.{◌≡◌};
 
 use lert_base::{Numbers, Settings};
-use std::test::Fail;
+use std::process::Abort;
 
 pub const ALONE: Numbers = Numbers {
     threshold: 3,
@@ -16,11 +16,8 @@ pub const ALONE: Numbers = Numbers {
     packet: 8,
 };
 
-pub fn alone() -> Result<Settings, Fail>
-    ensures { IfOk result (λ settings. settings ≡ ALONE) }
+pub fn alone(rt: &impl Abort) -> Settings
+    ensures { result ≡ ALONE }
 {
-    match Settings::new(ALONE) {
-        Ok(settings) => Ok(settings),
-        Err(_) => Err(Fail::new("the numbers are no settings")),
-    }
+    Settings::new(ALONE).expect(rt, "settings")
 }

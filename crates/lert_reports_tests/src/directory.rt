@@ -3,7 +3,6 @@
 use crate::settings::settings_of;
 use lert_base::Numbers;
 use lert_reports::bins;
-use std::test::Fail;
 
 // Edges stand at whole numbers of 4, 8 and 16 events.
 const SMALL: Numbers = Numbers {
@@ -18,12 +17,11 @@ const SMALL: Numbers = Numbers {
 };
 
 #[test]
-fn bins_are_those_of_a_worked_cone(rt: HostRuntime) -> Result<(), Fail> {
-    let settings = settings_of(SMALL)?;
+fn bins_are_those_of_a_worked_cone(rt: HostRuntime) {
+    let settings = settings_of(&rt, SMALL);
     assert_eq!(rt; (bins(&settings, 1, 11), bins(&settings, 2, 11)), (0, 0));
     assert_eq!(rt; (bins(&settings, 1, 12), bins(&settings, 2, 12)), (1, 0));
     assert_eq!(rt; (bins(&settings, 1, 20), bins(&settings, 2, 20)), (2, 0));
     assert_eq!(rt; (bins(&settings, 1, 32), bins(&settings, 2, 32)), (2, 1));
     assert_eq!(rt; (bins(&settings, 1, 48), bins(&settings, 2, 48)), (2, 2));
-    Ok(())
 }

@@ -5,7 +5,7 @@ ghost use Rattle.std.specs.Prelude.{◌<◌};
 use crate::settings::settings_of;
 use lert_base::{Numbers, Report};
 use lert_reports::{LogBefore, LogKind, LogParts, read_log, write_log};
-use std::test::Fail;
+use std::process::Abort;
 
 // The log of a cone that was closed after three keys 7, with threshold 3.
 const TEXT: [u8; 61] =
@@ -39,12 +39,10 @@ const NOTHING: LogBefore = LogBefore {
 };
 
 #[test]
-fn a_record_is_read(rt: HostRuntime) -> Result<(), Fail> {
-    let settings = settings_of(NUMBERS)?;
+fn a_record_is_read(rt: HostRuntime) {
+    let settings = settings_of(&rt, NUMBERS);
     let payload = &TEXT[13..60];
-    let Ok(parts) = read_log(&settings, 0, &NOTHING, payload) else {
-        return Err(Fail::new("the record leaves the format"));
-    };
+    let parts = read_log(&settings, 0, &NOTHING, payload);
     let closed = LogParts {
         kind: LogKind::Closing,
         n0: 3,
@@ -54,8 +52,7 @@ fn a_record_is_read(rt: HostRuntime) -> Result<(), Fail> {
         reports_at: 31,
         reports: 1,
     };
-    assert_eq!(rt; parts, closed);
-    Ok(())
+    assert_eq!(rt; parts, Ok(closed));
 }
 
 // A record with one report, the bytes of its directory, and the cone and the records before it with which it is read.
@@ -83,12 +80,10 @@ const CLOSED: Case = Case {
 };
 
 // What is answered to the payload that is written of a case.
-fn answer(case: &Case) -> Result<Result<LogParts, u64>, Fail> {
-    let settings = settings_of(NUMBERS)?;
+fn answer(rt: &impl Abort, case: &Case) -> Result<LogParts, u64> {
+    let settings = settings_of(rt, NUMBERS);
     let mut text = [0; 56];
-    if case.directory.len() > 6 {
-        return Err(Fail::new("the directory is too long"));
-    }
+    assert!(rt; case.directory.len() <= 6);
     let len = write_log(
         case.kind,
         case.n0,
@@ -98,11 +93,11 @@ fn answer(case: &Case) -> Result<Result<LogParts, u64>, Fail> {
         &[case.report],
         &mut text,
     );
-    Ok(read_log(&settings, case.cone, &case.before, &text[4..len - 1]))
+    read_log(&settings, case.cone, &case.before, &text[4..len - 1])
 }
 
 #[test]
-fn a_record_that_breaks_a_rule_is_left_at_its_field(rt: HostRuntime) -> Result<(), Fail> {
+fn a_record_that_breaks_a_rule_is_left_at_its_field(rt: HostRuntime) {
     let early = Case {
         kind: LogKind::Flush,
         ..CLOSED
@@ -198,7 +193,7 @@ fn a_record_that_breaks_a_rule_is_left_at_its_field(rt: HostRuntime) -> Result<(
         ),
     ];
     for (case, place) in rows {
-        assert_eq!(rt; answer(&case)?, Err(place));
+        assert_eq!(rt; answer(&rt, &case), Err(place));
     }
     let kept = [
         CLOSED,
@@ -212,27 +207,25 @@ fn a_record_that_breaks_a_rule_is_left_at_its_field(rt: HostRuntime) -> Result<(
         },
     ];
     for case in kept {
-        assert_eq!(rt; answer(&case)?.is_ok(), true);
+        assert_eq!(rt; answer(&rt, &case).is_ok(), true);
     }
-    Ok(())
 }
 
 // What is answered where a byte of the closing record is another.
-fn changed(place: usize, byte: u8) -> Result<Result<LogParts, u64>, Fail>
+fn changed(rt: &impl Abort, place: usize, byte: u8) -> Result<LogParts, u64>
     requires { place < 47 }
 {
-    let settings = settings_of(NUMBERS)?;
+    let settings = settings_of(rt, NUMBERS);
     let mut payload = [0; 47];
     payload.copy_from_slice(&TEXT[13..60]);
     payload[place] = byte;
-    Ok(read_log(&settings, 0, &NOTHING, &payload))
+    read_log(&settings, 0, &NOTHING, &payload)
 }
 
 #[test]
-fn bytes_that_no_record_has_are_left(rt: HostRuntime) -> Result<(), Fail> {
-    assert_eq!(rt; changed(0, 3)?, Err(0));
+fn bytes_that_no_record_has_are_left(rt: HostRuntime) {
+    assert_eq!(rt; changed(&rt, 0, 3), Err(0));
     // More reports than there are bytes for, and fewer.
-    assert_eq!(rt; changed(27, 2)?, Err(47));
-    assert_eq!(rt; changed(27, 0)?, Err(31));
-    Ok(())
+    assert_eq!(rt; changed(&rt, 27, 2), Err(47));
+    assert_eq!(rt; changed(&rt, 27, 0), Err(31));
 }

@@ -1,16 +1,13 @@
 //! Settings for tests.
 
-ghost use Rattle.std.specs.Prelude.{◌≡◌, IfOk};
+ghost use Rattle.std.specs.Prelude.{◌≡◌};
 
 use lert_base::{Numbers, Settings};
-use std::test::Fail;
+use std::process::Abort;
 
 /// The settings of these numbers, which have to be valid.
-pub fn settings_of(numbers: Numbers) -> Result<Settings, Fail>
-    ensures { IfOk result (λ settings. settings ≡ numbers) }
+pub fn settings_of(rt: &impl Abort, numbers: Numbers) -> Settings
+    ensures { result ≡ numbers }
 {
-    match Settings::new(numbers) {
-        Ok(settings) => Ok(settings),
-        Err(_) => Err(Fail::new("the numbers are no settings")),
-    }
+    Settings::new(numbers).expect(rt, "settings")
 }

@@ -10,7 +10,6 @@ use lert_plain::PlainTable;
 use lert_reports::ReportStore;
 use std::alloc::Global;
 use std::process::Abort;
-use std::test::Fail;
 
 const TWO_REPORTS: Numbers = Numbers {
     threshold: 3,
@@ -33,9 +32,9 @@ fn has<T: CountTable>(store: &ReportStore<T>, key: u64) -> bool
     store.has(key)
 }
 
-fn fill_and_clear<T: CountTable>(rt: &impl Abort, alloc: Global) -> Result<(), Fail> {
-    let settings = settings_of(TWO_REPORTS)?;
-    let mut store: ReportStore<T> = ReportStore::new(alloc, &settings)?;
+fn fill_and_clear<T: CountTable>(rt: &impl Abort, alloc: Global) {
+    let settings = settings_of(rt, TWO_REPORTS);
+    let mut store: ReportStore<T> = ReportStore::new(alloc, &settings).expect(rt, "memory");
     let seven = Report { key: 7, at: 3 };
     let thirteen = Report { key: 13, at: 3 };
     assert_eq!(rt; (store.len(), has(&store, 7)), (0, false));
@@ -51,29 +50,39 @@ fn fill_and_clear<T: CountTable>(rt: &impl Abort, alloc: Global) -> Result<(), F
     store.put(thirteen);
     assert_eq!(rt; store.list(), [thirteen].as_slice());
     assert_eq!(rt; (has(&store, 7), has(&store, 13)), (false, true));
-    Ok(())
 }
 
 #[test]
-fn a_store_is_its_list(rt: HostRuntime) -> Result<(), Fail> {
-    fill_and_clear::<PlainTable>(&rt, rt.alloc())
+fn a_store_is_its_list(rt: HostRuntime) {
+    fill_and_clear::<PlainTable>(&rt, rt.alloc());
 }
 
 #[test]
-fn a_store_over_a_quotient_filter_is_its_list(rt: HostRuntime) -> Result<(), Fail> {
-    fill_and_clear::<Cqf>(&rt, rt.alloc())
+fn a_store_over_a_quotient_filter_is_its_list(rt: HostRuntime) {
+    fill_and_clear::<Cqf>(&rt, rt.alloc());
 }
 
-#[test]
-fn the_table_of_a_store_has_a_quotient_for_each_report(rt: HostRuntime) -> Result<(), Fail> {
-    for (room, quotients) in [(64, 64), (65, 128)] {
-        let settings = settings_of(Numbers {
+// How many quotients and slots the table of a store with room for so many reports has.
+fn lengths(rt: &impl Abort, alloc: Global, room: u64) -> (u64, u64) {
+    let settings = settings_of(
+        rt,
+        Numbers {
             room,
             ..TWO_REPORTS
-        })?;
-        let store: ReportStore<Cqf> = ReportStore::new(rt.alloc(), &settings)?;
-        assert_eq!(rt; store.tails().occupied().len(), quotients);
-        assert_eq!(rt; store.tails().slots().len() as u64, quotients + 2 * room);
+        },
+    );
+    let store: ReportStore<Cqf> = ReportStore::new(alloc, &settings).expect(rt, "memory");
+    (
+        store.tails().occupied().len(),
+        store.tails().slots().len() as u64,
+    )
+}
+
+#[test]
+fn the_table_of_a_store_has_a_quotient_for_each_report(rt: HostRuntime) {
+    for (room, quotients) in [(64, 64), (65, 128)] {
+        let (occupied, slots) = lengths(&rt, rt.alloc(), room);
+        assert_eq!(rt; occupied, quotients);
+        assert_eq!(rt; slots, quotients + 2 * room);
     }
-    Ok(())
 }
