@@ -1,3 +1,4 @@
 pub mod JournalLaws
 pub mod RecoverEnding
 pub mod RecoverLaws
+pub mod SoundLaws

@@ -9,13 +9,15 @@ use Rattle.lert_files.specs.Headed.{HasOther}
 use Rattle.lert_recover.specs.Replayed.{FirstLeaves}
 use Rattle.lert_spec.specs.declared.numbers.Numbers.{Numbers}
 use Rattle.lert_ingest.specs.Bays.{AreFaultless, AreFaultlessTo, HasFailed, IfHeld}
-use Rattle.lert_top.specs.Recovered.{AreJournalsSame, AreSoundBelow, HasRecovered, IsUnopened, NoneIsSound, RecoveryShows}
+use Rattle.lert_top.specs.Recovered.{AreJournalsSame, AreSoundBelow, AreSoundStill, HasRecovered, IsUnopened, NoneIsSound, RecoveryShows}
 use Rattle.lert_ingest.specs.declared.status.Status.{Status}
-use Rattle.lert_ingest.specs.declared.status.Status.TheVariants.{Done, Usage, PlaceFault, TraceFault, BadTrace, TooLong, NotFresh, BayFault, CapacityFull, Malformed, OtherSettings, OutFault, OutOfMemory}
+use Rattle.lert_ingest.specs.declared.status.Status.TheVariants.{Done, Usage, PlaceFault, TraceFault, BadTrace, TooLong, NotFresh, BayFault, CapacityFull}
+use Rattle.lert_ingest.specs.declared.status.Status.TheVariants.{Malformed, OtherSettings, OutFault, OutOfMemory}
 use Rattle.lert_ingest.proofs.BayLaws.{slice_get-some}
 use Rattle.lert_ingest.proofs.Ending.{failed_or_not, no_rise}
 
-module _ {K B : Type 0} (taken : K → Option (List ℕ)) (sink_faults : K → ℕ) (files : B → Option Files) (bay_faults : B → ℕ) (s : Numbers) (before after : K) (bays later : List B) where
+module _ {K B : Type 0} (taken : K → Option (List ℕ)) (sink_faults : K → ℕ) (files : B → Option Files) (bay_faults : B → ℕ) (s : Numbers)
+    (before after : K) (bays later : List B) where
   abbrev Shows : Status → Type 0
   Shows = RecoveryShows taken sink_faults files bay_faults s before after bays later
 
@@ -158,11 +160,13 @@ module _ {K B : Type 0} (taken : K → Option (List ℕ)) (sink_faults : K → �
 
   -- what a status shows decides which one comes
   pub has_recovered : (status : Status) → Shows status → (status ≢ OutOfMemory → length bays ≡ 2 ^ s.cone_bits) → AreJournalsSame files bays later →
+      AreSoundStill files s bays later →
       HasRecovered taken sink_faults files bay_faults s before after bays later status
-  has_recovered status shows number journals = record {
+  has_recovered status shows number journals stays_sound = record {
     shows = shows;
     number = number;
     journals = journals;
+    stays_sound = stays_sound;
     opens = opens status shows;
     spoiled_exactly = λ cone none bay there below seen told.
         spoiled cone none bay there below seen told (slice_get_within bays cone bay there) status shows;

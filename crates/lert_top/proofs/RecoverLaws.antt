@@ -1,5 +1,6 @@
 -- Cones that are opened over bays one by one, what is printed of them, and which status a recovery ends with.
-use Rattle.std.proofs.Common.{◌≡◌, ◌⊎◌, ℕ, ◌^◌, Bool, true, false, List, ◌∷◌, ◌++◌, length, map, Option, Some, slice_get, refl, ap, sym, ◌∙◌, subst, inl, inr, arith}
+use Rattle.std.proofs.Common.{◌≡◌, ◌⊎◌, ℕ, ◌^◌, Bool, true, false, List, ◌∷◌, ◌++◌, length, map, Option, Some, slice_get, refl, ap, sym, ◌∙◌, subst, inl, inr}
+use Rattle.std.proofs.Common.{arith}
 use Rattle.std.proofs.lemmas.List.{length-map}
 use Rattle.std.proofs.lemmas.Option.{slice_get_within, same_Some}
 use Rattle.lert_base.specs.declared.kept.Kept.{Kept}
@@ -30,7 +31,7 @@ same_end true false same = absurd (cc)
 same_end false true same = absurd (cc)
 same_end false false same = refl
 
-open_is : (closed : Bool) → is_broken (state_of closed) ≡ false
+pub open_is : (closed : Bool) → is_broken (state_of closed) ≡ false
 open_is true = refl
 open_is false = refl
 
@@ -44,13 +45,15 @@ pub record WasRefused {B : Type 0} (files : B → Option Files) (s : Numbers) (c
   pub other_is : IfTold (files bay) (λ seen. (kept : Kept) → refusal ≡ fault.OtherSettings kept → HasOther s cone (seen 0) kept)
   pub refuses : IfTold (files bay) (λ seen. (file at : ℕ) → FirstLeaves s cone seen file at →
       ((refusal ≡ fault.Failed) ⊎ (refusal ≡ fault.OutOfMemory)) ⊎ (refusal ≡ fault.Malformed file at))
-  pub differs : IfTold (files bay) (λ seen. (kept : Kept) → HasOther s cone (seen 0) kept → ((refusal ≡ fault.Failed) ⊎ (refusal ≡ fault.OutOfMemory)) ⊎ (refusal ≡ fault.OtherSettings kept))
+  pub differs : IfTold (files bay) (λ seen. (kept : Kept) → HasOther s cone (seen 0) kept →
+      ((refusal ≡ fault.Failed) ⊎ (refusal ≡ fault.OutOfMemory)) ⊎ (refusal ≡ fault.OtherSettings kept))
   pub opens : IfTold (files bay) (λ seen. (history : List Packet) → IsSound s cone history seen → (refusal ≡ fault.Failed) ⊎ (refusal ≡ fault.OutOfMemory))
 
 module _ {B : Type 0} (files : B → Option Files) (leaves : B → Files → Type 0) (faults mark : B → ℕ) where
   -- a cone that was reopened over a bay
   pub open_over : (s : Numbers) (number : ℕ) (bay : B) (cone : Standing B) →
-      IfTold (files bay) (λ seen. (history : List Packet) (sound : IsSound s number history seen) → StandsFor files leaves faults cone history × (cone.state ≡ state_of (is_closed sound.logged))) →
+      IfTold (files bay) (λ seen. (history : List Packet) (sound : IsSound s number history seen) →
+          StandsFor files leaves faults cone history × (cone.state ≡ state_of (is_closed sound.logged))) →
       IfTold (files bay) (λ seen. (history : List Packet) × IsJournal s number history (seen 0) × (cone.listing.events ≡ events_of history)) →
       IfTold (files bay) (λ seen. (file at : ℕ) → FirstLeaves s number seen file at → ⊥) →
       IfTold (files bay) (λ seen. (kept : Kept) → HasOther s number (seen 0) kept → ⊥) →
@@ -169,7 +172,8 @@ module _ {B : Type 0} (files : B → Option Files) (leaves : B → Files → Typ
         (ap is_broken opened.state_is ∙ open_is cone.listing.closed, opened.settings_are)
 
     -- what is printed of a cone that stands for a list
-    one_for : (at : ℕ) (cone : Standing B) (history : List Packet) (closed : Bool) → cone.listing.settings ≡ s → cone.state ≡ state_of cone.listing.closed → cone.listing.closed ≡ closed →
+    one_for : (at : ℕ) (cone : Standing B) (history : List Packet) (closed : Bool) → cone.listing.settings ≡ s → cone.state ≡ state_of cone.listing.closed →
+        cone.listing.closed ≡ closed →
         length (events_of history) ≡ cone.events → cone.listing.events ≡ events_of history → cone.reports ≡ reports_of cone.listing → printed_as cone ≡ printed_for s history closed
     one_for at cone history closed settings state ends counted keys reports =
         let finished = ap is_finished state ∙ (end_is cone.listing.closed ∙ ends) in

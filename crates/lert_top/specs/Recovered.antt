@@ -20,7 +20,8 @@ use Rattle.lert_ingest.specs.Bays.{AreFaultless, AreFaultlessTo, AreUntouched, E
 use Rattle.lert_ingest.specs.Lanes.{state_of}
 use Rattle.lert_text.specs.Page.{IsCut}
 use Rattle.lert_ingest.specs.declared.status.Status.{Status}
-use Rattle.lert_ingest.specs.declared.status.Status.TheVariants.{Done, Usage, PlaceFault, TraceFault, BadTrace, TooLong, NotFresh, BayFault, CapacityFull, Malformed, OtherSettings, OutFault, OutOfMemory}
+use Rattle.lert_ingest.specs.declared.status.Status.TheVariants.{Done, Usage, PlaceFault, TraceFault, BadTrace, TooLong, NotFresh, BayFault, CapacityFull}
+use Rattle.lert_ingest.specs.declared.status.Status.TheVariants.{Malformed, OtherSettings, OutFault, OutOfMemory}
 
 -- ---- one cone
 
@@ -119,6 +120,15 @@ IsUnopened files faults s bays later OutOfMemory = ⊤
 abbrev pub AreJournalsSame : {B : Type 0} → (B → Option Files) → List B → List B → Type 0
 AreJournalsSame files bays later = EachBay (λ _ before now. IsJournalSame (files before) (files now)) bays later
 
+-- files of a cone that were told, and sound for a list, are told later, and sound for it
+abbrev pub StaysSound : {B : Type 0} → (B → Option Files) → Numbers → ℕ → B → B → Type 0
+StaysSound files s cone before now = IfTold (files before) (λ seen. (history : List Packet) → IsSound s cone history seen →
+    (there : Files) × (files now ≡ Some there) × IsSound s cone history there)
+
+-- that of each bay
+abbrev pub AreSoundStill : {B : Type 0} → (B → Option Files) → Numbers → List B → List B → Type 0
+AreSoundStill files s bays later = EachBay (StaysSound files s) bays later
+
 -- all bays below a number tell files that are sound for some list
 abbrev pub AreSoundBelow : {B : Type 0} → (B → Option Files) → Numbers → List B → ℕ → Type 0
 AreSoundBelow {B = B} files s bays number = (cone : ℕ) (bay : B) → cone < number → slice_get bays cone ≡ Some bay →
@@ -147,11 +157,12 @@ module _ {K B : Type 0} (taken : K → Option (List ℕ)) (sink_faults : K → �
   -- A recovery over bays that were opened: what its status says, and which one comes where no fault was counted. Bays that all
   -- tell sound files are answered with the text; and where those below a cone do, and that one's files leave their format or
   -- begin with other numbers, with this place, or with other settings, whatever the bays behind it do. Whatever comes, the
-  -- journals are as they were.
+  -- journals are as they were, and files that were sound for a list are sound for it.
   pub record HasRecovered (status : Status) : Type 0 where
     pub shows : RecoveryShows status
     pub number : status ≢ OutOfMemory → length bays ≡ 2 ^ s.cone_bits
     pub journals : AreJournalsSame files bays later
+    pub stays_sound : AreSoundStill files s bays later
     pub opens : AreFaultless bay_faults bays later → IsFaultless (sink_faults before) (sink_faults after) → AreSoundBelow files s bays (length bays) →
         (status ≡ Done) ⊎ (status ≡ OutOfMemory)
     pub spoiled_exactly : (cone : ℕ) → AreFaultlessTo bay_faults cone bays later → (bay : B) → slice_get bays cone ≡ Some bay → AreSoundBelow files s bays cone →

@@ -6,7 +6,7 @@ ghost use Rattle.lert_io.specs.Fault.{HasRisen};
 ghost use Rattle.lert_ingest.specs.Asked.{IsAskedForBays};
 ghost use Rattle.lert_place.specs.Openings.{AreReturned, AreReturnedSame, bays_granted};
 ghost use Rattle.lert_ingest.specs.Bays.{AreLater};
-ghost use Rattle.lert_top.specs.Recovered.{AreJournalsSame, HasRecovered, RecoveryShows};
+ghost use Rattle.lert_top.specs.Recovered.{AreJournalsSame, AreSoundStill, HasRecovered, RecoveryShows};
 
 use crate::reopened_cones::reopen_cones;
 use lert_base::Settings;
@@ -20,7 +20,8 @@ use std::collections::VecDeque;
 
 /// Opens what runs with these settings left of all cones in a directory, and prints it. It opens the bays, takes the memory of
 /// all cones, reopens these in ascending order, up to the first that is refused, prints, and puts the bays back, whatever the
-/// status. It finishes no cone, and changes no journal. Nothing is written to the sink before all cones are open.
+/// status. It finishes no cone, changes no journal, and leaves files sound that were so. Nothing is written to the sink before
+/// all cones are open.
 pub fn recover_to<P: Place, K: Sink>(
     alloc: Global,
     settings: &Settings,
@@ -62,6 +63,7 @@ fn recover_bays<B: Bay, K: Sink>(
     requires room { length bays.old.items ≤ deque_capacity bays.old }
     ensures later { AreLater B.files B.faults B.mark bays.old.items bays.new.items }
     ensures journals { AreJournalsSame B.files bays.old.items bays.new.items }
+    ensures stays_sound { AreSoundStill B.files settings.now bays.old.items bays.new.items }
     ensures shows { RecoveryShows K.taken K.faults B.files B.faults settings.now out.old out.new bays.old.items bays.new.items result }
 {
     // Its clause says that the numbers are valid.

@@ -7,10 +7,11 @@ use Rattle.lert_ingest.specs.Bays.{AreLater, bays_of}
 use Rattle.lert_ingest.proofs.BayLaws.{are_same}
 use Rattle.lert_text.specs.Page.{IsCut}
 use Rattle.lert_ingest.specs.Print.{ArePrintable, printed_as}
-use Rattle.lert_top.specs.Recovered.{AreJournalsSame, AreRecovered}
+use Rattle.lert_top.specs.Recovered.{AreJournalsSame, AreRecovered, AreSoundStill}
 use Rattle.lert_top.proofs.JournalLaws.{journals_same}
 use Rattle.lert_top.proofs.RecoverEnding.{shows_unopened}
 use Rattle.lert_top.proofs.RecoverLaws.{all_formed, open_printable, open_recovered}
+use Rattle.lert_top.proofs.SoundLaws.{sound_same}
 use Rattle.lert_top.proofs.recover.recover_bays.Goals as goal
 
 few_bits : (known bits : ℕ) → known ≡ bits → known ≤ 8 → bits ≤ 8
@@ -18,20 +19,23 @@ few_bits known bits same few = omega (arith, same, few)
 
 pub returns-in-Err-reopen_cones-clause-shows : goal.returns-in-Err-reopen_cones-clause-shows
 returns-in-Err-reopen_cones-clause-shows g c =
-    shows_unopened {K = g.row.K.Denot} {B = g.row.B.Denot} g.K.Sink.taken g.K.Faulty.faults g.B.Bay.files g.B.Faulty.faults c.args.settings.now c.args.out.now c.args.out.now c.args.bays.now.items c.reopen_cones.new.bays.items
+    shows_unopened {K = g.row.K.Denot} {B = g.row.B.Denot} g.K.Sink.taken g.K.Faulty.faults g.B.Bay.files g.B.Faulty.faults c.args.settings.now c.args.out.now c.args.out.now c.args.bays.now.items
+        c.reopen_cones.new.bays.items
     c.in-Err-reopen_cones.status refl c.in-Err-reopen_cones.ensures.unopened
 
 pub print_cones-printed-requires-clause-few : goal.print_cones-printed-requires-clause-few
 print_cones-printed-requires-clause-few g c =
     let bits = ap (λ (s : Numbers). s.cone_bits) c.numbers-valid.ensures.value in
-    omega (arith, ap (λ (xs : List (Standing g.row.B.Denot)). length xs) c.as_slice.ensures.value, c.in-Ok-reopen_cones.ensures.number, pow_mono (few_bits c.numbers-valid.result.cone_bits c.args.settings.now.cone_bits bits c.numbers-valid.ensures.valid.limits.cone_bits_to))
+    omega (arith, ap (λ (xs : List (Standing g.row.B.Denot)). length xs) c.as_slice.ensures.value, c.in-Ok-reopen_cones.ensures.number,
+        pow_mono (few_bits c.numbers-valid.result.cone_bits c.args.settings.now.cone_bits bits c.numbers-valid.ensures.valid.limits.cone_bits_to))
 
 pub print_cones-printed-requires-clause-printable : goal.print_cones-printed-requires-clause-printable
 print_cones-printed-requires-clause-printable g c =
     let cones = c.in-Ok-reopen_cones.cones.items in
     let number : length cones ≡ length c.args.bays.now.items = omega (arith, c.in-Ok-reopen_cones.ensures.number, c.requires.number) in
     subst (ArePrintable c.args.settings.now) (sym c.as_slice.ensures.value)
-    (open_printable g.B.Bay.files g.B.Bay.leaves g.B.Faulty.faults g.B.Faulty.mark c.args.settings.now c.args.bays.now.items cones c.in-Ok-reopen_cones.ensures.open number c.in-Ok-reopen_cones.ensures.later)
+    (open_printable g.B.Bay.files g.B.Bay.leaves g.B.Faulty.faults g.B.Faulty.mark c.args.settings.now c.args.bays.now.items cones c.in-Ok-reopen_cones.ensures.open number
+        c.in-Ok-reopen_cones.ensures.later)
 
 pub returns-in-Ok-printed-clause-shows : goal.returns-in-Ok-printed-clause-shows
 returns-in-Ok-printed-clause-shows g c =
@@ -44,7 +48,8 @@ returns-in-Ok-printed-clause-shows g c =
       (
         map printed_as cones,
         subst (λ (xs : List g.row.B.Denot). AreRecovered g.B.Bay.files s bays xs (map printed_as cones)) (sym back)
-            (open_recovered g.B.Bay.files g.B.Bay.leaves g.B.Faulty.faults g.B.Faulty.mark s bays cones c.in-Ok-reopen_cones.ensures.open number c.in-Ok-reopen_cones.ensures.later c.requires.number),
+            (open_recovered g.B.Bay.files g.B.Bay.leaves g.B.Faulty.faults g.B.Faulty.mark s bays cones c.in-Ok-reopen_cones.ensures.open number c.in-Ok-reopen_cones.ensures.later
+                c.requires.number),
         λ text had. c.in-Ok-printed.ensures.ok text had ∙ ap (λ (xs : List (Standing g.row.B.Denot)). Some (text ++ lines (map printed_as xs))) c.as_slice.ensures.value,
       ),
     )
@@ -61,8 +66,10 @@ returns-clause-shows g c =
       (
         map printed_as cones,
         subst (λ (xs : List g.row.B.Denot). AreRecovered g.B.Bay.files s bays xs (map printed_as cones)) (sym back)
-            (open_recovered g.B.Bay.files g.B.Bay.leaves g.B.Faulty.faults g.B.Faulty.mark s bays cones c.in-Ok-reopen_cones.ensures.open number c.in-Ok-reopen_cones.ensures.later c.requires.number),
-        subst (λ (xs : List (Standing g.row.B.Denot)). IsCut (g.K.Sink.taken c.args.out.now) (g.K.Sink.taken c.print_cones-printed.new.out) (lines (map printed_as xs))) c.as_slice.ensures.value c.in-Err-printed.ensures.cut,
+            (open_recovered g.B.Bay.files g.B.Bay.leaves g.B.Faulty.faults g.B.Faulty.mark s bays cones c.in-Ok-reopen_cones.ensures.open number c.in-Ok-reopen_cones.ensures.later
+                c.requires.number),
+        subst (λ (xs : List (Standing g.row.B.Denot)). IsCut (g.K.Sink.taken c.args.out.now) (g.K.Sink.taken c.print_cones-printed.new.out) (lines (map printed_as xs))) c.as_slice.ensures.value
+            c.in-Err-printed.ensures.cut,
       ),
     )
 
@@ -111,3 +118,21 @@ returns-clause-journals g c =
     let cones = c.in-Ok-reopen_cones.cones.items in
     let back = c.bring_back.ensures.bays ∙ (ap (λ xs. bays_of cones ++ xs) c.in-Ok-reopen_cones.ensures.emptied ∙ append-nil (bays_of cones)) in
     subst (AreJournalsSame g.B.Bay.files c.args.bays.now.items) (sym back) c.in-Ok-reopen_cones.ensures.journals
+
+pub returns-in-Err-clause-stays_sound : goal.returns-in-Err-clause-stays_sound
+returns-in-Err-clause-stays_sound g c = sound_same g.B.Bay.files c.args.settings.now c.args.bays.now.items
+
+pub returns-in-Err-reopen_cones-clause-stays_sound : goal.returns-in-Err-reopen_cones-clause-stays_sound
+returns-in-Err-reopen_cones-clause-stays_sound g c = c.in-Err-reopen_cones.ensures.stays_sound_kept
+
+pub returns-in-Ok-printed-clause-stays_sound : goal.returns-in-Ok-printed-clause-stays_sound
+returns-in-Ok-printed-clause-stays_sound g c =
+    let cones = c.in-Ok-reopen_cones.cones.items in
+    let back = c.bring_back.ensures.bays ∙ (ap (λ xs. bays_of cones ++ xs) c.in-Ok-reopen_cones.ensures.emptied ∙ append-nil (bays_of cones)) in
+    subst (AreSoundStill g.B.Bay.files c.args.settings.now c.args.bays.now.items) (sym back) c.in-Ok-reopen_cones.ensures.stays_sound
+
+pub returns-clause-stays_sound : goal.returns-clause-stays_sound
+returns-clause-stays_sound g c =
+    let cones = c.in-Ok-reopen_cones.cones.items in
+    let back = c.bring_back.ensures.bays ∙ (ap (λ xs. bays_of cones ++ xs) c.in-Ok-reopen_cones.ensures.emptied ∙ append-nil (bays_of cones)) in
+    subst (AreSoundStill g.B.Bay.files c.args.settings.now c.args.bays.now.items) (sym back) c.in-Ok-reopen_cones.ensures.stays_sound

@@ -8,6 +8,7 @@ use Rattle.lert_ingest.proofs.BayLaws.{are_same, still_marked}
 use Rattle.lert_ingest.proofs.Ending.{no_memory_no_place, no_memory_no_usage, no_memory_not_done, no_place_no_usage}
 use Rattle.lert_place.specs.Openings.{bays_granted}
 use Rattle.lert_top.proofs.JournalLaws.{journals_same}
+use Rattle.lert_top.proofs.SoundLaws.{sound_same}
 use Rattle.lert_top.proofs.RecoverEnding.{has_recovered, recovery_not_place_fault, recovery_not_usage}
 use Rattle.lert_top.proofs.recover.recover_to.Goals as goal
 
@@ -34,7 +35,8 @@ returns-in-Err-clause-place_fault g c = λ is.
 pub returns-in-Err-clause-returned : goal.returns-in-Err-clause-returned
 returns-in-Err-clause-returned g c =
     elim c.in-Err.ensures.refused [
-      | inl none ↦ none_returned g.P.Bay.Faulty.mark _ _ (ap g.P.Place.handed_bays none.1 ∙ nothing_handed bays_granted (g.P.Place.asked c.args.place.now) (g.P.Place.handed_bays c.args.place.now) (g.met.P.Place.tied_bays c.args.place.now) c.requires.no_bay)
+      | inl none ↦ none_returned g.P.Bay.Faulty.mark _ _ (ap g.P.Place.handed_bays none.1
+          ∙ nothing_handed bays_granted (g.P.Place.asked c.args.place.now) (g.P.Place.handed_bays c.args.place.now) (g.met.P.Place.tied_bays c.args.place.now) c.requires.no_bay)
       | inr bay ↦ bay.3
     ]
 
@@ -42,16 +44,20 @@ pub returns-in-Err-clause-recovered : goal.returns-in-Err-clause-recovered
 returns-in-Err-clause-recovered g c = λ differs.
     elim c.in-Err.ensures.refused [
       | inl none ↦
-          let same = ap g.P.Place.handed_bays none.1 ∙ nothing_handed bays_granted (g.P.Place.asked c.args.place.now) (g.P.Place.handed_bays c.args.place.now) (g.met.P.Place.tied_bays c.args.place.now) c.requires.no_bay in
+          let same = ap g.P.Place.handed_bays none.1 ∙ nothing_handed bays_granted (g.P.Place.asked c.args.place.now) (g.P.Place.handed_bays c.args.place.now)
+              (g.met.P.Place.tied_bays c.args.place.now) c.requires.no_bay in
           let out = c.args.out.now in
           let s = c.args.settings.now in (
             [],
             λ cone below. absurd (omega (arith, below)),
-            subst (λ (xs : List g.row.P-Bay.Denot). AreLater g.P.Bay.Bay.files g.P.Bay.Faulty.faults g.P.Bay.Faulty.mark xs []) (sym same) (are_same g.P.Bay.Bay.files g.P.Bay.Faulty.faults g.P.Bay.Faulty.mark []),
-            subst (λ (xs : List g.row.P-Bay.Denot). HasRecovered {K = g.row.K.Denot} {B = g.row.P-Bay.Denot} g.K.Sink.taken g.K.Faulty.faults g.P.Bay.Bay.files g.P.Bay.Faulty.faults s out out xs [] c.in-Err.status) (sym same)
-                (subst (λ (st : Status). HasRecovered {K = g.row.K.Denot} {B = g.row.P-Bay.Denot} g.K.Sink.taken g.K.Faulty.faults g.P.Bay.Bay.files g.P.Bay.Faulty.faults s out out [] [] st) (sym none.0)
+            subst (λ (xs : List g.row.P-Bay.Denot). AreLater g.P.Bay.Bay.files g.P.Bay.Faulty.faults g.P.Bay.Faulty.mark xs []) (sym same)
+                (are_same g.P.Bay.Bay.files g.P.Bay.Faulty.faults g.P.Bay.Faulty.mark []),
+            subst (λ (xs : List g.row.P-Bay.Denot). HasRecovered {K = g.row.K.Denot} {B = g.row.P-Bay.Denot} g.K.Sink.taken g.K.Faulty.faults g.P.Bay.Bay.files g.P.Bay.Faulty.faults s out out xs
+                [] c.in-Err.status) (sym same)
+                (subst (λ (st : Status). HasRecovered {K = g.row.K.Denot} {B = g.row.P-Bay.Denot} g.K.Sink.taken g.K.Faulty.faults g.P.Bay.Bay.files g.P.Bay.Faulty.faults s out out [] [] st)
+                    (sym none.0)
                 (has_recovered {K = g.row.K.Denot} {B = g.row.P-Bay.Denot} g.K.Sink.taken g.K.Faulty.faults g.P.Bay.Bay.files g.P.Bay.Faulty.faults s
-                out out [] [] OutOfMemory refl (λ other. absurd (other refl)) (journals_same g.P.Bay.Bay.files []))),
+                out out [] [] OutOfMemory refl (λ other. absurd (other refl)) (journals_same g.P.Bay.Bay.files []) (sound_same g.P.Bay.Bay.files s []))),
           )
       | inr bay ↦ absurd (differs bay.0)
     ]
@@ -70,23 +76,27 @@ returns-clause-asked g c =
       number = c.cones.result;
       within = omega (arith, c.cones.ensures);
       asked_is = c.put_back_bays.ensures.asked ∙ c.in-Ok.ensures.asked;
-      no_fault = recovery_not_place_fault {K = g.row.K.Denot} {B = g.row.P-Bay.Denot} g.K.Sink.taken g.K.Faulty.faults g.P.Bay.Bay.files g.P.Bay.Faulty.faults c.args.settings.now c.args.out.now c.recover_bays-status.new.out c.in-Ok.bays.items c.recover_bays-status.new.bays.items c.recover_bays-status.result shows;
+      no_fault = recovery_not_place_fault {K = g.row.K.Denot} {B = g.row.P-Bay.Denot} g.K.Sink.taken g.K.Faulty.faults g.P.Bay.Bay.files g.P.Bay.Faulty.faults c.args.settings.now c.args.out.now
+          c.recover_bays-status.new.out c.in-Ok.bays.items c.recover_bays-status.new.bays.items c.recover_bays-status.result shows;
       all = λ is. c.cones.ensures;
     })
 
 pub returns-clause-place_fault : goal.returns-clause-place_fault
 returns-clause-place_fault g c = λ is.
-    absurd (recovery_not_place_fault {K = g.row.K.Denot} {B = g.row.P-Bay.Denot} g.K.Sink.taken g.K.Faulty.faults g.P.Bay.Bay.files g.P.Bay.Faulty.faults c.args.settings.now c.args.out.now c.recover_bays-status.new.out c.in-Ok.bays.items c.recover_bays-status.new.bays.items c.recover_bays-status.result
+    absurd (recovery_not_place_fault {K = g.row.K.Denot} {B = g.row.P-Bay.Denot} g.K.Sink.taken g.K.Faulty.faults g.P.Bay.Bay.files g.P.Bay.Faulty.faults c.args.settings.now c.args.out.now
+        c.recover_bays-status.new.out c.in-Ok.bays.items c.recover_bays-status.new.bays.items c.recover_bays-status.result
     c.recover_bays-status.ensures.shows is)
 
 pub returns-clause-no_usage : goal.returns-clause-no_usage
 returns-clause-no_usage g c = λ rule is.
-    recovery_not_usage {K = g.row.K.Denot} {B = g.row.P-Bay.Denot} g.K.Sink.taken g.K.Faulty.faults g.P.Bay.Bay.files g.P.Bay.Faulty.faults c.args.settings.now c.args.out.now c.recover_bays-status.new.out c.in-Ok.bays.items c.recover_bays-status.new.bays.items rule c.recover_bays-status.result
+    recovery_not_usage {K = g.row.K.Denot} {B = g.row.P-Bay.Denot} g.K.Sink.taken g.K.Faulty.faults g.P.Bay.Bay.files g.P.Bay.Faulty.faults c.args.settings.now c.args.out.now
+        c.recover_bays-status.new.out c.in-Ok.bays.items c.recover_bays-status.new.bays.items rule c.recover_bays-status.result
     c.recover_bays-status.ensures.shows is
 
 pub returns-clause-returned : goal.returns-clause-returned
 returns-clause-returned g c =
-    all_back g.P.Bay.Bay.files g.P.Bay.Faulty.faults g.P.Bay.Faulty.mark c.in-Ok.bays.items c.recover_bays-status.new.bays.items _ _ (c.put_back_bays.ensures.bays ∙ c.in-Ok.ensures.opened) c.recover_bays-status.ensures.later c.in-Ok.ensures.marked
+    all_back g.P.Bay.Bay.files g.P.Bay.Faulty.faults g.P.Bay.Faulty.mark c.in-Ok.bays.items c.recover_bays-status.new.bays.items _ _ (c.put_back_bays.ensures.bays ∙ c.in-Ok.ensures.opened)
+        c.recover_bays-status.ensures.later c.in-Ok.ensures.marked
     c.put_back_bays.ensures.returned
 
 pub returns-clause-recovered : goal.returns-clause-recovered
@@ -99,14 +109,17 @@ returns-clause-recovered g c = λ differs.
       now,
       c.put_back_bays.ensures.returned,
       subst (λ (xs : List g.row.P-Bay.Denot). AreLater g.P.Bay.Bay.files g.P.Bay.Faulty.faults g.P.Bay.Faulty.mark xs now) (sym same) c.recover_bays-status.ensures.later,
-      subst (λ (xs : List g.row.P-Bay.Denot). HasRecovered {K = g.row.K.Denot} {B = g.row.P-Bay.Denot} g.K.Sink.taken g.K.Faulty.faults g.P.Bay.Bay.files g.P.Bay.Faulty.faults s c.args.out.now c.recover_bays-status.new.out xs now status) (sym same)
-          (has_recovered {K = g.row.K.Denot} {B = g.row.P-Bay.Denot} g.K.Sink.taken g.K.Faulty.faults g.P.Bay.Bay.files g.P.Bay.Faulty.faults s c.args.out.now c.recover_bays-status.new.out first now status c.recover_bays-status.ensures.shows
-          (λ other. c.in-Ok.ensures.number ∙ c.cones.ensures) c.recover_bays-status.ensures.journals),
+      subst (λ (xs : List g.row.P-Bay.Denot). HasRecovered {K = g.row.K.Denot} {B = g.row.P-Bay.Denot} g.K.Sink.taken g.K.Faulty.faults g.P.Bay.Bay.files g.P.Bay.Faulty.faults s c.args.out.now
+          c.recover_bays-status.new.out xs now status) (sym same)
+          (has_recovered {K = g.row.K.Denot} {B = g.row.P-Bay.Denot} g.K.Sink.taken g.K.Faulty.faults g.P.Bay.Bay.files g.P.Bay.Faulty.faults s c.args.out.now c.recover_bays-status.new.out first
+              now status c.recover_bays-status.ensures.shows
+          (λ other. c.in-Ok.ensures.number ∙ c.cones.ensures) c.recover_bays-status.ensures.journals c.recover_bays-status.ensures.stays_sound),
     )
 
 pub put_back_bays-requires-clause-marked : goal.put_back_bays-requires-clause-marked
 put_back_bays-requires-clause-marked g c = λ lifetimes outlive cone bay is.
-    still_marked g.P.Bay.Bay.files g.P.Bay.Faulty.faults g.P.Bay.Faulty.mark c.in-Ok.bays.items c.recover_bays-status.new.bays.items c.recover_bays-status.ensures.later c.in-Ok.ensures.marked cone bay is
+    still_marked g.P.Bay.Bay.files g.P.Bay.Faulty.faults g.P.Bay.Faulty.mark c.in-Ok.bays.items c.recover_bays-status.new.bays.items c.recover_bays-status.ensures.later c.in-Ok.ensures.marked cone
+        bay is
 
 pub returns-in-Err-clause-traces : goal.returns-in-Err-clause-traces
 returns-in-Err-clause-traces g c = c.open_bays.ensures.traces

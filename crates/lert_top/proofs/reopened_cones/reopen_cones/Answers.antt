@@ -1,13 +1,14 @@
 use Rattle.std.proofs.Common.{◌++◌, ap, sym, ◌∙◌, subst, arith, append-nil}
 use Rattle.lert_ingest.specs.Bays.{AreLater, bays_of}
-use Rattle.lert_top.specs.Recovered.{AreJournalsSame, IsUnopened}
+use Rattle.lert_top.specs.Recovered.{AreJournalsSame, AreSoundStill, IsUnopened}
 use Rattle.lert_ingest.proofs.ConeLaws.{cones_and_left}
 use Rattle.lert_top.proofs.reopened_cones.reopen_cones.Goals as goal
 
 pub returns-in-Ok-reopen_rooms-clause-later : goal.returns-in-Ok-reopen_rooms-clause-later
 returns-in-Ok-reopen_rooms-clause-later g c =
     let made = bays_of c.reopen_rooms.new.cones.items in
-    subst (AreLater g.B.Bay.files g.B.Faulty.faults g.B.Faulty.mark c.args.bays.now.items) (ap (λ xs. made ++ xs) c.in-Ok-reopen_rooms.ensures.emptied ∙ append-nil made) c.reopen_rooms.ensures.later
+    subst (AreLater g.B.Bay.files g.B.Faulty.faults g.B.Faulty.mark c.args.bays.now.items) (ap (λ xs. made ++ xs) c.in-Ok-reopen_rooms.ensures.emptied ∙ append-nil made)
+        c.reopen_rooms.ensures.later
 
 pub bring_back-requires : goal.bring_back-requires
 bring_back-requires g c =
@@ -32,3 +33,13 @@ returns-in-Ok-reopen_rooms-clause-journals g c =
 
 pub returns-clause-journals_kept : goal.returns-clause-journals_kept
 returns-clause-journals_kept g c = subst (AreJournalsSame g.B.Bay.files c.args.bays.now.items) (sym c.bring_back.ensures.bays) c.reopen_rooms.ensures.journals
+
+pub returns-in-Ok-reopen_rooms-clause-stays_sound : goal.returns-in-Ok-reopen_rooms-clause-stays_sound
+returns-in-Ok-reopen_rooms-clause-stays_sound g c =
+    let made = bays_of c.reopen_rooms.new.cones.items in
+    subst (AreSoundStill g.B.Bay.files c.args.settings.now c.args.bays.now.items)
+    (ap (λ xs. made ++ xs) c.in-Ok-reopen_rooms.ensures.emptied ∙ append-nil made) c.reopen_rooms.ensures.stays_sound
+
+pub returns-clause-stays_sound_kept : goal.returns-clause-stays_sound_kept
+returns-clause-stays_sound_kept g c =
+    subst (AreSoundStill g.B.Bay.files c.args.settings.now c.args.bays.now.items) (sym c.bring_back.ensures.bays) c.reopen_rooms.ensures.stays_sound

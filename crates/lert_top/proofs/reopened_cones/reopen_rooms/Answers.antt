@@ -6,11 +6,12 @@ use Rattle.lert_cone.specs.Stands.{Standing}
 use Rattle.lert_spec.specs.declared.numbers.Numbers.{Numbers}
 use Rattle.lert_ingest.specs.Bays.{AreLater, bays_of}
 use Rattle.lert_ingest.specs.Cones.{IsNewRoom}
-use Rattle.lert_top.specs.Recovered.{AreJournalsSame, IsOpenOver, IsUnopened, reopen_status}
+use Rattle.lert_top.specs.Recovered.{AreJournalsSame, AreSoundStill, IsOpenOver, IsUnopened, StaysSound, reopen_status}
 use Rattle.lert_ingest.proofs.BayLaws.{are_same, slice_get-behind}
 use Rattle.lert_ingest.proofs.ConeLaws.{back_later, bay_there, call_later, each-push, made_later, none_left}
 use Rattle.lert_top.proofs.JournalLaws.{journals_back, journals_made, journals_same}
 use Rattle.lert_top.proofs.RecoverLaws.{WasRefused, open_over, unopened_by}
+use Rattle.lert_top.proofs.SoundLaws.{sound_back, sound_made, sound_same, stays_by, stays_open}
 use Rattle.lert_top.proofs.reopened_cones.reopen_rooms.Goals as goal
 
 pub returns-in-Err-clause-room : goal.returns-in-Err-clause-room
@@ -75,6 +76,26 @@ returns-in-Err-clause-journals g c =
     subst (AreJournalsSame g.B.Bay.files bays) (ap (λ xs. bays_of cones ++ xs) (sym c.push_front_reserved.ensures.items))
     (journals_back g.B.Bay.files bays cones c.in-Some.bay rest so_far back c.in-Err.ensures.reads)
 
+pub returns-in-Err-clause-stays_sound : goal.returns-in-Err-clause-stays_sound
+returns-in-Err-clause-stays_sound g c =
+    let here = c.loop-number.invariant in
+    let s = c.args.settings.now in
+    let bays = c.args.bays.now.items in
+    let bay = c.in-Some.bay in
+    let cones = c.loop-number.cones.items in
+    let room = c.in-Some-pop.room in
+    let back = c.in-Err.refused.bay in
+    let so_far = subst (λ xs. AreSoundStill g.B.Bay.files s bays (bays_of cones ++ xs)) c.in-Some.ensures.items here.stays_sound in
+    let popped = All-pop (IsNewRoom s) c.loop-number.rooms.items c.pop.new.self.items (Some room) c.in-Some-pop.ensures.items here.rooms in
+    let one = stays_by g.B.Bay.files room.settings c.loop-number.number bay back c.in-Err.ensures.reads c.in-Err.ensures.stays_sound in
+    let one_here = subst (λ (n : Numbers). StaysSound g.B.Bay.files n (length cones) bay back) popped.1.0
+    (subst (λ (n : ℕ). StaysSound g.B.Bay.files room.settings n bay back) (sym here.number) one) in
+    subst (AreSoundStill g.B.Bay.files s bays) (ap (λ xs. bays_of cones ++ xs) (sym c.push_front_reserved.ensures.items))
+    (sound_back g.B.Bay.files s bays cones bay c.pop_front.new.self.items so_far back one_here)
+
+pub returns-clause-stays_sound : goal.returns-clause-stays_sound
+returns-clause-stays_sound g c = c.loop-number.invariant.stays_sound
+
 pub returns-clause-journals : goal.returns-clause-journals
 returns-clause-journals g c = c.loop-number.invariant.journals
 
@@ -133,8 +154,12 @@ loop-number-preserved g c =
           (made_later g.B.Bay.files g.B.Faulty.faults g.B.Faulty.mark bays front bay rest cones split here.split.1 later cone one);
       journals = subst (λ xs. AreJournalsSame g.B.Bay.files bays (bays_of xs ++ rest)) (sym pushed)
           (journals_made g.B.Bay.files bays cones bay rest (subst (λ xs. AreJournalsSame g.B.Bay.files bays (bays_of cones ++ xs)) items here.journals) cone c.in-Ok.ensures.reads);
+      stays_sound = subst (λ xs. AreSoundStill g.B.Bay.files s bays (bays_of xs ++ rest)) (sym pushed)
+          (sound_made g.B.Bay.files s bays cones bay rest (subst (λ xs. AreSoundStill g.B.Bay.files s bays (bays_of cones ++ xs)) items here.stays_sound) cone
+          (stays_open g.B.Bay.files g.B.Bay.leaves g.B.Faulty.faults s (length cones) bay cone opened_here c.in-Ok.ensures.reads));
       open_cones = λ place found is.
-          each-push (λ (k : ℕ) (x : Standing g.row.B.Denot). (held : g.row.B.Denot) → slice_get bays k ≡ Some held → IsOpenOver g.B.Bay.files g.B.Bay.leaves g.B.Faulty.faults s k held x) cones cone here.open_cones
+          each-push (λ (k : ℕ) (x : Standing g.row.B.Denot). (held : g.row.B.Denot) → slice_get bays k ≡ Some held → IsOpenOver g.B.Bay.files g.B.Bay.leaves g.B.Faulty.faults s k held x)
+              cones cone here.open_cones
           (λ held at. subst (λ (b : g.row.B.Denot). IsOpenOver g.B.Bay.files g.B.Bay.leaves g.B.Faulty.faults s (length cones) b cone) (same_Some bay held (sym there ∙ at)) opened_here)
           place found (ap (λ xs. slice_get xs place) (sym pushed) ∙ is);
       room = c.pop_front.ensures.capacity ∙ here.room;
@@ -152,6 +177,8 @@ loop-number-init g c =
       later = subst (λ (xs : List (Standing g.row.B.Denot)). AreLater g.B.Bay.files g.B.Faulty.faults g.B.Faulty.mark bays (bays_of xs ++ bays)) (sym c.requires.none)
           (are_same g.B.Bay.files g.B.Faulty.faults g.B.Faulty.mark bays);
       journals = subst (λ (xs : List (Standing g.row.B.Denot)). AreJournalsSame g.B.Bay.files bays (bays_of xs ++ bays)) (sym c.requires.none) (journals_same g.B.Bay.files bays);
+      stays_sound = subst (λ (xs : List (Standing g.row.B.Denot)). AreSoundStill g.B.Bay.files c.args.settings.now bays (bays_of xs ++ bays)) (sym c.requires.none)
+          (sound_same g.B.Bay.files c.args.settings.now bays);
       open_cones = λ place cone is _ _. absurd (omega (arith, slice_get_within c.args.cones.now.items place cone is, ap length c.requires.none));
       room = refl;
       cones_room = c.requires.cones_room;
