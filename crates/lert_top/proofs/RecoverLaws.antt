@@ -53,7 +53,7 @@ module _ {B : Type 0} (files : B → Option Files) (leaves : B → Files → Typ
   -- a cone that was reopened over a bay
   pub open_over : (s : Numbers) (number : ℕ) (bay : B) (cone : Standing B) →
       IfTold (files bay) (λ seen. (history : List Packet) (sound : IsSound s number history seen) →
-          StandsFor files leaves faults cone history × (cone.state ≡ state_of (is_closed sound.logged))) →
+      StandsFor files leaves faults cone history × (cone.state ≡ state_of (is_closed sound.logged))) →
       IfTold (files bay) (λ seen. (history : List Packet) × IsJournal s number history (seen 0) × (cone.listing.events ≡ events_of history)) →
       IfTold (files bay) (λ seen. (file at : ℕ) → FirstLeaves s number seen file at → ⊥) →
       IfTold (files bay) (λ seen. (kept : Kept) → HasOther s number (seen 0) kept → ⊥) →

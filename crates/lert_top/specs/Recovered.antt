@@ -121,13 +121,13 @@ abbrev pub AreJournalsSame : {B : Type 0} → (B → Option Files) → List B �
 AreJournalsSame files bays later = EachBay (λ _ before now. IsJournalSame (files before) (files now)) bays later
 
 -- files of a cone that were told, and sound for a list, are told later, and sound for it
-abbrev pub StaysSound : {B : Type 0} → (B → Option Files) → Numbers → ℕ → B → B → Type 0
-StaysSound files s cone before now = IfTold (files before) (λ seen. (history : List Packet) → IsSound s cone history seen →
+abbrev pub IsSoundStill : {B : Type 0} → (B → Option Files) → Numbers → ℕ → B → B → Type 0
+IsSoundStill files s cone before now = IfTold (files before) (λ seen. (history : List Packet) → IsSound s cone history seen →
     (there : Files) × (files now ≡ Some there) × IsSound s cone history there)
 
 -- that of each bay
 abbrev pub AreSoundStill : {B : Type 0} → (B → Option Files) → Numbers → List B → List B → Type 0
-AreSoundStill files s bays later = EachBay (StaysSound files s) bays later
+AreSoundStill files s bays later = EachBay (IsSoundStill files s) bays later
 
 -- all bays below a number tell files that are sound for some list
 abbrev pub AreSoundBelow : {B : Type 0} → (B → Option Files) → Numbers → List B → ℕ → Type 0

@@ -20,14 +20,18 @@ few_bits known bits same few = omega (arith, same, few)
 pub returns-in-Err-reopen_cones-clause-shows : goal.returns-in-Err-reopen_cones-clause-shows
 returns-in-Err-reopen_cones-clause-shows g c =
     shows_unopened {K = g.row.K.Denot} {B = g.row.B.Denot} g.K.Sink.taken g.K.Faulty.faults g.B.Bay.files g.B.Faulty.faults c.args.settings.now c.args.out.now c.args.out.now c.args.bays.now.items
-        c.reopen_cones.new.bays.items
+    c.reopen_cones.new.bays.items
     c.in-Err-reopen_cones.status refl c.in-Err-reopen_cones.ensures.unopened
 
 pub print_cones-printed-requires-clause-few : goal.print_cones-printed-requires-clause-few
 print_cones-printed-requires-clause-few g c =
     let bits = ap (λ (s : Numbers). s.cone_bits) c.numbers-valid.ensures.value in
-    omega (arith, ap (λ (xs : List (Standing g.row.B.Denot)). length xs) c.as_slice.ensures.value, c.in-Ok-reopen_cones.ensures.number,
-        pow_mono (few_bits c.numbers-valid.result.cone_bits c.args.settings.now.cone_bits bits c.numbers-valid.ensures.valid.limits.cone_bits_to))
+    omega (
+      arith,
+      ap (λ (xs : List (Standing g.row.B.Denot)). length xs) c.as_slice.ensures.value,
+      c.in-Ok-reopen_cones.ensures.number,
+      pow_mono (few_bits c.numbers-valid.result.cone_bits c.args.settings.now.cone_bits bits c.numbers-valid.ensures.valid.limits.cone_bits_to),
+    )
 
 pub print_cones-printed-requires-clause-printable : goal.print_cones-printed-requires-clause-printable
 print_cones-printed-requires-clause-printable g c =
@@ -35,7 +39,7 @@ print_cones-printed-requires-clause-printable g c =
     let number : length cones ≡ length c.args.bays.now.items = omega (arith, c.in-Ok-reopen_cones.ensures.number, c.requires.number) in
     subst (ArePrintable c.args.settings.now) (sym c.as_slice.ensures.value)
     (open_printable g.B.Bay.files g.B.Bay.leaves g.B.Faulty.faults g.B.Faulty.mark c.args.settings.now c.args.bays.now.items cones c.in-Ok-reopen_cones.ensures.open number
-        c.in-Ok-reopen_cones.ensures.later)
+    c.in-Ok-reopen_cones.ensures.later)
 
 pub returns-in-Ok-printed-clause-shows : goal.returns-in-Ok-printed-clause-shows
 returns-in-Ok-printed-clause-shows g c =
@@ -49,7 +53,7 @@ returns-in-Ok-printed-clause-shows g c =
         map printed_as cones,
         subst (λ (xs : List g.row.B.Denot). AreRecovered g.B.Bay.files s bays xs (map printed_as cones)) (sym back)
             (open_recovered g.B.Bay.files g.B.Bay.leaves g.B.Faulty.faults g.B.Faulty.mark s bays cones c.in-Ok-reopen_cones.ensures.open number c.in-Ok-reopen_cones.ensures.later
-                c.requires.number),
+            c.requires.number),
         λ text had. c.in-Ok-printed.ensures.ok text had ∙ ap (λ (xs : List (Standing g.row.B.Denot)). Some (text ++ lines (map printed_as xs))) c.as_slice.ensures.value,
       ),
     )
@@ -67,7 +71,7 @@ returns-clause-shows g c =
         map printed_as cones,
         subst (λ (xs : List g.row.B.Denot). AreRecovered g.B.Bay.files s bays xs (map printed_as cones)) (sym back)
             (open_recovered g.B.Bay.files g.B.Bay.leaves g.B.Faulty.faults g.B.Faulty.mark s bays cones c.in-Ok-reopen_cones.ensures.open number c.in-Ok-reopen_cones.ensures.later
-                c.requires.number),
+            c.requires.number),
         subst (λ (xs : List (Standing g.row.B.Denot)). IsCut (g.K.Sink.taken c.args.out.now) (g.K.Sink.taken c.print_cones-printed.new.out) (lines (map printed_as xs))) c.as_slice.ensures.value
             c.in-Err-printed.ensures.cut,
       ),

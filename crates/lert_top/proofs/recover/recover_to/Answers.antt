@@ -45,7 +45,7 @@ returns-in-Err-clause-recovered g c = λ differs.
     elim c.in-Err.ensures.refused [
       | inl none ↦
           let same = ap g.P.Place.handed_bays none.1 ∙ nothing_handed bays_granted (g.P.Place.asked c.args.place.now) (g.P.Place.handed_bays c.args.place.now)
-              (g.met.P.Place.tied_bays c.args.place.now) c.requires.no_bay in
+          (g.met.P.Place.tied_bays c.args.place.now) c.requires.no_bay in
           let out = c.args.out.now in
           let s = c.args.settings.now in (
             [],
@@ -55,7 +55,7 @@ returns-in-Err-clause-recovered g c = λ differs.
             subst (λ (xs : List g.row.P-Bay.Denot). HasRecovered {K = g.row.K.Denot} {B = g.row.P-Bay.Denot} g.K.Sink.taken g.K.Faulty.faults g.P.Bay.Bay.files g.P.Bay.Faulty.faults s out out xs
                 [] c.in-Err.status) (sym same)
                 (subst (λ (st : Status). HasRecovered {K = g.row.K.Denot} {B = g.row.P-Bay.Denot} g.K.Sink.taken g.K.Faulty.faults g.P.Bay.Bay.files g.P.Bay.Faulty.faults s out out [] [] st)
-                    (sym none.0)
+                (sym none.0)
                 (has_recovered {K = g.row.K.Denot} {B = g.row.P-Bay.Denot} g.K.Sink.taken g.K.Faulty.faults g.P.Bay.Bay.files g.P.Bay.Faulty.faults s
                 out out [] [] OutOfMemory refl (λ other. absurd (other refl)) (journals_same g.P.Bay.Bay.files []) (sound_same g.P.Bay.Bay.files s []))),
           )
@@ -84,19 +84,19 @@ returns-clause-asked g c =
 pub returns-clause-place_fault : goal.returns-clause-place_fault
 returns-clause-place_fault g c = λ is.
     absurd (recovery_not_place_fault {K = g.row.K.Denot} {B = g.row.P-Bay.Denot} g.K.Sink.taken g.K.Faulty.faults g.P.Bay.Bay.files g.P.Bay.Faulty.faults c.args.settings.now c.args.out.now
-        c.recover_bays-status.new.out c.in-Ok.bays.items c.recover_bays-status.new.bays.items c.recover_bays-status.result
+    c.recover_bays-status.new.out c.in-Ok.bays.items c.recover_bays-status.new.bays.items c.recover_bays-status.result
     c.recover_bays-status.ensures.shows is)
 
 pub returns-clause-no_usage : goal.returns-clause-no_usage
 returns-clause-no_usage g c = λ rule is.
     recovery_not_usage {K = g.row.K.Denot} {B = g.row.P-Bay.Denot} g.K.Sink.taken g.K.Faulty.faults g.P.Bay.Bay.files g.P.Bay.Faulty.faults c.args.settings.now c.args.out.now
-        c.recover_bays-status.new.out c.in-Ok.bays.items c.recover_bays-status.new.bays.items rule c.recover_bays-status.result
+    c.recover_bays-status.new.out c.in-Ok.bays.items c.recover_bays-status.new.bays.items rule c.recover_bays-status.result
     c.recover_bays-status.ensures.shows is
 
 pub returns-clause-returned : goal.returns-clause-returned
 returns-clause-returned g c =
     all_back g.P.Bay.Bay.files g.P.Bay.Faulty.faults g.P.Bay.Faulty.mark c.in-Ok.bays.items c.recover_bays-status.new.bays.items _ _ (c.put_back_bays.ensures.bays ∙ c.in-Ok.ensures.opened)
-        c.recover_bays-status.ensures.later c.in-Ok.ensures.marked
+    c.recover_bays-status.ensures.later c.in-Ok.ensures.marked
     c.put_back_bays.ensures.returned
 
 pub returns-clause-recovered : goal.returns-clause-recovered
@@ -112,14 +112,14 @@ returns-clause-recovered g c = λ differs.
       subst (λ (xs : List g.row.P-Bay.Denot). HasRecovered {K = g.row.K.Denot} {B = g.row.P-Bay.Denot} g.K.Sink.taken g.K.Faulty.faults g.P.Bay.Bay.files g.P.Bay.Faulty.faults s c.args.out.now
           c.recover_bays-status.new.out xs now status) (sym same)
           (has_recovered {K = g.row.K.Denot} {B = g.row.P-Bay.Denot} g.K.Sink.taken g.K.Faulty.faults g.P.Bay.Bay.files g.P.Bay.Faulty.faults s c.args.out.now c.recover_bays-status.new.out first
-              now status c.recover_bays-status.ensures.shows
+          now status c.recover_bays-status.ensures.shows
           (λ other. c.in-Ok.ensures.number ∙ c.cones.ensures) c.recover_bays-status.ensures.journals c.recover_bays-status.ensures.stays_sound),
     )
 
 pub put_back_bays-requires-clause-marked : goal.put_back_bays-requires-clause-marked
 put_back_bays-requires-clause-marked g c = λ lifetimes outlive cone bay is.
     still_marked g.P.Bay.Bay.files g.P.Bay.Faulty.faults g.P.Bay.Faulty.mark c.in-Ok.bays.items c.recover_bays-status.new.bays.items c.recover_bays-status.ensures.later c.in-Ok.ensures.marked cone
-        bay is
+    bay is
 
 pub returns-in-Err-clause-traces : goal.returns-in-Err-clause-traces
 returns-in-Err-clause-traces g c = c.open_bays.ensures.traces

@@ -8,7 +8,7 @@ pub returns-in-Ok-reopen_rooms-clause-later : goal.returns-in-Ok-reopen_rooms-cl
 returns-in-Ok-reopen_rooms-clause-later g c =
     let made = bays_of c.reopen_rooms.new.cones.items in
     subst (AreLater g.B.Bay.files g.B.Faulty.faults g.B.Faulty.mark c.args.bays.now.items) (ap (λ xs. made ++ xs) c.in-Ok-reopen_rooms.ensures.emptied ∙ append-nil made)
-        c.reopen_rooms.ensures.later
+    c.reopen_rooms.ensures.later
 
 pub bring_back-requires : goal.bring_back-requires
 bring_back-requires g c =

@@ -6,7 +6,7 @@ use Rattle.lert_cone.specs.Stands.{Standing}
 use Rattle.lert_spec.specs.declared.numbers.Numbers.{Numbers}
 use Rattle.lert_ingest.specs.Bays.{AreLater, bays_of}
 use Rattle.lert_ingest.specs.Cones.{IsNewRoom}
-use Rattle.lert_top.specs.Recovered.{AreJournalsSame, AreSoundStill, IsOpenOver, IsUnopened, StaysSound, reopen_status}
+use Rattle.lert_top.specs.Recovered.{AreJournalsSame, AreSoundStill, IsOpenOver, IsUnopened, IsSoundStill, reopen_status}
 use Rattle.lert_ingest.proofs.BayLaws.{are_same, slice_get-behind}
 use Rattle.lert_ingest.proofs.ConeLaws.{back_later, bay_there, call_later, each-push, made_later, none_left}
 use Rattle.lert_top.proofs.JournalLaws.{journals_back, journals_made, journals_same}
@@ -88,8 +88,8 @@ returns-in-Err-clause-stays_sound g c =
     let so_far = subst (λ xs. AreSoundStill g.B.Bay.files s bays (bays_of cones ++ xs)) c.in-Some.ensures.items here.stays_sound in
     let popped = All-pop (IsNewRoom s) c.loop-number.rooms.items c.pop.new.self.items (Some room) c.in-Some-pop.ensures.items here.rooms in
     let one = stays_by g.B.Bay.files room.settings c.loop-number.number bay back c.in-Err.ensures.reads c.in-Err.ensures.stays_sound in
-    let one_here = subst (λ (n : Numbers). StaysSound g.B.Bay.files n (length cones) bay back) popped.1.0
-    (subst (λ (n : ℕ). StaysSound g.B.Bay.files room.settings n bay back) (sym here.number) one) in
+    let one_here = subst (λ (n : Numbers). IsSoundStill g.B.Bay.files n (length cones) bay back) popped.1.0
+    (subst (λ (n : ℕ). IsSoundStill g.B.Bay.files room.settings n bay back) (sym here.number) one) in
     subst (AreSoundStill g.B.Bay.files s bays) (ap (λ xs. bays_of cones ++ xs) (sym c.push_front_reserved.ensures.items))
     (sound_back g.B.Bay.files s bays cones bay c.pop_front.new.self.items so_far back one_here)
 
@@ -159,7 +159,7 @@ loop-number-preserved g c =
           (stays_open g.B.Bay.files g.B.Bay.leaves g.B.Faulty.faults s (length cones) bay cone opened_here c.in-Ok.ensures.reads));
       open_cones = λ place found is.
           each-push (λ (k : ℕ) (x : Standing g.row.B.Denot). (held : g.row.B.Denot) → slice_get bays k ≡ Some held → IsOpenOver g.B.Bay.files g.B.Bay.leaves g.B.Faulty.faults s k held x)
-              cones cone here.open_cones
+          cones cone here.open_cones
           (λ held at. subst (λ (b : g.row.B.Denot). IsOpenOver g.B.Bay.files g.B.Bay.leaves g.B.Faulty.faults s (length cones) b cone) (same_Some bay held (sym there ∙ at)) opened_here)
           place found (ap (λ xs. slice_get xs place) (sym pushed) ∙ is);
       room = c.pop_front.ensures.capacity ∙ here.room;

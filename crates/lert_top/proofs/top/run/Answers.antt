@@ -47,7 +47,8 @@ returns-in-Run-clause-ran g c = λ line trace spelled task sound differs.
       ran.4,
       ran.5,
       ran.6,
-      subst (λ (l : Line). HasRun {S = g.row.P-Trace.Denot} {K = g.row.K.Denot} {B = g.row.P-Bay.Denot} g.P.Trace.Source.remaining g.P.Trace.Faulty.faults g.K.Sink.taken g.K.Faulty.faults g.P.Bay.Bay.files g.P.Bay.Faulty.faults l.settings ran.0 ran.1 c.args.out.now c.run_line.new.out (g.P.Place.handed_bays c.run_line.new.place) ran.2 c.run_line.result) same ran.7,
+      subst (λ (l : Line). HasRun {S = g.row.P-Trace.Denot} {K = g.row.K.Denot} {B = g.row.P-Bay.Denot} g.P.Trace.Source.remaining g.P.Trace.Faulty.faults g.K.Sink.taken g.K.Faulty.faults
+          g.P.Bay.Bay.files g.P.Bay.Faulty.faults l.settings ran.0 ran.1 c.args.out.now c.run_line.new.out (g.P.Place.handed_bays c.run_line.new.place) ran.2 c.run_line.result) same ran.7,
     )
 
 pub returns-in-Recover-clause-asked_again : goal.returns-in-Recover-clause-asked_again
@@ -58,7 +59,8 @@ returns-in-Recover-clause-asked_again g c = λ line spelled task sound.
     let asked = c.recover_to.ensures.asked in
     subst (λ xs. IsAskedForBays (word_at words line.dir) (2 ^ line.settings.cone_bits) xs (g.P.Place.asked c.recover_to.new.place) c.recover_to.result) c.requires.asked
     (subst (λ (d : List ℕ). IsAskedForBays d (2 ^ line.settings.cone_bits) (g.P.Place.asked c.args.place.now) (g.P.Place.asked c.recover_to.new.place) c.recover_to.result) dir
-    (subst (λ (l : Line). IsAskedForBays c.word-dir.result.now (2 ^ l.settings.cone_bits) (g.P.Place.asked c.args.place.now) (g.P.Place.asked c.recover_to.new.place) c.recover_to.result) same asked))
+    (subst (λ (l : Line). IsAskedForBays c.word-dir.result.now (2 ^ l.settings.cone_bits) (g.P.Place.asked c.args.place.now) (g.P.Place.asked c.recover_to.new.place) c.recover_to.result) same
+    asked))
 
 pub returns-in-Recover-clause-recovered : goal.returns-in-Recover-clause-recovered
 returns-in-Recover-clause-recovered g c = λ line spelled task sound differs.
@@ -67,7 +69,8 @@ returns-in-Recover-clause-recovered g c = λ line spelled task sound differs.
       recovered.0,
       recovered.1,
       recovered.2,
-      subst (λ (l : Line). HasRecovered {K = g.row.K.Denot} {B = g.row.P-Bay.Denot} g.K.Sink.taken g.K.Faulty.faults g.P.Bay.Bay.files g.P.Bay.Faulty.faults l.settings c.args.out.now c.recover_to.new.out (g.P.Place.handed_bays c.recover_to.new.place) recovered.0 c.recover_to.result) same recovered.3,
+      subst (λ (l : Line). HasRecovered {K = g.row.K.Denot} {B = g.row.P-Bay.Denot} g.K.Sink.taken g.K.Faulty.faults g.P.Bay.Bay.files g.P.Bay.Faulty.faults l.settings c.args.out.now
+          c.recover_to.new.out (g.P.Place.handed_bays c.recover_to.new.place) recovered.0 c.recover_to.result) same recovered.3,
     )
 
 pub recover_to-requires : goal.recover_to-requires
@@ -78,10 +81,12 @@ recover_to-requires g c =
 pub returns-in-Recover-clause-place_fault : goal.returns-in-Recover-clause-place_fault
 returns-in-Recover-clause-place_fault g c = λ is.
     let failed = c.recover_to.ensures.place_fault is in
-    let none = nothing_handed traces_granted (g.P.Place.asked c.args.place.now) (g.P.Place.handed_traces c.args.place.now) (g.met.P.Place.tied_traces c.args.place.now) (ap traces_granted c.requires.asked) in
+    let none = nothing_handed traces_granted (g.P.Place.asked c.args.place.now) (g.P.Place.handed_traces c.args.place.now) (g.met.P.Place.tied_traces c.args.place.now)
+    (ap traces_granted c.requires.asked) in
     (failed.0, failed.1, none_returned_same _ _ (c.recover_to.ensures.traces ∙ none), failed.2)
 
 pub returns-in-Recover-clause-returned : goal.returns-in-Recover-clause-returned
 returns-in-Recover-clause-returned g c = λ sound.
-    let none = nothing_handed traces_granted (g.P.Place.asked c.args.place.now) (g.P.Place.handed_traces c.args.place.now) (g.met.P.Place.tied_traces c.args.place.now) (ap traces_granted c.requires.asked) in
+    let none = nothing_handed traces_granted (g.P.Place.asked c.args.place.now) (g.P.Place.handed_traces c.args.place.now) (g.met.P.Place.tied_traces c.args.place.now)
+    (ap traces_granted c.requires.asked) in
     (none_returned g.P.Trace.Faulty.mark _ _ (c.recover_to.ensures.traces ∙ none), c.recover_to.ensures.returned)
