@@ -3,6 +3,7 @@
 ghost use Rattle.std.specs.Prelude.{◌<◌};
 
 use lert_bay::MemBay;
+use lert_io::OutOfMemory;
 use lert_top::Status;
 use lert_trials::{Ended, Row, SMALL, bay_of, long_form, run_on, run_row, trace, trace_with};
 use std::alloc::Global;
@@ -24,7 +25,7 @@ fn check_on(
     bay: MemBay,
     status: Status,
     text: &str,
-) -> Result<Ended, Fail> {
+) -> Result<Ended, OutOfMemory> {
     let ended = run_on(rt.alloc(), &long_form(numbers), trace, 0, bay)?;
     assert!(rt; ended.ended_with(status), "the status");
     assert!(rt; ended.wrote(text), "the text");
@@ -37,7 +38,7 @@ fn check_sevens(
     bay: MemBay,
     status: Status,
     text: &str,
-) -> Result<Ended, Fail> {
+) -> Result<Ended, OutOfMemory> {
     let trace = trace(rt.alloc(), &[7, 7, 7])?;
     check_on(rt, SMALL, trace.as_slice(), bay, status, text)
 }
@@ -77,50 +78,39 @@ fn check_packets(
 }
 
 #[test]
-fn a_run_leaves_the_journal_of_its_keys(rt: HostRuntime) -> Result<(), Fail> {
-    let bay = MemBay::new(rt.alloc())?;
-    let ended = check_sevens(&rt, bay, Status::Done, SEVENS_TEXT)?;
+fn a_run_leaves_the_journal_of_its_keys(rt: HostRuntime) {
+    let bay = MemBay::new(rt.alloc()).expect(&rt, "memory");
+    let ended = check_sevens(&rt, bay, Status::Done, SEVENS_TEXT).expect(&rt, "memory");
     assert_eq!(rt; ended.files.journal.as_slice(), SEVENS.as_slice());
-    Ok(())
 }
 
 #[test]
-fn a_packet_whose_write_fails_stands_behind_a_closed_gate(rt: HostRuntime) -> Result<(), Fail> {
-    let mut bay = MemBay::new(rt.alloc())?;
+fn a_packet_whose_write_fails_stands_behind_a_closed_gate(rt: HostRuntime) {
+    let mut bay = MemBay::new(rt.alloc()).expect(&rt, "memory");
     // Before the cone is made, and again as it is, the run asks for the three lengths; then it writes and
     // syncs two headers. So its third write, that of the packet, is the bay's call 11.
     bay.fail_at(11);
-    let ended = check_sevens(&rt, bay, Status::BayFault { cone: 0 }, "")?;
+    let ended = check_sevens(&rt, bay, Status::BayFault { cone: 0 }, "").expect(&rt, "memory");
     // Half of the 37 bytes are written.
     let mut torn = SEVENS;
     torn[32] = 0;
     assert_eq!(rt; ended.files.journal.as_slice(), &torn[..51]);
-    Ok(())
 }
 
 #[test]
-fn a_second_run_refuses_the_files_of_the_first(rt: HostRuntime) -> Result<(), Fail> {
-    let bay = MemBay::new(rt.alloc())?;
-    let first = check_sevens(&rt, bay, Status::Done, SEVENS_TEXT)?;
-    let bay = bay_of(rt.alloc(), &first.files)?;
-    let second = check_sevens(&rt, bay, Status::NotFresh { cone: 0 }, "")?;
-    assert_eq!(rt;
-        second.files.journal.as_slice(),
-        first.files.journal.as_slice()
-    );
-    assert_eq!(rt; second.files.log.as_slice(), first.files.log.as_slice());
-    assert_eq!(rt;
-        second.files.frames.as_slice(),
-        first.files.frames.as_slice()
-    );
-    Ok(())
+fn a_second_run_refuses_the_files_of_the_first(rt: HostRuntime) {
+    let bay = MemBay::new(rt.alloc()).expect(&rt, "memory");
+    let first = check_sevens(&rt, bay, Status::Done, SEVENS_TEXT).expect(&rt, "memory");
+    let bay = bay_of(rt.alloc(), &first.files).expect(&rt, "memory");
+    let second = check_sevens(&rt, bay, Status::NotFresh { cone: 0 }, "").expect(&rt, "memory");
+    assert!(rt; second.files.are(&first.files), "the files");
 }
 
 // The numbers of two cones.
 const HALVES: [&str; 8] = ["3", "3", "2", "4", "2", "1", "32", "8"];
 
 // A bay with a byte in one file.
-fn bay_with_a_byte(alloc: Global, file: u8) -> Result<MemBay, Fail>
+fn bay_with_a_byte(alloc: Global, file: u8) -> Result<MemBay, OutOfMemory>
     requires { file < 3 }
 {
     let mut bay = MemBay::new(alloc)?;
@@ -129,23 +119,24 @@ fn bay_with_a_byte(alloc: Global, file: u8) -> Result<MemBay, Fail>
 }
 
 #[test]
-fn the_first_cone_with_a_byte_is_named(rt: HostRuntime) -> Result<(), Fail> {
-    let trace = trace(rt.alloc(), &[7, 7, 7])?;
+fn the_first_cone_with_a_byte_is_named(rt: HostRuntime) {
+    let trace = trace(rt.alloc(), &[7, 7, 7]).expect(&rt, "memory");
     for file in 0..3 {
-        let bay = bay_with_a_byte(rt.alloc(), file)?;
-        let ended = run_on(rt.alloc(), &long_form(HALVES), trace.as_slice(), 1, bay)?;
+        let bay = bay_with_a_byte(rt.alloc(), file).expect(&rt, "memory");
+        let ended = run_on(rt.alloc(), &long_form(HALVES), trace.as_slice(), 1, bay).expect(
+            &rt, "memory",
+        );
         assert!(rt;
             ended.ended_with(Status::NotFresh { cone: 1 }),
             "the status"
         );
         assert!(rt; ended.wrote(""), "the text");
     }
-    Ok(())
 }
 
 #[test]
-fn a_cone_without_a_bay_is_a_fault_of_the_place(rt: HostRuntime) -> Result<(), Fail> {
-    let trace = trace(rt.alloc(), &[7, 7, 7])?;
+fn a_cone_without_a_bay_is_a_fault_of_the_place(rt: HostRuntime) {
+    let trace = trace(rt.alloc(), &[7, 7, 7]).expect(&rt, "memory");
     for cones in 0..2 {
         let row = Row {
             words: &long_form(HALVES),
@@ -154,13 +145,12 @@ fn a_cone_without_a_bay_is_a_fault_of_the_place(rt: HostRuntime) -> Result<(), F
             failing_read: 0,
             failing_write: 0,
         };
-        let ended = run_row(rt.alloc(), &row)?;
+        let ended = run_row(rt.alloc(), &row).expect(&rt, "memory");
         assert!(rt; ended.ended_with(Status::PlaceFault), "the status");
         assert!(rt; ended.wrote(""), "the text");
         assert!(rt; ended.trace);
         assert_eq!(rt; ended.bays, cones);
     }
-    Ok(())
 }
 
 #[test]

@@ -1,13 +1,13 @@
 //! What a recovery makes of the files that a run left.
 
 use lert_bay::{FRAMES, JOURNAL, LOG};
+use lert_io::OutOfMemory;
 use lert_top::{MemPlace, Status};
 use lert_trials::{
-    Ended, Files, Row, SMALL, long_form, recover_files, recover_form, run_at, run_row, trace,
-    trace_with,
+    Ended, Files, Row, SMALL, long_form, recover_files, recover_form, run_at, run_before_failing,
+    run_row, trace, trace_with,
 };
 use std::process::Abort;
-use std::test::Fail;
 
 // The text of the keys 7, 7, 7.
 const SEVENS_TEXT: &str = "cone 0 events 3 reports 1 closed\n7 3\ntotal events 3 reports 1\n";
@@ -20,7 +20,7 @@ fn left_by_run(
     failing_write: u64,
     status: Status,
     text: &str,
-) -> Result<Files, Fail> {
+) -> Result<Files, OutOfMemory> {
     let row = Row {
         words: &long_form(SMALL),
         cones: 1,
@@ -42,7 +42,7 @@ fn check(
     files: &Files,
     status: Status,
     text: &str,
-) -> Result<Files, Fail> {
+) -> Result<Files, OutOfMemory> {
     let ended = recover_files(rt.alloc(), &recover_form(numbers), files)?;
     assert!(rt; ended.ended_with(status), "the status");
     assert!(rt; ended.wrote(text), "the text");
@@ -50,8 +50,20 @@ fn check(
     Ok(files)
 }
 
+// Recovers files with these numbers, wants this refusal, and the files as they were.
+fn check_refused(
+    rt: &(impl Abort + AllocGlobal),
+    numbers: [&str; 8],
+    files: &Files,
+    status: Status,
+) -> Result<(), OutOfMemory> {
+    let left = check(rt, numbers, files, status, "")?;
+    assert!(rt; left.are(files), "the files");
+    Ok(())
+}
+
 // What a run over the keys 7, 7, 7 left.
-fn sevens(rt: &(impl Abort + AllocGlobal), failing_write: u64) -> Result<Files, Fail> {
+fn sevens(rt: &(impl Abort + AllocGlobal), failing_write: u64) -> Result<Files, OutOfMemory> {
     let trace = trace(rt.alloc(), &[7, 7, 7])?;
     let (status, text) = match failing_write {
         0 => (Status::Done, SEVENS_TEXT),
@@ -61,70 +73,120 @@ fn sevens(rt: &(impl Abort + AllocGlobal), failing_write: u64) -> Result<Files, 
 }
 
 // Changes one byte of a file.
-fn change(bytes: &mut [u8], at: usize, byte: u8) -> Result<(), Fail> {
-    match bytes.get_mut(at) {
-        Some(place) => *place = byte,
-        None => return Err(Fail::new("no such place")),
-    }
-    Ok(())
+fn change(rt: &(impl Abort + AllocGlobal), bytes: &mut [u8], at: usize, byte: u8) {
+    let place = bytes.get_mut(at).expect(rt, "such a place");
+    *place = byte;
 }
 
 #[test]
-fn a_finished_run_is_recovered_with_its_text(rt: HostRuntime) -> Result<(), Fail> {
-    let files = sevens(&rt, 0)?;
-    check(&rt, SMALL, &files, Status::Done, SEVENS_TEXT)?;
-    Ok(())
+fn a_finished_run_is_recovered_with_its_text(rt: HostRuntime) {
+    let files = sevens(&rt, 0).expect(&rt, "memory");
+    check(&rt, SMALL, &files, Status::Done, SEVENS_TEXT).expect(&rt, "memory");
 }
 
 #[test]
-fn a_run_whose_text_was_not_written_is_recovered_with_it(rt: HostRuntime) -> Result<(), Fail> {
-    let files = sevens(&rt, 1)?;
-    check(&rt, SMALL, &files, Status::Done, SEVENS_TEXT)?;
-    Ok(())
+fn a_run_whose_text_was_not_written_is_recovered_with_it(rt: HostRuntime) {
+    let files = sevens(&rt, 1).expect(&rt, "memory");
+    check(&rt, SMALL, &files, Status::Done, SEVENS_TEXT).expect(&rt, "memory");
 }
 
 #[test]
-fn a_run_that_was_full_is_recovered_open(rt: HostRuntime) -> Result<(), Fail> {
+fn a_run_that_was_full_is_recovered_open(rt: HostRuntime) {
     let full = Status::CapacityFull {
         cone: 0,
         n: 64,
         len: 8,
     };
-    let trace = trace_with(rt.alloc(), 72, &[])?;
-    let left = left_by_run(&rt, trace.as_slice(), 0, full, "")?;
+    let trace = trace_with(rt.alloc(), 72, &[]).expect(&rt, "memory");
+    let left = left_by_run(&rt, trace.as_slice(), 0, full, "").expect(&rt, "memory");
     let text = "cone 0 events 64 reports 0 open\ntotal events 64 reports 0\n";
-    check(&rt, SMALL, &left, Status::Done, text)?;
+    check(&rt, SMALL, &left, Status::Done, text).expect(&rt, "memory");
+}
+
+// Runs over these bytes, of which this read fails, or none where it is 0, and recovers what was left.
+fn check_stopped(
+    rt: &(impl Abort + AllocGlobal),
+    bytes: &[u8],
+    failing_read: u64,
+    status: Status,
+    text: &str,
+) -> Result<(), OutOfMemory> {
+    let row = Row {
+        words: &long_form(SMALL),
+        cones: 1,
+        trace: bytes,
+        failing_read,
+        failing_write: 0,
+    };
+    let ended = run_row(rt.alloc(), &row)?;
+    assert!(rt; ended.ended_with(status), "the status");
+    check(rt, SMALL, &ended.files, Status::Done, text)?;
     Ok(())
 }
 
 #[test]
-fn reports_of_a_flush_and_of_keys_behind_it_are_recovered(rt: HostRuntime) -> Result<(), Fail> {
+fn a_run_that_its_trace_stopped_is_recovered_open_without_a_rest(rt: HostRuntime) {
+    // Of ten whole keys eight are a packet, and two wait for theirs.
+    let whole = trace_with(rt.alloc(), 10, &[]).expect(&rt, "memory");
+    let mut cut = trace_with(rt.alloc(), 11, &[]).expect(&rt, "memory");
+    cut.truncate(93);
+    let bad = Status::BadTrace { trace: 0, at: 88 };
+    let text = "cone 0 events 8 reports 0 open\ntotal events 8 reports 0\n";
+    check_stopped(&rt, cut.as_slice(), 0, bad, text).expect(&rt, "memory");
+    let failed = Status::TraceFault { trace: 0 };
+    check_stopped(&rt, whole.as_slice(), 2, failed, text).expect(&rt, "memory");
+}
+
+#[test]
+fn the_first_cone_that_is_refused_is_named_though_a_later_one_fails(rt: HostRuntime) {
+    let halves = ["3", "3", "2", "4", "2", "1", "32", "8"];
+    let bytes = trace(rt.alloc(), &[7]).expect(&rt, "memory");
+    let mut files = Files::new(rt.alloc());
+    files.journal.push(0).expect(&rt, "memory");
+    let malformed = Status::Malformed {
+        cone: 0,
+        file: JOURNAL,
+        at: 0,
+    };
+    let rows: [(&[&str], Status); 2] = [
+        (&long_form(halves), Status::NotFresh { cone: 0 }),
+        (&recover_form(halves), malformed),
+    ];
+    for (words, status) in rows {
+        let ended = run_before_failing(rt.alloc(), words, bytes.as_slice(), &files, 1).expect(
+            &rt, "memory",
+        );
+        assert!(rt; ended.ended_with(status), "the status");
+        assert!(rt; ended.files.are(&files), "the files");
+    }
+}
+
+#[test]
+fn reports_of_a_flush_and_of_keys_behind_it_are_recovered(rt: HostRuntime) {
     // Key 7 is due at the flush at 16, key 8 at its third place behind that, and the cone is full.
     let trace = trace_with(
         rt.alloc(),
         72,
         &[(1, 7), (2, 7), (13, 7), (61, 8), (62, 8), (63, 8)],
-    )?;
+    )
+    .expect(&rt, "memory");
     let full = Status::CapacityFull {
         cone: 0,
         n: 64,
         len: 8,
     };
-    let left = left_by_run(&rt, trace.as_slice(), 0, full, "")?;
+    let left = left_by_run(&rt, trace.as_slice(), 0, full, "").expect(&rt, "memory");
     let text = "cone 0 events 64 reports 2 open\n7 16\n8 63\ntotal events 64 reports 2\n";
-    let again = check(&rt, SMALL, &left, Status::Done, text)?;
+    let again = check(&rt, SMALL, &left, Status::Done, text).expect(&rt, "memory");
     // A recovery leaves the files as it found them, and may be repeated.
-    assert_eq!(rt; again.journal.as_slice(), left.journal.as_slice());
-    assert_eq!(rt; again.log.as_slice(), left.log.as_slice());
-    assert_eq!(rt; again.frames.as_slice(), left.frames.as_slice());
-    Ok(())
+    assert!(rt; again.are(&left), "the files");
 }
 
 #[test]
-fn the_last_records_name_the_frames_of_the_bins(rt: HostRuntime) -> Result<(), Fail> {
-    let trace = trace_with(rt.alloc(), 32, &[])?;
+fn the_last_records_name_the_frames_of_the_bins(rt: HostRuntime) {
+    let trace = trace_with(rt.alloc(), 32, &[]).expect(&rt, "memory");
     let text = "cone 0 events 32 reports 0 closed\ntotal events 32 reports 0\n";
-    let left = left_by_run(&rt, trace.as_slice(), 0, Status::Done, text)?;
+    let left = left_by_run(&rt, trace.as_slice(), 0, Status::Done, text).expect(&rt, "memory");
     // The record of the flush at 32 and the closing one: both stand behind 32 keys, where level 1 has its bins in its frames 2
     // and 3, and level 2 has one in its frame 0. The gates of both are open, and the one behind them is closed.
     let records = [
@@ -133,19 +195,17 @@ fn the_last_records_name_the_frames_of_the_bins(rt: HostRuntime) -> Result<(), F
         0, 0, 0, 1, 0, 0, 0, 0, 0, 0, 0, 2, 2, 3, 1, 0, 0, 0, 0, 0, 0,
     ];
     assert!(rt; left.log.ends_with(&records));
-    Ok(())
 }
 
 #[test]
-fn files_of_other_settings_are_refused(rt: HostRuntime) -> Result<(), Fail> {
+fn files_of_other_settings_are_refused(rt: HostRuntime) {
     let numbers = ["4", "3", "2", "4", "2", "0", "32", "8"];
-    let files = sevens(&rt, 0)?;
-    check(&rt, numbers, &files, Status::OtherSettings { cone: 0 }, "")?;
-    Ok(())
+    let files = sevens(&rt, 0).expect(&rt, "memory");
+    check_refused(&rt, numbers, &files, Status::OtherSettings { cone: 0 }).expect(&rt, "memory");
 }
 
 #[test]
-fn a_changed_byte_is_named_by_its_file_and_place(rt: HostRuntime) -> Result<(), Fail> {
+fn a_changed_byte_is_named_by_its_file_and_place(rt: HostRuntime) {
     // The first byte of the journal and of the log; the packet's worker, its first key's length field, and
     // the kind of the closing record.
     for (file, at, byte, place) in [
@@ -155,56 +215,52 @@ fn a_changed_byte_is_named_by_its_file_and_place(rt: HostRuntime) -> Result<(), 
         (LOG, 0, 0, 0),
         (LOG, 13, 3, 13),
     ] {
-        let mut files = sevens(&rt, 0)?;
+        let mut files = sevens(&rt, 0).expect(&rt, "memory");
         let bytes = match file {
             JOURNAL => files.journal.as_mut_slice(),
             _ => files.log.as_mut_slice(),
         };
-        change(bytes, at, byte)?;
+        change(&rt, bytes, at, byte);
         let status = Status::Malformed {
             cone: 0,
             file,
             at: place,
         };
-        check(&rt, SMALL, &files, status, "")?;
+        check_refused(&rt, SMALL, &files, status).expect(&rt, "memory");
     }
-    Ok(())
 }
 
 #[test]
-fn a_broken_frame_is_named_by_its_place(rt: HostRuntime) -> Result<(), Fail> {
-    let trace = trace_with(rt.alloc(), 16, &[])?;
+fn a_broken_frame_is_named_by_its_place(rt: HostRuntime) {
+    let trace = trace_with(rt.alloc(), 16, &[]).expect(&rt, "memory");
     let text = "cone 0 events 16 reports 0 closed\ntotal events 16 reports 0\n";
-    let mut left = left_by_run(&rt, trace.as_slice(), 0, Status::Done, text)?;
+    let mut left = left_by_run(&rt, trace.as_slice(), 0, Status::Done, text).expect(&rt, "memory");
     // The flush at 16 wrote the second frame of level 1, which has 4 + 16 * 8 bytes, as the first one has. A number of
     // pairs above the eight events of its bin is left at that field.
-    change(left.frames.as_mut_slice(), 132, 9)?;
+    change(&rt, left.frames.as_mut_slice(), 132, 9);
     let status = Status::Malformed {
         cone: 0,
         file: FRAMES,
         at: 132,
     };
-    check(&rt, SMALL, &left, status, "")?;
-    Ok(())
+    check_refused(&rt, SMALL, &left, status).expect(&rt, "memory");
 }
 
 #[test]
-fn empty_files_are_no_journal(rt: HostRuntime) -> Result<(), Fail> {
+fn empty_files_are_no_journal(rt: HostRuntime) {
     let files = Files::new(rt.alloc());
     let status = Status::Malformed {
         cone: 0,
         file: JOURNAL,
         at: 0,
     };
-    check(&rt, SMALL, &files, status, "")?;
-    Ok(())
+    check_refused(&rt, SMALL, &files, status).expect(&rt, "memory");
 }
 
 #[test]
-fn a_directory_without_the_bays_is_a_fault_of_the_place(rt: HostRuntime) -> Result<(), Fail> {
-    let mut place = MemPlace::new(rt.alloc())?;
-    let ended = run_at(rt.alloc(), &recover_form(SMALL), &mut place, 0)?;
+fn a_directory_without_the_bays_is_a_fault_of_the_place(rt: HostRuntime) {
+    let mut place = MemPlace::new(rt.alloc()).expect(&rt, "memory");
+    let ended = run_at(rt.alloc(), &recover_form(SMALL), &mut place, 0).expect(&rt, "memory");
     assert!(rt; ended.ended_with(Status::PlaceFault), "the status");
     assert!(rt; ended.wrote(""), "the text");
-    Ok(())
 }
