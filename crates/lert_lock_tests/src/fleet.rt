@@ -14,6 +14,7 @@ use lert_fleet::{Fleet, FleetPass, Turn};
 use lert_io::OutOfMemory;
 use std::alloc::Global;
 use std::sync::Wait;
+use std::test::Fail;
 
 fn shared<T: Sync>(_value: &T) {}
 
@@ -38,18 +39,17 @@ fn two_counters(alloc: Global) -> Result<Vec<Counter>, OutOfMemory>
 }
 
 #[test]
-fn each_cone_counts_its_own_packets(rt: HostRuntime) {
-    let mine = entry_of(rt.alloc(), 0).expect(&rt, "memory");
-    let theirs = entry_of(rt.alloc(), 1).expect(&rt, "memory");
-    let (fleet, mut first) = Fleet::new(
-        rt.alloc(),
-        two_counters(rt.alloc()).expect(&rt, "memory"),
-        2,
-    )
-    .ok()
-    .expect(&rt, "memory");
+fn each_cone_counts_its_own_packets(rt: HostRuntime) -> Result<(), Fail> {
+    let mine = entry_of(rt.alloc(), 0)?;
+    let theirs = entry_of(rt.alloc(), 1)?;
+    let Ok((fleet, mut first)) = Fleet::new(rt.alloc(), two_counters(rt.alloc())?, 2) else {
+        return Err(Fail::new("memory"));
+    };
     ask_both(&fleet, &first);
-    let mut second = fleet.split(&mut first, 1).expect(&rt, "memory");
+    let Ok(mut second) = fleet.split(&mut first, 1) else {
+        let _states = fleet.close(first);
+        return Err(Fail::new("memory"));
+    };
     assert_eq!(rt; (fleet.cones(), first.number(), second.number()), (2, 0, 1));
     assert_eq!(rt; fleet.try_admit(&mut first, 0, &mine), Turn::Done(1));
     assert_eq!(rt;
@@ -64,6 +64,7 @@ fn each_cone_counts_its_own_packets(rt: HostRuntime) {
     for (state, expected) in states.iter().zip(&closed) {
         assert_eq!(rt; (state.name, state.zeros + state.others), *expected);
     }
+    Ok(())
 }
 
 // The contracts compose, cone by cone: a reply is the one at the call's own point of the history that
@@ -98,18 +99,18 @@ fn admit_join_close<S: Held, R: Wait>(
 }
 
 #[test]
-fn a_reply_stands_in_the_history_of_its_cone(rt: HostRuntime) {
-    let mine = entry_of(rt.alloc(), 0).expect(&rt, "memory");
-    let theirs = entry_of(rt.alloc(), 1).expect(&rt, "memory");
-    let (fleet, mut first) = Fleet::new(
-        rt.alloc(),
-        two_counters(rt.alloc()).expect(&rt, "memory"),
-        2,
-    )
-    .ok()
-    .expect(&rt, "memory");
-    let mut second = fleet.split(&mut first, 1).expect(&rt, "memory");
+fn a_reply_stands_in_the_history_of_its_cone(rt: HostRuntime) -> Result<(), Fail> {
+    let mine = entry_of(rt.alloc(), 0)?;
+    let theirs = entry_of(rt.alloc(), 1)?;
+    let Ok((fleet, mut first)) = Fleet::new(rt.alloc(), two_counters(rt.alloc())?, 2) else {
+        return Err(Fail::new("memory"));
+    };
+    let Ok(mut second) = fleet.split(&mut first, 1) else {
+        let _states = fleet.close(first);
+        return Err(Fail::new("memory"));
+    };
     assert_eq!(rt; fleet.admit(&rt, &mut second, 1, &theirs), Ok(1));
     let (reply, states) = admit_join_close(&rt, fleet, first, second, 1, &mine);
     assert_eq!(rt; (reply, states.len()), (Ok(2), 2));
+    Ok(())
 }

@@ -11,15 +11,16 @@ use crate::counter::{Counter, Full, entry_of};
 use lert_base::{Entry, Held};
 use lert_conelock::{ConeLock, Pass, Turn};
 use std::sync::Wait;
+use std::test::Fail;
 
 // The caller that acted first learns of the other one's call by looking alone.
 #[test]
-fn admitted_looks_and_each_call_counts_once(rt: HostRuntime) {
-    let mine = entry_of(rt.alloc(), 0).expect(&rt, "memory");
-    let theirs = entry_of(rt.alloc(), 1).expect(&rt, "memory");
+fn admitted_looks_and_each_call_counts_once(rt: HostRuntime) -> Result<(), Fail> {
+    let mine = entry_of(rt.alloc(), 0)?;
+    let theirs = entry_of(rt.alloc(), 1)?;
     let (lock, mut first) = ConeLock::new(rt.alloc(), Counter::new('a', 8), 2)
         .ok()
-        .expect(&rt, "memory");
+        .ok_or("memory")?;
     let mut second = lock.split(&mut first, 1);
     assert_eq!(rt; (first.number(), second.number()), (0, 1));
     assert_eq!(rt; lock.act(&rt, &mut first, &mine), Ok(1));
@@ -28,20 +29,22 @@ fn admitted_looks_and_each_call_counts_once(rt: HostRuntime) {
     lock.join(&mut first, second);
     let counter = lock.close(first);
     assert_eq!(rt; (counter.zeros, counter.others), (1, 1));
+    Ok(())
 }
 
 #[test]
-fn a_refusal_is_handed_on_and_changes_nothing(rt: HostRuntime) {
-    let entry = entry_of(rt.alloc(), 0).expect(&rt, "memory");
+fn a_refusal_is_handed_on_and_changes_nothing(rt: HostRuntime) -> Result<(), Fail> {
+    let entry = entry_of(rt.alloc(), 0)?;
     let (lock, mut pass) = ConeLock::new(rt.alloc(), Counter::new('a', 1), 1)
         .ok()
-        .expect(&rt, "memory");
+        .ok_or("memory")?;
     assert_eq!(rt; lock.try_act(&mut pass, &entry), Turn::Done(1));
     assert_eq!(rt; lock.try_act(&mut pass, &entry), Turn::Refused(Full));
     assert_eq!(rt; lock.act(&rt, &mut pass, &entry), Err(Full));
     assert_eq!(rt; lock.admitted(&mut pass), 1);
     let counter = lock.close(pass);
     assert_eq!(rt; (counter.zeros, counter.others), (1, 0));
+    Ok(())
 }
 
 // The contracts compose: the reply is the one at the call's own point of the history that the closed
@@ -68,14 +71,15 @@ fn act_join_close<S: Held, R: Wait>(
 }
 
 #[test]
-fn a_reply_stands_in_the_history_of_the_close(rt: HostRuntime) {
-    let mine = entry_of(rt.alloc(), 0).expect(&rt, "memory");
-    let theirs = entry_of(rt.alloc(), 1).expect(&rt, "memory");
+fn a_reply_stands_in_the_history_of_the_close(rt: HostRuntime) -> Result<(), Fail> {
+    let mine = entry_of(rt.alloc(), 0)?;
+    let theirs = entry_of(rt.alloc(), 1)?;
     let (lock, mut first) = ConeLock::new(rt.alloc(), Counter::new('a', 8), 2)
         .ok()
-        .expect(&rt, "memory");
+        .ok_or("memory")?;
     let mut second = lock.split(&mut first, 1);
     assert_eq!(rt; lock.act(&rt, &mut second, &theirs), Ok(1));
     let (reply, counter) = act_join_close(&rt, lock, first, second, &mine);
     assert_eq!(rt; (reply, counter.zeros, counter.others), (Ok(2), 1, 1));
+    Ok(())
 }

@@ -11,6 +11,7 @@ use lert_base::Entry;
 use lert_conelock::{ConeLock, Pass, Turn};
 use lert_fleet::{Fleet, FleetPass};
 use std::sync::Arc;
+use std::test::Fail;
 use std::thread::join_mut;
 
 // The second thread tries once it knows that the first one is inside `apply`.
@@ -31,14 +32,14 @@ fn try_while_held(
 }
 
 #[test]
-fn a_second_thread_finds_the_lock_held(rt: HostRuntime) {
+fn a_second_thread_finds_the_lock_held(rt: HostRuntime) -> Result<(), Fail> {
     let alloc = rt.alloc();
-    let mine = entry_of(alloc, 0).expect(&rt, "memory");
-    let theirs = entry_of(alloc, 1).expect(&rt, "memory");
-    let flags = Arc::new(alloc, Flags::new()).expect(&rt, "memory");
-    let (lock, mut first) = ConeLock::new(alloc, slow_one(&flags).expect(&rt, "memory"), 2)
+    let mine = entry_of(alloc, 0)?;
+    let theirs = entry_of(alloc, 1)?;
+    let flags = Arc::new(alloc, Flags::new())?;
+    let (lock, mut first) = ConeLock::new(alloc, slow_one(&flags)?, 2)
         .ok()
-        .expect(&rt, "memory");
+        .ok_or("memory")?;
     let mut second = lock.split(&mut first, 1);
     let (reply, turn) = join_mut(
         &rt,
@@ -48,18 +49,19 @@ fn a_second_thread_finds_the_lock_held(rt: HostRuntime) {
     lock.join(&mut first, second);
     let slow = lock.close(first);
     assert_eq!(rt; (reply, turn, slow.taken), (Ok(1), Turn::Busy, 1));
+    Ok(())
 }
 
 // A lock that woke nobody would leave the second thread asleep.
 #[test]
-fn a_thread_that_waits_for_the_lock_is_woken(rt: HostRuntime) {
+fn a_thread_that_waits_for_the_lock_is_woken(rt: HostRuntime) -> Result<(), Fail> {
     let alloc = rt.alloc();
-    let mine = entry_of(alloc, 0).expect(&rt, "memory");
-    let theirs = entry_of(alloc, 1).expect(&rt, "memory");
-    let flags = Arc::new(alloc, Flags::new()).expect(&rt, "memory");
-    let (lock, mut first) = ConeLock::new(alloc, slow_one(&flags).expect(&rt, "memory"), 2)
+    let mine = entry_of(alloc, 0)?;
+    let theirs = entry_of(alloc, 1)?;
+    let flags = Arc::new(alloc, Flags::new())?;
+    let (lock, mut first) = ConeLock::new(alloc, slow_one(&flags)?, 2)
         .ok()
-        .expect(&rt, "memory");
+        .ok_or("memory")?;
     let mut second = lock.split(&mut first, 1);
     let replies = join_mut(
         &rt,
@@ -75,6 +77,7 @@ fn a_thread_that_waits_for_the_lock_is_woken(rt: HostRuntime) {
     lock.join(&mut first, second);
     let slow = lock.close(first);
     assert_eq!(rt; (replies, slow.taken), ((Ok(1), Ok(2)), 2));
+    Ok(())
 }
 
 // The second thread tries both cones once it knows that the first one is inside the first cone.
@@ -98,18 +101,18 @@ fn try_both(
 }
 
 #[test]
-fn a_cone_is_free_while_another_is_held(rt: HostRuntime) {
+fn a_cone_is_free_while_another_is_held(rt: HostRuntime) -> Result<(), Fail> {
     let alloc = rt.alloc();
-    let mine = entry_of(alloc, 0).expect(&rt, "memory");
-    let theirs = entry_of(alloc, 1).expect(&rt, "memory");
-    let flags = Arc::new(alloc, Flags::new()).expect(&rt, "memory");
-    let (fleet, mut first) = Fleet::new(
-        alloc,
-        two_slow_ones(alloc, &flags).expect(&rt, "memory"),
-        2,
-    ).ok()
-        .expect(&rt, "memory");
-    let mut second = fleet.split(&mut first, 1).expect(&rt, "memory");
+    let mine = entry_of(alloc, 0)?;
+    let theirs = entry_of(alloc, 1)?;
+    let flags = Arc::new(alloc, Flags::new())?;
+    let Ok((fleet, mut first)) = Fleet::new(alloc, two_slow_ones(alloc, &flags)?, 2) else {
+        return Err(Fail::new("memory"));
+    };
+    let Ok(mut second) = fleet.split(&mut first, 1) else {
+        let _states = fleet.close(first);
+        return Err(Fail::new("memory"));
+    };
     let (reply, turns) = join_mut(
         &rt,
         &mut || fleet.admit(&rt, &mut first, 0, &mine),
@@ -121,21 +124,22 @@ fn a_cone_is_free_while_another_is_held(rt: HostRuntime) {
         (reply, turns, states.len()),
         (Ok(1), (Turn::Busy, Turn::Done(1)), 2)
     );
+    Ok(())
 }
 
 #[test]
-fn a_thread_that_waits_for_a_cone_is_woken(rt: HostRuntime) {
+fn a_thread_that_waits_for_a_cone_is_woken(rt: HostRuntime) -> Result<(), Fail> {
     let alloc = rt.alloc();
-    let mine = entry_of(alloc, 0).expect(&rt, "memory");
-    let theirs = entry_of(alloc, 1).expect(&rt, "memory");
-    let flags = Arc::new(alloc, Flags::new()).expect(&rt, "memory");
-    let (fleet, mut first) = Fleet::new(
-        alloc,
-        two_slow_ones(alloc, &flags).expect(&rt, "memory"),
-        2,
-    ).ok()
-        .expect(&rt, "memory");
-    let mut second = fleet.split(&mut first, 1).expect(&rt, "memory");
+    let mine = entry_of(alloc, 0)?;
+    let theirs = entry_of(alloc, 1)?;
+    let flags = Arc::new(alloc, Flags::new())?;
+    let Ok((fleet, mut first)) = Fleet::new(alloc, two_slow_ones(alloc, &flags)?, 2) else {
+        return Err(Fail::new("memory"));
+    };
+    let Ok(mut second) = fleet.split(&mut first, 1) else {
+        let _states = fleet.close(first);
+        return Err(Fail::new("memory"));
+    };
     let replies = join_mut(
         &rt,
         &mut || fleet.admit(&rt, &mut first, 0, &mine),
@@ -150,4 +154,5 @@ fn a_thread_that_waits_for_a_cone_is_woken(rt: HostRuntime) {
     fleet.join(&mut first, second);
     let states = fleet.close(first);
     assert_eq!(rt; (replies, states.len()), ((Ok(1), Ok(2)), 2));
+    Ok(())
 }
