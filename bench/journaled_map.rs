@@ -2,10 +2,11 @@
 //! same data syncs, counts the keys of each packet behind them, and reports each key at the event that
 //! makes it reach the threshold. It prints the same lines.
 //!
-//! Words: THRESHOLD ROOM CONE_BITS DIR TRACE. The other settings are the program's defaults; the room is
-//! written into the journals and bounds nothing here, and a cone takes as many keys as there are. DIR is
-//! made, and has no journal yet. It keeps no log and no frames. It is the yardstick of `bench/run`, and
-//! ends at the first fault.
+//! Words: THRESHOLD ROOM CONE_BITS WORKERS DIR TRACE.. The other settings are the program's defaults; the room
+//! is written into the journals and bounds nothing here, and a cone takes as many keys as there are. DIR is
+//! made, and has no journal yet. Trace t is read by the thread t mod WORKERS, which brings a cone's keys to it
+//! as the program's workers do: a whole packet, or two or three, where the cone isn't held, and four whatever
+//! it waits. It keeps no log and no frames. It is the yardstick of `bench/run`, and ends at the first fault.
 
 use std::collections::HashMap;
 use std::env;
@@ -13,6 +14,8 @@ use std::fs::{self, File};
 use std::io::{self, BufReader, BufWriter, ErrorKind, Read, Write};
 use std::os::unix::fs::FileExt;
 use std::path::Path;
+use std::sync::Mutex;
+use std::thread;
 
 const TRACE_HEADER: [u8; 8] = *b"LERT\x01\0\0\0";
 const JOURNAL_MAGIC: [u8; 8] = *b"LERTJ\x01\0\0";
@@ -23,9 +26,8 @@ const RATIO: u8 = 4;
 const BASE: u32 = 4096;
 const LEVELS: u8 = 5;
 const PACKET: usize = 1024;
-/// The one worker and the one trace that a packet names.
-const BY: u32 = 0;
-const TRACE: u32 = 0;
+/// A ring holds four packets at most.
+const RING: usize = 4 * PACKET;
 const CLOSED: u8 = 0;
 const OPEN: u8 = 1;
 
@@ -76,10 +78,10 @@ impl Journal {
     }
 
     /// Four calls, two of them data syncs: the packet is on disk before the gate before it opens.
-    fn append(&mut self, keys: &[u64]) -> io::Result<()> {
+    fn append(&mut self, by: u32, trace: u32, keys: &[u64]) -> io::Result<()> {
         self.text.clear();
         let len = 8 + 8 * keys.len() as u32;
-        for number in [len, BY, TRACE] {
+        for number in [len, by, trace] {
             self.text.extend_from_slice(&number.to_le_bytes());
         }
         self.text.extend(keys.iter().flat_map(|key| key.to_le_bytes()));
@@ -98,7 +100,6 @@ impl Journal {
 
 struct Cone {
     journal: Journal,
-    ring: Vec<u64>,
     counts: HashMap<u64, u64>,
     events: u64,
     reports: Vec<(u64, u64)>,
@@ -109,17 +110,16 @@ impl Cone {
         let path = dir.join(format!("cone-{number:03}.journal"));
         Ok(Cone {
             journal: Journal::create(&path, settings.header(number))?,
-            ring: Vec::with_capacity(PACKET),
             counts: HashMap::new(),
             events: 0,
             reports: Vec::new(),
         })
     }
 
-    /// Writes what the ring holds as a packet, and then counts its keys.
-    fn admit(&mut self, threshold: u64) -> io::Result<()> {
-        self.journal.append(&self.ring)?;
-        for key in self.ring.drain(..) {
+    /// Writes keys as a packet, and then counts them.
+    fn admit(&mut self, threshold: u64, by: u32, trace: u32, keys: &[u64]) -> io::Result<()> {
+        self.journal.append(by, trace, keys)?;
+        for &key in keys {
             self.events += 1;
             let count = self.counts.entry(key).or_insert(0);
             *count += 1;
@@ -142,17 +142,73 @@ fn next_key(trace: &mut impl Read) -> io::Result<Option<u64>> {
     Ok(Some(u64::from_le_bytes(bytes)))
 }
 
-/// Brings the keys of a trace to their cones, a packet at a time, and at its end what the rings hold.
-fn route(trace: &mut impl Read, settings: &Settings, cones: &mut [Cone]) -> io::Result<()> {
-    let threshold = u64::from(settings.threshold);
-    while let Some(key) = next_key(trace)? {
-        let cone = &mut cones[settings.cone_of(key)];
-        cone.ring.push(key);
-        if cone.ring.len() == PACKET {
-            cone.admit(threshold)?;
+/// One thread, its rings, and the cones that it shares with the others.
+struct Worker<'a> {
+    by: u32,
+    settings: &'a Settings,
+    cones: &'a [Mutex<Cone>],
+    rings: Vec<Vec<u64>>,
+}
+
+impl Worker<'_> {
+    /// Brings the keys of a trace to their cones, and at its end what the rings hold.
+    fn route(&mut self, number: u32, trace: &mut impl Read) -> io::Result<()> {
+        while let Some(key) = next_key(trace)? {
+            let cone = self.settings.cone_of(key);
+            self.rings[cone].push(key);
+            let len = self.rings[cone].len();
+            if len % PACKET == 0 {
+                self.bring(number, cone, len == RING)?;
+            }
         }
+        for cone in 0..self.cones.len() {
+            if !self.rings[cone].is_empty() {
+                self.bring(number, cone, true)?;
+            }
+        }
+        Ok(())
     }
-    cones.iter_mut().filter(|cone| !cone.ring.is_empty()).try_for_each(|cone| cone.admit(threshold))
+
+    /// Brings what a ring holds to its cone. Where another thread holds that, it waits if it has to, and else
+    /// the keys stay.
+    fn bring(&mut self, trace: u32, cone: usize, waits: bool) -> io::Result<()> {
+        let held = if waits { self.cones[cone].lock().ok() } else { self.cones[cone].try_lock().ok() };
+        let Some(mut held) = held else { return Ok(()) };
+        let threshold = u64::from(self.settings.threshold);
+        held.admit(threshold, self.by, trace, &self.rings[cone])?;
+        self.rings[cone].clear();
+        Ok(())
+    }
+}
+
+/// The keys of a trace, behind its header.
+fn open(trace: &str) -> io::Result<BufReader<File>> {
+    let mut trace = BufReader::with_capacity(BUFFER_LEN, File::open(trace)?);
+    let mut header = [0; 8];
+    trace.read_exact(&mut header)?;
+    if header != TRACE_HEADER {
+        return Err(io::Error::new(ErrorKind::InvalidData, "the trace has another header"));
+    }
+    Ok(trace)
+}
+
+/// Reads the traces of one thread, each to its end.
+fn work(by: u32, workers: u32, settings: &Settings, cones: &[Mutex<Cone>], traces: &[String]) -> io::Result<()> {
+    let rings = cones.iter().map(|_| Vec::with_capacity(RING)).collect();
+    let mut worker = Worker { by, settings, cones, rings };
+    for (number, trace) in traces.iter().enumerate().skip(by as usize).step_by(workers as usize) {
+        worker.route(number as u32, &mut open(trace)?)?;
+    }
+    Ok(())
+}
+
+/// Has all threads read their traces.
+fn route(workers: u32, settings: &Settings, cones: &[Mutex<Cone>], traces: &[String]) -> io::Result<()> {
+    thread::scope(|scope| {
+        let work = |by| move || work(by, workers, settings, cones, traces);
+        let threads: Vec<_> = (0..workers).map(|by| scope.spawn(work(by))).collect();
+        threads.into_iter().try_for_each(|thread| thread.join().unwrap_or_else(|_| Err(io::Error::other("a thread panicked"))))
+    })
 }
 
 fn print(out: &mut impl Write, cones: &[Cone]) -> io::Result<()> {
@@ -175,10 +231,10 @@ fn print(out: &mut impl Write, cones: &[Cone]) -> io::Result<()> {
 
 fn main() -> io::Result<()> {
     let wrong = || {
-        io::Error::new(ErrorKind::InvalidInput, "the words are THRESHOLD ROOM CONE_BITS DIR TRACE")
+        io::Error::new(ErrorKind::InvalidInput, "the words are THRESHOLD ROOM CONE_BITS WORKERS DIR TRACE..")
     };
     let words: Vec<String> = env::args().skip(1).collect();
-    let [threshold, room, cone_bits, dir, trace] = words.as_slice() else {
+    let [threshold, room, cone_bits, workers, dir, traces @ ..] = words.as_slice() else {
         return Err(wrong());
     };
     let number = |word: &String| word.parse::<u32>().map_err(|_| wrong());
@@ -187,20 +243,16 @@ fn main() -> io::Result<()> {
         room: number(room)?,
         cone_bits: number(cone_bits)?,
     };
-    if settings.cone_bits > MOST_CONE_BITS {
+    let workers = number(workers)?;
+    if settings.cone_bits > MOST_CONE_BITS || workers == 0 || traces.is_empty() {
         return Err(wrong());
     }
-    let mut trace = BufReader::with_capacity(BUFFER_LEN, File::open(trace)?);
-    let mut header = [0; 8];
-    trace.read_exact(&mut header)?;
-    if header != TRACE_HEADER {
-        return Err(io::Error::new(ErrorKind::InvalidData, "the trace has another header"));
-    }
     fs::create_dir_all(dir)?;
-    let mut cones: Vec<Cone> = (0..1 << settings.cone_bits)
-        .map(|cone| Cone::create(Path::new(dir), &settings, cone))
+    let cones: Vec<Mutex<Cone>> = (0..1 << settings.cone_bits)
+        .map(|cone| Cone::create(Path::new(dir), &settings, cone).map(Mutex::new))
         .collect::<io::Result<_>>()?;
-    route(&mut trace, &settings, &mut cones)?;
+    route(workers, &settings, &cones, traces)?;
+    let cones: Vec<Cone> = cones.into_iter().filter_map(|cone| cone.into_inner().ok()).collect();
     let mut out = BufWriter::with_capacity(BUFFER_LEN, io::stdout().lock());
     print(&mut out, &cones)
 }

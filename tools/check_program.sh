@@ -12,6 +12,14 @@ run_long() {
     lert run --threshold "$1" --bins "$2" --ratio "$3" --base "$4" --levels "$5" --cone-bits "$6" \
         --room "$7" --packet "$8" d "$9"
 }
+# The defaults but for sixteen cones, the workers, and then the traces.
+run_workers() {
+    local workers=$1
+    shift
+    rm -rf d
+    lert run --threshold 24 --bins 4 --ratio 4 --base 4096 --levels 5 --cone-bits 4 --room 262144 \
+        --packet 1024 --workers "$workers" d "$@"
+}
 run_highest() { rm -rf d && lert run --threshold 4294967295 --cone-bits 0 d "$1"; }
 run_closed() { run "$1" >&-; }
 run_full() { run "$1" >/dev/full; }
@@ -44,7 +52,18 @@ breaks() { gives "the words ${*:2}" 1 '' "lert: usage rule $1\n" lert "${@:2}"; 
 # breaks_long RULE SETTINGS..: the long form with these settings is refused by that rule.
 breaks_long() { gives "the settings ${*:2}" 1 '' "lert: usage rule $1\n" run_long "${@:2}" sevens; }
 
+# breaks_workers RULE WORKERS TRACE..: the long form with so many workers and these traces is refused by that rule.
+breaks_workers() { gives "$2 workers, and $(($# - 2)) traces" 1 '' "lert: usage rule $1\n" run_workers "${@:2}"; }
+
 check_words() {
+    local many
+    mapfile -t many < <(yes sevens | head -n 1025)
+    breaks_workers 0 4
+    breaks_workers 0 four sevens
+    breaks_workers 12 0 sevens
+    breaks_workers 12 65 sevens
+    breaks_workers 12 0 "${many[@]}"
+    breaks_workers 13 4 "${many[@]}"
     breaks 0
     breaks 0 run --threshold 3 --cone-bits 0 d
     breaks 0 run --threshold 3 --cone-bits 1 d sevens
@@ -123,6 +142,8 @@ check_bad_traces() {
     gives 'a file that ends in the header' 4 '' 'lert: trace 0 bad at 7\n' run cut_header
     gives 'a wrong header byte' 4 '' 'lert: trace 0 bad at 3\n' run other_header
     gives 'a file that ends inside a key' 4 '' 'lert: trace 0 bad at 16\n' run cut_key
+    gives 'two bad traces' 4 '' 'lert: trace 1 bad at 16\n' run_workers 4 sevens cut_key other_header
+    gives 'a trace that fails beside a bad one' 3 '' 'lert: trace 2 fault\n' run_workers 4 sevens cut_key .
 }
 
 check_reports() {
@@ -170,6 +191,41 @@ check_journals() {
     gives 'their reports' 0 '' '' cmp <(grep '^[0-9]' report) <(sound --reports closing d)
     gives 'their files, sound and closed' 0 '' '' cmp <(grep '^cone' report) <(sound d | sed 's/ n0 [0-9]*//')
     rm -rf d
+}
+
+# --- several traces
+
+# What is reported, in one order, whatever the place.
+reported() { grep '^[0-9]' "$1" | cut -d' ' -f1 | sort; }
+woven() { journal --weave "$@" | awk '{ keys += $6 } END { print keys }'; }
+
+# A million keys in four traces: whatever the workers, each journal is a weave of its cone's keys, the files are sound,
+# the same keys are reported, and the reports are those of the journals.
+check_workers() {
+    local report='cone 0 events 6 reports 1 closed\n7 3\ntotal events 6 reports 1\n'
+    local workers part four=(quarter0 quarter1 quarter2 quarter3)
+    gives 'one trace twice' 0 "$report" '' run_twice
+    has python3 rustc || return
+    for part in 0 1 2 3; do
+        ./generated_trace $((1 + 250000 * part)) 250000 >"${four[$part]}"
+    done
+    for workers in 1 2 4 8; do
+        run_workers $workers "${four[@]}" >"report$workers"
+        gives "four traces by $workers workers" 0 'total events 1000000\n' '' totals "report$workers"
+        gives 'their journals are weaves' 0 '1000000\n' '' woven $workers d "${four[@]}"
+        gives 'the same keys are reported' 0 '' '' cmp <(reported report1) <(reported "report$workers")
+        gives 'their reports' 0 '' '' cmp <(grep '^[0-9]' "report$workers") <(sound --reports closing d)
+        gives 'their files, sound and closed' 0 '' '' \
+            cmp <(grep '^cone' "report$workers") <(sound d | sed 's/ n0 [0-9]*//')
+    done
+    rm -rf d
+    gives 'drawn runs of several workers' 0 '' '' passes "$top/tools/crews" "$("$top/tools/program")"
+}
+
+run_twice() {
+    rm -rf d
+    lert run --threshold 3 --bins 3 --ratio 2 --base 4 --levels 2 --cone-bits 0 --room 32 --packet 8 \
+        --workers 2 d sevens sevens
 }
 
 # --- recovery
@@ -220,6 +276,7 @@ check_recovery() {
 # --- examples/words
 
 without_hashes() { "$top/examples/words" "$1" | cut -d' ' -f2-; }
+example_words() { "$top/examples/words" "$@" | awk 'NF == 3 { print $3 }' | sort; }
 
 check_example() {
     local report='0 events 48 reports 1 closed\n48 so\nevents 48 reports 1\n'
@@ -227,6 +284,7 @@ check_example() {
     for _ in {1..23}; do echo 'So it'; done >text
     echo 'goes, so.' >>text
     gives 'the example' 0 "$report" '' without_hashes text
+    gives 'the example over two texts' 0 'it\nso\n' '' example_words text text
 }
 
 # Builds the program first, where it isn't built: 126 says that it can't be.
@@ -244,6 +302,7 @@ check_program() {
     check_files
     check_directories
     check_journals
+    check_workers
     check_reports
     check_recovery
     check_example

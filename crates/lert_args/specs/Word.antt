@@ -1,5 +1,5 @@
 -- The words of a command line: texts, numbers, options and names.
-use Rattle.std.specs.Prelude.{ℕ, ◌+◌, ◌==◌, nat_lt, nat_le, Bool, false, not, ◌&&◌, List, [], ◌∷◌, length, Option, Some, None, slice_index_or, if◌then◌else◌}
+use Rattle.std.specs.Prelude.{ℕ, ◌+◌, ◌==◌, nat_lt, nat_le, Bool, false, not, ◌&&◌, List, [], ◌∷◌, drop, length, Option, Some, None, slice_index_or, if◌then◌else◌}
 use Rattle.std.specs.Char.{is_ascii_digit}
 use Rattle.std.specs.List.{list_all}
 use Rattle.std.specs.Str.{bytes_eq}
@@ -42,3 +42,7 @@ is_named words number = is_name (word_at words number)
 -- the names DIR and TRACE stand at a place of the words
 abbrev pub are_names : List (List ℕ) → ℕ → Bool
 are_names words place = is_named words place && is_named words (place + 1)
+
+-- each word from a place on is a name
+abbrev pub all_named : List (List ℕ) → ℕ → Bool
+all_named words place = list_all is_name (drop place words)

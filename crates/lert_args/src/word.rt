@@ -1,9 +1,9 @@
 //! The words of a command line: texts, numbers, options and names.
 
-ghost use Rattle.std.specs.Prelude.{◌≡◌, ◌+◌, ◌^◌, ◌<◌, length, Some, None, MatchOption, true, false};
+ghost use Rattle.std.specs.Prelude.{◌≡◌, ◌+◌, ◌^◌, ◌<◌, ◌≤◌, length, Some, None, MatchOption, true, false};
 ghost use Rattle.std.specs.Char.{is_ascii_digit};
 ghost use Rattle.std.specs.List.{list_all};
-ghost use Rattle.lert_args.specs.Word.{are_names as names_test, is_named as named_test, is_option, is_word as word_test, number_of, option_at, word_at};
+ghost use Rattle.lert_args.specs.Word.{all_named as all_names_test, are_names as names_test, is_named as named_test, is_option, is_word as word_test, number_of, option_at, word_at};
 
 use lert_base::Words;
 
@@ -22,6 +22,19 @@ pub fn are_names(words: &Words, place: usize) -> bool
     ensures { result ≡ names_test words.now place }
 {
     is_named(words, place) && is_named(words, place + 1)
+}
+
+/// Whether each word from a place on can name a directory or a trace.
+pub fn all_named(words: &Words, place: usize) -> bool
+    requires { place ≤ length words.now }
+    ensures { result ≡ all_names_test words.now place }
+{
+    for number in place..words.len() {
+        if !is_named(words, number) {
+            return false;
+        }
+    }
+    true
 }
 
 /// Whether the word with a number can name a directory or a trace.

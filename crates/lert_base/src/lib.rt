@@ -1,5 +1,5 @@
-//! What the layers of LERT share: settings and their edges, count tables, streams of pieces, entries
-//! and the states that take them, words.
+//! What the layers of LERT share: settings and their edges, count tables, streams of pieces, entries,
+//! the states that take them and why a cone refuses them, words.
 //!
 //! The one contract is that of the settings: each reader answers the whole-number formula of its
 //! definition. The traits say what a table of counts, a stream of pieces, a taker of totals and a
@@ -7,6 +7,7 @@
 //! the plain value that it stands for, a list or a record of numbers.
 #![tactic(auto)]
 
+mod cone_fault;
 mod count_table;
 mod entry;
 mod held;
@@ -17,6 +18,7 @@ mod settings;
 mod totals;
 mod words;
 
+pub use cone_fault::ConeFault;
 pub use count_table::CountTable;
 pub use entry::Entry;
 pub use held::Held;

@@ -9,6 +9,3 @@ mod buffers;
 mod transfer;
 
 pub use buffers::{Buffers, Fill};
-
-#[cfg(test)]
-mod tests;

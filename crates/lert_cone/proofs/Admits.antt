@@ -1,5 +1,5 @@
 -- What a cone answers to a packet: it refuses it before the first step, or breaks off in the middle, or takes it.
-use Rattle.std.proofs.Common.{◌≡◌, ◌≢◌, ℕ, ◌+◌, ◌<◌, true, false, List, [], ◌∷◌, ◌++◌, length, Some, None, Result, Err, OnOk, OnErr, refl, sym, ap, ◌∙◌}
+use Rattle.std.proofs.Common.{◌≡◌, ℕ, ◌+◌, ◌<◌, true, false, List, [], ◌∷◌, ◌++◌, length, Some, None, Result, Err, OnOk, OnErr, refl, sym, ap, ◌∙◌}
 use Rattle.std.proofs.Common.{subst, inl}
 use Rattle.std.specs.Prelude.{◌↔◌, IfOk, IfErr, IsErrOf}
 use Rattle.std.specs.Result.{IsErrAnd}
@@ -12,8 +12,8 @@ use Rattle.lert_journal.specs.Payload.{payload_of}
 use Rattle.lert_spec.specs.Edges.{capacity}
 use Rattle.lert_spec.specs.Timely.{IsTimelySoFar}
 use Rattle.lert_cone.specs.declared.acked.Acked.{Acked}
-use Rattle.lert_cone.specs.declared.refusal.ConeFault.{ConeFault}
-use Rattle.lert_cone.specs.declared.refusal.ConeFault.TheVariants.{Closed, Broken, CapacityFull, BayFailed, Unsound, OutOfMemory}
+use Rattle.lert_base.specs.declared.cone_fault.ConeFault.{ConeFault}
+use Rattle.lert_base.specs.declared.cone_fault.ConeFault.TheVariants.{Closed, Broken, CapacityFull, BayFailed, Unsound, OutOfMemory}
 use Rattle.lert_cone.specs.declared.state.ConeState.TheVariants.{Running, Finished, BrokenByBay, BrokenByRead, BrokenByMemory}
 use Rattle.lert_bay.specs.Kept.{Bays, KeepsBay}
 use Rattle.lert_cone.specs.Sound.{IsSoundOver}
@@ -21,7 +21,6 @@ use Rattle.lert_cone.specs.Stands.{Standing, StandsFor, WasSound, Answers, IsSam
 use Rattle.lert_cone.specs.Tally.{Shows}
 use Rattle.lert_cone.specs.Wrote.{Anything}
 use Rattle.lert_bay.proofs.KeptLaws.{IsLawful, keeps_none}
-use Rattle.lert_cone.proofs.FaultLaws.{untold}
 use Rattle.lert_cone.proofs.TakeLaws.{handed_on}
 
 -- the clauses of `admit`

@@ -1,8 +1,8 @@
 -- What a fault in the middle of a call leaves of a cone and of its bay.
-use Rattle.std.proofs.Common.{◌≡◌, ◌≢◌, ℕ, ◌-◌, true, false, Option, Some, None, refl}
+use Rattle.std.proofs.Common.{◌≡◌, ◌≢◌, ◌∙◌, ℕ, true, false, Option, Some, None, refl}
 use Rattle.lert_bay.specs.Files.{Files, Turns}
 use Rattle.lert_cone.specs.declared.state.ConeState.TheVariants.{BrokenByBay, BrokenByRead, Replaying}
-use Rattle.lert_cone.specs.declared.refusal.ConeFault.TheVariants.{BayFailed, Unsound, OutOfMemory}
+use Rattle.lert_base.specs.declared.cone_fault.ConeFault.TheVariants.{BayFailed, Unsound, OutOfMemory}
 use Rattle.lert_cone.specs.declared.tally.TakeFault.{TakeFault}
 use Rattle.lert_cone.specs.declared.tally.TakeFault.TheVariants.{Failed as TakeFailed, Unsound as TakeUnsound, OutOfMemory as TakeOutOfMemory}
 use Rattle.lert_cone.specs.Sound.{IsKept}
@@ -66,6 +66,10 @@ any_turn step before after turns = record {
       (came.0, came.1, tt);
   untold = turns.untold;
 }
+
+-- a bay that is the same tells the same
+pub turns_as : (before after : Option Files) → after ≡ before → Turns Anything before after
+turns_as before after same = record { told = λ old told. (old, same ∙ told, tt); untold = λ none. same ∙ none }
 
 -- what holds in each image of each moment holds as the files read then, and in each image
 pub kept_since : (after since : Files → Type 0) (seen : Files) (P : Files → Type 0) → after seen → ((image : Files) → after image → since image) →

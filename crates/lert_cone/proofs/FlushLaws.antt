@@ -12,10 +12,8 @@ use Rattle.lert_reports.specs.LogRules.{IsInTurn}
 use Rattle.lert_reports.specs.LogText.{LogRecord, next_flush}
 use Rattle.lert_reports.proofs.LogLaws.{EndsWith, ends, last_keeps, last_n0-push, is_closed-push, flushes_in-push}
 use Rattle.lert_spec.specs.declared.numbers.Numbers.{Numbers}
-use Rattle.lert_spec.specs.Counts.{count}
 use Rattle.lert_spec.specs.Edges.{span, offset, edge}
 use Rattle.lert_spec.specs.Limits.{IsValid}
-use Rattle.lert_spec.specs.Look.{closing}
 use Rattle.lert_spec.proofs.EdgeLaws.{steps, span_pos, moves_by_one}
 use Rattle.lert_cone.specs.Framed.{last_flush}
 use Rattle.lert_cone.specs.Logged.{IsLogOf}

@@ -31,7 +31,6 @@ use Rattle.lert_cone.proofs.KeyStep.{IsTaken, held_of, sound_rest, taken_of, up_
 use Rattle.lert_cone.proofs.RecordLaws.{record_fits, logging_more}
 use Rattle.lert_cone.proofs.SoundLaws.{turns_back}
 use Rattle.lert_cone.proofs.TakeLaws.{handed_on}
-use Rattle.lert_io.proofs.Rising.{risen_since}
 use Rattle.lert_cone.specs.Wrote.{LeavesAlone}
 use Rattle.std.specs.Result.{IsErrAnd}
 

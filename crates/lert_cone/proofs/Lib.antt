@@ -13,6 +13,7 @@ pub mod FaultLaws
 pub mod FlushLaws
 pub mod FramedLaws
 pub mod GateLaws
+pub mod HeldLaws
 pub mod KeyCounted
 pub mod KeyLemmas
 pub mod KeyStep

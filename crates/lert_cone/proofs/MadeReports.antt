@@ -1,5 +1,5 @@
 -- The reports of a cone as they are made, of which earlier ones begin later ones.
-use Rattle.std.proofs.Common.{ℕ, zero, suc, ◌≡◌, ◌≢◌, ◌+◌, ◌-◌, ◌^◌, ◌<◌, ◌≤◌, Bool, cond, eqb, List, [], ◌∷◌, ◌++◌, length, take, drop, get_or, map}
+use Rattle.std.proofs.Common.{ℕ, zero, suc, ◌≡◌, ◌≢◌, ◌+◌, ◌^◌, ◌<◌, ◌≤◌, Bool, cond, eqb, List, [], ◌∷◌, ◌++◌, length, take, drop, get_or, map}
 use Rattle.std.proofs.Common.{filter, All, refl, ap, sym, ◌∙◌, arith, inl, inr}
 use Rattle.std.proofs.Common.{subst, length-append, append_assoc}
 use Rattle.std.specs.Prelude.{count_by}

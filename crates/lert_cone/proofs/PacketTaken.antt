@@ -1,15 +1,12 @@
 -- A packet through the calls that it makes: it isn't appended, or it is, and its keys are taken.
 use Rattle.std.specs.Prelude.{IsErr}
-use Rattle.std.proofs.Common.{◌≡◌, ℕ, ◌+◌, ◌^◌, ◌<◌, ◌≤◌, List, [], ◌∷◌, ◌++◌, All, length, Result, Ok, Err, OnOk, OnErr, Some, refl, ap, ◌∙◌, subst, inl}
+use Rattle.std.proofs.Common.{◌≡◌, ℕ, ◌+◌, ◌^◌, ◌<◌, ◌≤◌, List, [], ◌∷◌, ◌++◌, All, length, Result, Ok, Err, OnOk, OnErr, Some, refl, ap, subst, inl}
 use Rattle.std.proofs.Common.{inr, arith}
 use Rattle.std.specs.Result.{IsErrAnd}
 use Rattle.lert_base.specs.Packet.{Packet, events_of}
 use Rattle.lert_bay.specs.Files.{Files, IfTold, Turns}
-use Rattle.lert_bay.specs.Images.{Lasts}
-use Rattle.lert_bay.proofs.Lasting.{lasts_on}
 use Rattle.lert_gatelog.specs.Gated.{IsClosed, Log, next_gate}
 use Rattle.lert_gatelog.specs.Kept.{InEach, KeepsOthers, KeepsBefore, IsWhollySettled, OthersStay}
-use Rattle.lert_io.proofs.Rising.{risen_since}
 use Rattle.lert_journal.specs.Journal.{HasPackets, HasPacketsOrOneMore}
 use Rattle.lert_journal.specs.Payload.{payload_of}
 use Rattle.lert_spec.specs.Edges.{capacity}

@@ -4,7 +4,7 @@ use Rattle.std.proofs.Common.{◌≡◌, ℕ, ◌+◌, ◌*◌, ◌^◌, ◌<◌
 use Rattle.std.proofs.Common.{inl, inr, ◌⊎◌, arith}
 use Rattle.std.proofs.lemmas.Bool.{false≢true}
 use Rattle.lert_base.specs.Packet.{Packet, events_of}
-use Rattle.lert_bay.specs.Files.{Files, IfTold}
+use Rattle.lert_bay.specs.Files.{Files, IfTold, Turns}
 use Rattle.lert_bay.specs.Images.{KeepsImages}
 use Rattle.lert_gatelog.specs.declared.fault.LogFault.{LogFault}
 use Rattle.lert_gatelog.specs.declared.fault.LogFault.TheVariants.{Failed as LogFailed, Malformed as LogMalformed}
@@ -34,12 +34,13 @@ use Rattle.lert_cone.specs.Replays.{Replays, IsThere, WhyRefused, LeavesBehind, 
 use Rattle.lert_cone.specs.Room.{room_of}
 use Rattle.lert_cone.specs.Stands.{Standing, StandsFor, IsCone, IsReplaying, WasSound, is_broken, is_finished}
 use Rattle.lert_cone.specs.Tally.{Tallied, IsRecounted}
-use Rattle.lert_cone.specs.Wrote.{IsShutIfTold, LeavesFile}
+use Rattle.lert_cone.specs.Wrote.{Anything, IsShutIfTold, LeavesFile}
 use Rattle.lert_cone.proofs.GateLaws.{is_next, past_none}
 use Rattle.lert_cone.proofs.ReplayLaws.{journal_on_way, whole_on_way}
 use Rattle.lert_cone.proofs.ReplayStep.{told_once}
 use Rattle.lert_cone.proofs.SoundLaws.{turns_back}
 use Rattle.lert_cone.proofs.WroteLaws.{settled_through, torn_behind}
+use Rattle.lert_cone.proofs.FaultLaws.{turns_as}
 
 -- ---- calls that read alone
 
@@ -132,12 +133,12 @@ ends_finished true = refl
 ends_finished false = refl
 
 module _ {B : Type 0} (files : B → Option Files) (leaves : B → Files → Type 0) (faults : B → ℕ) where
-  pub replaying_cone : (cone : Standing B) (tally : Tallied) (journal : Log) (room keys_room : ℕ) → cone.state ≡ Replaying → journal.file ≡ 0 →
+  pub replaying_cone : (mark : B → ℕ) (cone : Standing B) (tally : Tallied) (journal : Log) (room keys_room : ℕ) → cone.state ≡ Replaying → journal.file ≡ 0 →
       journal.most ≡ most_payload cone.listing.settings
       → room ≡ room_of cone.listing.settings → keys_room ≡ 4 * cone.listing.settings.packet → cone.events ≤ capacity cone.listing.settings → IsValid cone.listing.settings →
-      faults cone.made ≤ faults cone.bay
-      → IsReplaying files leaves cone tally room → IsCone files leaves faults cone tally journal room keys_room
-  replaying_cone cone tally journal room keys_room state_is file most roomy keys_roomy within valid falls replaying = record {
+      faults cone.made ≤ faults cone.bay → Turns Anything (files cone.made) (files cone.bay) → mark cone.bay ≡ mark cone.made
+      → IsReplaying files leaves cone tally room → IsCone files leaves faults mark cone tally journal room keys_room
+  replaying_cone mark cone tally journal room keys_room state_is file most roomy keys_roomy within valid falls turns marked replaying = record {
     file = file;
     most = most;
     roomy = roomy;
@@ -145,6 +146,8 @@ module _ {B : Type 0} (files : B → Option Files) (leaves : B → Files → Typ
     within = within;
     valid = valid;
     never_falls = falls;
+    marked = marked;
+    tells = turns;
     by_bay = λ never. absurd (let other : ⊥ = cc in other);
     none_over = λ still. absurd (false≢true (sym still ∙ ap is_broken state_is));
     counted = λ still. absurd (false≢true (sym still ∙ ap is_broken state_is));
@@ -158,7 +161,7 @@ module _ {B : Type 0} (files : B → Option Files) (leaves : B → Files → Typ
   }
 
   -- as it is adopted
-  pub adopted_cone : (bay made : B) (s : Numbers) (cone : ℕ) (tally : Tallied) (journal : Log) (log : LogPlace) (last : LogPoint) (room keys_room : ℕ) → IsValid s
+  pub adopted_cone : (mark : B → ℕ) (bay made : B) (s : Numbers) (cone : ℕ) (tally : Tallied) (journal : Log) (log : LogPlace) (last : LogPoint) (room keys_room : ℕ) → IsValid s
       → tally.listing ≡ record { settings = s; cone = cone; events = []; closed = last.closed } → IsRecounted tally last.n0 → journal ≡ record {
         file = 0;
         gate = last.offset;
@@ -166,7 +169,7 @@ module _ {B : Type 0} (files : B → Option Files) (leaves : B → Files → Typ
       } → last.offset ≡ 32 → last.log_end ≤ 2 ^ 62
       → log ≡ record { gate = last.log_end; most = most_record s; named = length tally.due.reports } → room ≡ room_of s → keys_room ≡ 4 * s.packet → made ≡ bay
       → IfTold (files bay) (λ seen. IsWhollySettled (leaves bay) seen 0) → IsShutIfTold (files bay) (leaves bay) 1 last.log_end
-      → IsCone files leaves faults (record {
+      → IsCone files leaves faults mark (record {
         bay = bay;
         made = made;
         listing = tally.listing;
@@ -179,8 +182,8 @@ module _ {B : Type 0} (files : B → Option Files) (leaves : B → Files → Typ
         log = log;
         last = last;
       }) tally journal room keys_room
-  adopted_cone bay made s cone tally journal log last room keys_room valid is recounted journal_is offset_is reach log_is room_is keys_room_is made_is settled shut =
-      replaying_cone
+  adopted_cone mark bay made s cone tally journal log last room keys_room valid is recounted journal_is offset_is reach log_is room_is keys_room_is made_is settled shut =
+      replaying_cone mark
       (record {
         bay = bay;
         made = made;
@@ -196,7 +199,7 @@ module _ {B : Type 0} (files : B → Option Files) (leaves : B → Files → Typ
       }) tally journal room keys_room
       refl (ap (λ (j : Log). j.file) journal_is) (ap (λ (j : Log). j.most) journal_is ∙ ap (λ (l : Listing). most_payload l.settings) (sym is))
       (room_is ∙ ap (λ (l : Listing). room_of l.settings) (sym is)) (keys_room_is ∙ ap (λ (l : Listing). 4 * l.settings.packet) (sym is)) (omega arith)
-      (subst (λ (l : Listing). IsValid l.settings) (sym is) valid) (omega (arith, ap faults made_is))
+      (subst (λ (l : Listing). IsValid l.settings) (sym is) valid) (omega (arith, ap faults made_is)) (turns_as (files made) (files bay) (ap files (sym made_is))) (ap mark (sym made_is))
       (record {
         none_over = refl;
         counted = ap (λ (l : Listing). length l.events) is;
@@ -214,7 +217,7 @@ module _ {B : Type 0} (files : B → Option Files) (leaves : B → Files → Typ
       })
 
   -- behind its last packet
-  pub ready_cone : (bay made : B) (tally : Tallied) (events room keys_room : ℕ) (journal journal_after : Log) (log : LogPlace) (last : LogPoint) (over : Option Packet)
+  pub ready_cone : (mark : B → ℕ) (bay made : B) (tally : Tallied) (events room keys_room : ℕ) (journal journal_after : Log) (log : LogPlace) (last : LogPoint) (over : Option Packet)
       (state state_after : ConeState) (end : ℕ)
       → state ≡ Replaying → state_after ≡ cond last.closed Finished Running → last.n0 ≤ length tally.listing.events → journal.gate ≡ end → journal_after ≡ record {
         file = 0;
@@ -222,7 +225,7 @@ module _ {B : Type 0} (files : B → Option Files) (leaves : B → Files → Typ
         most = most_payload tally.listing.settings;
       }
       → IsShutIfTold (files bay) (leaves bay) 0 end
-      → IsCone files leaves faults (record {
+      → IsCone files leaves faults mark (record {
         bay = bay;
         made = made;
         listing = tally.listing;
@@ -235,7 +238,7 @@ module _ {B : Type 0} (files : B → Option Files) (leaves : B → Files → Typ
         log = log;
         last = last;
       }) tally journal room keys_room
-      → IsCone files leaves faults (record {
+      → IsCone files leaves faults mark (record {
         bay = bay;
         made = made;
         listing = tally.listing;
@@ -248,7 +251,7 @@ module _ {B : Type 0} (files : B → Option Files) (leaves : B → Files → Typ
         log = log;
         last = last;
       }) tally journal_after room keys_room
-  ready_cone bay made tally events room keys_room journal journal_after log last over state state_after end is_replaying after_is enough gate_is journal_is shut cone =
+  ready_cone mark bay made tally events room keys_room journal journal_after log last over state state_after end is_replaying after_is enough gate_is journal_is shut cone =
       let was = cone.replaying is_replaying in
       let whole : is_broken state_after ≡ false = ap is_broken after_is ∙ ends_whole last.closed in
       record {
@@ -259,6 +262,8 @@ module _ {B : Type 0} (files : B → Option Files) (leaves : B → Files → Typ
         within = cone.within;
         valid = cone.valid;
         never_falls = cone.never_falls;
+        marked = cone.marked;
+        tells = cone.tells;
         by_bay = λ never. absurd (false≢true (sym whole ∙ ap is_broken never));
         none_over = λ _. was.none_over;
         counted = λ _. was.counted;

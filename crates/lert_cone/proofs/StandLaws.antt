@@ -1,11 +1,11 @@
 -- Which lists a cone stands for: when it is made, through an append and the keys behind it, and when it is finished.
-use Rattle.std.proofs.Common.{◌≡◌, ◌≢◌, ℕ, ◌+◌, ◌-◌, ◌*◌, ◌<◌, ◌≤◌, true, false, List, [], ◌++◌, length, Option, None, All, cond, refl, sym, ap, ◌∙◌}
+use Rattle.std.proofs.Common.{◌≡◌, ◌≢◌, ℕ, ◌+◌, ◌*◌, ◌<◌, ◌≤◌, true, false, List, [], ◌++◌, length, Option, None, All, cond, refl, sym, ap, ◌∙◌}
 use Rattle.std.proofs.Common.{subst, arith, length-append}
 use Rattle.std.specs.Prelude.{replicate}
 use Rattle.std.proofs.lemmas.Bool.{false≢true}
 use Rattle.std.proofs.lemmas.List.Elements.{All-nil}
 use Rattle.lert_base.specs.Packet.{Packet, events_of}
-use Rattle.lert_bay.specs.Files.{Files, IfTold}
+use Rattle.lert_bay.specs.Files.{Files, IfTold, Turns}
 use Rattle.lert_gatelog.specs.Gated.{IsClosed, Log, next_gate}
 use Rattle.lert_io.specs.Fault.{HasRisen}
 use Rattle.lert_journal.specs.Payload.{payload_of}
@@ -29,9 +29,10 @@ use Rattle.lert_cone.specs.Room.{room_of}
 use Rattle.lert_cone.specs.Sound.{IsSound, IsSoundOver, IsKept}
 use Rattle.lert_cone.specs.Stands.{Standing, StandsFor, IsCone, IsSameCone, IsWhole, WasSound, is_broken, is_finished}
 use Rattle.lert_cone.specs.Tally.{Tallied, IsCounted}
-use Rattle.lert_cone.specs.Wrote.{IsShutIfTold}
+use Rattle.lert_cone.specs.Wrote.{Anything, IsShutIfTold}
 use Rattle.lert_cone.proofs.LogLaws.{log_none}
 use Rattle.lert_cone.proofs.AppendLaws.{whole_of}
+use Rattle.lert_cone.proofs.FaultLaws.{turns_as, turns_on}
 
 -- ---- a cone
 
@@ -121,12 +122,12 @@ module _ {B : Type 0} (files : B → Option Files) (leaves : B → Files → Typ
   new_was_sound bay made s cone tally gate log made_is is gate_is log_is rows_are none counted new as_read first told =
       ([], (new_whole bay s cone tally gate log is gate_is log_is rows_are none counted new as_read first (ap files (sym made_is) ∙ told)).files.kept.as_read.sound)
 
-  pub new_cone : (bay made : B) (s : Numbers) (cone : ℕ) (tally : Tallied) (journal : Log) (log : LogPlace) (last : LogPoint) (room keys_room : ℕ) → IsValid s →
+  pub new_cone : (mark : B → ℕ) (bay made : B) (s : Numbers) (cone : ℕ) (tally : Tallied) (journal : Log) (log : LogPlace) (last : LogPoint) (room keys_room : ℕ) → IsValid s →
       tally.listing ≡ record { settings = s; cone = cone; events = []; closed = false }
       → IsCounted tally → journal ≡ record { file = 0; gate = 32; most = most_payload s } → log ≡ record { gate = 8; most = most_record s; named = 0 } → room ≡ room_of s →
       keys_room ≡ 4 * s.packet → made ≡ bay
       → IfTold (files bay) (λ seen. AreNew s cone (leaves bay) seen)
-      → IsCone files leaves faults (record {
+      → IsCone files leaves faults mark (record {
         bay = bay;
         made = made;
         listing = tally.listing;
@@ -139,7 +140,7 @@ module _ {B : Type 0} (files : B → Option Files) (leaves : B → Files → Typ
         log = log;
         last = last;
       }) tally journal room keys_room
-  new_cone bay made s cone tally journal log last room keys_room valid is counted journal_is log_is room_is keys_room_is made_is new = record {
+  new_cone mark bay made s cone tally journal log last room keys_room valid is counted journal_is log_is room_is keys_room_is made_is new = record {
     file = ap (λ (j : Log). j.file) journal_is;
     most = ap (λ (j : Log). j.most) journal_is ∙ ap (λ (l : Listing). most_payload l.settings) (sym is);
     roomy = room_is ∙ ap (λ (l : Listing). room_of l.settings) (sym is);
@@ -147,6 +148,8 @@ module _ {B : Type 0} (files : B → Option Files) (leaves : B → Files → Typ
     within = omega arith;
     valid = subst (λ (l : Listing). IsValid l.settings) (sym is) valid;
     never_falls = omega (arith, ap faults made_is);
+    marked = ap mark (sym made_is);
+    tells = turns_as (files made) (files bay) (ap files (sym made_is));
     by_bay = λ never. absurd (false≢true (ap is_broken never));
     none_over = λ _. refl;
     counted = λ _. ap (λ (l : Listing). length l.events) is;
@@ -215,14 +218,16 @@ module _ {B : Type 0} (files : B → Option Files) (leaves : B → Files → Typ
   }
 
   -- a packet more, and its keys
-  pub more_cone : (bay made last : B) (tally after : Tallied) (events events_after room room_after keys_room : ℕ) (state : ConeState) (over : Option Packet) (journal journal_after : Log)
+  pub more_cone : (mark : B → ℕ) (bay made last : B) (tally after : Tallied) (events events_after room room_after keys_room : ℕ) (state : ConeState) (over : Option Packet)
+      (journal journal_after : Log)
       (log log_after : LogPlace) (point : LogPoint) (packet : Packet)
       → state ≡ Running → after.listing ≡ record tally.listing { events = tally.listing.events ++ packet.keys } → IsCounted after → events_after ≡ events + length packet.keys
       → journal_after ≡ record journal { gate = next_gate journal.gate (payload_of packet) } → room_after ≡ room → 0 < length packet.keys →
       events + length packet.keys ≤ capacity tally.listing.settings
-      → faults bay ≤ faults last → IsShutIfTold (files last) (leaves last) 0 journal_after.gate → IsLogging after log_after room_after →
+      → faults bay ≤ faults last → Turns Anything (files bay) (files last) → mark last ≡ mark bay → IsShutIfTold (files last) (leaves last) 0 journal_after.gate
+      → IsLogging after log_after room_after →
       IsShutIfTold (files last) (leaves last) 1 log_after.gate
-      → IsCone files leaves faults (record {
+      → IsCone files leaves faults mark (record {
         bay = bay;
         made = made;
         listing = tally.listing;
@@ -235,7 +240,7 @@ module _ {B : Type 0} (files : B → Option Files) (leaves : B → Files → Typ
         log = log;
         last = point;
       }) tally journal room keys_room
-      → IsCone files leaves faults (record {
+      → IsCone files leaves faults mark (record {
         bay = last;
         made = made;
         listing = after.listing;
@@ -248,8 +253,8 @@ module _ {B : Type 0} (files : B → Option Files) (leaves : B → Files → Typ
         log = log_after;
         last = point;
       }) after journal_after room_after keys_room
-  more_cone bay made last tally after events events_after room room_after keys_room state over journal journal_after log log_after point packet running is counted events_is journal_is room_is
-      some fits falls shut logging log_shut cone = record {
+  more_cone mark bay made last tally after events events_after room room_after keys_room state over journal journal_after log log_after point packet running is counted events_is journal_is room_is
+      some fits falls turns marked shut logging log_shut cone = record {
         file = ap (λ (j : Log). j.file) journal_is ∙ cone.file;
         most = ap (λ (j : Log). j.most) journal_is ∙ cone.most ∙ ap (λ (l : Listing). most_payload l.settings) (sym is);
         roomy = room_is ∙ (cone.roomy ∙ ap (λ (l : Listing). room_of l.settings) (sym is));
@@ -257,6 +262,8 @@ module _ {B : Type 0} (files : B → Option Files) (leaves : B → Files → Typ
         within = subst (λ (l : Listing). events_after ≤ capacity l.settings) (sym is) (omega (arith, events_is, fits));
         valid = subst (λ (l : Listing). IsValid l.settings) (sym is) cone.valid;
         never_falls = omega (arith, cone.never_falls, falls);
+        marked = marked ∙ cone.marked;
+        tells = turns_on Anything Anything (files made) (files bay) (files last) cone.tells turns;
         by_bay = λ never. absurd (false≢true (sym (ap is_broken running) ∙ ap is_broken never));
         none_over = cone.none_over;
         counted = λ still. omega (arith, ap (λ (l : Listing). length l.events) is, length-append tally.listing.events packet.keys, cone.counted still, events_is);
@@ -270,10 +277,12 @@ module _ {B : Type 0} (files : B → Option Files) (leaves : B → Files → Typ
       }
 
   -- the end
-  pub ended_cone : (bay made last : B) (tally after : Tallied) (events room room_after keys_room : ℕ) (state ended : ConeState) (over : Option Packet) (journal : Log) (log log_after : LogPlace)
+  pub ended_cone : (mark : B → ℕ) (bay made last : B) (tally after : Tallied) (events room room_after keys_room : ℕ) (state ended : ConeState) (over : Option Packet)
+      (journal : Log) (log log_after : LogPlace)
       (point : LogPoint)
       → state ≡ Running → ended ≡ Finished → after.listing ≡ record tally.listing { closed = true } → IsCounted after → room_after ≡ room → faults bay ≤ faults last
-      → IsCone files leaves faults (record {
+      → Turns Anything (files bay) (files last) → mark last ≡ mark bay
+      → IsCone files leaves faults mark (record {
         bay = bay;
         made = made;
         listing = tally.listing;
@@ -286,7 +295,7 @@ module _ {B : Type 0} (files : B → Option Files) (leaves : B → Files → Typ
         log = log;
         last = point;
       }) tally journal room keys_room
-      → IsCone files leaves faults (record {
+      → IsCone files leaves faults mark (record {
         bay = last;
         made = made;
         listing = after.listing;
@@ -299,7 +308,7 @@ module _ {B : Type 0} (files : B → Option Files) (leaves : B → Files → Typ
         log = log_after;
         last = point;
       }) after journal room_after keys_room
-  ended_cone bay made last tally after events room room_after keys_room state ended over journal log log_after point running finished is counted room_is falls cone = record {
+  ended_cone mark bay made last tally after events room room_after keys_room state ended over journal log log_after point running finished is counted room_is falls turns marked cone = record {
     file = cone.file;
     most = cone.most ∙ ap (λ (l : Listing). most_payload l.settings) (sym is);
     roomy = room_is ∙ cone.roomy ∙ ap (λ (l : Listing). room_of l.settings) (sym is);
@@ -307,6 +316,8 @@ module _ {B : Type 0} (files : B → Option Files) (leaves : B → Files → Typ
     within = subst (λ (l : Listing). events ≤ capacity l.settings) (sym is) cone.within;
     valid = subst (λ (l : Listing). IsValid l.settings) (sym is) cone.valid;
     never_falls = omega (arith, cone.never_falls, falls);
+    marked = marked ∙ cone.marked;
+    tells = turns_on Anything Anything (files made) (files bay) (files last) cone.tells turns;
     by_bay = λ never. absurd (false≢true (sym (ap is_broken finished) ∙ ap is_broken never));
     none_over = λ _. cone.none_over (ap is_broken running);
     counted = λ _. ap (λ (l : Listing). length l.events) is ∙ cone.counted (ap is_broken running);
@@ -320,13 +331,16 @@ module _ {B : Type 0} (files : B → Option Files) (leaves : B → Files → Typ
   }
 
   -- one that broke off
-  pub broken_cone : (old new : Standing B) (tally after : Tallied) (journal journal_after : Log) (room room_after keys_room keys_room_after : ℕ) → is_broken new.state ≡ true →
+  pub broken_cone : (mark : B → ℕ) (old new : Standing B) (tally after : Tallied) (journal journal_after : Log) (room room_after keys_room keys_room_after : ℕ)
+      → is_broken new.state ≡ true →
       new.state ≢ Replaying → new.listing.settings ≡ old.listing.settings → new.events ≡ old.events → new.made ≡ old.made
-      → journal_after.file ≡ journal.file → journal_after.most ≡ journal.most → room_after ≡ room → keys_room_after ≡ keys_room → faults old.bay ≤ faults new.bay →
+      → journal_after.file ≡ journal.file → journal_after.most ≡ journal.most → room_after ≡ room → keys_room_after ≡ keys_room → faults old.bay ≤ faults new.bay
+      → Turns Anything (files old.bay) (files new.bay) → mark new.bay ≡ mark old.bay →
       (new.state ≡ BrokenByBay →
       HasRisen (faults new.made) (faults new.bay))
-      → IsCone files leaves faults old tally journal room keys_room → IsCone files leaves faults new after journal_after room_after keys_room_after
-  broken_cone old new tally after journal journal_after room room_after keys_room keys_room_after broken ready same events_are made_is file_is most_is room_is keys_room_is falls by_bay cone =
+      → IsCone files leaves faults mark old tally journal room keys_room → IsCone files leaves faults mark new after journal_after room_after keys_room_after
+  broken_cone mark old new tally after journal journal_after room room_after keys_room keys_room_after broken ready same events_are made_is file_is most_is room_is keys_room_is falls turns
+      marked by_bay cone =
       record {
         file = file_is ∙ cone.file;
         most = most_is ∙ cone.most ∙ ap most_payload (sym same);
@@ -335,6 +349,9 @@ module _ {B : Type 0} (files : B → Option Files) (leaves : B → Files → Typ
         within = subst (λ (s : Numbers). new.events ≤ capacity s) (sym same) (omega (arith, events_are, cone.within));
         valid = subst IsValid (sym same) cone.valid;
         never_falls = omega (arith, ap faults made_is, cone.never_falls, falls);
+        marked = marked ∙ cone.marked ∙ ap mark (sym made_is);
+        tells = turns_on Anything Anything (files new.made) (files old.bay) (files new.bay)
+            (subst (λ (m : B). Turns Anything (files m) (files old.bay)) (sym made_is) cone.tells) turns;
         by_bay = by_bay;
         none_over = λ still. absurd (false≢true (sym still ∙ broken));
         counted = λ still. absurd (false≢true (sym still ∙ broken));

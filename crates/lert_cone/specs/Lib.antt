@@ -5,12 +5,14 @@ pub mod Framed
 pub mod History
 pub mod InStep
 pub mod Listing
+pub mod Locked
 pub mod Logged
 pub mod Reads
 pub mod Record
 pub mod Replay
 pub mod Replays
 pub mod Room
+pub mod Short
 pub mod Sound
 pub mod Stands
 pub mod Takes

@@ -4,7 +4,7 @@ use Rattle.std.specs.declared.snapshot.Snapshot.{Snapshot}
 use Rattle.lert_base.specs.declared.entry.Entry.{Entry}
 use Rattle.lert_base.specs.Entries.{packet_of}
 use Rattle.lert_base.specs.Packet.{Packet, events_of}
-use Rattle.lert_bay.specs.Files.{Files, IfTold}
+use Rattle.lert_bay.specs.Files.{Files, IfTold, Turns}
 use Rattle.lert_bay.specs.declared.bay.TheConstants.{JOURNAL, LOG}
 use Rattle.lert_gatelog.specs.Gated.{Log}
 use Rattle.lert_gatelog.specs.Kept.{IsWhollySettled}
@@ -19,8 +19,8 @@ use Rattle.lert_cone.specs.declared.state.ConeState.{ConeState}
 use Rattle.lert_cone.specs.declared.state.ConeState.TheVariants.{Running, Finished, BrokenByBay, BrokenByRead, BrokenByMemory, Replaying}
 use Rattle.lert_reports.specs.declared.log_point.LogPoint.{LogPoint}
 use Rattle.lert_cone.specs.declared.acked.Acked.{Acked}
-use Rattle.lert_cone.specs.declared.refusal.ConeFault.{ConeFault}
-use Rattle.lert_cone.specs.declared.refusal.ConeFault.TheVariants.{Closed, Broken, CapacityFull, BayFailed, Unsound, OutOfMemory}
+use Rattle.lert_base.specs.declared.cone_fault.ConeFault.{ConeFault}
+use Rattle.lert_base.specs.declared.cone_fault.ConeFault.TheVariants.{Closed, Broken, CapacityFull, BayFailed, Unsound, OutOfMemory}
 use Rattle.lert_cone.specs.History.{most_payload, end_of}
 use Rattle.lert_cone.specs.InStep.{IsInStep, IsLogging}
 use Rattle.lert_cone.specs.Listing.{Listing}
@@ -28,7 +28,7 @@ use Rattle.lert_cone.specs.Record.{LogPlace}
 use Rattle.lert_cone.specs.Room.{room_of}
 use Rattle.lert_cone.specs.Sound.{IsSound, IsSoundAs, IsSoundOver, IsKept, IsKeptWhole}
 use Rattle.lert_cone.specs.Tally.{Tallied, IsCounted, IsRecounted}
-use Rattle.lert_cone.specs.Wrote.{IsShutIfTold}
+use Rattle.lert_cone.specs.Wrote.{Anything, IsShutIfTold}
 use Rattle.lert_cone.specs.declared.tally.TakeFault.{TakeFault}
 use Rattle.lert_cone.specs.declared.tally.TakeFault.TheVariants.{Failed as TakeFailed, Unsound as TakeUnsound, OutOfMemory as TakeOutOfMemory}
 
@@ -159,10 +159,11 @@ pub record IsReplaying {B : Type 0} (files : B → Option Files) (leaves : B →
   pub logging : IsLogging tally cone.log room
   pub log_shut : IsShutIfTold (files cone.bay) (leaves cone.bay) LOG cone.log.gate
 
--- what is so of every cone, of its journal's place and of the rooms of its buffer and of its list of keys. A cone that isn't
--- broken has nothing left over, its counts are those of its keys, and a key takes at most 21 bytes of its journal. The gates
--- of a running one are closed in every image, and the journal and the log are settled
-pub record IsCone {B : Type 0} (files : B → Option Files) (leaves : B → Files → Type 0) (faults : B → ℕ) (cone : Standing B) (tally : Tallied) (journal : Log) (room keys_room : ℕ)
+-- what is so of every cone, of its journal's place and of the rooms of its buffer and of its list of keys. Its bay is the one
+-- that it was made with, which tells its files exactly where it did then. A cone that isn't broken has nothing left over, its
+-- counts are those of its keys, and a key takes at most 21 bytes of its journal. The gates of a running one are closed in
+-- every image, and the journal and the log are settled
+pub record IsCone {B : Type 0} (files : B → Option Files) (leaves : B → Files → Type 0) (faults mark : B → ℕ) (cone : Standing B) (tally : Tallied) (journal : Log) (room keys_room : ℕ)
     : Type 0 where
   pub file : journal.file ≡ JOURNAL
   pub most : journal.most ≡ most_payload cone.listing.settings
@@ -171,6 +172,8 @@ pub record IsCone {B : Type 0} (files : B → Option Files) (leaves : B → File
   pub within : cone.events ≤ capacity cone.listing.settings
   pub valid : IsValid cone.listing.settings
   pub never_falls : faults cone.made ≤ faults cone.bay
+  pub marked : mark cone.bay ≡ mark cone.made
+  pub tells : Turns Anything (files cone.made) (files cone.bay)
   pub by_bay : cone.state ≡ BrokenByBay → HasRisen (faults cone.made) (faults cone.bay)
   pub none_over : is_broken cone.state ≡ false → cone.over ≡ None
   pub counted : is_broken cone.state ≡ false → length cone.listing.events ≡ cone.events

@@ -18,19 +18,19 @@ ghost use Rattle.lert_cone.specs.History.{most_payload};
 ghost use Rattle.lert_cone.specs.InStep.{AreNew};
 ghost use Rattle.lert_cone.specs.Room.{IsRoom};
 ghost use Rattle.lert_cone.specs.Sound.{AreEmpty, FramesStay, IsSound, IsSoundClosed, IsSoundOver, IsKept};
-ghost use Rattle.lert_cone.specs.Stands.{StandsFor, WasSound, Answers, IsSameCone, is_broken, is_refusal, broken_by};
+ghost use Rattle.lert_cone.specs.Stands.{StandsFor, WasSound, Answers, IsSameCone, is_broken, is_finished, is_refusal, broken_by};
 ghost use Rattle.lert_cone.specs.Tally.{Shows};
 ghost use Rattle.lert_cone.specs.Wrote.{Anything};
 
 use crate::acked::Acked;
 use crate::headers::{is_fresh, write_headers};
 use crate::keys::take_packet;
-use crate::refusal::{ConeFault, CreateFault, CreateRefused};
+use crate::refusal::{CreateFault, CreateRefused};
 use crate::report_log::ReportLog;
 use crate::room::ConeRoom;
 use crate::state::ConeState;
 use crate::tally::{TakeFault, Tally};
-use lert_base::{CountTable, Entry, Settings};
+use lert_base::{ConeFault, CountTable, Entry, Settings};
 use lert_bay::Bay;
 use lert_gatelog::GateLog;
 use lert_reports::LogPoint;
@@ -38,6 +38,7 @@ use std::marker::Model;
 use std::snapshot::Snapshot;
 
 mod end;
+mod held;
 mod replay;
 mod terms;
 
@@ -82,7 +83,7 @@ impl<B: Bay, T: CountTable> Model for Cone<B, T> {
       last = c.last;
     } };
 
-    ghost invariant = { λ c. IsCone B.files B.leaves B.faults (record {
+    ghost invariant = { λ c. IsCone B.files B.leaves B.faults B.mark (record {
       bay = c.bay;
       made = c.made.value;
       listing = c.tally.listing;
@@ -260,9 +261,13 @@ impl<B: Bay, T: CountTable> Cone<B, T> {
         self.events
     }
 
-    /// What it may still do. It is broken by its bay only where the bay's count rose since the cone was made.
+    /// What it may still do. It is broken by its bay only where the bay's count rose since the cone was made. The bay is
+    /// the one that it was made with, and tells its files exactly where it did then.
     pub fn state(&self) -> ConeState
         ensures value { result ≡ self.now.state }
+        ensures later { (B.faults self.now.made ≤ B.faults self.now.bay) × (B.mark self.now.bay ≡ B.mark self.now.made)
+            × Turns Anything (B.files self.now.made) (B.files self.now.bay) }
+        ensures closed { is_broken result ≡ false → self.now.listing.closed ≡ is_finished result }
         ensures by_bay { result ≡ ConeState.BrokenByBay → HasRisen (B.faults self.now.made) (B.faults self.now.bay) }
     {
         self.state

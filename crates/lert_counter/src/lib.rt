@@ -9,8 +9,6 @@
 mod digits;
 mod group;
 mod read;
-#[cfg(test)]
-mod tests;
 mod write;
 
 pub use group::Group;

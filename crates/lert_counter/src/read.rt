@@ -288,7 +288,7 @@ pub fn read_group(width: u32, rest: &[u64]) -> Option<Group>
     read_counter(width, rest)
 }
 
-/// The group at the front of the rest of a run text, which isn't tested. Up to eight slots are read.
+/// The group at the front of the rest of a run text, which isn't tested. Up to nine slots are read.
 ///
 /// None comes exactly where the second value is below the first, and the first doesn't close digits that
 /// spell a count.

@@ -11,8 +11,6 @@ mod changes;
 mod cursor;
 mod rows;
 mod table;
-#[cfg(test)]
-mod tests;
 
 pub use cursor::CqfCursor;
 pub use table::Cqf;

@@ -8,7 +8,9 @@ use lert_top::Status;
 use lert_trials::{Ended, Row, SMALL, bay_of, long_form, run_on, run_row, trace, trace_with};
 use std::alloc::Global;
 use std::process::Abort;
+use std::sync::Wait;
 use std::test::Fail;
+use std::thread::Threads;
 
 // The journal of the keys 7, 7, 7: a header, a packet of 32 bytes behind an open gate, and a closed gate.
 const SEVENS: [u8; 70] =
@@ -19,14 +21,14 @@ const SEVENS_TEXT: &str = "cone 0 events 3 reports 1 closed\n7 3\ntotal events 3
 
 // Runs the long form with these numbers over a trace and the bay of the one cone, and wants the status and the text.
 fn check_on(
-    rt: &(impl Abort + AllocGlobal),
+    rt: &(impl Abort + AllocGlobal + Threads + Wait + Sync),
     numbers: [&str; 8],
     trace: &[u8],
     bay: MemBay,
     status: Status,
     text: &str,
 ) -> Result<Ended, OutOfMemory> {
-    let ended = run_on(rt.alloc(), &long_form(numbers), trace, 0, bay)?;
+    let ended = run_on(rt, rt.alloc(), &long_form(numbers), trace, 0, bay)?;
     assert!(rt; ended.ended_with(status), "the status");
     assert!(rt; ended.wrote(text), "the text");
     Ok(ended)
@@ -34,7 +36,7 @@ fn check_on(
 
 // Runs over the keys 7, 7, 7.
 fn check_sevens(
-    rt: &(impl Abort + AllocGlobal),
+    rt: &(impl Abort + AllocGlobal + Threads + Wait + Sync),
     bay: MemBay,
     status: Status,
     text: &str,
@@ -61,7 +63,7 @@ fn packets(alloc: Global, journal: &[u8]) -> Result<Vec<usize>, Fail> {
 // Runs the long form with these numbers over so many keys, each of its own, and wants packets of so many
 // keys in the journal.
 fn check_packets(
-    rt: &(impl Abort + AllocGlobal),
+    rt: &(impl Abort + AllocGlobal + Threads + Wait + Sync),
     numbers: [&str; 8],
     len: u8,
     status: Status,
@@ -123,9 +125,15 @@ fn the_first_cone_with_a_byte_is_named(rt: HostRuntime) {
     let trace = trace(rt.alloc(), &[7, 7, 7]).expect(&rt, "memory");
     for file in 0..3 {
         let bay = bay_with_a_byte(rt.alloc(), file).expect(&rt, "memory");
-        let ended = run_on(rt.alloc(), &long_form(HALVES), trace.as_slice(), 1, bay).expect(
-            &rt, "memory",
-        );
+        let ended = run_on(
+            &rt,
+            rt.alloc(),
+            &long_form(HALVES),
+            trace.as_slice(),
+            1,
+            bay,
+        )
+        .expect(&rt, "memory");
         assert!(rt;
             ended.ended_with(Status::NotFresh { cone: 1 }),
             "the status"
@@ -145,7 +153,7 @@ fn a_cone_without_a_bay_is_a_fault_of_the_place(rt: HostRuntime) {
             failing_read: 0,
             failing_write: 0,
         };
-        let ended = run_row(rt.alloc(), &row).expect(&rt, "memory");
+        let ended = run_row(&rt, rt.alloc(), &row).expect(&rt, "memory");
         assert!(rt; ended.ended_with(Status::PlaceFault), "the status");
         assert!(rt; ended.wrote(""), "the text");
         assert!(rt; ended.trace);

@@ -14,9 +14,6 @@ use lert_bay::Bay;
 use lert_io::Failed;
 use std::marker::Model;
 
-#[cfg(test)]
-mod tests;
-
 // The byte of an open gate.
 const OPEN: u8 = 1;
 

@@ -18,9 +18,6 @@ use std::path::{Path, PathBuf};
 use std::rt::Files;
 use std::{fs, io};
 
-#[cfg(test)]
-mod tests;
-
 // How many bytes of a trace one call of the system asks for.
 const BLOCK: usize = 65_536;
 

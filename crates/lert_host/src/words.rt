@@ -7,9 +7,6 @@ use std::env;
 use std::env::{Env, FillError};
 use std::io::ErrorKind;
 
-#[cfg(test)]
-mod tests;
-
 /// Why there are no words.
 #[derive(Clone, Copy, Debug, PartialEq, Eq)]
 pub enum WordsFault {

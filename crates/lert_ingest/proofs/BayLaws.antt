@@ -7,7 +7,6 @@ use Rattle.std.proofs.lemmas.Option.{slice_get-get_or, slice_get_within, same_So
 use Rattle.lert_bay.specs.Files.{Files}
 use Rattle.lert_cone.specs.Stands.{Standing}
 use Rattle.lert_io.proofs.Rising.{risen_since}
-use Rattle.lert_place.specs.Openings.{AreReturned, AreReturnedSame}
 use Rattle.lert_ingest.specs.Bays.{AreLater, AreMarked, AreTold, HasFailed, IsLater, IsUntold, bays_of}
 
 -- a write into a list changes one place
@@ -100,7 +99,8 @@ module _ {B : Type 0} (files : B → Option Files) (faults mark : B → ℕ) whe
         elim (cases_eq cone at) [
           | inl same ↦
               let old_is : old ≡ before = same_Some old before (sym found ∙ (ap (slice_get bays) (sym same) ∙ was)) in
-              let new_is : new ≡ now = same_Some new now (sym (slice_get-set_same bays at new (slice_get_within bays at old found)) ∙ (ap (slice_get (set bays at new)) (sym same) ∙ is)) in
+              let new_is : new ≡ now = same_Some new now
+              (sym (slice_get-set_same bays at new (slice_get_within bays at old found)) ∙ (ap (slice_get (set bays at new)) (sym same) ∙ is)) in
               subst (IsLater files faults mark before) new_is (subst (λ o. IsLater files faults mark o new) old_is later)
           | inr other ↦
               let kept : before ≡ now = same_Some before now (sym was ∙ (sym (slice_get-set_other bays at cone new other) ∙ is)) in
@@ -174,19 +174,6 @@ pub slice_get-some : {X : Type 0} (xs : List X) (k : ℕ) → k < length xs → 
 slice_get-some [] k below = absurd (omega (arith, below))
 slice_get-some (x ∷ xs) zero below = (x, refl)
 slice_get-some (x ∷ xs) (suc k) below = slice_get-some xs k (omega (arith, below))
-
--- what was put back under its place is what was handed out there
-pub all_returned : {B : Type 0} (mark : B → ℕ) (bays handed : List B) (returned : ℕ → Option B) → handed ≡ bays →
-    ((cone : ℕ) → cone < length bays → returned cone ≡ slice_get bays cone) → AreMarked mark bays → AreReturned mark handed returned
-all_returned mark bays handed returned same back marked = λ number within.
-    let below : number < length bays = subst (λ (xs : List _). number < length xs) same within in
-    let there = slice_get-some bays number below in
-    (there.0, back number below ∙ there.1, marked number there.0 there.1)
-
-pub same_returned : {B : Type 0} (bays handed : List B) (returned : ℕ → Option B) → handed ≡ bays → ((cone : ℕ) → cone < length bays → returned cone ≡ slice_get bays cone) →
-    AreReturnedSame handed returned
-same_returned bays handed returned same back = λ number within.
-    back number (subst (λ (xs : List _). number < length xs) same within) ∙ ap (λ (xs : List _). slice_get xs number) (sym same)
 
 -- one bay more is put back, from behind
 pub put_one : {B : Type 0} (bays left done : List B) (bay : B) (number : ℕ) (before after : ℕ → Option B) → left ++ bay ∷ done ≡ bays → after number ≡ Some bay →

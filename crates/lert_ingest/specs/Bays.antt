@@ -1,13 +1,12 @@
 -- What is known of the bays of a run: those that were opened, and the same ones later, both in ascending cones.
-use Rattle.std.specs.Prelude.{◌≡◌, ◌⊎◌, ℕ, ◌<◌, ◌≤◌, false, List, [], ◌∷◌, length, map, Option, Some, slice_get, ⊤}
-use Rattle.lert_base.specs.Packet.{Packet, events_of}
-use Rattle.lert_base.specs.Weave.{IsWoven, IsPartWoven}
+use Rattle.std.specs.Prelude.{◌≡◌, ◌⊎◌, ℕ, ◌<◌, ◌≤◌, ◌++◌, false, All, List, [], length, map, Option, Some, slice_get, ⊤}
+use Rattle.lert_base.specs.Packet.{Packet, events_of, of_trace}
+use Rattle.lert_base.specs.Weave.{IsWhole, IsWoven, IsPartWoven}
 use Rattle.lert_bay.specs.Files.{Files, IfTold, Turns}
 use Rattle.lert_cone.specs.Sound.{AreEmpty, IsSound, IsSoundAs, IsSoundClosed}
 use Rattle.lert_cone.specs.Stands.{Standing}
 use Rattle.lert_io.specs.Fault.{HasRisen, IsFaultless}
 use Rattle.lert_spec.specs.declared.numbers.Numbers.{Numbers}
-use Rattle.lert_ingest.specs.Lanes.{AreFull}
 
 -- the bays of cones
 abbrev pub bays_of : {B : Type 0} → List (Standing B) → List B
@@ -77,7 +76,8 @@ pub record HasFailed {B : Type 0} (faults : B → ℕ) (bays later : List B) (co
 
 -- no fault of a bay was counted
 abbrev pub AreFaultless : {B : Type 0} → (B → ℕ) → List B → List B → Type 0
-AreFaultless {B = B} faults bays later = (cone : ℕ) (before now : B) → slice_get bays cone ≡ Some before → slice_get later cone ≡ Some now → IsFaultless (faults before) (faults now)
+AreFaultless {B = B} faults bays later = (cone : ℕ) (before now : B) → slice_get bays cone ≡ Some before → slice_get later cone ≡ Some now → IsFaultless (faults before)
+    (faults now)
 
 -- none of the bays up to and with that of a cone
 abbrev pub AreFaultlessTo : {B : Type 0} → (B → ℕ) → ℕ → List B → List B → Type 0
@@ -87,31 +87,34 @@ AreFaultlessTo faults last bays later = EachBay (λ cone before now. cone ≤ la
 abbrev pub AreToldFresh : {B : Type 0} → (B → Option Files) → List B → Type 0
 AreToldFresh {B = B} files bays = (cone : ℕ) (bay : B) → slice_get bays cone ≡ Some bay → (seen : Files) × (files bay ≡ Some seen) × AreEmpty seen
 
--- the files of a cone are sound for a weave of its part of a trace's keys, and closed
-pub record HoldsWeave (s : Numbers) (keys : List ℕ) (cone : ℕ) (seen : Files) : Type 0 where
+-- the files of a cone are sound for a weave of its part of the keys of all traces, and closed
+pub record HoldsWeave (s : Numbers) (workers : ℕ) (traces : List (List ℕ)) (cone : ℕ) (seen : Files) : Type 0 where
   pub history : List Packet
-  pub woven : IsWoven s cone 1 (keys ∷ []) history
+  pub woven : IsWoven s cone workers traces history
   pub sound : IsSoundClosed s cone history seen
 
--- the files of a cone are sound for a weave of a beginning of its part of a trace's keys
-pub record HoldsPart (s : Numbers) (keys : List ℕ) (cone : ℕ) (seen : Files) : Type 0 where
+-- the files of a cone are sound for a weave of beginnings of its part of the keys of all traces
+pub record HoldsPart (s : Numbers) (workers : ℕ) (traces : List (List ℕ)) (cone : ℕ) (seen : Files) : Type 0 where
   pub history : List Packet
-  pub woven : IsPartWoven s cone 1 (keys ∷ []) history
+  pub woven : IsPartWoven s cone workers traces history
   pub sound : IsSound s cone history seen
 
--- the files of a cone are sound for packets that have so many keys together
+-- the files of a cone are sound for packets of which the first so many have a number of keys together
 pub record HoldsKeys (s : Numbers) (number cone : ℕ) (seen : Files) : Type 0 where
   pub history : List Packet
-  pub counted : length (events_of history) ≡ number
+  pub before : List Packet
+  pub behind : List Packet
+  pub history_is : history ≡ before ++ behind
+  pub counted : length (events_of before) ≡ number
   pub sound : IsSound s cone history seen
 
--- The files of a cone are sound for a weave of a beginning of its part of a trace's keys, and not closed. From a number of
--- cones on each packet is full, so that nothing of what waits for a whole packet was handed out.
-pub record HoldsOpen (s : Numbers) (keys : List ℕ) (from cone : ℕ) (seen : Files) : Type 0 where
+-- The files of a cone are sound for a weave of beginnings of its part of the keys of all traces, and not closed. Of a trace that
+-- was still open there each packet is whole, so that nothing of what waits for a whole packet was handed out.
+pub record HoldsOpen (s : Numbers) (workers : ℕ) (traces : List (List ℕ)) (open_trace : ℕ → ℕ → Type 0) (cone : ℕ) (seen : Files) : Type 0 where
   pub history : List Packet
-  pub woven : IsPartWoven s cone 1 (keys ∷ []) history
+  pub woven : IsPartWoven s cone workers traces history
   pub sound : IsSoundAs s cone false history seen
-  pub full : from ≤ cone → AreFull s history
+  pub no_rest : (trace : ℕ) → open_trace cone trace → All (IsWhole s.packet) (of_trace history trace)
 
 -- A run left the files of a cone without a packet: as they were, or, where they had no byte, sound for no packet, and not
 -- closed. A journal with a packet of the run is neither.
@@ -127,13 +130,14 @@ abbrev pub AreUnused : {B : Type 0} → (B → Option Files) → Numbers → Lis
 AreUnused files s bays later = EachBay (IsUnused files s) bays later
 
 -- each bay that tells its files holds a weave
-abbrev pub AreWoven : {B : Type 0} → (B → Option Files) → Numbers → List B → List ℕ → Type 0
-AreWoven {B = B} files s bays keys = (cone : ℕ) → IfHeld files bays cone (HoldsWeave s keys cone)
+abbrev pub AreWoven : {B : Type 0} → (B → Option Files) → Numbers → ℕ → List B → List (List ℕ) → Type 0
+AreWoven {B = B} files s workers bays traces = (cone : ℕ) → IfHeld files bays cone (HoldsWeave s workers traces cone)
 
--- each bay that tells its files holds a weave of a beginning
-abbrev pub ArePartWoven : {B : Type 0} → (B → Option Files) → Numbers → List B → List ℕ → Type 0
-ArePartWoven {B = B} files s bays keys = (cone : ℕ) → IfHeld files bays cone (HoldsPart s keys cone)
+-- each bay that tells its files holds a weave of beginnings
+abbrev pub ArePartWoven : {B : Type 0} → (B → Option Files) → Numbers → ℕ → List B → List (List ℕ) → Type 0
+ArePartWoven {B = B} files s workers bays traces = (cone : ℕ) → IfHeld files bays cone (HoldsPart s workers traces cone)
 
--- each bay that tells its files holds one that isn't closed
-abbrev pub AreOpenWoven : {B : Type 0} → (B → Option Files) → Numbers → ℕ → List B → List ℕ → Type 0
-AreOpenWoven files s from bays keys = (cone : ℕ) → IfHeld files bays cone (HoldsOpen s keys from cone)
+-- and each of which no fault was counted holds one that isn't closed
+abbrev pub AreOpenWoven : {B : Type 0} → (B → Option Files) → (B → ℕ) → Numbers → ℕ → (ℕ → ℕ → Type 0) → List B → List B → List (List ℕ) → Type 0
+AreOpenWoven files faults s workers open_trace bays later traces = EachBay (λ cone before now. IsFaultless (faults before) (faults now)
+    → IfTold (files now) (HoldsOpen s workers traces open_trace cone)) bays later

@@ -11,10 +11,11 @@ use Rattle.lert_spec.specs.declared.numbers.Numbers.{Numbers}
 abbrev pub IsNewRoom : {T C : Type 0} → Numbers → ConeRoom T C → Type 0
 IsNewRoom s room = (room.settings ≡ s) × IsRoom room.settings room.zero room.levels room.store room.entry.keys (length room.buffer.items)
 
--- a cone of a number stands for no packet yet, over files that were sound for none, and may take some
+-- a cone of a number was just made: it stands for no packet yet, over files that were sound for none, and may take some
 pub record IsNew {B : Type 0} (files : B → Option Files) (leaves : B → Files → Type 0) (faults : B → ℕ) (s : Numbers) (number : ℕ) (cone : Standing B) : Type 0 where
   pub stands : StandsFor files leaves faults cone []
   pub sound : WasSound files cone
+  pub made_is : cone.made ≡ cone.bay
   pub listing_is : cone.listing ≡ record { settings = s; cone = number; events = []; closed = false }
   pub state_is : cone.state ≡ Running
 

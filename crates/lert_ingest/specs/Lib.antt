@@ -1,8 +1,12 @@
-pub mod Asked
+pub mod Back
 pub mod Bays
 pub mod Cones
-pub mod Lanes
-pub mod Print
-pub mod Router
-pub mod Run
+pub mod Crew
+pub mod Crews
+pub mod Faults
+pub mod Ingest
+pub mod Shares
+pub mod Sharing
 pub mod Status
+pub mod Stops
+pub mod Traces

@@ -1,9 +1,9 @@
 -- The numbers and fields of statuses, and the status of a run that a fault of a trace, or a refusal of a cone, stops.
 use Rattle.std.specs.Prelude.{ℕ}
-use Rattle.lert_cone.specs.declared.refusal.ConeFault.{ConeFault}
+use Rattle.lert_base.specs.declared.cone_fault.ConeFault.{ConeFault}
 use Rattle.lert_cone.specs.declared.refusal.CreateFault.{CreateFault}
 use Rattle.lert_cone.specs.declared.refusal.CreateFault.TheVariants as create_fault
-use Rattle.lert_cone.specs.declared.refusal.ConeFault.TheVariants as cone_fault
+use Rattle.lert_base.specs.declared.cone_fault.ConeFault.TheVariants as cone_fault
 use Rattle.lert_ingest.specs.declared.status.Status.{Status}
 use Rattle.lert_ingest.specs.declared.status.Status.TheVariants as status
 use Rattle.lert_trace.specs.declared.fault.TraceFault.{TraceFault}

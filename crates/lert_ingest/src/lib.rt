@@ -1,22 +1,16 @@
-//! Runs over one trace: the bays of the cones, the keys on their way to these, and the text of the reports.
+//! Traces read into cones by workers: traces and cones in, traces and cones out.
 //!
-//! The one contract is that of `run_line`: with `Done` the journal of each cone is a weave of its part of the trace, and, where
-//! the bays tell their files, the text that was written is that of these parts and of the reports that closed cones make of
-//! them, which are in time; each other status says why there is no such text. The top call runs its lines with it, and opens,
-//! prints and puts back the bays of a recovery with the parts of it that are public.
+//! The one contract is that of `ingest`: with Ok each trace was read to its end, and each cone stands for a weave of its keys of all
+//! traces; with a fault each journal is a weave of beginnings, and the fault is the first of a fixed order, shown by the
+//! traces and the bays. A run over a place stands on it: it opens these before, and finishes, prints and puts them back behind.
 #![tactic(auto)]
 
-mod bays;
-mod cones;
-mod print;
-mod router;
-mod runs;
+mod crews;
+mod faults;
+mod hiring;
+mod reading;
+mod sharing;
 mod status;
-mod trace_keys;
 
-pub use bays::{open_bays, put_back_bays};
-pub use cones::{bring_back, make_rooms};
-pub use print::print_cones;
-pub use router::Router;
-pub use runs::run_line;
+pub use crews::{Ingested, ingest};
 pub use status::Status;

@@ -18,9 +18,6 @@ use lert_bay::fields::{put, put_u32, put_u64};
 use lert_gatelog::{GateLog, LogFault};
 use lert_io::Failed;
 
-#[cfg(test)]
-mod tests;
-
 /// Appends the packet of an entry. `log` is a journal's, whose greatest payload has 8 + 32P bytes where a
 /// packet has at most 4P keys, and `buffer` holds five bytes more; any bytes are in it afterwards. After
 /// Ok the log stands at the closed gate behind the record, after `Failed` where it stood. Takes no memory.

@@ -8,9 +8,6 @@ use lert_base::{Kept, Numbers, Settings};
 use lert_bay::fields::{put, put_u32};
 use lert_spec::agreed;
 
-#[cfg(test)]
-mod tests;
-
 /// How many bytes a header has. The first gate stands behind them.
 pub const HEADER_LEN: usize = 32;
 

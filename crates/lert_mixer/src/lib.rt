@@ -10,6 +10,3 @@ mod mixer;
 
 pub use cone::{cone_of, key_of, tail_of};
 pub use mixer::{mix, unmix};
-
-#[cfg(test)]
-mod tests;

@@ -7,6 +7,3 @@
 mod table;
 
 pub use table::{PlainCursor, PlainTable};
-
-#[cfg(test)]
-mod tests;

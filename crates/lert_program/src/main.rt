@@ -1,5 +1,5 @@
 //! The program: `lert run --threshold N --cone-bits 0 DIR TRACE`, and `lert run` and `lert recover` with all
-//! eight settings.
+//! eight settings, where a run may name how many workers read its traces.
 //!
 //! It makes the words, the place and the sink over real files and standard output, makes the top
 //! call, prints the line of a status other than `Done` on standard error, and ends with the status's
@@ -18,7 +18,7 @@ fn main(rt: HostRuntime) -> ExitCode {
         Ok(words) => {
             let mut place = FilePlace::new(&rt);
             let mut out = TextSink::new(io::writer(&rt));
-            run(rt.alloc(), &words, &mut place, &mut out)
+            run(&rt, rt.alloc(), &words, &mut place, &mut out)
         }
         // One that isn't UTF-8 is no word of a line.
         Err(WordsFault::NotText) => Status::Usage { rule: 0 },

@@ -8,6 +8,8 @@ use lert_trials::{
     run_row, trace, trace_with,
 };
 use std::process::Abort;
+use std::sync::Wait;
+use std::thread::Threads;
 
 // The text of the keys 7, 7, 7.
 const SEVENS_TEXT: &str = "cone 0 events 3 reports 1 closed\n7 3\ntotal events 3 reports 1\n";
@@ -15,7 +17,7 @@ const SEVENS_TEXT: &str = "cone 0 events 3 reports 1 closed\n7 3\ntotal events 3
 // What a run of the long form with these numbers left of one cone, over a trace, with this write of the text
 // failing, or none where it is 0.
 fn left_by_run(
-    rt: &(impl Abort + AllocGlobal),
+    rt: &(impl Abort + AllocGlobal + Threads + Wait + Sync),
     trace: &[u8],
     failing_write: u64,
     status: Status,
@@ -28,7 +30,7 @@ fn left_by_run(
         failing_read: 0,
         failing_write,
     };
-    let ended = run_row(rt.alloc(), &row)?;
+    let ended = run_row(rt, rt.alloc(), &row)?;
     assert!(rt; ended.ended_with(status), "the status");
     assert!(rt; ended.wrote(text), "the text");
     let Ended { files, .. } = ended;
@@ -37,13 +39,13 @@ fn left_by_run(
 
 // Recovers files with these numbers, wants the status and the text, and answers what it left of the files.
 fn check(
-    rt: &(impl Abort + AllocGlobal),
+    rt: &(impl Abort + AllocGlobal + Threads + Wait + Sync),
     numbers: [&str; 8],
     files: &Files,
     status: Status,
     text: &str,
 ) -> Result<Files, OutOfMemory> {
-    let ended = recover_files(rt.alloc(), &recover_form(numbers), files)?;
+    let ended = recover_files(rt, rt.alloc(), &recover_form(numbers), files)?;
     assert!(rt; ended.ended_with(status), "the status");
     assert!(rt; ended.wrote(text), "the text");
     let Ended { files, .. } = ended;
@@ -52,7 +54,7 @@ fn check(
 
 // Recovers files with these numbers, wants this refusal, and the files as they were.
 fn check_refused(
-    rt: &(impl Abort + AllocGlobal),
+    rt: &(impl Abort + AllocGlobal + Threads + Wait + Sync),
     numbers: [&str; 8],
     files: &Files,
     status: Status,
@@ -63,7 +65,10 @@ fn check_refused(
 }
 
 // What a run over the keys 7, 7, 7 left.
-fn sevens(rt: &(impl Abort + AllocGlobal), failing_write: u64) -> Result<Files, OutOfMemory> {
+fn sevens(
+    rt: &(impl Abort + AllocGlobal + Threads + Wait + Sync),
+    failing_write: u64,
+) -> Result<Files, OutOfMemory> {
     let trace = trace(rt.alloc(), &[7, 7, 7])?;
     let (status, text) = match failing_write {
         0 => (Status::Done, SEVENS_TEXT),
@@ -73,7 +78,12 @@ fn sevens(rt: &(impl Abort + AllocGlobal), failing_write: u64) -> Result<Files, 
 }
 
 // Changes one byte of a file.
-fn change(rt: &(impl Abort + AllocGlobal), bytes: &mut [u8], at: usize, byte: u8) {
+fn change(
+    rt: &(impl Abort + AllocGlobal + Threads + Wait + Sync),
+    bytes: &mut [u8],
+    at: usize,
+    byte: u8,
+) {
     let place = bytes.get_mut(at).expect(rt, "such a place");
     *place = byte;
 }
@@ -105,7 +115,7 @@ fn a_run_that_was_full_is_recovered_open(rt: HostRuntime) {
 
 // Runs over these bytes, of which this read fails, or none where it is 0, and recovers what was left.
 fn check_stopped(
-    rt: &(impl Abort + AllocGlobal),
+    rt: &(impl Abort + AllocGlobal + Threads + Wait + Sync),
     bytes: &[u8],
     failing_read: u64,
     status: Status,
@@ -118,7 +128,7 @@ fn check_stopped(
         failing_read,
         failing_write: 0,
     };
-    let ended = run_row(rt.alloc(), &row)?;
+    let ended = run_row(rt, rt.alloc(), &row)?;
     assert!(rt; ended.ended_with(status), "the status");
     check(rt, SMALL, &ended.files, Status::Done, text)?;
     Ok(())
@@ -153,7 +163,7 @@ fn the_first_cone_that_is_refused_is_named_though_a_later_one_fails(rt: HostRunt
         (&recover_form(halves), malformed),
     ];
     for (words, status) in rows {
-        let ended = run_before_failing(rt.alloc(), words, bytes.as_slice(), &files, 1).expect(
+        let ended = run_before_failing(&rt, rt.alloc(), words, bytes.as_slice(), &files, 1).expect(
             &rt, "memory",
         );
         assert!(rt; ended.ended_with(status), "the status");
@@ -260,7 +270,7 @@ fn empty_files_are_no_journal(rt: HostRuntime) {
 #[test]
 fn a_directory_without_the_bays_is_a_fault_of_the_place(rt: HostRuntime) {
     let mut place = MemPlace::new(rt.alloc()).expect(&rt, "memory");
-    let ended = run_at(rt.alloc(), &recover_form(SMALL), &mut place, 0).expect(&rt, "memory");
+    let ended = run_at(&rt, rt.alloc(), &recover_form(SMALL), &mut place, 0).expect(&rt, "memory");
     assert!(rt; ended.ended_with(Status::PlaceFault), "the status");
     assert!(rt; ended.wrote(""), "the text");
 }

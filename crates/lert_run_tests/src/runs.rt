@@ -3,21 +3,24 @@
 use lert_top::Status;
 use lert_trials::{Row, long_form, run_row};
 use std::process::Abort;
+use std::sync::Wait;
 use std::test::Fail;
+use std::thread::Threads;
 
 mod cones;
+mod crews;
 mod faults;
 mod reports;
 mod usage;
 
 // Runs a row over a place that has its trace and its bays, and wants the status and the text.
 fn check(
-    rt: &(impl Abort + AllocGlobal),
+    rt: &(impl Abort + AllocGlobal + Threads + Wait + Sync),
     row: &Row,
     status: Status,
     text: &str,
 ) -> Result<(), Fail> {
-    let ended = run_row(rt.alloc(), row)?;
+    let ended = run_row(rt, rt.alloc(), row)?;
     assert!(rt; ended.ended_with(status), "the status");
     assert!(rt; ended.wrote(text), "the text");
     let opened = !matches!(status, Status::Usage { rule: _ } | Status::PlaceFault);
@@ -28,7 +31,7 @@ fn check(
 
 // Runs the long form with these numbers over a trace, in which no call fails.
 fn check_long(
-    rt: &(impl Abort + AllocGlobal),
+    rt: &(impl Abort + AllocGlobal + Threads + Wait + Sync),
     numbers: [&str; 8],
     trace: &[u8],
     status: Status,

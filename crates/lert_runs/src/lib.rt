@@ -9,8 +9,6 @@
 mod grow;
 mod place;
 mod search;
-#[cfg(test)]
-mod tests;
 mod walk;
 
 pub use grow::{Growth, grown};

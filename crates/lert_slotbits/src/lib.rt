@@ -10,8 +10,6 @@ mod count;
 mod gap;
 mod row;
 mod scan;
-#[cfg(test)]
-mod tests;
 mod words;
 
 pub use bits::Bits;

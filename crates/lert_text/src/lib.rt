@@ -62,6 +62,3 @@ pub fn total_line(events: u64, reports: u64, into: &mut [u8; LINE]) -> usize
     let at = push_number(into, at, reports);
     push_text(into, at, b"\n")
 }
-
-#[cfg(test)]
-mod tests;

@@ -1,5 +1,5 @@
 -- Journals that stay as they were.
-use Rattle.std.proofs.Common.{◌≡◌, ℕ, List, [], ◌∷◌, ◌++◌, length, Option, refl, sym, ◌∙◌, subst, arith, length-append}
+use Rattle.std.proofs.Common.{List, [], ◌∷◌, ◌++◌, Option, refl, sym, ◌∙◌, subst, length-append}
 use Rattle.lert_bay.specs.Files.{Files}
 use Rattle.lert_cone.specs.Stands.{Standing}
 use Rattle.lert_recover.specs.Replayed.{IsJournalSame}

@@ -14,7 +14,7 @@ use Rattle.lert_ingest.specs.declared.status.Status.{Status}
 use Rattle.lert_ingest.specs.declared.status.Status.TheVariants.{Done, Usage, PlaceFault, TraceFault, BadTrace, TooLong, NotFresh, BayFault, CapacityFull}
 use Rattle.lert_ingest.specs.declared.status.Status.TheVariants.{Malformed, OtherSettings, OutFault, OutOfMemory}
 use Rattle.lert_ingest.proofs.BayLaws.{slice_get-some}
-use Rattle.lert_ingest.proofs.Ending.{failed_or_not, no_rise}
+use Rattle.lert_run.proofs.Ending.{failed_or_not, no_rise}
 
 module _ {K B : Type 0} (taken : K → Option (List ℕ)) (sink_faults : K → ℕ) (files : B → Option Files) (bay_faults : B → ℕ) (s : Numbers)
     (before after : K) (bays later : List B) where

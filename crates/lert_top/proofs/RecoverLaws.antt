@@ -18,11 +18,11 @@ use Rattle.lert_recover.specs.Replayed.{FirstLeaves}
 use Rattle.lert_reports.specs.Log.{is_closed}
 use Rattle.lert_spec.specs.declared.numbers.Numbers.{Numbers}
 use Rattle.lert_ingest.specs.Bays.{AreLater, AreUntouched, IfHeld, bays_of}
-use Rattle.lert_ingest.specs.Lanes.{state_of}
-use Rattle.lert_ingest.specs.Print.{ArePrintable, printed_as}
+use Rattle.lert_run.specs.Print.{state_of}
+use Rattle.lert_run.specs.Print.{ArePrintable, printed_as}
 use Rattle.lert_top.specs.Recovered.{AreOpenOver, AreRecovered, IsOpenOver, IsRecovered, IsUnopened, LowerAreFormed, printed_for, reopen_status}
 use Rattle.lert_ingest.proofs.BayLaws.{bay_at, bay_is, slice_get-seam, slice_get-some}
-use Rattle.lert_ingest.proofs.PrintLaws.{printed_at}
+use Rattle.lert_run.proofs.EndLaws.{printed_at}
 
 -- a state tells whether a cone is finished
 same_end : (one other : Bool) → state_of one ≡ state_of other → one ≡ other

@@ -17,7 +17,7 @@ use Rattle.lert_spec.specs.declared.numbers.Numbers.{Numbers}
 use Rattle.lert_spec.specs.Lines.{Printed, lines}
 use Rattle.lert_spec.specs.Look.{closing, look}
 use Rattle.lert_ingest.specs.Bays.{AreFaultless, AreFaultlessTo, AreUntouched, EachBay, HasFailed, IfHeld}
-use Rattle.lert_ingest.specs.Lanes.{state_of}
+use Rattle.lert_run.specs.Print.{state_of}
 use Rattle.lert_text.specs.Page.{IsCut}
 use Rattle.lert_ingest.specs.declared.status.Status.{Status}
 use Rattle.lert_ingest.specs.declared.status.Status.TheVariants.{Done, Usage, PlaceFault, TraceFault, BadTrace, TooLong, NotFresh, BayFault, CapacityFull}

@@ -1,9 +1,8 @@
 //! The top call of LERT, `run`, and `recover_to`, which opens what it left.
 //!
-//! The one contract is that of `run`: it is decided by the words, the trace, the bays and the sink alone.
-//! With `Done` the journal of each cone is a weave of its part of the trace, and, where the bays tell their
-//! files, the text that was written is that of these parts and of the reports that closed cones make of them,
-//! which are in time; each other status says why there is no such text.
+//! The one contract is that of `run`: with `Done` the journal of each cone is a weave of its part of the keys of all traces,
+//! and the text that was written is that of these journals and of the reports that closed cones make of them, which are in
+//! time; each other status says why there is no such text. It holds of every schedule of the workers.
 //! The program stands on it.
 #![tactic(auto)]
 

@@ -3,7 +3,7 @@
 ghost use Rattle.std.specs.Prelude.{◌≡◌, ◌≢◌, ◌^◌, ◌<◌, ◌≤◌, ℕ, List, [], length, slice_get};
 ghost use Rattle.std.specs.VecDeque.{deque_capacity};
 ghost use Rattle.lert_io.specs.Fault.{HasRisen};
-ghost use Rattle.lert_ingest.specs.Asked.{IsAskedForBays};
+ghost use Rattle.lert_run.specs.Asked.{IsAskedForBays};
 ghost use Rattle.lert_place.specs.Openings.{AreReturned, AreReturnedSame, bays_granted};
 ghost use Rattle.lert_ingest.specs.Bays.{AreLater};
 ghost use Rattle.lert_top.specs.Recovered.{AreJournalsSame, AreSoundStill, HasRecovered, RecoveryShows};
@@ -11,9 +11,10 @@ ghost use Rattle.lert_top.specs.Recovered.{AreJournalsSame, AreSoundStill, HasRe
 use crate::reopened_cones::reopen_cones;
 use lert_base::Settings;
 use lert_bay::Bay;
-use lert_ingest::{Status, bring_back, open_bays, print_cones, put_back_bays};
+use lert_ingest::Status;
 use lert_io::{Failed, OutOfMemory, Sink};
 use lert_place::Place;
+use lert_run::{bring_back, open_bays, print_cones, put_back_bays};
 use lert_text::Page;
 use std::alloc::Global;
 use std::collections::VecDeque;

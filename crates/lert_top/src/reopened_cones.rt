@@ -10,8 +10,9 @@ use lert_base::Settings;
 use lert_bay::Bay;
 use lert_cone::{Cone, ConeRoom};
 use lert_cqf::Cqf;
-use lert_ingest::{Status, bring_back, make_rooms};
+use lert_ingest::Status;
 use lert_recover::{ReopenFault, ReopenRefused, reopen};
+use lert_run::{bring_back, make_rooms};
 use std::alloc::Global;
 use std::collections::VecDeque;
 

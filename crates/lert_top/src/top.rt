@@ -1,52 +1,64 @@
 //! The top call.
 
-ghost use Rattle.std.specs.Prelude.{◌≡◌, ◌≢◌, ◌↔◌, ◌∷◌, ◌^◌, ◌<◌, ℕ, List, [], length, slice_get, Some, None};
+ghost use Rattle.std.specs.Prelude.{◌≡◌, ◌≢◌, ◌↔◌, ◌^◌, ◌<◌, ℕ, List, [], length, slice_get, Some, None};
 ghost use Rattle.lert_args.specs.Command.{command, usage};
+ghost use Rattle.lert_args.specs.Names.{names_of};
 ghost use Rattle.lert_args.specs.Word.{word_at};
-ghost use Rattle.lert_ingest.specs.Asked.{IsAsked, IsAskedForBays};
 ghost use Rattle.lert_ingest.specs.Bays.{AreLater};
-ghost use Rattle.lert_ingest.specs.Run.{HasRun};
 ghost use Rattle.lert_io.specs.Fault.{HasRisen};
 ghost use Rattle.lert_place.specs.Openings.{AreReturned, AreReturnedSame};
+ghost use Rattle.lert_run.specs.Asked.{IsAsked, IsAskedForBays};
+ghost use Rattle.lert_run.specs.Ran.{HasPutBack};
+ghost use Rattle.lert_run.specs.Run.{HasRun};
 ghost use Rattle.lert_top.specs.Recovered.{HasRecovered};
 
 use crate::recover::recover_to;
-use lert_args::{Line, Task};
+use lert_args::{Line, Places, Task};
 use lert_base::Words;
-use lert_ingest::{Status, run_line};
+use lert_ingest::Status;
 use lert_io::Sink;
 use lert_place::Place;
+use lert_run::{Job, run_line};
 use std::alloc::Global;
+use std::sync::Wait;
+use std::thread::Threads;
 
 /// Does what the line asks for.
 ///
-/// `run` reports each key that occurs as often as the line's threshold says, soon after it does. It opens the
-/// line's trace and then the bays of all cones in its directory, looks whether these are empty, writes
-/// their headers, reads the trace to its end into the cones, each packet of which goes to the cone's
-/// journal, prints, and puts all back, in this order, and stops at the first fault; what was opened is put
-/// back in each case. Nothing is written to the sink before the trace was read to its end. What it holds in
-/// memory is the cones, a ring of four packets for each of them, and a page of text.
+/// `run` reports each key that occurs as often as the line's threshold says, in all traces together, soon after it does. It
+/// opens the line's traces in their order and then the bays of all cones in its directory, looks whether these are empty,
+/// writes their headers, has the line's workers read the traces to their ends into the cones, each packet of which goes to the
+/// cone's journal, closes the cones, prints, and puts all back, in this order, and stops at the first fault; what was opened is
+/// put back in each case. Nothing is written to the sink before all traces were read to their ends. What it holds in memory is
+/// the cones, for each worker a ring of four packets for each of them, and a page of text.
 ///
 /// `recover` opens what runs left, as `recover_to` does.
-pub fn run<P: Place, K: Sink>(alloc: Global, words: &Words, place: &mut P, out: &mut K) -> Status
+pub fn run<P: Place, K: Sink, R: Threads + Wait + Sync>(
+    rt: &R,
+    alloc: Global,
+    words: &Words,
+    place: &mut P,
+    out: &mut K,
+) -> Status
     requires asked { P.asked place.old ≡ [] }
     // The words alone decide a usage fault. Nothing is asked or written then.
     ensures usage { (rule : ℕ) → (result ≡ Status.Usage rule) ↔ (usage words.now ≡ Some rule) }
     ensures at_usage { (rule : ℕ) → usage words.now ≡ Some rule → (place.new ≡ place.old) × (out.new ≡ out.old) }
-    // Otherwise the place is asked for the line's trace, then for the bays of the cones, and for nothing else.
-    ensures asked { (line : Line) (trace : ℕ) → command words.now ≡ Some line → line.task ≡ Task.Run trace → usage words.now ≡ None →
-        IsAsked (word_at words.now trace) (word_at words.now line.dir) (2 ^ line.settings.cone_bits) (P.asked place.new) result }
+    // Otherwise the place is asked for the line's traces, then for the bays of the cones, and for nothing else.
+    ensures asked { (line : Line) (workers : ℕ) (traces : Places) → command words.now ≡ Some line → line.task ≡ Task.Run workers traces → usage words.now ≡ None →
+        IsAsked (names_of words.now traces) (word_at words.now line.dir) (2 ^ line.settings.cone_bits) (P.asked place.new) result }
     ensures place_fault { result ≡ Status.PlaceFault → HasRisen (P.faults place.old) (P.faults place.new) × (out.new ≡ out.old)
         × AreReturnedSame (P.handed_traces place.new) (P.returned_trace place.new) × AreReturnedSame (P.handed_bays place.new) (P.returned_bay place.new) }
     // What was opened is put back, whatever the status, which says what came of it.
     ensures returned { usage words.now ≡ None → AreReturned P.Trace.mark (P.handed_traces place.new) (P.returned_trace place.new)
         × AreReturned P.Bay.mark (P.handed_bays place.new) (P.returned_bay place.new) }
-    ensures ran { (line : Line) (trace : ℕ) → command words.now ≡ Some line → line.task ≡ Task.Run trace → usage words.now ≡ None → result ≢ Status.PlaceFault →
-        (opened back : P.Trace) × (backs : List P.Bay) × (P.handed_traces place.new ≡ opened ∷ []) × (P.returned_trace place.new 0 ≡ Some back)
-        × ((cone : ℕ) → cone < length backs → P.returned_bay place.new cone ≡ slice_get backs cone)
-        × AreLater P.Bay.files P.Bay.faults P.Bay.mark (P.handed_bays place.new) backs
-        × HasRun P.Trace.remaining P.Trace.faults K.taken K.faults P.Bay.files P.Bay.faults line.settings
-        opened back out.old out.new (P.handed_bays place.new) backs result }
+    ensures ran { (line : Line) (workers : ℕ) (traces : Places) → command words.now ≡ Some line → line.task ≡ Task.Run workers traces → usage words.now ≡ None →
+        result ≢ Status.PlaceFault → (backs : List P.Trace) × (bays : List P.Bay)
+        × HasPutBack P.Trace.faults P.Trace.mark P.Bay.files P.Bay.faults P.Bay.mark (P.handed_traces place.new) backs (P.returned_trace place.new)
+        (P.handed_bays place.new) bays (P.returned_bay place.new)
+        × (result ≢ Status.OutOfMemory → length (P.handed_traces place.new) ≡ traces.number)
+        × HasRun P.Trace.remaining P.Trace.faults K.taken K.faults P.Bay.files P.Bay.faults line.settings workers
+        (P.handed_traces place.new) backs out.old out.new (P.handed_bays place.new) bays result }
     // A line of a recovery asks for the bays of the cones alone.
     ensures asked_again { (line : Line) → command words.now ≡ Some line → line.task ≡ Task.Recover → usage words.now ≡ None →
         IsAskedForBays (word_at words.now line.dir) (2 ^ line.settings.cone_bits) [] (P.asked place.new) result }
@@ -59,9 +71,15 @@ pub fn run<P: Place, K: Sink>(alloc: Global, words: &Words, place: &mut P, out: 
         Ok(line) => line,
         Err(usage) => return Status::Usage { rule: usage.rule },
     };
-    let dir = words.word(line.dir);
     match line.task {
-        Task::Run { trace } => run_line(alloc, &line.settings, words.word(trace), dir, place, out),
-        Task::Recover => recover_to(alloc, &line.settings, dir, place, out),
+        Task::Run { workers, traces } => {
+            let job = Job {
+                workers,
+                dir: line.dir,
+                traces,
+            };
+            run_line(rt, alloc, &line.settings, words, job, place, out)
+        }
+        Task::Recover => recover_to(alloc, &line.settings, words.word(line.dir), place, out),
     }
 }

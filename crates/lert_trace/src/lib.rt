@@ -10,8 +10,6 @@
 mod fault;
 mod header;
 mod reader;
-#[cfg(test)]
-mod tests;
 mod window;
 
 pub use fault::TraceFault;

@@ -6,10 +6,14 @@
 
 mod cone_files;
 mod lines;
+mod pair;
 mod runs;
 mod traces;
 
 pub use cone_files::{Files, bay_of};
-pub use lines::{SMALL, long_form, recover_form, short_form};
-pub use runs::{Ended, Row, recover_files, run_at, run_before_failing, run_on, run_row};
+pub use lines::{SMALL, crew_form, long_form, recover_form, short_form};
+pub use pair::run_pair;
+pub use runs::{
+    Ended, Row, Two, recover_files, run_at, run_before_failing, run_on, run_row, run_two,
+};
 pub use traces::{HEADER, trace, trace_with};

@@ -85,3 +85,41 @@ pub fn recover_form<'a>(numbers: [&'a str; 8]) -> [&'a str; 18] {
         "d",
     ]
 }
+
+/// The words of the long form, with its eight numbers and its number of workers, over the traces `a` and this one.
+pub fn crew_form<'a>(numbers: [&'a str; 8], workers: &'a str, second: &'a str) -> [&'a str; 22] {
+    let [
+        threshold,
+        bins,
+        ratio,
+        base,
+        levels,
+        cone_bits,
+        room,
+        packet,
+    ] = numbers;
+    [
+        "run",
+        "--threshold",
+        threshold,
+        "--bins",
+        bins,
+        "--ratio",
+        ratio,
+        "--base",
+        base,
+        "--levels",
+        levels,
+        "--cone-bits",
+        cone_bits,
+        "--room",
+        room,
+        "--packet",
+        packet,
+        "--workers",
+        workers,
+        "d",
+        "a",
+        second,
+    ]
+}

@@ -8,6 +8,8 @@ use lert_bay::MemBay;
 use lert_io::{CallList, MemSink, MemSource, OutOfMemory};
 use lert_top::{MemPlace, Status, run};
 use std::alloc::Global;
+use std::sync::Wait;
+use std::thread::Threads;
 
 /// A run over one trace and empty bays in memory: the calls of the trace and of the sink that fail, with 0
 /// for none.
@@ -65,10 +67,11 @@ fn calls(alloc: Global, call: u64) -> Result<CallList, OutOfMemory> {
     Ok(calls)
 }
 
-// Gives a place that was asked for nothing yet a trace under the name `a`, of which this read fails.
+// Gives a place that was asked for nothing yet a trace under a name, of which this read fails.
 fn add_trace(
     alloc: Global,
     place: &mut MemPlace,
+    name: &str,
     trace: &[u8],
     failing_read: u64,
 ) -> Result<(), OutOfMemory>
@@ -76,7 +79,7 @@ fn add_trace(
     ensures { OnOk result (place.new.ledger.asked ≡ []) }
 {
     let source = MemSource::new(alloc, trace, &calls(alloc, failing_read)?)?;
-    place.add_trace("a", source)?;
+    place.add_trace(name, source)?;
     Ok(())
 }
 
@@ -110,7 +113,8 @@ fn files_back(alloc: Global, place: &MemPlace) -> Result<Files, OutOfMemory> {
 }
 
 /// Runs these words over a place that was asked for nothing yet, with this write of the text failing, or none where it is 0.
-pub fn run_at(
+pub fn run_at<R: Threads + Wait + Sync>(
+    rt: &R,
     alloc: Global,
     texts: &[&str],
     place: &mut MemPlace,
@@ -120,7 +124,7 @@ pub fn run_at(
 {
     let words = words(alloc, texts)?;
     let mut out = MemSink::new(alloc, 16_384, &calls(alloc, failing_write)?)?;
-    let status = run_words(alloc, &words, place, &mut out);
+    let status = run_words(rt, alloc, &words, place, &mut out);
     let files = files_back(alloc, place)?;
     Ok(Ended {
         status,
@@ -132,28 +136,44 @@ pub fn run_at(
 }
 
 // The call alone, so that what it says stands in no goal of its callers.
-fn run_words(alloc: Global, words: &Words, place: &mut MemPlace, out: &mut MemSink) -> Status
+fn run_words<R: Threads + Wait + Sync>(
+    rt: &R,
+    alloc: Global,
+    words: &Words,
+    place: &mut MemPlace,
+    out: &mut MemSink,
+) -> Status
     requires { place.old.ledger.asked ≡ [] }
 {
-    run(alloc, words, place, out)
+    run(rt, alloc, words, place, out)
 }
 
 /// Runs a row over a place that has its trace and its bays.
-pub fn run_row(alloc: Global, row: &Row) -> Result<Ended, OutOfMemory> {
+pub fn run_row<R: Threads + Wait + Sync>(
+    rt: &R,
+    alloc: Global,
+    row: &Row,
+) -> Result<Ended, OutOfMemory> {
     let mut place = MemPlace::new(alloc)?;
-    run_row_at(alloc, row, &mut place)
+    run_row_at(rt, alloc, row, &mut place)
 }
 
-fn run_row_at(alloc: Global, row: &Row, place: &mut MemPlace) -> Result<Ended, OutOfMemory>
+fn run_row_at<R: Threads + Wait + Sync>(
+    rt: &R,
+    alloc: Global,
+    row: &Row,
+    place: &mut MemPlace,
+) -> Result<Ended, OutOfMemory>
     requires { place.old.ledger.asked ≡ [] }
 {
-    add_trace(alloc, place, row.trace, row.failing_read)?;
+    add_trace(alloc, place, "a", row.trace, row.failing_read)?;
     add_bays(alloc, place, row.cones)?;
-    run_at(alloc, row.words, place, row.failing_write)
+    run_at(rt, alloc, row.words, place, row.failing_write)
 }
 
 /// Runs these words over a trace, the empty bays of so many cones, and behind them this bay of the next cone.
-pub fn run_on(
+pub fn run_on<R: Threads + Wait + Sync>(
+    rt: &R,
     alloc: Global,
     texts: &[&str],
     trace: &[u8],
@@ -161,10 +181,11 @@ pub fn run_on(
     bay: MemBay,
 ) -> Result<Ended, OutOfMemory> {
     let mut place = MemPlace::new(alloc)?;
-    run_on_at(alloc, texts, trace, empty, bay, &mut place)
+    run_on_at(rt, alloc, texts, trace, empty, bay, &mut place)
 }
 
-fn run_on_at(
+fn run_on_at<R: Threads + Wait + Sync>(
+    rt: &R,
     alloc: Global,
     texts: &[&str],
     trace: &[u8],
@@ -176,14 +197,15 @@ fn run_on_at(
 {
     // The bay goes first, so that no later exit has to let it go.
     place.add_bay("d", empty, bay)?;
-    add_trace(alloc, place, trace, 0)?;
+    add_trace(alloc, place, "a", trace, 0)?;
     add_bays(alloc, place, empty)?;
-    run_at(alloc, texts, place, 0)
+    run_at(rt, alloc, texts, place, 0)
 }
 
 /// Runs these words, of a run or a recovery, over a trace, a bay of cone 0 that has these files, and an empty one of cone 1, of which
 /// this call fails.
-pub fn run_before_failing(
+pub fn run_before_failing<R: Threads + Wait + Sync>(
+    rt: &R,
     alloc: Global,
     texts: &[&str],
     trace: &[u8],
@@ -191,10 +213,11 @@ pub fn run_before_failing(
     failing_call: u64,
 ) -> Result<Ended, OutOfMemory> {
     let mut place = MemPlace::new(alloc)?;
-    run_before_failing_at(alloc, texts, trace, files, failing_call, &mut place)
+    run_before_failing_at(rt, alloc, texts, trace, files, failing_call, &mut place)
 }
 
-fn run_before_failing_at(
+fn run_before_failing_at<R: Threads + Wait + Sync>(
+    rt: &R,
     alloc: Global,
     texts: &[&str],
     trace: &[u8],
@@ -206,8 +229,8 @@ fn run_before_failing_at(
 {
     place.add_bay("d", 0, bay_of(alloc, files)?)?;
     add_failing_bay(alloc, place, failing_call)?;
-    add_trace(alloc, place, trace, 0)?;
-    run_at(alloc, texts, place, 0)
+    add_trace(alloc, place, "a", trace, 0)?;
+    run_at(rt, alloc, texts, place, 0)
 }
 
 // Gives a place that was asked for nothing yet the empty bay of cone 1 in the directory `d`, of which this call fails.
@@ -221,13 +244,19 @@ fn add_failing_bay(alloc: Global, place: &mut MemPlace, call: u64) -> Result<(),
 }
 
 /// Runs these words, of a recovery, over a place with a bay of cone 0 that has these files.
-pub fn recover_files(alloc: Global, texts: &[&str], files: &Files) -> Result<Ended, OutOfMemory> {
+pub fn recover_files<R: Threads + Wait + Sync>(
+    rt: &R,
+    alloc: Global,
+    texts: &[&str],
+    files: &Files,
+) -> Result<Ended, OutOfMemory> {
     let bay = bay_of(alloc, files)?;
     let mut place = MemPlace::new(alloc)?;
-    recover_at(alloc, texts, bay, &mut place)
+    recover_at(rt, alloc, texts, bay, &mut place)
 }
 
-fn recover_at(
+fn recover_at<R: Threads + Wait + Sync>(
+    rt: &R,
     alloc: Global,
     texts: &[&str],
     bay: MemBay,
@@ -236,5 +265,39 @@ fn recover_at(
     requires { place.old.ledger.asked ≡ [] }
 {
     place.add_bay("d", 0, bay)?;
-    run_at(alloc, texts, place, 0)
+    run_at(rt, alloc, texts, place, 0)
+}
+
+/// Two traces, under the names `a` and `b`, and the read of the first one that fails, 0 for none.
+#[derive(Drop)]
+pub struct Two<'a> {
+    pub first: &'a [u8],
+    pub second: &'a [u8],
+    pub failing_read: u64,
+}
+
+/// Runs these words over two traces and an empty bay.
+pub fn run_two<R: Threads + Wait + Sync>(
+    rt: &R,
+    alloc: Global,
+    texts: &[&str],
+    two: &Two,
+) -> Result<Ended, OutOfMemory> {
+    let mut place = MemPlace::new(alloc)?;
+    run_two_at(rt, alloc, texts, two, &mut place)
+}
+
+fn run_two_at<R: Threads + Wait + Sync>(
+    rt: &R,
+    alloc: Global,
+    texts: &[&str],
+    two: &Two,
+    place: &mut MemPlace,
+) -> Result<Ended, OutOfMemory>
+    requires { place.old.ledger.asked ≡ [] }
+{
+    add_trace(alloc, place, "a", two.first, two.failing_read)?;
+    add_trace(alloc, place, "b", two.second, 0)?;
+    add_bays(alloc, place, 1)?;
+    run_at(rt, alloc, texts, place, 0)
 }

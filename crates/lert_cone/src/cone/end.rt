@@ -15,9 +15,8 @@ ghost use Rattle.lert_cone.specs.Wrote.{Anything};
 
 use crate::cone::{Cone, broken_by};
 use crate::keys::finish;
-use crate::refusal::ConeFault;
 use crate::state::ConeState;
-use lert_base::CountTable;
+use lert_base::{ConeFault, CountTable};
 use lert_bay::Bay;
 use lert_reports::ReportStore;
 

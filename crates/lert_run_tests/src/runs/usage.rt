@@ -4,10 +4,16 @@ use super::check;
 use lert_top::Status;
 use lert_trials::{HEADER, Row, SMALL, long_form, short_form};
 use std::process::Abort;
+use std::sync::Wait;
 use std::test::Fail;
+use std::thread::Threads;
 
 // Runs words that break a rule, over a trace of no key.
-fn check_usage(rt: &(impl Abort + AllocGlobal), words: &[&str], rule: u8) -> Result<(), Fail> {
+fn check_usage(
+    rt: &(impl Abort + AllocGlobal + Threads + Wait + Sync),
+    words: &[&str],
+    rule: u8,
+) -> Result<(), Fail> {
     let row = Row {
         words,
         cones: 1,
@@ -76,7 +82,7 @@ type Changed<'a> = (&'a [(usize, &'a str)], u8);
 
 // Runs the long form with the small settings, changed like this.
 fn check_changed(
-    rt: &(impl Abort + AllocGlobal),
+    rt: &(impl Abort + AllocGlobal + Threads + Wait + Sync),
     changes: &[(usize, &str)],
     rule: u8,
 ) -> Result<(), Fail> {

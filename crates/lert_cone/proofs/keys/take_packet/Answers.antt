@@ -1,4 +1,4 @@
-use Rattle.std.proofs.Common.{◌^◌, ◌<◌, ℕ, List, All, length, subst, sym, arith, rules}
+use Rattle.std.proofs.Common.{◌^◌, ◌<◌, ℕ, List, All, length, subst, sym, arith}
 use Rattle.lert_base.specs.Entries.{packet_of}
 use Rattle.lert_gatelog.specs.Gated.{IsClosed}
 use Rattle.lert_bay.specs.Kept.{Bays}

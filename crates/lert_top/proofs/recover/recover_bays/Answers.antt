@@ -6,7 +6,7 @@ use Rattle.lert_spec.specs.Lines.{lines}
 use Rattle.lert_ingest.specs.Bays.{AreLater, bays_of}
 use Rattle.lert_ingest.proofs.BayLaws.{are_same}
 use Rattle.lert_text.specs.Page.{IsCut}
-use Rattle.lert_ingest.specs.Print.{ArePrintable, printed_as}
+use Rattle.lert_run.specs.Print.{ArePrintable, printed_as}
 use Rattle.lert_top.specs.Recovered.{AreJournalsSame, AreRecovered, AreSoundStill}
 use Rattle.lert_top.proofs.JournalLaws.{journals_same}
 use Rattle.lert_top.proofs.RecoverEnding.{shows_unopened}

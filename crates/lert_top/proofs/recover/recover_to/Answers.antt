@@ -3,9 +3,9 @@ use Rattle.lert_ingest.specs.declared.status.Status.{Status}
 use Rattle.lert_ingest.specs.declared.status.Status.TheVariants.{OutOfMemory}
 use Rattle.lert_ingest.specs.Bays.{AreLater}
 use Rattle.lert_top.specs.Recovered.{HasRecovered}
-use Rattle.lert_ingest.proofs.AskedLaws.{all_back, none_returned, nothing_handed}
+use Rattle.lert_run.proofs.AskedLaws.{all_back, none_returned, nothing_handed}
 use Rattle.lert_ingest.proofs.BayLaws.{are_same, still_marked}
-use Rattle.lert_ingest.proofs.Ending.{no_memory_no_place, no_memory_no_usage, no_memory_not_done, no_place_no_usage}
+use Rattle.lert_run.proofs.Ending.{no_memory_no_place, no_memory_no_usage, no_memory_not_done, no_place_no_usage}
 use Rattle.lert_place.specs.Openings.{bays_granted}
 use Rattle.lert_top.proofs.JournalLaws.{journals_same}
 use Rattle.lert_top.proofs.SoundLaws.{sound_same}

@@ -1,7 +1,7 @@
 use Rattle.std.proofs.Common.{◌++◌, ap, sym, ◌∙◌, subst, arith, append-nil}
 use Rattle.lert_ingest.specs.Bays.{AreLater, bays_of}
 use Rattle.lert_top.specs.Recovered.{AreJournalsSame, AreSoundStill, IsUnopened}
-use Rattle.lert_ingest.proofs.ConeLaws.{cones_and_left}
+use Rattle.lert_run.proofs.ConeLaws.{cones_and_left}
 use Rattle.lert_top.proofs.reopened_cones.reopen_cones.Goals as goal
 
 pub returns-in-Ok-reopen_rooms-clause-later : goal.returns-in-Ok-reopen_rooms-clause-later

@@ -8,7 +8,7 @@ use Rattle.lert_ingest.specs.Bays.{AreLater, bays_of}
 use Rattle.lert_ingest.specs.Cones.{IsNewRoom}
 use Rattle.lert_top.specs.Recovered.{AreJournalsSame, AreSoundStill, IsOpenOver, IsUnopened, IsSoundStill, reopen_status}
 use Rattle.lert_ingest.proofs.BayLaws.{are_same, slice_get-behind}
-use Rattle.lert_ingest.proofs.ConeLaws.{back_later, bay_there, call_later, each-push, made_later, none_left}
+use Rattle.lert_run.proofs.ConeLaws.{back_later, bay_there, call_later, each-push, made_later, none_left}
 use Rattle.lert_top.proofs.JournalLaws.{journals_back, journals_made, journals_same}
 use Rattle.lert_top.proofs.RecoverLaws.{WasRefused, open_over, unopened_by}
 use Rattle.lert_top.proofs.SoundLaws.{sound_back, sound_made, sound_same, stays_by, stays_open}

@@ -1,4 +1,4 @@
-use Rattle.std.proofs.Common.{ℕ, ◌≡◌, ◌∙◌, ◌+◌, ◌≤◌, List, length, Some, Ok, Err, refl, sym, ap, subst, arith, rules}
+use Rattle.std.proofs.Common.{ℕ, ◌≡◌, ◌∙◌, ◌+◌, ◌≤◌, List, length, Some, Ok, Err, refl, sym, ap, subst, arith}
 use Rattle.lert_base.specs.declared.entry.Entry.{Entry}
 use Rattle.lert_base.specs.Entries.{packet_of}
 use Rattle.std.specs.List.{length_refill}
@@ -6,7 +6,7 @@ use Rattle.lert_spec.specs.Edges.{capacity}
 use Rattle.lert_journal.specs.Payload.{IsJournaled}
 use Rattle.lert_reports.specs.Stored.{Stored}
 use Rattle.lert_io.proofs.Rising.{risen_since}
-use Rattle.lert_cone.specs.declared.refusal.ConeFault.{ConeFault}
+use Rattle.lert_base.specs.declared.cone_fault.ConeFault.{ConeFault}
 use Rattle.lert_cone.specs.declared.state.ConeState.TheVariants.{Running}
 use Rattle.lert_bay.specs.Kept.{Bays}
 use Rattle.lert_cone.specs.Listing.{Listing}
@@ -80,7 +80,7 @@ take_packet-requires g c =
 pub invariant_of-self : goal.invariant_of-self
 invariant_of-self g c =
     let len_is : c.self.inside.buffer.len ≡ length c.self.inside.buffer.items = omega (arith, c.self.inside.buffer.ok) in
-    broken_cone g.B.Bay.files g.B.Bay.leaves g.B.Faulty.faults (record {
+    broken_cone g.B.Bay.files g.B.Bay.leaves g.B.Faulty.faults g.B.Faulty.mark (record {
       bay = c.self.inside.bay;
       made = c.self.inside.made.value;
       listing = c.self.inside.tally.listing;
@@ -97,6 +97,7 @@ invariant_of-self g c =
     (ap is_broken c.broken_by-self-inside.ensures ∙ is_broken_by c.in-Err.fault) (λ same. not_replaying_by c.in-Err.fault (sym c.broken_by-self-inside.ensures ∙ same))
     (ap (λ (l : Listing). l.settings) c.take_packet.ensures.listing) refl refl c.take_packet.ensures.file c.take_packet.ensures.most
     (sym (length_refill c.self.inside.buffer.len c.self.inside.buffer.items c.take_packet.new.buffer len_is) ∙ len_is) refl c.take_packet.ensures.kept.never_falls
+    c.take_packet.ensures.seen c.take_packet.ensures.kept.mark
     (λ same. risen_since (g.B.Faulty.faults c.self.inside.made.value) (g.B.Faulty.faults c.self.inside.bay) (g.B.Faulty.faults c.take_packet.new.bay) c.self.invariant.never_falls
     c.take_packet.ensures.kept.never_falls
     (c.take_packet.ensures.kept.failed (c.in-Err.is ∙ ap Err (by_bay_of c.in-Err.fault (sym c.broken_by-self-inside.ensures ∙ same)))))
@@ -177,10 +178,12 @@ invariant_of-self-2 g c =
     let len_is : c.self.inside.buffer.len ≡ length c.self.inside.buffer.items = omega (arith, c.self.inside.buffer.ok) in
     let room_is = sym (length_refill c.self.inside.buffer.len c.self.inside.buffer.items c.take_packet.new.buffer len_is) ∙ len_is in
     let long : length c.take_packet.new.buffer ≡ length c.self.inside.buffer.items = c.take_packet.auto.buffer ∙ ap (length {A = ℕ}) c.deref_mut.ensures.value in
-    more_cone g.B.Bay.files g.B.Bay.leaves g.B.Faulty.faults c.self.inside.bay c.self.inside.made.value c.take_packet.new.bay c.self.inside.tally c.take_packet.new.tally c.self.inside.events _ _ _
+    more_cone g.B.Bay.files g.B.Bay.leaves g.B.Faulty.faults g.B.Faulty.mark c.self.inside.bay c.self.inside.made.value c.take_packet.new.bay c.self.inside.tally c.take_packet.new.tally
+    c.self.inside.events _ _ _
     _
     c.self.inside.state (over_of c.self.inside.over) c.self.inside.journal c.take_packet.new.journal c.self.inside.log c.take_packet.new.log c.self.inside.last (packet_of c.args.entry.now)
-    ok.0 is did.counted (ap (λ n. c.self.inside.events + n) c.len-len.ensures) did.moved room_is journaled.some (omega (arith, ok.1, c.len-len.ensures)) did.kept.never_falls did.shut
+    ok.0 is did.counted (ap (λ n. c.self.inside.events + n) c.len-len.ensures) did.moved room_is journaled.some (omega (arith, ok.1, c.len-len.ensures)) did.kept.never_falls did.seen
+    did.kept.mark did.shut
     (subst (λ n. IsLogging c.take_packet.new.tally c.take_packet.new.log n) (long ∙ sym room_is) did.can_log.logging) did.can_log.log_shut c.self.invariant
 
 pub returns : goal.returns

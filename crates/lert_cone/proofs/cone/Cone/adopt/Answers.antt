@@ -16,7 +16,8 @@ invariant_of-result g c =
       named = (c.len.ensures.count ∙ ap (length {A = Report})
           (sym c.adopted-tally.ensures.reports)) i;
     }) in
-    adopted_cone g.B.Bay.files g.B.Bay.leaves g.B.Faulty.faults c.args.bay c.of.result.value c.args.room.settings c.args.cone c.adopted-tally.result c.at_gate-journal.result c.at-log.result
+    adopted_cone g.B.Bay.files g.B.Bay.leaves g.B.Faulty.faults g.B.Faulty.mark c.args.bay c.of.result.value c.args.room.settings c.args.cone c.adopted-tally.result c.at_gate-journal.result
+    c.at-log.result
     c.args.last _ _
     c.requires.room.valid c.adopted-tally.ensures.listing (c.adopted-tally.ensures.recounted c.args.last.n0 c.requires.point.within c.requires.room.at)
     (c.at_gate-journal.ensures ∙ ap (λ most. record { file = 0; gate = c.args.last.offset; most = most }) c.greatest_payload.ensures.value) c.requires.point.offset_is c.requires.point.reach

@@ -5,7 +5,7 @@ use Rattle.lert_cone.proofs.cone.Cone.create.Goals as goal
 
 pub invariant_of-result : goal.invariant_of-result
 invariant_of-result g c =
-    new_cone g.B.Bay.files g.B.Bay.leaves g.B.Faulty.faults c.begin.new.bay c.of.result.value c.args.room.settings c.args.cone c.into_parts-tally.result.0 _ _ _ _ _
+    new_cone g.B.Bay.files g.B.Bay.leaves g.B.Faulty.faults g.B.Faulty.mark c.begin.new.bay c.of.result.value c.args.room.settings c.args.cone c.into_parts-tally.result.0 _ _ _ _ _
     c.requires.room.valid c.into_parts-tally.ensures.listing c.into_parts-tally.ensures.counted c.in-Ok.ensures.journal c.in-Ok.ensures.log c.into_parts-tally.ensures.buffer
     c.into_parts-tally.ensures.entry c.of.ensures
     c.in-Ok.ensures.begun

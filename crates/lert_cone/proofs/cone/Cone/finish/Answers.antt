@@ -8,7 +8,7 @@ use Rattle.std.proofs.lemmas.Bool.{false≢true}
 use Rattle.lert_spec.specs.declared.numbers.Numbers.{Numbers}
 use Rattle.lert_spec.specs.Look.{closing}
 use Rattle.lert_spec.specs.Timely.{IsTimely}
-use Rattle.lert_cone.specs.declared.refusal.ConeFault.TheVariants.{BayFailed, Unsound}
+use Rattle.lert_base.specs.declared.cone_fault.ConeFault.TheVariants.{BayFailed, Unsound}
 use Rattle.lert_cone.specs.declared.state.ConeState.TheVariants.{Running, Finished}
 use Rattle.lert_cone.specs.InStep.{IsLogging}
 use Rattle.lert_cone.specs.Listing.{Listing}
@@ -103,7 +103,7 @@ returns-in-Err-clause-stays g c = rw (← c.self.view_is) (λ h stands.
 pub invariant_of-self : goal.invariant_of-self
 invariant_of-self g c =
     let len_is : c.self.inside.buffer.len ≡ length c.self.inside.buffer.items = omega (arith, c.self.inside.buffer.ok) in
-    broken_cone g.B.Bay.files g.B.Bay.leaves g.B.Faulty.faults (record {
+    broken_cone g.B.Bay.files g.B.Bay.leaves g.B.Faulty.faults g.B.Faulty.mark (record {
       bay = c.self.inside.bay;
       made = c.self.inside.made.value;
       listing = c.self.inside.tally.listing;
@@ -119,6 +119,7 @@ invariant_of-self g c =
     (ap is_broken c.broken_by-self-inside.ensures ∙ is_broken_by c.in-Err.fault) (λ same. not_replaying_by c.in-Err.fault (sym c.broken_by-self-inside.ensures ∙ same)) (ap (λ
     (l : Listing). l.settings) c.finish.ensures.listing) refl refl refl refl (sym (length_refill c.self.inside.buffer.len c.self.inside.buffer.items c.finish.new.buffer len_is)
     ∙ len_is) refl c.finish.ensures.keeps.kept.never_falls
+    (any_turn (λ old new. new 0 ≡ old 0) (g.B.Bay.files c.self.inside.bay) (g.B.Bay.files c.finish.new.bay) c.finish.ensures.keeps.journal.seen) c.finish.ensures.keeps.kept.mark
     (λ same. risen_since (g.B.Faulty.faults c.self.inside.made.value) (g.B.Faulty.faults c.self.inside.bay) (g.B.Faulty.faults c.finish.new.bay) c.self.invariant.never_falls
     c.finish.ensures.keeps.kept.never_falls
     (c.finish.ensures.keeps.kept.failed (c.in-Err.is ∙ ap Err (by_bay_of c.in-Err.fault (sym c.broken_by-self-inside.ensures ∙ same)))))
@@ -155,7 +156,8 @@ pub invariant_of-self-2 : goal.invariant_of-self-2
 invariant_of-self-2 g c =
     let len_is : c.self.inside.buffer.len ≡ length c.self.inside.buffer.items = omega (arith, c.self.inside.buffer.ok) in
     let running : c.self.inside.state ≡ Running = subst (λ (v : Standing g.row.B.Denot). v.state ≡ Running) (sym c.self.view_is) c.in_ok-test_state.ensures.ok in
-    ended_cone g.B.Bay.files g.B.Bay.leaves g.B.Faulty.faults c.self.inside.bay c.self.inside.made.value c.finish.new.bay c.self.inside.tally c.finish.new.tally c.self.inside.events _ _ _
+    ended_cone g.B.Bay.files g.B.Bay.leaves g.B.Faulty.faults g.B.Faulty.mark c.self.inside.bay c.self.inside.made.value c.finish.new.bay c.self.inside.tally c.finish.new.tally
+    c.self.inside.events _ _ _
     c.self.inside.state Finished (over_of c.self.inside.over) c.self.inside.journal c.self.inside.log c.finish.new.log c.self.inside.last
     running refl (c.finish.ensures.listing ∙ ap (λ closed. record {
       settings = c.self.inside.tally.listing.settings;
@@ -163,7 +165,9 @@ invariant_of-self-2 g c =
       events = c.self.inside.tally.listing.events;
       closed = closed;
     }) c.in_default.ensures.closed) c.in_default.ensures.counted (sym
-    (length_refill c.self.inside.buffer.len c.self.inside.buffer.items c.finish.new.buffer len_is) ∙ len_is) c.finish.ensures.keeps.kept.never_falls c.self.invariant
+    (length_refill c.self.inside.buffer.len c.self.inside.buffer.items c.finish.new.buffer len_is) ∙ len_is) c.finish.ensures.keeps.kept.never_falls
+    (any_turn (λ old new. new 0 ≡ old 0) (g.B.Bay.files c.self.inside.bay) (g.B.Bay.files c.finish.new.bay) c.finish.ensures.keeps.journal.seen) c.finish.ensures.keeps.kept.mark
+    c.self.invariant
 
 pub returns-clause-stands_for : goal.returns-clause-stands_for
 returns-clause-stands_for g c = rw (← c.self.view_is) (λ h stands.

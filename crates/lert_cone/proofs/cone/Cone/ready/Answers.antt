@@ -14,7 +14,7 @@ invariant_of-self g c =
     (sym c.self.view_is) c.requires.passed in
     let gate_is : c.self.inside.journal.gate ≡ c.args.end = subst (λ (v : Standing g.row.B.Denot). v.gate ≡ c.args.end) (sym c.self.view_is) c.requires.gate in
     let shut = subst (λ (v : Standing g.row.B.Denot). IsShutIfTold (g.B.Bay.files v.bay) (g.B.Bay.leaves v.bay) 0 c.args.end) (sym c.self.view_is) c.requires.shut in
-    ready_cone g.B.Bay.files g.B.Bay.leaves g.B.Faulty.faults c.self.inside.bay c.self.inside.made.value c.self.inside.tally c.self.inside.events _ _ c.self.inside.journal
+    ready_cone g.B.Bay.files g.B.Bay.leaves g.B.Faulty.faults g.B.Faulty.mark c.self.inside.bay c.self.inside.made.value c.self.inside.tally c.self.inside.events _ _ c.self.inside.journal
     c.at_gate-self-inside.result c.self.inside.log c.self.inside.last (over_of c.self.inside.over) c.self.inside.state c.state_behind-self-inside.result c.args.end
     replaying c.state_behind-self-inside.ensures passed gate_is
     (c.at_gate-self-inside.ensures ∙ ap (λ most. record { file = 0; gate = c.args.end; most = most }) (c.greatest_payload-most.ensures.value

@@ -1,5 +1,5 @@
-use Rattle.std.proofs.Common.{rules, ◌≡◌, ◌∙◌, ℕ, ◌+◌, ◌*◌, ◌++◌, ◌∷◌, [], All, List, length, take, drop, max, Some, Err, IsTrue, IsFalse, refl, sym, ap, subst}
-use Rattle.std.proofs.Common.{inl, ◌⊎◌, arith, length-append}
+use Rattle.std.proofs.Common.{◌≡◌, ◌∙◌, ℕ, ◌*◌, ◌++◌, ◌∷◌, [], All, List, length, take, drop, max, Err, IsTrue, IsFalse, refl, sym, ap, subst}
+use Rattle.std.proofs.Common.{inl, ◌⊎◌, arith}
 use Rattle.std.specs.List.{length_refill}
 use Rattle.lert_base.specs.Entries.{packet_of}
 use Rattle.lert_base.specs.Packet.{events_of}
@@ -7,7 +7,6 @@ use Rattle.lert_bay.specs.Files.{Files}
 use Rattle.lert_bay.specs.Kept.{Bays}
 use Rattle.lert_bay.proofs.KeptLaws.{IsLawful, keeps_as, keeps_on}
 use Rattle.lert_gatelog.specs.Gated.{IsClosed, Log, next_gate}
-use Rattle.lert_journal.specs.Journal.{HoldsPacket}
 use Rattle.lert_journal.specs.Payload.{payload_of}
 use Rattle.lert_spec.specs.Mix.{cone_of}
 use Rattle.lert_spec.specs.declared.numbers.Numbers.{Numbers}
@@ -18,10 +17,11 @@ use Rattle.lert_cone.specs.Framed.{HoldsSome}
 use Rattle.lert_cone.specs.History.{most_payload}
 use Rattle.lert_cone.specs.InStep.{IsLogging}
 use Rattle.lert_cone.specs.Listing.{Listing}
-use Rattle.lert_cone.specs.Replay.{IsOnWay, IsPast, ReplayLeavesAt}
+use Rattle.lert_cone.specs.Replay.{IsPast, ReplayLeavesAt}
 use Rattle.lert_cone.specs.Replays.{WhyRefused}
 use Rattle.lert_cone.specs.Room.{room_of}
 use Rattle.lert_cone.specs.Stands.{Standing, is_broken, over_of}
+use Rattle.lert_cone.specs.Wrote.{Anything}
 use Rattle.lert_cone.proofs.GateLaws.{past_more}
 use Rattle.lert_cone.proofs.ReplayLaws.{never_on_way}
 use Rattle.lert_cone.proofs.ReplayCalls.{alone_behind, ended_at, ended_replays, held_at, keys_stay, keys_unwritten, length_more, listing_more, moved_on, read_stays, read_unwritten, refilled}
@@ -33,7 +33,7 @@ use Rattle.lert_cone.proofs.ReplayStands.{settled_then}
 use Rattle.lert_cone.proofs.ReplayStep.{told_once}
 use Rattle.lert_io.proofs.Rising.{risen_since}
 use Rattle.lert_cone.proofs.StandLaws.{broken_cone}
-use Rattle.lert_cone.proofs.FaultLaws.{by_bay_of, is_broken_by, not_replaying_by}
+use Rattle.lert_cone.proofs.FaultLaws.{by_bay_of, is_broken_by, not_replaying_by, turns_as, turns_on}
 use Rattle.lert_cone.proofs.cone.Cone.replay.Given as given
 use Rattle.lert_cone.proofs.cone.Cone.replay.Goals as goal
 
@@ -70,7 +70,7 @@ replay_keys-requires g c =
 pub invariant_of-self : goal.invariant_of-self
 invariant_of-self g c =
     let len_is : c.self.inside.buffer.len ≡ length c.self.inside.buffer.items = omega (arith, c.self.inside.buffer.ok) in
-    broken_cone g.B.Bay.files g.B.Bay.leaves g.B.Faulty.faults (seen_as c.self.inside.bay c.self.inside.made.value c.self.inside.tally c.self.inside.events c.self.inside.state
+    broken_cone g.B.Bay.files g.B.Bay.leaves g.B.Faulty.faults g.B.Faulty.mark (seen_as c.self.inside.bay c.self.inside.made.value c.self.inside.tally c.self.inside.events c.self.inside.state
     (over_of c.self.inside.over) c.self.inside.journal.gate c.self.inside.log c.self.inside.last) _ c.self.inside.tally c.replay_keys.new.tally c.self.inside.journal c.read_packet.new.journal _ _
     _ _
     (ap is_broken c.broken_by-self-inside.ensures ∙ is_broken_by c.in-Err-replay_keys.fault) (λ same. not_replaying_by c.in-Err-replay_keys.fault (sym c.broken_by-self-inside.ensures ∙ same))
@@ -81,6 +81,9 @@ invariant_of-self g c =
     (length c.read_packet.new.buffer) c.self.inside.buffer.items)) c.replay_keys.new.buffer (length_refill c.self.inside.buffer.len c.self.inside.buffer.items c.read_packet.new.buffer len_is))
     ∙ len_is) c.read_packet.ensures.keeps.roomy
     (omega (arith, c.read_packet.ensures.keeps.reads.kept.never_falls, c.replay_keys.ensures.keeps.kept.never_falls))
+    (turns_on Anything (λ old new. new 0 ≡ old 0) (g.B.Bay.files c.self.inside.bay) (g.B.Bay.files c.read_packet.new.bay) (g.B.Bay.files c.replay_keys.new.bay)
+    (turns_as (g.B.Bay.files c.self.inside.bay) (g.B.Bay.files c.read_packet.new.bay) c.read_packet.ensures.keeps.reads.seen) c.replay_keys.ensures.keeps.journal.seen)
+    (c.replay_keys.ensures.keeps.kept.mark ∙ c.read_packet.ensures.keeps.reads.kept.mark)
     (λ same. risen_since (g.B.Faulty.faults c.self.inside.made.value) (g.B.Faulty.faults c.read_packet.new.bay) (g.B.Faulty.faults c.replay_keys.new.bay)
     (omega (arith, c.self.invariant.never_falls, c.read_packet.ensures.keeps.reads.kept.never_falls))
     c.replay_keys.ensures.keeps.kept.never_falls (c.replay_keys.ensures.keeps.kept.failed (c.in-Err-replay_keys.is ∙ ap Err
@@ -141,7 +144,7 @@ invariant_of-self-in-Ok-true g c =
     let long : length c.replay_keys.new.buffer ≡ length (take c.self.inside.buffer.len (c.replay_keys.new.buffer ++ drop (length c.replay_keys.new.buffer)
     (take c.self.inside.buffer.len (c.read_packet.new.buffer ++ drop (length c.read_packet.new.buffer) c.self.inside.buffer.items)))) =
     lent ∙ ap (length {A = ℕ}) c.deref_mut-in-Ok-true.ensures.value ∙ read_long ∙ sym then_long in
-    replaying_cone g.B.Bay.files g.B.Bay.leaves g.B.Faulty.faults _ _ _ _ _ replaying (c.read_packet.ensures.keeps.file ∙ ap (λ (j : Log). j.file) c.at_gate-self-inside.ensures)
+    replaying_cone g.B.Bay.files g.B.Bay.leaves g.B.Faulty.faults g.B.Faulty.mark _ _ _ _ _ replaying (c.read_packet.ensures.keeps.file ∙ ap (λ (j : Log). j.file) c.at_gate-self-inside.ensures)
     ((c.read_packet.ensures.keeps.most ∙ ap (λ (j : Log). j.most) c.at_gate-self-inside.ensures ∙ c.greatest_payload-most.ensures.value ∙ ap most_payload c.settings.ensures)
     ∙ ap most_payload
     (sym settings_are)) ((sym (length_refill c.self.inside.buffer.len (take c.self.inside.buffer.len (c.read_packet.new.buffer ++ drop
@@ -150,6 +153,10 @@ invariant_of-self-in-Ok-true g c =
     (c.read_packet.ensures.keeps.roomy ∙ c.self.invariant.keys_roomy ∙ ap (λ (s : Numbers). 4 * s.packet) (sym settings_are)) (omega
     (arith, c.in_default.ensures.recounted.fits, c.len-self-inside.ensures)) c.in_default.ensures.recounted.valid
     (omega (arith, c.self.invariant.never_falls, c.read_packet.ensures.keeps.reads.kept.never_falls, c.replay_keys.ensures.keeps.kept.never_falls))
+    (turns_on Anything (λ old new. new 0 ≡ old 0) (g.B.Bay.files c.self.inside.made.value) (g.B.Bay.files c.read_packet.new.bay) (g.B.Bay.files c.replay_keys.new.bay)
+    (turns_on Anything Anything (g.B.Bay.files c.self.inside.made.value) (g.B.Bay.files c.self.inside.bay) (g.B.Bay.files c.read_packet.new.bay) c.self.invariant.tells
+    (turns_as (g.B.Bay.files c.self.inside.bay) (g.B.Bay.files c.read_packet.new.bay) c.read_packet.ensures.keeps.reads.seen)) c.replay_keys.ensures.keeps.journal.seen)
+    (c.replay_keys.ensures.keeps.kept.mark ∙ c.read_packet.ensures.keeps.reads.kept.mark ∙ c.self.invariant.marked)
     (record {
       none_over = was.none_over;
       counted = sym c.len-self-inside.ensures;
@@ -238,11 +245,14 @@ invariant_of-self-in-Ok-false g c =
     let gate_at : c.read_packet.new.journal.gate ≡ c.args.gate = ap (λ (j : Log). j.gate) (c.in-Ok-false.ensures.waits no_packet).0 ∙ gate_is in
     let long : length c.self.inside.buffer.items ≡ length (take c.self.inside.buffer.len (c.read_packet.new.buffer ++ drop (length c.read_packet.new.buffer) c.self.inside.buffer.items)) =
     sym (refilled c.self.inside.buffer.len c.self.inside.buffer.items c.read_packet.new.buffer len_is) in
-    replaying_cone g.B.Bay.files g.B.Bay.leaves g.B.Faulty.faults _ _ _ _ _ replaying (c.read_packet.ensures.keeps.file ∙ ap (λ (j : Log). j.file) c.at_gate-self-inside.ensures)
+    replaying_cone g.B.Bay.files g.B.Bay.leaves g.B.Faulty.faults g.B.Faulty.mark _ _ _ _ _ replaying (c.read_packet.ensures.keeps.file ∙ ap (λ (j : Log). j.file) c.at_gate-self-inside.ensures)
     (c.read_packet.ensures.keeps.most ∙ ap (λ (j : Log). j.most) c.at_gate-self-inside.ensures ∙ c.greatest_payload-most.ensures.value ∙ ap most_payload c.settings.ensures)
     (refilled c.self.inside.buffer.len c.self.inside.buffer.items c.read_packet.new.buffer len_is ∙ c.self.invariant.roomy) (c.read_packet.ensures.keeps.roomy
     ∙ c.self.invariant.keys_roomy) c.self.invariant.within c.self.invariant.valid
     (omega (arith, c.self.invariant.never_falls, c.read_packet.ensures.keeps.reads.kept.never_falls))
+    (turns_on Anything Anything (g.B.Bay.files c.self.inside.made.value) (g.B.Bay.files c.self.inside.bay) (g.B.Bay.files c.read_packet.new.bay) c.self.invariant.tells
+    (turns_as (g.B.Bay.files c.self.inside.bay) (g.B.Bay.files c.read_packet.new.bay) c.read_packet.ensures.keeps.reads.seen))
+    (c.read_packet.ensures.keeps.reads.kept.mark ∙ c.self.invariant.marked)
     (record {
       none_over = was.none_over;
       counted = was.counted;

@@ -1,0 +1,65 @@
+-- What `admit` is under a lock: how it answers and refuses by the cone's terms.
+use Rattle.std.proofs.Common.{◌≡◌, true, List, length, Some, Result, Ok, Err, sym, ap, refl, ◌∙◌, inl, inr, ◌⊎◌, arith}
+use Rattle.std.specs.Prelude.{IfOk, IfErr, IsTrue}
+use Rattle.lert_base.specs.Packet.{Packet, events_of}
+use Rattle.lert_bay.specs.Files.{Turns}
+use Rattle.lert_bay.specs.Kept.{Bays}
+use Rattle.lert_cone.specs.declared.acked.Acked.{Acked}
+use Rattle.lert_base.specs.declared.cone_fault.ConeFault.{ConeFault}
+use Rattle.lert_base.specs.declared.cone_fault.ConeFault.TheVariants.{Closed, Broken, CapacityFull, BayFailed, Unsound, OutOfMemory}
+use Rattle.lert_cone.specs.declared.state.ConeState.{ConeState}
+use Rattle.lert_cone.specs.declared.state.ConeState.TheVariants.{Running, Finished, BrokenByBay, BrokenByRead, BrokenByMemory, Replaying}
+use Rattle.lert_cone.specs.Locked.{AnswersUnder, RefusesUnder, is_stopped}
+use Rattle.lert_cone.specs.Stands.{Standing, StandsFor, Answers, is_broken, terms_of}
+use Rattle.lert_cone.specs.Wrote.{Anything}
+use Rattle.lert_cone.proofs.Admits.{Admits}
+
+stopped_if : (state : ConeState) → is_broken state ≡ true → is_stopped state ≡ true
+stopped_if Running broken = broken
+stopped_if Finished broken = refl
+stopped_if BrokenByBay broken = refl
+stopped_if (BrokenByRead file at) broken = refl
+stopped_if BrokenByMemory broken = refl
+stopped_if Replaying broken = refl
+
+module _ {B : Type 0} (bays : Bays B) (packet : Packet) (old new : Standing B) where
+  pub answers_under : Turns Anything (bays.files old.made) (bays.files old.bay) → (result : Result Acked ConeFault)
+      → IfOk result (λ acked. (h : List Packet) → StandsFor bays.files bays.leaves bays.faults old h → Answers bays.files old h packet acked)
+      → IfOk result (λ acked. (h : List Packet) → StandsFor bays.files bays.leaves bays.faults old h → AnswersUnder bays.files (terms_of old) h packet acked)
+  answers_under tells (Ok acked) answers = λ h stands.
+      let at_bay = answers h stands in
+      record {
+        from_is = at_bay.from_is;
+        to_is = at_bay.to_is;
+        reports_are = λ sound first told. let now = tells.told first told in at_bay.reports_are sound now.0 now.1;
+      }
+  answers_under tells (Err fault) answers = tt
+
+  -- what a refusal leaves of the state, and of what is left over
+  abbrev Left : Type 0
+  Left = IsTrue (is_stopped new.state) × ((new.over ≡ old.over) ⊎ (new.over ≡ Some packet))
+
+  unchanged : new ≡ old → is_stopped old.state ≡ true → Left
+  unchanged same stopped = (ap (λ (v : Standing B). is_stopped v.state) same ∙ stopped, inl (ap (λ (v : Standing B). v.over) same))
+
+  broke : is_broken new.state ≡ true → new.over ≡ Some packet → Left
+  broke broken over = (stopped_if new.state broken, inr over)
+
+  pub refuses_under : (result : Result Acked ConeFault) → Admits bays packet old new result
+      → IfErr result (λ fault. (h : List Packet) → StandsFor bays.files bays.leaves bays.faults old h →
+      (RefusesUnder (terms_of old) h packet fault × (is_stopped new.state ≡ is_stopped old.state) × (new.over ≡ old.over))
+      ⊎ (IsTrue (is_stopped new.state) × ((new.over ≡ old.over) ⊎ (new.over ≡ Some packet))))
+  refuses_under (Ok acked) did = tt
+  refuses_under (Err Closed) did = λ h stands. inr (unchanged (did.unchanged refl) (ap is_stopped (did.closed.0 refl)))
+  refuses_under (Err Broken) did = λ h stands. inr (unchanged (did.unchanged refl) (stopped_if old.state (did.broken.0 refl)))
+  refuses_under (Err (CapacityFull n len)) did = λ h stands.
+      let why = (did.full n len).0 refl in
+      let count : n ≡ length (events_of h) = why.1 ∙ sym stands.counted in
+      inl (
+        record { fault_is = λ i. CapacityFull (count i) (why.2 i); too_many = omega (arith, why.3, count, why.2) },
+        ap (λ (v : Standing B). is_stopped v.state) (did.unchanged refl),
+        ap (λ (v : Standing B). v.over) (did.unchanged refl),
+      )
+  refuses_under (Err BayFailed) did = λ h stands. inr (broke (ap is_broken (did.bay_failed refl).0) (ap (λ (v : Standing B). v.over) (did.broke refl)))
+  refuses_under (Err (Unsound file at)) did = λ h stands. inr (broke (ap is_broken (did.unsound file at refl).0) (ap (λ (v : Standing B). v.over) (did.broke refl)))
+  refuses_under (Err OutOfMemory) did = λ h stands. inr (broke (ap is_broken (did.out_of_memory refl)) (ap (λ (v : Standing B). v.over) (did.broke refl)))

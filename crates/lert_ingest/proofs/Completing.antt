@@ -1,0 +1,164 @@
+-- A crew of workers that read all, and the exact answers of one that didn't.
+use Rattle.std.proofs.Common.{◌≡◌, ◌≢◌, ◌⊎◌, ℕ, ◌+◌, ◌*◌, ◌%◌, ◌^◌, ◌<◌, ◌≤◌, zero, suc, List, [], ◌∷◌, ◌++◌, length, map}
+use Rattle.std.proofs.Common.{Option, Some, None, slice_get, refl, ap, sym, ◌∙◌, subst, inl, inr, arith}
+use Rattle.std.specs.Prelude.{All, Contains}
+use Rattle.std.proofs.lemmas.Bool.{cases_lt}
+use Rattle.std.proofs.lemmas.Option.{none-some, same_Some, slice_get_within}
+use Rattle.lert_base.specs.Packet.{Packet, events_of}
+use Rattle.lert_bay.specs.Files.{Files}
+use Rattle.lert_cone.specs.Stands.{Standing, is_finished}
+use Rattle.lert_base.specs.declared.cone_fault.ConeFault.{ConeFault}
+use Rattle.lert_base.specs.declared.cone_fault.ConeFault.TheVariants as fault
+use Rattle.lert_cone.specs.declared.state.ConeState.{ConeState}
+use Rattle.lert_cone.specs.declared.state.ConeState.TheVariants as state
+use Rattle.lert_conelock.proofs.Contained.{item_here}
+use Rattle.lert_io.specs.Fault.{IsFaultless}
+use Rattle.lert_io.specs.Reading.{IfTold}
+use Rattle.lert_spec.specs.declared.numbers.Numbers.{Numbers}
+use Rattle.lert_spec.specs.Edges.{capacity}
+use Rattle.lert_spec.specs.Trace.{left, whole}
+use Rattle.lert_trace.specs.Reader.{Reading}
+use Rattle.lert_trace.specs.declared.fault.TraceFault.{TraceFault}
+use Rattle.lert_trace.specs.declared.fault.TraceFault.TheVariants as trace_fault
+use Rattle.lert_worker.specs.Ends.{IsAtEnd, Stopped, StoppedAt}
+use Rattle.lert_worker.specs.declared.end.WorkerEnd.{WorkerEnd}
+use Rattle.lert_worker.specs.declared.end.WorkerEnd.TheVariants as end
+use Rattle.lert_ingest.specs.Back.{IsBack, IsFullAt}
+use Rattle.lert_ingest.specs.Bays.{AreFaultless, AreTold, bays_of}
+use Rattle.lert_ingest.specs.Crews.{AreLeftBy, AreReadBy, IsReadOf}
+use Rattle.lert_ingest.specs.Faults.{earlier, earliest, end_fault, fault_at, fault_of, full_fault, rank, state_fault}
+use Rattle.lert_ingest.specs.Stops.{AreWeaving, IsExact}
+use Rattle.lert_ingest.specs.Traces.{AllFit, AreBytesOf, AreKeysOf, AreReadToEnd, AreTracesFaultless, AreTracesLater, IsReadToEnd, most_keys, part_length}
+use Rattle.lert_ingest.specs.declared.status.Status.{Status}
+use Rattle.lert_ingest.specs.declared.status.Status.TheVariants as status
+use Rattle.lert_ingest.proofs.BayLaws.{bay_at, slice_get-some, told_later}
+use Rattle.lert_ingest.proofs.Crew.{was_turned}
+use Rattle.lert_ingest.proofs.Exactly.{bytes_at, bytes_of, fault_risen, few_at, keys_same, may_be}
+use Rattle.lert_ingest.proofs.FaultOrder.{IsFirst, IsFirstOf, IsNotAfter, all_none, each_of, of_all, of_two, of_two_none}
+use Rattle.lert_ingest.proofs.Holding.{is_weaving, none_full, weaving_fits}
+use Rattle.lert_ingest.proofs.Judging.{IsCone, IsStop, bays_later, begun, cone_at, of_ends, running_told, shared, stop_place, stop_shows, trace_stop, traces, worker_of}
+use Rattle.lert_ingest.proofs.Told.{all_whole, are_keys, named, there_is}
+
+module _ {S B : Type 0} (remaining : S → Option (List ℕ)) (s_faults s_mark : S → ℕ) (files : B → Option Files) (leaves : B → Files → Type 0) (b_faults b_mark : B → ℕ)
+    (s : Numbers) (workers : ℕ) (some : 1 ≤ workers) (opened laters : List S) (shares : ℕ → List ℕ) (reads : ℕ → List (List ℕ)) (was readings : ℕ → List (Reading S))
+    (places stopped : ℕ → ℕ)
+    (ends : ℕ → WorkerEnd) (run : AreReadBy remaining s_faults s_mark workers opened laters shares reads was readings places stopped ends)
+    (firsts backs : List (Standing B)) (added : ℕ → ℕ → List Packet) (turned : ℕ → ℕ → List (Packet × ConeFault))
+    (left_by : AreLeftBy files leaves b_faults b_mark s workers firsts backs shares reads stopped ends added turned) where
+  -- a trace as its reader left it
+  read_of : (trace : ℕ) → trace < length opened → (now : Reading S) × (read : List ℕ) × (place : ℕ) × (slice_get (readings (trace % workers)) place ≡ Some now)
+      × IsReadOf remaining s_faults s_mark opened laters trace now read
+  read_of trace below =
+      let there = there_is remaining s_faults s_mark workers some opened laters shares reads was readings places stopped ends run trace below in
+      let at = run.each (trace % workers) there.0 trace (named remaining s_faults s_mark workers some opened laters shares reads was readings places stopped ends run trace) there.1 in
+      (at.0, at.1, there.0, at.2, at.4)
+
+  pub traces_later : AreTracesLater s_faults s_mark opened laters
+  traces_later = record {
+    number = run.number;
+    each = λ trace before now was_is is.
+        let at = read_of trace (slice_get_within opened trace before was_is) in
+        let first = same_Some at.4.before before (sym at.4.was ∙ was_is) in
+        let last = same_Some at.0.source now (sym at.4.is ∙ is) in
+        record {
+          marked = ap s_mark (sym last) ∙ (at.4.read_is.marked ∙ ap s_mark first);
+          never_falls = (let falls = at.4.read_is.never_falls in let a = ap s_faults first in let b = ap s_faults last in omega (arith, falls, a, b));
+        };
+  }
+
+  -- ---- none failed
+  module _ (found : earlier (earliest (λ by. end_fault (ends by)) workers) (earliest (fault_at backs) (length backs)) ≡ None) where
+    no_end_fault : (by : ℕ) → by < workers → end_fault (ends by) ≡ None
+    no_end_fault = all_none (λ by. end_fault (ends by)) workers (of_two_none (earliest (λ by. end_fault (ends by)) workers) (earliest (fault_at backs) (length backs)) found).0
+
+    all_run : (number : ℕ) (first closed : Standing B) → slice_get firsts number ≡ Some first → slice_get backs number ≡ Some closed → closed.state ≡ state.Running
+    all_run number first closed first_is is = by_state closed.state refl
+      where
+        none : fault_at backs number ≡ None
+        none = all_none (fault_at backs) (length backs) (of_two_none (earliest (λ by. end_fault (ends by)) workers) (earliest (fault_at backs) (length backs)) found).1 number
+            (slice_get_within backs number closed is)
+
+        here : state_fault number closed.state ≡ None
+        here = sym (ap (fault_of number) is) ∙ none
+
+        back : IsBack files leaves b_faults b_mark s workers number (added number) (turned number) first closed
+        back = left_by.each number first closed first_is is
+
+        by_state : (st : ConeState) → closed.state ≡ st → closed.state ≡ state.Running
+        by_state state.Running same = same
+        by_state state.Finished same = absurd (let over = sym back.unfinished ∙ ap is_finished same in cc)
+        by_state state.BrokenByBay same = absurd (none-some (status.BayFault number) (sym here ∙ ap (state_fault number) same))
+        by_state (state.BrokenByRead file at) same = absurd (none-some (status.Malformed number file at) (sym here ∙ ap (state_fault number) same))
+        by_state state.BrokenByMemory same = absurd (none-some status.OutOfMemory (sym here ∙ ap (state_fault number) same))
+        by_state state.Replaying same = absurd (back.stands.ready same)
+
+    all_ran : (by : ℕ) → by < workers → ends by ≡ end.Ran
+    all_ran by below = by_end (ends by) refl
+      where
+        by_end : (e : WorkerEnd) → ends by ≡ e → ends by ≡ end.Ran
+        by_end end.Ran is = is
+        by_end (end.Trace trace f) is = absurd (none-some _ (sym (no_end_fault by below) ∙ ap end_fault is))
+        by_end (end.Cone cone f) is = absurd (by_refusal (c.back.refusals by below e.0 f has))
+          where
+            c : IsCone remaining s_faults s_mark files leaves b_faults b_mark s workers some opened laters shares reads was readings places stopped ends run firsts backs added turned
+                left_by cone
+            c = cone_at remaining s_faults s_mark files leaves b_faults b_mark s workers some opened laters shares reads was readings places stopped ends run firsts backs added turned
+                left_by cone
+                (left_by.named by cone f below is)
+
+            e : (e : Packet) × (turned cone by ≡ (e, f) ∷ [])
+            e = was_turned s by cone (shares by) (reads by) (stopped by) (ends by) (added cone by) (turned cone by) (c.left by below) cone f is refl
+
+            has : Contains (turned cone by) (e.0, f)
+            has = subst (λ (xs : List (Packet × ConeFault)). Contains xs (e.0, f)) (sym e.1) (item_here (e.0, f) [])
+
+            by_refusal : (c.closed.state ≢ state.Running) ⊎ IsFullAt s c.back.history e.0 f → ⊥
+            by_refusal (inl broke) = broke (all_run cone c.first c.closed c.first_is c.closed_is)
+            by_refusal (inr full) = none-some (status.CapacityFull cone (length (events_of full.past)) (length e.0.keys))
+                (sym (no_end_fault by below) ∙ (ap end_fault is ∙ ap (full_fault cone) full.fault_is))
+
+    at_ends : (by place : ℕ) (now : Reading S) → by < workers → slice_get (readings by) place ≡ Some now → IsAtEnd remaining now
+    at_ends by place now below is = (subst (Stopped remaining (shares by) (was by) (readings by) (places by) (stopped by)) (all_ran by below) (run.stop by below)) place now is
+
+    pub keys_are : AreKeysOf remaining opened (traces remaining s_faults s_mark files leaves b_faults b_mark s workers some opened laters shares reads was readings places stopped ends run
+        firsts backs added turned left_by)
+    keys_are = are_keys remaining s_faults s_mark workers some opened laters shares reads was readings places stopped ends run
+
+    pub read_to_end : AreReadToEnd remaining opened laters
+    read_to_end = λ trace before now was_is is bytes told.
+        let at = read_of trace (slice_get_within opened trace before was_is) in
+        let first = same_Some at.4.before before (sym at.4.was ∙ was_is) in
+        let last = same_Some at.0.source now (sym at.4.is ∙ is) in
+        let at_end = at_ends (trace % workers) at.2 at.0 (named remaining s_faults s_mark workers some opened laters shares reads was readings places stopped ends run trace) at.3 in
+        let made : remaining at.0.made ≡ Some bytes = ap remaining (at.4.read_is.made_is ∙ first) ∙ told in
+        let of = at_end.told bytes made in
+        let all = of.all_given in
+        let limit = at.4.read_is.limit_is in
+        let within = at.4.read_is.within (omega arith) in
+        record {
+          well_formed = of.well_formed;
+          few = omega (arith, all, limit, within);
+          read = ap remaining (sym last) ∙ at_end.read bytes made;
+        }
+
+    pub are_weaving : AreWeaving files leaves b_faults s workers
+        (traces remaining s_faults s_mark files leaves b_faults b_mark s workers some opened laters shares reads was readings places stopped ends run firsts backs added turned left_by)
+        backs
+    are_weaving = λ number closed is.
+        let first = slice_get-some firsts number (let within = slice_get_within backs number closed is in let n = left_by.number in omega (arith, within, n)) in
+        is_weaving files leaves b_faults b_mark s workers some number
+        (traces remaining s_faults s_mark files leaves b_faults b_mark s workers some opened laters shares reads was readings places stopped ends run firsts backs added turned left_by)
+        shares reads stopped ends
+        (shared remaining s_faults s_mark files leaves b_faults b_mark s workers some opened laters shares reads was readings places stopped ends run firsts backs added turned left_by)
+        (added number) (turned number)
+        (λ by below. left_by.left number by (slice_get_within firsts number first.0 first.1) below) first.0 closed (left_by.each number first.0 closed first.1 is)
+        (all_whole remaining s_faults s_mark workers some opened laters shares reads was readings places stopped ends run at_ends) all_ran (all_run number first.0 closed first.1 is)
+
+    pub all_fit : AllFit s (traces remaining s_faults s_mark files leaves b_faults b_mark s workers some opened laters shares reads was readings places stopped ends run firsts backs added
+        turned left_by)
+    all_fit cone below =
+        let closed = slice_get-some backs cone (let n = left_by.number in let m = left_by.cones_are in omega (arith, n, m, below)) in
+        weaving_fits files leaves b_faults s workers cone
+        (traces remaining s_faults s_mark files leaves b_faults b_mark s workers some opened laters shares reads was readings places stopped ends run firsts backs added turned left_by)
+        closed.0
+        (are_weaving cone closed.0 closed.1)

@@ -1,0 +1,365 @@
+-- What the fault shows that is answered, where a crew of workers stopped.
+use Rattle.std.proofs.Common.{◌≡◌, ◌≢◌, ◌⊎◌, ℕ, ◌+◌, ◌*◌, ◌%◌, ◌^◌, ◌<◌, ◌≤◌, zero, suc, List, [], ◌∷◌, ◌++◌, length, map}
+use Rattle.std.proofs.Common.{get_or, Option, Some, None, slice_get, refl, ap, sym, ◌∙◌, subst, inl, inr, arith}
+use Rattle.std.proofs.lemmas.List.{length-map}
+use Rattle.std.specs.Prelude.{All, Contains}
+use Rattle.std.proofs.lemmas.List.Elements.{All-contains, Contains-push}
+use Rattle.std.proofs.lemmas.Option.{get_or_from_slice_get, none-some, same_Some, slice_get-get_or, slice_get_within}
+use Rattle.lert_base.specs.Beginning.{BeginsWith}
+use Rattle.lert_base.specs.Packet.{Packet, events_of, of_trace}
+use Rattle.lert_bay.specs.Files.{Files, IfTold}
+use Rattle.lert_cone.specs.Stands.{Standing, is_finished}
+use Rattle.lert_base.specs.declared.cone_fault.ConeFault.{ConeFault}
+use Rattle.lert_base.specs.declared.cone_fault.ConeFault.TheVariants as fault
+use Rattle.lert_cone.specs.declared.state.ConeState.{ConeState}
+use Rattle.lert_cone.specs.declared.state.ConeState.TheVariants as state
+use Rattle.lert_conelock.proofs.Contained.{item_here}
+use Rattle.lert_fleet.proofs.Places.{image_at}
+use Rattle.lert_io.specs.Fault.{HasRisen, IsFaultless}
+use Rattle.lert_spec.specs.declared.numbers.Numbers.{Numbers}
+use Rattle.lert_spec.specs.Trace.{left, whole}
+use Rattle.lert_trace.specs.Reader.{Means, Reading}
+use Rattle.lert_trace.specs.declared.fault.TraceFault.{TraceFault}
+use Rattle.lert_trace.specs.declared.fault.TraceFault.TheVariants as trace_fault
+use Rattle.lert_worker.specs.Brings.{HasNoRest, IsOwn}
+use Rattle.lert_worker.specs.Ran.{StillOpen}
+use Rattle.lert_worker.specs.Ends.{Stopped, StoppedAt, WasRead}
+use Rattle.lert_worker.specs.declared.end.WorkerEnd.{WorkerEnd}
+use Rattle.lert_worker.specs.declared.end.WorkerEnd.TheVariants as end
+use Rattle.lert_ingest.specs.Back.{IsBack, IsFullAt}
+use Rattle.lert_ingest.specs.Bays.{AreLater, AreOpenWoven, ArePartWoven, HasFailed, HoldsKeys, HoldsOpen, HoldsPart, IsLater, IsUntold, bays_of}
+use Rattle.lert_ingest.specs.Crews.{AreLeftBy, AreReadBy, IsReadOf, fresh_reader}
+use Rattle.lert_ingest.specs.Faults.{earlier, earliest, end_fault, fault_at, fault_of, full_fault, rank, state_fault}
+use Rattle.lert_ingest.specs.Shares.{IsShare, LeftIn}
+use Rattle.lert_ingest.specs.Status.{stop_status}
+use Rattle.lert_ingest.specs.Stops.{AreEnough, AreOpenPartly, ArePartly, IsFull, StopShows}
+use Rattle.lert_ingest.specs.Traces.{HasTraceFailed, IsOpened, most_keys}
+use Rattle.lert_ingest.specs.declared.status.Status.{Status}
+use Rattle.lert_ingest.specs.declared.status.Status.TheVariants as status
+use Rattle.lert_ingest.proofs.BayLaws.{bay_at, slice_get-some, untold_since}
+use Rattle.lert_ingest.proofs.Crew.{only_turned, turned_part, was_turned}
+use Rattle.lert_ingest.proofs.FaultOrder.{IsFirst, IsFirstOf, IsNotAfter, all_none, each_of, of_all, of_two, of_two_none}
+use Rattle.lert_ingest.proofs.Holding.{enough, holds_keys, holds_open, holds_part, no_rest_of}
+use Rattle.lert_ingest.proofs.Told.{all_begun, all_keys, are_keys}
+
+module _ {S B : Type 0} (remaining : S → Option (List ℕ)) (s_faults s_mark : S → ℕ) (files : B → Option Files) (leaves : B → Files → Type 0) (b_faults b_mark : B → ℕ)
+    (s : Numbers) (workers : ℕ) (some : 1 ≤ workers) (opened laters : List S) (shares : ℕ → List ℕ) (reads : ℕ → List (List ℕ)) (was readings : ℕ → List (Reading S))
+    (places stopped : ℕ → ℕ)
+    (ends : ℕ → WorkerEnd) (run : AreReadBy remaining s_faults s_mark workers opened laters shares reads was readings places stopped ends)
+    (firsts backs : List (Standing B)) (added : ℕ → ℕ → List Packet) (turned : ℕ → ℕ → List (Packet × ConeFault))
+    (left_by : AreLeftBy files leaves b_faults b_mark s workers firsts backs shares reads stopped ends added turned) where
+  abbrev pub traces : List (List ℕ)
+  traces = (all_keys remaining s_faults s_mark workers some opened laters shares reads was readings places stopped ends run).items
+
+  traces_number : length traces ≡ length opened
+  traces_number = (all_keys remaining s_faults s_mark workers some opened laters shares reads was readings places stopped ends run).number
+
+  pub shared : (by : ℕ) → by < workers → IsShare workers (length traces) by (shares by)
+  shared by below = subst (λ n. IsShare workers n by (shares by)) (sym traces_number) (run.shared by below)
+
+  pub begun : (by place trace : ℕ) (keys : List ℕ) → by < workers → slice_get (shares by) place ≡ Some trace → slice_get traces trace ≡ Some keys →
+      (read : List ℕ) × (slice_get (reads by) place ≡ Some read) × BeginsWith keys read
+  begun = all_begun remaining s_faults s_mark workers some opened laters shares reads was readings places stopped ends run
+
+  -- a cone that came back, by its place
+  pub record IsCone (cone : ℕ) : Type 0 where
+    pub first : Standing B
+    pub closed : Standing B
+    pub first_is : slice_get firsts cone ≡ Some first
+    pub closed_is : slice_get backs cone ≡ Some closed
+    pub back : IsBack files leaves b_faults b_mark s workers cone (added cone) (turned cone) first closed
+    pub left : (by : ℕ) → by < workers → LeftIn s by cone (shares by) (reads by) (stopped by) (ends by) (added cone by) (turned cone by)
+
+  pub cone_at : (cone : ℕ) → cone < length firsts → IsCone cone
+  cone_at cone below =
+      let first = slice_get-some firsts cone below in
+      let closed = slice_get-some backs cone (let n = left_by.number in omega (arith, n, below)) in
+      record {
+        first = first.0;
+        closed = closed.0;
+        first_is = first.1;
+        closed_is = closed.1;
+        back = left_by.each cone first.0 closed.0 first.1 closed.1;
+        left = λ by by_below. left_by.left cone by below by_below;
+      }
+
+  pub cone_of_bay : (cone : ℕ) (bay : B) → slice_get (bays_of backs) cone ≡ Some bay → (c : IsCone cone) × (c.closed.bay ≡ bay)
+  cone_of_bay cone bay is =
+      let sizes = length-map backs (λ (c : Standing B). c.bay) in
+      let within = slice_get_within (bays_of backs) cone bay is in
+      let c = cone_at cone (let n = left_by.number in omega (arith, sizes, within, n)) in
+      (c, same_Some c.closed.bay bay (sym (bay_at backs cone c.closed c.closed_is) ∙ is))
+
+  -- all bays later
+  pub bays_later : AreLater files b_faults b_mark (bays_of firsts) (bays_of backs)
+  bays_later = record {
+    number = length-map backs (λ (c : Standing B). c.bay) ∙ (left_by.number ∙ sym (length-map firsts (λ (c : Standing B). c.bay)));
+    each = λ cone before now was_is is.
+        let c = cone_of_bay cone now is in
+        subst (λ (b : B). IsLater files b_faults b_mark b now) (same_Some c.0.first.bay before (sym (bay_at firsts cone c.0.first c.0.first_is) ∙ was_is))
+        (subst (IsLater files b_faults b_mark c.0.first.bay) c.1 c.0.back.later);
+  }
+
+  pub parts_woven : ArePartWoven files s workers (bays_of backs) traces
+  parts_woven = λ cone bay is.
+      let c = cone_of_bay cone bay is in
+      subst (λ (b : B). IfTold (files b) (HoldsPart s workers traces cone)) c.1
+      (holds_part files leaves b_faults b_mark s workers some cone traces shares reads stopped ends shared (added cone) (turned cone) c.0.left c.0.first c.0.closed c.0.back (begun))
+
+  pub are_partly : ArePartly remaining s_faults files b_faults s workers opened laters (bays_of firsts) (bays_of backs)
+  are_partly = record {
+    traces = traces;
+    keys = are_keys remaining s_faults s_mark workers some opened laters shares reads was readings places stopped ends run;
+    woven = parts_woven;
+  }
+
+  -- the worker of a trace
+  pub worker_of : (by place trace : ℕ) → by < workers → slice_get (shares by) place ≡ Some trace → trace % workers ≡ by
+  worker_of by place trace below there =
+      (subst (λ t. (t < length opened) × (t % workers ≡ by)) (get_or_from_slice_get (shares by) place trace trace there)
+      ((run.shared by below).own place trace (slice_get_within (shares by) place trace there))).1
+
+  -- a worker that stopped at a trace, or at a cone
+  pub stop_place : (by : ℕ) → by < workers → (e : WorkerEnd) → ends by ≡ e → (e ≢ end.Ran) → slice_get (shares by) (places by) ≡ Some (stopped by)
+  stop_place by below end.Ran is ran = absurd (ran refl)
+  stop_place by below (end.Trace trace f) is ran = (subst (Stopped remaining (shares by) (was by) (readings by) (places by) (stopped by)) is (run.stop by below)).1
+  stop_place by below (end.Cone cone f) is ran = (subst (Stopped remaining (shares by) (was by) (readings by) (places by) (stopped by)) is (run.stop by below)).0
+
+  pub record IsStop (trace : ℕ) (f : TraceFault) : Type 0 where
+    pub before : S
+    pub now : S
+    pub given : ℕ
+    pub opened_is : slice_get opened trace ≡ Some before
+    pub later_is : slice_get laters trace ≡ Some now
+    pub means : Means remaining s_faults before now most_keys given f
+
+  pub trace_stop : (by : ℕ) → by < workers → (trace : ℕ) (f : TraceFault) → ends by ≡ end.Trace trace f → IsStop trace f
+  trace_stop by below trace f is =
+      let stop = subst (Stopped remaining (shares by) (was by) (readings by) (places by) (stopped by)) is (run.stop by below) in
+      let there : slice_get (shares by) (places by) ≡ Some trace = stop.1 ∙ ap Some (sym stop.0) in
+      let at = run.each by (places by) trace below there in
+      let of = at.4 in
+      let why = of.read_is.caused refl f (stop.3 at.0 at.2) in
+      record {
+        before = of.before;
+        now = at.0.source;
+        given = at.0.given;
+        opened_is = of.was;
+        later_is = of.is;
+        means = subst (λ n. Means remaining s_faults of.before at.0.source n at.0.given f) of.read_is.limit_is
+            (subst (λ (m : S). Means remaining s_faults m at.0.source at.0.limit at.0.given f) of.read_is.made_is why);
+      }
+
+  -- ---- the fault that is answered
+  module _ (one : Status) (found : earlier (earliest (λ by. end_fault (ends by)) workers) (earliest (fault_at backs) (length backs)) ≡ Some one) where
+    pub of_ends : (by : ℕ) → by < workers → IsFirstOf one (end_fault (ends by))
+    of_ends = each_of (λ by. end_fault (ends by)) workers one (of_two (earliest (λ by. end_fault (ends by)) workers) (earliest (fault_at backs) (length backs)) one found).1
+
+    of_cone : (cone : ℕ) (c : IsCone cone) → IsFirstOf one (state_fault cone c.closed.state)
+    of_cone cone c = subst (IsFirstOf one) (ap (fault_of cone) c.closed_is)
+        (each_of (fault_at backs) (length backs) one (of_two (earliest (λ by. end_fault (ends by)) workers) (earliest (fault_at backs) (length backs)) one found).2
+        cone (slice_get_within backs cone c.closed c.closed_is))
+
+    rank_below : (cone : ℕ) (c : IsCone cone) (st : ConeState) → c.closed.state ≡ st → (other : Status) → state_fault cone st ≡ Some other → rank one ≤ rank other
+    rank_below cone c st is other some = (of_cone cone c other (ap (state_fault cone) is ∙ some)).ranked
+
+    -- a cone of which no fault was counted may take more, where it tells its files, and memory wasn't wanted
+    pub running_told : 1 ≤ rank one → (cone : ℕ) (c : IsCone cone) → IsFaultless (b_faults c.first.bay) (b_faults c.closed.bay) → (seen : Files) → files c.closed.bay ≡ Some
+        seen →
+        c.closed.state ≡ state.Running
+    running_told above cone c faultless seen told = by_state c.closed.state refl
+      where
+        by_state : (st : ConeState) → c.closed.state ≡ st → c.closed.state ≡ state.Running
+        by_state state.Running is = is
+        by_state state.Finished is = absurd (let over = sym c.back.unfinished ∙ ap is_finished is in cc)
+        by_state state.BrokenByBay is = absurd (let rose = subst (λ (m : B). HasRisen (b_faults m) (b_faults c.closed.bay)) c.back.made_is (c.back.stands.by_bay is) in
+            let up = rose faultless.below_last in let same = faultless.same in omega (arith, up, same))
+        by_state (state.BrokenByRead file at) is = absurd (none-some seen (sym (c.back.stands.by_read file at is c.back.sound) ∙ told))
+        by_state state.BrokenByMemory is = absurd (let low = rank_below cone c state.BrokenByMemory is status.OutOfMemory refl in omega (arith, above, low))
+        by_state state.Replaying is = absurd (c.back.stands.ready is)
+
+    -- each cone may take more, where a full cone is answered
+    running_all : 6 ≤ rank one → (cone : ℕ) (c : IsCone cone) → c.closed.state ≡ state.Running
+    running_all above cone c = by_state c.closed.state refl
+      where
+        by_state : (st : ConeState) → c.closed.state ≡ st → c.closed.state ≡ state.Running
+        by_state state.Running is = is
+        by_state state.Finished is = absurd (let over = sym c.back.unfinished ∙ ap is_finished is in cc)
+        by_state state.BrokenByBay is = absurd (let low = rank_below cone c state.BrokenByBay is (status.BayFault cone) refl in omega (arith, above, low))
+        by_state (state.BrokenByRead file at) is = absurd (let low = rank_below cone c (state.BrokenByRead file at) is (status.Malformed cone file at) refl in omega (arith, above, low))
+        by_state state.BrokenByMemory is = absurd (let low = rank_below cone c state.BrokenByMemory is status.OutOfMemory refl in omega (arith, above, low))
+        by_state state.Replaying is = absurd (c.back.stands.ready is)
+
+    open_partly : 1 ≤ rank one → (open_trace : ℕ → ℕ → Type 0)
+        → ((cone trace : ℕ) → IsCone cone → open_trace cone trace → HasNoRest s trace (added cone (trace % workers))) →
+        AreOpenPartly remaining s_faults files b_faults s workers opened laters (bays_of firsts) (bays_of backs) open_trace
+    open_partly above open_trace no_rest = record {
+      traces = traces;
+      keys = are_keys remaining s_faults s_mark workers some opened laters shares reads was readings places stopped ends run;
+      woven = parts_woven;
+      still = λ cone before now was_is is faultless seen told.
+          let found = cone_of_bay cone now is in
+          let c = found.0 in
+          let first_is : before ≡ c.first.bay = same_Some before c.first.bay (sym was_is ∙ bay_at firsts cone c.first c.first_is) in
+          let here : IsFaultless (b_faults c.first.bay) (b_faults c.closed.bay) =
+          subst (λ (b : B). IsFaultless (b_faults b) (b_faults c.closed.bay)) first_is (subst (λ (b : B). IsFaultless (b_faults before) (b_faults b)) (sym found.1) faultless) in
+          let seen_here = ap files found.1 ∙ told in
+          let running = running_told above cone c here seen seen_here in
+          holds_open files leaves b_faults b_mark s workers some cone traces shares reads stopped ends shared (added cone) (turned cone) c.left c.first c.closed c.back begun running
+          open_trace
+          (λ trace opens. no_rest_of files leaves b_faults b_mark s workers some cone traces shares reads stopped ends shared (added cone) (turned cone) c.left c.first c.closed c.back
+          begun trace
+          (no_rest cone trace c opens)) seen seen_here;
+    }
+
+    module _ (by : ℕ) (below : by < workers) where
+      -- no rest of the trace at which it stopped was handed out
+      none_at : (e : WorkerEnd) → ends by ≡ e → (e ≢ end.Ran) → (cone trace : ℕ) (c : IsCone cone) → StillOpen e cone → trace ≡ stopped by → HasNoRest s trace
+          (added cone (trace % workers))
+      none_at e is ran cone trace c opens same =
+          let here = (c.left by below).no_rest (subst (λ (w : WorkerEnd). StillOpen w cone) (sym is) opens) in
+          let by_is : (stopped by) % workers ≡ by = worker_of by (places by) (stopped by) below (stop_place by below e is ran) in
+          subst (λ t. HasNoRest s t (added cone (t % workers))) (sym same) (subst (λ n. HasNoRest s (stopped by) (added cone n)) (sym by_is) here)
+
+      by_fault : (trace : ℕ) (f : TraceFault) → ends by ≡ end.Trace trace f → 1 ≤ rank one →
+          StopShows remaining s_faults files b_faults s workers opened laters (bays_of firsts) (bays_of backs) (stop_status trace f)
+      by_fault trace f is above = shows f (trace_stop by below trace f is)
+        where
+          same : trace ≡ stopped by
+          same = (subst (Stopped remaining (shares by) (was by) (readings by) (places by) (stopped by)) is (run.stop by below)).0
+
+          opens : AreOpenPartly remaining s_faults files b_faults s workers opened laters (bays_of firsts) (bays_of backs) (λ _ other. other ≡ trace)
+          opens = open_partly above (λ _ other. other ≡ trace) (λ cone other c at. none_at (end.Trace trace f) is (λ e. absurd (let clash = e in cc)) cone other c tt (at ∙ same))
+
+          shows : (f : TraceFault) → IsStop trace f → StopShows remaining s_faults files b_faults s workers opened laters (bays_of firsts) (bays_of backs) (stop_status trace f)
+          shows trace_fault.ReadFailed stop = (record { before = stop.before; now = stop.now; was = stop.opened_is; is = stop.later_is; rose = stop.means }, opens)
+          shows (trace_fault.BadHeader at) stop = (record { before = stop.before; was = stop.opened_is; told = λ bytes told. (stop.means.1 bytes told).place }, opens)
+          shows (trace_fault.CutKey at) stop = (record { before = stop.before; was = stop.opened_is; told = λ bytes told. (stop.means.1 bytes told).place }, opens)
+          shows trace_fault.TooLong stop = (record { before = stop.before; was = stop.opened_is; told = stop.means.1 }, opens)
+
+      -- a cone that refused for want of room
+      by_full : (cone n len : ℕ) → ends by ≡ end.Cone cone (fault.CapacityFull n len) → 6 ≤ rank one →
+          StopShows remaining s_faults files b_faults s workers opened laters (bays_of firsts) (bays_of backs) (status.CapacityFull cone n len)
+      by_full cone n len is above = shows (c.back.refusals by below e.0 f has)
+        where
+          f : ConeFault
+          f = fault.CapacityFull n len
+
+          c : IsCone cone
+          c = cone_at cone (left_by.named by cone f below is)
+
+          e : (e : Packet) × (turned cone by ≡ (e, f) ∷ [])
+          e = was_turned s by cone (shares by) (reads by) (stopped by) (ends by) (added cone by) (turned cone by) (c.left by below) cone f is refl
+
+          has : Contains (turned cone by) (e.0, f)
+          has = subst (λ (xs : List (Packet × ConeFault)). Contains xs (e.0, f)) (sym e.1) (item_here (e.0, f) [])
+
+          opens : AreOpenPartly remaining s_faults files b_faults s workers opened laters (bays_of firsts) (bays_of backs) (λ other t. (cone ≤ other) × (t ≡ stopped by))
+          opens = open_partly (omega (arith, above)) (λ other t. (cone ≤ other) × (t ≡ stopped by))
+              (λ other trace c at. none_at (end.Cone cone f) is (λ e. absurd (let clash = e in cc)) other trace c at.0 at.1)
+
+          shows : (c.closed.state ≢ state.Running) ⊎ IsFullAt s c.back.history e.0 f →
+              StopShows remaining s_faults files b_faults s workers opened laters (bays_of firsts) (bays_of backs) (status.CapacityFull cone n len)
+          shows (inl stopped) = absurd (stopped (running_all above cone c))
+          shows (inr full) =
+              let same : (n ≡ length (events_of full.past)) × (len ≡ length e.0.keys) = full_same n len (length (events_of full.past)) (length e.0.keys) full.fault_is in
+              let own_e = last_own (shares by) (added cone by) e.0
+              (turned_part s by cone (shares by) (reads by) (stopped by) (ends by) (added cone by) (turned cone by) (c.left by below) e.0 f e.1).each in
+              let many = enough files leaves b_faults b_mark s workers some cone traces shares reads stopped ends shared (added cone) (turned cone) c.left c.first c.closed c.back begun by
+              below e.0 f has full in
+              let keys = holds_keys files leaves b_faults b_mark s workers some cone traces shares reads stopped ends shared (added cone) (turned cone) c.left c.first c.closed c.back begun
+              e.0 f full
+              (running_all above cone c) in
+              let first_one = own_e.some in
+              let few = own_e.few in
+              let over = full.over in (
+                record {
+                  named = subst (λ k. cone < k) left_by.cones_are (left_by.named by cone f below is);
+                  some = omega (arith, first_one, same.1);
+                  few = omega (arith, few, same.1);
+                  over = omega (arith, over, same.0, same.1);
+                  journal = λ bay there seen told.
+                      let bay_is = same_Some c.closed.bay bay (sym (bay_at backs cone c.closed c.closed_is) ∙ there) in
+                      subst (λ k. HoldsKeys s k cone seen) (sym same.0) (keys seen (ap files bay_is ∙ told));
+                },
+                record {
+                  traces = traces;
+                  keys = are_keys remaining s_faults s_mark workers some opened laters shares reads was readings places stopped ends run;
+                  enough = omega (arith, many, same.0, same.1);
+                },
+                (stopped by, opens),
+              )
+            where
+              full_same : (n len m more : ℕ) → fault.CapacityFull n len ≡ fault.CapacityFull m more → (n ≡ m) × (len ≡ more)
+              full_same n len m more e = (let same : n ≡ m = cc in same, let same : len ≡ more = cc in same)
+
+              last_own : (share : List ℕ) (xs : List Packet) (x : Packet) → All (IsOwn s by share) (xs ++ x ∷ []) → IsOwn s by share x
+              last_own share xs x all = All-contains (IsOwn s by share) (xs ++ x ∷ []) x all (Contains-push xs x)
+
+      by_end : (e : WorkerEnd) → ends by ≡ e → end_fault e ≡ Some one → StopShows remaining s_faults files b_faults s workers opened laters (bays_of firsts) (bays_of backs) one
+      by_end end.Ran is none = absurd (none-some one none)
+      by_end (end.Trace trace f) is same =
+          let which = same_Some (stop_status trace f) one same in
+          subst (StopShows remaining s_faults files b_faults s workers opened laters (bays_of firsts) (bays_of backs)) which
+          (by_fault trace f is (subst (λ (x : Status). 1 ≤ rank x) which (trace_rank trace f)))
+        where
+          trace_rank : (trace : ℕ) (f : TraceFault) → 1 ≤ rank (stop_status trace f)
+          trace_rank trace trace_fault.ReadFailed = omega arith
+          trace_rank trace (trace_fault.BadHeader at) = omega arith
+          trace_rank trace (trace_fault.CutKey at) = omega arith
+          trace_rank trace trace_fault.TooLong = omega arith
+      by_end (end.Cone cone f) is same = cone_end f is same
+        where
+          cone_end : (f : ConeFault) → ends by ≡ end.Cone cone f → full_fault cone f ≡ Some one → StopShows remaining s_faults files b_faults s workers opened laters
+              (bays_of firsts) (bays_of backs) one
+          cone_end fault.Closed is none = absurd (none-some one none)
+          cone_end fault.Broken is none = absurd (none-some one none)
+          cone_end (fault.CapacityFull n len) is some =
+              let which = same_Some (status.CapacityFull cone n len) one some in
+              subst (StopShows remaining s_faults files b_faults s workers opened laters (bays_of firsts) (bays_of backs)) which
+              (by_full cone n len is (subst (λ (x : Status). 6 ≤ rank x) which (omega arith)))
+          cone_end fault.BayFailed is none = absurd (none-some one none)
+          cone_end (fault.Unsound file at) is none = absurd (none-some one none)
+          cone_end fault.OutOfMemory is none = absurd (none-some one none)
+
+    -- a cone that is broken
+    by_state : (cone : ℕ) (c : IsCone cone) (st : ConeState) → c.closed.state ≡ st → state_fault cone st ≡ Some one →
+        StopShows remaining s_faults files b_faults s workers opened laters (bays_of firsts) (bays_of backs) one
+    by_state cone c state.Running is none = absurd (none-some one none)
+    by_state cone c state.Finished is none = absurd (none-some one none)
+    by_state cone c state.BrokenByBay is some =
+        subst (StopShows remaining s_faults files b_faults s workers opened laters (bays_of firsts) (bays_of backs)) (same_Some (status.BayFault cone) one some) (
+          record {
+            before = c.first.bay;
+            now = c.closed.bay;
+            was = bay_at firsts cone c.first c.first_is;
+            is = bay_at backs cone c.closed c.closed_is;
+            rose = subst (λ (m : B). HasRisen (b_faults m) (b_faults c.closed.bay)) c.back.made_is (c.back.stands.by_bay is);
+          },
+          are_partly,
+        )
+    by_state cone c (state.BrokenByRead file at) is some =
+        subst (StopShows remaining s_faults files b_faults s workers opened laters (bays_of firsts) (bays_of backs)) (same_Some (status.Malformed cone file at) one some) (
+          untold_since files b_faults b_mark (bays_of firsts) (bays_of backs) cone bays_later (record {
+            named = slice_get_within (bays_of backs) cone c.closed.bay (bay_at backs cone c.closed c.closed_is);
+            untold = λ bay there seen told.
+                let bay_is = same_Some c.closed.bay bay (sym (bay_at backs cone c.closed c.closed_is) ∙ there) in
+                none-some seen (sym (c.back.stands.by_read file at is c.back.sound) ∙ (ap files bay_is ∙ told));
+          }),
+          are_partly,
+        )
+    by_state cone c state.BrokenByMemory is some =
+        subst (StopShows remaining s_faults files b_faults s workers opened laters (bays_of firsts) (bays_of backs)) (same_Some status.OutOfMemory one some) (inr are_partly)
+    by_state cone c state.Replaying is none = absurd (none-some one none)
+
+    -- all that the answer shows
+    pub stop_shows : StopShows remaining s_faults files b_faults s workers opened laters (bays_of firsts) (bays_of backs) one
+    stop_shows = by_origin (of_two (earliest (λ by. end_fault (ends by)) workers) (earliest (fault_at backs) (length backs)) one found).0
+      where
+        by_origin : (earliest (λ by. end_fault (ends by)) workers ≡ Some one) ⊎ (earliest (fault_at backs) (length backs) ≡ Some one) →
+            StopShows remaining s_faults files b_faults s workers opened laters (bays_of firsts) (bays_of backs) one
+        by_origin (inl of_end) = let first = of_all (λ by. end_fault (ends by)) workers one of_end in by_end first.place first.below (ends first.place) refl first.is
+        by_origin (inr of_state) =
+            let first = of_all (fault_at backs) (length backs) one of_state in
+            let c = cone_at first.place (let n = left_by.number in let below = first.below in omega (arith, n, below)) in
+            by_state first.place c c.closed.state refl (sym (ap (fault_of first.place) c.closed_is) ∙ first.is)

@@ -1,0 +1,156 @@
+-- The keys of all traces, by what was read of each.
+use Rattle.std.proofs.Common.{◌≡◌, ◌⊎◌, ℕ, ◌+◌, ◌%◌, ◌<◌, ◌≤◌, zero, suc, List, [], ◌∷◌, ◌++◌, length, take, drop, map, Option, Some}
+use Rattle.std.proofs.Common.{None, slice_get, refl, ap, sym, ◌∙◌, subst, inl, inr, arith}
+use Rattle.std.proofs.Common.{append-nil, length-append}
+use Rattle.std.specs.Prelude.{All}
+use Rattle.std.proofs.lemmas.Bool.{cases_lt}
+use Rattle.std.proofs.lemmas.List.{take-append-drop, take_all}
+use Rattle.std.proofs.lemmas.List.Elements.{All-contains}
+use Rattle.std.proofs.lemmas.Option.{get_or_from_slice_get, none-some, same_Some, slice_get_within}
+use Rattle.lert_base.specs.Beginning.{BeginsWith}
+use Rattle.lert_io.specs.Reading.{IfTold}
+use Rattle.lert_spec.specs.Trace.{whole}
+use Rattle.lert_trace.specs.Reader.{Reading}
+use Rattle.lert_worker.specs.Ends.{IsAtEnd, WasRead}
+use Rattle.lert_worker.specs.declared.end.WorkerEnd.{WorkerEnd}
+use Rattle.lert_worker.specs.declared.end.WorkerEnd.TheVariants.{Ran}
+use Rattle.lert_ingest.specs.Crews.{AreReadBy, IsReadOf, fresh_reader}
+use Rattle.lert_ingest.specs.Shares.{IsShare}
+use Rattle.lert_ingest.specs.Traces.{AreKeysOf}
+use Rattle.lert_ingest.proofs.BayLaws.{slice_get-first, slice_get-seam}
+
+-- a list of what there is at each place
+pub record IsListOf {A : Type 0} (count : ℕ) (P : ℕ → A → Type 0) : Type 0 where
+  pub items : List A
+  pub number : length items ≡ count
+  pub each : (place : ℕ) (x : A) → slice_get items place ≡ Some x → P place x
+
+pub list_of : {A : Type 0} (P : ℕ → A → Type 0) (count : ℕ) → ((place : ℕ) → place < count → (x : A) × P place x) → IsListOf count P
+list_of P zero each = record { items = []; number = refl; each = λ place x is. absurd (none-some x is) }
+list_of P (suc count) each =
+    let less = list_of P count (λ place below. each place (omega (arith, below))) in
+    let last = each count (omega arith) in
+    record {
+      items = less.items ++ last.0 ∷ [];
+      number = (let n = less.number in let sum = length-append less.items (last.0 ∷ []) in omega (arith, n, sum));
+      each = λ place x is. elim (cases_lt place (length less.items)) [
+        | inl below ↦ less.each place x (sym (slice_get-first less.items (last.0 ∷ []) place below) ∙ is)
+        | inr above ↦
+            let within = slice_get_within (less.items ++ last.0 ∷ []) place x is in
+            let sum = length-append less.items (last.0 ∷ []) in
+            let at : place ≡ length less.items = omega (arith, within, sum, above) in
+            let same : last.0 ≡ x = same_Some last.0 x (sym (slice_get-seam less.items last.0 []) ∙ (ap (slice_get (less.items ++ last.0 ∷ [])) (sym at) ∙ is)) in
+            subst (λ n. P n x) (let e : count ≡ place = (let n = less.number in omega (arith, n, at)) in e) (subst (P count) same last.1)
+      ];
+    }
+
+-- the first keys begin all of them
+begins_taken : (keys all : List ℕ) (n : ℕ) → keys ≡ take n all → BeginsWith all keys
+begins_taken keys all n is = (drop n all, ap (λ xs. xs ++ drop n all) is ∙ take-append-drop n all)
+
+module _ {S : Type 0} (remaining : S → Option (List ℕ)) (faults mark : S → ℕ) where
+  -- what was read of a trace begins its keys, and is them all at its end
+  pub read_begins : (before : S) (now : Reading S) (read bytes : List ℕ) → WasRead remaining faults mark (fresh_reader before) now read → remaining before ≡ Some bytes
+      → BeginsWith (whole bytes) read
+  read_begins before now read bytes was told = begins_taken read (whole bytes) (length read) (was.told bytes told)
+
+  pub read_whole : (before : S) (now : Reading S) (read bytes : List ℕ) → WasRead remaining faults mark (fresh_reader before) now read → remaining before ≡ Some bytes
+      → IsAtEnd remaining now →
+      read ≡ whole bytes
+  read_whole before now read bytes was told at_end =
+      let trace = at_end.told bytes (ap remaining was.made_is ∙ told) in
+      let given = was.given_is in
+      let all = trace.all_given in
+      was.told bytes told ∙ take_all (length read) (whole bytes) (omega (arith, given, all))
+
+module _ {S : Type 0} (remaining : S → Option (List ℕ)) (faults mark : S → ℕ) (workers : ℕ) (some : 1 ≤ workers) (opened laters : List S) (shares : ℕ → List ℕ)
+    (reads : ℕ → List (List ℕ))
+    (was readings : ℕ → List (Reading S)) (places stopped : ℕ → ℕ) (ends : ℕ → WorkerEnd)
+    (run : AreReadBy remaining faults mark workers opened laters shares reads was readings places stopped ends) where
+  -- the keys of a trace, read to their end or not
+  pub record IsKeysAt (trace : ℕ) (keys : List ℕ) : Type 0 where
+    pub told : (before : S) → slice_get opened trace ≡ Some before → IfTold (remaining before) (λ bytes. keys ≡ whole bytes)
+    pub begun : (by place : ℕ) → by < workers → slice_get (shares by) place ≡ Some trace → (read : List ℕ) × (slice_get (reads by) place ≡ Some read) × BeginsWith keys read
+    pub untold : (before : S) → slice_get opened trace ≡ Some before → remaining before ≡ None →
+        (by place : ℕ) → by < workers → slice_get (shares by) place ≡ Some trace → slice_get (reads by) place ≡ Some keys
+
+  -- the worker and the place of a trace
+  by_trace : (by place trace : ℕ) → by < workers → slice_get (shares by) place ≡ Some trace → (trace < length opened) × (trace % workers ≡ by)
+  by_trace by place trace below there =
+      subst (λ t. (t < length opened) × (t % workers ≡ by)) (get_or_from_slice_get (shares by) place trace trace there)
+      ((run.shared by below).own place trace (slice_get_within (shares by) place trace there))
+
+  pub named : (trace : ℕ) → trace % workers < workers
+  named trace = omega (arith, some)
+
+  pub there_is : (trace : ℕ) → trace < length opened → (place : ℕ) × (slice_get (shares (trace % workers)) place ≡ Some trace)
+  there_is trace below = (run.shared (trace % workers) (named trace)).all trace below refl
+
+  -- what is so at the place of a trace is so wherever the trace is
+  only_there : (trace : ℕ) (below : trace < length opened) (P : ℕ → ℕ → Type 0) → P (trace % workers) (there_is trace below).0 →
+      (by place : ℕ) → by < workers → slice_get (shares by) place ≡ Some trace → P by place
+  only_there trace below P here by place by_below there =
+      let same = (by_trace by place trace by_below there).1 in
+      let there_same : slice_get (shares (trace % workers)) place ≡ Some trace = subst (λ n. slice_get (shares n) place ≡ Some trace) (sym same) there in
+      let place_same = (run.shared (trace % workers) (named trace)).once (there_is trace below).0 place trace (there_is trace below).1 there_same in
+      subst (λ n. P n place) same (subst (P (trace % workers)) place_same here)
+
+  keys_at : (trace : ℕ) → trace < length opened → (keys : List ℕ) × IsKeysAt trace keys
+  keys_at trace below = by_case (remaining of.before) refl
+    where
+      at : (now : Reading S) × (read : List ℕ) × (slice_get (readings (trace % workers)) (there_is trace below).0 ≡ Some now)
+          × (slice_get (reads (trace % workers)) (there_is trace below).0 ≡ Some read) × IsReadOf remaining faults mark opened laters trace now read
+      at = run.each (trace % workers) (there_is trace below).0 trace (named trace) (there_is trace below).1
+
+      of : IsReadOf remaining faults mark opened laters trace at.0 at.1
+      of = at.4
+
+      by_case : (told : Option (List ℕ)) → remaining of.before ≡ told → (keys : List ℕ) × IsKeysAt trace keys
+      by_case None none = (
+        at.1,
+        record {
+          told = λ before there bytes told. absurd (none-some bytes (sym none ∙ (ap remaining (same_Some of.before before (sym of.was ∙ there)) ∙ told)));
+          begun = only_there trace below (λ by place. (read : List ℕ) × (slice_get (reads by) place ≡ Some read) × BeginsWith at.1 read) (at.1, at.3, ([], append-nil at.1));
+          untold = λ before there untold. only_there trace below (λ by place. slice_get (reads by) place ≡ Some at.1) at.3;
+        },
+      )
+      by_case (Some bytes) told = (
+        whole bytes,
+        record {
+          told = λ before there others told'.
+              ap whole (same_Some bytes others (sym told ∙ (ap remaining (same_Some of.before before (sym of.was ∙ there)) ∙ told')));
+          begun = only_there trace below (λ by place. (read : List ℕ) × (slice_get (reads by) place ≡ Some read) × BeginsWith (whole bytes) read)
+              (at.1, at.3, read_begins remaining faults mark of.before at.0 at.1 bytes of.read_is told);
+          untold = λ before there untold. absurd (none-some bytes (sym untold ∙ (ap remaining (same_Some before of.before (sym there ∙ of.was)) ∙ told)));
+        },
+      )
+
+  pub all_keys : IsListOf (length opened) IsKeysAt
+  all_keys = list_of IsKeysAt (length opened) keys_at
+
+  pub are_keys : AreKeysOf remaining opened all_keys.items
+  are_keys = record { number = all_keys.number; each = λ trace before keys there is. (all_keys.each trace keys is).told before there }
+
+  -- what was read begins them
+  pub all_begun : (by place trace : ℕ) (keys : List ℕ) → by < workers → slice_get (shares by) place ≡ Some trace → slice_get all_keys.items trace ≡ Some keys →
+      (read : List ℕ) × (slice_get (reads by) place ≡ Some read) × BeginsWith keys read
+  all_begun by place trace keys below there is = (all_keys.each trace keys is).begun by place below there
+
+  -- and is them all, where each reader stands at its end
+  pub all_whole : ((by place : ℕ) (now : Reading S) → by < workers → slice_get (readings by) place ≡ Some now → IsAtEnd remaining now) →
+      (by place trace : ℕ) (keys : List ℕ) → by < workers → slice_get (shares by) place ≡ Some trace → slice_get all_keys.items trace ≡ Some keys → slice_get (reads by)
+      place ≡ Some keys
+  all_whole at_ends by place trace keys below there is = by_case (remaining of.before) refl
+    where
+      at : (now : Reading S) × (read : List ℕ) × (slice_get (readings by) place ≡ Some now) × (slice_get (reads by) place ≡ Some read) × IsReadOf remaining faults mark opened
+          laters trace now read
+      at = run.each by place trace below there
+
+      of : IsReadOf remaining faults mark opened laters trace at.0 at.1
+      of = at.4
+
+      by_case : (told : Option (List ℕ)) → remaining of.before ≡ told → slice_get (reads by) place ≡ Some keys
+      by_case None none = (all_keys.each trace keys is).untold of.before of.was none by place below there
+      by_case (Some bytes) told =
+          at.3 ∙ ap Some (read_whole remaining faults mark of.before at.0 at.1 bytes of.read_is told (at_ends by place at.0 below at.2) ∙ sym
+          ((all_keys.each trace keys is).told of.before of.was bytes told))

@@ -1,0 +1,52 @@
+use Rattle.std.proofs.Common.{◌≡◌, ◌^◌, ◌∙◌, List, ap, length, refl, subst, arith}
+use Rattle.lert_cone.specs.Stands.{Standing}
+use Rattle.lert_ingest.specs.Ingest.{HasIngested}
+use Rattle.lert_ingest.proofs.Assembling.{untouched}
+use Rattle.lert_ingest.proofs.Starting.{all_opened, as_many, few_cones, first_from, first_quiet, firsts_new}
+use Rattle.lert_ingest.proofs.crews.ingest.Goals as goal
+
+pub lock_cones-requires-clause-cones : goal.lock_cones-requires-clause-cones
+lock_cones-requires-clause-cones g c κs within = few_cones g.B.Bay.files g.B.Bay.leaves g.B.Faulty.faults c.args.settings.now c.args.cones.items c.requires.number c.requires.new_cones
+
+pub lock_cones-requires-clause-opened : goal.lock_cones-requires-clause-opened
+lock_cones-requires-clause-opened g c κs within = all_opened g.B.Bay.files g.B.Bay.leaves g.B.Faulty.faults c.args.settings.now c.args.cones.items c.requires.number c.requires.new_cones
+
+pub ingest_fleet-requires-clause-number : goal.ingest_fleet-requires-clause-number
+ingest_fleet-requires-clause-number g c κs within =
+    as_many g.B.Bay.files g.B.Bay.leaves g.B.Faulty.faults c.args.settings.now c.args.cones.items c.requires.number c.requires.new_cones c.args.workers
+    c.in-Ok-lock_cones.fleet c.in-Ok-lock_cones.ensures.locks ∙ c.requires.number
+
+pub ingest_fleet-requires-clause-cones : goal.ingest_fleet-requires-clause-cones
+ingest_fleet-requires-clause-cones g c κs within =
+    let few = (few_cones g.B.Bay.files g.B.Bay.leaves g.B.Faulty.faults c.args.settings.now c.args.cones.items c.requires.number c.requires.new_cones).1 in
+    let same = as_many g.B.Bay.files g.B.Bay.leaves g.B.Faulty.faults c.args.settings.now c.args.cones.items c.requires.number c.requires.new_cones c.args.workers
+    c.in-Ok-lock_cones.fleet c.in-Ok-lock_cones.ensures.locks in omega (arith, few, same)
+
+pub ingest_fleet-requires-clause-new_cones : goal.ingest_fleet-requires-clause-new_cones
+ingest_fleet-requires-clause-new_cones g c κs within =
+    firsts_new g.B.Bay.files g.B.Bay.leaves g.B.Faulty.faults c.args.settings.now c.args.cones.items c.requires.number c.requires.new_cones c.args.workers
+    c.in-Ok-lock_cones.fleet c.in-Ok-lock_cones.ensures.locks
+
+pub ingest_fleet-requires-clause-pass : goal.ingest_fleet-requires-clause-pass
+ingest_fleet-requires-clause-pass g c κs within =
+    first_from c.args.workers c.in-Ok-lock_cones.fleet c.in-Ok-lock_cones.pass c.in-Ok-lock_cones.ensures.pass c.in-Ok-lock_cones.ensures.belongs
+
+pub ingest_fleet-requires-clause-quiet : goal.ingest_fleet-requires-clause-quiet
+ingest_fleet-requires-clause-quiet g c κs within = first_quiet c.args.workers c.in-Ok-lock_cones.fleet c.in-Ok-lock_cones.pass c.in-Ok-lock_cones.ensures.pass
+
+pub returns-in-Ok-lock_cones-clause-stopped : goal.returns-in-Ok-lock_cones-clause-stopped
+returns-in-Ok-lock_cones-clause-stopped g c =
+    (subst (λ (firsts : List (Standing _)). HasIngested g.S.Source.remaining g.S.Faulty.faults g.S.Faulty.mark g.B.Bay.files g.B.Bay.leaves g.B.Faulty.faults g.B.Faulty.mark
+    c.args.settings.now c.args.workers c.args.traces.items c.ingest_fleet.result.0.items firsts c.ingest_fleet.result.1.items c.ingest_fleet.result.2)
+    c.in-Ok-lock_cones.ensures.locks.firsts c.ingest_fleet.ensures).stopped
+
+pub returns-in-Ok-lock_cones-clause-exact : goal.returns-in-Ok-lock_cones-clause-exact
+returns-in-Ok-lock_cones-clause-exact g c =
+    (subst (λ (firsts : List (Standing _)). HasIngested g.S.Source.remaining g.S.Faulty.faults g.S.Faulty.mark g.B.Bay.files g.B.Bay.leaves g.B.Faulty.faults g.B.Faulty.mark
+    c.args.settings.now c.args.workers c.args.traces.items c.ingest_fleet.result.0.items firsts c.ingest_fleet.result.1.items c.ingest_fleet.result.2)
+    c.in-Ok-lock_cones.ensures.locks.firsts c.ingest_fleet.ensures).exact
+
+pub returns-in-Err-clause-later : goal.returns-in-Err-clause-later
+returns-in-Err-clause-later g c =
+    (untouched g.S.Source.remaining g.S.Faulty.faults g.S.Faulty.mark g.B.Bay.files g.B.Bay.leaves g.B.Faulty.faults g.B.Faulty.mark
+    c.args.settings.now c.args.workers c.args.traces.items c.args.traces.items c.args.cones.items c.in-Err.cones.items refl c.in-Err.ensures.back).later

@@ -1,0 +1,18 @@
+use Rattle.std.proofs.Common.{arith}
+use Rattle.std.proofs.lemmas.Option.{slice_get_within}
+use Rattle.lert_ingest.specs.Faults.{fault_at}
+use Rattle.lert_ingest.proofs.FaultOrder.{earliest_more, fault_there, seen_more}
+use Rattle.lert_ingest.proofs.faults.first_of_cones.Goals as goal
+
+pub loop-cone-preserved : goal.loop-cone-preserved
+loop-cone-preserved g c = record {
+  first_is = earliest_more (fault_at c.args.cones.now) c.loop-cone.cone c.loop-cone.first c.state_fault.result c.earlier-first.result c.earlier-first.ensures c.loop-cone.invariant.first_is
+      (fault_there c.args.cones.now c.loop-cone.cone c.index-cones-cone.result c.state.result c.state_fault.result c.loop-cone-test.true c.index-cones-cone.is c.state.ensures.value
+      c.state_fault.ensures);
+  seen = seen_more g.B.Bay.files g.B.Faulty.faults g.B.Faulty.mark c.args.cones.now c.loop-cone.cone c.index-cones-cone.result c.state.result c.loop-cone-test.true c.index-cones-cone.is
+      c.state.ensures.value c.state.ensures.later c.state.ensures.closed c.loop-cone.invariant.seen;
+}
+
+pub returns-clause-seen : goal.returns-clause-seen
+returns-clause-seen g c = λ place standing is. c.loop-cone.invariant.seen place standing
+    (let w = slice_get_within c.args.cones.now place standing is in let a = c.loop-cone-test.false in omega (arith, w, a)) is

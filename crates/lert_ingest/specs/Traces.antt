@@ -1,0 +1,82 @@
+-- What is known of the traces of a run: those that were opened, the same ones later, and the keys of all.
+use Rattle.std.specs.Prelude.{◌≡◌, ℕ, ◌+◌, ◌^◌, ◌<◌, ◌≤◌, List, [], length, map, sum_by, Option, Some, None, slice_get}
+use Rattle.lert_io.specs.Fault.{HasRisen, IsFaultless}
+use Rattle.lert_io.specs.Reading.{IfTold}
+use Rattle.lert_spec.specs.declared.numbers.Numbers.{Numbers}
+use Rattle.lert_spec.specs.Edges.{capacity}
+use Rattle.lert_spec.specs.Mix.{part_of}
+use Rattle.lert_spec.specs.Trace.{left, whole}
+
+-- the most keys that a trace may have, 2^36
+abbrev pub most_keys : ℕ
+most_keys = 68719476736
+
+-- the same trace later: its mark is the same, and its count of faults never falls
+pub record IsTraceLater {S : Type 0} (faults mark : S → ℕ) (opened now : S) : Type 0 where
+  pub marked : mark now ≡ mark opened
+  pub never_falls : faults opened ≤ faults now
+
+-- the same traces later
+pub record AreTracesLater {S : Type 0} (faults mark : S → ℕ) (opened later : List S) : Type 0 where
+  pub number : length later ≡ length opened
+  pub each : (trace : ℕ) (before now : S) → slice_get opened trace ≡ Some before → slice_get later trace ≡ Some now → IsTraceLater faults mark before now
+
+-- what is so of the trace of a number, as it was opened and as it is
+abbrev pub AtTrace : {S : Type 0} → (S → S → Type 0) → List S → List S → ℕ → Type 0
+AtTrace {S = S} R opened later trace = (before now : S) → slice_get opened trace ≡ Some before → slice_get later trace ≡ Some now → R before now
+
+-- the keys of all traces: of each that tells its bytes all whole keys
+pub record AreKeysOf {S : Type 0} (remaining : S → Option (List ℕ)) (opened : List S) (traces : List (List ℕ)) : Type 0 where
+  pub number : length traces ≡ length opened
+  pub each : (trace : ℕ) (before : S) (keys : List ℕ) → slice_get opened trace ≡ Some before → slice_get traces trace ≡ Some keys
+      → IfTold (remaining before) (λ bytes. keys ≡ whole bytes)
+
+-- all traces tell their bytes, and these are they
+abbrev pub AreBytesOf : {S : Type 0} → (S → Option (List ℕ)) → List S → List (List ℕ) → Type 0
+AreBytesOf remaining opened texts = map remaining opened ≡ map Some texts
+
+-- bytes are a trace within the limit, and were read to their end
+pub record IsReadToEnd (bytes : List ℕ) (remaining : Option (List ℕ)) : Type 0 where
+  pub well_formed : left bytes ≡ None
+  pub few : length (whole bytes) ≤ most_keys
+  pub read : remaining ≡ Some []
+
+-- so each trace that tells its bytes
+abbrev pub AreReadToEnd : {S : Type 0} → (S → Option (List ℕ)) → List S → List S → Type 0
+AreReadToEnd {S = S} remaining opened later = (trace : ℕ) (before now : S) → slice_get opened trace ≡ Some before → slice_get later trace ≡ Some now
+    → IfTold (remaining before) (λ bytes. IsReadToEnd bytes (remaining now))
+
+-- no fault of a trace was counted
+abbrev pub AreTracesFaultless : {S : Type 0} → (S → ℕ) → List S → List S → Type 0
+AreTracesFaultless {S = S} faults opened later = (trace : ℕ) (before now : S) → slice_get opened trace ≡ Some before → slice_get later trace ≡ Some now
+    → IsFaultless (faults before) (faults now)
+
+-- the count of faults of a trace rose
+pub record HasTraceFailed {S : Type 0} (faults : S → ℕ) (opened later : List S) (trace : ℕ) : Type 0 where
+  pub before : S
+  pub now : S
+  pub was : slice_get opened trace ≡ Some before
+  pub is : slice_get later trace ≡ Some now
+  pub rose : HasRisen (faults before) (faults now)
+
+-- the trace of a number was opened, and where it tells its bytes, this is so of them
+pub record IsOpened {S : Type 0} (remaining : S → Option (List ℕ)) (opened : List S) (trace : ℕ) (P : List ℕ → Type 0) : Type 0 where
+  pub before : S
+  pub was : slice_get opened trace ≡ Some before
+  pub told : IfTold (remaining before) P
+
+-- how many keys of all traces belong to a cone
+abbrev pub part_length : Numbers → ℕ → List (List ℕ) → ℕ
+part_length s cone traces = sum_by (λ keys. length (part_of s cone keys)) traces
+
+-- each cone takes its part of the keys of all traces
+abbrev pub AllFit : Numbers → List (List ℕ) → Type 0
+AllFit s traces = (cone : ℕ) → cone < 2 ^ s.cone_bits → part_length s cone traces ≤ capacity s
+
+-- a cone has more keys in all traces than it takes
+abbrev pub IsOver : Numbers → List (List ℕ) → ℕ → Type 0
+IsOver s traces cone = capacity s < part_length s cone traces
+
+-- a cone has as many keys in all traces as a beginning of its journal and a packet together, or more
+abbrev pub HasThem : Numbers → List (List ℕ) → ℕ → ℕ → ℕ → Type 0
+HasThem s traces cone n len = n + len ≤ part_length s cone traces

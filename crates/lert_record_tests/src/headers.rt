@@ -1,0 +1,81 @@
+//! The header of one cone's journal, and bytes that begin as none.
+
+use lert_base::{Kept, Numbers, Settings};
+use lert_journal::{HEADER_LEN, header_left, read_header, write_header};
+use std::test::Fail;
+
+const NUMBERS: Numbers = Numbers {
+    threshold: 3,
+    bins: 3,
+    ratio: 2,
+    base: 4,
+    levels: 2,
+    cone_bits: 0,
+    room: 32,
+    packet: 8,
+};
+
+const TEXT: [u8; HEADER_LEN] =
+    *b"LERTJ\x01\0\0\x03\0\0\0\x20\0\0\0\x04\0\0\0\x08\0\0\0\x03\x02\x02\0\0\0\0\0";
+
+#[test]
+fn a_header_is_written_and_read(rt: HostRuntime) -> Result<(), Fail> {
+    let settings = Settings::new(NUMBERS)
+        .ok()
+        .ok_or("the numbers are settings")?;
+    let mut bytes = [255; HEADER_LEN];
+    write_header(&settings, 0, &mut bytes);
+    assert_eq!(rt; bytes, TEXT);
+    let kept = Kept {
+        cone: 0,
+        numbers: NUMBERS,
+    };
+    assert_eq!(rt; read_header(&TEXT), Some(kept));
+    Ok(())
+}
+
+#[test]
+fn numbers_are_read_as_they_stand(rt: HostRuntime) {
+    let bytes =
+        *b"LERTJ\x01\0\0\x01\x02\0\0\x03\0\x04\0\x05\0\0\x06\xff\xff\xff\xff\x07\x08\x09\x0a\x0b\x0c\0\0";
+    let kept = Kept {
+        cone: 0x0c0b,
+        numbers: Numbers {
+            threshold: 0x0201,
+            bins: 7,
+            ratio: 8,
+            base: 0x0600_0005,
+            levels: 9,
+            cone_bits: 10,
+            room: 0x0004_0003,
+            packet: 0xffff_ffff,
+        },
+    };
+    assert_eq!(rt; read_header(&bytes), Some(kept));
+}
+
+#[test]
+fn other_first_bytes_begin_no_journal(rt: HostRuntime) {
+    for place in 0..8 {
+        let mut bytes = TEXT;
+        bytes[place] = b'L' + 1;
+        assert_eq!(rt; read_header(&bytes), None, "at {place}");
+    }
+}
+
+#[test]
+fn a_file_leaves_the_header_at_a_place(rt: HostRuntime) {
+    let broken: [(&[u8], Option<u64>); 8] = [
+        (b"", Some(0)),
+        (b"LER", Some(3)),
+        (b"LERt", Some(3)),
+        (b"LERTJ\x02\0\0\x03", Some(5)),
+        (b"LERTJ\x01\0\0", Some(8)),
+        (b"LERTJ\x01\0\0\x03", Some(9)),
+        (&TEXT[..31], Some(31)),
+        (&TEXT, None),
+    ];
+    for (bytes, at) in broken {
+        assert_eq!(rt; header_left(bytes), at);
+    }
+}

@@ -1,0 +1,57 @@
+use Rattle.std.proofs.Common.{◌≡◌, ◌++◌, List, map, Some, refl, ap, sym, ◌∙◌, subst}
+use Rattle.lert_cone.specs.Stands.{Standing}
+use Rattle.lert_spec.specs.Lines.{lines}
+use Rattle.lert_run.specs.Print.{ArePrintable, printed_as}
+use Rattle.lert_io.specs.Reading.{IfTold}
+use Rattle.lert_text.specs.Page.{IsCut}
+use Rattle.lert_run.proofs.EndLaws.{ends_later, finished_closed, finished_ended, finished_printable, stopped_ended, stopped_shows}
+use Rattle.lert_run.proofs.runs.finish_and_print.Goals as goal
+
+pub finish_cones-requires-clause-running : goal.finish_cones-requires-clause-running
+finish_cones-requires-clause-running g c = λ number cone is. (c.requires.weaving.1.1 number cone is).state_is
+
+pub returns-in-Err-clause-later : goal.returns-in-Err-clause-later
+returns-in-Err-clause-later g c =
+    let stopped = c.in-Err.ensures.stopped in
+    ends_later g.B.Bay.files g.B.Bay.leaves g.B.Faulty.faults g.B.Faulty.mark c.args.cones.now.items c.finish_cones.new.cones.items stopped.others.number_is
+    (stopped_ended g.B.Bay.files g.B.Bay.leaves g.B.Faulty.faults g.B.Faulty.mark c.args.cones.now.items c.finish_cones.new.cones.items c.in-Err.status stopped)
+
+pub returns-in-Err-clause-shows : goal.returns-in-Err-clause-shows
+returns-in-Err-clause-shows g c = λ workers traces weaving.
+    stopped_shows g.B.Bay.files g.B.Bay.leaves g.B.Faulty.faults g.B.Faulty.mark c.args.cones.now.items c.finish_cones.new.cones.items c.args.settings.now workers traces weaving
+    g.K.Sink.taken g.K.Faulty.faults c.args.out.now c.in-Err.status c.in-Err.ensures.stopped
+
+pub print_cones-requires-clause-printable : goal.print_cones-requires-clause-printable
+print_cones-requires-clause-printable g c =
+    subst (ArePrintable c.args.settings.now) (sym c.deref.ensures.value)
+    (finished_printable g.B.Bay.files g.B.Bay.leaves g.B.Faulty.faults g.B.Faulty.mark c.args.cones.now.items c.finish_cones.new.cones.items c.args.settings.now c.requires.weaving.0
+    c.requires.weaving.1.0 c.requires.weaving.1.1 c.requires.number c.in_default.ensures.finished)
+
+pub returns-in-Ok-clause-later : goal.returns-in-Ok-clause-later
+returns-in-Ok-clause-later g c =
+    let are = c.in_default.ensures.finished in
+    ends_later g.B.Bay.files g.B.Bay.leaves g.B.Faulty.faults g.B.Faulty.mark c.args.cones.now.items c.finish_cones.new.cones.items are.number_is
+    (finished_ended g.B.Bay.files g.B.Bay.leaves g.B.Faulty.faults g.B.Faulty.mark c.args.cones.now.items c.finish_cones.new.cones.items are)
+
+pub returns-in-Ok-clause-shows : goal.returns-in-Ok-clause-shows
+returns-in-Ok-clause-shows g c = λ workers traces weaving.
+    finished_closed g.B.Bay.files g.B.Bay.leaves g.B.Faulty.faults g.B.Faulty.mark c.args.cones.now.items c.finish_cones.new.cones.items c.args.settings.now workers traces weaving
+    c.requires.number c.in_default.ensures.finished
+    (λ all. IfTold (g.K.Sink.taken c.args.out.now) (λ text. g.K.Sink.taken c.print_cones.new.out ≡ Some (text ++ all)))
+    (λ text had. c.in-Ok.ensures.ok text had ∙ ap (λ (xs : List (Standing g.row.B.Denot)). Some (text ++ lines (map printed_as xs))) c.deref.ensures.value)
+
+pub returns-in-Err-print_cones-clause-later : goal.returns-in-Err-print_cones-clause-later
+returns-in-Err-print_cones-clause-later g c =
+    let are = c.in_default.ensures.finished in
+    ends_later g.B.Bay.files g.B.Bay.leaves g.B.Faulty.faults g.B.Faulty.mark c.args.cones.now.items c.finish_cones.new.cones.items are.number_is
+    (finished_ended g.B.Bay.files g.B.Bay.leaves g.B.Faulty.faults g.B.Faulty.mark c.args.cones.now.items c.finish_cones.new.cones.items are)
+
+pub returns-in-Err-print_cones-clause-shows : goal.returns-in-Err-print_cones-clause-shows
+returns-in-Err-print_cones-clause-shows g c = λ workers traces weaving.
+    let start = g.K.Sink.taken c.args.out.now in
+    let end = g.K.Sink.taken c.print_cones.new.out in (
+      c.in-Err-print_cones.ensures.cause.failed refl,
+      finished_closed g.B.Bay.files g.B.Bay.leaves g.B.Faulty.faults g.B.Faulty.mark c.args.cones.now.items c.finish_cones.new.cones.items c.args.settings.now workers traces weaving
+          c.requires.number c.in_default.ensures.finished (IsCut start end)
+          (subst (λ (xs : List (Standing g.row.B.Denot)). IsCut start end (lines (map printed_as xs))) c.deref.ensures.value c.in-Err-print_cones.ensures.cut),
+    )

@@ -1,0 +1,154 @@
+//! A filter of 64 quotients and remainders of 8 bits, slot by slot, and a filter beside a sorted list.
+
+ghost use Rattle.std.specs.Prelude.{◌≡◌, ◌+◌, ◌^◌, ◌<◌, ◌≤◌};
+ghost use Rattle.lert_spec.specs.Table.{total};
+
+use lert_base::{CountTable, Piece};
+use lert_cqf::Cqf;
+use lert_plain::PlainTable;
+use lert_slotbits::Bits;
+use std::process::Abort;
+use std::test::Fail;
+
+/// Asserts that the slots from 3 on are `values`, and all others 0.
+fn slots_from_three(rt: &impl Abort, slots: &[u64], values: &[u64]) {
+    for (i, &slot) in slots.iter().enumerate() {
+        let value = if i < 3 {
+            0
+        } else {
+            values.get(i - 3).copied().unwrap_or(0)
+        };
+        assert_eq!(rt; slot, value);
+    }
+}
+
+/// Asserts that exactly the bits at `places` are set.
+fn set_bits(rt: &impl Abort, bits: &Bits, places: &[u64]) {
+    for i in 0..bits.len() {
+        assert_eq!(rt; bits.get(i), places.contains(&i));
+    }
+}
+
+#[test]
+fn a_run_that_grows_moves_the_run_behind_it(rt: HostRuntime) -> Result<(), Fail> {
+    let mut table = Cqf::new(rt.alloc(), 6, 8, 8)?;
+    table.add(773, 1);
+    table.add(777, 2);
+    table.add(1025, 1);
+    assert_eq!(rt; table.slots().len(), 80);
+    slots_from_three(&rt, table.slots(), &[5, 9, 9, 1]);
+    set_bits(&rt, table.occupied(), &[3, 4]);
+    set_bits(&rt, table.run_ends(), &[5, 6]);
+    table.add(773, 1);
+    slots_from_three(&rt, table.slots(), &[5, 5, 9, 9, 1]);
+    set_bits(&rt, table.occupied(), &[3, 4]);
+    set_bits(&rt, table.run_ends(), &[6, 7]);
+    assert_eq!(rt; table.count(773), 2);
+    assert_eq!(rt; table.count(774), 0);
+    table.clear();
+    slots_from_three(&rt, table.slots(), &[]);
+    set_bits(&rt, table.occupied(), &[]);
+    set_bits(&rt, table.run_ends(), &[]);
+    Ok(())
+}
+
+#[test]
+fn a_cursor_gives_each_group_of_each_run(rt: HostRuntime) -> Result<(), Fail> {
+    let mut table = Cqf::new(rt.alloc(), 6, 8, 8)?;
+    table.add(1025, 1);
+    table.add(777, 5);
+    table.add(773, 1);
+    let mut cursor = table.start();
+    assert_eq!(rt;
+        table.step(&mut cursor),
+        Some(Piece {
+            tail: 773,
+            count: 1
+        })
+    );
+    assert_eq!(rt;
+        table.step(&mut cursor),
+        Some(Piece {
+            tail: 777,
+            count: 5
+        })
+    );
+    assert_eq!(rt;
+        table.step(&mut cursor),
+        Some(Piece {
+            tail: 1025,
+            count: 1
+        })
+    );
+    assert_eq!(rt; table.step(&mut cursor), None);
+    Ok(())
+}
+
+/// A tail below `limit`: of an even draw a skewed one, the seldomer the more bits it has, and of an odd one one of the
+/// last 512, so that long runs stand at the end of the slots.
+fn drawn_tail(limit: u64, draw: u64) -> u64
+    requires { 512 ≤ limit }
+    ensures { result < limit }
+{
+    let mixed = draw.wrapping_mul(0x9e37_79b9_7f4a_7c15);
+    if draw % 2 == 0 {
+        ((mixed >> 24) & (mixed >> 12)) % limit
+    } else {
+        limit - 1 - (mixed >> 24) % 512
+    }
+}
+
+/// Adds the tails of the first `n` draws.
+fn add_drawn<T: CountTable>(table: &mut T, limit: u64, n: u64)
+    requires room { total (T.pieces table.old) + n ≤ T.room table.old }
+    requires limit { limit ≡ 2 ^ (T.quotient_bits table.old + T.width table.old) }
+    requires long { 512 ≤ limit }
+{
+    for draw in 0..n {
+        table.add(drawn_tail(limit, draw), 1);
+    }
+}
+
+/// Asserts that two tables give the same pieces.
+fn same_pieces<A: CountTable, B: CountTable>(rt: &impl Abort, left: &A, right: &B) {
+    let mut in_left = left.start();
+    let mut in_right = right.start();
+    for _ in 0..=left.events() {
+        let piece = left.step(&mut in_left);
+        assert_eq!(rt; piece, right.step(&mut in_right));
+        if piece.is_none() {
+            return;
+        }
+    }
+    panic!(rt; "more pieces than events");
+}
+
+#[test]
+fn a_filter_counts_as_a_sorted_list_does(rt: HostRuntime) -> Result<(), Fail> {
+    let mut filter = Cqf::new(rt.alloc(), 10, 8, 100_000)?;
+    let mut list = PlainTable::new(rt.alloc(), 10, 8, 100_000)?;
+    add_drawn(&mut filter, 1 << 18, 100_000);
+    add_drawn(&mut list, 1 << 18, 100_000);
+    for tail in 0..1u64 << 18 {
+        assert_eq!(rt; filter.count(tail), list.count(tail));
+    }
+    same_pieces(&rt, &filter, &list);
+    Ok(())
+}
+
+#[test]
+fn so_does_one_of_a_million_quotients(rt: HostRuntime) -> Result<(), Fail> {
+    let mut filter = Cqf::new(rt.alloc(), 20, 20, 20_000)?;
+    let mut list = PlainTable::new(rt.alloc(), 20, 20, 20_000)?;
+    add_drawn(&mut filter, 1 << 40, 20_000);
+    add_drawn(&mut list, 1 << 40, 20_000);
+    for draw in 0..20_000 {
+        let tail = drawn_tail(1 << 40, draw);
+        assert_eq!(rt; filter.count(tail), list.count(tail));
+        assert_eq!(rt; filter.count(tail ^ 1), list.count(tail ^ 1));
+    }
+    same_pieces(&rt, &filter, &list);
+    assert_eq!(rt; filter.slots().len(), (1 << 20) + 40_000);
+    assert_eq!(rt; filter.occupied().len(), 1 << 20);
+    Ok(())
+}

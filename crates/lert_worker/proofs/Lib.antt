@@ -1,0 +1,12 @@
+mod Counts
+mod Given
+mod GoingLaws
+mod JoinLaws
+mod LaneLaws
+mod OutboxLaws
+mod ReadLaws
+mod RestLaws
+mod RunLaws
+mod SentLaws
+mod Steps
+mod TakeLaws

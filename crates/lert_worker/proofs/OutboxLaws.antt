@@ -1,0 +1,48 @@
+-- What a call of the fleet tells of the cone that it names.
+use Rattle.std.proofs.Common.{◌≡◌, ◌+◌, ℕ, ◌<◌, List, [], length, set, ap, ◌∙◌, subst}
+use Rattle.lert_base.specs.declared.held.Held.{Ghosts as HeldOf}
+use Rattle.lert_base.specs.Packet.{Packet}
+use Rattle.lert_conelock.specs.Sight.{Sight, Acted, Declined}
+use Rattle.lert_fleet.specs.Cones.{FleetSight, FleetPassSight, AtCone}
+use Rattle.lert_buffers.specs.Rings.{Rings, ring_of, with_ring}
+use Rattle.lert_fleet.proofs.Places.{some_at}
+use Rattle.std.proofs.lemmas.List.{set-set, set-get_or}
+use Rattle.lert_worker.specs.Sending.{AtOwn, WasBusy, WasTaken, WasTurned}
+
+module _ {H T R F : Type 0} (held : HeldOf H T R F) (fleet : FleetSight H) (cone : ℕ) (within : cone < length fleet)
+    (packet sent : Packet) (is : packet ≡ sent) (old new : FleetPassSight H F) where
+  pub taken_at : (more : ℕ) (reply : R) → AtCone (λ lock. Acted held lock.first packet reply more) fleet cone old new → AtOwn (WasTaken sent more) cone old new
+  taken_at more reply at = subst (λ p. AtOwn (WasTaken p more) cone old new) is (λ before after was found.
+      let lock = some_at fleet cone within in
+      let acted = at lock.0 before after lock.1 was found in
+      record {
+        calls_are = ap (λ (x : Sight H F). x.calls) acted.shows;
+        refused_are = ap (λ (x : Sight H F). x.refused) acted.shows;
+        met = acted.met;
+        waits_are = ap (λ (x : Sight H F). x.waits) acted.shows;
+      })
+
+  pub turned_at : (more : ℕ) (fault : F) → AtCone (λ lock. Declined held lock.first packet fault more) fleet cone old new → AtOwn (WasTurned sent fault more) cone old new
+  turned_at more fault at = subst (λ p. AtOwn (WasTurned p fault more) cone old new) is (λ before after was found.
+      let lock = some_at fleet cone within in
+      let declined = at lock.0 before after lock.1 was found in
+      record {
+        calls_are = ap (λ (x : Sight H F). x.calls) declined.shows;
+        refused_are = ap (λ (x : Sight H F). x.refused) declined.shows;
+        met = declined.met;
+        waits_are = ap (λ (x : Sight H F). x.waits) declined.shows;
+      })
+
+pub busy_at : {H F : Type 0} (fleet : FleetSight H) (cone : ℕ) → cone < length fleet → (old new : FleetPassSight H F)
+    → AtCone (λ lock before after. after ≡ record before { met = before.met + 1 }) fleet cone old new → AtOwn WasBusy cone old new
+busy_at fleet cone within old new at = λ before after was found.
+    let lock = some_at fleet cone within in at lock.0 before after lock.1 was found
+
+-- keys that came out of a ring, and back into it
+pub given_back : (rings taken after : Rings) (cone : ℕ) (keys : List ℕ)
+    → taken ≡ with_ring rings cone [] → keys ≡ ring_of rings cone → after ≡ with_ring taken cone keys → after ≡ rings
+given_back rings taken after cone keys taken_is keys_are is =
+    is
+    ∙ (ap (λ r. with_ring r cone keys) taken_is
+    ∙ ap (λ (r : List (List ℕ)). record rings { rings = r })
+    (set-set rings.rings cone [] keys ∙ (ap (set rings.rings cone) keys_are ∙ set-get_or rings.rings cone [])))

@@ -1,0 +1,93 @@
+-- All cones at the end of a trace: the rests of the rings, in ascending cones.
+use Rattle.std.proofs.Common.{◌≡◌, ◌≢◌, ◌⊎◌, ℕ, zero, suc, ◌+◌, ◌<◌, ◌≤◌, List, [], ◌∷◌, length}
+use Rattle.std.proofs.Common.{Some, slice_get, refl, ap, sym, ◌∙◌, subst, inl, inr, arith}
+use Rattle.std.proofs.lemmas.Bool.{cases_eq}
+use Rattle.std.proofs.lemmas.Option.{slice_get_within}
+use Rattle.lert_buffers.specs.Rings.{Rings, ring_of}
+use Rattle.lert_conelock.specs.Sight.{Sight}
+use Rattle.lert_fleet.specs.Cones.{FleetPassSight, ChangesOnly}
+use Rattle.lert_fleet.proofs.Places.{some_at}
+use Rattle.lert_spec.specs.declared.numbers.Numbers.{Numbers}
+use Rattle.lert_base.specs.declared.cone_fault.ConeFault.{ConeFault}
+use Rattle.lert_worker.specs.Outbox.{HasRoom, IsSendable}
+use Rattle.lert_worker.specs.Sending.{AreSent, AtOwn, Goes, Lanes, SentIn, WasTurned}
+use Rattle.lert_worker.specs.declared.end.WorkerEnd.TheVariants.{Ran, Cone}
+use Rattle.lert_worker.proofs.LaneLaws.{ringed}
+use Rattle.lert_worker.proofs.SentLaws.{lane_empty, lane_rest, lane_stopped, lane_turned, rested_stopped}
+
+pub nil_is : {X : Type 0} (xs : List X) → length xs ≡ 0 → xs ≡ []
+nil_is [] is = refl
+nil_is (x ∷ xs) is = absurd (omega (arith, is))
+
+-- some keys of a ring with room may go
+pub may_go : (s : Numbers) (cone : ℕ) (ring : List ℕ) → HasRoom s cone ring → length ring ≢ 0 → IsSendable s cone ring
+may_go s cone ring room some = record { some = omega (arith, some); few = omega (arith, room.short); of_cone = room.of_cone }
+
+below_or : (a b : ℕ) → a ≢ b → (a < b) ⊎ (b < a)
+below_or zero zero apart = absurd (apart refl)
+below_or zero (suc b) apart = inl (omega arith)
+below_or (suc a) zero apart = inr (omega arith)
+below_or (suc a) (suc b) apart =
+    elim (below_or a b (λ e. apart (ap suc e))) [
+      | inl below ↦ inl (omega (arith, below))
+      | inr above ↦ inr (omega (arith, above))
+    ]
+
+module _ {H : Type 0} (s : Numbers) (some : 1 ≤ s.packet) (rings : Rings) (at number trace : ℕ) (keys : List ℕ) (start pass : FleetPassSight H ConeFault)
+    (lanes : Lanes s number trace at keys start pass rings) (rested : AreSent s number trace at keys Ran start pass) where
+  pub rest_none : length (ring_of rings at) ≡ 0 → AreSent s number trace (at + 1) keys Ran start pass
+  rest_none none = record {
+    as_many = rested.as_many;
+    each = λ cone before after below was is. elim (cases_eq cone at) [
+      | inl same ↦
+          lane_empty s number cone trace some keys (ring_of rings cone) (length (ring_of rings cone)) before after
+          (lanes.each cone before after (omega (arith, same)) was is) (ap (ring_of rings) same ∙ nil_is (ring_of rings at) none)
+      | inr other ↦ rested.each cone before after (omega (arith, below, other)) was is
+    ];
+  }
+
+  module _ (next : FleetPassSight H ConeFault) (only : ChangesOnly at pass next) (may : IsSendable s at (ring_of rings at)) where
+    -- this cone's lane, and what the pass had for it before
+    own : (then : Sight H ConeFault) → slice_get next.cones at ≡ Some then → (now : Sight H ConeFault) × (slice_get pass.cones at ≡ Some now)
+    own then found = some_at pass.cones at (omega (arith, slice_get_within next.cones at then found, only.as_many))
+
+    pub rest_goes : (after : Rings) → Goes (ringed number trace (ring_of rings at)) 1 at rings after pass next → AreSent s number trace (at + 1) keys Ran start next
+    rest_goes after goes = record {
+      as_many = only.as_many ∙ rested.as_many;
+      each = λ cone before then below was is. elim (cases_eq cone at) [
+        | inl same ↦
+            let found : slice_get next.cones at ≡ Some then = ap (slice_get next.cones) (sym same) ∙ is in
+            let old = own then found in
+            let there = ap (slice_get start.cones) (sym same) ∙ was in
+            subst (λ c. SentIn s number c trace keys Ran before then) (sym same)
+            (lane_rest s number at trace some keys (ring_of rings at) (length (ring_of rings at)) before old.0
+            (lanes.each at before old.0 (omega arith) there old.1) (omega arith) may then (goes.at old.0 then old.1 found))
+        | inr other ↦ rested.each cone before then (omega (arith, below, other)) was (sym (only.others cone other) ∙ is)
+      ];
+    }
+
+    pub rest_turned : (fault : ConeFault) (most : ℕ) → AtOwn (WasTurned (ringed number trace (ring_of rings at)) fault 1) at pass next
+        → AreSent s number trace most keys (Cone at fault) start next
+    rest_turned fault most turned = record {
+      as_many = only.as_many ∙ rested.as_many;
+      each = λ cone before then below was is. elim (cases_eq cone at) [
+        | inl same ↦
+            let found : slice_get next.cones at ≡ Some then = ap (slice_get next.cones) (sym same) ∙ is in
+            let old = own then found in
+            let there = ap (slice_get start.cones) (sym same) ∙ was in
+            subst (λ c. SentIn s number c trace keys (Cone at fault) before then) (sym same)
+            (lane_turned s number at trace some keys (ring_of rings at) (length (ring_of rings at)) before old.0
+            (lanes.each at before old.0 (omega arith) there old.1) (omega arith) may fault 1 then (turned old.0 then old.1 found) (omega arith))
+        | inr other ↦ elsewhere cone before then other was (sym (only.others cone other) ∙ is)
+      ];
+    }
+      where
+        elsewhere : (cone : ℕ) (before then : Sight H ConeFault) → cone ≢ at → slice_get start.cones cone ≡ Some before → slice_get pass.cones cone ≡ Some then
+            → SentIn s number cone trace keys (Cone at fault) before then
+        elsewhere cone before then other was is =
+            elim (below_or cone at other) [
+              | inl below ↦ rested_stopped s number cone trace keys at fault before then below (rested.each cone before then below was is)
+              | inr above ↦
+                  lane_stopped s number cone trace some keys (ring_of rings cone) (length (ring_of rings cone)) before then
+                  (lanes.each cone before then (omega (arith, above)) was is) (Cone at fault) (λ _. refl, λ same. absurd (other same)) (λ ran. cc)
+            ]

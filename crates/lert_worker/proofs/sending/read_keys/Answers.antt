@@ -1,0 +1,98 @@
+use Rattle.std.proofs.Common.{◌^◌, ◌++◌, ◌∷◌, [], refl, sym, ◌∙◌, subst}
+use Rattle.std.proofs.lemmas.Option.{same_Some}
+use Rattle.lert_trace.specs.Reader.{Means}
+use Rattle.lert_worker.specs.Sending.{AreSent, Lanes}
+use Rattle.lert_worker.specs.Trace.{IsNamed}
+use Rattle.lert_worker.specs.declared.end.WorkerEnd.TheVariants.{Trace}
+use Rattle.lert_worker.proofs.ReadLaws.{at_end, ends_by_cone, named_by_cone, was_ended, was_more, was_new, was_still}
+use Rattle.lert_worker.proofs.Steps.{lanes_start, lanes_stopped, room_resting, same_on, to_new, to_old}
+use Rattle.lert_worker.proofs.sending.read_keys.Goals as goal
+
+pub loop-key-init : goal.loop-key-init
+loop-key-init g c =
+    let outbox = c.args.outbox.now in
+    record {
+      may = c.requires.may;
+      room = room_resting outbox c.requires.resting;
+      same = record { outbox = record { settings_is = refl; by_is = refl; trace_is = refl }; hi_is = refl };
+      keys = [];
+      read = was_new g.S.Source.remaining g.S.Faulty.faults g.S.Faulty.mark c.args.reader.now;
+      lanes = lanes_start outbox.settings c.requires.resting.idle.valid.limits.packet_from outbox.entry.by outbox.entry.trace c.args.pass.now outbox.rings
+          (c.requires.may.belongs.as_many ∙ c.requires.may.cones) c.requires.resting.drained;
+    }
+
+pub loop-key-preserved : goal.loop-key-preserved
+loop-key-preserved g c =
+    let here = c.loop-key.invariant in
+    let old = c.args.outbox.now in
+    let mid = c.loop-key.outbox in
+    let counted = rw c.in-Ok-Some.field-0-is at c.in-Ok-Some.ensures.counted in
+    record {
+      may = c.take_key.ensures.may;
+      room = c.take_key.ensures.room;
+      same = same_on old mid c.take_key.new.outbox c.args.pass.now c.loop-key.pass c.take_key.new.pass here.same c.take_key.ensures.same;
+      keys = here.keys ++ c.in-Ok-Some.key ∷ [];
+      read = was_more g.S.Source.remaining g.S.Faulty.faults g.S.Faulty.mark c.args.reader.now c.loop-key.reader c.next.new.self here.keys here.read
+          c.next.ensures.same_reader c.next.ensures.same_limit c.next.ensures.never_falls c.next.ensures.mark c.in-Ok-Some.key counted.0 counted.1
+          (λ bytes was. rw c.in-Ok-Some.field-0-is at (c.in-Ok-Some.ensures.key bytes was)) (c.in-Ok-Some.ensures.no_fault refl);
+      lanes = to_old (λ s n t. Lanes s n t 0 (here.keys ++ c.in-Ok-Some.key ∷ []) c.args.pass.now c.take_key.new.pass c.take_key.new.outbox.rings) old mid here.same.outbox
+          (c.in_default.ensures.taken c.args.pass.now here.keys
+          (to_new (λ s n t. Lanes s n t 0 here.keys c.args.pass.now c.loop-key.pass mid.rings) old mid here.same.outbox here.lanes));
+    }
+
+pub returns-in-Ok-None-clause-read : goal.returns-in-Ok-None-clause-read
+returns-in-Ok-None-clause-read g c =
+    let here = c.loop-key.invariant in
+    let given = rw c.in-Ok-None.field-0-is at c.in-Ok-None.ensures.ended in
+    record {
+      keys = here.keys;
+      read = was_ended g.S.Source.remaining g.S.Faulty.faults g.S.Faulty.mark c.args.reader.now c.loop-key.reader c.next.new.self here.keys here.read
+          c.next.ensures.same_reader c.next.ensures.same_limit c.next.ensures.never_falls c.next.ensures.mark given (c.in-Ok-None.ensures.no_fault refl);
+      at_end = at_end g.S.Source.remaining c.loop-key.reader c.next.new.self c.next.ensures.same_reader given (c.in-Ok-None.ensures.no_fault refl)
+          (λ bytes was. rw c.in-Ok-None.field-0-is at (c.in-Ok-None.ensures.end bytes was));
+      lanes = here.lanes;
+      stopped = tt;
+      named = tt;
+      sent = tt;
+    }
+
+pub returns-in-Err-clause-read : goal.returns-in-Err-clause-read
+returns-in-Err-clause-read g c =
+    let here = c.loop-key.invariant in
+    let old = c.args.outbox.now in
+    let faulty = c.in-Err.ensures.fault in
+    record {
+      keys = here.keys;
+      read = was_still g.S.Source.remaining g.S.Faulty.faults g.S.Faulty.mark c.args.reader.now c.loop-key.reader c.next.new.self here.keys here.read
+          c.next.ensures.same_reader c.next.ensures.same_limit c.next.ensures.never_falls c.next.ensures.mark faulty.1
+          (λ fault is. subst (Means g.S.Source.remaining g.S.Faulty.faults c.next.new.self.made c.next.new.self.source c.next.new.self.limit c.next.new.self.given)
+          (same_Some c.in-Err.fault fault (sym faulty.0 ∙ is)) c.in-Err.ensures.cause);
+      at_end = tt;
+      lanes = tt;
+      stopped = (here.same.outbox.trace_is, faulty.0);
+      named = λ cone fault is. absurd (cc);
+      sent = lanes_stopped old.settings c.requires.resting.idle.valid.limits.packet_from old.entry.by old.entry.trace here.keys c.args.pass.now c.loop-key.pass c.loop-key.outbox.rings
+          (Trace c.loop-key.outbox.entry.trace c.in-Err.fault) (2 ^ old.settings.cone_bits) (λ cone. refl) (λ ran. cc) here.lanes;
+    }
+
+pub returns-in-Err-take_key-clause-read : goal.returns-in-Err-take_key-clause-read
+returns-in-Err-take_key-clause-read g c =
+    let here = c.loop-key.invariant in
+    let old = c.args.outbox.now in
+    let mid = c.loop-key.outbox in
+    let counted = rw c.in-Ok-Some.field-0-is at c.in-Ok-Some.ensures.counted in
+    record {
+      keys = here.keys ++ c.in-Ok-Some.key ∷ [];
+      read = was_more g.S.Source.remaining g.S.Faulty.faults g.S.Faulty.mark c.args.reader.now c.loop-key.reader c.next.new.self here.keys here.read
+          c.next.ensures.same_reader c.next.ensures.same_limit c.next.ensures.never_falls c.next.ensures.mark c.in-Ok-Some.key counted.0 counted.1
+          (λ bytes was. rw c.in-Ok-Some.field-0-is at (c.in-Ok-Some.ensures.key bytes was)) (c.in-Ok-Some.ensures.no_fault refl);
+      at_end = tt;
+      lanes = tt;
+      stopped = ends_by_cone g.S.Source.remaining c.in-Err-take_key.end old.entry.trace c.next.new.self (2 ^ mid.settings.cone_bits) c.in-Err-take_key.ensures.by_cone
+          (c.in-Ok-Some.ensures.no_fault refl);
+      named = to_old (λ s n t. IsNamed c.in-Err-take_key.end (2 ^ s.cone_bits)) old mid here.same.outbox
+          (named_by_cone c.in-Err-take_key.end (2 ^ mid.settings.cone_bits) c.in-Err-take_key.ensures.by_cone);
+      sent = to_old (λ s n t. AreSent s n t (2 ^ s.cone_bits) (here.keys ++ c.in-Ok-Some.key ∷ []) c.in-Err-take_key.end c.args.pass.now c.take_key.new.pass) old mid here.same.outbox
+          (c.in-Err-take_key.ensures.refused c.args.pass.now here.keys
+          (to_new (λ s n t. Lanes s n t 0 here.keys c.args.pass.now c.loop-key.pass mid.rings) old mid here.same.outbox here.lanes));
+    }

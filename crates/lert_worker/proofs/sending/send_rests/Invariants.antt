@@ -1,0 +1,20 @@
+use Rattle.std.proofs.Common.{ℕ, List}
+use Rattle.lert_base.specs.declared.cone_fault.ConeFault.{ConeFault}
+use Rattle.lert_fleet.specs.Cones.{FleetPassSight}
+use Rattle.lert_worker.specs.Outbox.{AreDrained, HaveRoom, IsSame, MaySend}
+use Rattle.lert_worker.specs.Sending.{AreSent, Lanes}
+use Rattle.lert_worker.specs.declared.end.WorkerEnd.TheVariants.{Ran}
+use Rattle.lert_worker.proofs.sending.send_rests.Given as goal
+
+-- the cones so far have the rests of their rings, and the others are as they were
+abbrev pub invariant-loop-cone : goal.invariant-loop-cone
+invariant-loop-cone g l = record {
+  may : MaySend g.H.Held l.fleet l.pass l.outbox;
+  room : HaveRoom l.outbox.settings l.outbox.rings;
+  same : IsSame l.fn.outbox l.outbox l.fn.pass l.pass;
+  drained : AreDrained l.cone l.outbox.rings;
+  lanes : (start : FleetPassSight g.row.H.Denot ConeFault) (keys : List ℕ) → Lanes l.fn.outbox.settings l.fn.outbox.entry.by l.fn.outbox.entry.trace 0 keys start l.fn.pass l.fn.outbox.rings
+      → Lanes l.fn.outbox.settings l.fn.outbox.entry.by l.fn.outbox.entry.trace l.cone keys start l.pass l.outbox.rings;
+  sent : (start : FleetPassSight g.row.H.Denot ConeFault) (keys : List ℕ) → Lanes l.fn.outbox.settings l.fn.outbox.entry.by l.fn.outbox.entry.trace 0 keys start l.fn.pass l.fn.outbox.rings
+      → AreSent l.fn.outbox.settings l.fn.outbox.entry.by l.fn.outbox.entry.trace l.cone keys Ran start l.pass;
+}

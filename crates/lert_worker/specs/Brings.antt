@@ -1,0 +1,44 @@
+-- What a worker brings to a cone: packets of its traces, one trace after the other.
+use Rattle.std.specs.Prelude.{◌≡◌, ℕ, ◌+◌, ◌-◌, ◌*◌, ◌/◌, ◌==◌, ◌≤◌, List, length, map, count_by, All, Contains, Some, slice_get}
+use Rattle.std.specs.List.Sorted.{IsNonDecreasing}
+use Rattle.lert_base.specs.Beginning.{BeginsWith}
+use Rattle.lert_base.specs.Packet.{Packet, events_of, of_trace}
+use Rattle.lert_base.specs.Weave.{AreCut, IsWhole}
+use Rattle.lert_spec.specs.declared.numbers.Numbers.{Numbers}
+use Rattle.lert_spec.specs.Mix.{part_of}
+
+-- a packet has some keys, at most four times as many as the settings name, of one of the worker's traces, under its number
+pub record IsOwn (s : Numbers) (number : ℕ) (traces : List ℕ) (packet : Packet) : Type 0 where
+  pub some : 1 ≤ length packet.keys
+  pub few : length packet.keys ≤ 4 * s.packet
+  pub by_is : packet.by ≡ number
+  pub of_one : Contains traces packet.trace
+
+-- Packets of a worker to a cone, trace after trace: those of a trace join to the cone's part of the keys that were read of
+-- it, and each of them but the last is whole. The traces are given by their numbers, and beside them by what was read.
+pub record Brings (s : Numbers) (number cone : ℕ) (traces : List ℕ) (reads : List (List ℕ)) (packets : List Packet) : Type 0 where
+  pub each : All (IsOwn s number traces) packets
+  pub in_order : IsNonDecreasing (map (λ packet. packet.trace) packets)
+  pub joined : (place trace : ℕ) (keys : List ℕ) → slice_get traces place ≡ Some trace → slice_get reads place ≡ Some keys
+      → events_of (of_trace packets trace) ≡ part_of s cone keys
+  pub cut : (trace : ℕ) → AreCut s.packet (of_trace packets trace)
+
+-- the same with the packets of a trace joining to a beginning of that part
+pub record BringsPart (s : Numbers) (number cone : ℕ) (traces : List ℕ) (reads : List (List ℕ)) (packets : List Packet) : Type 0 where
+  pub each : All (IsOwn s number traces) packets
+  pub in_order : IsNonDecreasing (map (λ packet. packet.trace) packets)
+  pub joined : (place trace : ℕ) (keys : List ℕ) → slice_get traces place ≡ Some trace → slice_get reads place ≡ Some keys
+      → BeginsWith (part_of s cone keys) (events_of (of_trace packets trace))
+  pub cut : (trace : ℕ) → AreCut s.packet (of_trace packets trace)
+
+-- no rest of a ring was handed out of a trace: each of its packets is whole
+abbrev pub HasNoRest : Numbers → ℕ → List Packet → Type 0
+HasNoRest s trace packets = All (IsWhole s.packet) (of_trace packets trace)
+
+-- how many packets have as many keys as a ring holds
+abbrev pub full_packets : Numbers → List Packet → ℕ
+full_packets s packets = count_by (λ packet. length packet.keys == 4 * s.packet) packets
+
+-- how many tries a packet was late for: it might have gone with each whole packet of keys before its last
+abbrev pub late_tries : Numbers → Packet → ℕ
+late_tries s packet = (length packet.keys + s.packet - 1) / s.packet - 1

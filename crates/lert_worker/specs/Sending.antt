@@ -1,0 +1,100 @@
+-- How the keys of one trace go to the cones, ring by ring.
+use Rattle.std.specs.Prelude.{◌≡◌, ℕ, ◌+◌, ◌*◌, ◌<◌, ◌≤◌, All, List, [], ◌∷◌, ◌++◌, length, map, sum_by, Some, slice_get}
+use Rattle.lert_base.specs.Beginning.{BeginsWith}
+use Rattle.lert_base.specs.Packet.{Packet, events_of}
+use Rattle.lert_base.specs.Weave.{AreCut, IsWhole}
+use Rattle.lert_buffers.specs.Rings.{Rings, ring_of, with_ring}
+use Rattle.lert_conelock.specs.Sight.{Sight}
+use Rattle.lert_fleet.specs.Cones.{FleetPassSight}
+use Rattle.lert_spec.specs.declared.numbers.Numbers.{Numbers}
+use Rattle.lert_spec.specs.Mix.{part_of}
+use Rattle.lert_base.specs.declared.cone_fault.ConeFault.{ConeFault}
+use Rattle.lert_worker.specs.Brings.{full_packets, late_tries}
+use Rattle.lert_worker.specs.Ran.{IsTurned, StillOpen}
+use Rattle.lert_worker.specs.declared.end.WorkerEnd.{WorkerEnd}
+use Rattle.lert_worker.specs.declared.end.WorkerEnd.TheVariants.{Ran}
+use Rattle.lert_worker.specs.declared.outbox.Outbox.{Outbox}
+
+-- the packet of some keys of an outbox
+abbrev pub packet_with : Outbox → List ℕ → Packet
+packet_with outbox keys = record { by = outbox.entry.by; trace = outbox.entry.trace; keys = keys }
+
+module _ {H F : Type 0} where
+  -- the cone took the packet, for which the caller waited so often
+  pub record WasTaken (packet : Packet) (more : ℕ) (before after : Sight H F) : Type 0 where
+    pub calls_are : after.calls ≡ before.calls ++ packet ∷ []
+    pub refused_are : after.refused ≡ before.refused
+    pub met : before.met ≤ after.met
+    pub waits_are : after.waits ≡ before.waits + more
+
+  -- the cone refused it
+  pub record WasTurned (packet : Packet) (fault : F) (more : ℕ) (before after : Sight H F) : Type 0 where
+    pub calls_are : after.calls ≡ before.calls
+    pub refused_are : after.refused ≡ before.refused ++ (packet, fault) ∷ []
+    pub met : before.met ≤ after.met
+    pub waits_are : after.waits ≡ before.waits + more
+
+  -- another caller held its lock
+  abbrev pub WasBusy : Sight H F → Sight H F → Type 0
+  WasBusy before after = after ≡ record before { met = before.met + 1 }
+
+  -- what a pass has for a cone before a call and after it
+  abbrev pub AtOwn : (Sight H F → Sight H F → Type 0) → ℕ → FleetPassSight H F → FleetPassSight H F → Type 0
+  AtOwn R cone old new = (before after : Sight H F) → slice_get old.cones cone ≡ Some before → slice_get new.cones cone ≡ Some after → R before after
+
+  -- the keys of a cone's ring went to it
+  pub record Goes (packet : Packet) (more cone : ℕ) (rings left : Rings) (old new : FleetPassSight H F) : Type 0 where
+    pub rings_are : left ≡ with_ring rings cone []
+    pub at : AtOwn (WasTaken packet more) cone old new
+
+  -- they stay, since it is held
+  pub record Stays (cone : ℕ) (rings left : Rings) (old new : FleetPassSight H F) : Type 0 where
+    pub rings_are : left ≡ rings
+    pub at : AtOwn WasBusy cone old new
+
+-- a packet of one trace, which may go to a cone
+pub record IsOf (s : Numbers) (number trace : ℕ) (packet : Packet) : Type 0 where
+  pub some : 1 ≤ length packet.keys
+  pub few : length packet.keys ≤ 4 * s.packet
+  pub by_is : packet.by ≡ number
+  pub trace_is : packet.trace ≡ trace
+
+-- A cone while a trace is read: the packets of the trace so far, which are whole, and behind them the keys of its ring, are the
+-- cone's part of the keys that were read. There was a take at each whole packet of the first so many keys in the ring
+pub record Lane {H F : Type 0} (s : Numbers) (number cone trace : ℕ) (keys : List ℕ) (tried : ℕ) (before now : Sight H F) (ring : List ℕ) : Type 0 where
+  pub sent : List Packet
+  pub calls_are : now.calls ≡ before.calls ++ sent
+  pub refused_are : now.refused ≡ before.refused
+  pub each : All (IsOf s number trace) sent
+  pub whole : All (IsWhole s.packet) sent
+  pub joined : events_of sent ++ ring ≡ part_of s cone keys
+  pub waits : now.waits ≤ before.waits + full_packets s sent
+  pub met : (k : ℕ) → k * s.packet ≤ tried → before.met + sum_by (late_tries s) sent + k ≤ now.met
+
+-- all cones from one number on, while a trace is read
+pub record Lanes {H F : Type 0} (s : Numbers) (number trace from : ℕ) (keys : List ℕ) (start now : FleetPassSight H F) (rings : Rings) : Type 0 where
+  pub as_many : length now.cones ≡ length start.cones
+  pub each : (cone : ℕ) (before after : Sight H F) → from ≤ cone → slice_get start.cones cone ≡ Some before → slice_get now.cones cone ≡ Some after
+      → Lane s number cone trace keys (length (ring_of rings cone)) before after (ring_of rings cone)
+
+-- what the keys of a trace, read so far or to its end, brought to a cone
+pub record SentIn {H : Type 0} (s : Numbers) (number cone trace : ℕ) (keys : List ℕ) (end : WorkerEnd) (before after : Sight H ConeFault) : Type 0 where
+  pub sent : List Packet
+  pub turned : List (Packet × ConeFault)
+  pub calls_are : after.calls ≡ before.calls ++ sent
+  pub refused_are : after.refused ≡ before.refused ++ turned
+  pub turned_is : IsTurned end cone turned
+  pub each : All (IsOf s number trace) (sent ++ map (λ pair. pair.0) turned)
+  pub cut : AreCut s.packet (sent ++ map (λ pair. pair.0) turned)
+  pub part : BeginsWith (part_of s cone keys) (events_of (sent ++ map (λ pair. pair.0) turned))
+  pub all : end ≡ Ran → events_of sent ≡ part_of s cone keys
+  pub no_rest : StillOpen end cone → All (IsWhole s.packet) sent
+  pub waits : after.waits ≤ before.waits + full_packets s sent + 1
+  pub met : before.met + sum_by (late_tries s) sent ≤ after.met
+
+-- and to each cone below a number
+pub record AreSent {H : Type 0} (s : Numbers) (number trace below : ℕ) (keys : List ℕ) (end : WorkerEnd)
+    (start now : FleetPassSight H ConeFault) : Type 0 where
+  pub as_many : length now.cones ≡ length start.cones
+  pub each : (cone : ℕ) (before after : Sight H ConeFault) → cone < below → slice_get start.cones cone ≡ Some before → slice_get now.cones cone ≡ Some after
+      → SentIn s number cone trace keys end before after
