@@ -12,13 +12,12 @@ run_long() {
     lert run --threshold "$1" --bins "$2" --ratio "$3" --base "$4" --levels "$5" --cone-bits "$6" \
         --room "$7" --packet "$8" d "$9"
 }
-# The defaults but for sixteen cones, the workers, and then the traces.
+# The default settings, the workers, and then the traces.
 run_workers() {
     local workers=$1
     shift
     rm -rf d
-    lert run --threshold 24 --bins 4 --ratio 4 --base 4096 --levels 5 --cone-bits 4 --room 262144 \
-        --packet 1024 --workers "$workers" d "$@"
+    lert run d --workers "$workers" "$@"
 }
 run_highest() { rm -rf d && lert run --threshold 4294967295 --cone-bits 0 d "$1"; }
 run_closed() { run "$1" >&-; }
@@ -49,10 +48,10 @@ run_fifo() {
 # breaks RULE WORDS..: these words are refused by that rule.
 breaks() { gives "the words ${*:2}" 1 '' "lert: usage rule $1\n" lert "${@:2}"; }
 
-# breaks_long RULE SETTINGS..: the long form with these settings is refused by that rule.
+# breaks_long RULE SETTINGS..: a line with these settings is refused by that rule.
 breaks_long() { gives "the settings ${*:2}" 1 '' "lert: usage rule $1\n" run_long "${@:2}" sevens; }
 
-# breaks_workers RULE WORKERS TRACE..: the long form with so many workers and these traces is refused by that rule.
+# breaks_workers RULE WORKERS TRACE..: a line with so many workers and these traces is refused by that rule.
 breaks_workers() { gives "$2 workers, and $(($# - 2)) traces" 1 '' "lert: usage rule $1\n" run_workers "${@:2}"; }
 
 check_words() {
@@ -65,9 +64,19 @@ check_words() {
     breaks_workers 12 0 "${many[@]}"
     breaks_workers 13 4 "${many[@]}"
     breaks 0
-    breaks 0 run --threshold 3 --cone-bits 0 d
-    breaks 0 run --threshold 3 --cone-bits 1 d sevens
-    breaks 0 run --threshold three --cone-bits 0 d sevens
+    breaks 0 runs d sevens
+    breaks 0 run d
+    breaks 0 run d sevens --bins
+    breaks 0 run d sevens --bins=3 --bins 3
+    breaks 0 run d sevens --seed 1
+    breaks 0 run --threshold three d sevens
+    breaks 0 run d -- sevens --
+    breaks 0 run d ''
+    breaks 0 run d sevens $'\xff'
+    breaks 0 recover d sevens
+    breaks 0 gen 7
+    breaks 14 gen --events 4294967297
+    breaks 14 drill --events 4194305
     breaks 1 run --threshold 0 --cone-bits 0 d sevens
     breaks 1 run --threshold 4294967296 --cone-bits 0 d sevens
     breaks_long 2 3 1 2 4 2 0 32 0
@@ -182,9 +191,9 @@ check_journals() {
     has python3 rustc || return
     rustc -O --edition 2021 -o generated_trace "$top/bench/generated_trace.rs" || return
     ./generated_trace 1 1000000 >million
+    gives 'a generated trace' 0 '' '' cmp million <(lert gen --events 1000000)
     rm -rf d
-    lert run --threshold 24 --bins 4 --ratio 4 --base 4096 --levels 5 --cone-bits 4 --room 262144 \
-        --packet 1024 d million >report
+    lert run d million >report
     gives 'a run of a million keys over 16 cones' 0 'total events 1000000\n' '' totals report
     routed 4 million >due
     gives 'a million keys in 16 journals' 0 '' '' cmp due <(journaled d)
@@ -287,6 +296,31 @@ check_example() {
     gives 'the example over two texts' 0 'it\nso\n' '' example_words text text
 }
 
+# --- gen and drill
+
+generated() { lert gen "$@" | od -An -v -tx1 | tr -d ' \n'; }
+generated_on_full() { lert gen --events 100000 >/dev/full; }
+drill_on_full() { lert drill >/dev/full; }
+drilled() { "$top/tools/drilled" "$@"; }
+few_drilled() { lert drill --seed 1 --events 100 --threshold 101 --cone-bits 0; }
+
+check_generated() {
+    local none='cone 0 events 100 reports 0 keys 0000000000000000\ntotal events 100 reports 0\n'
+    gives 'a drill in which no key comes often enough' 0 "$none" '' few_drilled
+    gives 'a drill of a full cone' 8 '' '' without_fault lert drill --room 1 --threshold 1
+    has /dev/full && gives 'generated keys into a full output' 11 '' 'lert: output fault\n' generated_on_full
+    has /dev/full && gives 'a drill into a full output' 11 '' 'lert: output fault\n' drill_on_full
+    has od && gives 'a generated key' 0 '4c455254010000006401000000000000' '' generated --seed 0 --events 1
+    has python3 || return
+    drilled 1 1000000 >due
+    gives 'a drill of a million keys' 0 '' '' cmp due <(lert drill --seed 1 --events 1000000)
+    gives 'the same by one worker' 0 '' '' cmp due <(lert drill --events=1000000 --workers=1)
+    gives 'drawn lines' 0 '' '' passes "$top/tools/lines" "$("$top/tools/program")" --lines 300
+}
+
+# Leaves out where a cone is full: that is up to the workers.
+without_fault() { "$@" 2>"$work/fault"; }
+
 # Builds the program first, where it isn't built: 126 says that it can't be.
 check_program() {
     lert >"$work/out" 2>&1
@@ -303,6 +337,7 @@ check_program() {
     check_directories
     check_journals
     check_workers
+    check_generated
     check_reports
     check_recovery
     check_example

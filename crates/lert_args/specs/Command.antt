@@ -1,120 +1,115 @@
 -- The command lines, and the first rule that a line breaks.
-use Rattle.std.specs.Prelude.{ℕ, ◌+◌, ◌-◌, ◌==◌, nat_lt, nat_le, Bool, ◌&&◌, List, length, codes, Option, Some, None, if◌then◌else◌}
+use Rattle.std.specs.Prelude.{ℕ, nat_le, ◌^◌, List, [], ◌∷◌, ◌++◌, length, codes, Option, Some, None, option_and_then, unwrap_or, if◌then◌else◌}
+use Rattle.std.specs.Str.{bytes_eq}
 use Rattle.lert_spec.specs.declared.numbers.Numbers.{Numbers}
 use Rattle.lert_spec.specs.Limits.{first_broken, lies}
-use Rattle.lert_args.specs.Word.{all_named, is_option, option_at, is_word, is_named, are_names}
+use Rattle.lert_args.specs.Said.{Said, spelt, value_given}
 use Rattle.lert_args.specs.declared.line.Line.{Line}
-use Rattle.lert_args.specs.declared.line.Task.{Task}
-use Rattle.lert_args.specs.declared.line.Task.TheVariants.{Run, Recover}
+use Rattle.lert_args.specs.declared.line.Line.TheVariants.{Run, Recover, Gen, Drill}
 
--- how many workers a run has whose line doesn't say it
-abbrev pub usual_workers : ℕ
-usual_workers = 4
+-- the options of the settings, and those of each command
+abbrev pub setting_options : List (List ℕ)
+setting_options =
+    codes "threshold" ∷ codes "bins" ∷ codes "ratio" ∷ codes "base" ∷ codes "levels" ∷ codes "cone-bits" ∷ codes "room" ∷ codes "packet" ∷ []
 
--- beside the two words of the threshold, these are `run --threshold N --cone-bits 0 DIR TRACE`
-abbrev pub has_short_words : List (List ℕ) → Bool
-has_short_words words =
-    length words == 7 && is_word words 0 (codes "run") && is_word words 3 (codes "--cone-bits") && is_word words 4 (codes "0") && are_names words 5
+abbrev pub run_options : List (List ℕ)
+run_options = setting_options ++ codes "workers" ∷ []
 
--- the words are `run --threshold N --cone-bits 0 DIR TRACE`
-abbrev pub is_short_form : List (List ℕ) → Bool
-is_short_form words = has_short_words words && is_option words 1 (codes "--threshold")
+abbrev pub gen_options : List (List ℕ)
+gen_options = codes "seed" ∷ codes "events" ∷ []
 
--- the settings of the short form: its threshold, and the defaults
-abbrev pub short_settings : List (List ℕ) → Numbers
-short_settings words = record {
-  threshold = option_at words 1;
-  bins = 4;
-  ratio = 4;
-  base = 4096;
-  levels = 5;
-  cone_bits = 0;
-  room = 262144;
-  packet = 1024;
+abbrev pub drill_options : List (List ℕ)
+drill_options = run_options ++ gen_options
+
+-- the value that an option is given, or the one that it has otherwise
+abbrev pub value_or : Said → List ℕ → ℕ → ℕ
+value_or s name usual = unwrap_or (value_given s name) usual
+
+-- the settings that words say
+abbrev pub settings_said : Said → Numbers
+settings_said s = record {
+  threshold = value_or s (codes "threshold") 24;
+  bins = value_or s (codes "bins") 4;
+  ratio = value_or s (codes "ratio") 4;
+  base = value_or s (codes "base") 4096;
+  levels = value_or s (codes "levels") 5;
+  cone_bits = value_or s (codes "cone-bits") 4;
+  room = value_or s (codes "room") 262144;
+  packet = value_or s (codes "packet") 1024;
 }
 
--- the eight options stand in their order behind the command
-abbrev pub are_options : List (List ℕ) → Bool
-are_options words =
-    is_option words 1 (codes "--threshold") && is_option words 3 (codes "--bins") && is_option words 5 (codes "--ratio")
-    && is_option words 7 (codes "--base") && is_option words 9 (codes "--levels") && is_option words 11 (codes "--cone-bits")
-    && is_option words 13 (codes "--room") && is_option words 15 (codes "--packet")
+abbrev pub workers_said : Said → ℕ
+workers_said s = value_or s (codes "workers") 4
 
--- the settings of the eight options
-abbrev pub long_settings : List (List ℕ) → Numbers
-long_settings words = record {
-  threshold = option_at words 1;
-  bins = option_at words 3;
-  ratio = option_at words 5;
-  base = option_at words 7;
-  levels = option_at words 9;
-  cone_bits = option_at words 11;
-  room = option_at words 13;
-  packet = option_at words 15;
-}
+abbrev pub seed_said : Said → ℕ
+seed_said s = value_or s (codes "seed") 1
 
--- the option of the workers stands behind the eight options
-abbrev pub has_workers : List (List ℕ) → Bool
-has_workers words = is_option words 17 (codes "--workers")
+abbrev pub events_said : Said → ℕ
+events_said s = value_or s (codes "events") 1000
 
--- how many workers the long form names, or the usual number
-abbrev pub long_workers : List (List ℕ) → ℕ
-long_workers words = if has_workers words then option_at words 17 else usual_workers
+-- `run`: a directory, and one trace or more
+abbrev pub run_named : Said → List ℕ → Option Line
+run_named s (dir ∷ (trace ∷ traces)) = Some (Run (settings_said s) (workers_said s) dir (trace ∷ traces))
+run_named s _ = None
 
--- where DIR stands in the long form: behind the options
-abbrev pub long_dir : List (List ℕ) → ℕ
-long_dir words = if has_workers words then 19 else 17
+abbrev pub run_said : Said → Option Line
+run_said s = run_named s s.names
 
--- beside the words of the options, these are `run`, the options, DIR and one or more TRACE
-abbrev pub has_long_words : List (List ℕ) → Bool
-has_long_words words = nat_lt (long_dir words + 1) (length words) && is_word words 0 (codes "run") && all_named words (long_dir words)
+-- `recover`: a directory
+abbrev pub recover_named : Said → List ℕ → Option Line
+recover_named s (dir ∷ []) = Some (Recover (settings_said s) dir)
+recover_named s _ = None
 
--- the words are `run`, the eight options, maybe `--workers N`, DIR and one or more TRACE
-abbrev pub is_long_form : List (List ℕ) → Bool
-is_long_form words = has_long_words words && are_options words
+abbrev pub recover_said : Said → Option Line
+recover_said s = recover_named s s.names
 
--- beside the words of the options, these are `recover`, the eight options and DIR
-abbrev pub has_recover_words : List (List ℕ) → Bool
-has_recover_words words = length words == 18 && is_word words 0 (codes "recover") && is_named words 17
+-- `gen` and `drill`: no name
+abbrev pub if_unnamed : List ℕ → Line → Option Line
+if_unnamed [] line = Some line
+if_unnamed (name ∷ names) line = None
 
--- the words are `recover`, the eight options and DIR
-abbrev pub is_recover_form : List (List ℕ) → Bool
-is_recover_form words = has_recover_words words && are_options words
+abbrev pub gen_said : Said → Option Line
+gen_said s = if_unnamed s.names (Gen (seed_said s) (events_said s))
 
--- the lines of the three forms, with the places of their names
-abbrev pub short_line : List (List ℕ) → Line
-short_line words = record { settings = short_settings words; dir = 5; task = Run usual_workers (record { first = 6; number = 1 }) }
+abbrev pub drill_said : Said → Option Line
+drill_said s = if_unnamed s.names (Drill (settings_said s) (workers_said s) (seed_said s) (events_said s))
 
-abbrev pub long_line : List (List ℕ) → Line
-long_line words = record {
-  settings = long_settings words;
-  dir = long_dir words;
-  task = Run (long_workers words) (record { first = long_dir words + 1; number = length words - (long_dir words + 1) });
-}
-
-abbrev pub recover_line : List (List ℕ) → Line
-recover_line words = record { settings = long_settings words; dir = 17; task = Recover }
+-- the line of a command, by what the words behind it say
+abbrev pub line_of : List ℕ → List (List ℕ) → Option Line
+line_of name words =
+    if bytes_eq name (codes "run") then option_and_then run_said (spelt run_options words)
+    else (if bytes_eq name (codes "recover") then option_and_then recover_said (spelt setting_options words)
+    else (if bytes_eq name (codes "gen") then option_and_then gen_said (spelt gen_options words)
+    else (if bytes_eq name (codes "drill") then option_and_then drill_said (spelt drill_options words) else None)))
 
 -- the line that words spell
 abbrev pub command : List (List ℕ) → Option Line
-command words =
-    if is_short_form words then Some (short_line words)
-    else (if is_long_form words then Some (long_line words)
-    else (if is_recover_form words then Some (recover_line words) else None))
-
--- the first rule on workers and traces that a task breaks: 12 where the workers aren't 1 to 64, 13 where the traces are more than 1,024
-abbrev pub task_broken : Task → Option ℕ
-task_broken (Run workers traces) = if lies 1 64 workers then (if nat_le traces.number 1024 then None else Some 13) else Some 12
-task_broken Recover = None
+command [] = None
+command (name ∷ words) = line_of name words
 
 -- a rule that comes first, or another
 abbrev pub first_or : Option ℕ → Option ℕ → Option ℕ
 first_or (Some rule) other = Some rule
 first_or None other = other
 
--- the first rule that a line breaks: one on its settings, else one on its task
+-- rule 12: 1 to 64 workers
+abbrev pub workers_broken : ℕ → Option ℕ
+workers_broken workers = if lies 1 64 workers then None else Some 12
+
+-- rule 13: at most 1,024 traces
+abbrev pub traces_broken : List ℕ → Option ℕ
+traces_broken traces = if nat_le (length traces) 1024 then None else Some 13
+
+-- rule 14: so many events at most
+abbrev pub events_broken : ℕ → ℕ → Option ℕ
+events_broken most events = if nat_le events most then None else Some 14
+
+-- the first rule that a line breaks, in ascending order over all that concern its command
 abbrev pub line_broken : Line → Option ℕ
-line_broken line = first_or (first_broken line.settings) (task_broken line.task)
+line_broken (Run settings workers dir traces) = first_or (first_broken settings) (first_or (workers_broken workers) (traces_broken traces))
+line_broken (Recover settings dir) = first_broken settings
+line_broken (Gen seed events) = events_broken (2 ^ 32) events
+line_broken (Drill settings workers seed events) = first_or (first_broken settings) (first_or (workers_broken workers) (events_broken 4194304 events))
 
 abbrev pub usage_of : Option Line → Option ℕ
 usage_of None = Some 0

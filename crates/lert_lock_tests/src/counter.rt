@@ -77,3 +77,10 @@ pub fn entry_of(alloc: Global, by: u32) -> Result<Entry, OutOfMemory>
 {
     Ok(Entry::new(by, 0, KeyList::with_room(alloc, 1)?))
 }
+
+/// Packets of the numbers 0 and 1, with no key.
+pub fn two_entries(alloc: Global) -> Result<(Entry, Entry), OutOfMemory>
+    ensures { IfOk result (λ entries. (entries.0.by ≡ 0) × (entries.1.by ≡ 1)) }
+{
+    Ok((entry_of(alloc, 0)?, entry_of(alloc, 1)?))
+}

@@ -8,7 +8,8 @@ ghost use Rattle.lert_conelock.specs.After.{StandsAfter, AnswersAfter};
 ghost use Rattle.lert_conelock.specs.Sight.{LockSight};
 ghost use Rattle.lert_fleet.specs.Cones.{IsPassOf};
 
-use crate::counter::{Counter, Full, entry_of};
+use crate::callers::fleet_of_two;
+use crate::counter::{Counter, Full, two_entries};
 use lert_base::{Entry, Held};
 use lert_fleet::{Fleet, FleetPass, Turn};
 use lert_io::OutOfMemory;
@@ -38,32 +39,80 @@ fn two_counters(alloc: Global) -> Result<Vec<Counter>, OutOfMemory>
     Ok(states)
 }
 
+// What two callers of two cones were told, and whose counters came back, in their order, with what each counted.
+#[derive(Clone, Copy, Debug, PartialEq, Eq)]
+struct Told {
+    cones: u32,
+    numbers: (u32, u32),
+    tries: [Turn<u64, Full>; 2],
+    replies: [Result<u64, Full>; 2],
+    counted: [(char, u64); 2],
+}
+
+// Both callers try the first cone, and then act on the second one.
+fn call_both_cones<R: Wait>(
+    rt: &R,
+    fleet: Fleet<Counter>,
+    mut first: FleetPass<Counter>,
+    mut second: FleetPass<Counter>,
+    mine: &Entry,
+    theirs: &Entry,
+) -> Told
+    requires cones { length fleet ≡ 2 }
+    requires belongs { IsPassOf first fleet × IsPassOf second fleet }
+    requires entries { (mine.now.by ≡ 0) × (theirs.now.by ≡ 1) }
+    requires first { (first.lo ≡ 0) × (first.hi ≡ 1) }
+    requires second { (second.lo ≡ 1) × (second.hi ≡ 2) }
+    requires all { (cone : ℕ) (lock : LockSight Counter) → slice_get fleet cone ≡ Some lock → lock.numbers ≡ 2 }
+{
+    ask_both(&fleet, &first);
+    let cones = fleet.cones();
+    let numbers = (first.number(), second.number());
+    let tries = [
+        fleet.try_admit(&mut first, 0, mine),
+        fleet.try_admit(&mut second, 0, theirs),
+    ];
+    let replies = [
+        fleet.admit(rt, &mut second, 1, theirs),
+        fleet.admit(rt, &mut first, 1, mine),
+    ];
+    fleet.join(&mut first, second);
+    Told {
+        cones,
+        numbers,
+        tries,
+        replies,
+        counted: counted(fleet.close(first)),
+    }
+}
+
+// The names of two counters, and what each counted.
+fn counted(counters: Vec<Counter>) -> [(char, u64); 2]
+    requires { length counters.items ≡ 2 }
+{
+    [count_of(&counters[0]), count_of(&counters[1])]
+}
+
+fn count_of(counter: &Counter) -> (char, u64) {
+    (counter.name, counter.zeros + counter.others)
+}
+
+fn call_counters<R: Wait>(rt: &R, alloc: Global) -> Result<Told, OutOfMemory> {
+    let (mine, theirs) = two_entries(alloc)?;
+    let (fleet, first, second) = fleet_of_two(alloc, two_counters(alloc)?)?;
+    Ok(call_both_cones(rt, fleet, first, second, &mine, &theirs))
+}
+
 #[test]
 fn each_cone_counts_its_own_packets(rt: HostRuntime) -> Result<(), Fail> {
-    let mine = entry_of(rt.alloc(), 0)?;
-    let theirs = entry_of(rt.alloc(), 1)?;
-    let Ok((fleet, mut first)) = Fleet::new(rt.alloc(), two_counters(rt.alloc())?, 2) else {
-        return Err(Fail::new("memory"));
+    let expected = Told {
+        cones: 2,
+        numbers: (0, 1),
+        tries: [Turn::Done(1), Turn::Refused(Full)],
+        replies: [Ok(1), Ok(2)],
+        counted: [('a', 1), ('b', 2)],
     };
-    ask_both(&fleet, &first);
-    let Ok(mut second) = fleet.split(&mut first, 1) else {
-        let _states = fleet.close(first);
-        return Err(Fail::new("memory"));
-    };
-    assert_eq!(rt; (fleet.cones(), first.number(), second.number()), (2, 0, 1));
-    assert_eq!(rt; fleet.try_admit(&mut first, 0, &mine), Turn::Done(1));
-    assert_eq!(rt;
-        fleet.try_admit(&mut second, 0, &theirs),
-        Turn::Refused(Full)
-    );
-    assert_eq!(rt; fleet.admit(&rt, &mut second, 1, &theirs), Ok(1));
-    assert_eq!(rt; fleet.admit(&rt, &mut first, 1, &mine), Ok(2));
-    fleet.join(&mut first, second);
-    let states = fleet.close(first);
-    let closed: [(char, u64); 2] = [('a', 1), ('b', 2)];
-    for (state, expected) in states.iter().zip(&closed) {
-        assert_eq!(rt; (state.name, state.zeros + state.others), *expected);
-    }
+    assert_eq!(rt; call_counters(&rt, rt.alloc())?, expected);
     Ok(())
 }
 
@@ -98,19 +147,21 @@ fn admit_join_close<S: Held, R: Wait>(
     (reply, fleet.close(pass))
 }
 
+// The second caller's reply and then the first one's, of the second cone, and how many states came back.
+fn reply_behind_another<R: Wait>(
+    rt: &R,
+    alloc: Global,
+) -> Result<([Result<u64, Full>; 2], usize), OutOfMemory> {
+    let (mine, theirs) = two_entries(alloc)?;
+    let (fleet, first, mut second) = fleet_of_two(alloc, two_counters(alloc)?)?;
+    let before = fleet.admit(rt, &mut second, 1, &theirs);
+    let (reply, states) = admit_join_close(rt, fleet, first, second, 1, &mine);
+    Ok(([before, reply], states.len()))
+}
+
 #[test]
 fn a_reply_stands_in_the_history_of_its_cone(rt: HostRuntime) -> Result<(), Fail> {
-    let mine = entry_of(rt.alloc(), 0)?;
-    let theirs = entry_of(rt.alloc(), 1)?;
-    let Ok((fleet, mut first)) = Fleet::new(rt.alloc(), two_counters(rt.alloc())?, 2) else {
-        return Err(Fail::new("memory"));
-    };
-    let Ok(mut second) = fleet.split(&mut first, 1) else {
-        let _states = fleet.close(first);
-        return Err(Fail::new("memory"));
-    };
-    assert_eq!(rt; fleet.admit(&rt, &mut second, 1, &theirs), Ok(1));
-    let (reply, states) = admit_join_close(&rt, fleet, first, second, 1, &mine);
-    assert_eq!(rt; (reply, states.len()), (Ok(2), 2));
+    let told = reply_behind_another(&rt, rt.alloc())?;
+    assert_eq!(rt; told, ([Ok(1), Ok(2)], 2));
     Ok(())
 }

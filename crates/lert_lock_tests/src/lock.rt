@@ -7,43 +7,95 @@ ghost use Rattle.lert_conelock.specs.Prefix.{IsPrefix};
 ghost use Rattle.lert_conelock.specs.After.{StandsAfter, AnswersAfter};
 ghost use Rattle.lert_conelock.specs.Sight.{BelongsTo};
 
-use crate::counter::{Counter, Full, entry_of};
+use crate::callers::lock_of_two;
+use crate::counter::{Counter, Full, entry_of, two_entries};
 use lert_base::{Entry, Held};
 use lert_conelock::{ConeLock, Pass, Turn};
+use lert_io::OutOfMemory;
+use std::alloc::Global;
 use std::sync::Wait;
 use std::test::Fail;
+
+// What two callers of a lock were told, and what its counter counted under number 0 and under others.
+#[derive(Clone, Copy, Debug, PartialEq, Eq)]
+struct Told {
+    numbers: (u32, u32),
+    replies: [Result<u64, Full>; 2],
+    admitted: u64,
+    counted: (u64, u64),
+}
+
+// Each of two callers acts once, and the first one looks behind that.
+fn act_and_look<R: Wait>(rt: &R, alloc: Global) -> Result<Told, OutOfMemory> {
+    let (mine, theirs) = two_entries(alloc)?;
+    let (lock, mut first, mut second) = lock_of_two(alloc, Counter::new('a', 8))?;
+    let numbers = (first.number(), second.number());
+    let replies = [
+        lock.act(rt, &mut first, &mine),
+        lock.act(rt, &mut second, &theirs),
+    ];
+    let admitted = lock.admitted(&mut first);
+    lock.join(&mut first, second);
+    let counter = lock.close(first);
+    Ok(Told {
+        numbers,
+        replies,
+        admitted,
+        counted: (counter.zeros, counter.others),
+    })
+}
 
 // The caller that acted first learns of the other one's call by looking alone.
 #[test]
 fn admitted_looks_and_each_call_counts_once(rt: HostRuntime) -> Result<(), Fail> {
-    let mine = entry_of(rt.alloc(), 0)?;
-    let theirs = entry_of(rt.alloc(), 1)?;
-    let (lock, mut first) = ConeLock::new(rt.alloc(), Counter::new('a', 8), 2)
-        .ok()
-        .ok_or("memory")?;
-    let mut second = lock.split(&mut first, 1);
-    assert_eq!(rt; (first.number(), second.number()), (0, 1));
-    assert_eq!(rt; lock.act(&rt, &mut first, &mine), Ok(1));
-    assert_eq!(rt; lock.act(&rt, &mut second, &theirs), Ok(2));
-    assert_eq!(rt; lock.admitted(&mut first), 2);
-    lock.join(&mut first, second);
-    let counter = lock.close(first);
-    assert_eq!(rt; (counter.zeros, counter.others), (1, 1));
+    let expected = Told {
+        numbers: (0, 1),
+        replies: [Ok(1), Ok(2)],
+        admitted: 2,
+        counted: (1, 1),
+    };
+    assert_eq!(rt; act_and_look(&rt, rt.alloc())?, expected);
     Ok(())
+}
+
+// What the calls of one caller were answered at a counter that has room for one packet.
+#[derive(Clone, Copy, Debug, PartialEq, Eq)]
+struct Refused {
+    tries: [Turn<u64, Full>; 2],
+    reply: Result<u64, Full>,
+    admitted: u64,
+    counted: (u64, u64),
+}
+
+fn act_past_the_room<R: Wait>(rt: &R, alloc: Global) -> Result<Refused, OutOfMemory> {
+    let entry = entry_of(alloc, 0)?;
+    let Ok((lock, mut pass)) = ConeLock::new(alloc, Counter::new('a', 1), 1) else {
+        return Err(OutOfMemory);
+    };
+    let tries = [
+        lock.try_act(&mut pass, &entry),
+        lock.try_act(&mut pass, &entry),
+    ];
+    let reply = lock.act(rt, &mut pass, &entry);
+    let admitted = lock.admitted(&mut pass);
+    let counter = lock.close(pass);
+    Ok(Refused {
+        tries,
+        reply,
+        admitted,
+        counted: (counter.zeros, counter.others),
+    })
 }
 
 #[test]
 fn a_refusal_is_handed_on_and_changes_nothing(rt: HostRuntime) -> Result<(), Fail> {
-    let entry = entry_of(rt.alloc(), 0)?;
-    let (lock, mut pass) = ConeLock::new(rt.alloc(), Counter::new('a', 1), 1)
-        .ok()
-        .ok_or("memory")?;
-    assert_eq!(rt; lock.try_act(&mut pass, &entry), Turn::Done(1));
-    assert_eq!(rt; lock.try_act(&mut pass, &entry), Turn::Refused(Full));
-    assert_eq!(rt; lock.act(&rt, &mut pass, &entry), Err(Full));
-    assert_eq!(rt; lock.admitted(&mut pass), 1);
-    let counter = lock.close(pass);
-    assert_eq!(rt; (counter.zeros, counter.others), (1, 0));
+    let expected = Refused {
+        tries: [Turn::Done(1), Turn::Refused(Full)],
+        reply: Err(Full),
+        admitted: 1,
+        counted: (1, 0),
+    };
+    assert_eq!(rt; act_past_the_room(&rt, rt.alloc())?, expected);
     Ok(())
 }
 
@@ -70,16 +122,21 @@ fn act_join_close<S: Held, R: Wait>(
     (reply, lock.close(pass))
 }
 
+// The second caller's reply, then the first one's, and what was counted.
+fn reply_behind_another<R: Wait>(
+    rt: &R,
+    alloc: Global,
+) -> Result<([Result<u64, Full>; 2], (u64, u64)), OutOfMemory> {
+    let (mine, theirs) = two_entries(alloc)?;
+    let (lock, first, mut second) = lock_of_two(alloc, Counter::new('a', 8))?;
+    let before = lock.act(rt, &mut second, &theirs);
+    let (reply, counter) = act_join_close(rt, lock, first, second, &mine);
+    Ok(([before, reply], (counter.zeros, counter.others)))
+}
+
 #[test]
 fn a_reply_stands_in_the_history_of_the_close(rt: HostRuntime) -> Result<(), Fail> {
-    let mine = entry_of(rt.alloc(), 0)?;
-    let theirs = entry_of(rt.alloc(), 1)?;
-    let (lock, mut first) = ConeLock::new(rt.alloc(), Counter::new('a', 8), 2)
-        .ok()
-        .ok_or("memory")?;
-    let mut second = lock.split(&mut first, 1);
-    assert_eq!(rt; lock.act(&rt, &mut second, &theirs), Ok(1));
-    let (reply, counter) = act_join_close(&rt, lock, first, second, &mine);
-    assert_eq!(rt; (reply, counter.zeros, counter.others), (Ok(2), 1, 1));
+    let told = reply_behind_another(&rt, rt.alloc())?;
+    assert_eq!(rt; told, ([Ok(1), Ok(2)], (1, 1)));
     Ok(())
 }

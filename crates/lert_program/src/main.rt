@@ -1,5 +1,4 @@
-//! The program: `lert run --threshold N --cone-bits 0 DIR TRACE`, and `lert run` and `lert recover` with all
-//! eight settings, where a run may name how many workers read its traces.
+//! The program: `lert run DIR TRACE..`, `lert recover DIR`, `lert gen` and `lert drill`, with their options.
 //!
 //! It makes the words, the place and the sink over real files and standard output, makes the top
 //! call, prints the line of a status other than `Done` on standard error, and ends with the status's

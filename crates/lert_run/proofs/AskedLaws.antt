@@ -1,9 +1,8 @@
 -- What was asked, handed out and put back.
-use Rattle.std.proofs.Common.{◌≡◌, ℕ, ◌+◌, ◌<◌, ◌≤◌, true, List, [], ◌∷◌, ◌++◌, length, take, Option, Some, slice_get, refl, ap, sym, ◌∙◌, subst, arith}
-use Rattle.std.proofs.lemmas.List.{map-append}
-use Rattle.std.proofs.lemmas.List.FromFn.{get_or-map-range_with_len, length-map-range_with_len, map-range_with_len_more, take-map-range_with_len}
-use Rattle.std.proofs.lemmas.Option.{slice_get-get_or, slice_get_within, same_Some}
-use Rattle.lert_args.specs.Names.{words_from}
+use Rattle.std.proofs.Common.{◌≡◌, ℕ, ◌+◌, ◌<◌, true, List, [], ◌∷◌, ◌++◌, length, get_or, take, Option, option_map, Some, slice_get, refl, ap, sym, ◌∙◌, subst, arith}
+use Rattle.std.proofs.lemmas.List.{map-append, take_more, take-map}
+use Rattle.std.proofs.lemmas.Option.{get_or_from_slice_get, slice_get-get_or, slice_get-map, slice_get_within, same_Some}
+use Rattle.lert_args.specs.Names.{names_of}
 use Rattle.lert_args.specs.Word.{word_at}
 use Rattle.lert_place.specs.declared.opening.Opening.{Opening}
 use Rattle.lert_place.specs.Openings.{AreReturned, AreReturnedSame, trace_asked}
@@ -15,21 +14,24 @@ use Rattle.lert_ingest.proofs.BayLaws.{slice_get-some, still_marked}
 use Rattle.lert_run.specs.Asked.{IsAskedForBays, traces_opened}
 use Rattle.lert_run.proofs.ConeLaws.{none_left}
 
+-- a word is the one at its number
+pub word_at-slice_get : (words : List (List ℕ)) (number : ℕ) (word : List ℕ) → slice_get words number ≡ Some word → word ≡ word_at words number
+word_at-slice_get words number word at = sym (get_or_from_slice_get words number word [] at)
+
 -- the opening of one trace more
-pub opened_more : (words : List (List ℕ)) (first number : ℕ) →
-    traces_opened (words_from words first (number + 1)) ≡ traces_opened (words_from words first number) ++ trace_asked (word_at words (first + number)) true ∷ []
-opened_more words first number =
-    ap traces_opened (map-range_with_len_more (word_at words) first number (first + number) refl)
-    ∙ map-append (λ name. trace_asked name true) (words_from words first number) (word_at words (first + number) ∷ [])
+pub opened_more : (words : List (List ℕ)) (places : List ℕ) (number : ℕ) → number < length places →
+    traces_opened (names_of words (take (number + 1) places)) ≡ traces_opened (names_of words (take number places)) ++ trace_asked (word_at words (get_or places number 0)) true ∷ []
+opened_more words places number below =
+    ap (λ ps. traces_opened (names_of words ps)) (take_more places number 0 below)
+    ∙ (ap traces_opened (map-append (word_at words) (take number places) (get_or places number 0 ∷ []))
+    ∙ map-append (λ name. trace_asked name true) (names_of words (take number places)) (word_at words (get_or places number 0) ∷ []))
 
 -- the name at hand is the next one, and those before it are the first ones
-pub name_there : (words : List (List ℕ)) (first all number : ℕ) → number < all → slice_get (words_from words first all) number ≡ Some (word_at words (first + number))
-name_there words first all number below =
-    slice_get-get_or (words_from words first all) number [] (omega (arith, below, length-map-range_with_len (word_at words) first all))
-    ∙ ap Some (get_or-map-range_with_len (word_at words) first all number (first + number) [] below refl)
+pub name_there : (words : List (List ℕ)) (places : List ℕ) (number : ℕ) → number < length places → slice_get (names_of words places) number ≡ Some (word_at words (get_or places number 0))
+name_there words places number below = slice_get-map (word_at words) places number ∙ ap (option_map (word_at words)) (slice_get-get_or places number 0 below)
 
-pub names_before : (words : List (List ℕ)) (first all number : ℕ) → number ≤ all → take number (words_from words first all) ≡ words_from words first number
-names_before words first all number within = take-map-range_with_len (word_at words) first all number within
+pub names_before : (words : List (List ℕ)) (places : List ℕ) (number : ℕ) → take number (names_of words places) ≡ names_of words (take number places)
+names_before words places number = take-map (word_at words) number places
 
 -- what was put back under its place is what was handed out there
 pub all_returned : {T : Type 0} (mark : T → ℕ) (objects handed : List T) (returned : ℕ → Option T) → handed ≡ objects →

@@ -155,7 +155,7 @@ module _ {B : Type 0} (files : B → Option Files) (leaves : B → Files → Typ
           let finished = are.below cone before.0 now (slice_get_within old cone before.0 before.1) before.1 is in
           (ap is_broken finished.state_is, finished.ended.same.settings ∙ (weaving cone before.0 before.1).settings_are)
 
-      all_fit : AllFit s traces
+      pub all_fit : AllFit s traces
       all_fit cone named =
           let before = slice_get-some old cone (omega (arith, named, number)) in
           let at = weaving cone before.0 before.1 in
@@ -174,7 +174,7 @@ module _ {B : Type 0} (files : B → Option Files) (leaves : B → Files → Typ
           seen (ap files (sym (bay_is new cone now.0 bay now.1 there)) ∙ told) in
           record { history = held.history; woven = held.woven; sound = held.sound }
 
-      one_printed : (cone : ℕ) (one : Printed) → slice_get (map printed_as new) cone ≡ Some one → IsPrinted files s workers (bays_of new) traces cone one
+      pub one_printed : (cone : ℕ) (one : Printed) → slice_get (map printed_as new) cone ≡ Some one → IsPrinted files s workers (bays_of new) traces cone one
       one_printed cone one is =
           let now = slice_get-some new cone (omega (arith, slice_get_within (map printed_as new) cone one is, length-map new printed_as)) in
           let before = pair_at cone now.0 now.1 in
@@ -184,8 +184,8 @@ module _ {B : Type 0} (files : B → Option Files) (leaves : B → Files → Typ
           (finished_printed files leaves faults mark s workers traces cone before.0 now.0 (weaving cone before.0 before.1) finished.ended finished.listing_is finished.state_is (bays_of new)
           (bay_at new cone now.0 now.1))
 
-      valid : IsValid s
-      valid =
+      pub all_valid : IsValid s
+      all_valid =
           let some : 0 < length old = omega (arith, number, pow_pos s.cone_bits) in
           let first = slice_get-some old 0 some in
           still_valid files leaves faults mark s workers traces 0 first.0 first.0 (weaving 0 first.0 first.1) (ended_same files leaves faults mark first.0)
@@ -196,7 +196,7 @@ module _ {B : Type 0} (files : B → Option Files) (leaves : B → Files → Typ
         fits = all_fit;
         woven = all_woven;
         cones = map printed_as new;
-        printed = printed_all files s valid workers (bays_of new) traces (map printed_as new) (length-map new printed_as ∙ (are.number_is ∙ number))
+        printed = printed_all files s all_valid workers (bays_of new) traces (map printed_as new) (length-map new printed_as ∙ (are.number_is ∙ number))
             (omega (arith, length-map new (λ (c : Standing B). c.bay), are.number_is, number)) one_printed;
         text = text;
       }

@@ -34,13 +34,13 @@ times-Contains key (other ∷ others) some =
     ]
 
 -- a key put into ascending keys
-insert_before : (key other : ℕ) (others : List ℕ) → key < other → insert_key key (other ∷ others) ≡ key ∷ other ∷ others
+pub insert_before : (key other : ℕ) (others : List ℕ) → key < other → insert_key key (other ∷ others) ≡ key ∷ other ∷ others
 insert_before key other others less = grind (arith, nat_tests)
 
-insert_same : (key other : ℕ) (others : List ℕ) → other ≤ key → key ≡ other → insert_key key (other ∷ others) ≡ other ∷ others
+pub insert_same : (key other : ℕ) (others : List ℕ) → other ≤ key → key ≡ other → insert_key key (other ∷ others) ≡ other ∷ others
 insert_same key other others less same = grind (arith, nat_tests)
 
-insert_behind : (key other : ℕ) (others : List ℕ) → other ≤ key → key ≢ other → insert_key key (other ∷ others) ≡ other ∷ insert_key key others
+pub insert_behind : (key other : ℕ) (others : List ℕ) → other ≤ key → key ≢ other → insert_key key (other ∷ others) ≡ other ∷ insert_key key others
 insert_behind key other others less differs = grind (arith, nat_tests)
 
 inserted : (key : ℕ) (keys : List ℕ) → 1 ≤ times key (insert_key key keys)
@@ -74,7 +74,7 @@ kept key new (first ∷ others) other =
       ]
     ]
 
-times-distinct : (key : ℕ) (events : List ℕ) → 1 ≤ times key events → 1 ≤ times key (distinct events)
+pub times-distinct : (key : ℕ) (events : List ℕ) → 1 ≤ times key events → 1 ≤ times key (distinct events)
 times-distinct key [] some = absurd (omega (arith, some))
 times-distinct key (event ∷ events) some =
     elim (cases_eq event key) [
@@ -83,7 +83,7 @@ times-distinct key (event ∷ events) some =
     ]
 
 module _ (threshold : ℕ) (events : List ℕ) (key : ℕ) where
-  of_heavy : times key (heavy threshold events) ≡ cond (leb threshold (count key events 0 (length events))) (times key (distinct events)) 0
+  pub of_heavy : times key (heavy threshold events) ≡ cond (leb threshold (count key events 0 (length events))) (times key (distinct events)) 0
   of_heavy = times-filter key (λ k. leb threshold (count k events 0 (length events))) (distinct events)
 
   pub heavy_enough : Contains (heavy threshold events) key → threshold ≤ times key events
@@ -119,7 +119,7 @@ folded_below n below = xor_lt 64 n (n / 2 ^ 33) below (omega (arith, shr_le n 33
 scaled_below : (factor n : ℕ) → scaled factor n < 2 ^ 64
 scaled_below factor n = mod-lt (n * factor) {m = 2 ^ 64} (lit< tt)
 
-mix_any : (key : ℕ) → mix key < 2 ^ 64
+pub mix_any : (key : ℕ) → mix key < 2 ^ 64
 unfolding mix
 mix_any key = folded_below _ (scaled_below 0xc4ceb9fe1a85ec53 _)
 

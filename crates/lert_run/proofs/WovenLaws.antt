@@ -22,7 +22,7 @@ module _ (s : Numbers) (cone workers : ℕ) (traces : List (List ℕ)) (history 
   named packet brought = brought.of_them
 
   -- what adds up over lists is of all events what it is of the parts
-  of_events : (f : List ℕ → ℕ) → f [] ≡ 0 → ((xs ys : List ℕ) → f (xs ++ ys) ≡ f xs + f ys) → f (events_of history) ≡ sum_by (λ keys. f (part_of s cone keys)) traces
+  pub of_events : (f : List ℕ → ℕ) → f [] ≡ 0 → ((xs ys : List ℕ) → f (xs ++ ys) ≡ f xs + f ys) → f (events_of history) ≡ sum_by (λ keys. f (part_of s cone keys)) traces
   of_events f none joins =
       joined f none joins (λ (p : Packet). p.keys) history
       ∙ (by_trace (λ p. f p.keys) (IsBrought s workers (length traces)) (length traces) named history woven.each

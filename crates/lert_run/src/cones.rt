@@ -9,20 +9,23 @@ ghost use Rattle.lert_ingest.specs.Cones.{AreNew, IsNewRoom};
 ghost use Rattle.lert_run.specs.Unmade.{IsUnmade};
 ghost use Rattle.lert_ingest.specs.Status.{create_status};
 
+use crate::rooms::make_rooms;
 use lert_base::Settings;
 use lert_bay::Bay;
 use lert_cone::{Cone, ConeRoom, CreateFault, CreateRefused};
 use lert_cqf::Cqf;
 use lert_ingest::Status;
-use lert_io::OutOfMemory;
 use std::alloc::Global;
 use std::collections::VecDeque;
+use std::thread::Threads;
 
-/// Cones without a packet over all bays, in ascending order, for which the memory is taken first. A refusal
-/// leaves the bays, and Ok an emptied list with room for them.
-pub fn make_cones<B: Bay>(
+/// Cones without a packet over all bays, in ascending order, for which the memory is taken first, by at most so many threads.
+/// A refusal leaves the bays, and Ok an emptied list with room for them.
+pub fn make_cones<B: Bay, R: Threads + Sync>(
+    rt: &R,
     alloc: Global,
     settings: &Settings,
+    threads: u32,
     bays: &mut VecDeque<B>,
 ) -> Result<Vec<Cone<B, Cqf>>, Status>
     requires number { length bays.old.items ≡ 2 ^ settings.now.cone_bits }
@@ -37,7 +40,7 @@ pub fn make_cones<B: Bay>(
     ensures kept { OnErr result (AreLater B.files B.faults B.mark bays.old.items bays.new.items) }
     ensures unmade { IfErr result (IsUnmade B.files B.faults settings.now bays.old.items bays.new.items) }
 {
-    let mut rooms = make_rooms(alloc, settings)?;
+    let mut rooms = make_rooms(rt, alloc, settings, threads)?;
     let Ok(mut cones) = Vec::with_capacity(alloc, settings.cones() as usize) else {
         return Err(Status::OutOfMemory);
     };
@@ -48,18 +51,6 @@ pub fn make_cones<B: Bay>(
             Err(status)
         }
     }
-}
-
-/// The memory of all cones. Its only error is want of memory.
-pub fn make_rooms(alloc: Global, settings: &Settings) -> Result<Vec<ConeRoom<Cqf>>, OutOfMemory>
-    ensures number { IfOk result (λ rooms. length rooms.items ≡ 2 ^ settings.now.cone_bits) }
-    ensures each { IfOk result (λ rooms. All (IsNewRoom settings.now) rooms.items) }
-{
-    let mut rooms = Vec::with_capacity(alloc, settings.cones() as usize)?;
-    for _ in 0..settings.cones() {
-        rooms.push(ConeRoom::new(alloc, settings)?)?;
-    }
-    Ok(rooms)
 }
 
 // A cone over each bay, in ascending order, in an empty list with room for all. Both lists are lent, so that no exit has to

@@ -10,10 +10,13 @@ mod bays;
 mod cones;
 mod finish;
 mod print;
+mod rooms;
 mod runs;
 mod traces;
 
 pub use bays::{open_bays, put_back_bays};
-pub use cones::{bring_back, make_rooms};
+pub use cones::{bring_back, make_cones};
+pub use finish::finish_cones;
 pub use print::print_cones;
+pub use rooms::{make_rooms, make_rooms_alone};
 pub use runs::{Job, run_line};

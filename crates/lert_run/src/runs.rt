@@ -1,6 +1,6 @@
 //! Runs over several traces by workers.
 
-ghost use Rattle.std.specs.Prelude.{◌≡◌, ◌≢◌, ◌⊎◌, ◌+◌, ◌^◌, ◌<◌, ◌≤◌, ℕ, List, [], length, slice_get, true, ⊤};
+ghost use Rattle.std.specs.Prelude.{◌≡◌, ◌≢◌, ◌⊎◌, ◌^◌, ◌<◌, ◌≤◌, ℕ, All, List, [], length, slice_get, true, ⊤};
 ghost use Rattle.std.specs.VecDeque.{deque_capacity};
 ghost use Rattle.lert_args.specs.Names.{names_of};
 ghost use Rattle.lert_args.specs.Word.{word_at};
@@ -20,7 +20,6 @@ use crate::cones::{bring_back, make_cones};
 use crate::finish::finish_cones;
 use crate::print::print_cones;
 use crate::traces::{open_traces, put_back_traces};
-use lert_args::Places;
 use lert_base::{Settings, Words};
 use lert_bay::Bay;
 use lert_cone::Cone;
@@ -35,12 +34,12 @@ use std::sync::Wait;
 use std::thread::Threads;
 
 /// What a line asks of a run beside its settings: how many workers, 1 to 64, and the places of the directory's name and of the
-/// 1 to 1,024 traces' names in the words.
+/// 1 to 1,024 traces' names in the words, from 0.
 #[derive(Clone, Copy)]
-pub struct Job {
+pub struct Job<'a> {
     pub workers: u32,
     pub dir: usize,
-    pub traces: Places,
+    pub traces: &'a [usize],
 }
 
 /// Runs over the traces of names and the bays of the cones in a directory.
@@ -53,18 +52,18 @@ pub fn run_line<P: Place, K: Sink, R: Threads + Wait + Sync>(
     alloc: Global,
     settings: &Settings,
     words: &Words,
-    job: Job,
+    job: Job<'_>,
     place: &mut P,
     out: &mut K,
 ) -> Status
     requires least { 1 ≤ job.workers }
     requires most { job.workers ≤ 64 }
-    requires some { 1 ≤ job.traces.number }
-    requires few { job.traces.number ≤ 1024 }
+    requires some { 1 ≤ length job.traces.now }
+    requires few { length job.traces.now ≤ 1024 }
     requires dir { job.dir < length words.now }
-    requires within { job.traces.first + job.traces.number ≤ length words.now }
+    requires within { All (λ number. number < length words.now) job.traces.now }
     requires asked { P.asked place.old ≡ [] }
-    ensures asked { IsAsked (names_of words.now job.traces) (word_at words.now job.dir) (2 ^ settings.now.cone_bits) (P.asked place.new) result }
+    ensures asked { IsAsked (names_of words.now job.entry.traces.now) (word_at words.now job.entry.dir) (2 ^ settings.now.cone_bits) (P.asked place.new) result }
     ensures place_fault { result ≡ Status.PlaceFault → HasRisen (P.faults place.old) (P.faults place.new) × (out.new ≡ out.old)
         × AreReturnedSame (P.handed_traces place.new) (P.returned_trace place.new) × AreReturnedSame (P.handed_bays place.new) (P.returned_bay place.new) }
     ensures no_usage { (rule : ℕ) → result ≡ Status.Usage rule → ⊥ }
@@ -73,8 +72,8 @@ pub fn run_line<P: Place, K: Sink, R: Threads + Wait + Sync>(
     ensures ran { result ≢ Status.PlaceFault → (backs : List P.Trace) × (bays : List P.Bay)
         × HasPutBack P.Trace.faults P.Trace.mark P.Bay.files P.Bay.faults P.Bay.mark (P.handed_traces place.new) backs (P.returned_trace place.new)
         (P.handed_bays place.new) bays (P.returned_bay place.new)
-        × (result ≢ Status.OutOfMemory → length (P.handed_traces place.new) ≡ job.traces.number)
-        × HasRun P.Trace.remaining P.Trace.faults K.taken K.faults P.Bay.files P.Bay.faults settings.now job.workers
+        × (result ≢ Status.OutOfMemory → length (P.handed_traces place.new) ≡ length job.entry.traces.now)
+        × HasRun P.Trace.remaining P.Trace.faults K.taken K.faults P.Bay.files P.Bay.faults settings.now job.entry.workers
         (P.handed_traces place.new) backs out.old out.new (P.handed_bays place.new) bays result }
 {
     let opened = match open_traces(alloc, place, words, job.traces) {
@@ -154,7 +153,7 @@ fn run_bays<S: Source + Send, B: Bay + Send, K: Sink, R: Threads + Wait + Sync>(
     if let Err(status) = find_stale(bays) {
         return (traces, status);
     }
-    let cones = match make_cones(alloc, settings, bays) {
+    let cones = match make_cones(rt, alloc, settings, workers, bays) {
         Ok(cones) => cones,
         Err(status) => return (traces, status),
     };

@@ -1,13 +1,12 @@
 //! The traces of a run: opened, and put back.
 
-ghost use Rattle.std.specs.Prelude.{◌≡◌, ◌⊎◌, ℕ, ◌+◌, ◌^◌, ◌<◌, ◌≤◌, ◌++◌, [], ◌∷◌, false, length, slice_get, take, Some, IfOk, IfErr, OnOk};
+ghost use Rattle.std.specs.Prelude.{◌≡◌, ◌⊎◌, ℕ, ◌^◌, ◌<◌, ◌≤◌, ◌++◌, [], ◌∷◌, All, false, length, slice_get, take, Some, IfOk, IfErr, OnOk};
 ghost use Rattle.lert_args.specs.Names.{names_of};
 ghost use Rattle.lert_ingest.specs.Bays.{AreMarked};
 ghost use Rattle.lert_io.specs.Fault.{HasRisen};
 ghost use Rattle.lert_place.specs.Openings.{AreReturned, AreReturnedSame};
 ghost use Rattle.lert_run.specs.Asked.{IsNameRefused, traces_opened};
 
-use lert_args::Places;
 use lert_base::Words;
 use lert_ingest::Status;
 use lert_io::Failed;
@@ -15,36 +14,34 @@ use lert_place::Place;
 use std::alloc::Global;
 use std::collections::VecDeque;
 
-/// Opens the traces whose names stand at these places of the words, in their order. Where an opening fails, what was opened is
+/// Opens the traces whose names are the words with these numbers, in their order. Where an opening fails, what was opened is
 /// put back as it was, and the status is `PlaceFault`. The only other refusal is want of memory, before the first opening.
 pub fn open_traces<P: Place>(
     alloc: Global,
     place: &mut P,
     words: &Words,
-    traces: Places,
+    traces: &[usize],
 ) -> Result<VecDeque<P::Trace>, Status>
     requires none { P.handed_traces place.old ≡ [] }
-    requires within { traces.first + traces.number ≤ length words.now }
-    requires few { traces.number < 2 ^ 32 }
+    requires within { All (λ number. number < length words.now) traces.now }
+    requires few { length traces.now < 2 ^ 32 }
     ensures opened { IfOk result (λ opened. P.handed_traces place.new ≡ opened.items) }
-    ensures number { IfOk result (λ opened. length opened.items ≡ traces.number) }
+    ensures number { IfOk result (λ opened. length opened.items ≡ length traces.now) }
     ensures marked { IfOk result (λ opened. AreMarked P.Trace.mark opened.items) }
-    ensures asked { OnOk result (P.asked place.new ≡ P.asked place.old ++ traces_opened (names_of words.now traces)) }
+    ensures asked { OnOk result (P.asked place.new ≡ P.asked place.old ++ traces_opened (names_of words.now traces.now)) }
     ensures refused { IfErr result (λ status. ((status ≡ Status.OutOfMemory) × (place.new ≡ place.old))
         ⊎ ((status ≡ Status.PlaceFault) × HasRisen (P.faults place.old) (P.faults place.new)
-        × IsNameRefused (names_of words.now traces) (P.asked place.old) (P.asked place.new)
+        × IsNameRefused (names_of words.now traces.now) (P.asked place.old) (P.asked place.new)
         × AreReturned P.Trace.mark (P.handed_traces place.new) (P.returned_trace place.new)
         × AreReturnedSame (P.handed_traces place.new) (P.returned_trace place.new))) }
     ensures never_falls { P.faults place.old ≤ P.faults place.new }
     ensures bays { P.handed_bays place.new ≡ P.handed_bays place.old }
 {
-    // The places fit their type, since the number of words does.
-    let _words = words.len();
-    let Ok(mut opened) = VecDeque::with_capacity(alloc, traces.number) else {
+    let Ok(mut opened) = VecDeque::with_capacity(alloc, traces.len()) else {
         return Err(Status::OutOfMemory);
     };
-    for number in 0..traces.number {
-        match place.open_trace(words.word(traces.first + number)) {
+    for number in traces {
+        match place.open_trace(words.word(*number)) {
             Ok(trace) => opened.push_back_reserved(trace),
             Err(Failed) => {
                 put_back_traces(place, opened);

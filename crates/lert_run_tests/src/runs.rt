@@ -10,6 +10,7 @@ use std::thread::Threads;
 mod cones;
 mod crews;
 mod faults;
+mod generated;
 mod reports;
 mod usage;
 

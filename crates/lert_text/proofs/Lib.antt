@@ -1,2 +1,3 @@
+mod Digits
 pub mod Joined
 pub mod Printing

@@ -1,2 +1,3 @@
+pub mod Drill
 pub mod Page
 pub mod StatusLine

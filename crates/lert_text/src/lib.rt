@@ -7,16 +7,19 @@
 
 ghost use Rattle.std.specs.Prelude.{◌≡◌, ◌≤◌, take};
 ghost use Rattle.lert_spec.specs.Lines.{cone_line as cone_text, report_line as report_text, total_line as total_text};
+ghost use Rattle.lert_text.specs.Drill.{drill_line as drill_text};
 
+mod hexadecimal;
 mod page;
 mod pieces;
 mod print;
 mod status;
 
+use crate::hexadecimal::push_hexadecimal;
 use crate::pieces::{push_number, push_text};
 use lert_base::Report;
 pub use page::Page;
-pub use print::{print_cone, print_total};
+pub use print::{print_cone, print_drill_cone, print_total};
 pub use status::status_line;
 
 /// How long a buffer for a line is, in bytes. No line is longer.
@@ -38,6 +41,22 @@ pub fn cone_line(cone: u32, events: u64, reports: u64, closed: bool, into: &mut 
     } else {
         push_text(into, at, b" open\n")
     }
+}
+
+/// The line of a cone after a drill: how many events it has, how many reports, and the exclusive or of the reported keys.
+pub fn drill_line(cone: u32, events: u64, reports: u64, keys: u64, into: &mut [u8; LINE]) -> usize
+    ensures line { take result into.new ≡ drill_text cone events reports keys }
+    ensures within { result ≤ 160 }
+{
+    let at = push_text(into, 0, b"cone ");
+    let at = push_number(into, at, u64::from(cone));
+    let at = push_text(into, at, b" events ");
+    let at = push_number(into, at, events);
+    let at = push_text(into, at, b" reports ");
+    let at = push_number(into, at, reports);
+    let at = push_text(into, at, b" keys ");
+    let at = push_hexadecimal(into, at, keys);
+    push_text(into, at, b"\n")
 }
 
 /// The line of a report: its key and its position.

@@ -6,10 +6,12 @@
 //! The program stands on it.
 #![tactic(auto)]
 
+mod generate;
 mod recover;
 mod reopened_cones;
 mod top;
 
+pub use generate::gen_to;
 pub use lert_ingest::Status;
 pub use lert_place::{MemPlace, Opening, Place, Wanted};
 pub use recover::recover_to;

@@ -12,7 +12,7 @@ use lert_cone::{Cone, ConeRoom};
 use lert_cqf::Cqf;
 use lert_ingest::Status;
 use lert_recover::{ReopenFault, ReopenRefused, reopen};
-use lert_run::{bring_back, make_rooms};
+use lert_run::{bring_back, make_rooms_alone};
 use std::alloc::Global;
 use std::collections::VecDeque;
 
@@ -37,7 +37,7 @@ pub fn reopen_cones<B: Bay>(
     ensures stays_sound_kept { OnErr result (AreSoundStill B.files settings.now bays.old.items bays.new.items) }
     ensures unopened { IfErr result (IsUnopened B.files B.faults settings.now bays.old.items bays.new.items) }
 {
-    let mut rooms = make_rooms(alloc, settings)?;
+    let mut rooms = make_rooms_alone(alloc, settings, settings.cones())?;
     let Ok(mut cones) = Vec::with_capacity(alloc, settings.cones() as usize) else {
         return Err(Status::OutOfMemory);
     };

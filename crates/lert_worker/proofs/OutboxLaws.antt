@@ -1,13 +1,14 @@
 -- What a call of the fleet tells of the cone that it names.
-use Rattle.std.proofs.Common.{◌≡◌, ◌+◌, ℕ, ◌<◌, List, [], length, set, ap, ◌∙◌, subst}
+use Rattle.std.proofs.Common.{Result, Ok, Err, OnOk, IfErr, MatchResult, ◌≡◌, ◌+◌, ℕ, ◌<◌, List, [], length, set, ap, sym, ◌∙◌, subst}
 use Rattle.lert_base.specs.declared.held.Held.{Ghosts as HeldOf}
 use Rattle.lert_base.specs.Packet.{Packet}
 use Rattle.lert_conelock.specs.Sight.{Sight, Acted, Declined}
 use Rattle.lert_fleet.specs.Cones.{FleetSight, FleetPassSight, AtCone}
 use Rattle.lert_buffers.specs.Rings.{Rings, ring_of, with_ring}
+use Rattle.lert_buffers.specs.declared.buffers.Fill.{Fill}
 use Rattle.lert_fleet.proofs.Places.{some_at}
 use Rattle.std.proofs.lemmas.List.{set-set, set-get_or}
-use Rattle.lert_worker.specs.Sending.{AtOwn, WasBusy, WasTaken, WasTurned}
+use Rattle.lert_worker.specs.Sending.{AtOwn, IsBrought, WasBusy, WasTaken, WasTurned, waits_at}
 
 module _ {H T R F : Type 0} (held : HeldOf H T R F) (fleet : FleetSight H) (cone : ℕ) (within : cone < length fleet)
     (packet sent : Packet) (is : packet ≡ sent) (old new : FleetPassSight H F) where
@@ -46,3 +47,10 @@ given_back rings taken after cone keys taken_is keys_are is =
     ∙ (ap (λ r. with_ring r cone keys) taken_is
     ∙ ap (λ (r : List (List ℕ)). record rings { rings = r })
     (set-set rings.rings cone [] keys ∙ (ap (set rings.rings cone) keys_are ∙ set-get_or rings.rings cone [])))
+
+-- what comes of a ring that asks for this
+pub brought_by : {H F : Type 0} (fill is : Fill) → fill ≡ is → (packet : Packet) (cone : ℕ) (rings left : Rings) (old new : FleetPassSight H F) (result : Result (Unit {0}) F)
+    → OnOk result (IsBrought is packet cone rings left old new) → IfErr result (λ fault. AtOwn (WasTurned packet fault (waits_at is)) cone old new)
+    → MatchResult result (λ _. IsBrought fill packet cone rings left old new) (λ fault. AtOwn (WasTurned packet fault (waits_at fill)) cone old new)
+brought_by fill is same packet cone rings left old new (Ok done) brought turned = subst (λ f. IsBrought f packet cone rings left old new) (sym same) brought
+brought_by fill is same packet cone rings left old new (Err fault) brought turned = subst (λ f. AtOwn (WasTurned packet fault (waits_at f)) cone old new) (sym same) turned

@@ -9,6 +9,7 @@ use Rattle.std.proofs.lemmas.Option.{slice_get_within}
 use Rattle.lert_base.specs.Packet.{Packet}
 use Rattle.lert_base.specs.Weave.{IsWhole}
 use Rattle.lert_buffers.specs.Rings.{Rings, fill_of, ring_of, with_ring}
+use Rattle.lert_buffers.specs.declared.buffers.Fill.{Fill}
 use Rattle.lert_buffers.specs.declared.buffers.Fill.TheVariants.{Low, MustGo, Ready}
 use Rattle.lert_conelock.specs.Sight.{Sight}
 use Rattle.lert_fleet.specs.Cones.{FleetPassSight, ChangesOnly}
@@ -17,7 +18,7 @@ use Rattle.lert_spec.specs.declared.numbers.Numbers.{Numbers}
 use Rattle.lert_spec.specs.Mix.{cone_of}
 use Rattle.lert_base.specs.declared.cone_fault.ConeFault.{ConeFault}
 use Rattle.lert_worker.specs.Outbox.{HasRoom, HaveRoom, IsSendable}
-use Rattle.lert_worker.specs.Sending.{AreSent, AtOwn, Goes, Lane, Lanes, SentIn, Stays, WasTaken, WasTurned}
+use Rattle.lert_worker.specs.Sending.{AreSent, AtOwn, Goes, IsBrought, Lane, Lanes, SentIn, Stays, WasTaken, WasTurned, waits_at}
 use Rattle.lert_worker.specs.declared.end.WorkerEnd.TheVariants.{Cone}
 use Rattle.lert_worker.proofs.Counts.{AreWhole, low_short, low_still, must_whole, one_of, ready_short, ready_whole}
 use Rattle.lert_worker.proofs.LaneLaws.{lane_other, lane_same, lane_stays, lane_taken, lane_tried, ringed}
@@ -44,6 +45,11 @@ room_with s rings at keys number room here = λ cone named.
 
 pub room_none : (s : Numbers) (cone : ℕ) → 1 ≤ s.packet → HasRoom s cone []
 room_none s cone some = record { short = omega (arith, some); of_cone = All-nil (λ key. cone_of s key ≡ cone) }
+
+pub waits_few : (fill : Fill) → waits_at fill ≤ 1
+waits_few Low = omega arith
+waits_few Ready = omega arith
+waits_few MustGo = omega arith
 
 -- a ring that got keys and was emptied is empty, and the others are as they were
 pub room_emptied : (s : Numbers) (rings mid after : Rings) (at : ℕ) (keys : List ℕ) → 1 ≤ s.packet → length rings.rings ≡ 2 ^ s.cone_bits → HaveRoom s rings
@@ -88,6 +94,14 @@ module _ (s : Numbers) (some : 1 ≤ s.packet) (rings : Rings) (key at : ℕ) (o
         | inl goes ↦ room_emptied s rings mid after at pushed some number all mid_is goes.rings_are
         | inr stays ↦ subst (HaveRoom s) (sym (stays.rings_are ∙ mid_is)) (room_with s rings at pushed number all (room_ready ready))
       ]
+
+  -- whatever the ring asks for
+  pub room_brought : {H F : Type 0} (fill : Fill) (mid after : Rings) (packet : Packet) (pass next : FleetPassSight H F) → length rings.rings ≡ 2 ^ s.cone_bits → HaveRoom s rings
+      → mid ≡ with_ring rings at pushed → fill ≡ fill_of s.packet (length (ring_of rings at) + 1) → IsBrought fill packet at mid after pass next → HaveRoom s after
+  room_brought Low mid after packet pass next number all mid_is is brought =
+      subst (HaveRoom s) (sym (brought.0 ∙ mid_is)) (room_with s rings at pushed number all (room_low (sym is)))
+  room_brought Ready mid after packet pass next number all mid_is is brought = room_done mid after packet 0 pass next number all mid_is (sym is) brought
+  room_brought MustGo mid after packet pass next number all mid_is is brought = room_emptied s rings mid after at pushed some number all mid_is brought.rings_are
 
   whole_ring : (number trace : ℕ) → AreWhole s.packet (length (ring_of rings at) + 1) → IsWhole s.packet (ringed number trace pushed)
   whole_ring number trace whole = record { times = whole.times; least = whole.least; most = whole.most; keys_are = length_pushed ∙ whole.is }
@@ -178,6 +192,15 @@ module _ (s : Numbers) (some : 1 ≤ s.packet) (rings : Rings) (key at : ℕ) (o
                 (ready_whole s.packet (length (ring_of rings at) + 1) ready) (omega arith)
             | inr stays ↦ take_stays next after only (subst (λ m. Stays at m after pass next) mid_is stays)
           ]
+
+      -- whatever the ring asks for
+      pub took : (fill : Fill) → fill ≡ fill_of s.packet (length (ring_of rings at) + 1)
+          → IsBrought fill (ringed number trace (ring_of mid at)) at mid after pass next → Lanes s number trace 0 (keys ++ key ∷ []) start next after
+      took Low is brought =
+          subst (λ (r : Rings). Lanes s number trace 0 (keys ++ key ∷ []) start next r) (sym (brought.0 ∙ mid_is))
+          (subst (λ (p : FleetPassSight H F). Lanes s number trace 0 (keys ++ key ∷ []) start p (with_ring rings at pushed)) (sym brought.1) (take_low (sym is)))
+      took Ready is brought = took_trying brought (sym is)
+      took MustGo is brought = took_waiting brought (sym is)
 
   module _ {H : Type 0} (number trace : ℕ) (keys : List ℕ) (start pass : FleetPassSight H ConeFault) (lanes : Lanes s number trace 0 keys start pass rings) where
     pub take_turned : (fault : ConeFault) (more below : ℕ) (next : FleetPassSight H ConeFault) → ChangesOnly at pass next

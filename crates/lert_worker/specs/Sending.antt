@@ -1,9 +1,11 @@
 -- How the keys of one trace go to the cones, ring by ring.
-use Rattle.std.specs.Prelude.{◌≡◌, ℕ, ◌+◌, ◌*◌, ◌<◌, ◌≤◌, All, List, [], ◌∷◌, ◌++◌, length, map, sum_by, Some, slice_get}
+use Rattle.std.specs.Prelude.{◌≡◌, ◌⊎◌, ℕ, ◌+◌, ◌*◌, ◌<◌, ◌≤◌, All, List, [], ◌∷◌, ◌++◌, length, map, sum_by, Some, slice_get}
 use Rattle.lert_base.specs.Beginning.{BeginsWith}
 use Rattle.lert_base.specs.Packet.{Packet, events_of}
 use Rattle.lert_base.specs.Weave.{AreCut, IsWhole}
 use Rattle.lert_buffers.specs.Rings.{Rings, ring_of, with_ring}
+use Rattle.lert_buffers.specs.declared.buffers.Fill.{Fill}
+use Rattle.lert_buffers.specs.declared.buffers.Fill.TheVariants.{Low, MustGo, Ready}
 use Rattle.lert_conelock.specs.Sight.{Sight}
 use Rattle.lert_fleet.specs.Cones.{FleetPassSight}
 use Rattle.lert_spec.specs.declared.numbers.Numbers.{Numbers}
@@ -51,6 +53,18 @@ module _ {H F : Type 0} where
   pub record Stays (cone : ℕ) (rings left : Rings) (old new : FleetPassSight H F) : Type 0 where
     pub rings_are : left ≡ rings
     pub at : AtOwn WasBusy cone old new
+
+-- how often a caller waits for a cone whose ring asks for this
+abbrev pub waits_at : Fill → ℕ
+waits_at Low = 0
+waits_at Ready = 0
+waits_at MustGo = 1
+
+-- what comes of a cone's ring that asks for this: four packets go, after one wait; one to three go or stay, with none; others stay
+abbrev pub IsBrought : {H F : Type 0} → Fill → Packet → ℕ → Rings → Rings → FleetPassSight H F → FleetPassSight H F → Type 0
+IsBrought Low packet cone rings left old new = (left ≡ rings) × (new ≡ old)
+IsBrought Ready packet cone rings left old new = Goes packet 0 cone rings left old new ⊎ Stays cone rings left old new
+IsBrought MustGo packet cone rings left old new = Goes packet 1 cone rings left old new
 
 -- a packet of one trace, which may go to a cone
 pub record IsOf (s : Numbers) (number trace : ℕ) (packet : Packet) : Type 0 where

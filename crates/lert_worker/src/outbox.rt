@@ -1,11 +1,11 @@
 //! Keys on their way to the cones.
 
-ghost use Rattle.std.specs.Prelude.{◌≡◌, ◌⊎◌, ◌^◌, ◌<◌, [], IfErr, OnOk};
+ghost use Rattle.std.specs.Prelude.{◌≡◌, ◌⊎◌, ◌^◌, ◌<◌, [], IfErr, MatchResult, OnOk};
 ghost use Rattle.lert_buffers.specs.Rings.{ring_of, with_ring};
 ghost use Rattle.lert_fleet.specs.Cones.{ChangesOnly};
 
 use lert_base::{ConeFault, Entry, Held, Settings};
-use lert_buffers::Buffers;
+use lert_buffers::{Buffers, Fill};
 use lert_fleet::{Fleet, FleetPass, Turn};
 use std::sync::Wait;
 
@@ -19,10 +19,38 @@ pub struct Outbox {
 
 impl Outbox {
     ghost use Rattle.lert_worker.specs.Outbox.{IsIdle, IsResting, IsSame, IsSameOutbox, IsSendable, MaySend};
-    ghost use Rattle.lert_worker.specs.Sending.{AtOwn, Goes, Stays, WasTurned, packet_with};
+    ghost use Rattle.lert_worker.specs.Sending.{AtOwn, Goes, IsBrought, Stays, WasTurned, packet_with, waits_at};
 
-    /// Moves the keys of a cone's ring to the cone as one packet, if no other caller holds its lock just now. A refusal is the cone's.
-    pub fn try_packet<H: Held<Refusal = ConeFault>>(
+    /// Moves the keys of a cone's ring to the cone as its number of keys asks for: four packets in each case, one to three only if
+    /// no other caller holds the cone's lock just now, and other numbers not yet. A refusal is the cone's.
+    pub fn bring<H: Held<Refusal = ConeFault>, R: Wait>(
+        &mut self,
+        rt: &R,
+        fleet: &Fleet<H>,
+        pass: &mut FleetPass<H>,
+        cone: u32,
+        fill: Fill,
+    ) -> Result<(), ConeFault>
+        requires may { MaySend H.Held fleet.now pass.old self.old }
+        requires cone { cone < 2 ^ self.old.settings.cone_bits }
+        requires keys { IsSendable self.old.settings cone (ring_of self.old.rings cone) }
+        ensures may { MaySend H.Held fleet.now pass.new self.new }
+        ensures same { IsSame self.old self.new pass.old pass.new }
+        ensures others { ChangesOnly cone pass.old pass.new }
+        ensures brought { MatchResult result
+            (λ _. IsBrought fill (packet_with self.old (ring_of self.old.rings cone)) cone self.old.rings self.new.rings pass.old pass.new)
+            (λ fault. AtOwn (WasTurned (packet_with self.old (ring_of self.old.rings cone)) fault (waits_at fill)) cone pass.old pass.new) }
+        ensures dropped { IfErr result (λ _. self.new.rings ≡ with_ring self.old.rings cone []) }
+    {
+        match fill {
+            Fill::Low => Ok(()),
+            Fill::Ready => self.try_packet(fleet, pass, cone),
+            Fill::MustGo => self.wait_packet(rt, fleet, pass, cone),
+        }
+    }
+
+    // Moves the keys of a cone's ring to the cone as one packet, if no other caller holds its lock just now. A refusal is the cone's.
+    fn try_packet<H: Held<Refusal = ConeFault>>(
         &mut self,
         fleet: &Fleet<H>,
         pass: &mut FleetPass<H>,

@@ -10,7 +10,6 @@ ghost use Rattle.lert_worker.specs.Trace.{HasReadTrace, HasSentTrace, IsByCone};
 use crate::end::WorkerEnd;
 use crate::outbox::Outbox;
 use lert_base::{ConeFault, Held};
-use lert_buffers::Fill;
 use lert_fleet::{Fleet, FleetPass};
 use lert_io::Source;
 use lert_mixer::cone_of;
@@ -40,16 +39,10 @@ fn take_key<H: Held<Refusal = ConeFault>, R: Wait>(
     ensures by_cone { IfErr result (IsByCone (2 ^ outbox.old.settings.cone_bits)) }
 {
     let cone = cone_of(&outbox.settings, key);
-    match outbox.rings.push(cone, key) {
-        Fill::Low => Ok(()),
-        Fill::Ready => match outbox.try_packet(fleet, pass, cone) {
-            Ok(()) => Ok(()),
-            Err(fault) => Err(WorkerEnd::Cone { cone, fault }),
-        },
-        Fill::MustGo => match outbox.wait_packet(rt, fleet, pass, cone) {
-            Ok(()) => Ok(()),
-            Err(fault) => Err(WorkerEnd::Cone { cone, fault }),
-        },
+    let fill = outbox.rings.push(cone, key);
+    match outbox.bring(rt, fleet, pass, cone, fill) {
+        Ok(()) => Ok(()),
+        Err(fault) => Err(WorkerEnd::Cone { cone, fault }),
     }
 }
 

@@ -114,13 +114,13 @@ pub returns-in-Err-make_cones-clause-fresh : goal.returns-in-Err-make_cones-clau
 returns-in-Err-make_cones-clause-fresh g c = λ past. c.in_default.ensures.fresh
 
 pub make_cones-requires-clause-number : goal.make_cones-requires-clause-number
-make_cones-requires-clause-number g c = c.find_stale.ensures.later.number ∙ c.requires.number
+make_cones-requires-clause-number g c = λ lifetimes outlive. c.find_stale.ensures.later.number ∙ c.requires.number
 
 pub make_cones-requires-clause-room : goal.make_cones-requires-clause-room
-make_cones-requires-clause-room g c = omega (arith, c.find_stale.ensures.room, c.find_stale.ensures.later.number, c.requires.room)
+make_cones-requires-clause-room g c = λ lifetimes outlive. omega (arith, c.find_stale.ensures.room, c.find_stale.ensures.later.number, c.requires.room)
 
 pub make_cones-requires-clause-fresh : goal.make_cones-requires-clause-fresh
-make_cones-requires-clause-fresh g c = c.in_default.ensures.fresh_now
+make_cones-requires-clause-fresh g c = λ lifetimes outlive. c.in_default.ensures.fresh_now
 
 pub returns-clause-fresh : goal.returns-clause-fresh
 returns-clause-fresh g c = λ past. c.in_default.ensures.fresh

@@ -1,6 +1,5 @@
 use Rattle.std.proofs.Common.{◌++◌, [], List, length, refl, ap, sym, ◌∙◌, subst, arith, inl, inr}
 use Rattle.lert_args.specs.Names.{names_of}
-use Rattle.lert_args.proofs.Spelling.{word_at-slice_get}
 use Rattle.lert_io.proofs.Rising.{risen_since}
 use Rattle.lert_io.specs.Fault.{HasRisen}
 use Rattle.lert_place.specs.Openings.{bays_granted, traces_granted}
@@ -11,7 +10,8 @@ use Rattle.lert_ingest.proofs.BayLaws.{are_same}
 use Rattle.lert_run.proofs.AskedLaws.{same_returned}
 use Rattle.lert_run.specs.Asked.{IsNameRefused, traces_opened}
 use Rattle.lert_run.specs.Run.{HasRun}
-use Rattle.lert_run.proofs.AskedLaws.{asked_along, none_returned, none_returned_same, nothing_handed, returned_along, returned_same_along, traces_marked, traces_returned, traces_same}
+use Rattle.lert_run.proofs.AskedLaws.{asked_along, none_returned, none_returned_same, nothing_handed, returned_along, returned_same_along}
+use Rattle.lert_run.proofs.AskedLaws.{traces_marked, traces_returned, traces_same, word_at-slice_get}
 use Rattle.lert_run.proofs.Ending.{no_memory_no_place, no_memory_no_usage, no_place_no_usage}
 use Rattle.lert_run.proofs.RunLaws.{run_none}
 use Rattle.lert_run.proofs.runs.run_line.Goals as goal
@@ -20,7 +20,7 @@ pub returns-in-Err-clause-asked : goal.returns-in-Err-clause-asked
 returns-in-Err-clause-asked g c =
     elim c.in-Err.ensures.refused [
       | inl none ↦ inl (ap g.P.Place.asked none.1 ∙ c.requires.asked, none.0)
-      | inr name ↦ inr (inl (subst (λ xs. IsNameRefused (names_of c.args.words.now c.args.job.traces) xs (g.P.Place.asked c.open_traces.new.place)) c.requires.asked name.2, name.0))
+      | inr name ↦ inr (inl (subst (λ xs. IsNameRefused (names_of c.args.words.now c.args.job.traces.now) xs (g.P.Place.asked c.open_traces.new.place)) c.requires.asked name.2, name.0))
     ]
 
 pub returns-in-Err-clause-place_fault : goal.returns-in-Err-clause-place_fault
@@ -114,7 +114,7 @@ put_back_traces-requires-clause-marked g c = λ lifetimes outlive trace now is.
 
 pub returns-clause-asked : goal.returns-clause-asked
 returns-clause-asked g c =
-    let names = names_of c.args.words.now c.args.job.traces in
+    let names = names_of c.args.words.now c.args.job.traces.now in
     let before = c.in-Ok.ensures.asked ∙ ap (λ xs. xs ++ traces_opened names) c.requires.asked in
     inr (inr (asked_along _ _ _ _ (traces_opened names) _ _ c.run_traces-opened.result.1
     (word_at-slice_get c.args.words.now c.args.job.dir c.word-dir.result.now c.word-dir.ensures) before

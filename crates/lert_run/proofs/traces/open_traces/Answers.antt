@@ -1,13 +1,12 @@
-use Rattle.std.proofs.Common.{◌≡◌, ◌+◌, ◌++◌, ◌∷◌, [], true, false, length, slice_get, refl, inl, inr, ap, sym, ◌∙◌, subst, arith, rules, append_assoc, length-append}
-use Rattle.lert_args.specs.Names.{words_from}
+use Rattle.std.proofs.Common.{◌≡◌, ◌+◌, ◌++◌, ◌∷◌, [], true, false, length, get_or, take, slice_get, refl, inl, inr, ap, sym, ◌∙◌, subst, arith, rules, append_assoc, length-append}
+use Rattle.lert_args.specs.Names.{names_of}
 use Rattle.lert_args.specs.Word.{word_at}
-use Rattle.lert_args.proofs.Spelling.{word_at-slice_get}
 use Rattle.lert_io.proofs.Rising.{risen_since}
 use Rattle.lert_io.specs.Fault.{HasRisen}
 use Rattle.lert_place.specs.Openings.{trace_asked}
 use Rattle.lert_run.proofs.AskedLaws.{all_returned, same_returned}
 use Rattle.lert_run.specs.Asked.{traces_opened}
-use Rattle.lert_run.proofs.AskedLaws.{name_there, names_before, opened_more}
+use Rattle.lert_run.proofs.AskedLaws.{name_there, names_before, opened_more, word_at-slice_get}
 use Rattle.lert_run.proofs.ConeLaws.{each-push}
 use Rattle.lert_run.proofs.traces.open_traces.Goals as goal
 
@@ -16,27 +15,27 @@ returns-in-Err-clause-refused g c =
     let here = c.loop-number.invariant in
     let rose = risen_since (g.P.Faulty.faults c.args.place.now) (g.P.Faulty.faults c.loop-number.place) (g.P.Faulty.faults c.open_trace.new.self) here.falls
     c.open_trace.ensures.cause.never_falls (c.open_trace.ensures.cause.failed (search rules)) in
-    let number = c.loop-number.number in
+    let index = c.loop-number.number-index in
     let words = c.args.words.now in
-    let first = c.args.traces.first in
-    let all = c.args.traces.number in
-    let name = word_at-slice_get words (first + number) c.word.result.now c.word.ensures in
+    let places = c.args.traces.now in
+    let at = get_or places index 0 in
+    let name = word_at-slice_get words at c.word.result.now c.word.ensures in
     let handed = c.put_back_traces.ensures.traces ∙ (c.in-Err.ensures.refused ∙ here.opened) in
     inr (
       refl,
       subst (HasRisen (g.P.Faulty.faults c.args.place.now)) (sym c.put_back_traces.ensures.faults) rose,
       record {
-        number = number;
-        name = word_at words (first + number);
-        named = name_there words first all number c.loop-number-test.true;
+        number = index;
+        name = word_at words at;
+        named = name_there words places index c.loop-number-test.true;
         asked_is =
             c.put_back_traces.ensures.asked
             ∙ (c.in-Err.ensures.asked
             ∙ (ap (λ n. g.P.Place.asked c.loop-number.place ++ trace_asked n false ∷ []) name
-            ∙ (ap (λ xs. xs ++ trace_asked (word_at words (first + number)) false ∷ []) here.asked
-            ∙ (append_assoc (g.P.Place.asked c.args.place.now) (traces_opened (words_from words first number)) (trace_asked (word_at words (first + number)) false ∷ [])
-            ∙ ap (λ names. g.P.Place.asked c.args.place.now ++ (traces_opened names ++ trace_asked (word_at words (first + number)) false ∷ []))
-            (sym (names_before words first all number (omega (arith, c.loop-number-test.true))))))));
+            ∙ (ap (λ xs. xs ++ trace_asked (word_at words at) false ∷ []) here.asked
+            ∙ (append_assoc (g.P.Place.asked c.args.place.now) (traces_opened (names_of words (take index places))) (trace_asked (word_at words at) false ∷ [])
+            ∙ ap (λ names. g.P.Place.asked c.args.place.now ++ (traces_opened names ++ trace_asked (word_at words at) false ∷ []))
+            (sym (names_before words places index))))));
       },
       all_returned g.P.Trace.Faulty.mark c.loop-number.opened.items (g.P.Place.handed_traces c.put_back_traces.new.place) (g.P.Place.returned_trace c.put_back_traces.new.place)
           handed c.put_back_traces.ensures.returned here.marked,
@@ -47,11 +46,12 @@ returns-in-Err-clause-refused g c =
 pub loop-number-preserved : goal.loop-number-preserved
 loop-number-preserved g c =
     let here = c.loop-number.invariant in
-    let number = c.loop-number.number in
+    let index = c.loop-number.number-index in
     let words = c.args.words.now in
-    let first = c.args.traces.first in
+    let places = c.args.traces.now in
+    let at = get_or places index 0 in
     let trace = c.in-Ok-open_trace.trace in
-    let name = word_at-slice_get words (first + number) c.word.result.now c.word.ensures in
+    let name = word_at-slice_get words at c.word.result.now c.word.ensures in
     let items = c.push_back_reserved.ensures.items in
     record {
       opened = c.in-Ok-open_trace.ensures.handed ∙ (ap (λ xs. xs ++ trace ∷ []) here.opened ∙ sym items);
@@ -63,9 +63,9 @@ loop-number-preserved g c =
       asked =
           c.in-Ok-open_trace.ensures.asked
           ∙ (ap (λ n. g.P.Place.asked c.loop-number.place ++ trace_asked n true ∷ []) name
-          ∙ (ap (λ xs. xs ++ trace_asked (word_at words (first + number)) true ∷ []) here.asked
-          ∙ (append_assoc (g.P.Place.asked c.args.place.now) (traces_opened (words_from words first number)) (trace_asked (word_at words (first + number)) true ∷ [])
-          ∙ ap (λ xs. g.P.Place.asked c.args.place.now ++ xs) (sym (opened_more words first number)))));
+          ∙ (ap (λ xs. xs ++ trace_asked (word_at words at) true ∷ []) here.asked
+          ∙ (append_assoc (g.P.Place.asked c.args.place.now) (traces_opened (names_of words (take index places))) (trace_asked (word_at words at) true ∷ [])
+          ∙ ap (λ xs. g.P.Place.asked c.args.place.now ++ xs) (sym (opened_more words places index c.loop-number-test.true)))));
       bays = c.open_trace.ensures.bays ∙ here.bays;
       falls = omega (arith, here.falls, c.open_trace.ensures.cause.never_falls);
     }
@@ -98,7 +98,7 @@ pub returns-clause-never_falls : goal.returns-clause-never_falls
 returns-clause-never_falls g c = c.loop-number.invariant.falls
 
 pub returns-clause-number : goal.returns-clause-number
-returns-clause-number g c = omega (arith, c.loop-number.invariant.number, c.loop-number-test.false, c.loop-number.auto.number-end)
+returns-clause-number g c = omega (arith, c.loop-number.invariant.number, c.loop-number-test.false, c.loop-number.auto.number-index-end)
 
 pub put_back_traces-requires-clause-handed : goal.put_back_traces-requires-clause-handed
 put_back_traces-requires-clause-handed g c = λ lifetimes outlive. ap length (sym (c.in-Err.ensures.refused ∙ c.loop-number.invariant.opened))
@@ -108,6 +108,3 @@ put_back_traces-requires-clause-marked g c = λ lifetimes outlive trace bay is. 
 
 pub put_back_traces-requires-clause-small : goal.put_back_traces-requires-clause-small
 put_back_traces-requires-clause-small g c = omega (arith, c.loop-number.invariant.number, c.loop-number-test.true, c.requires.few)
-
-pub overflow_add-traces : goal.overflow_add-traces
-overflow_add-traces g c = omega (arith, c.len-words.type_inv, c.len-words.ensures, c.loop-number-test.true, c.requires.within)

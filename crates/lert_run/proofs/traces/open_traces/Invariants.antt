@@ -1,6 +1,6 @@
-use Rattle.std.proofs.Common.{◌≡◌, ◌≤◌, ◌++◌, length}
+use Rattle.std.proofs.Common.{◌≡◌, ◌≤◌, ◌++◌, length, take}
 use Rattle.std.specs.VecDeque.{deque_capacity}
-use Rattle.lert_args.specs.Names.{words_from}
+use Rattle.lert_args.specs.Names.{names_of}
 use Rattle.lert_ingest.specs.Bays.{AreMarked}
 use Rattle.lert_run.specs.Asked.{traces_opened}
 use Rattle.lert_run.proofs.traces.open_traces.Given as goal
@@ -9,10 +9,10 @@ use Rattle.lert_run.proofs.traces.open_traces.Given as goal
 abbrev pub invariant-loop-number : goal.invariant-loop-number
 invariant-loop-number g l = record {
   opened : g.P.Place.handed_traces l.place ≡ l.opened.items;
-  number : length l.opened.items ≡ l.number;
-  room : l.traces.number ≤ deque_capacity l.opened;
+  number : length l.opened.items ≡ l.number-index;
+  room : length l.traces ≤ deque_capacity l.opened;
   marked : AreMarked g.P.Trace.Faulty.mark l.opened.items;
-  asked : g.P.Place.asked l.place ≡ g.P.Place.asked l.fn.place ++ traces_opened (words_from l.words l.traces.first l.number);
+  asked : g.P.Place.asked l.place ≡ g.P.Place.asked l.fn.place ++ traces_opened (names_of l.words (take l.number-index l.traces));
   bays : g.P.Place.handed_bays l.place ≡ g.P.Place.handed_bays l.fn.place;
   falls : g.P.Faulty.faults l.fn.place ≤ g.P.Faulty.faults l.place;
 }

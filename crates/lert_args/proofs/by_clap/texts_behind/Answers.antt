@@ -1,0 +1,6 @@
+use Rattle.lert_args.proofs.Loops.{text_more}
+use Rattle.lert_args.proofs.by_clap.texts_behind.Goals as goal
+
+pub loop-number-preserved : goal.loop-number-preserved
+loop-number-preserved c =
+    text_more c.loop-number.texts.items c.push.new.self.items c.word.result c.args.words.now _ c.loop-number.number c.in_ok-push.ensures.items c.word.ensures c.loop-number.invariant

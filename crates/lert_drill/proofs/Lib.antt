@@ -1,0 +1,6 @@
+mod DealtLaws
+mod DrillLaws
+mod DrillTexts
+mod HeavyTimes
+mod NewBays
+mod SameKeys

@@ -1,0 +1,53 @@
+use Rattle.std.proofs.Common.{◌++◌, List, map, Some, refl, ap, sym, ◌∙◌, subst}
+use Rattle.lert_cone.specs.Stands.{Standing}
+use Rattle.lert_drill.specs.Print.{drilled_as}
+use Rattle.lert_drill.proofs.DrillLaws.{finished_fits, lines_same}
+use Rattle.lert_run.specs.Print.{ArePrintable}
+use Rattle.lert_run.proofs.EndLaws.{finished_printable}
+use Rattle.lert_text.specs.Drill.{drill_lines}
+use Rattle.lert_text.specs.Page.{IsCut}
+use Rattle.lert_drill.proofs.cones.finish_and_print.Goals as goal
+
+pub finish_cones-requires-clause-running : goal.finish_cones-requires-clause-running
+finish_cones-requires-clause-running g c = λ number cone is. (c.requires.weaving.1.1 number cone is).state_is
+
+pub print_drill-requires-clause-printable : goal.print_drill-requires-clause-printable
+print_drill-requires-clause-printable g c =
+    subst (ArePrintable c.args.settings.now) (sym c.deref.ensures.value)
+    (finished_printable g.B.Bay.files g.B.Bay.leaves g.B.Faulty.faults g.B.Faulty.mark c.args.cones.now.items c.finish_cones.new.cones.items c.args.settings.now c.requires.weaving.0
+    c.requires.weaving.1.0 c.requires.weaving.1.1 c.requires.number c.in_default.ensures.finished)
+
+pub returns-in-Ok-clause-shows : goal.returns-in-Ok-clause-shows
+returns-in-Ok-clause-shows g c = λ workers seed events weaving.
+    let files = g.B.Bay.files in
+    let leaves = g.B.Bay.leaves in
+    let faults = g.B.Faulty.faults in
+    let mark = g.B.Faulty.mark in
+    let s = c.args.settings.now in
+    let old = c.args.cones.now.items in
+    let new = c.finish_cones.new.cones.items in
+    let are = c.in_default.ensures.finished in
+    let same = lines_same files leaves faults mark s workers seed events old new weaving c.requires.number are c.requires.told in (
+      finished_fits files leaves faults mark s workers seed events old new weaving c.requires.number are c.requires.told,
+      λ text had. c.in-Ok.ensures.ok text had
+          ∙ (ap (λ (xs : List (Standing g.row.B.Denot)). Some (text ++ drill_lines (map drilled_as xs))) c.deref.ensures.value ∙ ap (λ all. Some (text ++ all)) same),
+    )
+
+pub returns-in-Err-print_drill-clause-shows : goal.returns-in-Err-print_drill-clause-shows
+returns-in-Err-print_drill-clause-shows g c = λ workers seed events weaving.
+    let files = g.B.Bay.files in
+    let leaves = g.B.Bay.leaves in
+    let faults = g.B.Faulty.faults in
+    let mark = g.B.Faulty.mark in
+    let s = c.args.settings.now in
+    let old = c.args.cones.now.items in
+    let new = c.finish_cones.new.cones.items in
+    let are = c.in_default.ensures.finished in
+    let start = g.K.Sink.taken c.args.out.now in
+    let end = g.K.Sink.taken c.print_drill.new.out in
+    let same = lines_same files leaves faults mark s workers seed events old new weaving c.requires.number are c.requires.told in (
+      finished_fits files leaves faults mark s workers seed events old new weaving c.requires.number are c.requires.told,
+      c.in-Err-print_drill.ensures.cause.failed refl,
+      subst (IsCut start end) same
+          (subst (λ (xs : List (Standing g.row.B.Denot)). IsCut start end (drill_lines (map drilled_as xs))) c.deref.ensures.value c.in-Err-print_drill.ensures.cut),
+    )

@@ -1,0 +1,3 @@
+pub mod Blocks
+pub mod DealLaws
+pub mod RoundTrip

@@ -1,0 +1,4 @@
+mod HeldLaws
+mod PassLaws
+mod StepLaws
+mod ValueLaws

@@ -1,0 +1,10 @@
+use Rattle.std.proofs.Common.{sym, ◌∙◌, refl}
+use Rattle.lert_args.specs.Said.{behind}
+use Rattle.lert_words_tests.specs.declared.by_hand.Stage.TheVariants.{Behind}
+use Rattle.lert_words_tests.proofs.HeldLaws.{Steps-naming}
+use Rattle.lert_words_tests.proofs.by_hand.read_behind.Goals as goal
+
+pub returns-clause-steps : goal.returns-clause-steps
+returns-clause-steps c s shows =
+    Steps-naming c.args.options.now c.args.given.now _ Behind Behind s c.args.place behind _ shows (sym c.is_late_name.ensures ∙ c.if-not-is_late_name.false) refl
+    c.in_ok-push.ensures.items refl

@@ -1,0 +1,96 @@
+//! Command lines: the rule that each faulty one gets, and where names stand.
+
+use lert_args::{Line, LineFault, read_line};
+use lert_base::Words;
+use lert_io::OutOfMemory;
+use std::alloc::Global;
+use std::test::Fail;
+
+/// The words of a line, which stand in a text with one space between them.
+pub fn words_of(alloc: Global, text: &str) -> Result<Words, OutOfMemory> {
+    let mut words = Words::new(alloc)?;
+    for word in text.split(' ') {
+        words.push(word)?;
+    }
+    Ok(words)
+}
+
+// The rule that a line gets, or none where it is one.
+fn rule_of(alloc: Global, text: &str) -> Result<Option<u8>, OutOfMemory> {
+    match read_line(alloc, &words_of(alloc, text)?) {
+        Ok(_) => Ok(None),
+        Err(LineFault::Usage { rule }) => Ok(Some(rule)),
+        Err(LineFault::OutOfMemory) => Err(OutOfMemory),
+    }
+}
+
+#[test]
+fn faulty_lines_get_their_first_rule(rt: HostRuntime) -> Result<(), Fail> {
+    let rows = [
+        ("", Some(0)),
+        ("run", Some(0)),
+        ("run d", Some(0)),
+        ("run d a --bins", Some(0)),
+        ("run d a --bins=3 --bins 3", Some(0)),
+        ("run d a --bins=", Some(0)),
+        ("run d -", Some(0)),
+        ("run d a -x", Some(0)),
+        ("run d -- a --", Some(0)),
+        ("run d a --seed 1", Some(0)),
+        ("run d a --bins 18446744073709551616", Some(0)),
+        ("recover d a", Some(0)),
+        ("gen d", Some(0)),
+        ("drill --", None),
+        ("run d a --bins 1 --workers 65", Some(2)),
+        ("run d a --workers 65", Some(12)),
+        ("gen --events=4294967296", None),
+        ("gen --events=4294967297", Some(14)),
+        ("drill --events=4194305", Some(14)),
+        ("drill --events=4194305 --workers 0", Some(12)),
+    ];
+    for (line, rule) in rows {
+        assert_eq!(rt; rule_of(rt.alloc(), line)?, rule, "{line}");
+    }
+    Ok(())
+}
+
+// Whether a line is a run with three bins and the other defaults, over the directory that the second word names and the trace
+// that the fifth one does.
+fn is_run_of_three_bins(line: &Line) -> bool {
+    match line {
+        Line::Run {
+            settings,
+            workers,
+            dir,
+            traces,
+        } => {
+            let numbers = settings.numbers();
+            numbers.bins == 3
+                && numbers.base == 4_096
+                && *workers == 4
+                && *dir == 1
+                && traces.as_slice() == [4].as_slice()
+        }
+        _ => false,
+    }
+}
+
+#[test]
+fn a_name_behind_the_options_may_begin_with_a_hyphen(rt: HostRuntime) -> Result<(), Fail> {
+    let words = words_of(rt.alloc(), "run d --bins=003 -- -a")?;
+    let line = read_line(rt.alloc(), &words)
+        .ok()
+        .ok_or("the words are a line")?;
+    assert!(rt; is_run_of_three_bins(&line));
+    Ok(())
+}
+
+#[test]
+fn generated_keys_have_a_seed_and_a_number(rt: HostRuntime) -> Result<(), Fail> {
+    let words = words_of(rt.alloc(), "gen --events 7")?;
+    match read_line(rt.alloc(), &words) {
+        Ok(Line::Gen { seed, events }) => assert_eq!(rt; (seed, events), (1, 7)),
+        _ => assert!(rt; false, "the line is one of generated keys"),
+    }
+    Ok(())
+}

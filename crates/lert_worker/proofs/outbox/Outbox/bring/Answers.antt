@@ -1,0 +1,17 @@
+use Rattle.std.proofs.Common.{rules}
+use Rattle.lert_buffers.specs.Rings.{ring_of}
+use Rattle.lert_buffers.specs.declared.buffers.Fill.TheVariants.{MustGo, Ready}
+use Rattle.lert_worker.specs.Sending.{packet_with}
+use Rattle.lert_worker.proofs.OutboxLaws.{brought_by}
+use Rattle.lert_worker.proofs.outbox.Outbox.bring.Goals as goal
+
+-- both parts are found by search, so that a call of another kind is refused for what it leaves
+pub returns-in-Ready-clause-brought : goal.returns-in-Ready-clause-brought
+returns-in-Ready-clause-brought g c =
+    brought_by c.args.fill Ready c.in-Ready.is (packet_with c.args.self.now (ring_of c.args.self.now.rings c.args.cone)) c.args.cone c.args.self.now.rings _ c.args.pass.now _ _
+    (search rules) (search rules)
+
+pub returns-in-MustGo-clause-brought : goal.returns-in-MustGo-clause-brought
+returns-in-MustGo-clause-brought g c =
+    brought_by c.args.fill MustGo c.in-MustGo.is (packet_with c.args.self.now (ring_of c.args.self.now.rings c.args.cone)) c.args.cone c.args.self.now.rings _ c.args.pass.now _ _
+    (search rules) (search rules)
