@@ -1,0 +1,23 @@
+mod Examples
+pub mod AloneLaws
+pub mod BitLaws
+pub mod BlockBack
+pub mod BlockLaws
+pub mod BlockText
+pub mod EndLaws
+pub mod FieldLaws
+pub mod FillingLaws
+pub mod GroupLaws
+pub mod LengthLaws
+pub mod PartLaws
+pub mod PieceLaws
+pub mod PlaceLaws
+pub mod RoundTrip
+pub mod RunLaws
+pub mod SlotLaws
+pub mod SplitLaws
+pub mod StepLaws
+pub mod WalkBack
+pub mod WalkLaws
+pub mod WalkText
+pub mod WordLaws

@@ -1,0 +1,251 @@
+-- Several writes one behind the other are one write of all their bytes.
+use Rattle.std.proofs.Common.{◌≡◌, ◌≢◌, ℕ, ◌+◌, ◌-◌, ◌<◌, ◌≤◌, List, ◌++◌, length, take, drop, get_or, Option, Some}
+use Rattle.std.proofs.Common.{None, Result, replicate, refl, sym, ap, ◌∙◌, ◌⊎◌, subst, inl, inr, arith, length-append}
+use Rattle.std.specs.Prelude.{OnOk, OnErr, Ok, Err, IsErrOf}
+use Rattle.std.proofs.lemmas.Option.{none-some}
+use Rattle.std.proofs.lemmas.Bool.{cases_lt, cases_eq}
+use Rattle.std.proofs.lemmas.List.{get_or_append_left, get_or-append_right, get_or_past, ext_get_or, length-take-le}
+use lib.ListN.{length-replicate}
+use Rattle.lert_bay.specs.Files.{Files, Turns, Changes, Holds, padded, IsOutside, Torn, LeftByFailure}
+use Rattle.lert_bay.specs.Images.{ComesByWrite, Follow, Elapses}
+use Rattle.lert_bay.specs.Kept.{Bays, KeepsBay}
+use Rattle.lert_bay.specs.Settled.{part}
+use Rattle.lert_bay.proofs.Laid.{length_held, elsewhere_held}
+use Rattle.lert_bay.proofs.KeptLaws.{IsLawful}
+use Rattle.lert_bay.proofs.Settling.{part_torn, part_at, length_part}
+use Rattle.lert_bay.proofs.Tearing.{comes_same, torn_held}
+use Rattle.lert_slotframes.specs.Kept.{Wrote, KeepsOutside}
+
+-- ---- one file
+
+padded_long : (at : ℕ) (old : List ℕ) → at ≤ length (padded old at)
+padded_long at old = omega (arith, length-append old (replicate {A = ℕ} (at - length old) 0), length-replicate {A = ℕ} (at - length old) 0)
+
+-- inside of the bytes laid over it a file reads as they do
+pub inside_held : (at : ℕ) (bytes old new : List ℕ) → Holds at bytes old new → (k : ℕ) → k < length bytes → get_or new (at + k) 0 ≡ get_or bytes k 0
+inside_held at bytes old new held k below =
+    let front = take at (padded old at) in
+    let long : length front ≡ at = length-take-le at (padded old at) (padded_long at old) in
+    ap (λ xs. get_or xs (at + k) 0) held
+    ∙ (get_or_append_left (front ++ bytes) (drop (at + length bytes) old) 0 (at + k) (omega (arith, length-append front bytes, long, below))
+    ∙ (get_or-append_right front bytes at (at + k) 0 long (omega arith)
+    ∙ ap (λ n. get_or bytes n 0) (omega arith)))
+
+-- two writes, the second right behind the first
+pub held_on : (at : ℕ) (first second old middle new : List ℕ) → Holds at first old middle → Holds (at + length first) second middle new → Holds at (first ++ second) old new
+held_on at first second old middle new one two =
+    let whole = take at (padded old at) ++ (first ++ second) ++ drop (at + length (first ++ second)) old in
+    let both : length (first ++ second) ≡ length first + length second = length-append first second in
+    let long : length new ≡ length whole =
+    omega (arith, length_held at first old middle one, length_held (at + length first) second middle new two, length_held at (first ++ second) old whole refl, both) in
+    ext_get_or 0 new whole long (λ place below. elim (cases_lt place at) [
+      | inl before ↦
+          elsewhere_held (at + length first) second middle new two place (inl (omega (arith, before)))
+          ∙ (elsewhere_held at first old middle one place (inl before) ∙ sym (elsewhere_held at (first ++ second) old whole refl place (inl before)))
+      | inr reached ↦ elim (cases_lt place (at + length first)) [
+        | inl in_first ↦
+            let k = place - at in
+            let is : place ≡ at + k = omega (arith, reached) in
+            elsewhere_held (at + length first) second middle new two place (inl in_first)
+            ∙ (ap (λ n. get_or middle n 0) is
+            ∙ (inside_held at first old middle one k (omega (arith, reached, in_first))
+            ∙ (sym (get_or_append_left first second 0 k (omega (arith, reached, in_first)))
+            ∙ (sym (inside_held at (first ++ second) old whole refl k (omega (arith, reached, in_first, both)))
+            ∙ ap (λ n. get_or whole n 0) (sym is)))))
+        | inr past_first ↦ elim (cases_lt place (at + length (first ++ second))) [
+          | inl in_second ↦
+              let k = place - (at + length first) in
+              let is : place ≡ at + length first + k = omega (arith, past_first) in
+              let also : place ≡ at + (length first + k) = omega (arith, past_first) in
+              ap (λ n. get_or new n 0) is
+              ∙ (inside_held (at + length first) second middle new two k (omega (arith, past_first, in_second, both))
+              ∙ (ap (λ n. get_or second n 0) (omega arith)
+              ∙ (sym (get_or-append_right first second (length first) (length first + k) 0 refl (omega arith))
+              ∙ (sym (inside_held at (first ++ second) old whole refl (length first + k) (omega (arith, past_first, in_second, both)))
+              ∙ ap (λ n. get_or whole n 0) (sym also)))))
+          | inr behind ↦
+              elsewhere_held (at + length first) second middle new two place (inr (omega (arith, behind, both)))
+              ∙ (elsewhere_held at first old middle one place (inr past_first) ∙ sym (elsewhere_held at (first ++ second) old whole refl place (inr behind)))
+        ]
+      ]
+    ])
+
+-- a longer range
+outside_less : (at count more place : ℕ) → count ≤ more → IsOutside at more place → IsOutside at count place
+outside_less at count more place fewer (inl before) = inl before
+outside_less at count more place fewer (inr behind) = inr (omega (arith, fewer, behind))
+
+outside_on : (at count more place : ℕ) → IsOutside at (count + more) place → IsOutside (at + count) more place
+outside_on at count more place (inl before) = inl (omega (arith, before))
+outside_on at count more place (inr behind) = inr (omega (arith, behind))
+
+pub torn_wider : (at count more : ℕ) (old new : List ℕ) → count ≤ more → Torn at count old new → Torn at more old new
+torn_wider at count more old new fewer torn = record {
+  no_shorter = torn.no_shorter;
+  no_longer = omega (arith, torn.no_longer, fewer);
+  elsewhere = λ place within outside. torn.elsewhere place within (outside_less at count more place fewer outside);
+}
+
+pub left_wider : (at count more : ℕ) (old new : List ℕ) → count ≤ more → LeftByFailure at count old new → LeftByFailure at more old new
+left_wider at count more old new fewer left = record { torn = torn_wider at count more old new fewer left.torn; gap = left.gap }
+
+pub torn_on : (at count more : ℕ) (old middle new : List ℕ) → Torn at count old middle → Torn (at + count) more middle new → Torn at (count + more) old new
+torn_on at count more old middle new one two = record {
+  no_shorter = omega (arith, one.no_shorter, two.no_shorter);
+  no_longer = omega (arith, one.no_longer, two.no_longer);
+  elsewhere = λ place within outside.
+      two.elsewhere place (omega (arith, within, one.no_shorter)) (outside_on at count more place outside)
+      ∙ one.elsewhere place within (outside_less at count (count + more) place (omega arith) outside);
+}
+
+-- a write, and one behind it that failed
+pub left_on : (at more : ℕ) (first old middle new : List ℕ) → Holds at first old middle → LeftByFailure (at + length first) more middle new →
+    LeftByFailure at (length first + more) old new
+left_on at more first old middle new one two =
+    let torn = torn_on at (length first) more old middle new (torn_held at first old middle one) two.torn in
+    record {
+      torn = torn;
+      gap = λ place past before.
+          two.torn.elsewhere place (omega (arith, before, length_held at first old middle one)) (inl (omega (arith, before)))
+          ∙ (elsewhere_held at first old middle one place (inl before) ∙ get_or_past old place 0 past);
+    }
+
+-- ---- all files
+
+pub changes_on : (file : ℕ) (one two both : List ℕ → List ℕ → Type 0) (old middle new : Files) → ((a b c : List ℕ) → one a b → two b c → both a c) →
+    Changes one file old middle →
+    Changes two file middle new → Changes both file old new
+changes_on file one two both old middle new join first second = record {
+  here = join (old file) (middle file) (new file) first.here second.here;
+  others = λ other apart. second.others other apart ∙ first.others other apart;
+}
+
+pub changes_weaker : (file : ℕ) (step weaker : List ℕ → List ℕ → Type 0) (old new : Files) → ((a b : List ℕ) → step a b → weaker a b) → Changes step file old new →
+    Changes weaker file old new
+changes_weaker file step weaker old new follows changed = record { here = follows (old file) (new file) changed.here; others = changed.others }
+
+pub turns_on : (file : ℕ) (one two both : List ℕ → List ℕ → Type 0) (before middle after : Option Files) → ((a b c : List ℕ) → one a b → two b c → both a c) →
+    Turns (Changes one file) before middle → Turns (Changes two file) middle after → Turns (Changes both file) before after
+turns_on file one two both before middle after join first second = record {
+  told = λ old told.
+      let then = first.told old told in
+      let last = second.told then.0 then.1 in
+      (last.0, last.1, changes_on file one two both old then.0 last.0 join then.2 last.2);
+  untold = λ untold. second.untold (first.untold untold);
+}
+
+pub turns_weaker : (file : ℕ) (step weaker : List ℕ → List ℕ → Type 0) (before after : Option Files) → ((a b : List ℕ) → step a b → weaker a b) →
+    Turns (Changes step file) before after → Turns (Changes weaker file) before after
+turns_weaker file step weaker before after follows turned = record {
+  told = λ old told. let then = turned.told old told in (then.0, then.1, changes_weaker file step weaker old then.0 follows then.2);
+  untold = turned.untold;
+}
+
+-- ---- images
+
+comes_wider : (leaves : Files → Type 0) (file at count more : ℕ) (image : Files) → count ≤ more → ComesByWrite leaves file at count image → ComesByWrite leaves file at more image
+comes_wider leaves file at count more image fewer came =
+    (came.0, came.1, changes_weaker file (Torn at count) (Torn at more) came.0 image (λ a b torn. torn_wider at count more a b fewer torn) came.2)
+
+comes_on : (first middle : Files → Type 0) (file at count next more : ℕ) (image : Files) → next ≡ at + count →
+    ((earlier : Files) → middle earlier → ComesByWrite first file at count earlier) → ComesByWrite middle file next more image → ComesByWrite first file at (count + more) image
+comes_on first middle file at count next more image next_is before came =
+    let earlier = before came.0 came.1 in (
+      earlier.0,
+      earlier.1,
+      changes_on file (Torn at count) (Torn next more) (Torn at (count + more)) earlier.0 came.0 image
+          (λ a b c one two. torn_on at count more a b c one (subst (λ (n : ℕ). Torn n more b c) next_is two)) earlier.2 came.2,
+    )
+
+module _ {B : Type 0} (bays : Bays B) where
+  -- one write
+  pub wrote_once : IsLawful bays → (step : List ℕ → List ℕ → Type 0) (file at count : ℕ) (before after : B) →
+      Turns (Changes step file) (bays.files before) (bays.files after) → Follow (Changes (Torn at count) file) (bays.leaves before) (bays.leaves after) →
+      Elapses (bays.moment before) (bays.moment after) (bays.left_since before) (bays.left_since after) (bays.leaves after) →
+      Wrote bays step file at count before after
+  wrote_once lawful step file at count before after turned follow elapsed = record {
+    seen = turned;
+    images = follow.comes;
+    moments = λ image since. elim (elapsed.known (bays.moment before) image (omega arith) since) [
+      | inl past ↦ comes_same (bays.leaves before) file at count image (lawful.only_now before image past)
+      | inr now ↦ follow.comes image now
+    ];
+  }
+
+  -- a longer range, and less said of the step
+  pub wrote_wider : (step weaker : List ℕ → List ℕ → Type 0) (file at count more : ℕ) (before after : B) →
+      ((a b : List ℕ) → step a b → weaker a b) → count ≤ more → Wrote bays step file at count before after → Wrote bays weaker file at more before after
+  wrote_wider step weaker file at count more before after follows fewer wrote = record {
+    seen = turns_weaker file step weaker (bays.files before) (bays.files after) follows wrote.seen;
+    images = λ image now. comes_wider (bays.leaves before) file at count more image fewer (wrote.images image now);
+    moments = λ image since. comes_wider (bays.leaves before) file at count more image fewer (wrote.moments image since);
+  }
+
+  -- writes, and others right behind them
+  pub wrote_on : (one two both : List ℕ → List ℕ → Type 0) (file at count next more : ℕ) (before between after : B) (First Then : Type 0) →
+      next ≡ at + count → ((a b c : List ℕ) → one a b → two b c → both a c) → KeepsBay bays before between First → KeepsBay bays between after Then →
+      Wrote bays one file at count before between → Wrote bays two file next more between after → Wrote bays both file at (count + more) before after
+  wrote_on one two both file at count next more before between after First Then next_is join kept kept_then first second = record {
+    seen = turns_on file one two both (bays.files before) (bays.files between) (bays.files after) join first.seen second.seen;
+    images = λ image now. comes_on (bays.leaves before) (bays.leaves between) file at count next more image next_is first.images (second.images image now);
+    moments = λ image since. elim (kept_then.time.known (bays.moment before) image kept.time.later since) [
+      | inl past ↦ comes_wider (bays.leaves before) file at count (count + more) image (omega arith) (first.moments image past)
+      | inr later ↦ comes_on (bays.leaves before) (bays.leaves between) file at count next more image next_is first.images (second.moments image later)
+    ];
+  }
+
+  -- what is settled outside of the range stays settled
+  pub kept_outside : (step : List ℕ → List ℕ → Type 0) (file at count end : ℕ) (before after : B) (seen : Files) →
+      at + count ≤ end → Wrote bays step file at count before after → KeepsOutside bays before after seen file at end
+  kept_outside step file at count end before after seen within wrote number from to clear settled image since =
+      let came = wrote.moments image since in
+      elim (cases_eq number file) [
+        | inr other ↦ ap (λ bytes. part bytes from to) (came.2.others number other) ∙ settled.same came.0 came.1
+        | inl same ↦ part_torn at count (came.0 number) (image number) (seen number) from to (subst (λ (n : ℕ). Torn at count (came.0 n) (image n)) (sym same) came.2.here)
+            (settled.same came.0 came.1) settled.within (beside same clear)
+      ]
+    where
+      beside : number ≡ file → (number ≢ file) ⊎ ((to ≤ at) ⊎ (end ≤ from)) → (to ≤ at) ⊎ (at + count ≤ from)
+      beside same (inl other) = absurd (other same)
+      beside same (inr (inl before)) = inl before
+      beside same (inr (inr behind)) = inr (omega (arith, within, behind))
+
+-- ---- what stands in the range
+
+-- the bytes that were laid over a file are there
+pub held_there : (at : ℕ) (bytes old new : List ℕ) → Holds at bytes old new → part new at (at + length bytes) ≡ bytes
+held_there at bytes old new held =
+    let long : length (part new at (at + length bytes)) ≡ length bytes = length_part new at (at + length bytes) (omega (arith, length_held at bytes old new held)) ∙ omega arith in
+    ext_get_or 0 (part new at (at + length bytes)) bytes long (λ k below.
+    part_at new at (at + length bytes) k (omega (arith, below, long)) ∙ inside_held at bytes old new held k (omega (arith, below, long)))
+
+-- a bay that tells its files after calls told them before
+pub turns_back : (step : Files → Files → Type 0) (before after : Option Files) (new : Files) → Turns step before after → after ≡ Some new →
+    (old : Files) × (before ≡ Some old) × step old new
+turns_back step None after new turned told = absurd (none-some new (sym (turned.untold refl) ∙ told))
+turns_back step (Some old) after new turned told =
+    let then = turned.told old refl in
+    let both : Some then.0 ≡ Some new = sym then.1 ∙ told in
+    let same : then.0 ≡ new = cc in
+    (old, refl, subst (λ (files : Files). step old files) same then.2)
+
+-- whichever answer came
+pub on_err : {T E : Type 0} (P : Type 0) (result : Result T E) → P → OnErr result P
+on_err P (Ok _) held = tt
+on_err P (Err _) held = held
+
+pub either_way : {T E : Type 0} (P A B : Type 0) (result : Result T E) → OnOk result A → OnErr result B → (A → P) → (B → P) → P
+either_way P A B (Ok _) ok err from_ok from_err = from_ok ok
+either_way P A B (Err _) ok err from_ok from_err = from_err err
+
+pub on_ok : {T E : Type 0} (P Q : Type 0) (result : Result T E) → OnOk result P → (P → Q) → OnOk result Q
+on_ok P Q (Ok _) held follows = follows held
+on_ok P Q (Err _) held follows = tt
+
+pub on_err_from : {T E : Type 0} (P Q : Type 0) (result : Result T E) → OnErr result P → (P → Q) → OnErr result Q
+on_err_from P Q (Ok _) held follows = tt
+on_err_from P Q (Err _) held follows = follows held
+
+-- an error is the same in any result
+pub same_err : {T U E : Type 0} (x y : E) → IsErrOf {T = T} {E = E} (Err x) y → IsErrOf {T = U} {E = E} (Err x) y
+same_err x y is = let same : x ≡ y = cc in ap (λ e. Err e) same

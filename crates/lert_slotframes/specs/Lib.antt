@@ -1,0 +1,17 @@
+pub mod Bytes
+pub mod Calls
+pub mod Decoded
+pub mod Frame
+pub mod Growing
+pub mod InOrder
+pub mod Kept
+pub mod Laid
+pub mod Outlet
+pub mod Place
+pub mod Reading
+pub mod Spilt
+pub mod Standing
+pub mod Steps
+pub mod ToCome
+pub mod Window
+pub mod Writing
