@@ -121,6 +121,49 @@ check_sound() {
     rm -rf files other_cone no_settings
 }
 
+# Writes a frame of one piece: its number of slots, its word of run ends, and its slots.
+one_block() { printf '\0\0\0\0\0\40\0\0'"$1"'\0\0\0'"$2"'\0\0\0\0\0\0\0'"$3" >files/cone-000.frames; }
+
+# frame_breaks NAME AT: the file of frames is left at this byte.
+frame_breaks() { gives "$1" 1 '' "sound: cone-000: file 2 is broken at byte $2\n" sound files; }
+
+# The files of a cone behind its first flush, twelve keys 1, of which the frame of level 1 counts four.
+check_frames() {
+    local key='\1\0\0\0\0\0\0\0' nothing='\0\0\0\0\0\0\0\0' keys wrong='sound: cone-000:'
+    local slot='\54\313\302\64\374\274\126\0' digit='\2\0\0\0\0\0\0\0' wide='\2\0\0\0\0\0\0\4'
+    has python3 || return
+    keys="$key$key$key$key" && mkdir files
+    printf 'LERTJ\1\0\0\15\0\0\0\40\0\0\0\4\0\0\0\10\0\0\0\3\2\2\0\0\0\0\0' >files/cone-000.journal
+    printf '\1\110\0\0\0'"$nothing$keys$keys"'\1\50\0\0\0'"$nothing$keys"'\0' >>files/cone-000.journal
+    printf 'LERTL\1\0\0\1\40\0\0\0\1\14\0\0\0\0\0\0\0\40\0\0\0\0\0\0\0'"$key"'\1\0\0\0\0\0\0\0' >files/cone-000.log
+    one_block '\3' '\4' "$slot$digit$slot"
+    gives 'files of twelve keys' 0 'cone 0 events 12 n0 12 reports 0 open\n' '' sound files
+    one_block '\2' '\2' "$slot$slot"
+    frame_breaks 'a frame that counts two events of four' 0
+    one_block '\21' '\4' "$slot$digit$slot"
+    frame_breaks 'a frame of more slots than two for each event of a bin' 8
+    one_block '\3' '\5' "$slot$digit$slot"
+    frame_breaks 'a frame of more run ends than runs' 12
+    one_block '\3' '\10' "$slot$digit$slot"
+    frame_breaks 'a run end behind the last slot' 12
+    one_block '\3' '\4' "$slot$nothing$slot"
+    frame_breaks 'a counter without digits' 20
+    one_block '\4' '\10' "$slot$key$digit$slot"
+    frame_breaks 'a counter with a leading digit 0' 20
+    one_block '\3' '\4' "$slot$wide$slot"
+    frame_breaks 'a slot of more bits than a remainder' 28
+    one_block '\3' '\4' "$slot$digit"
+    frame_breaks 'a frame that ends before its last slot' 36
+    one_block '\3' '\4' "$key$digit$key"
+    frame_breaks 'a greater digit without a 0 before it' 28
+    one_block '\4' '\10' "$slot$nothing$nothing$wide"
+    frame_breaks 'a slot of more bits behind a group that is none' 44
+    one_block '\4' '\10' "$key$digit$slot$slot"
+    gives 'a frame of other keys' 1 '' \
+        "$wrong the frame of the positions above 0 up to 4 doesn't hold their counts\n" sound files
+    rm -rf files
+}
+
 # --- tools/measure
 
 # A command that ends with status 3, and below it one with the words of a check of the tests of lert_io.

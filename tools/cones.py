@@ -7,7 +7,6 @@ some seconds.
 from __future__ import annotations
 
 import re
-import struct
 from bisect import bisect_right
 from collections import Counter, defaultdict
 from functools import cache, cached_property
@@ -28,13 +27,13 @@ from formats import (
     packets,
     payloads,
 )
+from slots import Piece, Shape, frame_len, pieces_at, shape_of
 
 SUFFIXES = (".journal", ".log", ".frames")
 JOURNAL, LOG, FRAMES = range(3)
 NAME = re.compile(r"cone-[0-9]{3}")
 FLUSH, CLOSING = 1, 2
 MOST_OFFSET = 1 << 46
-MOST_COUNT = 1 << 47
 
 Read = TypeVar("Read")
 
@@ -97,11 +96,10 @@ class Levels(NamedTuple):
             if one[0] < one[1]:
                 yield one
 
-    def frame_len(self, level: int) -> int:
-        return 4 + 16 * self.span(level)
-
     def frame_place(self, level: int, frame: int) -> int:
-        return (self.bins + 1) * sum(self.frame_len(one) for one in range(1, level)) + frame * self.frame_len(level)
+        """The first byte of a frame. There is one more on a level than bins."""
+        younger = sum(frame_len(self.span(one)) for one in range(1, level))
+        return (self.bins + 1) * younger + frame * frame_len(self.span(level))
 
 
 class Report(NamedTuple):
@@ -242,31 +240,6 @@ class Log:
         return reports
 
 
-def pieces_at(data: bytes, place: int, tails: int, width: int) -> list[tuple[int, int]]:
-    """The pieces of the frame at a place, whose tails are below a limit and whose counts add up to the width."""
-    if place + 4 > len(data):
-        raise Left(len(data))
-    (count,) = struct.unpack_from("<I", data, place)
-    if count > width:
-        raise Left(place)
-    pieces: list[tuple[int, int]] = []
-    for at in range(place + 4, place + 4 + 16 * count, 16):
-        if at + 8 > len(data):
-            raise Left(len(data))
-        (tail,) = struct.unpack_from("<Q", data, at)
-        if tail >= tails or (pieces and tail <= pieces[-1][0]):
-            raise Left(at)
-        if at + 16 > len(data):
-            raise Left(len(data))
-        (times,) = struct.unpack_from("<Q", data, at + 8)
-        if not 1 <= times <= MOST_COUNT:
-            raise Left(at + 8)
-        pieces.append((tail, times))
-    if sum(times for _tail, times in pieces) != width:
-        raise Left(place)
-    return pieces
-
-
 def cones_in(folder: Path) -> list[Path]:
     """The cones of a directory, by their files without suffix, where at least one of the three is there."""
     names = {path.name for path in folder.iterdir()}
@@ -296,19 +269,22 @@ class Cone:
         self.log = Log(header, self.levels)
         self.packets: list[tuple[int, Packet]] = []
         self.events: list[int] = []
-        self.frames: list[tuple[int, int, list[tuple[int, int]]]] = []
+        self.frames: list[tuple[int, int, list[Piece]]] = []
 
     def read(self) -> None:
         in_file(LOG, self.log.read, self.files[LOG])
         in_file(FRAMES, self.read_frames, self.files[FRAMES])
         in_file(JOURNAL, self.read_journal, self.files[JOURNAL])
 
+    def shape(self, level: int) -> Shape:
+        """That of a level's frames."""
+        return shape_of(self.levels.span(level), self.header.cone_bits)
+
     def read_frames(self, data: bytes) -> None:
-        limit = 1 << (64 - self.header.cone_bits)
         for level, frames in enumerate(self.log.directory, 1):
             for (low, high), frame in zip(self.levels.ranges(level, self.log.n0), frames, strict=True):
                 place = self.levels.frame_place(level, frame)
-                self.frames.append((low, high, pieces_at(data, place, limit, high - low)))
+                self.frames.append((low, high, pieces_at(data, place, self.shape(level), high - low)))
 
     def read_journal(self, data: bytes) -> None:
         capacity, n0 = self.levels.capacity(self.header), self.log.n0

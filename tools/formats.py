@@ -1,4 +1,5 @@
-"""The formats of traces and of a cone's files, as docs/FORMATS.md has them, for the tools beside it.
+"""The formats of traces and of a cone's files, as docs/FORMATS.md has them, for the tools beside it. Those of frames
+are in slots.py.
 
 It knows nothing of the program. A whole file is kept in memory.
 """

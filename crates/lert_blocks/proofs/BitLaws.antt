@@ -60,14 +60,16 @@ number_of_bits-word_bits n h = number_of_bits-bits_in 64 n h
 pub number_of_bits-below : (bits : List Bool) → length bits ≡ 64 → number_of_bits bits < 2 ^ 64
 number_of_bits-below bits long = let less = number_of_bits-lt bits in let e : 2 ^ length bits ≡ 2 ^ 64 = ap (λ d. 2 ^ d) long in omega arith
 
--- bits that aren't set, behind others
-number_of_bits-clear : (k : ℕ) → number_of_bits (replicate k false) ≡ 0
-number_of_bits-clear zero = refl
-number_of_bits-clear (suc k) = let ih = number_of_bits-clear k in omega arith
+-- bits that aren't set add nothing behind others
+none_of : (k : ℕ) → number_of_bits (take k []) ≡ 0
+none_of zero = refl
+none_of (suc k) = refl
 
-number_of_bits-behind : (bits : List Bool) (k : ℕ) → number_of_bits (bits ++ replicate k false) ≡ number_of_bits bits
-number_of_bits-behind [] k = number_of_bits-clear k
-number_of_bits-behind (b ∷ bits) k = ap (λ n. cond b 1 0 + 2 * n) (number_of_bits-behind bits k)
+pub number_of_bits-zeros : (k z : ℕ) (bits : List Bool) → number_of_bits (take k (bits ++ replicate z false)) ≡ number_of_bits (take k bits)
+number_of_bits-zeros zero z bits = refl
+number_of_bits-zeros (suc k) zero [] = refl
+number_of_bits-zeros (suc k) (suc z) [] = ap (λ n. 0 + 2 * n) (number_of_bits-zeros k z [] ∙ none_of k)
+number_of_bits-zeros (suc k) z (b ∷ bits) = ap (λ n. cond {A = ℕ} b 1 0 + 2 * n) (number_of_bits-zeros k z bits)
 
 pub trues-cons : (b : Bool) (bits : List Bool) → trues (b ∷ bits) ≡ cond b 1 0 + trues bits
 trues-cons b bits = sum_by-cons (λ b. cond b 1 0) b bits
@@ -118,24 +120,7 @@ words-row_of (w ∷ ws) small =
     (ap number_of_bits (take_at (word_bits w) (row_of ws) 64 long) ∙ number_of_bits-word_bits w (small 0 0 (omega arith)))
     (ap (words (length ws)) (drop_at (word_bits w) (row_of ws) 64 long) ∙ words-row_of ws (λ k d below. small (suc k) d (omega (arith, below))))
 
--- the first of bits that are followed by clear ones, and those behind
-number_of_bits-take_behind : (n k : ℕ) (bits : List Bool) → number_of_bits (take n (bits ++ replicate k false)) ≡ number_of_bits (take n bits)
-number_of_bits-take_behind n k bits =
-    elim (cases_lt n (length bits)) [
-      | inl less ↦ ap number_of_bits (take-append-le n bits (replicate k false) (omega arith))
-      | inr more ↦ (let e : n ≡ length bits + (n - length bits) = omega arith in
-          ap number_of_bits
-          (ap (λ m. take m (bits ++ replicate k false)) e ∙ take-append-add bits (replicate k false) (n - length bits)
-          ∙ ap (λ (bs : List Bool). bits ++ bs) (take_clear (n - length bits) k))
-          ∙ number_of_bits-behind bits (min (n - length bits) k) ∙ ap number_of_bits (sym (take_all n bits more)))
-    ]
-  where
-    take_clear : (n k : ℕ) → take n (replicate k false) ≡ replicate (min n k) false
-    take_clear n k = elim (cases_lt n k) [
-      | inl less ↦ take-replicate n k false (omega arith) ∙ ap (λ m. replicate m false) (let e : n ≡ min n k = omega arith in e)
-      | inr more ↦ take_all n (replicate k false) (rw (length-replicate k false) more) ∙ ap (λ m. replicate m false) (let e : k ≡ min n k = omega arith in e)
-    ]
-
+-- what is behind some of bits that are followed by clear ones
 drop_behind : (n k : ℕ) (bits : List Bool) → drop n (bits ++ replicate k false) ≡ drop n bits ++ replicate (k - (n - length bits)) false
 drop_behind n k bits =
     elim (cases_lt n (length bits)) [
@@ -149,7 +134,7 @@ drop_behind n k bits =
 words-behind : (n k : ℕ) (bits : List Bool) → words n (bits ++ replicate k false) ≡ words n bits
 words-behind zero k bits = refl
 words-behind (suc n) k bits =
-    ap₂ (λ m (rest : List ℕ). m ∷ rest) (number_of_bits-take_behind 64 k bits)
+    ap₂ (λ m (rest : List ℕ). m ∷ rest) (number_of_bits-zeros 64 k bits)
     (ap (words n) (drop_behind 64 k bits) ∙ words-behind n (k - (64 - length bits)) (drop 64 bits))
 
 -- the row of the words of bits has these bits, and behind them clear ones

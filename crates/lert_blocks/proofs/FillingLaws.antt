@@ -13,7 +13,8 @@ use Rattle.lert_blocks.specs.declared.block.Block.{Block}
 use Rattle.byteorder.specs.Endian.{little_bytes}
 use Rattle.lert_blocks.specs.Text.{quotient_of, group_of, slots_of, ends_of, occupied_of, number_of_bits, word_count, words_of, numbers_text, head_text, block_text}
 use Rattle.lert_blocks.specs.Filling.{IsFilled, IsNext}
-use Rattle.lert_blocks.proofs.WordLaws.{number_of_bits-word, words_of-row, drop-row, row_of-append, row_of-zeros}
+use Rattle.lert_blocks.proofs.BitLaws.{number_of_bits-word_bits}
+use Rattle.lert_blocks.proofs.WordLaws.{words_of-row, drop-row, row_of-append, row_of-zeros}
 use Rattle.lert_blocks.proofs.BlockLaws.{ends_before, ends_of-push, last_of, length_ends, occupied_more, occupied_none, put_row_first, put_row_more, slots_of-push}
 
 -- ---- none
@@ -115,7 +116,7 @@ filled_text width block pieces b words slots was within sized fits words_are slo
     let bits = little_bytes 8 (number_of_bits (occupied_of width block pieces)) in
     let count : b.len ≡ length (slots_of width pieces) = omega (arith, was.skipped) in
     ap (λ n. (little_bytes 8 n ++ (little_bytes 4 b.len ++ numbers_text words)) ++ numbers_text slots)
-    (sym (number_of_bits-word b.occupied fits) ∙ ap number_of_bits was.occupied)
+    (sym (number_of_bits-word_bits b.occupied fits) ∙ ap number_of_bits was.occupied)
     ∙ ap (λ n. (bits ++ (little_bytes 4 n ++ numbers_text words)) ++ numbers_text slots) count
     ∙ ap (λ (ns : List ℕ). (bits ++ (little_bytes 4 (length (slots_of width pieces)) ++ numbers_text ns)) ++ numbers_text slots)
     (words_filled width block 0 pieces b was within sized words words_are fit)

@@ -1,4 +1,4 @@
--- Bits as numbers, and as the words of a row.
+-- Rows of words, and their words.
 use Rattle.std.proofs.Common.{◌≡◌, ℕ, suc, zero, ◌+◌, ◌*◌, ◌/◌, ◌%◌, ◌^◌, ◌<◌, ◌≤◌, Bool, true, false, cond, ◌==◌, List, [], ◌∷◌, ◌++◌, length, take, drop, get_or, replicate}
 use Rattle.std.proofs.Common.{refl, sym, ap, ◌∙◌, arith}
 use Rattle.std.proofs.lemmas.Bool.Decides.{nat_tests}
@@ -9,57 +9,7 @@ use Rattle.std.proofs.Math.Nat.{pow-suc, pow-zero}
 use Rattle.lert_slotbits.specs.Bits.{bits_in, word_bits, row_of}
 use Rattle.lert_slotbits.proofs.RowLemmas.{length_word_bits, length_row}
 use Rattle.lert_blocks.specs.Text.{number_of_bits, word_count, words_of}
-
--- ---- the number of bits
-
-parity : (n : ℕ) → cond {A = ℕ} (n % 2 == 1) 1 0 ≡ n % 2
-parity n = grind (arith, nat_tests)
-
-number_of_bits-in : (d n : ℕ) → n < 2 ^ d → number_of_bits (bits_in d n) ≡ n
-number_of_bits-in zero n h = let one = pow-zero 2 in omega arith
-number_of_bits-in (suc d) n h =
-    let twice = pow-suc 2 d in
-    let half = number_of_bits-in d (n / 2) (omega arith) in
-    let bit = parity n in omega arith
-
-pub number_of_bits-word : (n : ℕ) → n < 2 ^ 64 → number_of_bits (word_bits n) ≡ n
-unfolding word_bits
-number_of_bits-word n h = number_of_bits-in 64 n h
-
-first_bit : (b : Bool) (n : ℕ) → ((cond {A = ℕ} b 1 0 + 2 * n) % 2 == 1) ≡ b
-first_bit true n = grind (arith, nat_tests)
-first_bit false n = grind (arith, nat_tests)
-
-more_bits : (b : Bool) (n : ℕ) → (cond {A = ℕ} b 1 0 + 2 * n) / 2 ≡ n
-more_bits true n = omega arith
-more_bits false n = omega arith
-
-bits_in-number : (bits : List Bool) → bits_in (length bits) (number_of_bits bits) ≡ bits
-bits_in-number [] = refl
-bits_in-number (b ∷ bits) =
-    ap (λ n. ((cond {A = ℕ} b 1 0 + 2 * number_of_bits bits) % 2 == 1) ∷ bits_in (length bits) n) (more_bits b (number_of_bits bits))
-    ∙ ap (λ c. c ∷ bits_in (length bits) (number_of_bits bits)) (first_bit b (number_of_bits bits))
-    ∙ ap (λ (bs : List Bool). b ∷ bs) (bits_in-number bits)
-
-pub word_bits-number : (bits : List Bool) → length bits ≡ 64 → word_bits (number_of_bits bits) ≡ bits
-unfolding word_bits
-word_bits-number bits long = ap (λ d. bits_in d (number_of_bits bits)) (sym long) ∙ bits_in-number bits
-
-pub number_of_bits-lt : (bits : List Bool) → number_of_bits bits < 2 ^ length bits
-number_of_bits-lt [] = let one = pow-zero 2 in omega arith
-number_of_bits-lt (true ∷ bits) = let twice = pow-suc 2 (length bits) in let less = number_of_bits-lt bits in omega arith
-number_of_bits-lt (false ∷ bits) = let twice = pow-suc 2 (length bits) in let less = number_of_bits-lt bits in omega arith
-
--- bits that aren't set add nothing behind others
-none_of : (k : ℕ) → number_of_bits (take k []) ≡ 0
-none_of zero = refl
-none_of (suc k) = refl
-
-pub number_of_bits-zeros : (k z : ℕ) (bits : List Bool) → number_of_bits (take k (bits ++ replicate z false)) ≡ number_of_bits (take k bits)
-number_of_bits-zeros zero z bits = refl
-number_of_bits-zeros (suc k) zero [] = refl
-number_of_bits-zeros (suc k) (suc z) [] = ap (λ n. 0 + 2 * n) (number_of_bits-zeros k z [] ∙ none_of k)
-number_of_bits-zeros (suc k) z (b ∷ bits) = ap (λ n. cond {A = ℕ} b 1 0 + 2 * n) (number_of_bits-zeros k z bits)
+use Rattle.lert_blocks.proofs.BitLaws.{number_of_bits-word_bits, number_of_bits-zeros}
 
 -- ---- rows of words
 
@@ -112,5 +62,5 @@ words_of-row bits ws z row fits =
     get_or-map-range_with_len (λ r. number_of_bits (take 64 (drop (64 * r) bits))) 0 (word_count (length bits)) r r 0 within (omega arith)
     ∙ sym (number_of_bits-zeros 64 z (drop (64 * r) bits))
     ∙ ap (λ (bs : List Bool). number_of_bits (take 64 bs)) (sym (drop-append-le (64 * r) bits (replicate z false) (omega arith)) ∙ ap (drop (64 * r)) (sym row))
-    ∙ ap number_of_bits (word_of-row ws r (omega arith)) ∙ number_of_bits-word (get_or ws r 0) (fits r within)
+    ∙ ap number_of_bits (word_of-row ws r (omega arith)) ∙ number_of_bits-word_bits (get_or ws r 0) (fits r within)
     ∙ sym (get_or-take (word_count (length bits)) ws r 0 within))

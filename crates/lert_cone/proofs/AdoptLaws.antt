@@ -9,7 +9,6 @@ use Rattle.lert_base.specs.Packet.{Packet, events_of}
 use Rattle.lert_bay.specs.Files.{Files}
 use Rattle.lert_bay.specs.Settled.{IsSettled}
 use Rattle.lert_frames.specs.Frame.{HoldsFrame}
-use Rattle.lert_frames.specs.Place.{frame_place}
 use Rattle.lert_gatelog.specs.Kept.{InEach, IsWhollySettled}
 use Rattle.lert_rows.specs.declared.bin_at.BinAt.{BinAt}
 use Rattle.lert_levels.specs.Flushed.{InNamed}
@@ -36,10 +35,10 @@ use Rattle.lert_cone.proofs.StepLaws.{journal_since, log_since, frames_since}
 
 -- what the frames of a row hold, from what those of its directory do
 from_frames : (s : Numbers) (events file : List ℕ) (level : ℕ) (row : List BinAt) → HoldFrames s level file (map (λ bin. bin.frame) row) (map (filled s events) (map range_of row)) →
-    All (λ bin. HoldsFrame (frame_place s level bin.frame) file (tallied_in s events bin)) row
-from_frames s events file level [] holds = All-nil (λ (bin : BinAt). HoldsFrame (frame_place s level bin.frame) file (tallied_in s events bin))
+    All (λ bin. HoldsFrame s level bin.frame file (tallied_in s events bin)) row
+from_frames s events file level [] holds = All-nil (λ (bin : BinAt). HoldsFrame s level bin.frame file (tallied_in s events bin))
 from_frames s events file level (bin ∷ row) holds =
-    All-cons (λ (b : BinAt). HoldsFrame (frame_place s level b.frame) file (tallied_in s events b)) bin row holds.0 (from_frames s events file level row holds.1)
+    All-cons (λ (b : BinAt). HoldsFrame s level b.frame file (tallied_in s events b)) bin row holds.0 (from_frames s events file level row holds.1)
 
 -- the frames of a directory are those of the rows that it was read into
 pub bins_there : (s : Numbers) (events : List ℕ) (rows : List (List BinAt)) (directory : List (List ℕ)) (file : List ℕ) → IsAt s (length events) rows → directory ≡ frames_of rows →
@@ -56,10 +55,10 @@ bins_there s events rows directory file at named holds level first last =
     (subst (λ (frames : List ℕ). HoldFrames s level file frames (bins s events level)) frames_are (holds.each level first last)))
 
 -- frames that are settled hold in each image what they hold as a read gives them
-pub frames_settled : (leaves : Files → Type 0) (seen : Files) (s : Numbers) (events : List ℕ) (rows : List (List BinAt)) → AreRows s rows → HoldsBins s events rows (seen 2) →
+pub frames_settled : (leaves : Files → Type 0) (seen : Files) (s : Numbers) (events : List ℕ) (rows : List (List BinAt)) → IsValid s → AreRows s rows → HoldsBins s events rows (seen 2) →
     ((from to : ℕ) → InNamed s rows from to → to ≤ length (seen 2) → IsSettled leaves seen 2 from to) → InEach leaves 2 (HoldsBins s events rows)
-frames_settled leaves seen s events rows are holds settled =
-    frames_since (λ image. image ≡ seen) leaves seen s events rows are refl
+frames_settled leaves seen s events rows valid are holds settled =
+    frames_since (λ image. image ≡ seen) leaves seen s events rows valid are refl
     (λ image is. subst (λ (files : Files). HoldsBins s events rows (files 2)) (sym is) holds)
     (λ from to named here. (settled from to named here.within).same)
 
@@ -163,7 +162,7 @@ module _ (leaves : Files → Type 0) (seen : Files) (s : Numbers) (cone : ℕ) (
     named_is = ap length last.reports_are;
     journal = journal_since leaves seen s cone history sound.journal journal_settled.same;
     log_there = log_since leaves seen s cone records log_end log log_settled.same;
-    frames = frames_settled leaves seen s (take n0 (events_of history)) rows are held named_settled;
+    frames = frames_settled leaves seen s (take n0 (events_of history)) rows valid are held named_settled;
     journal_settled = journal_settled;
     log_settled = log_settled;
     reports_are = last.reports_are ∙ listed;

@@ -82,7 +82,8 @@ module _ (leaves since : Files → Type 0) (seen : Files) (t : Tallied) (log : L
       (others 1 0 (length (seen 1)) (λ same. absurd (omega (arith, same))) up.log_settled)
 
   frames_then : InEach since 2 (HoldsBins t.listing.settings t.listing.events t.rows)
-  frames_then = frames_since leaves since seen t.listing.settings t.listing.events t.rows counted.are read up.frames (λ from to named. others 2 from to (λ same. absurd (omega (arith, same))))
+  frames_then = frames_since leaves since seen t.listing.settings t.listing.events t.rows counted.valid counted.are read up.frames
+      (λ from to named. others 2 from to (λ same. absurd (omega (arith, same))))
 
   pub records_there : InEach leaves 0 (λ bytes. HasPackets (most_payload t.listing.settings) bytes 32 history gate)
   records_there image may = subst (λ (end : ℕ). HasPackets (most_payload t.listing.settings) (image 0) 32 history end) (sym whole.gate_is) (up.journal image may).records

@@ -80,7 +80,7 @@ module _ (leaves : Files → Type 0) (seen : Files) (history : List Packet) (t a
     frames_then =
         frames_beside leaves since seen t.listing.settings t.listing.cone history logged last log.gate payload ending.read ending.journal ending.journal_settled ending.log_there next.is.rules
         payload_here others earlier
-        t.listing.events t.rows before.are ending.frames
+        t.listing.events t.rows before.valid before.are ending.frames
 
     -- in each image of each moment of the append
     pub sound_close : InEach since 1 (IsWithOrWithout (most_record t.listing.settings) 8 (map log_payload_of logged) log.gate payload) → (image : Files) → since image →

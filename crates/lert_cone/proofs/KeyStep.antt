@@ -22,6 +22,7 @@ use Rattle.lert_reports.specs.LogText.{LogRecord, log_payload, log_payload_of}
 use Rattle.lert_spec.specs.declared.numbers.Numbers.{Numbers}
 use Rattle.lert_spec.specs.declared.report.Report.{Report}
 use Rattle.lert_spec.specs.Edges.{edge, capacity}
+use Rattle.lert_spec.specs.Limits.{IsValid}
 use Rattle.lert_spec.specs.Look.{look, closing}
 use Rattle.lert_spec.proofs.LookLaws.{AreKeys}
 use Rattle.lert_spec.proofs.TailLaws.{AreOfCone}
@@ -69,7 +70,7 @@ module _ (leaves since : Files → Type 0) (seen : Files) (history : List Packet
   log_here = log_since since seen t.listing.settings t.listing.cone up.logged log.gate (up.log_there seen read) log_keeps
 
   pub frames_here : InEach since 2 (HoldsBins t.listing.settings t.listing.events t.rows)
-  frames_here = frames_since leaves since seen t.listing.settings t.listing.events t.rows counted.are read up.frames frames_keep
+  frames_here = frames_since leaves since seen t.listing.settings t.listing.events t.rows counted.valid counted.are read up.frames frames_keep
 
   -- they stay sound
   pub sound_here : t.listing.closed ≡ false → IsPartway t.listing.settings history t.listing.events [] → (image : Files) → since image →
@@ -89,8 +90,8 @@ module _ (leaves since : Files → Type 0) (seen : Files) (s : Numbers) (cone : 
   pub journal_beside : InEach since 0 (IsJournal s cone history)
   journal_beside = journal_since since seen s cone history (journal seen read) (others 0 0 (length (seen 0)) (λ same. absurd (omega (arith, same))) journal_settled)
 
-  pub frames_beside : (events : List ℕ) (rows : List (List BinAt)) → AreRows s rows → InEach leaves 2 (HoldsBins s events rows) → InEach since 2 (HoldsBins s events rows)
-  frames_beside events rows are holds = frames_since leaves since seen s events rows are read holds (λ from to named. others 2 from to (λ same. absurd (omega (arith, same))))
+  pub frames_beside : (events : List ℕ) (rows : List (List BinAt)) → IsValid s → AreRows s rows → InEach leaves 2 (HoldsBins s events rows) → InEach since 2 (HoldsBins s events rows)
+  frames_beside events rows valid are holds = frames_since leaves since seen s events rows valid are read holds (λ from to named. others 2 from to (λ same. absurd (omega (arith, same))))
 
   pub log_beside : InEach since 1 (IsWithOrWithout (most_record s) 8 (map log_payload_of logged) gate payload) → (image : Files) → since image →
       HasLog s cone (image 1) logged gate ⊎ HasLog s cone (image 1) (logged ++ one ∷ []) (next_gate gate payload)
@@ -222,10 +223,10 @@ module _ (leaves : Files → Type 0) (seen : Files) (history : List Packet) (t a
           each image may) [
             | inl without ↦ sound_of s cone history t.listing.events t.rows false logged log.gate before.valid before.rows
                 (partway_less t.listing.settings history t.listing.events (key ∷ []) partway)
-                (λ never. absurd (false≢true never)) taken.log_of image journal without (beside t.listing.events t.rows before.are taken.frames_before image may)
+                (λ never. absurd (false≢true never)) taken.log_of image journal without (beside t.listing.events t.rows before.valid before.are taken.frames_before image may)
             | inr with_it ↦ sound_of s cone history (t.listing.events ++ key ∷ []) a.rows false (logged ++ one ∷ []) (next_gate log.gate payload) before.valid
                 (subst (λ n. IsAt t.listing.settings n a.rows) (sym long) rows_at) (partway_more t.listing.settings history t.listing.events key partway)
-                (λ never. absurd (false≢true never)) next.is image journal with_it (beside (t.listing.events ++ key ∷ []) a.rows rows_are frames_new image may)
+                (λ never. absurd (false≢true never)) next.is image journal with_it (beside (t.listing.events ++ key ∷ []) a.rows before.valid rows_are frames_new image may)
           ]
 
       -- and after it
@@ -253,7 +254,7 @@ module _ (leaves : Files → Type 0) (seen : Files) (history : List Packet) (t a
                 after log_after.gate now stands image may);
             frames = λ image may. of_listing (λ s cone events closed. HoldsBins s events a.rows (image 2))
                 (frames_beside leaves since seen s cone history logged one log.gate payload taken.read taken.journal taken.journal_settled taken.log_there next.is.rules payload_here others earlier
-                (t.listing.events ++ key ∷ []) a.rows rows_are frames_new image (now image may));
+                (t.listing.events ++ key ∷ []) a.rows before.valid rows_are frames_new image (now image may));
             journal_settled = journal_settled;
             log_settled = log_settled;
             reports_are = taken.reports_are;

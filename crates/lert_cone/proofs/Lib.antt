@@ -39,3 +39,4 @@ pub mod TallyLaws
 pub mod TimeLaws
 pub mod TotalLaws
 pub mod WroteLaws
+pub mod ConeSend

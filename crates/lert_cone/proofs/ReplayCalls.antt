@@ -48,14 +48,15 @@ seen_as bay made tally events state over gate log last = record {
   last = last;
 }
 
--- a packet that stands at a gate, said of another name of it
-pub held_at : {s : Numbers} {cone most gate at : ℕ} {bytes : List ℕ} {packet : Packet} → gate ≡ at → HoldsPacket s cone most bytes gate packet → HoldsPacket s cone most bytes at packet
-held_at {s} {cone} {most} {gate} {at} {bytes} {packet} is holds = subst (λ g. HoldsPacket s cone most bytes g packet) is holds
+-- a packet that stands at the gate of a journal, said of another name of it
+pub held_at : {s : Numbers} {cone most : ℕ} {journal there : Log} {bytes : List ℕ} {packet : Packet} → journal ≡ there → HoldsPacket s cone most bytes journal.gate packet →
+    HoldsPacket s cone most bytes there.gate packet
+held_at {s} {cone} {most} {journal} {there} {bytes} {packet} is holds = subst (λ (j : Log). HoldsPacket s cone most bytes j.gate packet) is holds
 
 -- a journal that moved on
-pub moved_on : {journal after : Log} {at : ℕ} (payload : List ℕ) → after ≡ record journal { gate = next_gate journal.gate payload } → journal.gate ≡ at →
-    after.gate ≡ next_gate at payload
-moved_on payload moved gate_is = ap (λ (j : Log). j.gate) moved ∙ ap (λ gate. next_gate gate payload) gate_is
+pub moved_on : {journal there after : Log} (payload : List ℕ) → after ≡ record journal { gate = next_gate journal.gate payload } → journal ≡ there →
+    after.gate ≡ next_gate there.gate payload
+moved_on payload moved is = ap (λ (j : Log). j.gate) moved ∙ ap (λ (j : Log). next_gate j.gate payload) is
 
 -- a listing with keys more
 pub listing_more : (old new : Listing) (keys taken : List ℕ) → new ≡ record old { events = new.events } → new.events ≡ old.events ++ taken → taken ≡ keys →
@@ -70,6 +71,18 @@ length_more old new keys events len is counted len_is = omega (arith, len_is, ap
 -- a buffer that was lent keeps its length
 pub refilled : (len : ℕ) (items new : List ℕ) → len ≡ length items → length (take len (new ++ drop (length new) items)) ≡ length items
 refilled len items new len_is = sym (length_refill len items new len_is) ∙ len_is
+
+pub refilled_twice : (len : ℕ) (items read new : List ℕ) → len ≡ length items →
+    length (take len (new ++ drop (length new) (take len (read ++ drop (length read) items)))) ≡ length items
+refilled_twice len items read new len_is =
+    let first = refilled len items read len_is in
+    refilled len (take len (read ++ drop (length read) items)) new (len_is ∙ sym first) ∙ first
+
+-- what was lent then is as long as what stands there
+pub lent_again : (len : ℕ) (items read new lent : List ℕ) → len ≡ length items → lent ≡ take len (read ++ drop (length read) items) → length new ≡ length lent →
+    length new ≡ length (take len (new ++ drop (length new) (take len (read ++ drop (length read) items))))
+lent_again len items read new lent len_is lent_is same =
+    same ∙ ap (length {A = ℕ}) lent_is ∙ refilled len items read len_is ∙ sym (refilled_twice len items read new len_is)
 
 module _ {B : Type 0} (bays : Bays B) (lawful : IsLawful bays) where
   -- what is sound in each image of each moment is so as the bay then reads

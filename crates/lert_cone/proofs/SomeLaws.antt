@@ -6,7 +6,6 @@ use Rattle.std.specs.List.{range_with_len}
 use Rattle.std.proofs.lemmas.List.{take-append-drop, length-take, length-drop}
 use Rattle.std.proofs.lemmas.Slice.{drop-append-drop}
 use Rattle.lert_frames.specs.Frame.{HoldsFrame}
-use Rattle.lert_frames.specs.Place.{frame_place}
 use Rattle.lert_spec.specs.declared.numbers.Numbers.{Numbers}
 use Rattle.lert_spec.specs.Bins.{Bin, bin_at, tallied}
 use Rattle.lert_spec.specs.Edges.{span, edge}
@@ -40,7 +39,7 @@ module _ (s : Numbers) (valid : IsValid s) where
       let end = bins_under n rows at level from within k d below in
       let bin = get_or (row_of rows level) k d in
       let same : tallied_in s events bin ≡ tallied_in s (events ++ others) bin = ap (tallied s) (sym (slice_range-append events others bin.from bin.to (omega (arith, end, len)))) in
-      subst (HoldsFrame (frame_place s level bin.frame) file) same (holds level from within k d below)
+      subst (HoldsFrame s level bin.frame file) same (holds level from within k d below)
 
   some_fewer : (n : ℕ) (rows : List (List BinAt)) (events file : List ℕ) → IsAt s n rows → edge s 0 n ≤ length events → HoldsBins s events rows file → HoldsSome s n rows file
   some_fewer n rows events file at long holds =
@@ -56,7 +55,7 @@ module _ (s : Numbers) (valid : IsValid s) where
             let same : tallied_in s events bin ≡ tallied_in s front bin =
             ap (λ all. tallied s (slice_range all bin.from bin.to)) (sym (take-append-drop e events))
             ∙ ap (tallied s) (slice_range-append front (drop e events) bin.from bin.to (omega (arith, end, len))) in
-            subst (HoldsFrame (frame_place s level bin.frame) file) same (holds level from within k d below));
+            subst (HoldsFrame s level bin.frame file) same (holds level from within k d below));
       }
 
   -- the events that the frames hold, and behind them the newest of others

@@ -1,17 +1,18 @@
 -- The files of a cone between two calls: when they are sound, and what they keep through calls that leave them alone.
-use Rattle.std.proofs.Common.{◌≡◌, ℕ, suc, ◌+◌, ◌-◌, ◌^◌, ◌≤◌, Bool, true, false, cond, List, [], ◌∷◌, ◌++◌, length, take, drop, get_or, map, All, sym, ap}
+use Rattle.std.proofs.Common.{◌≡◌, ℕ, suc, ◌+◌, ◌-◌, ◌≤◌, Bool, true, false, cond, List, [], ◌∷◌, ◌++◌, length, take, drop, get_or, map, All, sym, ap}
 use Rattle.std.proofs.Common.{◌∙◌, subst, inl, inr, ◌⊎◌, arith}
 use Rattle.std.proofs.Common.{length-append, slice_range}
 use Rattle.std.specs.Prelude.{slice_index_or}
-use Rattle.std.proofs.lemmas.Bool.{cases_Bool}
+use Rattle.std.proofs.lemmas.Bool.{cases_Bool, cases_lt}
 use Rattle.std.proofs.lemmas.List.{take-take, take_all, take-append-le, get_or-map, map-append, length-take}
 use Rattle.std.proofs.lemmas.List.Elements.{Contains-get_or}
 use Rattle.lert_base.specs.Packet.{Packet, events_of}
 use Rattle.lert_bay.specs.Files.{Files}
 use Rattle.lert_bay.specs.Settled.{part, Keeps, IsSettled}
-use Rattle.lert_frames.specs.Frame.{HoldsFrame, frame_text, text_len}
+use Rattle.lert_bay.proofs.Settling.{part_none}
+use Rattle.lert_frames.specs.Frame.{HoldsFrame, frame_text}
 use Rattle.lert_frames.specs.Place.{frame_place, frame_len}
-use Rattle.lert_frames.proofs.StoreLaws.{length_frame}
+use Rattle.lert_frames.proofs.FrameLaws.{text_within}
 use Rattle.lert_gatelog.specs.Gated.{IsGated, next_gate}
 use Rattle.lert_gatelog.specs.Kept.{InEach, KeepsBefore, IsWithOrWithout}
 use Rattle.lert_gatelog.proofs.GatedLaws.{gated_behind, part_within, records_ascend}
@@ -28,7 +29,6 @@ use Rattle.lert_spec.specs.Bins.{Bin, bins, tallied}
 use Rattle.lert_spec.specs.Edges.{span}
 use Rattle.lert_spec.specs.Limits.{IsValid}
 use Rattle.lert_spec.specs.Look.{look, closing}
-use Rattle.lert_spec.proofs.Tables.{length_le-total}
 use Rattle.lert_spec.proofs.TallyLaws.{IsTable-tallied, total-tallied}
 use Rattle.lert_cone.specs.Framed.{last_flush, flushed}
 use Rattle.lert_cone.specs.History.{most_payload, end_of}
@@ -71,34 +71,39 @@ log_since since seen s cone logged gate log keeps image may = record {
 }
 
 -- the text of a bin's counts fits its place
-text_fits : (s : Numbers) (events : List ℕ) (level : ℕ) (bin : BinAt) → bin.to - bin.from ≤ span s level → text_len (tallied_in s events bin) ≤ frame_len s level
-text_fits s events level bin narrow =
+text_fits : (s : Numbers) (events : List ℕ) (level : ℕ) (bin : BinAt) → IsValid s → level ≤ s.levels → bin.to - bin.from ≤ span s level →
+    length (frame_text s level (tallied_in s events bin)) ≤ frame_len s level
+text_fits s events level bin valid last narrow =
     let keys = slice_range events bin.from bin.to in
-    omega (arith, length_le-total 0 (2 ^ (64 - s.cone_bits)) (tallied s keys) (IsTable-tallied s keys), total-tallied s keys, length-take (bin.to - bin.from) (drop bin.from events))
+    text_within s level (tallied s keys) valid last (IsTable-tallied s keys) (omega (arith, total-tallied s keys, length-take (bin.to - bin.from) (drop bin.from events), narrow))
 
 -- the frames that rows name hold their bins in each image since, where what is settled in them stays so
-pub frames_since : (leaves since : Files → Type 0) (seen : Files) (s : Numbers) (events : List ℕ) (rows : List (List BinAt)) → AreRows s rows → leaves seen → InEach leaves 2
-    (HoldsBins s events rows) →
+pub frames_since : (leaves since : Files → Type 0) (seen : Files) (s : Numbers) (events : List ℕ) (rows : List (List BinAt)) → IsValid s → AreRows s rows → leaves seen →
+    InEach leaves 2 (HoldsBins s events rows) →
     ((from to : ℕ) → InNamed s rows from to → IsSettled leaves seen 2 from to → Keeps since seen 2 from to) → InEach since 2 (HoldsBins s events rows)
-frames_since leaves since seen s events rows are read holds keeps image may level first last k d below =
+frames_since leaves since seen s events rows valid are read holds keeps image may level first last k d below =
     let bin = get_or (row_of rows level) k d in
     let place = frame_place s level bin.frame in
-    let len = text_len (tallied_in s events bin) in
-    let fits = text_fits s events level bin ((are.each level first last).widths k d below) in
+    let text = frame_text s level (tallied_in s events bin) in
+    let end = place + length text in
+    let fits = text_fits s events level bin valid last ((are.each level first last).widths k d below) in
     let here = holds seen read level first last k d below in
-    let long : length (frame_text (tallied_in s events bin)) ≡ len = length_frame (tallied_in s events bin) in
-    keeps place (place + len)
-    (record { level = level; first = first; last = last; bin = bin; named = Contains-get_or (row_of rows level) k d below; above = omega arith; below = omega (arith, fits) })
-    (record {
-      within = part_within (seen 2) (frame_text (tallied_in s events bin)) place (place + len) here (omega (arith, long)) (omega (arith, long));
-      same = λ other left. holds other left level first last k d below ∙ sym here;
-    }) image may
-    ∙ here
+    elim (cases_lt 0 (length text)) [
+      | inl some ↦
+          keeps place end
+          (record { level = level; first = first; last = last; bin = bin; named = Contains-get_or (row_of rows level) k d below; above = omega arith; below = omega (arith, fits) })
+          (record {
+            within = part_within (seen 2) text place end here (omega arith) some;
+            same = λ other left. holds other left level first last k d below ∙ sym here;
+          }) image may
+          ∙ here
+      | inr none ↦ part_none (image 2) place end (omega (arith, none)) ∙ (sym (part_none (seen 2) place end (omega (arith, none))) ∙ here)
+    ]
 
 -- ---- when they are sound
 
 -- a level's frames, from what its row's bins say
-to_frames : (s : Numbers) (events file : List ℕ) (level : ℕ) (row : List BinAt) → All (λ bin. HoldsFrame (frame_place s level bin.frame) file (tallied_in s events bin)) row →
+to_frames : (s : Numbers) (events file : List ℕ) (level : ℕ) (row : List BinAt) → All (λ bin. HoldsFrame s level bin.frame file (tallied_in s events bin)) row →
     HoldFrames s level file (map (λ bin. bin.frame) row) (map (filled s events) (map range_of row))
 to_frames s events file level [] holds = tt
 to_frames s events file level (bin ∷ row) holds =

@@ -16,7 +16,6 @@ use Rattle.lert_spec.specs.Table.{count_of}
 use Rattle.lert_spec.proofs.EdgeLaws.{span_pos, steps, moves_by_one}
 use Rattle.lert_spec.proofs.LookLaws.{slice_range-append}
 use Rattle.lert_frames.specs.Frame.{HoldsFrame}
-use Rattle.lert_frames.specs.Place.{frame_place}
 use Rattle.lert_rows.specs.declared.bin_at.BinAt.{BinAt}
 use Rattle.lert_rows.specs.Ranges.{Range, ranges, young_bins}
 use Rattle.lert_rows.specs.Rows.{IsAt, HoldsBins, range_of, row_of}
@@ -169,7 +168,7 @@ module _ (s : Numbers) (valid : IsValid s) where
 
     pub frames_more : HoldsBins s events rows file → HoldsBins s (events ++ others) rows file
     frames_more holds level first last k d within =
-        subst (λ keys. HoldsFrame (frame_place s level (get_or (row_of rows level) k d).frame) file (tallied s keys)) (sym (slice_same level first last k d within))
+        subst (λ keys. HoldsFrame s level (get_or (row_of rows level) k d).frame file (tallied s keys)) (sym (slice_same level first last k d within))
         (holds level first last k d within)
 
   -- before the first event no level has a bin

@@ -7,7 +7,6 @@ use Rattle.lert_bay.specs.Kept.{Bays}
 use Rattle.lert_bay.specs.Settled.{part}
 use Rattle.lert_bay.specs.declared.bay.TheConstants.{JOURNAL, LOG, FRAMES}
 use Rattle.lert_frames.specs.Frame.{HoldsFrame}
-use Rattle.lert_frames.specs.Place.{frame_place}
 use Rattle.lert_gatelog.specs.Kept.{IsWhollySettled}
 use Rattle.lert_journal.specs.Header.{header}
 use Rattle.lert_journal.specs.Journal.{HasPackets}
@@ -48,7 +47,7 @@ HoldFrames s level file [] [] = Unit {0}
 HoldFrames s level file [] (bin ∷ bins) = ⊥
 HoldFrames s level file (frame ∷ frames) [] = ⊥
 HoldFrames s level file (frame ∷ frames) (bin ∷ bins) =
-    HoldsFrame (frame_place s level frame) file bin.pieces × HoldFrames s level file frames bins
+    HoldsFrame s level frame file bin.pieces × HoldFrames s level file frames bins
 
 -- those that a directory names hold the bins of each level from 1 on after these events
 pub record HoldsDirectory (s : Numbers) (events : List ℕ) (directory : List (List ℕ)) (file : List ℕ) : Type 0 where

@@ -89,9 +89,9 @@ fn a_failed_flush_or_record_breaks_the_cone_and_leaves_the_packet(
     rt: HostRuntime,
 ) -> Result<(), Fail> {
     let keys = sevens_at(rt.alloc(), 11, &[])?;
-    // Seven calls make the cone, and four append each packet. Behind them stand those of the first flush, and then the
+    // Seven calls make the cone, and four append each packet. Behind them stand the two of the first flush, and then the
     // four that append its record.
-    for call in [56, 57, 58, 59, 60, 61, 62] {
+    for call in [56, 57, 58, 59, 60, 61] {
         let bay = failing(rt.alloc(), call)?;
         let fault = ConeFault::BayFailed;
         let state = ConeState::BrokenByBay;

@@ -13,7 +13,7 @@ pub enum ReopenFault {
     Malformed { file: u8, at: u64 },
     /// The journal was written with another number, or by another cone: these, valid or not.
     OtherSettings { kept: Kept },
-    /// There was no memory. Until bins are read in streams, reading one takes some.
+    /// There was no memory. Until bins are read in streams, a flush takes some.
     OutOfMemory,
 }
 

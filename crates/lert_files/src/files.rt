@@ -27,7 +27,7 @@ use lert_reports::{LogPoint, ReportStore};
 /// record of the log names. The reports of all records come into the store, and the bins of that record into the levels. After
 /// a fault any of these may be in them, and any bytes are in `buffer`.
 ///
-/// Writes nothing. Takes the memory of one bin at a time. Costs a look-up a report, and reads each frame once.
+/// Writes nothing and takes no memory. Costs a look-up a report, and reads each frame once.
 pub fn read_files<B: Bay, T: CountTable>(
     bay: &mut B,
     settings: &Settings,

@@ -1,98 +1,91 @@
--- The first place at which a file leaves a frame.
-use Rattle.std.proofs.Common.{◌≡◌, ◌≢◌, ℕ, zero, suc, ◌+◌, ◌<◌, ◌≤◌, ◌==◌, List, [], ◌∷◌, ◌++◌, length, take, drop, map, min}
-use Rattle.std.proofs.Common.{Option, Some, None, refl, sym, ap, ap₂, ◌∙◌, ◌^◌, arith, length-take, length-drop, zero-add}
-use Rattle.std.specs.Prelude.{if◌then◌else◌}
-use Rattle.std.specs.List.{range_with_len}
-use Rattle.std.proofs.lemmas.Bool.{eq-eqb, ne_eqb}
-use Rattle.byteorder.specs.Endian.{little_bytes}
-use Rattle.byteorder.specs.Numbers.{length-bytes_low_first}
-use Rattle.lert_bay.specs.Files.{CopiesFrom}
+-- The text of a bin's pieces, where it stands at a frame's place, is read back from there.
+use Rattle.std.proofs.Common.{◌≡◌, ℕ, ◌+◌, ◌*◌, ◌<◌, ◌≤◌, ◌^◌, List, [], ◌∷◌, ◌++◌, length, drop, eqb, Option, Some, None}
+use Rattle.std.proofs.Common.{refl, sym, ap, ap₂, ◌∙◌, subst, arith, eq-eqb}
+use Rattle.std.proofs.lemmas.Bool.{cond-true}
+use Rattle.std.proofs.lemmas.List.{drop-take, take-append-drop}
+use Rattle.lert_bay.specs.declared.bay.TheConstants.{FRAMES}
+use Rattle.lert_bay.specs.Files.{Files}
 use Rattle.lert_bay.specs.Settled.{part}
+use Rattle.lert_blocks.specs.Frame.{blocks_found}
+use Rattle.lert_blocks.specs.Text.{slots_of}
+use Rattle.lert_blocks.specs.Walk.{Found}
+use Rattle.lert_blocks.proofs.LengthLaws.{slots_few, text_fits}
+use Rattle.lert_blocks.proofs.RoundTrip.{text_found}
+use Rattle.lert_spec.specs.declared.numbers.Numbers.{Numbers}
 use Rattle.lert_spec.specs.declared.piece.Piece.{Piece}
-use Rattle.lert_spec.specs.Table.{total}
-use Rattle.lert_frames.specs.Frame.{text_len, HoldsFrame, count_at, piece_place, piece_at, piece_left, head_left, pieces_left, sum_left, first_of, frame_left}
-use Rattle.lert_frames.specs.Reading.{AreRead, BreaksFirst}
-use Rattle.lert_frames.proofs.ReadLaws.{part_join, part_is}
+use Rattle.lert_spec.specs.Edges.{span, width, quotient_bits}
+use Rattle.lert_spec.specs.Limits.{IsValid}
+use Rattle.lert_spec.specs.Table.{total, AscendsFrom}
+use Rattle.lert_spec.proofs.LimitLaws.{quotient_bits_by_zeros}
+use Rattle.lert_frames.specs.Frame.{HoldsFrame, IsBin, judged, frame_text, frame_found, frame_left, frame_pieces}
+use Rattle.lert_frames.specs.Place.{block_count, frame_len, most_slots, frame_place, tail_limit}
+use Rattle.lert_frames.specs.ToCome.{left_of, pieces_of, if_whole, told_of}
+use Rattle.lert_frames.specs.declared.reader.FrameReader.{FrameReader}
+use Rattle.lert_frames.proofs.PlaceLaws.{span_half, tails_are}
 
--- the first of several places
-first_at : (f : ℕ → Option ℕ) (a n k at : ℕ) (rest : List (Option ℕ)) → k < n → ((j : ℕ) → j < k → f (a + j) ≡ None) → f (a + k) ≡ Some at →
-    first_of (map f (range_with_len a n) ++ rest) ≡ Some at
-first_at f a zero k at rest within none here = absurd (omega (arith, within))
-first_at f a (suc n) zero at rest within none here =
-    let same : a ≡ a + zero = omega arith in
-    ap (λ x. first_of (x ∷ (map f (range_with_len (a + 1) n) ++ rest))) (ap f same ∙ here)
-first_at f a (suc n) (suc k) at rest within none here =
-    let same : a ≡ a + zero = omega arith in
-    ap (λ x. first_of (x ∷ (map f (range_with_len (a + 1) n) ++ rest))) (ap f same ∙ none zero (omega arith))
-    ∙ first_at f (a + 1) n k at rest (omega (arith, within))
-    (λ j below. ap f (let sum : a + 1 + j ≡ a + suc j = omega arith in sum) ∙ none (suc j) (omega (arith, below)))
-    (ap f (let sum : a + 1 + k ≡ a + suc k = omega arith in sum) ∙ here)
+-- the bits of a remainder
+pub width_within : (s : Numbers) (level : ℕ) → IsValid s → level ≤ s.levels → (24 ≤ width s level) × (width s level ≤ 58)
+width_within s level valid within =
+    let by = quotient_bits_by_zeros s level valid within in
+    let most : quotient_bits s level ≤ 32 = omega (arith, by) in
+    let least : 6 ≤ quotient_bits s level = omega (arith, by.0) in
+    (omega (arith, most, valid.limits.cone_bits_to), omega (arith, least))
 
-none_first : (f : ℕ → Option ℕ) (a n : ℕ) (rest : List (Option ℕ)) → ((j : ℕ) → j < n → f (a + j) ≡ None) → first_of (map f (range_with_len a n) ++ rest) ≡ first_of rest
-none_first f a zero rest none = refl
-none_first f a (suc n) rest none =
-    let same : a ≡ a + zero = omega arith in
-    ap (λ x. first_of (x ∷ (map f (range_with_len (a + 1) n) ++ rest))) (ap f same ∙ none zero (omega arith))
-    ∙ none_first f (a + 1) n rest (λ j below. ap f (let sum : a + 1 + j ≡ a + suc j = omega arith in sum) ∙ none (suc j) (omega (arith, below)))
+-- bytes at a place, and those behind them
+split_at : (file text : List ℕ) (place : ℕ) → part file place (place + length text) ≡ text → drop place file ≡ text ++ drop (length text) (drop place file)
+split_at file text place is =
+    sym (take-append-drop (length text) (drop place file))
+    ∙ ap (λ front. front ++ drop (length text) (drop place file)) (sym (drop-take place (length text) file) ∙ is)
 
-module _ (limit width place : ℕ) (file : List ℕ) where
-  -- the number of pieces breaks a rule
-  pub head_breaks : (at : ℕ) → head_left width place file ≡ Some at → frame_left limit width place file ≡ Some at
-  head_breaks at head = ap (λ x. first_of (x ∷ (pieces_left limit place file ++ sum_left width place file ∷ []))) head
+-- no more slots than fit a block's field
+few_slots : (pieces : List Piece) (slots most : ℕ) → slots + length pieces ≤ most → most ≤ 2 ^ 32 → (pieces ≡ [] → slots ≡ 0) → slots < 2 ^ 32
+few_slots [] slots most few within none = omega (arith, none refl)
+few_slots (p ∷ pieces) slots most few within none = omega (arith, few, within)
 
-  -- a piece does
-  pub piece_breaks : (count at : ℕ) → head_left width place file ≡ None → count ≡ count_at place file → BreaksFirst limit place file count at →
-      frame_left limit width place file ≡ Some at
-  piece_breaks count at head count_is first =
-      ap (λ x. first_of (x ∷ (pieces_left limit place file ++ sum_left width place file ∷ []))) head
-      ∙ first_at (piece_left limit place file) 0 (count_at place file) first.number at (sum_left width place file ∷ []) (omega (arith, first.within, count_is))
-      (λ j below. ap (piece_left limit place file) (zero-add j) ∙ first.fine j below) (ap (piece_left limit place file) (zero-add first.number) ∙ first.here)
+module _ (s : Numbers) (level frame wide : ℕ) (file : List ℕ) (pieces : List Piece) (valid : IsValid s) (last : level ≤ s.levels) (within : wide ≤ span s level)
+    (bin : IsBin (tail_limit s) wide pieces) (holds : HoldsFrame s level frame file pieces) where
+  pub found_is : frame_found s level frame file ≡ record { pieces = pieces; left = None }
+  found_is =
+      let place = frame_place s level frame in
+      let text = frame_text s level pieces in
+      let w = width s level in
+      let bounds = width_within s level valid last in
+      let limit : tail_limit s ≡ 64 * (0 + block_count s level) * 2 ^ w =
+      sym (tails_are s valid level last) ∙ ap (λ n. 64 * n * 2 ^ w) (let same : block_count s level ≡ 0 + block_count s level = omega arith in same) in
+      let up : AscendsFrom 0 (64 * (0 + block_count s level) * 2 ^ w) pieces = subst (λ n. AscendsFrom 0 n pieces) limit bin.given.table in
+      let least : 0 ≡ 64 * 0 * 2 ^ w = omega arith in
+      let few = slots_few w 0 (tail_limit s) pieces (omega (arith, bounds.0)) bin.given.table in
+      let half = span_half s valid level last in
+      let small = few_slots pieces (length (slots_of w pieces)) (2 * total pieces) few (omega (arith, half, within, bin.summed)) (λ none. ap (λ ps. length (slots_of w ps)) none) in
+      ap (blocks_found (block_count s level) w 0 (most_slots s level) place (length file)) (split_at file text place holds)
+      ∙ text_found (block_count s level) w 0 (most_slots s level) place (length file) pieces (drop (length text) (drop place file)) (omega (arith, bounds.0)) bounds.1
+      (subst (λ n. AscendsFrom n (64 * (0 + block_count s level) * 2 ^ w) pieces) least up) bin.given.counts (omega (arith, few, within, bin.summed)) small
 
-  module _ (pieces : List Piece) (head : head_left width place file ≡ None) (count_is : length pieces ≡ count_at place file) (read : AreRead limit place file pieces) where
-    left_is : frame_left limit width place file ≡ first_of (sum_left width place file ∷ [])
-    left_is =
-        ap (λ x. first_of (x ∷ (pieces_left limit place file ++ sum_left width place file ∷ []))) head
-        ∙ none_first (piece_left limit place file) 0 (count_at place file) (sum_left width place file ∷ [])
-        (λ j below. ap (piece_left limit place file) (zero-add j) ∙ read.fine j (omega (arith, below, count_is)))
+  -- it leaves its text nowhere, and these are its pieces
+  pub left_is : frame_left s level frame wide file ≡ None
+  left_is =
+      ap (judged wide (frame_place s level frame)) found_is
+      ∙ cond-true {A = Option ℕ} (eqb (total pieces) wide) None (Some (frame_place s level frame)) (eq-eqb (total pieces) wide bin.summed)
 
-    sum_is : total (map (piece_at place file) (range_with_len 0 (count_at place file))) ≡ total pieces
-    sum_is = ap total (ap (λ n. map (piece_at place file) (range_with_len 0 n)) (sym count_is) ∙ sym read.are)
+  pub pieces_are : frame_pieces s level frame file ≡ pieces
+  pieces_are = ap (λ (found : Found). found.pieces) found_is
 
-    -- the counts add up to another number
-    pub sum_breaks : total pieces ≢ width → frame_left limit width place file ≡ Some place
-    sum_breaks other =
-        left_is ∙ ap (λ b. first_of ((if b then None else Some place) ∷ [])) (ap (λ n. n == width) sum_is ∙ ne_eqb (total pieces) width other)
+  -- a reader that has begun the frame has them to come
+  pub told_begun : (told : Option Files) (seen : Files) (r : FrameReader) → told ≡ Some seen → seen FRAMES ≡ file → left_of r file ≡ frame_left s level frame wide file →
+      pieces_of r file ≡ frame_pieces s level frame file → told_of told r ≡ Some pieces
+  told_begun told seen r is file_is left all =
+      ap (λ told. told_of told r) is
+      ∙ (ap (λ bytes. if_whole (left_of r bytes) (pieces_of r bytes)) file_is ∙ ap₂ if_whole (left ∙ left_is) (all ∙ pieces_are))
 
-    -- nothing does
-    pub none_breaks : total pieces ≡ width → frame_left limit width place file ≡ None
-    none_breaks same =
-        left_is ∙ ap (λ b. first_of ((if b then None else Some place) ∷ [])) (ap (λ n. n == width) sum_is ∙ eq-eqb (total pieces) width same)
-
--- the text of the pieces stands there
-pub holds_frame : (limit place : ℕ) (file : List ℕ) (pieces : List Piece) → part file place (place + 4) ≡ little_bytes 4 (length pieces) → AreRead limit place file pieces →
-    HoldsFrame place file pieces
-holds_frame limit place file pieces number read =
-    let four : length (part file place (place + 4)) ≡ 4 = ap length number ∙ length-bytes_low_first 0 4 (length pieces) in
-    let within : place + 4 ≤ length file = omega (arith, four, length-drop place (take (place + 4) file), length-take (place + 4) file) in
-    ap (part file place) (let sum : place + text_len pieces ≡ piece_place place (length pieces) = omega arith in sum)
-    ∙ (sym (part_join file place (place + 4) (piece_place place (length pieces)) (omega arith) (omega arith) within)
-    ∙ ap₂ (λ xs ys. xs ++ ys) number read.text)
-
--- the number of pieces that was read at the front
-pub head_text : (place read number : ℕ) (head file : List ℕ) → CopiesFrom place read head file → 4 ≤ read → length head ≡ 4 → little_bytes 4 number ≡ take 4 head →
-    part file place (place + 4) ≡ little_bytes 4 number
-head_text place read number head file copied some long number_is =
-    let four : read ≡ 4 = omega (arith, copied.count_is, some, long) in
-    part_is file place 4 (place + 4) refl ∙ (ap (λ n. take n (drop place file)) (sym four) ∙ (sym copied.copied ∙ (ap (λ n. take n head) four ∙ sym number_is)))
-
--- the same of a computed limit and place
-pub left_turned : (limit most width place at : ℕ) (file : List ℕ) (left : Option ℕ) → most + 1 ≡ limit → at ≡ place → frame_left (most + 1) width at file ≡ left →
-    frame_left limit width place file ≡ left
-left_turned limit most width place at file left limit_is place_is is = ap₂ (λ l p. frame_left l width p file) (sym limit_is) (sym place_is) ∙ is
-
--- the sum as far as it is computed
-pub sum_reached : (pieces : List Piece) (sum width : ℕ) → sum ≡ min (total pieces) 18446744073709551615 → width < 2 ^ 42 → sum ≡ width → total pieces ≡ width
-sum_reached pieces sum width sum_is few same = omega (arith, sum_is, few, same)
-
-pub sum_other : (pieces : List Piece) (sum width : ℕ) → sum ≡ min (total pieces) 18446744073709551615 → width < 2 ^ 42 → sum ≢ width → total pieces ≢ width
-sum_other pieces sum width sum_is few other same = other (omega (arith, sum_is, few, same))
+-- the text of pieces that a bin may have fits the frame's place
+pub text_within : (s : Numbers) (level : ℕ) (pieces : List Piece) → IsValid s → level ≤ s.levels → AscendsFrom 0 (tail_limit s) pieces → total pieces ≤ span s level →
+    length (frame_text s level pieces) ≤ frame_len s level
+text_within s level pieces valid last up fits =
+    let w = width s level in
+    let bounds = width_within s level valid last in
+    let limit : tail_limit s ≡ 64 * (0 + block_count s level) * 2 ^ w =
+    sym (tails_are s valid level last) ∙ ap (λ n. 64 * n * 2 ^ w) (let same : block_count s level ≡ 0 + block_count s level = omega arith in same) in
+    let least : 0 ≡ 64 * 0 * 2 ^ w = omega arith in
+    let few = slots_few w 0 (tail_limit s) pieces (omega (arith, bounds.0)) up in
+    let ascends = subst (λ n. AscendsFrom n (64 * (0 + block_count s level) * 2 ^ w) pieces) least (subst (λ n. AscendsFrom 0 n pieces) limit up) in
+    text_fits w 0 (block_count s level) (span s level) pieces ascends (omega (arith, few, fits))

@@ -1,15 +1,15 @@
 -- Places of frames don't overlap, and end early.
-use Rattle.std.proofs.Common.{◌≡◌, ◌≢◌, ℕ, zero, suc, ◌+◌, ◌-◌, ◌*◌, ◌/◌, ◌^◌, ◌<◌, ◌≤◌, ◌⊎◌, inl, inr, ap, sym, subst, arith}
-use Rattle.std.proofs.Math.Nat.{mul-le-mul_left, mul-le-mul_right}
-use Rattle.std.proofs.lemmas.Bool.{cases_order}
+use Rattle.std.proofs.Common.{◌≡◌, ◌≢◌, ℕ, zero, suc, ◌+◌, ◌-◌, ◌*◌, ◌/◌, ◌^◌, ◌<◌, ◌≤◌, ◌⊎◌, inl, inr, ap, sym, ◌∙◌, subst, arith}
+use Rattle.std.proofs.Math.Nat.{mul-le-mul_left, mul-le-mul_right, one-le-pow}
+use Rattle.std.proofs.lemmas.Bool.{cases_lt, cases_order}
+use Rattle.std.proofs.lemmas.Nat.{leading_top, mul-le, pow-add, pow_pos}
 use Rattle.std.proofs.lemmas.Nat.Bits.{ones_shr}
-use Rattle.std.proofs.lemmas.Nat.{pow_pos}
 use Rattle.lert_spec.specs.declared.numbers.Numbers.{Numbers}
-use Rattle.lert_spec.specs.Edges.{span, spans}
+use Rattle.lert_spec.specs.Edges.{span, spans, quotient_bits, width}
 use Rattle.lert_spec.specs.Limits.{IsValid}
 use Rattle.lert_spec.proofs.EdgeLaws.{span_pos}
-use Rattle.lert_spec.proofs.LimitLaws.{span_grows}
-use Rattle.lert_frames.specs.Place.{frame_len, frame_lens, frame_place}
+use Rattle.lert_spec.proofs.LimitLaws.{span_grows, quotient_bits_by_zeros}
+use Rattle.lert_frames.specs.Place.{block_count, frame_len, frame_lens, frame_place, tail_limit}
 
 -- one level more
 pub frame_lens-more : (s : Numbers) (level : ℕ) → 1 ≤ level → frame_lens s (level - 1) + frame_len s level ≡ frame_lens s level
@@ -25,11 +25,6 @@ frame_lens_grow s low (suc high) below = elim (cases_order low (suc high)) [
   | inr (inr more) ↦ absurd (omega (arith, more, below))
 ]
 
--- each level has sixteen bytes an event, and four more
-lens_by_spans : (s : Numbers) (level : ℕ) → frame_lens s level ≤ 4 * level + 16 * spans s level
-lens_by_spans s zero = omega arith
-lens_by_spans s (suc level) = let h = lens_by_spans s level in omega (arith, h)
-
 -- one span is no more than all up to it
 span_of_spans : (s : Numbers) (level : ℕ) → span s level ≤ spans s level
 span_of_spans s zero = omega arith
@@ -42,13 +37,8 @@ module _ (s : Numbers) (valid : IsValid s) where
       let more = mul-le-mul_right (spans s s.levels) (let two : 1 ≤ s.bins - 1 = omega (arith, valid.limits.bins_from) in two) in
       omega (arith, more, valid.positions_fit)
 
-  all_lens : frame_lens s s.levels ≤ 2 ^ 37
-  all_lens = omega (arith, lens_by_spans s s.levels, all_spans, valid.limits.levels_to)
-
-  pub all_places : (s.bins + 1) * frame_lens s s.levels < 2 ^ 42
-  all_places =
-      let more = mul-le-mul_right (frame_lens s s.levels) (let few : s.bins + 1 ≤ 17 = omega (arith, valid.limits.bins_to) in few) in
-      omega (arith, more, all_lens)
+  spans_from : (level : ℕ) → 4 ≤ span s level
+  spans_from level = mul-le 4 1 s.base (s.ratio ^ level) valid.limits.base_from (one-le-pow level s.ratio (omega (arith, valid.limits.ratio_from)))
 
   pub span_fits : (level : ℕ) → level ≤ s.levels → span s level < 2 ^ 32
   span_fits level within =
@@ -56,6 +46,57 @@ module _ (s : Numbers) (valid : IsValid s) where
       let last = span_of_spans s s.levels in
       let some = span_pos s s.levels (omega (arith, valid.limits.base_from)) (omega (arith, valid.limits.ratio_from)) in
       omega (arith, span_grows s level s.levels (omega (arith, valid.limits.ratio_from)) within, valid.positions_fit, more, last, some)
+
+  -- a level has as many quotients as a span has events, fewer than twice as many, or 64
+  pub quotients_few : (level : ℕ) → level ≤ s.levels → 2 ^ quotient_bits s level ≤ 64 + 2 * span s level
+  quotients_few level within =
+      let by = quotient_bits_by_zeros s level valid within in
+      let wide = span_fits level within in
+      let some = spans_from level in
+      let top = leading_top 64 (span s level - 1) (omega arith) (omega arith) in
+      elim (cases_lt 6 (suc top.0)) [
+        | inl above ↦ let is : quotient_bits s level ≡ suc top.0 = omega (arith, by.0, top.1) in
+            let power = ap (λ n. 2 ^ n) is in omega (arith, power, top.2)
+        | inr below ↦ let is : quotient_bits s level ≡ 6 = omega (arith, by.0, top.1) in
+            let power = ap (λ n. 2 ^ n) is in omega (arith, power)
+      ]
+
+  pub span_half : (level : ℕ) → level ≤ s.levels → 2 * span s level ≤ 2 ^ 32
+  span_half level within =
+      let more = mul-le-mul_right (spans s s.levels) (let two : 1 ≤ s.bins - 1 = omega (arith, valid.limits.bins_from) in two) in
+      let last = span_of_spans s s.levels in
+      omega (arith, span_grows s level s.levels (omega (arith, valid.limits.ratio_from)) within, valid.positions_fit, more, last)
+
+  -- the blocks of a level have its quotients, and these and the remainders are the tails
+  pub blocks_are : (level : ℕ) → level ≤ s.levels → 64 * block_count s level ≡ 2 ^ quotient_bits s level
+  blocks_are level within =
+      let q = quotient_bits s level in
+      let from : 6 ≤ q = omega (arith, (quotient_bits_by_zeros s level valid within).0) in
+      let split : 2 ^ q ≡ 2 ^ 6 * 2 ^ (q - 6) = (let sum : q ≡ 6 + (q - 6) = omega (arith, from) in ap (λ n. 2 ^ n) sum) ∙ pow-add 2 6 (q - 6) in
+      omega (arith, split)
+
+  pub tails_are : (level : ℕ) → level ≤ s.levels → 64 * block_count s level * 2 ^ width s level ≡ tail_limit s
+  tails_are level within =
+      let q = quotient_bits s level in
+      let most : q ≤ 32 = omega (arith, (quotient_bits_by_zeros s level valid within)) in
+      let sum : q + width s level ≡ 64 - s.cone_bits = omega (arith, most, valid.limits.cone_bits_to) in
+      ap (λ n. n * 2 ^ width s level) (blocks_are level within) ∙ (sym (pow-add 2 q (width s level)) ∙ ap (λ n. 2 ^ n) sum)
+
+  -- each level has at most seventeen bytes an event, and twenty more
+  frame_len_within : (level : ℕ) → level ≤ s.levels → frame_len s level ≤ 20 + 17 * span s level
+  frame_len_within level within = let few = quotients_few level within in omega (arith, few)
+
+  lens_by_spans : (level : ℕ) → level ≤ s.levels → frame_lens s level ≤ 20 * level + 17 * spans s level
+  lens_by_spans zero within = omega arith
+  lens_by_spans (suc level) within = let h = lens_by_spans level (omega (arith, within)) in let one = frame_len_within (suc level) within in omega (arith, h, one)
+
+  all_lens : frame_lens s s.levels ≤ 2 ^ 37
+  all_lens = omega (arith, lens_by_spans s.levels (omega arith), all_spans, valid.limits.levels_to)
+
+  pub all_places : (s.bins + 1) * frame_lens s s.levels < 2 ^ 42
+  all_places =
+      let more = mul-le-mul_right (frame_lens s s.levels) (let few : s.bins + 1 ≤ 17 = omega (arith, valid.limits.bins_to) in few) in
+      omega (arith, more, all_lens)
 
   -- the bytes of some levels
   pub places_within : (level : ℕ) → level ≤ s.levels → (s.bins + 1) * frame_lens s level < 2 ^ 42

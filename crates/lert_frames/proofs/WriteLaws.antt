@@ -112,7 +112,7 @@ left_on at more first old middle new one two =
 
 -- ---- all files
 
-changes_on : (file : ℕ) (one two both : List ℕ → List ℕ → Type 0) (old middle new : Files) → ((a b c : List ℕ) → one a b → two b c → both a c) →
+pub changes_on : (file : ℕ) (one two both : List ℕ → List ℕ → Type 0) (old middle new : Files) → ((a b c : List ℕ) → one a b → two b c → both a c) →
     Changes one file old middle →
     Changes two file middle new → Changes both file old new
 changes_on file one two both old middle new join first second = record {
@@ -120,7 +120,7 @@ changes_on file one two both old middle new join first second = record {
   others = λ other apart. second.others other apart ∙ first.others other apart;
 }
 
-changes_weaker : (file : ℕ) (step weaker : List ℕ → List ℕ → Type 0) (old new : Files) → ((a b : List ℕ) → step a b → weaker a b) → Changes step file old new →
+pub changes_weaker : (file : ℕ) (step weaker : List ℕ → List ℕ → Type 0) (old new : Files) → ((a b : List ℕ) → step a b → weaker a b) → Changes step file old new →
     Changes weaker file old new
 changes_weaker file step weaker old new follows changed = record { here = follows (old file) (new file) changed.here; others = changed.others }
 

@@ -1,12 +1,20 @@
 -- Where frames stand in the file of frames, from the settings alone. Level j has one place more than bins, and the
 -- places of younger levels stand before those of older ones.
-use Rattle.std.specs.Prelude.{ℕ, zero, suc, ◌+◌, ◌-◌, ◌*◌, ◌^◌}
+use Rattle.std.specs.Prelude.{ℕ, zero, suc, ◌+◌, ◌-◌, ◌*◌, ◌/◌, ◌^◌}
 use Rattle.lert_spec.specs.declared.numbers.Numbers.{Numbers}
-use Rattle.lert_spec.specs.Edges.{span}
+use Rattle.lert_spec.specs.Edges.{span, quotient_bits}
 
--- the bytes of a place of a level: a number of pieces, and as many pieces as a bin's span has events
+-- the blocks of a frame of a level: each has 64 of the level's quotients
+abbrev pub block_count : Numbers → ℕ → ℕ
+block_count s level = 2 ^ quotient_bits s level / 64
+
+-- the most slots that a frame of a level has: two for each event of a bin
+abbrev pub most_slots : Numbers → ℕ → ℕ
+most_slots s level = 2 * span s level
+
+-- the bytes of a place of a level: those of the fields of its blocks, of its slots, and of the words of their run ends
 abbrev pub frame_len : Numbers → ℕ → ℕ
-frame_len s level = 4 + 16 * span s level
+frame_len s level = 20 * block_count s level + 16 * span s level + 8 * (span s level / 32)
 
 -- those of one place of each level from 1 up to this one, together
 abbrev pub frame_lens : Numbers → ℕ → ℕ

@@ -1,29 +1,61 @@
--- The pieces of a frame that were read so far.
-use Rattle.std.specs.Prelude.{◌≡◌, ℕ, ◌+◌, ◌<◌, ◌≤◌, ◌^◌, List, length, map, flat_map, Some, None}
-use Rattle.std.specs.List.{range_with_len}
-use Rattle.lert_bay.specs.Settled.{part}
-use Rattle.lert_frames.specs.Frame.{piece_text, piece_of, piece_place, piece_at, piece_left, fields_left}
+-- What a reader of a frame keeps, and what is to come of it.
+use Rattle.std.specs.Prelude.{◌≡◌, ℕ, ◌+◌, ◌-◌, ◌≤◌, nat_lt, if◌then◌else◌, List, length, ◌++◌, drop, Option, Some, None}
+use Rattle.std.proofs.Props.{props}
+use Rattle.lert_blocks.specs.Walk.{Found}
+use Rattle.lert_frames.specs.Decoded.{decoder_floor, decoder_limit}
+use Rattle.lert_frames.specs.Frame.{judged}
+use Rattle.lert_frames.specs.Place.{tail_limit}
+use Rattle.lert_frames.specs.declared.decoder.Decoder.{Decoder}
+use Rattle.lert_frames.specs.declared.reader.Sum.{Sum}
+use Rattle.lert_frames.specs.declared.reader.Sum.TheVariants.{Left, Over}
+use Rattle.lert_spec.specs.declared.numbers.Numbers.{Numbers}
 use Rattle.lert_spec.specs.declared.piece.Piece.{Piece}
+use Rattle.lert_spec.specs.Limits.{IsValid}
+use Rattle.lert_spec.specs.Table.{total, AreGiven}
+use Rattle.lert_spec.proofs.GivenLaws.{given_prop}
 
--- they are the first ones of the file, none of them breaks a rule, and the file has their text
-pub record AreRead (limit place : ℕ) (file : List ℕ) (pieces : List Piece) : Type 0 where
-  pub are : pieces ≡ map (piece_at place file) (range_with_len 0 (length pieces))
-  pub fine : (n : ℕ) → n < length pieces → piece_left limit place file n ≡ None
-  pub text : part file (place + 4) (piece_place place (length pieces)) ≡ flat_map piece_text pieces
+-- where a rule is broken, of what is found: at the frame's first byte, where only the sum isn't what is left, or where
+-- more came before
+abbrev pub if_over : ℕ → Option ℕ → Option ℕ
+if_over place (Some at) = Some at
+if_over place None = Some place
 
--- the first piece that breaks a rule is one of the first `most`, and breaks it at this place
-pub record BreaksFirst (limit place : ℕ) (file : List ℕ) (most at : ℕ) : Type 0 where
-  pub number : ℕ
-  pub within : number < most
-  pub fine : (n : ℕ) → n < number → piece_left limit place file n ≡ None
-  pub here : piece_left limit place file number ≡ Some at
+abbrev pub verdict : Sum → ℕ → Found → Option ℕ
+verdict (Left n) place found = judged n place found
+verdict Over place found = if_over place found.left
 
--- bytes at `at` are this piece, its tail at least `least`, of a file of `end` bytes
-pub record IsPiece (least limit at end : ℕ) (bytes : List ℕ) (piece : Piece) : Type 0 where
-  pub whole : fields_left least limit at end bytes ≡ None
-  pub is : piece ≡ piece_of bytes
-  pub long : 16 ≤ length bytes
-  pub above : least ≤ piece.tail
-  pub below : piece.tail < limit
-  pub some : 1 ≤ piece.count
-  pub few : piece.count ≤ 2 ^ 47
+-- the sum of what was given and decoded is that of the bin, less what is left
+abbrev pub SumsUp : ℕ → ℕ → Sum → Type 0
+SumsUp wide decoded (Left n) = decoded + n ≡ wide
+SumsUp wide decoded Over = decoded ≤ wide
+
+-- what is left behind more pieces, and which are kept of those decoded: none from the one on that is too many
+abbrev pub sum_less : Sum → List Piece → Sum
+sum_less (Left n) put = if nat_lt n (total put) then Over else Left (n - total put)
+sum_less Over put = Over
+
+abbrev pub pieces_kept : Sum → List Piece → List Piece → List Piece
+pieces_kept (Left n) before put = before ++ put
+pieces_kept Over before put = before
+
+-- told or not: the pieces given and decoded ascend, below what may come, and add up to no more than the bin's width
+pub record IsReading (s : Numbers) (level wide : ℕ) (sum : Sum) (decoder : Decoder) (pieces : List Piece) (capacity given : ℕ) (gave : List Piece) : Type 0 where
+  pub valid : IsValid s
+  pub first : 1 ≤ level
+  pub last : level ≤ s.levels
+  pub decoded : AreGiven (decoder_floor decoder) (gave ++ drop given pieces)
+  pub limit : decoder_limit decoder ≡ tail_limit s
+  pub below : decoder_floor decoder ≤ tail_limit s
+  pub sums : SumsUp wide (total (gave ++ drop given pieces)) sum
+  pub within : given ≤ length pieces
+  pub room : capacity ≡ 128
+
+-- that is a fact
+sums_prop : (wide decoded : ℕ) (sum : Sum) → IsProp (SumsUp wide decoded sum)
+sums_prop wide decoded (Left n) = hlevel props
+sums_prop wide decoded Over = hlevel props
+
+pub reading_prop : (s : Numbers) (level wide : ℕ) (sum : Sum) (decoder : Decoder) (pieces : List Piece) (capacity given : ℕ) (gave : List Piece) →
+    IsProp (IsReading s level wide sum decoder pieces capacity given gave)
+reading_prop s level wide sum decoder pieces capacity given gave =
+    hlevel (props, given_prop (decoder_floor decoder) (gave ++ drop given pieces), sums_prop wide (total (gave ++ drop given pieces)) sum)

@@ -1,12 +1,13 @@
 //! Where frames stand in the file of frames.
 
 ghost use Rattle.std.specs.Prelude.{◌≡◌, ◌≢◌, ℕ, ◌+◌, ◌<◌, ◌≤◌, ◌⊎◌, ◌^◌};
-ghost use Rattle.lert_frames.specs.Place.{frame_len, frame_place, tail_limit};
+ghost use Rattle.lert_frames.specs.Place.{block_count, frame_len, frame_place};
 
 use lert_base::Settings;
 
-/// The first byte of a frame in the file of frames. Level j has one place more than bins, of as many
-/// bytes as a bin with one key an event needs, behind those of the younger levels. No two places overlap.
+/// The first byte of a frame in the file of frames. Level j has one place more than bins, each with room for
+/// all blocks of a frame and two slots for each event of a bin, behind those of the younger levels. No two
+/// places overlap.
 pub fn frame_place(settings: &Settings, level: u32, frame: u32) -> u64
     requires first { 1 ≤ level }
     requires last { level ≤ settings.now.levels }
@@ -34,12 +35,16 @@ fn frame_len(settings: &Settings, level: u32) -> u64
     ensures { result ≡ frame_len settings.now level }
 {
     let _valid = settings.numbers();
-    4 + 16 * settings.span(level)
+    let span = settings.span(level);
+    20 * block_count(settings, level) + 16 * span + 8 * (span / 32)
 }
 
-/// The greatest tail of a cone's keys.
-pub fn greatest_tail(settings: &Settings) -> u64
-    ensures { result + 1 ≡ tail_limit settings.now }
+/// The blocks of a frame of a level: each has 64 of the level's quotients.
+pub fn block_count(settings: &Settings, level: u32) -> u64
+    requires { level ≤ settings.now.levels }
+    ensures value { result ≡ block_count settings.now level }
+    ensures some { 1 ≤ result }
+    ensures few { result ≤ 2 ^ 26 }
 {
-    u64::MAX >> settings.numbers().cone_bits
+    (1u64 << settings.quotient_bits(level)) / 64
 }

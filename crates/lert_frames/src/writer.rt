@@ -1,100 +1,344 @@
 //! Frames as they are written.
 
-ghost use Rattle.std.specs.Prelude.{◌≡◌, ℕ, ◌+◌, ◌*◌, ◌<◌, ◌≤◌, ◌^◌, length, flat_map, OnOk, OnErr, IsErr};
+ghost use Rattle.std.specs.Prelude.{◌≡◌, ℕ, ◌+◌, ◌/◌, ◌<◌, ◌≤◌, ◌^◌, ◌++◌, [], ◌∷◌, List, max, IfOk, IsErr, OnOk, OnErr};
 ghost use Rattle.lert_bay.specs.declared.bay.TheConstants.{FRAMES};
-ghost use Rattle.lert_bay.specs.Files.{Files, IfTold, Turns, Changes, Holds, LeftByFailure};
-ghost use Rattle.lert_bay.specs.Images.{ComesByWrite};
+ghost use Rattle.lert_bay.specs.Files.{IfTold};
 ghost use Rattle.lert_bay.specs.Kept.{KeepsBay};
+ghost use Rattle.lert_blocks.specs.Filling.{IsFilled};
+ghost use Rattle.lert_blocks.specs.Text.{quotient_of};
+ghost use Rattle.lert_frames.specs.Frame.{HoldsFrame};
+ghost use Rattle.lert_frames.specs.Growing.{IsGrowing};
+ghost use Rattle.lert_frames.specs.Kept.{KeepsOutside, WritesWithin};
+ghost use Rattle.lert_frames.specs.Outlet.{IsOut, next_place, size_of};
+ghost use Rattle.lert_frames.specs.Place.{block_count, frame_len, frame_place, tail_limit};
+ghost use Rattle.lert_spec.specs.declared.piece.Piece.{Piece};
+ghost use Rattle.lert_spec.proofs.GivenLaws.{given_prop};
 ghost use Rattle.lert_spec.specs.Edges.{span};
 ghost use Rattle.lert_spec.specs.Table.{total, AreGiven};
-ghost use Rattle.lert_frames.specs.Frame.{piece_text, frame_text, text_len, HoldsFrame};
-ghost use Rattle.lert_frames.specs.Kept.{KeepsOutside, Wrote};
-ghost use Rattle.lert_frames.specs.Place.{frame_len, frame_place, tail_limit};
 
-use crate::lay::lay_pieces;
-use crate::place::frame_place;
-use byteorder::{ByteOrder, LittleEndian};
+use crate::closing::{close, close_last};
+use crate::long::{Long, begin_long, let_go};
+use crate::outlet::Outlet;
+use crate::place::{block_count, frame_place};
 use lert_base::{Piece, Settings};
-use lert_bay::{Bay, FRAMES};
-use lert_io::Failed;
+use lert_bay::Bay;
+use lert_blocks::Block;
+use lert_io::{Failed, OutOfMemory, Seen};
+use std::alloc::Global;
 
-/// How many pieces a block holds: 4,096 bytes.
-pub const BLOCK_PIECES: usize = 256;
+/// The bytes that are gathered before they are written, and those of the run ends of a long block.
+const TEXT_BYTES: usize = 8192;
 
-/// Writes pieces as a frame of a level, without a sync. Nothing but the frame's place is written, whatever
-/// it answers. After `Failed` any bytes stand there. It makes one call of the bay, and one for each 256
-/// pieces, and takes no memory.
-pub fn store<B: Bay>(
-    settings: &Settings,
+const ENDS_BYTES: usize = 512;
+
+/// A frame of a level as it is written, piece by piece in ascending tails, through fixed buffers. Only `new` takes
+/// memory. `put` makes a call of the bay for each 8,192 bytes of text; in a block of more than 512 slots, which
+/// is written in parts, more by one for each 4,096 slots, and, at the block's end, two for each 8,192 bytes of
+/// its slots. After `Failed` the frame has to be started again.
+#[derive(Drop)]
+pub struct FrameWriter {
+    settings: Settings,
     level: u32,
     frame: u32,
-    pieces: &[Piece],
-    bay: &mut B,
-) -> Result<(), Failed>
-    requires first { 1 ≤ level }
-    requires last { level ≤ settings.now.levels }
-    requires frame { frame ≤ settings.now.bins }
-    requires pieces { AreGiven (tail_limit settings.now) pieces.now }
-    requires fits { total pieces.now ≤ span settings.now level }
-
-    // The place reads as the frame text.
-    ensures stands { OnOk result (IfTold (B.files bay.new) (λ seen. HoldsFrame (frame_place settings.now level frame) (seen FRAMES) pieces.now)) }
-    ensures written { OnOk result (Turns (Changes (Holds (frame_place settings.now level frame) (frame_text pieces.now)) FRAMES) (B.files bay.old) (B.files bay.new)) }
-    ensures failed { OnErr result (Turns (Changes (LeftByFailure (frame_place settings.now level frame) (text_len pieces.now)) FRAMES) (B.files bay.old) (B.files bay.new)) }
-
-    // Each image of each moment comes by one write of the frame text from an image of before.
-    ensures images { (image : Files) → B.leaves bay.new image →
-        ComesByWrite (B.leaves bay.old) FRAMES (frame_place settings.now level frame) (text_len pieces.now) image }
-    ensures moments { (image : Files) → B.left_since bay.new (B.moment bay.old) image →
-        ComesByWrite (B.leaves bay.old) FRAMES (frame_place settings.now level frame) (text_len pieces.now) image }
-    ensures outside { IfTold (B.files bay.old) (λ seen. KeepsOutside B.Bay bay.old bay.new seen FRAMES
-        (frame_place settings.now level frame) (frame_place settings.now level frame + frame_len settings.now level)) }
-    ensures kept { KeepsBay B.Bay bay.old bay.new (IsErr result) }
-{
-    let _valid = settings.numbers();
-    write_frame(bay, frame_place(settings, level, frame), pieces)
+    // The bits of a remainder, the frame's place, the present block, and how many events of the bin are left.
+    width: u32,
+    place: u64,
+    number: u64,
+    left: u64,
+    // The text, and the words of run ends of a long block.
+    outlet: Outlet,
+    ends: Outlet,
+    // The present block, or, where parts of it are out, the others.
+    block: Block,
+    long: Option<Long>,
+    put: Seen<Piece>,
+    ghost growing: { IsGrowing settings level frame width place number left outlet ends block.len long put },
+    ghost given: { AreGiven (tail_limit settings) put } by { given_prop (tail_limit settings) put },
 }
 
-// Writes the text of pieces at a place, as one write of it would.
-fn write_frame<B: Bay>(bay: &mut B, place: u64, pieces: &[Piece]) -> Result<(), Failed>
-    requires few { length pieces.now < 2 ^ 32 }
-    requires reach { place + 4 + 16 * length pieces.now < 2 ^ 63 }
-    ensures ok { OnOk result (Wrote B.Bay (Holds place (frame_text pieces.now)) FRAMES place (text_len pieces.now) bay.old bay.new) }
-    ensures err { OnErr result (Wrote B.Bay (LeftByFailure place (text_len pieces.now)) FRAMES place (text_len pieces.now) bay.old bay.new) }
-    ensures kept { KeepsBay B.Bay bay.old bay.new (IsErr result) }
-{
-    let mut head = [0; 4];
-    LittleEndian::write_u32(&mut head, pieces.len() as u32);
-    // No sync here: a flush syncs once behind all its frames, and none is named before.
-    write_bytes(bay, place, &head)?;
-    let mut written = 0;
-    while written < pieces.len() {
-        let upto = pieces.len().min(written + BLOCK_PIECES);
-        write_block(bay, place + 4 + 16 * written as u64, &pieces[written..upto])?;
-        written = upto;
+impl FrameWriter {
+    ghost use Rattle.lert_frames.specs.Writing.{IsAt, IsWriting, Proceeds, Stays, EndsFrame};
+
+    /// A writer that begins a frame of a level, as by `start`. Its only error is want of memory.
+    pub fn new(
+        alloc: Global,
+        settings: &Settings,
+        level: u32,
+        frame: u32,
+    ) -> Result<FrameWriter, OutOfMemory>
+        requires first { 1 ≤ level }
+        requires last { level ≤ settings.now.levels }
+        requires frame { frame ≤ settings.now.bins }
+        ensures writing { IfOk result (λ w. (file : List ℕ) → IsWriting w file) }
+        ensures put { IfOk result (λ w. w.put ≡ []) }
+        ensures frame { IfOk result (λ w. w.frame ≡ frame) }
+        ensures settings { IfOk result (λ w. w.settings ≡ settings.now) }
+        ensures level { IfOk result (λ w. w.level ≡ level) }
+    {
+        let outlet = Outlet::new(alloc, TEXT_BYTES)?;
+        let ends = Outlet::new(alloc, ENDS_BYTES)?;
+        let block = Block::new(alloc)?;
+        let mut writer = FrameWriter::of(settings, level, outlet, ends, block);
+        writer.start(frame);
+        Ok(writer)
     }
-    Ok(())
+
+    // A writer over these buffers, which begins the level's first frame.
+    fn of(
+        settings: &Settings,
+        level: u32,
+        mut outlet: Outlet,
+        ends: Outlet,
+        mut block: Block,
+    ) -> FrameWriter
+        requires first { 1 ≤ level }
+        requires last { level ≤ settings.now.levels }
+        requires size { size_of outlet ≡ 8192 }
+        requires ends_size { size_of ends ≡ 512 }
+        ensures settings { result.settings ≡ settings.now }
+        ensures level { result.level ≡ level }
+    {
+        let _valid = settings.numbers();
+        let place = frame_place(settings, level, 0);
+        restart(&mut outlet, &mut block, place);
+        FrameWriter {
+            settings: *settings,
+            level,
+            frame: 0,
+            width: settings.width(level),
+            place,
+            number: 0,
+            left: settings.span(level),
+            outlet,
+            ends,
+            block,
+            long: None,
+            put: Seen::new(),
+        }
+    }
+
+    /// Begins a frame, to which nothing is put yet. It writes nothing.
+    pub fn start(&mut self, frame: u32)
+        requires { frame ≤ self.old.settings.bins }
+        ensures writing { (file : List ℕ) → IsWriting self.new file }
+        ensures put { self.new.put ≡ [] }
+        ensures frame { self.new.frame ≡ frame }
+        ensures settings { self.new.settings ≡ self.old.settings }
+        ensures level { self.new.level ≡ self.old.level }
+    {
+        self.frame = frame;
+        self.place = frame_place(&self.settings, self.level, frame);
+        self.number = 0;
+        self.left = self.settings.span(self.level);
+        restart(&mut self.outlet, &mut self.block, self.place);
+        self.long = None;
+        self.put = Seen::new();
+    }
+
+    /// Puts a piece behind those so far.
+    #[inline]
+    pub fn put<B: Bay>(&mut self, bay: &mut B, piece: Piece) -> Result<(), Failed>
+        requires given { AreGiven (tail_limit self.old.settings) (self.old.put ++ piece ∷ []) }
+        requires fits { total (self.old.put ++ piece ∷ []) ≤ span self.old.settings self.old.level }
+        ensures put { OnOk result (self.new.put ≡ self.old.put ++ piece ∷ []) }
+        ensures writing { OnOk result (IfTold (B.files bay.old) (λ seen. IsWriting self.old (seen FRAMES) →
+            IfTold (B.files bay.new) (λ after. IsWriting self.new (after FRAMES)))) }
+        ensures failed { OnErr result (self.new.put ≡ self.old.put) }
+        ensures settings { self.new.settings ≡ self.old.settings }
+        ensures level { self.new.level ≡ self.old.level }
+        ensures frame { self.new.frame ≡ self.old.frame }
+
+        // Nothing but the frame's place is written, whatever it answers.
+        ensures within { WritesWithin B.Bay
+            (frame_place self.old.settings self.old.level self.old.frame)
+            (frame_place self.old.settings self.old.level self.old.frame + frame_len self.old.settings self.old.level) bay.old bay.new }
+        ensures outside { IfTold (B.files bay.old) (λ seen. KeepsOutside B.Bay bay.old bay.new seen FRAMES
+            (frame_place self.old.settings self.old.level self.old.frame)
+            (frame_place self.old.settings self.old.level self.old.frame + frame_len self.old.settings self.old.level)) }
+        ensures kept { KeepsBay B.Bay bay.old bay.new (IsErr result) }
+    {
+        self.ready(bay, piece)?;
+        self.take(piece);
+        Ok(())
+    }
+
+    /// Ends the frame: all that was put stands in the file then. `start` begins the next one.
+    pub fn end<B: Bay>(&mut self, bay: &mut B) -> Result<(), Failed>
+        ensures stands { OnOk result (IfTold (B.files bay.old) (λ seen. IsWriting self.old (seen FRAMES) →
+            IfTold (B.files bay.new) (λ after. HoldsFrame self.old.settings self.old.level self.old.frame (after FRAMES) self.old.put))) }
+        ensures settings { self.new.settings ≡ self.old.settings }
+        ensures level { self.new.level ≡ self.old.level }
+        ensures frame { self.new.frame ≡ self.old.frame }
+
+        // Nothing but the frame's place is written, whatever it answers.
+        ensures within { WritesWithin B.Bay
+            (frame_place self.old.settings self.old.level self.old.frame)
+            (frame_place self.old.settings self.old.level self.old.frame + frame_len self.old.settings self.old.level) bay.old bay.new }
+        ensures outside { IfTold (B.files bay.old) (λ seen. KeepsOutside B.Bay bay.old bay.new seen FRAMES
+            (frame_place self.old.settings self.old.level self.old.frame)
+            (frame_place self.old.settings self.old.level self.old.frame + frame_len self.old.settings self.old.level)) }
+        ensures kept { KeepsBay B.Bay bay.old bay.new (IsErr result) }
+    {
+        self.reach(bay, self.last_block())?;
+        self.end_last(bay)
+    }
+
+    // The frame's last block.
+    fn last_block(&self) -> u64
+        ensures { result + 1 ≡ block_count self.now.settings self.now.level }
+    {
+        block_count(&self.settings, self.level) - 1
+    }
+
+    // Ends the blocks before that of a piece, and makes room for it.
+    #[inline]
+    fn ready<B: Bay>(&mut self, bay: &mut B, piece: Piece) -> Result<(), Failed>
+        requires { piece.tail < tail_limit self.old.settings }
+        ensures proceeds { Proceeds B.Bay self.old self.new bay.old bay.new (IsErr result) }
+        ensures stays { OnOk result (Stays B.Bay self.old self.new bay.old bay.new) }
+        ensures number { OnOk result (self.old.number ≤ quotient_of self.old.width piece / 64 → self.new.number ≡ quotient_of self.old.width piece / 64) }
+        ensures room { OnOk result (self.new.block.len + 9 ≤ 512) }
+    {
+        self.reach(bay, piece.tail >> self.width >> 6)?;
+        self.make_room(bay)
+    }
+
+    // Puts a piece into the present block.
+    #[inline]
+    fn take(&mut self, piece: Piece)
+        requires given { AreGiven (tail_limit self.old.settings) (self.old.put ++ piece ∷ []) }
+        requires fits { total (self.old.put ++ piece ∷ []) ≤ span self.old.settings self.old.level }
+        requires room { self.old.block.len + 9 ≤ 512 }
+        ensures put { self.new.put ≡ self.old.put ++ piece ∷ [] }
+        ensures writing { (file : List ℕ) → quotient_of self.old.width piece / 64 ≡ self.old.number → IsAt self.old file → IsWriting self.new file }
+        ensures settings { self.new.settings ≡ self.old.settings }
+        ensures level { self.new.level ≡ self.old.level }
+        ensures frame { self.new.frame ≡ self.old.frame }
+    {
+        self.block.put(self.width, piece);
+        self.left -= piece.count;
+        self.put.push(&piece);
+    }
+
+    // Ends the blocks before this one.
+    #[inline]
+    fn reach<B: Bay>(&mut self, bay: &mut B, block: u64) -> Result<(), Failed>
+        requires { block < block_count self.old.settings self.old.level }
+        ensures proceeds { Proceeds B.Bay self.old self.new bay.old bay.new (IsErr result) }
+        ensures stays { OnOk result (Stays B.Bay self.old self.new bay.old bay.new) }
+        ensures number { OnOk result (self.new.number ≡ max self.old.number block) }
+    {
+        while self.number < block {
+            self.end_block(bay)?;
+        }
+        Ok(())
+    }
+
+    // Ends the present block.
+    fn end_block<B: Bay>(&mut self, bay: &mut B) -> Result<(), Failed>
+        requires { self.old.number + 1 < block_count self.old.settings self.old.level }
+        ensures proceeds { Proceeds B.Bay self.old self.new bay.old bay.new (IsErr result) }
+        ensures stays { OnOk result (Stays B.Bay self.old self.new bay.old bay.new) }
+        ensures number { OnOk result (self.new.number ≡ self.old.number + 1) }
+    {
+        if let Err(failed) = close(
+            bay,
+            &mut self.outlet,
+            &mut self.ends,
+            &self.block,
+            self.long,
+        ) {
+            restart(&mut self.outlet, &mut self.block, self.place);
+            self.long = None;
+            return Err(failed);
+        }
+        self.block.clear();
+        self.long = None;
+        self.number += 1;
+        Ok(())
+    }
+
+    // Ends the last block, and writes all.
+    fn end_last<B: Bay>(&mut self, bay: &mut B) -> Result<(), Failed>
+        requires { self.old.number + 1 ≡ block_count self.old.settings self.old.level }
+        ensures proceeds { Proceeds B.Bay self.old self.new bay.old bay.new (IsErr result) }
+        ensures stands { OnOk result (EndsFrame B.Bay self.old bay.old bay.new) }
+    {
+        if let Err(failed) = close_last(
+            bay,
+            &mut self.outlet,
+            &mut self.ends,
+            &self.block,
+            self.long,
+        ) {
+            restart(&mut self.outlet, &mut self.block, self.place);
+            self.long = None;
+            return Err(failed);
+        }
+        restart(&mut self.outlet, &mut self.block, self.place);
+        self.long = None;
+        Ok(())
+    }
+
+    // Makes room for a piece.
+    #[inline]
+    fn make_room<B: Bay>(&mut self, bay: &mut B) -> Result<(), Failed>
+        ensures proceeds { Proceeds B.Bay self.old self.new bay.old bay.new (IsErr result) }
+        ensures stays { OnOk result (Stays B.Bay self.old self.new bay.old bay.new) }
+        ensures number { self.new.number ≡ self.old.number }
+        ensures room { OnOk result (self.new.block.len + 9 ≤ 512) }
+    {
+        if self.block.has_room() {
+            return Ok(());
+        }
+        self.spill(bay)
+    }
+
+    // The present block is written in parts: those at its front are let go.
+    #[cold]
+    fn spill<B: Bay>(&mut self, bay: &mut B) -> Result<(), Failed>
+        requires { 0 < self.old.block.len }
+        ensures proceeds { Proceeds B.Bay self.old self.new bay.old bay.new (IsErr result) }
+        ensures stays { OnOk result (Stays B.Bay self.old self.new bay.old bay.new) }
+        ensures number { self.new.number ≡ self.old.number }
+        ensures room { OnOk result (self.new.block.len + 9 ≤ 512) }
+    {
+        let long = self.long_block(bay)?;
+        let gone = let_go(bay, &mut self.outlet, &mut self.ends, &mut self.block, long)?;
+        self.long = Some(gone);
+        Ok(())
+    }
+
+    // The present block, which is a long one from now on.
+    fn long_block<B: Bay>(&mut self, bay: &mut B) -> Result<Long, Failed>
+        requires { 0 < self.old.block.len }
+        ensures proceeds { Proceeds B.Bay self.old self.new bay.old bay.new (IsErr result) }
+        ensures stays { OnOk result (Stays B.Bay self.old self.new bay.old bay.new) }
+        ensures number { self.new.number ≡ self.old.number }
+        ensures block { self.new.block.len ≡ self.old.block.len }
+        ensures long { IfOk result (λ l. self.new.long ≡ Some l) }
+    {
+        if let Some(long) = self.long {
+            return Ok(long);
+        }
+        self.outlet.flush(bay)?;
+        let most = self.block.slots().len() as u64 + 2 * self.left;
+        let long = begin_long(&mut self.outlet, &mut self.ends, most);
+        self.long = Some(long);
+        Ok(long)
+    }
 }
 
-// Writes the text of at most a block's pieces.
-fn write_block<B: Bay>(bay: &mut B, at: u64, pieces: &[Piece]) -> Result<(), Failed>
-    requires few { length pieces.now ≤ 256 }
-    requires reach { at + 16 * length pieces.now < 2 ^ 63 }
-    ensures ok { OnOk result (Wrote B.Bay (Holds at (flat_map piece_text pieces.now)) FRAMES at (16 * length pieces.now) bay.old bay.new) }
-    ensures err { OnErr result (Wrote B.Bay (LeftByFailure at (16 * length pieces.now)) FRAMES at (16 * length pieces.now) bay.old bay.new) }
-    ensures kept { KeepsBay B.Bay bay.old bay.new (IsErr result) }
+// Begins anew at a place: nothing is in memory.
+fn restart(outlet: &mut Outlet, block: &mut Block, place: u64)
+    requires { place < 2 ^ 63 }
+    ensures out { (file : List ℕ) → IsOut place [] file outlet.new }
+    ensures place { next_place outlet.new ≡ place }
+    ensures at { outlet.new.at ≡ place }
+    ensures size { size_of outlet.new ≡ size_of outlet.old }
+    ensures filled { (width number : ℕ) → IsFilled width number 0 [] block.new }
+    ensures len { block.new.len ≡ 0 }
 {
-    let mut block = [0; 16 * BLOCK_PIECES];
-    let len = lay_pieces(&mut block, pieces);
-    write_bytes(bay, at, &block[..len])
-}
-
-// One write, said as several are.
-fn write_bytes<B: Bay>(bay: &mut B, at: u64, bytes: &[u8]) -> Result<(), Failed>
-    requires reach { at + length bytes.now < 2 ^ 63 }
-    ensures ok { OnOk result (Wrote B.Bay (Holds at bytes.now) FRAMES at (length bytes.now) bay.old bay.new) }
-    ensures err { OnErr result (Wrote B.Bay (LeftByFailure at (length bytes.now)) FRAMES at (length bytes.now) bay.old bay.new) }
-    ensures kept { KeepsBay B.Bay bay.old bay.new (IsErr result) }
-{
-    bay.write_at(FRAMES, at, bytes)
+    outlet.start(place);
+    block.clear();
 }

@@ -1,5 +1,4 @@
 pub mod BayLaws
-pub mod ConeSend
 pub mod EachLaws
 pub mod Gathering
 pub mod Counting

@@ -7,7 +7,7 @@ use Rattle.std.proofs.lemmas.List.{length-map}
 use Rattle.std.proofs.lemmas.List.Sums.{sum_by-cons}
 use Rattle.lert_base.specs.declared.pieces.PieceFault.{PieceFault}
 use Rattle.lert_base.specs.declared.pieces.PieceFault.TheVariants.{Failed, Malformed}
-use Rattle.lert_frames.specs.declared.bin.LoadedBin.{LoadedBin}
+use Rattle.lert_rows.specs.declared.listed.Listed.{Listed}
 use Rattle.lert_io.specs.Fault.{HasRisen}
 use Rattle.lert_merge.specs.declared.heads.Head.{Head}
 use Rattle.lert_merge.specs.Merging.{Merging, count_in, part_of, behind, share_of, Tells, IsToCome, IsNext, IsAbove, AreShares, AreOver, Breaks}
@@ -21,10 +21,10 @@ use Rattle.lert_levels.proofs.MergedLaws.{AreTables}
 use Rattle.lert_levels.proofs.SoFarLaws.{IsRest, IsSoFar, rest_more, count_of-above, so_far_more, so_far_all}
 
 -- what is to come of a bin in memory
-abbrev coming : {C : Type 0} → LoadedBin → C → Option (List Piece)
+abbrev coming : {C : Type 0} → Listed → C → Option (List Piece)
 coming bin ctx = Some (drop bin.given bin.pieces.items)
 
-pub tells_left : {C : Type 0} (ctx : C) (merge : Merging LoadedBin) (lists : List (List Piece)) → AreLeft merge lists → Tells (coming {C = C}) ctx merge lists
+pub tells_left : {C : Type 0} (ctx : C) (merge : Merging Listed) (lists : List (List Piece)) → AreLeft merge lists → Tells (coming {C = C}) ctx merge lists
 tells_left ctx merge lists left = record {
   len = left.len;
   each = λ k d below. let here = left.each k d below in record {
@@ -35,18 +35,18 @@ tells_left ctx merge lists left = record {
   };
 }
 
-pub left_told : {C : Type 0} (ctx : C) (merge : Merging LoadedBin) (lists : List (List Piece)) → Tells (coming {C = C}) ctx merge lists → AreLeft merge lists
+pub left_told : {C : Type 0} (ctx : C) (merge : Merging Listed) (lists : List (List Piece)) → Tells (coming {C = C}) ctx merge lists → AreLeft merge lists
 left_told {C} ctx merge lists tells = record {
   len = tells.len;
   each = λ k d below. left_of (get_or merge.streams k d) (seat_at merge.seats k).head (get_or lists k []) (tells.each k d below);
 }
   where
-    left_of : (bin : LoadedBin) (head : Head) (pieces : List Piece) → IsToCome (coming {C = C}) ctx bin head pieces → IsLeftOf bin head pieces
+    left_of : (bin : Listed) (head : Head) (pieces : List Piece) → IsToCome (coming {C = C}) ctx bin head pieces → IsLeftOf bin head pieces
     left_of bin head pieces to_come =
         let same : drop bin.given bin.pieces.items ≡ to_come.rest = cc (to_come.told) in
         record { is = to_come.is ∙ ap (λ rest. ahead head ++ rest) (sym same); ended = λ over. same ∙ to_come.ended over }
 
-pub next_left : {C : Type 0} (ctx : C) (merge : Merging LoadedBin) (lists : List (List Piece)) (piece : Option Piece) →
+pub next_left : {C : Type 0} (ctx : C) (merge : Merging Listed) (lists : List (List Piece)) (piece : Option Piece) →
     MatchOption piece (AreOver lists × Tells (coming {C = C}) ctx merge lists)
     (λ p. IsNext lists p × AreShares merge lists p.tail × Tells (coming {C = C}) ctx merge (map (behind p.tail) lists)) →
     MatchOption piece (AreOver lists) (λ p. IsNext lists p × AreShares merge lists p.tail × AreLeft merge (map (behind p.tail) lists))
@@ -54,19 +54,19 @@ next_left ctx merge lists None told = told.0
 next_left ctx merge lists (Some p) told = (told.0, told.1, left_told ctx merge (map (behind p.tail) lists) told.2)
 
 -- bins in memory never fail
-pub never_fails : {C : Type 0} (ctx : C) (streams : List LoadedBin) (fault : PieceFault) → (fault ≡ Failed → HasRisen 0 0) →
+pub never_fails : {C : Type 0} (ctx : C) (streams : List Listed) (fault : PieceFault) → (fault ≡ Failed → HasRisen 0 0) →
     ((at : ℕ) → fault ≡ Malformed at → Breaks (coming {C = C}) (λ _ _ _. ⊥) ctx streams at) → ⊥
 never_fails ctx streams Failed failed malformed = let risen = failed refl in omega arith
 never_fails ctx streams (Malformed at) failed malformed = let breaks = malformed at refl in some_breaks streams breaks.stream breaks.within breaks.at_it
   where
-    some_breaks : (bins : List LoadedBin) (k : ℕ) → k < length bins → ((d : LoadedBin) → ⊥) → ⊥
+    some_breaks : (bins : List Listed) (k : ℕ) → k < length bins → ((d : Listed) → ⊥) → ⊥
     some_breaks [] k below no_bin = omega arith
     some_breaks (bin ∷ bins) k below no_bin = no_bin bin
 
 -- ---- the loop over all tails
 
 -- some lists are left of those at the start, behind the tail given last
-pub record IsGathering (merge : Merging LoadedBin) (lists : List (List Piece)) : Type 0 where
+pub record IsGathering (merge : Merging Listed) (lists : List (List Piece)) : Type 0 where
   pub left : List (List Piece)
   pub are_left : AreLeft merge left
   pub rest : IsRest lists left (bound_after merge.last)
@@ -74,18 +74,18 @@ pub record IsGathering (merge : Merging LoadedBin) (lists : List (List Piece)) :
   pub streams : length merge.streams ≡ length lists
 
 -- the totals took the sums so far
-pub record HasTotals {O : Type 0} (took : O → List Piece → Type 0) (merge : Merging LoadedBin) (lists : List (List Piece)) (totals : O) : Type 0 where
+pub record HasTotals {O : Type 0} (took : O → List Piece → Type 0) (merge : Merging Listed) (lists : List (List Piece)) (totals : O) : Type 0 where
   pub out : List Piece
   pub took_it : took totals out
   pub so_far : IsSoFar lists (bound_after merge.last) out
 
 -- each part has its sums so far
-pub record AreMade {V : Type 0} (items : V → List Piece) (merge : Merging LoadedBin) (lists : List (List Piece)) (parts : List Part) (made : List V) : Type 0 where
+pub record AreMade {V : Type 0} (items : V → List Piece) (merge : Merging Listed) (lists : List (List Piece)) (parts : List Part) (made : List V) : Type 0 where
   pub len : length made ≡ length parts
   pub each : (k : ℕ) (d : V) (e : Part) → k < length parts → IsSoFar (lists_in lists (get_or parts k e)) (bound_after merge.last) (items (get_or made k d))
 
 -- what the next piece is
-pub record IsStep (old new : Merging LoadedBin) (left : List (List Piece)) (p : Piece) : Type 0 where
+pub record IsStep (old new : Merging Listed) (left : List (List Piece)) (p : Piece) : Type 0 where
   pub next : IsNext left p
   pub shares : AreShares new left p.tail
   pub are_left : AreLeft new (map (behind p.tail) left)
@@ -97,7 +97,7 @@ bound_above : (last : Option ℕ) (tail : ℕ) → IsAbove last tail → bound_a
 bound_above None tail above = omega arith
 bound_above (Some before) tail above = omega (arith, above before refl)
 
-pub step : (old new : Merging LoadedBin) (left : List (List Piece)) (p : Piece) → IsNext left p × AreShares new left p.tail × AreLeft new (map (behind p.tail) left) →
+pub step : (old new : Merging Listed) (left : List (List Piece)) (p : Piece) → IsNext left p × AreShares new left p.tail × AreLeft new (map (behind p.tail) left) →
     IsAbove old.last p.tail × (new.last ≡ Some p.tail) → length new.streams ≡ length old.streams → IsStep old new left p
 step old new left p told given streams = record {
   next = told.0;
@@ -124,21 +124,21 @@ tail_in_word left bound tail ascends some = elim (cases_lt tail (2 ^ 64)) [
       sum_by-cons (λ pieces. count_of pieces tail) gone left,
     )
 
-pub step_in_word : (old new : Merging LoadedBin) (lists : List (List Piece)) (gathering : IsGathering old lists) (p : Piece) → IsStep old new gathering.left p → p.tail < 2 ^ 64
+pub step_in_word : (old new : Merging Listed) (lists : List (List Piece)) (gathering : IsGathering old lists) (p : Piece) → IsStep old new gathering.left p → p.tail < 2 ^ 64
 step_in_word old new lists gathering p step =
     let rest = gathering.rest in
     tail_in_word gathering.left (bound_after old.last) p.tail (λ k below. rest.ascends k (omega (arith, rest.len))) (omega (arith, step.next.counted, step.next.count))
 
 -- bins in memory are tables
-pub are_tables : (bins : List LoadedBin) → AreTables (2 ^ 64) (lists_of bins)
+pub are_tables : (bins : List Listed) → AreTables (2 ^ 64) (lists_of bins)
 are_tables [] k below = absurd (omega arith)
 are_tables (bin ∷ bins) zero below = bin.sorted.table
 are_tables (bin ∷ bins) (suc k) below = are_tables bins k (omega arith)
 
-pub as_many : (bins : List LoadedBin) → length bins ≡ length (lists_of bins)
-as_many bins = sym (length-map bins (λ (bin : LoadedBin). bin.pieces.items))
+pub as_many : (bins : List Listed) → length bins ≡ length (lists_of bins)
+as_many bins = sym (length-map bins (λ (bin : Listed). bin.pieces.items))
 
-pub gathering_begin : (merge : Merging LoadedBin) → AreLeft merge (lists_of merge.streams) → merge.last ≡ None → IsGathering merge (lists_of merge.streams)
+pub gathering_begin : (merge : Merging Listed) → AreLeft merge (lists_of merge.streams) → merge.last ≡ None → IsGathering merge (lists_of merge.streams)
 gathering_begin merge left none =
     let lists = lists_of merge.streams in
     let bound : bound_after merge.last ≡ 0 = ap bound_after none in
@@ -154,7 +154,7 @@ gathering_begin merge left none =
       streams = as_many merge.streams;
     }
 
-pub gathering_more : (old new : Merging LoadedBin) (lists : List (List Piece)) (gathering : IsGathering old lists) (p : Piece) → IsStep old new gathering.left p → IsGathering new lists
+pub gathering_more : (old new : Merging Listed) (lists : List (List Piece)) (gathering : IsGathering old lists) (p : Piece) → IsStep old new gathering.left p → IsGathering new lists
 gathering_more old new lists gathering p step =
     let bound : bound_after new.last ≡ p.tail + 1 = ap bound_after step.last in
     record {
@@ -174,12 +174,12 @@ below_bound least bound (p ∷ out) ascends =
       | suc k ↦ λ within. below_bound (p.tail + 1) bound out ascends.3 k d (omega arith)
     ] below
 
-pub total_fits : {O : Type 0} (took : O → List Piece → Type 0) (old new : Merging LoadedBin) (lists : List (List Piece)) (totals : O) (gathering : IsGathering old lists) →
+pub total_fits : {O : Type 0} (took : O → List Piece → Type 0) (old new : Merging Listed) (lists : List (List Piece)) (totals : O) (gathering : IsGathering old lists) →
     (has : HasTotals took old lists totals) (p : Piece) → IsStep old new gathering.left p → All (λ (piece : Piece). piece.tail < p.tail) has.out
 total_fits took old new lists totals gathering has p step =
     λ k d below. omega (arith, below_bound 0 (bound_after old.last) has.out has.so_far.table k d below, step.above)
 
-pub totals_more : {O : Type 0} (took : O → List Piece → Type 0) (old new : Merging LoadedBin) (lists : List (List Piece)) (before after : O) (gathering : IsGathering old lists) →
+pub totals_more : {O : Type 0} (took : O → List Piece → Type 0) (old new : Merging Listed) (lists : List (List Piece)) (before after : O) (gathering : IsGathering old lists) →
     (has : HasTotals took old lists before) (p : Piece) → IsStep old new gathering.left p → took after (has.out ++ record { tail = p.tail; count = p.count } ∷ []) →
     HasTotals took new lists after
 totals_more took old new lists before after gathering has p step takes =
@@ -229,7 +229,7 @@ rest_in lists left bound part rest within =
       same = same_in lists left bound part.oldest part.newest rest within.oldest within.newest;
     }
 
-share_is : (merge : Merging LoadedBin) (left : List (List Piece)) (tail : ℕ) (part : Part) → AreShares merge left tail → IsWithin (length left) part →
+share_is : (merge : Merging Listed) (left : List (List Piece)) (tail : ℕ) (part : Part) → AreShares merge left tail → IsWithin (length left) part →
     share_in merge part ≡ count_in (lists_in left part) tail
 share_is merge left tail part shares within =
     newest_is part.newest within.newest
@@ -249,7 +249,7 @@ share_is merge left tail part shares within =
       none,
     )
 
-pub made_begin : {V : Type 0} (items : V → List Piece) (merge : Merging LoadedBin) (lists : List (List Piece)) (parts : List Part) (made : List V) → merge.last ≡ None →
+pub made_begin : {V : Type 0} (items : V → List Piece) (merge : Merging Listed) (lists : List (List Piece)) (parts : List Part) (made : List V) → merge.last ≡ None →
     length made ≡ length parts →
     All (λ v. items v ≡ []) made → AreMade items merge lists parts made
 made_begin items merge lists parts made none len empty =
@@ -263,13 +263,13 @@ made_begin items merge lists parts made none len empty =
           });
     }
 
-pub totals_begin : {O : Type 0} (took : O → List Piece → Type 0) (merge : Merging LoadedBin) (lists : List (List Piece)) (totals : O) → merge.last ≡ None → took totals [] →
+pub totals_begin : {O : Type 0} (took : O → List Piece → Type 0) (merge : Merging Listed) (lists : List (List Piece)) (totals : O) → merge.last ≡ None → took totals [] →
     HasTotals took merge lists totals
 totals_begin took merge lists totals none takes =
     let bound : bound_after merge.last ≡ 0 = ap bound_after none in
     record { out = []; took_it = takes; so_far = record { table = tt; counts = λ tail under. absurd (omega arith) } }
 
-pub made_more : {V : Type 0} (items : V → List Piece) (old new : Merging LoadedBin) (lists : List (List Piece)) (parts : List Part) (before after : List V) (gathering : IsGathering old lists)
+pub made_more : {V : Type 0} (items : V → List Piece) (old new : Merging Listed) (lists : List (List Piece)) (parts : List Part) (before after : List V) (gathering : IsGathering old lists)
     →
     AreMade items old lists parts before → (streams : ℕ) → streams ≡ length old.streams → All (IsWithin streams) parts → (p : Piece) → IsStep old new gathering.left p →
     length after ≡ length before →
@@ -294,13 +294,13 @@ made_more items old new lists parts before after gathering made streams streams_
 
 -- ---- the end
 
-pub totals_all : {O : Type 0} (took : O → List Piece → Type 0) (old new : Merging LoadedBin) (lists : List (List Piece)) (totals : O) → AreTables (2 ^ 64) lists →
+pub totals_all : {O : Type 0} (took : O → List Piece → Type 0) (old new : Merging Listed) (lists : List (List Piece)) (totals : O) → AreTables (2 ^ 64) lists →
     (gathering : IsGathering old lists) →
     HasTotals took old lists totals → AreOver gathering.left → took totals (merged lists)
 totals_all took old new lists totals are gathering has over =
     subst (took totals) (so_far_all lists gathering.left (bound_after old.last) has.out gathering.rest has.so_far gathering.word over are) has.took_it
 
-pub made_all : {V : Type 0} (items : V → List Piece) (merge : Merging LoadedBin) (lists : List (List Piece)) (parts : List Part) (made : List V) → AreTables (2 ^ 64) lists →
+pub made_all : {V : Type 0} (items : V → List Piece) (merge : Merging Listed) (lists : List (List Piece)) (parts : List Part) (made : List V) → AreTables (2 ^ 64) lists →
     (gathering : IsGathering merge lists) →
     AreMade items merge lists parts made → (streams : ℕ) → streams ≡ length lists → All (IsWithin streams) parts → AreOver gathering.left →
     map items made ≡ map (part_table lists) parts

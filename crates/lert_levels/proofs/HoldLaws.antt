@@ -1,5 +1,5 @@
 -- What the frames hold before a flush and after it.
-use Rattle.std.proofs.Common.{ℕ, ◌≡◌, ◌≢◌, ◌+◌, ◌-◌, ◌/◌, ◌^◌, ◌<◌, ◌≤◌, zero, suc, cond, ltb, eqb, List, [], ◌∷◌, ◌++◌, length, take, drop}
+use Rattle.std.proofs.Common.{ℕ, ◌≡◌, ◌≢◌, ◌+◌, ◌-◌, ◌/◌, ◌<◌, ◌≤◌, zero, suc, cond, ltb, eqb, List, [], ◌∷◌, ◌++◌, length, take, drop}
 use Rattle.std.proofs.Common.{get_or, Option, Some, ap, ap₂, sym, ◌∙◌, arith, inl, inr, ◌⊎◌, subst, slice_range, length-take, Result}
 use Rattle.std.specs.Prelude.{Ok, Err, OnOk}
 use Rattle.std.specs.List.{All}
@@ -9,14 +9,16 @@ use Rattle.std.proofs.lemmas.List.Elements.{All-append, All-drop, All-cons, All-
 use Rattle.std.proofs.lemmas.List.Sums.{sum_by-cons}
 use Rattle.lert_bay.specs.declared.bay.TheConstants.{FRAMES}
 use Rattle.lert_bay.specs.Files.{Files, Turns}
-use Rattle.lert_frames.specs.Frame.{HoldsFrame, text_len}
-use Rattle.lert_frames.specs.Place.{frame_place, frame_len}
+use Rattle.lert_frames.specs.Frame.{HoldsFrame, frame_text}
+use Rattle.lert_frames.specs.Place.{frame_len}
+use Rattle.lert_frames.proofs.FrameLaws.{text_within}
 use Rattle.lert_frames.proofs.PlaceLaws.{places_apart}
 use Rattle.lert_spec.specs.declared.numbers.Numbers.{Numbers}
 use Rattle.lert_spec.specs.declared.piece.Piece.{Piece}
 use Rattle.lert_spec.specs.Bins.{tallied}
 use Rattle.lert_spec.specs.Edges.{span, edge, depth}
-use Rattle.lert_spec.proofs.Tables.{length_le-total, count_le-total}
+use Rattle.lert_spec.specs.Limits.{IsValid}
+use Rattle.lert_spec.proofs.Tables.{count_le-total}
 use Rattle.lert_spec.proofs.TallyLaws.{IsTable-tallied, total-tallied}
 use Rattle.lert_rows.specs.declared.bin_at.BinAt.{BinAt}
 use Rattle.lert_levels.specs.Flushed.{AreNew, InNamed}
@@ -106,27 +108,28 @@ named_apart s m rows are d deep from to inside k below =
     ]
 
 -- the text of a bin's counts fits its place
-text_fits : (s : Numbers) (events : List ℕ) (level : ℕ) (bin : BinAt) → bin.to - bin.from ≤ span s level → text_len (tallied_in s events bin) ≤ frame_len s level
-text_fits s events level bin narrow =
+text_fits : (s : Numbers) (events : List ℕ) (level : ℕ) (bin : BinAt) → IsValid s → level ≤ s.levels → bin.to - bin.from ≤ span s level →
+    length (frame_text s level (tallied_in s events bin)) ≤ frame_len s level
+text_fits s events level bin valid last narrow =
     let keys = slice_range events bin.from bin.to in
-    omega (arith, length_le-total 0 (2 ^ (64 - s.cone_bits)) (tallied s keys) (IsTable-tallied s keys), total-tallied s keys, length-take (bin.to - bin.from) (drop bin.from events))
+    text_within s level (tallied s keys) valid last (IsTable-tallied s keys) (omega (arith, narrow, total-tallied s keys, length-take (bin.to - bin.from) (drop bin.from events)))
 
 -- after a flush the frames hold the bins of the rows as they are then
-pub holds_moved : (s : Numbers) (m : ℕ) (events : List ℕ) (rows : List (List BinAt)) (made : List (List Piece)) (old new : Files) → length rows ≡ s.levels → AreRows s rows →
-    HoldsBins s events rows (old FRAMES) → LeavesRest (InNamed s rows) old new →
+pub holds_moved : (s : Numbers) (m : ℕ) (events : List ℕ) (rows : List (List BinAt)) (made : List (List Piece)) (old new : Files) → IsValid s → length rows ≡ s.levels →
+    AreRows s rows → HoldsBins s events rows (old FRAMES) → LeavesRest (InNamed s rows) old new →
     length made ≡ depth s m → AreLanded s m (take (depth s m) rows) (new FRAMES) made (depth s m) → AreNew s m events (take (depth s m) rows) made →
     HoldsBins s events (moved s m rows) (new FRAMES)
-holds_moved s m events rows made old new len are holds leaves count landed news level from within =
+holds_moved s m events rows made old new valid len are holds leaves count landed news level from within =
     let row = row_of rows level in
     let d = depth s m in
-    let P : BinAt → Type 0 = λ bin. HoldsFrame (frame_place s level bin.frame) (new FRAMES) (tallied_in s events bin) in
+    let P : BinAt → Type 0 = λ bin. HoldsFrame s level bin.frame (new FRAMES) (tallied_in s events bin) in
     let is = are.each level from within in
     let stay : All P row =
     λ i e below. (
     let bin = get_or row i e in
-    let fits = text_fits s events level bin (is.widths i e below) in
-    holds_stays (InNamed s rows) old new (frame_place s level bin.frame) (tallied_in s events bin) leaves
-    (record { level = level; first = from; last = within; bin = bin; named = Contains-get_or row i e below; above = omega arith; below = omega arith })
+    let fits = text_fits s events level bin valid within (is.widths i e below) in
+    holds_stays (InNamed s rows) old new s level bin.frame (tallied_in s events bin) leaves
+    (record { level = level; first = from; last = within; bin = bin; named = Contains-get_or row i e below; above = omega arith; below = omega (arith, fits) })
     (holds level from within i e below)) in
     let written = kept s m level row ++ arrived s m level row ∷ [] in
     let dropped = cond {A = ℕ} (ltb level d) 1 0 in
@@ -139,21 +142,21 @@ holds_moved s m events rows made old new len are holds leaves count landed news 
           let own : get_or (take d rows) k [] ≡ row = get_or-take d rows k [] (omega arith) in
           let stands = landed k (omega arith) in
           let new_is = news k (omega arith) in
-          let both = subst (HoldsFrame (frame_place s (k + 1) (landing_frame s m (take d rows) k)) (new FRAMES)) new_is stands in
-          let at_row = subst (λ (r : List BinAt). HoldsFrame (frame_place s (k + 1) (arrived s m (k + 1) r).frame) (new FRAMES) (tallied_in s events (arrived s m (k + 1) r))) own both in
-          let here : P (arrived s m level row) = subst (λ (i : ℕ). HoldsFrame (frame_place s i (arrived s m i row).frame) (new FRAMES) (tallied_in s events (arrived s m i row))) up at_row in
+          let both = subst (HoldsFrame s (k + 1) (landing_frame s m (take d rows) k) (new FRAMES)) new_is stands in
+          let at_row = subst (λ (r : List BinAt). HoldsFrame s (k + 1) (arrived s m (k + 1) r).frame (new FRAMES) (tallied_in s events (arrived s m (k + 1) r))) own both in
+          let here : P (arrived s m level row) = subst (λ (i : ℕ). HoldsFrame s i (arrived s m i row).frame (new FRAMES) (tallied_in s events (arrived s m i row))) up at_row in
           subst (λ t. All P (cond t row (drop dropped written))) (sym (le-ltb d level reached))
           (All-drop P dropped written (All-append P (kept s m level row) (arrived s m level row ∷ []) (All-kept P s m level row stay) (All-cons P (arrived s m level row) [] here (All-nil P)))))
     ])
 
 -- the frames after the new bins were written, as a bay tells them
 pub written_holds : {T E : Type 0} (result : Result T E) (s : Numbers) (m : ℕ) (rows : List (List BinAt)) (made : List (List Piece)) (before after : Option Files) →
-    length rows ≡ s.levels → AreRows s rows → length made ≡ depth s m →
+    IsValid s → length rows ≡ s.levels → AreRows s rows → length made ≡ depth s m →
     Turns (LeavesRest (InNamed s rows)) before after → OnOk result ((seen : Files) → after ≡ Some seen → AreLanded s m (take (depth s m) rows) (seen FRAMES) made (depth s m)) →
     (seen : Files) → before ≡ Some seen → (events : List ℕ) → HoldsBins s events rows (seen FRAMES) → AreNew s m events (take (depth s m) rows) made →
     OnOk result ((then : Files) → after ≡ Some then → HoldsBins s events (moved s m rows) (then 2))
-written_holds (Ok value) s m rows made before after len are count turned landed seen told events holds news = λ then then_told.
+written_holds (Ok value) s m rows made before after valid len are count turned landed seen told events holds news = λ then then_told.
     let step = turned.told seen told in
     let same : step.0 ≡ then = cc in
-    holds_moved s m events rows made seen then len are holds (subst (λ (f : Files). LeavesRest (InNamed s rows) seen f) same step.2) count (landed then then_told) news
-written_holds (Err error) s m rows made before after len are count turned landed seen told events holds news = tt
+    holds_moved s m events rows made seen then valid len are holds (subst (λ (f : Files). LeavesRest (InNamed s rows) seen f) same step.2) count (landed then then_told) news
+written_holds (Err error) s m rows made before after valid len are count turned landed seen told events holds news = tt

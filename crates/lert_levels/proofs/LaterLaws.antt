@@ -3,7 +3,6 @@ use Rattle.std.proofs.Common.{ℕ, ◌≡◌, ◌-◌, ◌/◌, ◌<◌, ◌≤�
 use Rattle.std.proofs.lemmas.Bool.{cases_lt}
 use Rattle.std.proofs.lemmas.List.{length-replicate}
 use Rattle.lert_frames.specs.Frame.{HoldsFrame}
-use Rattle.lert_frames.specs.Place.{frame_place}
 use Rattle.lert_spec.specs.declared.numbers.Numbers.{Numbers}
 use Rattle.lert_spec.specs.Bins.{tallied}
 use Rattle.lert_spec.specs.Edges.{span, edge, depth}
@@ -46,4 +45,4 @@ HoldsBins-append s n events others rows file at within holds level from last k d
     let ends = bins_end s n rows at level from last k d below in
     let bin = slice_index_or (row_of rows level) k d in
     let same : tallied_in s events bin ≡ tallied_in s (events ++ others) bin = ap (tallied s) (sym (slice_range-append events others bin.from bin.to (omega arith))) in
-    subst (HoldsFrame (frame_place s level bin.frame) file) same (holds level from last k d below)
+    subst (HoldsFrame s level bin.frame file) same (holds level from last k d below)

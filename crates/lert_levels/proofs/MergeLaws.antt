@@ -6,7 +6,7 @@ use Rattle.std.proofs.Math.Nat.{suc-mul, mul-le-mul_right}
 use Rattle.std.proofs.lemmas.List.{length-map, take_all}
 use Rattle.std.proofs.lemmas.List.Elements.{All-head, All-tail}
 use Rattle.std.proofs.lemmas.List.Sums.{sum_by-cons}
-use Rattle.lert_frames.specs.declared.bin.LoadedBin.{LoadedBin}
+use Rattle.lert_rows.specs.declared.listed.Listed.{Listed}
 use Rattle.lert_frames.specs.Frame.{IsBin}
 use Rattle.lert_spec.specs.Bins.{Bin}
 use Rattle.lert_spec.specs.declared.piece.Piece.{Piece}
@@ -49,9 +49,9 @@ lists_count limit young rows lists n n_is are =
     )
 
 -- how many streams there are
-pub streams_count : (limit : ℕ) (young : List Bin) (rows : List (List BinAt)) (streams : List LoadedBin) (n : ℕ) → n ≡ length rows →
+pub streams_count : (limit : ℕ) (young : List Bin) (rows : List (List BinAt)) (streams : List Listed) (n : ℕ) → n ≡ length rows →
     AreBins limit (widths_of young rows) (lists_of streams) → length streams ≡ streams_to (length young) rows n
-streams_count limit young rows streams n n_is are = sym (length-map streams (λ (bin : LoadedBin). bin.pieces.items)) ∙ lists_count limit young rows (lists_of streams) n n_is are
+streams_count limit young rows streams n n_is are = sym (length-map streams (λ (bin : Listed). bin.pieces.items)) ∙ lists_count limit young rows (lists_of streams) n n_is are
 
 -- at most as many as the settings say
 pub few_streams : (bins : ℕ) (rows : List (List BinAt)) → ((k : ℕ) → k < length rows → length (get_or rows k []) ≤ bins) →

@@ -1,6 +1,6 @@
 -- The merge of bins: the table of all counts, and the tables of some of the bins.
 use Rattle.std.specs.Prelude.{ℕ, ◌≡◌, ◌+◌, ◌<◌, ◌++◌, fold, drop, List, [], ◌∷◌, length, Option, Some, None, slice_index_or}
-use Rattle.lert_frames.specs.declared.bin.LoadedBin.{LoadedBin}
+use Rattle.lert_rows.specs.declared.listed.Listed.{Listed}
 use Rattle.lert_merge.specs.declared.heads.Head.{Head}
 use Rattle.lert_merge.specs.declared.heads.Head.TheVariants.{Ended}
 use Rattle.lert_merge.specs.Merging.{Merging, share_of}
@@ -42,22 +42,22 @@ pub record IsWithin (streams : ℕ) (part : Part) : Type 0 where
 -- ---- the merge of bins in memory
 
 -- what is left of a bin that this was read ahead of
-pub record IsLeftOf (bin : LoadedBin) (head : Head) (pieces : List Piece) : Type 0 where
+pub record IsLeftOf (bin : Listed) (head : Head) (pieces : List Piece) : Type 0 where
   pub is : pieces ≡ ahead head ++ drop bin.given bin.pieces.items
   pub ended : head ≡ Ended → drop bin.given bin.pieces.items ≡ []
 
 -- these lists are left of the bins
-pub record AreLeft (merge : Merging LoadedBin) (lists : List (List Piece)) : Type 0 where
+pub record AreLeft (merge : Merging Listed) (lists : List (List Piece)) : Type 0 where
   pub len : length lists ≡ length merge.streams
-  pub each : (k : ℕ) (d : LoadedBin) → k < length merge.streams →
+  pub each : (k : ℕ) (d : Listed) → k < length merge.streams →
       IsLeftOf (slice_index_or merge.streams k d) (seat_at merge.seats k).head (list_at lists k)
 
-abbrev pub newest_share : Merging LoadedBin → Option ℕ → ℕ
+abbrev pub newest_share : Merging Listed → Option ℕ → ℕ
 newest_share merge None = 0
 newest_share merge (Some stream) = share_of merge stream
 
 -- a part's share of the piece given last
-abbrev pub share_in : Merging LoadedBin → Part → ℕ
+abbrev pub share_in : Merging Listed → Part → ℕ
 share_in merge part = share_of merge part.oldest + newest_share merge part.newest
 
 -- one above the tail given last, or 0 where none was

@@ -7,9 +7,9 @@ ghost use Rattle.lert_levels.specs.Gathered.{merged, part_table, share_in, bound
 ghost use Rattle.lert_rows.specs.Loading.{lists_of};
 
 use lert_base::{Piece, Totals};
-use lert_frames::LoadedBin;
 use lert_io::{Faulty, OutOfMemory};
 use lert_merge::{Heads, Merge};
+use lert_rows::Listed;
 use std::alloc::Global;
 use std::marker::Model;
 
@@ -23,7 +23,7 @@ pub(crate) struct Part {
 
 impl Part {
     // Its share of the piece that a merge gave last.
-    fn share(&self, merge: &Merge<Calm, LoadedBin>) -> u64
+    fn share(&self, merge: &Merge<Calm, Listed>) -> u64
         requires within { IsWithin (length merge.now.streams) self.now }
         requires small { (k : ℕ) → share_of merge.now k < 2 ^ 63 }
         ensures { result ≡ share_in merge.now self.now }
@@ -69,7 +69,7 @@ impl Merger {
     pub(crate) fn gather<O: Totals>(
         &mut self,
         alloc: Global,
-        streams: Vec<LoadedBin>,
+        streams: Vec<Listed>,
         parts: &[Part],
         totals: &mut O,
     ) -> Result<Vec<Vec<Piece>>, OutOfMemory>
@@ -107,7 +107,7 @@ impl Faulty for Calm {
 // All that is left of a merge that gave nothing yet.
 fn gather<O: Totals>(
     alloc: Global,
-    merge: &mut Merge<Calm, LoadedBin>,
+    merge: &mut Merge<Calm, Listed>,
     parts: &[Part],
     totals: &mut O,
 ) -> Result<Vec<Vec<Piece>>, OutOfMemory>
@@ -141,7 +141,7 @@ fn empty_lists(alloc: Global, count: usize) -> Result<Vec<Vec<Piece>>, OutOfMemo
 }
 
 // The next piece of a merge of bins in memory, which never fails.
-fn next(merge: &mut Merge<Calm, LoadedBin>) -> Option<Piece>
+fn next(merge: &mut Merge<Calm, Listed>) -> Option<Piece>
     ensures told { (lists : List (List Piece)) → AreLeft merge.old lists → MatchOption result (AreOver lists) (λ p.
         IsNext lists p × AreShares merge.new lists p.tail × AreLeft merge.new (map (behind p.tail) lists)) }
     ensures given { MatchOption result (merge.new.last ≡ merge.old.last) (λ p.
@@ -158,7 +158,7 @@ fn next(merge: &mut Merge<Calm, LoadedBin>) -> Option<Piece>
 
 // Puts each part's share of the piece that was given last behind its pieces.
 fn share_out(
-    merge: &Merge<Calm, LoadedBin>,
+    merge: &Merge<Calm, Listed>,
     parts: &[Part],
     tail: u64,
     made: &mut [Vec<Piece>],

@@ -21,10 +21,12 @@ ghost use Rattle.lert_levels.specs.Parts.{streams_to, parts_at};
 ghost use Rattle.lert_rows.specs.Rows.{row_of, IsAt, IsRow, AreRows, HoldsBins, moved, directory_text};
 
 use crate::gather::{Merger, Part};
+use crate::hands::{readers_of, writers_of};
 use crate::parts::parts_of;
 use crate::streams::load_levels;
 use lert_base::{CountTable, Piece, Settings, Totals};
 use lert_bay::Bay;
+use lert_frames::{FrameReader, FrameWriter};
 use lert_io::{Failed, OutOfMemory};
 use lert_rows::{
     BinAt, FlushFault, Zero, check_rows, empty_rows, lay_directory, move_rows, restore_rows,
@@ -36,7 +38,7 @@ use std::marker::{Model, PhantomData};
 /// The levels of a cone on disk, seen as its settings and a row of bins for each level from 1 on. The bins stand in the file
 /// of frames, and level 0 in memory, in tables of type `T`.
 ///
-/// Only `new`, `flush`, `scan` and `check` take memory.
+/// Only `new`, `flush` and `scan` take memory.
 #[derive(Drop)]
 pub struct Levels<T: CountTable> {
     alloc: Global,
@@ -44,6 +46,9 @@ pub struct Levels<T: CountTable> {
     rows: Vec<Vec<BinAt>>,
     directory: Vec<u8>,
     merger: Merger,
+    // A reader and a writer of each level, that of level 1 first.
+    readers: Vec<FrameReader>,
+    writers: Vec<FrameWriter>,
     tables: PhantomData<T>,
 }
 
@@ -55,7 +60,7 @@ impl<T: CountTable> Model for Levels<T> {
 
     ghost view = { λ l. record { settings = l.settings; rows = map (λ row. row.items) l.rows.items } };
 
-    ghost invariant = { λ l. AreKept (λ row. row.items) (λ row. vec_capacity row) l.settings l.rows.items l.directory.items (vec_capacity l.directory) l.merger };
+    ghost invariant = { λ l. AreKept (λ row. row.items) (λ row. vec_capacity row) l.settings l.rows.items l.directory.items (vec_capacity l.directory) l.merger l.readers.items l.writers.items };
 }
 
 impl<T: CountTable> Levels<T> {
@@ -75,6 +80,8 @@ impl<T: CountTable> Levels<T> {
             rows,
             directory,
             merger: Merger::new(alloc, (levels + 1) * bins)?,
+            readers: readers_of(alloc, settings)?,
+            writers: writers_of(alloc, settings)?,
             tables: PhantomData,
         })
     }
@@ -190,13 +197,13 @@ impl<T: CountTable> Levels<T> {
     }
 
     /// Reads each frame that the directory names to its end, the levels ascending and each level's oldest bin first, up to the
-    /// first one that leaves its format or whose counts don't add up to the width of its bin. It writes nothing. It takes the
-    /// memory of one bin at a time.
+    /// first one that leaves its format or whose counts don't add up to the width of its bin. It writes nothing and takes no
+    /// memory.
     pub fn check<B: Bay>(&mut self, bay: &mut B) -> Result<(), FlushFault>
         ensures same { self.new ≡ self.old }
 
         // Where the file is told, each frame stands after Ok, so that a flush or a scan of these rows finds none malformed.
-        // Malformed names the first place at which one leaves its format. Only a call of the bay or memory may fail beside it.
+        // Malformed names the first place at which one leaves its format. Only a call of the bay may fail beside it.
         ensures stand { IfTold (B.files bay.old) (λ seen. OnOk result (EachStands self.old.settings (seen FRAMES) self.old.rows)) }
         ensures held { IfTold (B.files bay.old) (λ seen. (n : ℕ) → IsAt self.old.settings n self.old.rows →
             OnOk result (AllStand self.old.settings (seen FRAMES) (held_after self.old.settings n (seen FRAMES)) self.old.rows)) }
@@ -204,14 +211,14 @@ impl<T: CountTable> Levels<T> {
         ensures malformed { IfTold (B.files bay.old) (λ seen. (at : ℕ) → IsErrOf result (FlushFault.Malformed at) →
             rows_left self.old.settings (seen FRAMES) self.old.rows ≡ Some at) }
         ensures refuses { IfTold (B.files bay.old) (λ seen. (at : ℕ) → rows_left self.old.settings (seen FRAMES) self.old.rows ≡ Some at →
-            IsErrAnd result (λ fault. (fault ≡ FlushFault.Malformed at) ⊎ ((fault ≡ FlushFault.Failed) ⊎ (fault ≡ FlushFault.OutOfMemory)))) }
+            IsErrAnd result (λ fault. (fault ≡ FlushFault.Malformed at) ⊎ (fault ≡ FlushFault.Failed))) }
         ensures sound { IfTold (B.files bay.old) (λ seen. (held : BinAt → List Piece) →
             AllStand self.old.settings (seen FRAMES) held self.old.rows →
-            IfErr result (λ fault. (fault ≡ FlushFault.Failed) ⊎ (fault ≡ FlushFault.OutOfMemory))) }
+            IfErr result (λ fault. fault ≡ FlushFault.Failed)) }
         ensures only_reads { OnlyReads B.Bay bay.old bay.new (IsErrOf result FlushFault.Failed) }
     {
         let _valid = self.settings.numbers();
-        check_rows(self.alloc, &self.settings, &self.rows, bay)
+        Ok(check_rows(&self.settings, &self.rows, &mut self.readers, bay)?)
     }
 
     // The rows of the levels from 1 up to `depth`.
@@ -249,8 +256,15 @@ impl<T: CountTable> Levels<T> {
         ensures only_reads { OnlyReads B.Bay bay.old bay.new (IsErrOf result FlushFault.Failed) }
     {
         let _valid = self.settings.numbers();
-        let rows = self.reached(depth);
-        let streams = load_levels(self.alloc, &self.settings, zero, rows, bay)?;
+        let reached = &self.rows[..depth];
+        let streams = load_levels(
+            self.alloc,
+            &self.settings,
+            zero,
+            reached,
+            &mut self.readers,
+            bay,
+        )?;
         Ok(self.merger.gather(self.alloc, streams, parts, totals)?)
     }
 
@@ -332,21 +346,24 @@ impl<T: CountTable> Levels<T> {
     }
 
     // Writes the new bins of the flush at position `m`.
-    fn write<B: Bay>(&self, m: u64, made: &[Vec<Piece>], bay: &mut B) -> Result<(), Failed>
+    fn write<B: Bay>(&mut self, m: u64, made: &[Vec<Piece>], bay: &mut B) -> Result<(), Failed>
         requires first { 1 ≤ m }
-        requires last { m ≤ capacity self.now.settings }
-        requires at { IsAt self.now.settings (m - 1) self.now.rows }
-        requires count { length made.now ≡ depth self.now.settings m }
-        requires can { AllCanStand self.now.settings (map (λ pieces. pieces.items) made.now) }
-        ensures holds { IfTold (B.files bay.old) (λ seen. (events : List ℕ) → HoldsBins self.now.settings events self.now.rows (seen FRAMES) →
-            AreNew self.now.settings m events (take (depth self.now.settings m) self.now.rows) (map (λ pieces. pieces.items) made.now) →
-            OnOk result (IfTold (B.files bay.new) (λ after. HoldsBins self.now.settings events (moved self.now.settings m self.now.rows) (after FRAMES)))) }
+        requires last { m ≤ capacity self.old.settings }
+        requires at { IsAt self.old.settings (m - 1) self.old.rows }
+        requires count { length made.now ≡ depth self.old.settings m }
+        requires can { AllCanStand self.old.settings (map (λ pieces. pieces.items) made.now) }
+        ensures same { self.new ≡ self.old }
+        ensures holds { IfTold (B.files bay.old) (λ seen. (events : List ℕ) → HoldsBins self.old.settings events self.old.rows (seen FRAMES) →
+            AreNew self.old.settings m events (take (depth self.old.settings m) self.old.rows) (map (λ pieces. pieces.items) made.now) →
+            OnOk result (IfTold (B.files bay.new) (λ after. HoldsBins self.old.settings events (moved self.old.settings m self.old.rows) (after FRAMES)))) }
         ensures durable { OnOk result (IfTold (B.files bay.new) (λ seen. (image : Files) → B.leaves bay.new image → image FRAMES ≡ seen FRAMES)) }
-        ensures rest { KeepsRest B.Bay (InNamed self.now.settings self.now.rows) bay.old bay.new }
+        ensures rest { KeepsRest B.Bay (InNamed self.old.settings self.old.rows) bay.old bay.new }
         ensures kept { KeepsBay B.Bay bay.old bay.new (IsErr result) }
     {
+        let _valid = self.settings.numbers();
         let depth = self.settings.depth(m) as usize;
-        write_arrivals(&self.settings, m, self.reached(depth), made, bay)
+        let rows = &self.rows[..depth];
+        write_arrivals(&self.settings, m, rows, made, &mut self.writers, bay)
     }
 
     // Moves the rows on through the flush at position `m`.

@@ -5,6 +5,7 @@
 #![tactic(auto)]
 
 mod gather;
+mod hands;
 mod levels;
 mod parts;
 mod streams;

@@ -9,6 +9,7 @@ ghost use Rattle.lert_frames.specs.Place.{tail_limit};
 ghost use Rattle.lert_spec.specs.Edges.{span};
 ghost use Rattle.lert_spec.specs.declared.piece.Piece.{Piece};
 ghost use Rattle.lert_rows.specs.declared.bin_at.BinAt.{BinAt};
+ghost use Rattle.lert_rows.specs.Hands.{AreReaders};
 ghost use Rattle.lert_rows.specs.Loading.{lists_of, AreBins, AllStand, OneBreaks};
 ghost use Rattle.lert_levels.specs.Merged.{streams_of, widths_of};
 ghost use Rattle.lert_levels.specs.Parts.{streams_to};
@@ -16,8 +17,8 @@ ghost use Rattle.lert_rows.specs.Rows.{IsRow};
 
 use lert_base::{CountTable, Settings};
 use lert_bay::Bay;
-use lert_frames::LoadedBin;
-use lert_rows::{BinAt, FlushFault, Zero, load_rows};
+use lert_frames::FrameReader;
+use lert_rows::{BinAt, FlushFault, Listed, Zero, load_rows};
 use std::alloc::Global;
 
 /// The bins of level 0 and those of the rows, from level 1 on, each level's oldest first. It takes the memory of their pieces.
@@ -26,11 +27,13 @@ pub fn load_levels<T: CountTable, B: Bay>(
     settings: &Settings,
     zero: &Zero<T>,
     rows: &[Vec<BinAt>],
+    readers: &mut [FrameReader],
     bay: &mut B,
-) -> Result<Vec<LoadedBin>, FlushFault>
+) -> Result<Vec<Listed>, FlushFault>
     requires same { zero.now.settings ≡ settings.now }
     requires few { length rows.now ≤ settings.now.levels }
     requires rows { (k : ℕ) → k < length rows.now → IsRow settings.now (k + 1) (slice_index_or (map (λ row. row.items) rows.now) k []) }
+    requires readers { AreReaders settings.now readers.old }
     ensures lists { IfTold (B.files bay.old) (λ seen. (held : BinAt → List Piece) →
         AllStand settings.now (seen FRAMES) held (map (λ row. row.items) rows.now) → MatchResult result
         (λ streams. lists_of streams.items ≡ streams_of zero.now.bins held (map (λ row. row.items) rows.now))
@@ -43,10 +46,11 @@ pub fn load_levels<T: CountTable, B: Bay>(
     ensures fresh { IfOk result (λ streams. All (λ bin. bin.given ≡ 0) streams.items) }
     ensures malformed { IfTold (B.files bay.old) (λ seen. (at : ℕ) → IsErrOf result (FlushFault.Malformed at) →
         OneBreaks settings.now (map (λ row. row.items) rows.now) (seen FRAMES) at) }
+    ensures readers { AreReaders settings.now readers.new }
     ensures only_reads { OnlyReads B.Bay bay.old bay.new (IsErrOf result FlushFault.Failed) }
 {
     let mut streams = Vec::new(alloc);
     zero.load(alloc, &mut streams)?;
-    load_rows(alloc, settings, rows, &mut streams, bay)?;
+    load_rows(alloc, settings, rows, readers, &mut streams, bay)?;
     Ok(streams)
 }

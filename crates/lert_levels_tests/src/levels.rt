@@ -7,9 +7,9 @@ ghost use Rattle.lert_levels_tests.specs.Samples.{small as small_numbers, IsRead
 
 use crate::samples::{Taken, are, fill};
 use crate::scenes::{Scene, play};
-use lert_base::Settings;
+use lert_base::{Piece, Pieces, Settings};
 use lert_bay::{Bay, FRAMES, MemBay};
-use lert_frames::load;
+use lert_frames::FrameReader;
 use lert_levels::{FlushFault, Levels, Zero};
 use lert_plain::PlainTable;
 use std::alloc::Global;
@@ -180,8 +180,16 @@ fn holds(
     requires some { 1 ≤ width }
     requires width { width ≤ span small_numbers 1 }
 {
-    let bin = load(alloc, settings, 1, frame, width, bay)?;
-    Ok(are(bin.pieces(), pairs))
+    let mut reader = FrameReader::new(alloc, settings, 1)?;
+    reader.start(frame, width);
+    let begins = pairs.iter().all(|(tail, count)| {
+        let piece = Piece {
+            tail: *tail,
+            count: *count,
+        };
+        reader.next(bay) == Ok(Some(piece))
+    });
+    Ok(begins && reader.next(bay) == Ok(None))
 }
 
 // Whether the totals of a flush are the sums of the bins of level 0, and the bins of level 1 behind the third one those of
@@ -304,12 +312,13 @@ impl Scene for BrokenBytes {
     }
 }
 
-// The oldest bin of level 1 stands at byte 264, and that of level 2 at byte 528.
+// The oldest bin of level 1 stands at byte 296, and that of level 2 at byte 592: each in one block, of which the first
+// quotient has a run of eight slots.
 #[test]
 fn a_check_stops_at_the_first_broken_byte(rt: HostRuntime) -> Result<(), Fail> {
-    let writes = [(528, 4), (528, 9), (284, 1)];
+    let writes = [(592, 1), (600, 33), (308, 0xc0)];
     let places = play(rt.alloc(), &ROUND, &BrokenBytes { writes })?;
-    assert_eq!(rt; places.as_slice(), [None, Some(528), Some(284)].as_slice());
+    assert_eq!(rt; places.as_slice(), [None, Some(600), Some(308)].as_slice());
     Ok(())
 }
 

@@ -123,7 +123,7 @@ module _ (s : Numbers) (cone : ℕ) where
           headed = sound_headed seen history sound;
           log = sound.log;
           named = named;
-          frames = all_whole s rows (seen FRAMES) (tallied_in s events) named.are
+          frames = all_whole s rows (seen FRAMES) (tallied_in s events) valid named.are
               (subst (λ (rs : List (List BinAt)). AllStand s (seen FRAMES) (tallied_in s events) rs) (take_all s.levels rows (omega (arith, named.at.levels))) stand);
         };
       }

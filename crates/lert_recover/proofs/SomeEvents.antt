@@ -9,7 +9,6 @@ use Rattle.std.proofs.lemmas.List.{map-append, length-append}
 use Rattle.std.proofs.lemmas.List.Elements.{All-nil, All-cons, All-head, All-tail, All-append, All-take, All-drop}
 use Rattle.std.proofs.lemmas.List.Folds.{sum_by-replicate}
 use Rattle.lert_frames.specs.Frame.{HoldsFrame}
-use Rattle.lert_frames.specs.Place.{frame_place}
 use Rattle.lert_spec.specs.declared.numbers.Numbers.{Numbers}
 use Rattle.lert_spec.specs.declared.piece.Piece.{Piece}
 use Rattle.lert_spec.specs.Bins.{tallied}
@@ -233,6 +232,6 @@ some_events s valid n fits rows at file stand =
           let is = stands k (omega (arith, at.levels)) i d below in
           let there = All-row (λ (b : BinAt). slice_range events b.from b.to ≡ keys b) rows s.levels placed k less i d below in
           let same : held bin ≡ tallied_in s events bin = sym (ap (tallied s) there ∙ tallied-expand s (held bin) is.are.given.table) in
-          subst (λ pieces. HoldsFrame (frame_place s level bin.frame) file pieces) same
-          (subst (λ l. HoldsFrame (frame_place s l bin.frame) file (held bin)) place is.text);
+          subst (λ pieces. HoldsFrame s level bin.frame file pieces) same
+          (subst (λ l. HoldsFrame s l bin.frame file (held bin)) place is.text);
     }

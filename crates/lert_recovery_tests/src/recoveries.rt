@@ -245,13 +245,13 @@ fn a_broken_frame_is_named_by_its_place(rt: HostRuntime) {
     let trace = trace_with(rt.alloc(), 16, &[]).expect(&rt, "memory");
     let text = "cone 0 events 16 reports 0 closed\ntotal events 16 reports 0\n";
     let mut left = left_by_run(&rt, trace.as_slice(), 0, Status::Done, text).expect(&rt, "memory");
-    // The flush at 16 wrote the second frame of level 1, which has 4 + 16 * 8 bytes, as the first one has. A number of
-    // pairs above the eight events of its bin is left at that field.
-    change(&rt, left.frames.as_mut_slice(), 132, 9);
+    // The flush at 16 wrote the second frame of level 1, behind the 20 + 16 * 8 bytes of the first one. More slots of its
+    // block than the eight events of its bin take are left at their field, behind eight bytes.
+    change(&rt, left.frames.as_mut_slice(), 156, 17);
     let status = Status::Malformed {
         cone: 0,
         file: FRAMES,
-        at: 132,
+        at: 156,
     };
     check_refused(&rt, SMALL, &left, status).expect(&rt, "memory");
 }

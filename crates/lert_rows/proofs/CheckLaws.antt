@@ -1,24 +1,24 @@
 -- Where a check of the frames stops: at the first bin of the first level that leaves its format.
-use Rattle.std.proofs.Common.{ℕ, ◌≡◌, ◌+◌, ◌-◌, ◌^◌, ◌<◌, ◌≤◌, suc, List, [], ◌∷◌, ◌++◌, length, map, get_or, take, drop, Option, Some, None, refl, ap}
-use Rattle.std.proofs.Common.{ap₂, sym, ◌∙◌, ◌⊎◌, arith, inl, inr, subst, lit<, Result, append-nil, length-take}
-use Rattle.std.specs.Prelude.{Ok, Err, IfErr, IsErrAnd, OnOk, IsErrOf}
+use Rattle.std.proofs.Common.{ℕ, ◌≡◌, ◌+◌, ◌-◌, ◌<◌, ◌≤◌, suc, List, [], ◌∷◌, ◌++◌, length, map, get_or, take, drop, Option, Some, None, refl, ap}
+use Rattle.std.proofs.Common.{ap₂, sym, ◌∙◌, ◌⊎◌, arith, inl, inr, subst, Result, append-nil, length-take}
+use Rattle.std.specs.Prelude.{Ok, Err, IfErr, IsErrAnd}
 use Rattle.std.specs.List.{All}
-use Rattle.std.proofs.Math.Nat.{pow-le-pow_right}
 use Rattle.std.proofs.Math.Seq.{drop-cons}
 use Rattle.std.proofs.lemmas.List.{map-append, map_more, append_assoc, take-append-drop, take_more, length-map}
 use Rattle.std.proofs.lemmas.List.Elements.{All-head, All-tail}
 use Rattle.std.proofs.lemmas.Option.{none-some}
-use Rattle.lert_frames.specs.Frame.{first_of, IsBin, HoldsFrame}
-use Rattle.lert_frames.specs.Place.{frame_place, tail_limit}
-use Rattle.lert_frames.proofs.BackLaws.{frame_whole, pieces_are}
+use Rattle.lert_base.specs.declared.pieces.PieceFault.{PieceFault}
+use Rattle.lert_base.specs.declared.pieces.PieceFault.TheVariants.{Failed as PieceFailed, Malformed as PieceMalformed}
+use Rattle.lert_frames.proofs.FrameLaws.{left_is}
 use Rattle.lert_spec.specs.declared.numbers.Numbers.{Numbers}
 use Rattle.lert_spec.specs.declared.piece.Piece.{Piece}
-use Rattle.lert_spec.proofs.Tables.{length_le-total}
+use Rattle.lert_spec.specs.Edges.{span}
+use Rattle.lert_spec.specs.Limits.{IsValid}
 use Rattle.lert_rows.specs.declared.bin_at.BinAt.{BinAt}
 use Rattle.lert_rows.specs.declared.fault.FlushFault.{FlushFault}
-use Rattle.lert_rows.specs.declared.fault.FlushFault.TheVariants.{Failed, Malformed, OutOfMemory}
-use Rattle.lert_rows.specs.Checked.{pieces_in, bin_left, bins_left, row_left, rows_left}
-use Rattle.lert_rows.specs.Loading.{width_of, Stands, AllStand}
+use Rattle.lert_rows.specs.declared.fault.FlushFault.TheVariants.{Failed, Malformed}
+use Rattle.lert_rows.specs.Checked.{bin_left, bins_left, first_of, row_left, rows_left}
+use Rattle.lert_rows.specs.Loading.{width_of, flush_fault, Stands, AllStand}
 use Rattle.lert_rows.specs.Rows.{IsRow, AreRows}
 
 -- ---- the first place of several
@@ -89,26 +89,10 @@ module _ (s : Numbers) (file : List ℕ) (rows : List (List BinAt)) (i : ℕ) (n
 
 -- ---- bins that stand
 
-limit_fits : (s : Numbers) → tail_limit s ≤ 2 ^ 64
-limit_fits s = pow-le-pow_right {n = 2} (lit< tt) {i = 64 - s.cone_bits} {j = 64} (omega arith)
-
-few_pieces : (limit width : ℕ) (pieces : List Piece) → IsBin limit width pieces → width < 2 ^ 32 → length pieces < 2 ^ 32
-few_pieces limit width pieces bin few = omega (arith, length_le-total 0 limit pieces bin.given.table, bin.summed, few)
-
--- what was read of a bin's frame is what the file says there
-pub read_stands : (s : Numbers) (level : ℕ) (file : List ℕ) (bin : BinAt) (pieces : List Piece) → width_of bin < 2 ^ 32 → IsBin (tail_limit s) (width_of bin) pieces →
-    HoldsFrame (frame_place s level bin.frame) file pieces →
-    Stands s level file (pieces_in s file level) bin
-read_stands s level file bin pieces few is holds =
-    let same = pieces_are (tail_limit s) (width_of bin) (frame_place s level bin.frame) file pieces is holds (limit_fits s) (few_pieces (tail_limit s) (width_of bin) pieces is few) in
-    record { are = subst (IsBin (tail_limit s) (width_of bin)) same is; text = subst (HoldsFrame (frame_place s level bin.frame) file) same holds }
-
 -- a bin that stands leaves its format nowhere
-stands_whole : (s : Numbers) (level : ℕ) (file : List ℕ) (held : BinAt → List Piece) (bin : BinAt) → width_of bin < 2 ^ 32 → Stands s level file held bin →
-    bin_left s file level bin ≡ None
-stands_whole s level file held bin few stands =
-    frame_whole (tail_limit s) (width_of bin) (frame_place s level bin.frame) file (held bin) stands.are stands.text (limit_fits s)
-    (few_pieces (tail_limit s) (width_of bin) (held bin) stands.are few)
+stands_whole : (s : Numbers) (level : ℕ) (file : List ℕ) (held : BinAt → List Piece) (bin : BinAt) → IsValid s → level ≤ s.levels → width_of bin ≤ span s level →
+    Stands s level file held bin → bin_left s file level bin ≡ None
+stands_whole s level file held bin valid last within stands = left_is s level bin.frame (width_of bin) file (held bin) valid last within stands.are stands.text
 
 row_whole : (f : BinAt → Option ℕ) (row : List BinAt) → All (λ bin. f bin ≡ None) row → first_of (map f row) ≡ None
 row_whole f [] whole = refl
@@ -126,35 +110,36 @@ rows_whole s file level (row ∷ rows) whole =
     same) (whole (suc k) (omega arith)))
 
 -- bins of rows that all stand leave their format nowhere
-pub all_whole : (s : Numbers) (rows : List (List BinAt)) (file : List ℕ) (held : BinAt → List Piece) → AreRows s rows → AllStand s file held rows → rows_left s file rows ≡ None
-all_whole s rows file held are stand =
+pub all_whole : (s : Numbers) (rows : List (List BinAt)) (file : List ℕ) (held : BinAt → List Piece) → IsValid s → AreRows s rows → AllStand s file held rows →
+    rows_left s file rows ≡ None
+all_whole s rows file held valid are stand =
     rows_whole s file 1 rows
     (λ k below.
     let place : k + 1 - 1 ≡ k = omega arith in
     let same : k + 1 ≡ 1 + k = omega arith in
-    let row = subst (IsRow s (k + 1)) (ap (λ j. get_or rows j []) place) (are.each (k + 1) (omega arith) (omega (arith, are.levels))) in
+    let last : k + 1 ≤ s.levels = omega (arith, are.levels) in
+    let row = subst (IsRow s (k + 1)) (ap (λ j. get_or rows j []) place) (are.each (k + 1) (omega arith) last) in
     λ i d inside. ap (λ l. bin_left s file l (get_or (get_or rows k []) i d)) (sym same)
-    ∙ stands_whole s (k + 1) file held (get_or (get_or rows k []) i d) (omega (arith, row.ends i d inside)) (stand k below i d inside))
+    ∙ stands_whole s (k + 1) file held (get_or (get_or rows k []) i d) valid last (row.widths i d inside) (stand k below i d inside))
 
 -- ---- what an answer says of the frames says of the answer
 
-pub check_refuses : {T : Type 0} (result : Result T FlushFault) (left : Option ℕ) (at : ℕ) → left ≡ Some at → OnOk result (left ≡ None) →
-    ((spot : ℕ) → IsErrOf result (Malformed spot) → left ≡ Some spot) →
-    IsErrAnd result (λ fault. (fault ≡ Malformed at) ⊎ ((fault ≡ Failed) ⊎ (fault ≡ OutOfMemory)))
-check_refuses (Ok found) left at is whole malformed = absurd (none-some at (sym whole ∙ is))
-check_refuses (Err Failed) left at is whole malformed = inr (inl refl)
-check_refuses (Err OutOfMemory) left at is whole malformed = inr (inr refl)
-check_refuses (Err (Malformed spot)) left at is whole malformed =
+-- where they leave their format, a check says where, or that a call failed
+pub check_refuses : {T : Type 0} (result : Result T FlushFault) (piece : PieceFault) (left : Option ℕ) (at : ℕ) → left ≡ Some at → IsErrAnd result (λ fault. fault ≡ flush_fault piece) →
+    ((spot : ℕ) → piece ≡ PieceMalformed spot → left ≡ Some spot) → IsErrAnd result (λ fault. (fault ≡ Malformed at) ⊎ (fault ≡ Failed))
+check_refuses (Ok found) piece left at is gave malformed = gave
+check_refuses (Err fault) PieceFailed left at is gave malformed = inr gave
+check_refuses (Err fault) (PieceMalformed spot) left at is gave malformed =
     let both : Some spot ≡ Some at = sym (malformed spot refl) ∙ is in
     let same : spot ≡ at = cc in
-    inl (ap Malformed same)
+    inl (gave ∙ ap Malformed same)
 
-pub check_passes : {T : Type 0} (result : Result T FlushFault) (left : Option ℕ) → left ≡ None → ((spot : ℕ) → IsErrOf result (Malformed spot) → left ≡ Some spot) →
-    IfErr result (λ fault. (fault ≡ Failed) ⊎ (fault ≡ OutOfMemory))
-check_passes (Ok found) left none malformed = tt
-check_passes (Err Failed) left none malformed = inl refl
-check_passes (Err OutOfMemory) left none malformed = inr refl
-check_passes (Err (Malformed spot)) left none malformed = absurd (none-some spot (sym none ∙ malformed spot refl))
+-- where they leave it nowhere, a call failed
+pub check_passes : {T : Type 0} (result : Result T FlushFault) (piece : PieceFault) (left : Option ℕ) → left ≡ None → IsErrAnd result (λ fault. fault ≡ flush_fault piece) →
+    ((spot : ℕ) → piece ≡ PieceMalformed spot → left ≡ Some spot) → IfErr result (λ fault. fault ≡ Failed)
+check_passes (Ok found) piece left none gave malformed = tt
+check_passes (Err fault) PieceFailed left none gave malformed = gave
+check_passes (Err fault) (PieceMalformed spot) left none gave malformed = absurd (none-some spot (sym none ∙ malformed spot refl))
 
 -- ---- what a caller sees of the rows
 

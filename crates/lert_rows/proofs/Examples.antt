@@ -2,6 +2,7 @@
 -- disk, and thirty-two keys.
 use Rattle.std.proofs.Common.{◌≡◌, ℕ, List, [], ◌∷◌, ◌++◌, refl, map, replicate, Some}
 use Rattle.std.specs.List.{range_with_len}
+use Rattle.lert_slotbits.specs.Bits.{word_bits}
 use Rattle.lert_spec.specs.declared.numbers.Numbers.{Numbers}
 use Rattle.lert_spec.specs.Bins.{bins}
 use Rattle.lert_rows.specs.declared.bin_at.BinAt.{BinAt}
@@ -80,9 +81,14 @@ of_level_1 = refl
 of_level_2 : level_of small 32 2 8 ≡ 2
 of_level_2 = refl
 
--- a file with no byte is left at its end, and one of zero bytes, which are frames of no pieces, at the first bin of level 1
+-- a file with no byte is left at its end, and one that ends in the first bin's frame too; zero bytes are a frame of no pieces,
+-- whose sum isn't that of the bin
 no_file : rows_left small [] at_32 ≡ Some 0
 no_file = refl
 
-no_pieces : rows_left small (replicate 1000 0) at_32 ≡ Some 264
+cut_file : rows_left small (replicate 300 0) at_32 ≡ Some 300
+cut_file = refl
+
+no_pieces : rows_left small (replicate 1000 0) at_32 ≡ Some 296
+unfolding word_bits
 no_pieces = refl

@@ -5,7 +5,7 @@ use Rattle.std.specs.List.{All, range_with_len}
 use Rattle.std.proofs.lemmas.Bool.{cases_lt, lt-ltb, le-ltb}
 use Rattle.std.proofs.lemmas.List.{length-map, get_or-map}
 use Rattle.lert_frames.specs.Frame.{IsBin, HoldsFrame}
-use Rattle.lert_frames.specs.Place.{frame_place, tail_limit}
+use Rattle.lert_frames.specs.Place.{tail_limit}
 use Rattle.lert_spec.specs.declared.numbers.Numbers.{Numbers}
 use Rattle.lert_spec.specs.Edges.{span, edge}
 use Rattle.lert_spec.proofs.EdgeLaws.{edge_descends_to, span_pos}
@@ -76,4 +76,4 @@ module _ (s : Numbers) (base : 1 ≤ s.base) (ratio : 1 ≤ s.ratio) (n : ℕ) w
       let bin = get_or (get_or rows k []) i d in
       let there = stand k below i d inside in
       let same : pieces_in s file (k + 1) bin ≡ held_after s n file bin = ap (λ level. pieces_in s file level bin) (sym (bin_level rows at k within i d inside)) in
-      record { are = subst (IsBin (tail_limit s) (width_of bin)) same there.are; text = subst (HoldsFrame (frame_place s (k + 1) bin.frame) file) same there.text }
+      record { are = subst (IsBin (tail_limit s) (width_of bin)) same there.are; text = subst (HoldsFrame s (k + 1) bin.frame file) same there.text }

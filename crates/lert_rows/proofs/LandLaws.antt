@@ -1,24 +1,25 @@
 -- Calls that write some frames and leave the rest, one after the other.
-use Rattle.std.proofs.Common.{ℕ, ◌≡◌, ◌≢◌, ◌+◌, ◌<◌, ◌≤◌, List, [], length, take, get_or, refl, ap, sym, ◌∙◌, arith, inl, inr, ◌⊎◌, subst, Option, Some}
+use Rattle.std.proofs.Common.{ℕ, ◌≡◌, ◌≢◌, ◌+◌, ◌-◌, ◌<◌, ◌≤◌, List, [], length, take, get_or, refl, ap, sym, ◌∙◌, arith, inl, inr, ◌⊎◌, subst, Option, Some}
 use Rattle.std.proofs.Common.{Result, length-take, length-drop}
 use Rattle.std.specs.Prelude.{Ok, Err, OnOk, OnErr}
 use Rattle.std.proofs.lemmas.Bool.{cases_eq, cases_lt}
 use Rattle.lert_bay.specs.declared.bay.TheConstants.{FRAMES}
-use Rattle.lert_bay.specs.Files.{Files, Turns, Changes, Holds, Torn, LeftByFailure}
+use Rattle.lert_bay.specs.Files.{Files, Turns, Changes, LeftByFailure}
 use Rattle.lert_bay.specs.Images.{Elapses, Settles, KeepsImages}
+use Rattle.lert_bay.specs.Kept.{Bays, KeepsBay, OnlyReads}
 use Rattle.lert_bay.specs.Settled.{part, Keeps, IsSettled}
 use Rattle.lert_bay.proofs.KeptLaws.{IsLawful}
-use Rattle.lert_bay.proofs.Settling.{part_torn}
-use Rattle.lert_bay.proofs.Tearing.{torn_held}
-use Rattle.lert_frames.proofs.StoreLaws.{length_frame}
-use Rattle.lert_frames.proofs.WriteLaws.{either_way}
-use Rattle.lert_frames.specs.Frame.{HoldsFrame, frame_text, text_len}
-use Rattle.lert_bay.specs.Kept.{Bays, KeepsBay, OnlyReads}
-use Rattle.lert_frames.specs.Place.{frame_place, frame_len, tail_limit}
+use Rattle.lert_bay.proofs.Settling.{part_none, part_torn}
+use Rattle.lert_frames.specs.Frame.{HoldsFrame, frame_text}
+use Rattle.lert_frames.specs.Kept.{WritesWithin}
+use Rattle.lert_frames.specs.Place.{frame_place, frame_len}
+use Rattle.lert_frames.proofs.FrameLaws.{text_within}
 use Rattle.lert_frames.proofs.PlaceLaws.{places_apart}
+use Rattle.lert_frames.proofs.WithinLaws.{within_outside}
+use Rattle.lert_frames.proofs.WriteLaws.{either_way}
+use Rattle.lert_spec.specs.Limits.{IsValid}
 use Rattle.lert_spec.specs.declared.numbers.Numbers.{Numbers}
 use Rattle.lert_spec.specs.declared.piece.Piece.{Piece}
-use Rattle.lert_spec.proofs.Tables.{length_le-total}
 use Rattle.lert_rows.specs.declared.bin_at.BinAt.{BinAt}
 use Rattle.lert_rows.specs.Landing.{IsApart, LeavesRest, KeepsRest, landing_frame, AreApart, CanStand, AreLanded}
 use Rattle.lert_rows.specs.Rows.{IsRow, arrived}
@@ -102,48 +103,57 @@ rest_fewer bays kept fewer before after weaker keeps = record {
       keeps.settled seen told number from to (elim may [ inl other ↦ inl other | inr kept_here ↦ inr (weaker from to kept_here) ]) settled;
 }
 
--- ---- the write of one frame
+-- ---- writes into the place of one frame
 
-torn_rest : (s : Numbers) (level frame count : ℕ) (old new : Files) → count ≤ frame_len s level → ((number : ℕ) → number ≢ FRAMES → new number ≡ old number) →
-    Torn (frame_place s level frame) count (old FRAMES) (new FRAMES) → LeavesRest (IsApart s level frame) old new
-torn_rest s level frame count old new fits others torn = record {
-  others = others;
-  longer = torn.no_shorter;
-  rest = λ from to apart within. part_torn (frame_place s level frame) count (old FRAMES) (new FRAMES) (old FRAMES) from to torn refl within
-      (elim apart [ inl before ↦ inl before | inr behind ↦ inr (omega (arith, behind, fits)) ]);
-}
-
-pub stored_rest : {T E : Type 0} (s : Numbers) (level frame : ℕ) (pieces : List Piece) (result : Result T E) (before after : Option Files) → text_len pieces ≤ frame_len s level →
-    OnOk result (Turns (Changes (Holds (frame_place s level frame) (frame_text pieces)) FRAMES) before after) →
-    OnErr result (Turns (Changes (LeftByFailure (frame_place s level frame) (text_len pieces)) FRAMES) before after) →
-    Turns (LeavesRest (IsApart s level frame)) before after
-stored_rest s level frame pieces result before after fits ok err =
+pub within_rest : {B : Type 0} (bays : Bays B) (s : Numbers) (level frame : ℕ) (before after : B) →
+    WritesWithin bays (frame_place s level frame) (frame_place s level frame + frame_len s level) before after → KeepsRest bays (IsApart s level frame) before after
+within_rest bays s level frame before after wrote =
     let place = frame_place s level frame in
-    either_way (Turns (LeavesRest (IsApart s level frame)) before after) (Turns (Changes (Holds place (frame_text pieces)) FRAMES) before after)
-    (Turns (Changes (LeftByFailure place (text_len pieces)) FRAMES) before after) result ok err
-    (λ wrote. record {
-      told = λ old told. (
-          let then = wrote.told old told in
-          let torn = torn_held place (frame_text pieces) (old FRAMES) (then.0 FRAMES) then.2.here in
-          (then.0, then.1, torn_rest s level frame (text_len pieces) old then.0 fits then.2.others (subst (λ (n : ℕ). Torn place n (old FRAMES) (then.0 FRAMES)) (length_frame pieces) torn)));
-      untold = wrote.untold;
-    })
-    (λ failed. record {
-      told = λ old told. (
-          let then = failed.told old told in
-          (then.0, then.1, torn_rest s level frame (text_len pieces) old then.0 fits then.2.others then.2.here.torn));
-      untold = failed.untold;
-    })
-
--- a frame in a range that is kept still holds its pieces
-pub holds_stays : (kept : ℕ → ℕ → Type 0) (old new : Files) (place : ℕ) (pieces : List Piece) → LeavesRest kept old new → kept place (place + text_len pieces) →
-    HoldsFrame place (old FRAMES) pieces → HoldsFrame place (new FRAMES) pieces
-holds_stays kept old new place pieces leaves kept_here holds =
-    let long : place + text_len pieces ≤ length (old FRAMES) = reaches_end (old FRAMES) place (text_len pieces) (omega arith) (ap length holds ∙ length_frame pieces) in
-    leaves.rest place (place + text_len pieces) kept_here long ∙ holds
+    let end = place + frame_len s level in
+    record {
+      seen = record {
+        told = λ old told. (
+            let then = wrote.wrote.seen.told old told in
+            (then.0, then.1, left_rest s level frame old then.0 then.2));
+        untold = wrote.wrote.seen.untold;
+      };
+      settled = λ seen told. within_outside bays place end end before after seen (omega arith) (omega arith) wrote;
+    }
   where
-    reaches_end : (bytes : List ℕ) (from count : ℕ) → 1 ≤ count → length (part bytes from (from + count)) ≡ count → from + count ≤ length bytes
-    reaches_end bytes from count some long = omega (arith, long, length-drop from (take (from + count) bytes), length-take (from + count) bytes)
+    left_rest : (s : Numbers) (level frame : ℕ) (old new : Files) →
+        Changes (LeftByFailure (frame_place s level frame) (frame_place s level frame + frame_len s level - frame_place s level frame)) FRAMES old new →
+        LeavesRest (IsApart s level frame) old new
+    left_rest s level frame old new changed =
+        let place = frame_place s level frame in
+        record {
+          others = changed.others;
+          longer = changed.here.torn.no_shorter;
+          rest = λ from to apart within.
+              part_torn place (place + frame_len s level - place) (old FRAMES) (new FRAMES) (old FRAMES) from to changed.here.torn refl within
+              (elim apart [ inl before ↦ inl before | inr behind ↦ inr (omega (arith, behind)) ]);
+        }
+
+-- text in a range that is kept still stands there
+text_stays : (kept : ℕ → ℕ → Type 0) (old new : Files) (place : ℕ) (text : List ℕ) → LeavesRest kept old new → kept place (place + length text) →
+    part (old FRAMES) place (place + length text) ≡ text → part (new FRAMES) place (place + length text) ≡ text
+text_stays kept old new place text leaves kept_here holds = elim (cases_lt 0 (length text)) [
+  | inl some ↦
+      let long : place + length text ≤ length (old FRAMES) = reaches_end (old FRAMES) place (length text) some (ap length holds) in
+      leaves.rest place (place + length text) kept_here long ∙ holds
+  | inr empty ↦
+      let none : place + length text ≤ place = omega (arith, empty) in
+      part_none (new FRAMES) place (place + length text) none ∙ (sym (part_none (old FRAMES) place (place + length text) none) ∙ holds)
+]
+  where
+    reaches_end : (bytes : List ℕ) (from count : ℕ) → 0 < count → length (part bytes from (from + count)) ≡ count → from + count ≤ length bytes
+    reaches_end bytes from count some long = omega (arith, some, long, length-drop from (take (from + count) bytes), length-take (from + count) bytes)
+
+-- and a frame its pieces
+pub holds_stays : (kept : ℕ → ℕ → Type 0) (old new : Files) (s : Numbers) (level frame : ℕ) (pieces : List Piece) → LeavesRest kept old new →
+    kept (frame_place s level frame) (frame_place s level frame + length (frame_text s level pieces)) → HoldsFrame s level frame (old FRAMES) pieces →
+    HoldsFrame s level frame (new FRAMES) pieces
+holds_stays kept old new s level frame pieces leaves kept_here holds =
+    text_stays kept old new (frame_place s level frame) (frame_text s level pieces) leaves kept_here holds
 
 -- ---- the sync
 
@@ -163,36 +173,35 @@ sync_rest bays lawful kept before after elapsed same was = record {
 pub landing_within : (s : Numbers) (m level : ℕ) (row : List BinAt) → IsRow s level row → (arrived s m level row).frame ≤ s.bins
 landing_within s m level row is = omega (arith, (lowest_is_free row).within, is.few)
 
-room_for : (s : Numbers) (level : ℕ) (pieces : List Piece) → CanStand s level pieces → text_len pieces ≤ frame_len s level
-room_for s level pieces can = omega (arith, length_le-total 0 (tail_limit s) pieces can.given.table, can.fits)
-
-module _ (s : Numbers) (m : ℕ) (rows : List (List BinAt)) (bins : List (List Piece)) (rows_are : (k : ℕ) → k < length rows → IsRow s (k + 1) (get_or rows k []))
-    (len : length bins ≡ length rows) (bins_are : (k : ℕ) → k < length bins → CanStand s (k + 1) (get_or bins k [])) where
+module _ (s : Numbers) (m : ℕ) (rows : List (List BinAt)) (bins : List (List Piece)) (valid : IsValid s) (few : length rows ≤ s.levels)
+    (rows_are : (k : ℕ) → k < length rows → IsRow s (k + 1) (get_or rows k [])) (len : length bins ≡ length rows)
+    (bins_are : (k : ℕ) → k < length bins → CanStand s (k + 1) (get_or bins k [])) where
   -- a bin more stands, and those before it still do
   pub landed_more : (old new : Files) (i frame : ℕ) (pieces : List Piece) → i < length rows → landing_frame s m rows i ≡ frame → get_or bins i [] ≡ pieces →
       LeavesRest (IsApart s (i + 1) frame) old new →
-      HoldsFrame (frame_place s (i + 1) frame) (new FRAMES) pieces → AreLanded s m rows (old FRAMES) bins i → AreLanded s m rows (new FRAMES) bins (i + 1)
+      HoldsFrame s (i + 1) frame (new FRAMES) pieces → AreLanded s m rows (old FRAMES) bins i → AreLanded s m rows (new FRAMES) bins (i + 1)
   landed_more old new i frame pieces below frame_is pieces_are leaves here before k within =
       elim (cases_lt k i) [
         | inl earlier ↦ (
             let list = get_or bins k [] in
             let own = landing_frame s m rows k in
             let place = frame_place s (k + 1) own in
-            let fits = room_for s (k + 1) list (bins_are k (omega arith)) in
+            let can = bins_are k (omega arith) in
+            let fits = text_within s (k + 1) list valid (omega (arith, few)) can.given.table can.fits in
             let own_within = landing_within s m (k + 1) (get_or rows k []) (rows_are k (omega arith)) in
             let frame_within : frame ≤ s.bins = subst (λ (n : ℕ). n ≤ s.bins) frame_is (landing_within s m (i + 1) (get_or rows i []) (rows_are i below)) in
             let levels_differ : k + 1 ≢ i + 1 = λ same. omega arith in
-            let apart : IsApart s (i + 1) frame place (place + text_len list) =
+            let apart : IsApart s (i + 1) frame place (place + length (frame_text s (k + 1) list)) =
             elim (places_apart s (i + 1) frame (k + 1) own (omega arith) frame_within (omega arith) own_within (inl levels_differ)) [
               | inl behind ↦ inl (omega (arith, behind, fits))
               | inr ahead ↦ inr ahead
             ] in
-            holds_stays (IsApart s (i + 1) frame) old new place list leaves apart (before k earlier))
+            holds_stays (IsApart s (i + 1) frame) old new s (k + 1) own list leaves apart (before k earlier))
         | inr last ↦ (
             let same : i ≡ k = omega arith in
-            subst (λ (n : ℕ). HoldsFrame (frame_place s (n + 1) (landing_frame s m rows n)) (new FRAMES) (get_or bins n [])) same
-            (subst (λ (f : ℕ). HoldsFrame (frame_place s (i + 1) f) (new FRAMES) (get_or bins i [])) (sym frame_is)
-            (subst (HoldsFrame (frame_place s (i + 1) frame) (new FRAMES)) (sym pieces_are) here)))
+            subst (λ (n : ℕ). HoldsFrame s (n + 1) (landing_frame s m rows n) (new FRAMES) (get_or bins n [])) same
+            (subst (λ (f : ℕ). HoldsFrame s (i + 1) f (new FRAMES) (get_or bins i [])) (sym frame_is)
+            (subst (HoldsFrame s (i + 1) frame (new FRAMES)) (sym pieces_are) here)))
       ]
 
   -- and the rest is as it was

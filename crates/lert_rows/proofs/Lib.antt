@@ -12,6 +12,7 @@ pub mod YoungBins
 mod LoadLaws
 pub mod ReadLaws
 pub mod LandLaws
+mod WriterLaws
 pub mod MoveLaws
 pub mod NamedLaws
 pub mod CheckLaws

@@ -6,19 +6,24 @@ use Rattle.std.proofs.lemmas.Bool.{cases_lt}
 use Rattle.std.proofs.lemmas.List.{map-append, map_more, get_or-map, get_or_default, length-map, take-map}
 use Rattle.std.proofs.lemmas.List.Elements.{All-append, All-take}
 use Rattle.std.proofs.lemmas.Grind.{div_ceil_times}
-use Rattle.lert_spec.proofs.GivenLaws.{given_wide}
+use Rattle.lert_spec.proofs.GivenLaws.{given_take, given_wide}
 use Rattle.lert_frames.specs.Frame.{IsBin}
-use Rattle.lert_frames.specs.declared.bin.LoadedBin.{LoadedBin}
 use Rattle.lert_spec.specs.declared.piece.Piece.{Piece}
 use Rattle.lert_spec.specs.Table.{total, IsTable, AreGiven}
 use Rattle.lert_spec.proofs.Tables.{count_le-total}
 use Rattle.lert_spec.specs.declared.numbers.Numbers.{Numbers}
 use Rattle.lert_spec.specs.Bins.{Bin}
 use Rattle.lert_spec.specs.Edges.{span}
+use Rattle.lert_rows.specs.declared.listed.Listed.{Listed}
+use Rattle.lert_rows.specs.Listed.{bound_of, given_bound}
 use Rattle.lert_rows.specs.Loading.{lists_of}
 use Rattle.lert_rows.specs.Young.{Young, bins_of, IsOfZero, IsFilled, AreFilled}
 use Rattle.lert_rows.proofs.YoungLaws.{bins_of-none, bins_of-some, bins_of-length, bits_of_zero}
 use Rattle.lert_rows.proofs.YoungCounts.{width_within}
+
+-- the first pieces, below the bound of all
+pub first_given : (limit n : ℕ) (pieces : List Piece) → AreGiven limit pieces → AreGiven (bound_of pieces) (take n pieces)
+first_given limit n pieces are = given_take (bound_of pieces) n pieces (given_bound limit pieces are)
 
 -- the pieces of a table of few events
 pub given_of : (bits room : ℕ) (pieces : List Piece) → IsTable (2 ^ bits) pieces → total pieces ≤ room → room ≤ 2 ^ 47 → AreGiven (2 ^ bits) pieces
@@ -39,13 +44,13 @@ pub record IsLoaded {T : Type 0} (pieces : T → List Piece) (tail_bits : T → 
 pub loaded_none : {T : Type 0} (pieces : T → List Piece) (tail_bits : T → ℕ) (tables : List T) (old : List (List Piece)) → IsLoaded pieces tail_bits tables 0 old old
 loaded_none pieces tail_bits tables old = record { lists = sym (append-nil old); given = λ k d below. absurd (omega arith) }
 
-pub loaded_more : {T : Type 0} (pieces : T → List Piece) (tail_bits : T → ℕ) (tables : List T) (number : ℕ) (old : List (List Piece)) (bins after : List LoadedBin) (bin : LoadedBin)
+pub loaded_more : {T : Type 0} (pieces : T → List Piece) (tail_bits : T → ℕ) (tables : List T) (number : ℕ) (old : List (List Piece)) (bins after : List Listed) (bin : Listed)
     (table : T) →
     IsLoaded pieces tail_bits tables number old (lists_of bins) → number < length tables → table ≡ get_or tables number table →
     bin.pieces.items ≡ pieces table → AreGiven (2 ^ tail_bits table) (pieces table) → after ≡ bins ++ bin ∷ [] →
     IsLoaded pieces tail_bits tables (number + 1) old (lists_of after)
 loaded_more {T} pieces tail_bits tables number old bins after bin table loaded below is items given after_is = record {
-  lists = ap lists_of after_is ∙ map-append (λ (b : LoadedBin). b.pieces.items) bins (bin ∷ [])
+  lists = ap lists_of after_is ∙ map-append (λ (b : Listed). b.pieces.items) bins (bin ∷ [])
       ∙ ap₂ (λ xs ps. xs ++ ps ∷ []) loaded.lists (items ∙ ap pieces is)
       ∙ append_assoc old (map pieces (take number tables)) (pieces (get_or tables number table) ∷ [])
       ∙ ap (λ xs. old ++ xs) (sym (map_more pieces tables number table below));
@@ -58,11 +63,11 @@ loaded_more {T} pieces tail_bits tables number old bins after bin table loaded b
   ];
 }
 
-pub fresh_more : (old bins after : List LoadedBin) (bin : LoadedBin) → (All (λ (b : LoadedBin). b.given ≡ 0) old → All (λ (b : LoadedBin). b.given ≡ 0) bins) →
-    bin.given ≡ 0 → after ≡ bins ++ bin ∷ [] → All (λ (b : LoadedBin). b.given ≡ 0) old → All (λ (b : LoadedBin). b.given ≡ 0) after
+pub fresh_more : (old bins after : List Listed) (bin : Listed) → (All (λ (b : Listed). b.given ≡ 0) old → All (λ (b : Listed). b.given ≡ 0) bins) →
+    bin.given ≡ 0 → after ≡ bins ++ bin ∷ [] → All (λ (b : Listed). b.given ≡ 0) old → All (λ (b : Listed). b.given ≡ 0) after
 fresh_more old bins after bin fresh none after_is before =
-    subst (All (λ (b : LoadedBin). b.given ≡ 0)) (sym after_is)
-    (All-append (λ (b : LoadedBin). b.given ≡ 0) bins (bin ∷ []) (fresh before)
+    subst (All (λ (b : Listed). b.given ≡ 0)) (sym after_is)
+    (All-append (λ (b : Listed). b.given ≡ 0) bins (bin ∷ []) (fresh before)
     (λ k d below. elim k as (λ n. n < 1 → (get_or (bin ∷ []) n d).given ≡ 0) [ zero ↦ λ _. none | suc k ↦ λ more. absurd (omega arith) ] below))
 
 -- ---- the tables in use

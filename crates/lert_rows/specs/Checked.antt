@@ -1,8 +1,6 @@
 -- What a check of the frames finds, level by level from the first on, each level's oldest bin first.
-use Rattle.std.specs.Prelude.{ℕ, zero, suc, ◌+◌, ◌<◌, nat_lt, if◌then◌else◌, List, [], ◌∷◌, ◌++◌, length, map, All, Option, slice_index_or}
-use Rattle.std.specs.List.{range_with_len}
-use Rattle.lert_frames.specs.Frame.{count_at, piece_at, frame_left, first_of}
-use Rattle.lert_frames.specs.Place.{frame_place, tail_limit}
+use Rattle.std.specs.Prelude.{ℕ, zero, suc, ◌+◌, ◌<◌, nat_lt, if◌then◌else◌, List, [], ◌∷◌, ◌++◌, length, map, All, Option, Some, None, slice_index_or}
+use Rattle.lert_frames.specs.Frame.{frame_left, frame_pieces}
 use Rattle.lert_spec.specs.declared.numbers.Numbers.{Numbers}
 use Rattle.lert_spec.specs.Edges.{edge}
 use Rattle.lert_spec.specs.declared.piece.Piece.{Piece}
@@ -11,7 +9,7 @@ use Rattle.lert_rows.specs.Loading.{width_of, Stands}
 
 -- the pieces that a file says in the frame of a bin of a level
 abbrev pub pieces_in : Numbers → List ℕ → ℕ → BinAt → List Piece
-pieces_in s file level bin = map (piece_at (frame_place s level bin.frame) file) (range_with_len 0 (count_at (frame_place s level bin.frame) file))
+pieces_in s file level bin = frame_pieces s level bin.frame file
 
 -- they are in the format there, and a bin of its width: of each bin of a level, and of each bin of all rows
 abbrev pub RowStands : Numbers → List ℕ → ℕ → List BinAt → Type 0
@@ -29,9 +27,15 @@ level_of s n (suc top) to = if nat_lt (edge s top n) to then level_of s n top to
 abbrev pub held_after : Numbers → ℕ → List ℕ → BinAt → List Piece
 held_after s n file bin = pieces_in s file (level_of s n s.levels bin.to) bin
 
+-- the first place of these
+abbrev pub first_of : List (Option ℕ) → Option ℕ
+first_of [] = None
+first_of (None ∷ rest) = first_of rest
+first_of (Some at ∷ rest) = Some at
+
 -- where the frame of a bin of a level leaves its format, where it does
 abbrev pub bin_left : Numbers → List ℕ → ℕ → BinAt → Option ℕ
-bin_left s file level bin = frame_left (tail_limit s) (width_of bin) (frame_place s level bin.frame) file
+bin_left s file level bin = frame_left s level bin.frame (width_of bin) file
 
 -- where each bin of these rows leaves it, the first of them that of this level
 abbrev pub bins_left : Numbers → List ℕ → ℕ → List (List BinAt) → List (Option ℕ)

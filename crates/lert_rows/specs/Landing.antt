@@ -50,4 +50,4 @@ pub record CanStand (s : Numbers) (level : ℕ) (pieces : List Piece) : Type 0 w
 
 -- the first new bins stand in their frames
 abbrev pub AreLanded : Numbers → ℕ → List (List BinAt) → List ℕ → List (List Piece) → ℕ → Type 0
-AreLanded s m rows file bins count = (k : ℕ) → k < count → HoldsFrame (frame_place s (k + 1) (landing_frame s m rows k)) file (slice_index_or bins k [])
+AreLanded s m rows file bins count = (k : ℕ) → k < count → HoldsFrame s (k + 1) (landing_frame s m rows k) file (slice_index_or bins k [])

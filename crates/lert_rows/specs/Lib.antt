@@ -2,6 +2,8 @@ pub mod Ranges
 pub mod Rows
 pub mod Young
 pub mod Loading
+pub mod Hands
 pub mod Landing
+pub mod Listed
 pub mod Checked
 pub mod Named

@@ -1,19 +1,19 @@
 -- The bins of some levels as they are read, level by level from the first on, each level's oldest first.
 use Rattle.std.specs.Prelude.{◌≡◌, ℕ, ◌+◌, ◌-◌, ◌<◌, List, [], length, map, flat_map, All, Contains, Some, slice_index_or}
 use Rattle.std.specs.List.{AllZip}
-use Rattle.lert_frames.specs.declared.bin.LoadedBin.{LoadedBin}
-use Rattle.lert_frames.specs.declared.fault.LoadFault.{LoadFault}
-use Rattle.lert_frames.specs.declared.fault.LoadFault.TheVariants.{Failed as LoadFailed, Malformed as LoadMalformed, OutOfMemory as LoadOutOfMemory}
 use Rattle.lert_frames.specs.Frame.{HoldsFrame, IsBin, frame_left}
-use Rattle.lert_frames.specs.Place.{frame_place, tail_limit}
+use Rattle.lert_frames.specs.Place.{tail_limit}
+use Rattle.lert_base.specs.declared.pieces.PieceFault.{PieceFault}
+use Rattle.lert_base.specs.declared.pieces.PieceFault.TheVariants.{Failed as PieceFailed, Malformed as PieceMalformed}
 use Rattle.lert_spec.specs.declared.numbers.Numbers.{Numbers}
 use Rattle.lert_spec.specs.declared.piece.Piece.{Piece}
 use Rattle.lert_rows.specs.declared.bin_at.BinAt.{BinAt}
 use Rattle.lert_rows.specs.declared.fault.FlushFault.{FlushFault}
-use Rattle.lert_rows.specs.declared.fault.FlushFault.TheVariants.{Failed, Malformed, OutOfMemory}
+use Rattle.lert_rows.specs.declared.listed.Listed.{Listed}
+use Rattle.lert_rows.specs.declared.fault.FlushFault.TheVariants.{Failed, Malformed}
 
--- the pieces of loaded bins
-abbrev pub lists_of : List LoadedBin → List (List Piece)
+-- the pieces of bins in memory
+abbrev pub lists_of : List Listed → List (List Piece)
 lists_of bins = map (λ bin. bin.pieces.items) bins
 
 abbrev pub width_of : BinAt → ℕ
@@ -26,7 +26,7 @@ AreBins limit widths lists = AllZip (λ width pieces. IsBin limit width pieces) 
 -- the frame of a bin of a level holds these pieces, which are a bin of its width
 pub record Stands (s : Numbers) (level : ℕ) (file : List ℕ) (held : BinAt → List Piece) (bin : BinAt) : Type 0 where
   pub are : IsBin (tail_limit s) (width_of bin) (held bin)
-  pub text : HoldsFrame (frame_place s level bin.frame) file (held bin)
+  pub text : HoldsFrame s level bin.frame file (held bin)
 
 -- so do those of all bins of the levels from the first on
 abbrev pub AllStand : Numbers → List ℕ → (BinAt → List Piece) → List (List BinAt) → Type 0
@@ -41,7 +41,7 @@ widths_in rows = flat_map (λ row. map width_of row) rows
 
 -- the frame of a bin of a level leaves its format at this byte
 pub record BinBreaks (s : Numbers) (level : ℕ) (bin : BinAt) (file : List ℕ) (at : ℕ) : Type 0 where
-  pub left : frame_left (tail_limit s) (width_of bin) (frame_place s level bin.frame) file ≡ Some at
+  pub left : frame_left s level bin.frame (width_of bin) file ≡ Some at
 
 -- that of one of a level's bins, or of one of all
 pub record RowBreaks (s : Numbers) (level : ℕ) (row : List BinAt) (file : List ℕ) (at : ℕ) : Type 0 where
@@ -54,8 +54,7 @@ pub record OneBreaks (s : Numbers) (rows : List (List BinAt)) (file : List ℕ) 
   pub within : number < length rows
   pub breaks : RowBreaks s (number + 1) (slice_index_or rows number []) file at
 
--- what a refused load is to a flush
-abbrev pub flush_fault : LoadFault → FlushFault
-flush_fault LoadFailed = Failed
-flush_fault (LoadMalformed at) = Malformed at
-flush_fault LoadOutOfMemory = OutOfMemory
+-- what a refused piece is to a flush
+abbrev pub flush_fault : PieceFault → FlushFault
+flush_fault PieceFailed = Failed
+flush_fault (PieceMalformed at) = Malformed at

@@ -3,7 +3,6 @@ use Rattle.std.specs.Prelude.{◌≡◌, ℕ, ◌-◌, ◌<◌, ◌≤◌, ◌%�
 use Rattle.std.specs.Prelude.{count_by, find, unwrap_or, slice_index_or, slice_range, if◌then◌else◌}
 use Rattle.std.specs.List.{range_with_len}
 use Rattle.lert_frames.specs.Frame.{HoldsFrame}
-use Rattle.lert_frames.specs.Place.{frame_place}
 use Rattle.lert_spec.specs.declared.numbers.Numbers.{Numbers}
 use Rattle.lert_spec.specs.declared.piece.Piece.{Piece}
 use Rattle.lert_spec.specs.Bins.{tallied}
@@ -52,7 +51,7 @@ tallied_in s events bin = tallied s (slice_range events bin.from bin.to)
 abbrev pub HoldsBins : Numbers → List ℕ → List (List BinAt) → List ℕ → Type 0
 HoldsBins s events rows file =
     (level : ℕ) → 1 ≤ level → level ≤ s.levels →
-    All (λ bin. HoldsFrame (frame_place s level bin.frame) file (tallied_in s events bin)) (row_of rows level)
+    All (λ bin. HoldsFrame s level bin.frame file (tallied_in s events bin)) (row_of rows level)
 
 -- a byte with the number of bins of each level, and behind it their frames, oldest first
 abbrev pub directory_text : List (List BinAt) → List ℕ

@@ -1,6 +1,6 @@
 //! Why a flush or a scan gives no totals.
 
-use lert_frames::LoadFault;
+use lert_base::PieceFault;
 use lert_io::{Failed, OutOfMemory};
 use std::alloc::{AllocError, AllocFailed};
 
@@ -15,17 +15,16 @@ pub enum FlushFault {
     OutOfMemory,
 }
 
-impl From<LoadFault> for FlushFault {
+impl From<PieceFault> for FlushFault {
     ghost use Rattle.std.specs.Prelude.{◌≡◌};
     ghost use Rattle.lert_rows.specs.Loading.{flush_fault};
 
-    ghost from_gives = { λ load fault. fault ≡ flush_fault load };
+    ghost from_gives = { λ piece fault. fault ≡ flush_fault piece };
 
-    fn from(load: LoadFault) -> FlushFault {
-        match load {
-            LoadFault::Failed => FlushFault::Failed,
-            LoadFault::Malformed { at } => FlushFault::Malformed { at },
-            LoadFault::OutOfMemory => FlushFault::OutOfMemory,
+    fn from(piece: PieceFault) -> FlushFault {
+        match piece {
+            PieceFault::Failed => FlushFault::Failed,
+            PieceFault::Malformed { at } => FlushFault::Malformed { at },
         }
     }
 }

@@ -7,8 +7,8 @@ ghost use Rattle.lert_spec.specs.Table.{count_of, total, AreGiven};
 ghost use Rattle.lert_rows.specs.Loading.{lists_of};
 ghost use Rattle.lert_rows.specs.Young.{with_event, IsNextPosition, IsOfZero};
 
+use crate::listed::Listed;
 use lert_base::{CountTable, Settings};
-use lert_frames::LoadedBin;
 use lert_io::OutOfMemory;
 use std::alloc::Global;
 use std::marker::Model;
@@ -104,7 +104,7 @@ impl<T: CountTable> Zero<T> {
 
     /// Puts the pieces of each bin behind these streams, the oldest bin's first. It takes the memory of the pieces: 16 bytes
     /// for each. Its only error is want of memory.
-    pub fn load(&self, alloc: Global, streams: &mut Vec<LoadedBin>) -> Result<(), OutOfMemory>
+    pub fn load(&self, alloc: Global, streams: &mut Vec<Listed>) -> Result<(), OutOfMemory>
         ensures lists { OnOk result (lists_of streams.new.items ≡
             lists_of streams.old.items ++ map (λ bin. bin.pieces) self.now.bins) }
         ensures fresh { OnOk result (All (λ bin. bin.given ≡ 0) streams.old.items → All (λ bin. bin.given ≡ 0) streams.new.items) }
@@ -150,7 +150,7 @@ impl<T: CountTable> Zero<T> {
 fn load_tables<T: CountTable>(
     alloc: Global,
     tables: &[T],
-    streams: &mut Vec<LoadedBin>,
+    streams: &mut Vec<Listed>,
 ) -> Result<(), OutOfMemory>
     requires { All (λ table. (T.room table ≤ 2 ^ 47) × (T.quotient_bits table + T.width table ≤ 64)) tables.now }
     ensures lists { OnOk result (lists_of streams.new.items ≡ lists_of streams.old.items ++ map T.pieces tables.now) }
@@ -164,7 +164,7 @@ fn load_tables<T: CountTable>(
 }
 
 // The pieces of a table, of which none was given.
-fn load_table<T: CountTable>(alloc: Global, table: &T) -> Result<LoadedBin, OutOfMemory>
+fn load_table<T: CountTable>(alloc: Global, table: &T) -> Result<Listed, OutOfMemory>
     requires room { T.room table.now ≤ 2 ^ 47 }
     requires bits { T.quotient_bits table.now + T.width table.now ≤ 64 }
     ensures pieces { IfOk result (λ bin. bin.pieces.items ≡ T.pieces table.now) }
@@ -177,7 +177,7 @@ fn load_table<T: CountTable>(alloc: Global, table: &T) -> Result<LoadedBin, OutO
     while let Some(piece) = table.step(&mut cursor) {
         pieces.push(piece)?;
     }
-    Ok(LoadedBin::of(pieces))
+    Ok(Listed::of(pieces))
 }
 
 // The last position before the oldest bin, once position `m` is added.

@@ -2,6 +2,7 @@ use Rattle.std.proofs.Common.{◌≡◌, Some, map}
 use Rattle.lert_bay.specs.declared.bay.TheConstants.{FRAMES}
 use Rattle.lert_bay.specs.Files.{Files}
 use Rattle.lert_bay.specs.Kept.{Bays, KeepsBay}
+use Rattle.lert_rows.specs.Hands.{AreWriters}
 use Rattle.lert_rows.specs.Landing.{KeepsRest, AreApart, AreLanded}
 use Rattle.lert_rows.proofs.arrivals.store_bins.Given as goal
 
@@ -13,6 +14,7 @@ abbrev pub invariant-loop-lower : goal.invariant-loop-lower
 invariant-loop-lower g l = record {
   stand : (seen : Files) → g.B.Bay.files l.bay ≡ Some seen →
       AreLanded l.settings l.m (map (λ row. row.items) l.rows) (seen FRAMES) (map (λ bin. bin.items) l.bins) l.lower;
+  writers : AreWriters l.settings l.writers;
   rest : KeepsRest (bays g) (AreApart l.settings l.m (map (λ row. row.items) l.rows)) l.fn.bay l.bay;
   kept : KeepsBay (bays g) l.fn.bay l.bay ⊥;
 }

@@ -1,7 +1,10 @@
-use Rattle.std.proofs.Common.{map}
+use Rattle.std.proofs.Common.{◌≡◌, ◌∙◌, length, map, sym}
+use Rattle.lert_bay.specs.declared.bay.TheConstants.{FRAMES}
+use Rattle.lert_bay.specs.Files.{Files, IfTold}
 use Rattle.lert_bay.specs.Kept.{Bays}
 use Rattle.lert_bay.proofs.KeptLaws.{IsLawful, keeps_on}
-use Rattle.lert_rows.specs.Landing.{Anywhere, AreApart}
+use Rattle.lert_frames.proofs.WriteLaws.{on_ok}
+use Rattle.lert_rows.specs.Landing.{Anywhere, AreApart, AreLanded}
 use Rattle.lert_rows.proofs.LandLaws.{rest_on, rest_fewer}
 use Rattle.lert_rows.proofs.arrivals.write_arrivals.Given as given
 use Rattle.lert_rows.proofs.arrivals.write_arrivals.Goals as goal
@@ -11,6 +14,14 @@ bays g = record { faults = g.B.Faulty.faults; mark = g.B.Faulty.mark; files = g.
 
 lawful : (g : given.Over) → IsLawful (bays g)
 lawful g = record { as_read = g.met.B.Bay.as_read; since_now = g.met.B.Bay.since_now; only_now = g.met.B.Bay.only_now; since_earlier = g.met.B.Bay.since_earlier }
+
+pub returns-clause-stand : goal.returns-clause-stand
+returns-clause-stand g c =
+    let files = g.B.Bay.files c.sync_frames.new.bay in
+    on_ok (IfTold files (λ seen. (image : Files) → g.B.Bay.leaves c.sync_frames.new.bay image → image FRAMES ≡ seen FRAMES))
+    (IfTold files (λ seen.
+    AreLanded c.args.settings.now c.args.m (map (λ row. row.items) c.args.rows.now) (seen FRAMES) (map (λ bin. bin.items) c.args.bins.now) (length c.args.rows.now)))
+    c.sync_frames.result c.sync_frames.ensures.durable (λ durable seen told. c.in_ok-store_bins.ensures.stand seen (sym c.sync_frames.ensures.seen ∙ told))
 
 pub returns-clause-rest : goal.returns-clause-rest
 returns-clause-rest g c =

@@ -1,14 +1,17 @@
-use Rattle.std.proofs.Common.{◌∙◌, subst}
+use Rattle.std.proofs.Common.{◌≡◌, ◌≤◌, ◌∙◌, Some, None, get_or, subst, sym}
 use Rattle.std.proofs.lemmas.List.{take_all}
 use Rattle.std.proofs.lemmas.List.Elements.{All-more}
 use Rattle.std.proofs.lemmas.Result.{err_from_is_err_and}
 use Rattle.lert_bay.specs.declared.bay.TheConstants.{FRAMES}
 use Rattle.lert_bay.proofs.KeptLaws.{IsLawful, reads_on, reads_as}
 use Rattle.lert_frames.proofs.WriteLaws.{same_err}
+use Rattle.lert_spec.specs.declared.numbers.Numbers.{Numbers}
+use Rattle.lert_spec.specs.Edges.{span}
 use Rattle.lert_rows.specs.declared.bin_at.BinAt.{BinAt}
 use Rattle.lert_rows.specs.Checked.{pieces_in, RowStands, bin_left}
-use Rattle.lert_rows.specs.Loading.{Stands}
+use Rattle.lert_rows.specs.Loading.{width_of, Stands}
 use Rattle.lert_rows.proofs.CheckLaws.{row_more, row_breaks}
+use Rattle.lert_rows.proofs.ReadLaws.{reader_to, reader_from}
 use Rattle.lert_rows.proofs.check.check_row.Given as given
 use Rattle.lert_rows.proofs.check.check_row.Invariants.{bays}
 use Rattle.lert_rows.proofs.check.check_row.Goals as goal
@@ -19,28 +22,50 @@ lawful g = record { as_read = g.met.B.Bay.as_read; since_now = g.met.B.Bay.since
 abbrev nothing : BinAt
 nothing = record { from = 0; to = 0; frame = 0 }
 
+pub check_bin-requires-clause-frame : goal.check_bin-requires-clause-frame
+check_bin-requires-clause-frame g c =
+    subst (λ (s : Numbers). (get_or c.args.row.now c.loop-bin.bin-index nothing).frame ≤ s.bins) (sym c.loop-bin.invariant.reader.settings)
+    (c.requires.row.frames c.loop-bin.bin-index nothing c.loop-bin-test.true)
+
+pub check_bin-requires-clause-width : goal.check_bin-requires-clause-width
+check_bin-requires-clause-width g c =
+    let first = c.args.reader.now in
+    reader_to (λ s level. width_of (get_or c.args.row.now c.loop-bin.bin-index nothing) ≤ span s level) first.settings first.level c.loop-bin.reader c.loop-bin.invariant.reader
+    (c.requires.row.widths c.loop-bin.bin-index nothing c.loop-bin-test.true)
+
 pub returns-in_err-check_bin-clause-malformed : goal.returns-in_err-check_bin-clause-malformed
 returns-in_err-check_bin-clause-malformed g c seen told at =
     let p = err_from_is_err_and c.from_residual.result c.from_residual.ensures.1 in
-    rw (p.1, p.2) (λ is. row_breaks (bin_left c.args.settings.now (seen FRAMES) c.args.level) c.args.row.now c.loop-bin.bin-index nothing c.loop-bin-test.true
-    (c.loop-bin.invariant.whole seen told) at
-    (c.in_err-check_bin.ensures.malformed seen (c.loop-bin.invariant.only_reads.seen ∙ told) at (same_err _ _ is)))
+    let first = c.args.reader.now in
+    let i = c.loop-bin.bin-index in
+    rw (p.1, p.2) (λ is. row_breaks (bin_left first.settings (seen FRAMES) first.level) c.args.row.now i nothing c.loop-bin-test.true (c.loop-bin.invariant.whole seen told) at
+    (reader_from (λ s level. bin_left s (seen FRAMES) level (get_or c.args.row.now i nothing) ≡ Some at) first.settings first.level c.loop-bin.reader c.loop-bin.invariant.reader
+    (c.in_err-check_bin.ensures.malformed seen (c.loop-bin.invariant.only_reads.seen ∙ told) at (same_err _ _ is))))
 
 pub loop-bin-preserved : goal.loop-bin-preserved
-loop-bin-preserved g c = record {
-  stand = λ seen told.
-      All-more (Stands c.args.settings.now c.args.level (seen FRAMES) (pieces_in c.args.settings.now (seen FRAMES) c.args.level)) c.args.row.now c.loop-bin.bin-index nothing c.loop-bin-test.true
-      (c.loop-bin.invariant.stand seen told) (c.in_ok-check_bin.ensures.stand seen (c.loop-bin.invariant.only_reads.seen ∙ told));
-  whole = λ seen told.
-      row_more (bin_left c.args.settings.now (seen FRAMES) c.args.level) c.args.row.now c.loop-bin.bin-index nothing c.loop-bin-test.true
-      (c.loop-bin.invariant.whole seen told) (c.in_ok-check_bin.ensures.whole seen (c.loop-bin.invariant.only_reads.seen ∙ told));
-  only_reads = reads_on (bays g) (lawful g) c.args.bay.now c.loop-bin.bay c.check_bin.new.bay ⊥ ⊥ c.loop-bin.invariant.only_reads
-      (reads_as (bays g) (lawful g) c.loop-bin.bay c.check_bin.new.bay _ ⊥ (λ none. absurd none) c.check_bin.ensures.only_reads);
-}
+loop-bin-preserved g c =
+    let is = c.loop-bin.invariant in
+    let e = c.in_ok-check_bin.ensures in
+    let i = c.loop-bin.bin-index in
+    let first = c.args.reader.now in
+    let bin = get_or c.args.row.now i nothing in
+    record {
+      stand = λ seen told.
+          All-more (Stands first.settings first.level (seen FRAMES) (pieces_in first.settings (seen FRAMES) first.level)) c.args.row.now i nothing c.loop-bin-test.true (is.stand seen told)
+          (reader_from (λ s level. Stands s level (seen FRAMES) (pieces_in s (seen FRAMES) level) bin) first.settings first.level c.loop-bin.reader is.reader
+          (e.stand seen (is.only_reads.seen ∙ told)));
+      whole = λ seen told.
+          row_more (bin_left first.settings (seen FRAMES) first.level) c.args.row.now i nothing c.loop-bin-test.true (is.whole seen told)
+          (reader_from (λ s level. bin_left s (seen FRAMES) level bin ≡ None) first.settings first.level c.loop-bin.reader is.reader (e.whole seen (is.only_reads.seen ∙ told)));
+      reader = record { settings = e.settings ∙ is.reader.settings; level_is = e.level ∙ is.reader.level_is };
+      only_reads = reads_on (bays g) (lawful g) c.args.bay.now c.loop-bin.bay c.check_bin.new.bay ⊥ ⊥ is.only_reads
+          (reads_as (bays g) (lawful g) c.loop-bin.bay c.check_bin.new.bay _ ⊥ (λ none. absurd none) c.check_bin.ensures.only_reads);
+    }
 
 pub returns-clause-stand : goal.returns-clause-stand
 returns-clause-stand g c seen told =
-    subst (RowStands c.args.settings.now (seen FRAMES) c.args.level) (take_all c.loop-bin.bin-index c.args.row.now c.loop-bin-test.false) (c.loop-bin.invariant.stand seen told)
+    subst (RowStands c.args.reader.now.settings (seen FRAMES) c.args.reader.now.level) (take_all c.loop-bin.bin-index c.args.row.now c.loop-bin-test.false)
+    (c.loop-bin.invariant.stand seen told)
 
 pub returns-in_err-check_bin-clause-stand : goal.returns-in_err-check_bin-clause-stand
 returns-in_err-check_bin-clause-stand g c seen told = let p = err_from_is_err_and c.from_residual.result c.from_residual.ensures.1 in rw p.1 tt

@@ -1,12 +1,10 @@
-use Rattle.std.proofs.Common.{◌≡◌, ◌∙◌, ℕ, ◌*◌, ◌++◌, ◌∷◌, [], All, List, length, take, drop, max, Err, IsTrue, IsFalse, refl, sym, ap, subst}
-use Rattle.std.proofs.Common.{inl, ◌⊎◌, arith}
-use Rattle.std.specs.List.{length_refill}
+use Rattle.std.proofs.Common.{◌≡◌, ◌∙◌, ℕ, ◌*◌, ◌++◌, ◌∷◌, [], All, List, length, take, drop, max, Err, IsTrue, IsFalse, refl, sym, ap, subst, inl, ◌⊎◌, arith}
 use Rattle.lert_base.specs.Entries.{packet_of}
 use Rattle.lert_base.specs.Packet.{events_of}
 use Rattle.lert_bay.specs.Files.{Files}
 use Rattle.lert_bay.specs.Kept.{Bays}
 use Rattle.lert_bay.proofs.KeptLaws.{IsLawful, keeps_as, keeps_on}
-use Rattle.lert_gatelog.specs.Gated.{IsClosed, Log, next_gate}
+use Rattle.lert_gatelog.specs.Gated.{IsClosed, Log}
 use Rattle.lert_journal.specs.Payload.{payload_of}
 use Rattle.lert_spec.specs.Mix.{cone_of}
 use Rattle.lert_spec.specs.declared.numbers.Numbers.{Numbers}
@@ -24,12 +22,10 @@ use Rattle.lert_cone.specs.Stands.{Standing, is_broken, over_of}
 use Rattle.lert_cone.specs.Wrote.{Anything}
 use Rattle.lert_cone.proofs.GateLaws.{past_more}
 use Rattle.lert_cone.proofs.ReplayLaws.{never_on_way}
-use Rattle.lert_cone.proofs.ReplayCalls.{alone_behind, ended_at, ended_replays, held_at, keys_stay, keys_unwritten, length_more, listing_more, moved_on, read_stays, read_unwritten, refilled}
-use Rattle.lert_cone.proofs.ReplayCalls.{seen_as}
-use Rattle.lert_cone.proofs.ReplayCalls.{with_keys}
+use Rattle.lert_cone.proofs.ReplayCalls.{alone_behind, ended_at, ended_replays, held_at, keys_stay, keys_unwritten, length_more, lent_again, listing_more, moved_on, read_stays}
+use Rattle.lert_cone.proofs.ReplayCalls.{read_unwritten, refilled, refilled_twice, seen_as, with_keys}
 use Rattle.lert_cone.proofs.ReplayStands.{leaves_listing, near_then, never_unsound, failed_keys, failed_record, unsound_keys, only_by_bay, only_failed, read_settled, read_shut, refused_keys}
-use Rattle.lert_cone.proofs.ReplayStands.{refused_record, replaying_cone}
-use Rattle.lert_cone.proofs.ReplayStands.{settled_then}
+use Rattle.lert_cone.proofs.ReplayStands.{refused_record, replaying_cone, settled_then}
 use Rattle.lert_cone.proofs.ReplayStep.{told_once}
 use Rattle.lert_io.proofs.Rising.{risen_since}
 use Rattle.lert_cone.proofs.StandLaws.{broken_cone}
@@ -77,9 +73,7 @@ invariant_of-self g c =
     (ap (λ (l : Listing). l.settings) c.replay_keys.ensures.listing) refl refl
     ((c.read_packet.ensures.keeps.file ∙ ap (λ (j : Log). j.file) c.at_gate-self-inside.ensures) ∙ sym c.self.invariant.file)
     ((c.read_packet.ensures.keeps.most ∙ ap (λ (j : Log). j.most) c.at_gate-self-inside.ensures ∙ c.greatest_payload-most.ensures.value ∙ ap most_payload c.settings.ensures)
-    ∙ sym c.self.invariant.most) (sym (length_refill c.self.inside.buffer.len (take c.self.inside.buffer.len (c.read_packet.new.buffer ++ drop
-    (length c.read_packet.new.buffer) c.self.inside.buffer.items)) c.replay_keys.new.buffer (length_refill c.self.inside.buffer.len c.self.inside.buffer.items c.read_packet.new.buffer len_is))
-    ∙ len_is) c.read_packet.ensures.keeps.roomy
+    ∙ sym c.self.invariant.most) (refilled_twice c.self.inside.buffer.len c.self.inside.buffer.items c.read_packet.new.buffer c.replay_keys.new.buffer len_is) c.read_packet.ensures.keeps.roomy
     (omega (arith, c.read_packet.ensures.keeps.reads.kept.never_falls, c.replay_keys.ensures.keeps.kept.never_falls))
     (turns_on Anything (λ old new. new 0 ≡ old 0) (g.B.Bay.files c.self.inside.bay) (g.B.Bay.files c.read_packet.new.bay) (g.B.Bay.files c.replay_keys.new.bay)
     (turns_as (g.B.Bay.files c.self.inside.bay) (g.B.Bay.files c.read_packet.new.bay) c.read_packet.ensures.keeps.reads.seen) c.replay_keys.ensures.keeps.journal.seen)
@@ -92,7 +86,6 @@ invariant_of-self g c =
 
 pub returns-in-Err-replay_keys-clause-refused : goal.returns-in-Err-replay_keys-clause-refused
 returns-in-Err-replay_keys-clause-refused g c =
-    let gate_is : c.at_gate-self-inside.result.gate ≡ c.args.gate = ap (λ (j : Log). j.gate) c.at_gate-self-inside.ensures in
     let yes : IsTrue c.in-Ok-true.field-0 = c.in-Ok-true.field-0-test in
     let cone = seen_as c.self.inside.bay c.self.inside.made.value c.self.inside.tally c.self.inside.events c.self.inside.state (over_of c.self.inside.over) c.self.inside.journal.gate
     c.self.inside.log c.self.inside.last in
@@ -100,20 +93,18 @@ returns-in-Err-replay_keys-clause-refused g c =
     subst (λ (fault : ReplayFault). WhyRefused cone (seen 0) c.args.gate fault) (sym c.from.ensures)
     (refused_keys cone (seen 0) c.args.gate c.in-Err-replay_keys.fault (record {
       packet = (packet_of c.read_packet.new.entry);
-      stands = (held_at gate_is (c.in-Ok-true.ensures.found seen told yes));
+      stands = (held_at c.at_gate-self-inside.ensures (c.in-Ok-true.ensures.found seen told yes));
       follows = c.in-Ok-true.ensures.follows yes;
     })))
 
 pub returns-in-Err-replay_keys-clause-replays : goal.returns-in-Err-replay_keys-clause-replays
 returns-in-Err-replay_keys-clause-replays g c =
-    let gate_is : c.at_gate-self-inside.result.gate ≡ c.args.gate = ap (λ (j : Log). j.gate) c.at_gate-self-inside.ensures in
-    let yes : IsTrue c.in-Ok-true.field-0 = c.in-Ok-true.field-0-test in
     rw (← c.self.view_is) (λ seen told h done way gate_same.
     subst (λ (fault : ReplayFault). (fault ≡ Failed) ⊎ (fault ≡ OutOfMemory)) (sym c.from.ensures)
     (only_by_bay c.in-Err-replay_keys.fault (λ file at same.
     with_keys (bays g) (lawful g) c.self.inside.bay c.read_packet.new.bay _ _ _ _ _ c.read_packet.ensures.keeps c.self.inside.tally c.self.inside.log c.self.inside.last
     seen told h done c.args.gate (way.on_way seen told) (subst (λ g. IsPast h done c.self.inside.tally.listing.events g) (sym gate_same) way.past)
-    (packet_of c.read_packet.new.entry) (held_at gate_is (c.in-Ok-true.ensures.found seen told yes)) c.keys_of.result.now c.keys_of.ensures.value
+    (packet_of c.read_packet.new.entry) (held_at c.at_gate-self-inside.ensures (c.in-Ok-true.ensures.found seen told c.in-Ok-true.field-0-test)) c.keys_of.result.now c.keys_of.ensures.value
     (λ told_read next is on_read. c.replay_keys.ensures.sound seen told_read h (events_of next.rest) is on_read file at (c.in-Err-replay_keys.is ∙ ap Err same)))))
 
 pub returns-in-Err-replay_keys-clause-journal : goal.returns-in-Err-replay_keys-clause-journal
@@ -126,30 +117,21 @@ pub invariant_of-self-in-Ok-true : goal.invariant_of-self-in-Ok-true
 invariant_of-self-in-Ok-true g c =
     let replaying : c.self.inside.state ≡ Replaying = subst (λ (v : Standing g.row.B.Denot). v.state ≡ Replaying) (sym c.self.view_is) c.requires.replaying in
     let was = c.self.invariant.replaying replaying in
-    let gate_is : c.at_gate-self-inside.result.gate ≡ c.args.gate = ap (λ (j : Log). j.gate) c.at_gate-self-inside.ensures in
     let yes : IsTrue c.in-Ok-true.field-0 = c.in-Ok-true.field-0-test in
     let len_is : c.self.inside.buffer.len ≡ length c.self.inside.buffer.items = omega (arith, c.self.inside.buffer.ok) in
     let listing_is = listing_more c.self.inside.tally.listing c.replay_keys.new.tally.listing c.read_packet.new.entry.keys.keys c.keys_of.result.now
     c.replay_keys.ensures.listing c.in_default.ensures.taken c.keys_of.ensures.value in
-    let moved : c.read_packet.new.journal.gate ≡ next_gate c.args.gate (payload_of (packet_of c.read_packet.new.entry)) =
-    moved_on (payload_of (packet_of c.read_packet.new.entry)) (c.in-Ok-true.ensures.moved yes) gate_is in
+    let moved = moved_on (payload_of (packet_of c.read_packet.new.entry)) (c.in-Ok-true.ensures.moved yes) c.at_gate-self-inside.ensures in
     let events_is = length_more c.self.inside.tally.listing c.replay_keys.new.tally.listing c.read_packet.new.entry.keys.keys c.self.inside.events c.len-self-inside.result
     listing_is was.counted c.len-self-inside.ensures in
     let settings_are : c.replay_keys.new.tally.listing.settings ≡ c.self.inside.tally.listing.settings = ap (λ (l : Listing). l.settings) listing_is in
     let journaled = c.in-Ok-true.ensures.journaled yes in
-    let lent : length c.replay_keys.new.buffer ≡ length c.deref_mut-in-Ok-true.result.now = c.replay_keys.auto.buffer in
-    let read_long = refilled c.self.inside.buffer.len c.self.inside.buffer.items c.read_packet.new.buffer len_is in
-    let then_long = refilled c.self.inside.buffer.len (take c.self.inside.buffer.len (c.read_packet.new.buffer ++ drop (length c.read_packet.new.buffer) c.self.inside.buffer.items))
-    c.replay_keys.new.buffer (len_is ∙ sym read_long) ∙ read_long in
-    let long : length c.replay_keys.new.buffer ≡ length (take c.self.inside.buffer.len (c.replay_keys.new.buffer ++ drop (length c.replay_keys.new.buffer)
-    (take c.self.inside.buffer.len (c.read_packet.new.buffer ++ drop (length c.read_packet.new.buffer) c.self.inside.buffer.items)))) =
-    lent ∙ ap (length {A = ℕ}) c.deref_mut-in-Ok-true.ensures.value ∙ read_long ∙ sym then_long in
+    let long = lent_again c.self.inside.buffer.len c.self.inside.buffer.items c.read_packet.new.buffer c.replay_keys.new.buffer _ len_is c.deref_mut-in-Ok-true.ensures.value
+    c.replay_keys.auto.buffer in
     replaying_cone g.B.Bay.files g.B.Bay.leaves g.B.Faulty.faults g.B.Faulty.mark _ _ _ _ _ replaying (c.read_packet.ensures.keeps.file ∙ ap (λ (j : Log). j.file) c.at_gate-self-inside.ensures)
     ((c.read_packet.ensures.keeps.most ∙ ap (λ (j : Log). j.most) c.at_gate-self-inside.ensures ∙ c.greatest_payload-most.ensures.value ∙ ap most_payload c.settings.ensures)
-    ∙ ap most_payload
-    (sym settings_are)) ((sym (length_refill c.self.inside.buffer.len (take c.self.inside.buffer.len (c.read_packet.new.buffer ++ drop
-    (length c.read_packet.new.buffer) c.self.inside.buffer.items)) c.replay_keys.new.buffer (length_refill c.self.inside.buffer.len c.self.inside.buffer.items c.read_packet.new.buffer len_is))
-    ∙ len_is) ∙ c.self.invariant.roomy ∙ ap room_of (sym settings_are))
+    ∙ ap most_payload (sym settings_are)) (refilled_twice c.self.inside.buffer.len c.self.inside.buffer.items c.read_packet.new.buffer c.replay_keys.new.buffer len_is
+    ∙ c.self.invariant.roomy ∙ ap room_of (sym settings_are))
     (c.read_packet.ensures.keeps.roomy ∙ c.self.invariant.keys_roomy ∙ ap (λ (s : Numbers). 4 * s.packet) (sym settings_are)) (omega
     (arith, c.in_default.ensures.recounted.fits, c.len-self-inside.ensures)) c.in_default.ensures.recounted.valid
     (omega (arith, c.self.invariant.never_falls, c.read_packet.ensures.keeps.reads.kept.never_falls, c.replay_keys.ensures.keeps.kept.never_falls))
@@ -175,17 +157,15 @@ pub returns-in_default-clause-taken : goal.returns-in_default-clause-taken
 returns-in_default-clause-taken g c =
     let replaying : c.self.inside.state ≡ Replaying = subst (λ (v : Standing g.row.B.Denot). v.state ≡ Replaying) (sym c.self.view_is) c.requires.replaying in
     let was = c.self.invariant.replaying replaying in
-    let gate_is : c.at_gate-self-inside.result.gate ≡ c.args.gate = ap (λ (j : Log). j.gate) c.at_gate-self-inside.ensures in
     let yes : IsTrue c.in-Ok-true.field-0 = c.in-Ok-true.field-0-test in
     let listing_is = listing_more c.self.inside.tally.listing c.replay_keys.new.tally.listing c.read_packet.new.entry.keys.keys c.keys_of.result.now
     c.replay_keys.ensures.listing c.in_default.ensures.taken c.keys_of.ensures.value in
-    let moved : c.read_packet.new.journal.gate ≡ next_gate c.args.gate (payload_of (packet_of c.read_packet.new.entry)) =
-    moved_on (payload_of (packet_of c.read_packet.new.entry)) (c.in-Ok-true.ensures.moved yes) gate_is in
+    let moved = moved_on (payload_of (packet_of c.read_packet.new.entry)) (c.in-Ok-true.ensures.moved yes) c.at_gate-self-inside.ensures in
     let events_is = length_more c.self.inside.tally.listing c.replay_keys.new.tally.listing c.read_packet.new.entry.keys.keys c.self.inside.events c.len-self-inside.result
     listing_is was.counted c.len-self-inside.ensures in
     rw (← c.self.view_is) (record {
       packet = (packet_of c.read_packet.new.entry);
-      stands = λ seen told. (held_at gate_is (c.in-Ok-true.ensures.found seen told yes));
+      stands = λ seen told. (held_at c.at_gate-self-inside.ensures (c.in-Ok-true.ensures.found seen told yes));
       journaled = c.in-Ok-true.ensures.journaled yes;
       follows = c.in-Ok-true.ensures.follows yes;
       next_is = c.gate.ensures.value ∙ moved;
@@ -206,22 +186,19 @@ returns-in_default-clause-taken g c =
 
 pub returns-in_default-clause-replays : goal.returns-in_default-clause-replays
 returns-in_default-clause-replays g c =
-    let replaying : c.self.inside.state ≡ Replaying = subst (λ (v : Standing g.row.B.Denot). v.state ≡ Replaying) (sym c.self.view_is) c.requires.replaying in
-    let gate_is : c.at_gate-self-inside.result.gate ≡ c.args.gate = ap (λ (j : Log). j.gate) c.at_gate-self-inside.ensures in
     let yes : IsTrue c.in-Ok-true.field-0 = c.in-Ok-true.field-0-test in
     let listing_is = listing_more c.self.inside.tally.listing c.replay_keys.new.tally.listing c.read_packet.new.entry.keys.keys c.keys_of.result.now
     c.replay_keys.ensures.listing c.in_default.ensures.taken c.keys_of.ensures.value in
-    let moved : c.read_packet.new.journal.gate ≡ next_gate c.args.gate (payload_of (packet_of c.read_packet.new.entry)) =
-    moved_on (payload_of (packet_of c.read_packet.new.entry)) (c.in-Ok-true.ensures.moved yes) gate_is in
+    let moved = moved_on (payload_of (packet_of c.read_packet.new.entry)) (c.in-Ok-true.ensures.moved yes) c.at_gate-self-inside.ensures in
     rw (← c.self.view_is) (λ seen told h done way gate_same.
     let past : IsPast h done c.self.inside.tally.listing.events c.args.gate = subst (λ g. IsPast h done c.self.inside.tally.listing.events g) (sym gate_same) way.past in
     with_keys (bays g) (lawful g) c.self.inside.bay c.read_packet.new.bay _ _ _ _ _ c.read_packet.ensures.keeps c.self.inside.tally c.self.inside.log c.self.inside.last
     seen told h done c.args.gate (way.on_way seen told) past
-    (packet_of c.read_packet.new.entry) (held_at gate_is (c.in-Ok-true.ensures.found seen told yes)) c.keys_of.result.now c.keys_of.ensures.value
+    (packet_of c.read_packet.new.entry) (held_at c.at_gate-self-inside.ensures (c.in-Ok-true.ensures.found seen told yes)) c.keys_of.result.now c.keys_of.ensures.value
     (λ told_read next is on_read. (
       (packet_of c.read_packet.new.entry),
       record {
-        state_is = replaying;
+        state_is = way.state_is;
         past = subst (λ (l : Listing). IsPast h (done ++ (packet_of c.read_packet.new.entry) ∷ []) l.events c.read_packet.new.journal.gate) (sym listing_is)
             (subst (λ g. IsPast h (done ++ (packet_of c.read_packet.new.entry) ∷ []) (c.self.inside.tally.listing.events ++ c.read_packet.new.entry.keys.keys) g) (sym moved)
             (past_more h done c.self.inside.tally.listing.events c.args.gate (packet_of c.read_packet.new.entry) past next));
@@ -239,10 +216,8 @@ pub invariant_of-self-in-Ok-false : goal.invariant_of-self-in-Ok-false
 invariant_of-self-in-Ok-false g c =
     let replaying : c.self.inside.state ≡ Replaying = subst (λ (v : Standing g.row.B.Denot). v.state ≡ Replaying) (sym c.self.view_is) c.requires.replaying in
     let was = c.self.invariant.replaying replaying in
-    let gate_is : c.at_gate-self-inside.result.gate ≡ c.args.gate = ap (λ (j : Log). j.gate) c.at_gate-self-inside.ensures in
-    let no_packet : IsFalse c.in-Ok-false.field-0 = c.in-Ok-false.field-0-test in
     let len_is : c.self.inside.buffer.len ≡ length c.self.inside.buffer.items = omega (arith, c.self.inside.buffer.ok) in
-    let gate_at : c.read_packet.new.journal.gate ≡ c.args.gate = ap (λ (j : Log). j.gate) (c.in-Ok-false.ensures.waits no_packet).0 ∙ gate_is in
+    let gate_at : c.read_packet.new.journal.gate ≡ c.args.gate = ap (λ (j : Log). j.gate) ((c.in-Ok-false.ensures.waits c.in-Ok-false.field-0-test).0 ∙ c.at_gate-self-inside.ensures) in
     let long : length c.self.inside.buffer.items ≡ length (take c.self.inside.buffer.len (c.read_packet.new.buffer ++ drop (length c.read_packet.new.buffer) c.self.inside.buffer.items)) =
     sym (refilled c.self.inside.buffer.len c.self.inside.buffer.items c.read_packet.new.buffer len_is) in
     replaying_cone g.B.Bay.files g.B.Bay.leaves g.B.Faulty.faults g.B.Faulty.mark _ _ _ _ _ replaying (c.read_packet.ensures.keeps.file ∙ ap (λ (j : Log). j.file) c.at_gate-self-inside.ensures)
@@ -269,44 +244,37 @@ invariant_of-self-in-Ok-false g c =
 pub returns-in-Ok-false-clause-ended : goal.returns-in-Ok-false-clause-ended
 returns-in-Ok-false-clause-ended g c =
     let replaying : c.self.inside.state ≡ Replaying = subst (λ (v : Standing g.row.B.Denot). v.state ≡ Replaying) (sym c.self.view_is) c.requires.replaying in
-    let gate_is : c.at_gate-self-inside.result.gate ≡ c.args.gate = ap (λ (j : Log). j.gate) c.at_gate-self-inside.ensures in
     let no_packet : IsFalse c.in-Ok-false.field-0 = c.in-Ok-false.field-0-test in
-    let gate_at : c.read_packet.new.journal.gate ≡ c.args.gate = ap (λ (j : Log). j.gate) (c.in-Ok-false.ensures.waits no_packet).0 ∙ gate_is in
+    let gate_at : c.read_packet.new.journal.gate ≡ c.args.gate = ap (λ (j : Log). j.gate) ((c.in-Ok-false.ensures.waits no_packet).0 ∙ c.at_gate-self-inside.ensures) in
     rw (← c.self.view_is)
     (ended_at (bays g) (lawful g) c.self.inside.bay c.read_packet.new.bay _ _ _ _ _ c.read_packet.ensures.keeps c.self.inside.made.value c.self.inside.tally
     c.self.inside.events c.self.inside.state (over_of c.self.inside.over) c.self.inside.journal.gate c.read_packet.new.journal.gate c.args.gate c.self.inside.log c.self.inside.last
     gate_at (c.in-Ok-false.ensures.enough no_packet) (c.self.invariant.replaying replaying).journal_settled
-    (λ seen told. subst (IsClosed (seen 0)) gate_is (c.in-Ok-false.ensures.closed seen told no_packet)))
+    (λ seen told. subst (λ (j : Log). IsClosed (seen 0) j.gate) c.at_gate-self-inside.ensures (c.in-Ok-false.ensures.closed seen told no_packet)))
 
 pub returns-in-Ok-false-clause-replays : goal.returns-in-Ok-false-clause-replays
 returns-in-Ok-false-clause-replays g c =
-    let replaying : c.self.inside.state ≡ Replaying = subst (λ (v : Standing g.row.B.Denot). v.state ≡ Replaying) (sym c.self.view_is) c.requires.replaying in
-    let gate_is : c.at_gate-self-inside.result.gate ≡ c.args.gate = ap (λ (j : Log). j.gate) c.at_gate-self-inside.ensures in
     let no_packet : IsFalse c.in-Ok-false.field-0 = c.in-Ok-false.field-0-test in
-    let gate_at : c.read_packet.new.journal.gate ≡ c.args.gate = ap (λ (j : Log). j.gate) (c.in-Ok-false.ensures.waits no_packet).0 ∙ gate_is in
+    let gate_at : c.read_packet.new.journal.gate ≡ c.args.gate = ap (λ (j : Log). j.gate) ((c.in-Ok-false.ensures.waits no_packet).0 ∙ c.at_gate-self-inside.ensures) in
     rw (← c.self.view_is) (λ seen told h done way gate_same.
     ended_replays (bays g) (lawful g) c.self.inside.bay c.read_packet.new.bay _ _ _ _ _ c.read_packet.ensures.keeps c.self.inside.tally c.self.inside.log c.self.inside.last
     seen told h done c.args.gate (way.on_way seen told) (subst (λ g. IsPast h done c.self.inside.tally.listing.events g) (sym gate_same) way.past)
-    c.self.inside.made.value c.self.inside.events c.self.inside.state (over_of c.self.inside.over) c.read_packet.new.journal.gate replaying gate_at
-    (subst (IsClosed (seen 0)) gate_is (c.in-Ok-false.ensures.closed seen told no_packet)))
+    c.self.inside.made.value c.self.inside.events c.self.inside.state (over_of c.self.inside.over) c.read_packet.new.journal.gate way.state_is gate_at
+    (subst (λ (j : Log). IsClosed (seen 0) j.gate) c.at_gate-self-inside.ensures (c.in-Ok-false.ensures.closed seen told no_packet)))
 
 -- what stands there isn't taken
 pub returns-in-Err-clause-refused : goal.returns-in-Err-clause-refused
 returns-in-Err-clause-refused g c =
-    let gate_is : c.at_gate-self-inside.result.gate ≡ c.args.gate = ap (λ (j : Log). j.gate) c.at_gate-self-inside.ensures in
     let cone = seen_as c.self.inside.bay c.self.inside.made.value c.self.inside.tally c.self.inside.events c.self.inside.state (over_of c.self.inside.over) c.self.inside.journal.gate
     c.self.inside.log c.self.inside.last in
     rw (← c.self.view_is) (λ seen told.
     subst (λ (fault : ReplayFault). WhyRefused cone (seen 0) c.args.gate fault) (sym c.from-fault.ensures)
     (refused_record cone (seen 0) c.args.gate c.in-Err.fault (λ at same.
-    subst (λ g. ReplayLeavesAt c.self.inside.tally.listing.settings c.self.inside.tally.listing.cone c.self.inside.last.n0 c.self.inside.last.closed (length c.self.inside.tally.listing.events)
-    (seen 0) g at) gate_is (c.in-Err.ensures.malformed seen told at (ap Err same)))))
+    subst (λ (j : Log). ReplayLeavesAt c.self.inside.tally.listing.settings c.self.inside.tally.listing.cone c.self.inside.last.n0 c.self.inside.last.closed
+    (length c.self.inside.tally.listing.events) (seen 0) j.gate at) c.at_gate-self-inside.ensures (c.in-Err.ensures.malformed seen told at (ap Err same)))))
 
 pub returns-in-Err-clause-replays : goal.returns-in-Err-clause-replays
 returns-in-Err-clause-replays g c =
-    let replaying : c.self.inside.state ≡ Replaying = subst (λ (v : Standing g.row.B.Denot). v.state ≡ Replaying) (sym c.self.view_is) c.requires.replaying in
-    let was = c.self.invariant.replaying replaying in
-    let gate_is : c.at_gate-self-inside.result.gate ≡ c.args.gate = ap (λ (j : Log). j.gate) c.at_gate-self-inside.ensures in
     rw (← c.self.view_is) (λ seen told h done way gate_same.
     let past : IsPast h done c.self.inside.tally.listing.events c.args.gate = subst (λ g. IsPast h done c.self.inside.tally.listing.events g) (sym gate_same) way.past in
     let on_way = way.on_way seen told in
@@ -315,9 +283,9 @@ returns-in-Err-clause-replays g c =
     never_on_way (g.B.Bay.leaves c.self.inside.bay) seen h c.self.inside.tally.listing c.self.inside.tally.rows c.self.inside.tally.due.reports c.self.inside.log c.self.inside.last.n0 on_way read
     done c.args.gate at past
     (leaves_listing c.self.inside.tally.listing.settings c.self.inside.tally.listing.cone c.self.inside.last.n0 (length c.self.inside.tally.listing.events) c.args.gate at
-    c.self.inside.tally.listing.closed c.self.inside.last.closed (seen 0) was.closed
-    (subst (λ g. ReplayLeavesAt c.self.inside.tally.listing.settings c.self.inside.tally.listing.cone c.self.inside.last.n0 c.self.inside.last.closed (length c.self.inside.tally.listing.events)
-    (seen 0) g at) gate_is (c.in-Err.ensures.malformed seen told at (ap Err same)))))))
+    c.self.inside.tally.listing.closed c.self.inside.last.closed (seen 0) (c.self.invariant.replaying way.state_is).closed
+    (subst (λ (j : Log). ReplayLeavesAt c.self.inside.tally.listing.settings c.self.inside.tally.listing.cone c.self.inside.last.n0 c.self.inside.last.closed
+    (length c.self.inside.tally.listing.events) (seen 0) j.gate at) c.at_gate-self-inside.ensures (c.in-Err.ensures.malformed seen told at (ap Err same)))))))
 
 pub returns-in-Err-replay_keys-clause-unsound : goal.returns-in-Err-replay_keys-clause-unsound
 returns-in-Err-replay_keys-clause-unsound g c = λ file at same.
@@ -353,51 +321,42 @@ returns-in-Ok-false-clause-framed g c = rw (← c.self.view_is) (λ seen told so
 -- what the files are behind it
 pub returns-in-Err-replay_keys-clause-stays_sound : goal.returns-in-Err-replay_keys-clause-stays_sound
 returns-in-Err-replay_keys-clause-stays_sound g c =
-    let replaying : c.self.inside.state ≡ Replaying = subst (λ (v : Standing g.row.B.Denot). v.state ≡ Replaying) (sym c.self.view_is) c.requires.replaying in
-    let gate_is : c.at_gate-self-inside.result.gate ≡ c.args.gate = ap (λ (j : Log). j.gate) c.at_gate-self-inside.ensures in
-    let yes : IsTrue c.in-Ok-true.field-0 = c.in-Ok-true.field-0-test in
     rw (← c.self.view_is) (λ seen told h done way gate_same.
     keys_stay (bays g) (lawful g) c.self.inside.bay c.read_packet.new.bay _ _ _ _ _ c.read_packet.ensures.keeps c.self.inside.tally c.self.inside.log c.self.inside.last
     seen told h done c.args.gate (way.on_way seen told) (subst (λ g. IsPast h done c.self.inside.tally.listing.events g) (sym gate_same) way.past)
-    (c.self.invariant.replaying replaying).recounted
-    (packet_of c.read_packet.new.entry) (held_at gate_is (c.in-Ok-true.ensures.found seen told yes)) c.keys_of.result.now c.keys_of.ensures.value _ _ _ c.replay_keys.ensures)
+    (c.self.invariant.replaying way.state_is).recounted
+    (packet_of c.read_packet.new.entry) (held_at c.at_gate-self-inside.ensures (c.in-Ok-true.ensures.found seen told c.in-Ok-true.field-0-test))
+    c.keys_of.result.now c.keys_of.ensures.value _ _ _ c.replay_keys.ensures)
 
 pub returns-in-Err-replay_keys-clause-unflushed : goal.returns-in-Err-replay_keys-clause-unflushed
 returns-in-Err-replay_keys-clause-unflushed g c =
-    let gate_is : c.at_gate-self-inside.result.gate ≡ c.args.gate = ap (λ (j : Log). j.gate) c.at_gate-self-inside.ensures in
-    let yes : IsTrue c.in-Ok-true.field-0 = c.in-Ok-true.field-0-test in
     rw (← c.self.view_is) (λ seen told none.
     keys_unwritten (bays g) (lawful g) c.self.inside.bay c.read_packet.new.bay _ _ _ _ _ c.read_packet.ensures.keeps c.self.inside.tally.listing.settings
     (length c.self.inside.tally.listing.events) c.self.inside.last.n0 (packet_of c.read_packet.new.entry) c.keys_of.result.now _ c.keys_of.ensures.value
-    (none (packet_of c.read_packet.new.entry) (held_at gate_is (c.in-Ok-true.ensures.found seen told yes))) c.replay_keys.ensures.unflushed)
+    (none (packet_of c.read_packet.new.entry) (held_at c.at_gate-self-inside.ensures (c.in-Ok-true.ensures.found seen told c.in-Ok-true.field-0-test))) c.replay_keys.ensures.unflushed)
 
 pub returns-in_default-clause-stays_sound : goal.returns-in_default-clause-stays_sound
 returns-in_default-clause-stays_sound g c =
-    let replaying : c.self.inside.state ≡ Replaying = subst (λ (v : Standing g.row.B.Denot). v.state ≡ Replaying) (sym c.self.view_is) c.requires.replaying in
-    let gate_is : c.at_gate-self-inside.result.gate ≡ c.args.gate = ap (λ (j : Log). j.gate) c.at_gate-self-inside.ensures in
-    let yes : IsTrue c.in-Ok-true.field-0 = c.in-Ok-true.field-0-test in
     rw (← c.self.view_is) (λ seen told h done way gate_same.
     keys_stay (bays g) (lawful g) c.self.inside.bay c.read_packet.new.bay _ _ _ _ _ c.read_packet.ensures.keeps c.self.inside.tally c.self.inside.log c.self.inside.last
     seen told h done c.args.gate (way.on_way seen told) (subst (λ g. IsPast h done c.self.inside.tally.listing.events g) (sym gate_same) way.past)
-    (c.self.invariant.replaying replaying).recounted
-    (packet_of c.read_packet.new.entry) (held_at gate_is (c.in-Ok-true.ensures.found seen told yes)) c.keys_of.result.now c.keys_of.ensures.value _ _ _ c.replay_keys.ensures)
+    (c.self.invariant.replaying way.state_is).recounted
+    (packet_of c.read_packet.new.entry) (held_at c.at_gate-self-inside.ensures (c.in-Ok-true.ensures.found seen told c.in-Ok-true.field-0-test))
+    c.keys_of.result.now c.keys_of.ensures.value _ _ _ c.replay_keys.ensures)
 
 pub returns-in_default-clause-unflushed : goal.returns-in_default-clause-unflushed
 returns-in_default-clause-unflushed g c =
-    let gate_is : c.at_gate-self-inside.result.gate ≡ c.args.gate = ap (λ (j : Log). j.gate) c.at_gate-self-inside.ensures in
-    let yes : IsTrue c.in-Ok-true.field-0 = c.in-Ok-true.field-0-test in
     rw (← c.self.view_is) (λ seen told none.
     keys_unwritten (bays g) (lawful g) c.self.inside.bay c.read_packet.new.bay _ _ _ _ _ c.read_packet.ensures.keeps c.self.inside.tally.listing.settings
     (length c.self.inside.tally.listing.events) c.self.inside.last.n0 (packet_of c.read_packet.new.entry) c.keys_of.result.now _ c.keys_of.ensures.value
-    (none (packet_of c.read_packet.new.entry) (held_at gate_is (c.in-Ok-true.ensures.found seen told yes))) c.replay_keys.ensures.unflushed)
+    (none (packet_of c.read_packet.new.entry) (held_at c.at_gate-self-inside.ensures (c.in-Ok-true.ensures.found seen told c.in-Ok-true.field-0-test))) c.replay_keys.ensures.unflushed)
 
 pub returns-in-Ok-false-clause-stays_sound : goal.returns-in-Ok-false-clause-stays_sound
 returns-in-Ok-false-clause-stays_sound g c =
-    let replaying : c.self.inside.state ≡ Replaying = subst (λ (v : Standing g.row.B.Denot). v.state ≡ Replaying) (sym c.self.view_is) c.requires.replaying in
     rw (← c.self.view_is) (λ seen told h done way gate_same.
     read_stays (bays g) (lawful g) c.self.inside.bay c.read_packet.new.bay _ _ _ _ _ c.read_packet.ensures.keeps c.self.inside.tally c.self.inside.log c.self.inside.last
     seen told h done c.args.gate (way.on_way seen told) (subst (λ g. IsPast h done c.self.inside.tally.listing.events g) (sym gate_same) way.past)
-    (c.self.invariant.replaying replaying).recounted)
+    (c.self.invariant.replaying way.state_is).recounted)
 
 pub returns-in-Ok-false-clause-unflushed : goal.returns-in-Ok-false-clause-unflushed
 returns-in-Ok-false-clause-unflushed g c = rw (← c.self.view_is) (λ seen told none. read_unwritten (bays g) (lawful g) c.self.inside.bay c.read_packet.new.bay _ _ _ _ _
@@ -405,11 +364,10 @@ returns-in-Ok-false-clause-unflushed g c = rw (← c.self.view_is) (λ seen told
 
 pub returns-in-Err-clause-stays_sound : goal.returns-in-Err-clause-stays_sound
 returns-in-Err-clause-stays_sound g c =
-    let replaying : c.self.inside.state ≡ Replaying = subst (λ (v : Standing g.row.B.Denot). v.state ≡ Replaying) (sym c.self.view_is) c.requires.replaying in
     rw (← c.self.view_is) (λ seen told h done way gate_same.
     read_stays (bays g) (lawful g) c.self.inside.bay c.read_packet.new.bay _ _ _ _ _ c.read_packet.ensures.keeps c.self.inside.tally c.self.inside.log c.self.inside.last
     seen told h done c.args.gate (way.on_way seen told) (subst (λ g. IsPast h done c.self.inside.tally.listing.events g) (sym gate_same) way.past)
-    (c.self.invariant.replaying replaying).recounted)
+    (c.self.invariant.replaying way.state_is).recounted)
 
 pub returns-in-Err-clause-unflushed : goal.returns-in-Err-clause-unflushed
 returns-in-Err-clause-unflushed g c = rw (← c.self.view_is) (λ seen told none. read_unwritten (bays g) (lawful g) c.self.inside.bay c.read_packet.new.bay _ _ _ _ _ c.read_packet.ensures.keeps)

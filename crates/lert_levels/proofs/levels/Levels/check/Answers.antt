@@ -1,40 +1,42 @@
-use Rattle.std.proofs.Common.{◌≡◌, ◌∙◌, Some, None, ap, sym, subst, arith}
-use Rattle.std.specs.Prelude.{OnOk}
+use Rattle.std.proofs.Common.{ℕ, ◌≡◌, ◌∙◌, Some, None, ap, sym, subst, arith}
+use Rattle.std.specs.Prelude.{Err}
+use Rattle.std.proofs.lemmas.Option.{none-some}
+use Rattle.std.proofs.lemmas.Result.{err_from_is_err_and}
 use Rattle.lert_bay.specs.declared.bay.TheConstants.{FRAMES}
+use Rattle.lert_bay.specs.Files.{IfTold}
+use Rattle.lert_bay.specs.Kept.{Bays}
+use Rattle.lert_bay.proofs.KeptLaws.{IsLawful, reads_as}
+use Rattle.lert_base.specs.declared.pieces.PieceFault.TheVariants.{Malformed}
 use Rattle.lert_spec.specs.Limits.{IsValid}
 use Rattle.lert_rows.specs.Checked.{EachStands, rows_left}
+use Rattle.lert_rows.specs.Hands.{AreReaders}
 use Rattle.lert_levels.specs.OnDisk.{OnDisk}
 use Rattle.lert_rows.specs.Rows.{AreRows}
 use Rattle.lert_rows.proofs.CheckLaws.{all_whole, check_refuses, check_passes, lent_rows}
+use Rattle.lert_rows.proofs.HeldLaws.{all_stand}
+use Rattle.lert_rows.proofs.ReadLaws.{failed_there, malformed_there}
 use Rattle.lert_levels.proofs.LevelLaws.{lent_seen}
-use Rattle.lert_rows.proofs.HeldLaws.{on_ok, all_stand}
+use Rattle.lert_levels.proofs.levels.Levels.check.Given as given
 use Rattle.lert_levels.proofs.levels.Levels.check.Goals as goal
+
+abbrev bays : (g : given.Over) → Bays g.row.B.Denot
+bays g = record { faults = g.B.Faulty.faults; mark = g.B.Faulty.mark; files = g.B.Bay.files; leaves = g.B.Bay.leaves; moment = g.B.Bay.moment; left_since = g.B.Bay.left_since }
+
+lawful : (g : given.Over) → IsLawful (bays g)
+lawful g = record { as_read = g.met.B.Bay.as_read; since_now = g.met.B.Bay.since_now; only_now = g.met.B.Bay.only_now; since_earlier = g.met.B.Bay.since_earlier }
 
 pub check_rows-requires-clause-rows : goal.check_rows-requires-clause-rows
 check_rows-requires-clause-rows g c = lent_rows (λ row. row.items) c.self.inside.settings c.self.inside.rows.items c.deref.result.now c.self.invariant.are c.deref.ensures.value
 
+pub check_rows-requires-clause-readers : goal.check_rows-requires-clause-readers
+check_rows-requires-clause-readers g c = subst (AreReaders c.self.inside.settings) (sym c.deref_mut.ensures.value) c.self.invariant.read_by
+
+-- ---- each frame stands
+
 pub returns-clause-stand : goal.returns-clause-stand
 returns-clause-stand g c seen told =
     let is = lent_seen (λ row. row.items) c.self.inside.settings c.self.inside.rows.items c.deref.result.now c.args.self.now c.self.view_is c.deref.ensures.value in
-    subst (λ (v : OnDisk). OnOk c.check_rows.result (EachStands v.settings (seen FRAMES) v.rows)) is (c.check_rows.ensures.stand seen told)
-
-pub returns-clause-malformed : goal.returns-clause-malformed
-returns-clause-malformed g c seen told at fails =
-    let is = lent_seen (λ row. row.items) c.self.inside.settings c.self.inside.rows.items c.deref.result.now c.args.self.now c.self.view_is c.deref.ensures.value in
-    subst (λ (v : OnDisk). rows_left v.settings (seen FRAMES) v.rows ≡ Some at) is (c.check_rows.ensures.malformed seen told at fails)
-
-pub returns-clause-refuses : goal.returns-clause-refuses
-returns-clause-refuses g c seen told at left =
-    let is = lent_seen (λ row. row.items) c.self.inside.settings c.self.inside.rows.items c.deref.result.now c.args.self.now c.self.view_is c.deref.ensures.value in
-    check_refuses c.check_rows.result _ at (subst (λ (v : OnDisk). rows_left v.settings (seen FRAMES) v.rows ≡ Some at) (sym is) left) (c.check_rows.ensures.whole seen told)
-    (c.check_rows.ensures.malformed seen told)
-
-pub returns-clause-sound : goal.returns-clause-sound
-returns-clause-sound g c seen told held stand =
-    let is = lent_seen (λ row. row.items) c.self.inside.settings c.self.inside.rows.items c.deref.result.now c.args.self.now c.self.view_is c.deref.ensures.value in
-    let are : AreRows c.args.self.now.settings c.args.self.now.rows = subst (λ (v : OnDisk). AreRows v.settings v.rows) c.self.view_is c.self.invariant.are in
-    let none = all_whole c.args.self.now.settings c.args.self.now.rows (seen FRAMES) held are stand in
-    check_passes c.check_rows.result _ (subst (λ (v : OnDisk). rows_left v.settings (seen FRAMES) v.rows ≡ None) (sym is) none) (c.check_rows.ensures.malformed seen told)
+    subst (λ (v : OnDisk). EachStands v.settings (seen FRAMES) v.rows) is (c.in_ok-check_rows.ensures.stand seen told)
 
 pub returns-clause-held : goal.returns-clause-held
 returns-clause-held g c seen told n at =
@@ -42,5 +44,58 @@ returns-clause-held g c seen told n at =
     let s = c.args.self.now.settings in
     let settings_is : c.self.inside.settings ≡ s = ap (λ (v : OnDisk). v.settings) c.self.view_is in
     let valid : IsValid s = subst IsValid (c.numbers-valid.ensures.value ∙ settings_is) c.numbers-valid.ensures.valid in
-    on_ok c.check_rows.result _ _ (all_stand s (omega (arith, valid.limits.base_from)) (omega (arith, valid.limits.ratio_from)) n c.args.self.now.rows at (seen FRAMES))
-    (subst (λ (v : OnDisk). OnOk c.check_rows.result (EachStands v.settings (seen FRAMES) v.rows)) is (c.check_rows.ensures.stand seen told))
+    all_stand s (omega (arith, valid.limits.base_from)) (omega (arith, valid.limits.ratio_from)) n c.args.self.now.rows at (seen FRAMES)
+    (subst (λ (v : OnDisk). EachStands v.settings (seen FRAMES) v.rows) is (c.in_ok-check_rows.ensures.stand seen told))
+
+pub returns-clause-whole : goal.returns-clause-whole
+returns-clause-whole g c seen told =
+    let is = lent_seen (λ row. row.items) c.self.inside.settings c.self.inside.rows.items c.deref.result.now c.args.self.now c.self.view_is c.deref.ensures.value in
+    subst (λ (v : OnDisk). rows_left v.settings (seen FRAMES) v.rows ≡ None) is (c.in_ok-check_rows.ensures.whole seen told)
+
+pub returns-clause-refuses : goal.returns-clause-refuses
+returns-clause-refuses g c seen told at left = absurd (none-some at (sym (returns-clause-whole g c seen told) ∙ left))
+
+pub returns-clause-only_reads : goal.returns-clause-only_reads
+returns-clause-only_reads g c =
+    reads_as (bays g) (lawful g) c.args.bay.now c.check_rows.new.bay _ _ (λ is. absurd (cc is)) c.in_ok-check_rows.ensures.only_reads
+
+-- ---- one doesn't, or a call failed
+
+-- the place that the check names is that at which the first frame leaves its format
+broken_at : (g : given.Over) (c : goal.After-from_residual g) → IfTold (g.B.Bay.files c.args.bay.now) (λ seen. (at : ℕ) → c.in_err-check_rows.field-0.0 ≡ Malformed at →
+    rows_left c.args.self.now.settings (seen FRAMES) c.args.self.now.rows ≡ Some at)
+broken_at g c seen told at same =
+    let is = lent_seen (λ row. row.items) c.self.inside.settings c.self.inside.rows.items c.deref.result.now c.args.self.now c.self.view_is c.deref.ensures.value in
+    subst (λ (v : OnDisk). rows_left v.settings (seen FRAMES) v.rows ≡ Some at) is (c.in_err-check_rows.ensures.malformed seen told at (ap Err same))
+
+pub returns-in_err-check_rows-clause-stand : goal.returns-in_err-check_rows-clause-stand
+returns-in_err-check_rows-clause-stand g c seen told = let p = err_from_is_err_and c.from_residual.result c.from_residual.ensures.1 in rw p.1 tt
+
+pub returns-in_err-check_rows-clause-held : goal.returns-in_err-check_rows-clause-held
+returns-in_err-check_rows-clause-held g c seen told n at = let p = err_from_is_err_and c.from_residual.result c.from_residual.ensures.1 in rw p.1 tt
+
+pub returns-in_err-check_rows-clause-whole : goal.returns-in_err-check_rows-clause-whole
+returns-in_err-check_rows-clause-whole g c seen told = let p = err_from_is_err_and c.from_residual.result c.from_residual.ensures.1 in rw p.1 tt
+
+pub returns-in_err-check_rows-clause-malformed : goal.returns-in_err-check_rows-clause-malformed
+returns-in_err-check_rows-clause-malformed g c seen told at is =
+    broken_at g c seen told at (malformed_there c.from_residual.result c.in_err-check_rows.field-0.0 at c.from_residual.ensures.1 is)
+
+pub returns-in_err-check_rows-clause-refuses : goal.returns-in_err-check_rows-clause-refuses
+returns-in_err-check_rows-clause-refuses g c seen told at left =
+    check_refuses c.from_residual.result c.in_err-check_rows.field-0.0 (rows_left c.args.self.now.settings (seen FRAMES) c.args.self.now.rows) at left c.from_residual.ensures.1
+    (broken_at g c seen told)
+
+pub returns-in_err-check_rows-clause-sound : goal.returns-in_err-check_rows-clause-sound
+returns-in_err-check_rows-clause-sound g c seen told held stand =
+    let s = c.args.self.now.settings in
+    let settings_is : c.self.inside.settings ≡ s = ap (λ (v : OnDisk). v.settings) c.self.view_is in
+    let valid : IsValid s = subst IsValid (c.numbers-valid.ensures.value ∙ settings_is) c.numbers-valid.ensures.valid in
+    let are : AreRows s c.args.self.now.rows = subst (λ (v : OnDisk). AreRows v.settings v.rows) c.self.view_is c.self.invariant.are in
+    check_passes c.from_residual.result c.in_err-check_rows.field-0.0 (rows_left s (seen FRAMES) c.args.self.now.rows) (all_whole s c.args.self.now.rows (seen FRAMES) held valid are stand)
+    c.from_residual.ensures.1 (broken_at g c seen told)
+
+pub returns-in_err-check_rows-clause-only_reads : goal.returns-in_err-check_rows-clause-only_reads
+returns-in_err-check_rows-clause-only_reads g c =
+    reads_as (bays g) (lawful g) c.args.bay.now c.check_rows.new.bay _ _ (λ is. ap Err (failed_there c.from_residual.result c.in_err-check_rows.field-0.0 c.from_residual.ensures.1 is))
+    c.in_err-check_rows.ensures.only_reads

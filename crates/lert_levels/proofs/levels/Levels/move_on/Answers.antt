@@ -17,7 +17,7 @@ lay_directory-requires-clause-few g c =
     let s = c.self.inside.settings in
     let valid : IsValid s = subst IsValid c.numbers-valid.ensures.value c.numbers-valid.ensures.valid in
     after_few (λ row. row.items) (λ row. vec_capacity row) s valid c.self.inside.rows.items c.self.inside.directory.items (vec_capacity c.self.inside.directory) c.self.inside.merger
-    c.self.invariant
+    c.self.inside.readers.items c.self.inside.writers.items c.self.invariant
     c.args.self.now c.self.view_is c.args.m c.requires.first c.requires.last c.requires.at
     c.deref_mut.result.now c.move_rows.new.rows c.deref.result.now c.self.inside.rows.len c.deref_mut.ensures.value c.move_rows.ensures.rows c.deref_mut.ensures.len c.deref.ensures.value
 
@@ -26,7 +26,7 @@ lay_directory-requires-clause-room g c =
     let s = c.self.inside.settings in
     let valid : IsValid s = subst IsValid c.numbers-valid.ensures.value c.numbers-valid.ensures.valid in
     after_room (λ row. row.items) (λ row. vec_capacity row) s valid c.self.inside.rows.items c.self.inside.directory.items (vec_capacity c.self.inside.directory) c.self.inside.merger
-    c.self.invariant
+    c.self.inside.readers.items c.self.inside.writers.items c.self.invariant
     c.args.self.now c.self.view_is c.args.m c.requires.first c.requires.last c.requires.at
     c.deref_mut.result.now c.move_rows.new.rows c.deref.result.now c.self.inside.rows.len c.deref_mut.ensures.value c.move_rows.ensures.rows c.deref_mut.ensures.len c.deref.ensures.value
 
@@ -36,7 +36,7 @@ invariant_of-self g c =
     let valid : IsValid s = subst IsValid c.numbers-valid.ensures.value c.numbers-valid.ensures.valid in
     let after = take c.self.inside.rows.len (c.move_rows.new.rows ++ drop (length c.move_rows.new.rows) c.self.inside.rows.items) in
     after_kept (λ row. row.items) (λ row. vec_capacity row) s valid c.self.inside.rows.items c.self.inside.directory.items (vec_capacity c.self.inside.directory) c.self.inside.merger
-    c.self.invariant
+    c.self.inside.readers.items c.self.inside.writers.items c.self.invariant
     c.args.self.now c.self.view_is c.args.m c.requires.first c.requires.last c.requires.at
     c.deref_mut.result.now c.move_rows.new.rows after c.self.inside.rows.len c.deref_mut.ensures.value c.move_rows.ensures.rows c.deref_mut.ensures.len (λ i. after)
     c.move_rows.ensures.roomy c.lay_directory.new.directory.items (vec_capacity c.lay_directory.new.directory) c.deref.result.now c.deref.ensures.value c.lay_directory.ensures.text

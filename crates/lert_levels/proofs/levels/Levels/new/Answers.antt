@@ -33,6 +33,8 @@ invariant_of-result g c =
       directory_room = subst (λ (n : Numbers). n.levels * (1 + n.bins) ≤ vec_capacity c.lay_directory.new.directory) value
           (omega (arith, c.in_ok-directory.ensures.capacity, c.lay_directory.ensures.capacity));
       merges = subst (λ (n : Numbers). (n.levels + 1) * n.bins ≤ c.in_ok-new.field-0) value (omega (arith, c.in_ok-new.ensures));
+      read_by = c.in_ok-readers_of.ensures;
+      written_by = c.in_ok-writers_of.ensures;
     }
 
 pub returns : goal.returns

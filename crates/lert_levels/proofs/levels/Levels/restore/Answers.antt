@@ -8,7 +8,7 @@ lay_directory-requires-clause-few g c =
     let s = c.self.inside.settings in
     let valid : IsValid s = subst IsValid c.numbers-valid.ensures.value c.numbers-valid.ensures.valid in
     restored_few (λ row. row.items) (λ row. vec_capacity row) s valid c.self.inside.rows.items c.self.inside.directory.items (vec_capacity c.self.inside.directory) c.self.inside.merger
-    c.self.invariant
+    c.self.inside.readers.items c.self.inside.writers.items c.self.invariant
     c.args.n0 c.args.directory.now c.deref_mut.result.now c.restore_rows.new.rows c.deref.result.now c.self.inside.rows.len c.deref_mut.ensures.value c.deref_mut.ensures.len
     c.restore_rows.ensures.named c.deref.ensures.value
 
@@ -17,7 +17,7 @@ lay_directory-requires-clause-room g c =
     let s = c.self.inside.settings in
     let valid : IsValid s = subst IsValid c.numbers-valid.ensures.value c.numbers-valid.ensures.valid in
     restored_room (λ row. row.items) (λ row. vec_capacity row) s valid c.self.inside.rows.items c.self.inside.directory.items (vec_capacity c.self.inside.directory) c.self.inside.merger
-    c.self.invariant
+    c.self.inside.readers.items c.self.inside.writers.items c.self.invariant
     c.args.n0 c.args.directory.now c.deref_mut.result.now c.restore_rows.new.rows c.deref.result.now c.self.inside.rows.len c.deref_mut.ensures.value c.deref_mut.ensures.len
     c.restore_rows.ensures.named c.deref.ensures.value
 
@@ -27,7 +27,7 @@ invariant_of-self g c =
     let valid : IsValid s = subst IsValid c.numbers-valid.ensures.value c.numbers-valid.ensures.valid in
     let after = take c.self.inside.rows.len (c.restore_rows.new.rows ++ drop (length c.restore_rows.new.rows) c.self.inside.rows.items) in
     restored_kept (λ row. row.items) (λ row. vec_capacity row) s valid c.self.inside.rows.items c.self.inside.directory.items (vec_capacity c.self.inside.directory) c.self.inside.merger
-    c.self.invariant
+    c.self.inside.readers.items c.self.inside.writers.items c.self.invariant
     c.args.n0 c.args.directory.now c.deref_mut.result.now c.restore_rows.new.rows after c.self.inside.rows.len c.deref_mut.ensures.value c.deref_mut.ensures.len c.restore_rows.ensures.named
     (λ i. after)
     c.restore_rows.ensures.roomy c.lay_directory.new.directory.items (vec_capacity c.lay_directory.new.directory) c.deref.result.now c.deref.ensures.value c.lay_directory.ensures.text

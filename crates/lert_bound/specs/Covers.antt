@@ -1,0 +1,13 @@
+-- What the bytes say of the events of two generations.
+use Rattle.std.specs.Prelude.{ℕ, ◌≤◌, ◌==◌, List, count_by, min}
+use Rattle.lert_bound.specs.declared.pair.Pair.{Pair}
+use Rattle.lert_bound.specs.Bytes.{pair_of}
+
+-- how often a tail stands in a list
+abbrev pub times : ℕ → List ℕ → ℕ
+times tail events = count_by (λ event. event == tail) events
+
+-- each tail stands in a generation's list at most as often as its byte says, unless that is 255
+pub record Covers (pairs : List Pair) (before present : List ℕ) : Type 0 where
+  pub of_before : (tail : ℕ) → min (times tail before) 255 ≤ (pair_of pairs tail).before
+  pub of_present : (tail : ℕ) → min (times tail present) 255 ≤ (pair_of pairs tail).present

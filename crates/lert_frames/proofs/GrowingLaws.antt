@@ -1,0 +1,316 @@
+-- What a writer of a frame keeps, through each of its changes.
+use Rattle.std.proofs.Common.{◌≡◌, ℕ, ◌+◌, ◌-◌, ◌*◌, ◌/◌, ◌<◌, ◌≤◌, ◌^◌, List, Option, Some, None, refl, sym, ap, ◌∙◌, subst, inl, inr, arith}
+use Rattle.std.proofs.lemmas.Nat.{pow_pos}
+use Rattle.std.proofs.lemmas.Bool.{cases_lt}
+use Rattle.std.proofs.lemmas.Option.{none-some}
+use Rattle.lert_frames.proofs.PlaceLaws.{span_half, blocks_are}
+use Rattle.lert_frames.specs.declared.long.Long.{Long}
+use Rattle.lert_frames.specs.declared.outlet.Outlet.{Outlet}
+use Rattle.lert_frames.specs.Growing.{blocks_bytes, slots_out, IsLong, IsGrowing}
+use Rattle.lert_frames.specs.Outlet.{next_place, size_of}
+use Rattle.lert_frames.specs.Place.{block_count, frame_len, frame_place}
+use Rattle.lert_frames.specs.Spilt.{Reaches, HasRoom, block_bytes, first_place, last_place, closed_place}
+use Rattle.lert_spec.specs.declared.numbers.Numbers.{Numbers}
+use Rattle.lert_spec.specs.declared.piece.Piece.{Piece}
+use Rattle.lert_spec.specs.Edges.{span, width, quotient_bits}
+use Rattle.lert_spec.specs.Limits.{IsValid}
+use Rattle.lert_spec.specs.Table.{total}
+
+-- ---- numbers
+
+start_fits : (place blocks number left wide : ℕ) → left ≤ wide → place + blocks_bytes (blocks - number) (0 + 2 * left) ≤ place + (20 * blocks + 16 * wide + 8 * (wide / 32))
+start_fits place blocks number left wide few = omega arith
+
+fewer_fit : (place blocks slots fewer end : ℕ) → fewer ≤ slots → place + blocks_bytes blocks slots ≤ end → place + blocks_bytes blocks fewer ≤ end
+fewer_fit place blocks slots fewer end less fits = omega arith
+
+next_fits : (place next blocks number slots left end : ℕ) → number < blocks → next ≡ place + block_bytes slots → place + blocks_bytes (blocks - number) (slots + left) ≤ end →
+    next + blocks_bytes (blocks - (number + 1)) (0 + left) ≤ end
+next_fits place next blocks number slots left end more next_is fits = omega arith
+
+one_fits : (place blocks number slots end : ℕ) → number < blocks → place + blocks_bytes (blocks - number) slots ≤ end → place + block_bytes slots ≤ end
+one_fits place blocks number slots end more fits = omega arith
+
+reaches_fewer : (l : Long) (slots fewer end : ℕ) (ends outlet : Outlet) → fewer ≤ slots → Reaches l slots end ends outlet → Reaches l fewer end ends outlet
+reaches_fewer l slots fewer end ends outlet less reach = record {
+  ends_at = reach.ends_at;
+  ends_next = reach.ends_next;
+  words_fit = omega (arith, reach.words_fit, less);
+  slots_at = reach.slots_at;
+  slots_next = reach.slots_next;
+  slots_fit = omega (arith, reach.slots_fit, less);
+}
+
+reaches_further : (l : Long) (slots end further : ℕ) (ends outlet : Outlet) → end ≤ further → Reaches l slots end ends outlet → Reaches l slots further ends outlet
+reaches_further l slots end further ends outlet more reach = record {
+  ends_at = reach.ends_at;
+  ends_next = reach.ends_next;
+  words_fit = reach.words_fit;
+  slots_at = reach.slots_at;
+  slots_next = reach.slots_next;
+  slots_fit = omega (arith, reach.slots_fit, more);
+}
+
+pub not_long : {A : Type 0} (l : Long) → None ≡ Some l → A
+not_long l e = absurd (none-some l e)
+
+pub same_long : (k l : Long) → Some k ≡ Some l → k ≡ l
+same_long k l e = cc
+
+-- a frame has a block
+pub some_block : (s : Numbers) (level : ℕ) → IsValid s → level ≤ s.levels → 0 < block_count s level
+some_block s level valid within = omega (arith, blocks_are s valid level within, pow_pos (quotient_bits s level))
+
+-- ---- a frame at its begin, with nothing in memory
+
+pub growing_new : (s : Numbers) (level frame wide place number left : ℕ) (outlet ends : Outlet) (slots : ℕ) (put : List Piece) → IsValid s → 1 ≤ level → level ≤ s.levels →
+    frame ≤ s.bins → wide ≡ width s level → place ≡ frame_place s level frame → place + frame_len s level < 2 ^ 42 → number < block_count s level → left + total put ≡ span s level →
+    size_of outlet ≡ 8192 → size_of ends ≡ 512 → slots ≡ 0 → next_place outlet ≡ place → place ≤ outlet.at →
+    IsGrowing s level frame wide place number left outlet ends slots None put
+growing_new s level frame wide place number left outlet ends slots put valid first last within width_is place_is end below left_is size ends_size none next at = record {
+  valid = valid;
+  first = first;
+  last = last;
+  within = within;
+  width_is = width_is;
+  place_is = place_is;
+  end = end;
+  below = below;
+  left_is = left_is;
+  size = size;
+  ends_size = ends_size;
+  few = λ some. absurd (omega (arith, some, none));
+  short = λ _. record {
+    at = at;
+    fits =
+        let fits = start_fits (next_place outlet) (block_count s level) number left (span s level) (omega (arith, left_is)) in
+        subst (λ n. next_place outlet + blocks_bytes (block_count s level - number) (n + 2 * left) ≤ place + frame_len s level) (sym none)
+        (subst (λ p. next_place outlet + blocks_bytes (block_count s level - number) (0 + 2 * left) ≤ p + frame_len s level) next fits);
+  };
+  some = λ l is. not_long l is;
+  spilt = λ l is. not_long l is;
+}
+
+module _ {s : Numbers} {level frame wide place number left : ℕ} {outlet ends : Outlet} {slots : ℕ} {long : Option Long} {put : List Piece}
+    (old : IsGrowing s level frame wide place number left outlet ends slots long put) where
+  -- what isn't written is forgotten
+  pub growing_again : (outlet' ends' : Outlet) (slots' : ℕ) → size_of outlet' ≡ 8192 → size_of ends' ≡ 512 → slots' ≡ 0 → next_place outlet' ≡ place → place ≤ outlet'.at →
+      IsGrowing s level frame wide place number left outlet' ends' slots' None put
+  growing_again outlet' ends' slots' size ends_size none next at =
+      growing_new s level frame wide place number left outlet' ends' slots' put old.valid old.first old.last old.within old.width_is old.place_is old.end old.below old.left_is
+      size ends_size none next at
+
+  -- there is room for the rest of the block
+  pub growing_room : HasRoom long slots (2 ^ 62) ends outlet
+  growing_room = record {
+    short = λ is. let fits = one_fits (next_place outlet) (block_count s level) number slots (place + frame_len s level) old.below
+        (fewer_fit (next_place outlet) (block_count s level - number) (slots + 2 * left) slots (place + frame_len s level) (omega arith) (old.short is).fits) in
+        omega (arith, fits, old.end);
+    spilt = λ l is. reaches_further l slots (place + frame_len s level) (2 ^ 62) ends outlet (omega (arith, old.end))
+        (reaches_fewer l (slots + 2 * left) slots (place + frame_len s level) ends outlet (omega arith) (old.spilt l is).reach);
+    some = old.some;
+    few = λ l is.
+        let few = old.few (old.some l is) in
+        let half = span_half s old.valid level old.last in
+        let out : slots_out long ≡ 64 * l.words = ap slots_out is in
+        omega (arith, few, half, out);
+  }
+
+  -- a block, short or long, is ended within the frame's place
+  pub first_within : place ≤ first_place long outlet
+  first_within = by_case long refl
+    where
+      by_case : (at : Option Long) → long ≡ at → place ≤ first_place at outlet
+      by_case None is = (old.short is).at
+      by_case (Some l) is = (old.spilt l is).at
+
+  pub last_within : last_place long slots outlet ≤ place + frame_len s level
+  last_within = by_case long refl
+    where
+      by_case : (at : Option Long) → long ≡ at → last_place at slots outlet ≤ place + frame_len s level
+      by_case None is = one_fits (next_place outlet) (block_count s level) number slots (place + frame_len s level) old.below
+          (fewer_fit (next_place outlet) (block_count s level - number) (slots + 2 * left) slots (place + frame_len s level) (omega arith) (old.short is).fits)
+      by_case (Some l) is = omega (arith, (old.spilt l is).reach.slots_fit)
+
+  pub closed_within : closed_place long slots outlet ≤ place + frame_len s level
+  closed_within = by_case long refl
+    where
+      by_case : (at : Option Long) → long ≡ at → closed_place at slots outlet ≤ place + frame_len s level
+      by_case None is = one_fits (next_place outlet) (block_count s level) number slots (place + frame_len s level) old.below
+          (fewer_fit (next_place outlet) (block_count s level - number) (slots + 2 * left) slots (place + frame_len s level) (omega arith) (old.short is).fits)
+      by_case (Some l) is = one_fits l.begin (block_count s level) number (64 * l.words + slots) (place + frame_len s level) old.below
+          (fewer_fit l.begin (block_count s level - number) (64 * l.words + (slots + 2 * left)) (64 * l.words + slots) (place + frame_len s level) (omega arith) (old.spilt l is).fits)
+
+  -- the next block
+  pub growing_next : (outlet' ends' : Outlet) (slots' : ℕ) → number + 1 < block_count s level → size_of outlet' ≡ 8192 → size_of ends' ≡ 512 → slots' ≡ 0 →
+      next_place outlet' ≡ closed_place long slots outlet → first_place long outlet ≤ outlet'.at →
+      IsGrowing s level frame wide place (number + 1) left outlet' ends' slots' None put
+  growing_next outlet' ends' slots' more size ends_size none next at = record {
+    valid = old.valid;
+    first = old.first;
+    last = old.last;
+    within = old.within;
+    width_is = old.width_is;
+    place_is = old.place_is;
+    end = old.end;
+    below = more;
+    left_is = old.left_is;
+    size = size;
+    ends_size = ends_size;
+    few = λ some. absurd (omega (arith, some, none));
+    short = λ _. record {
+      at = omega (arith, first_within, at);
+      fits = subst (λ n. next_place outlet' + blocks_bytes (block_count s level - (number + 1))
+          (n + 2 * left) ≤ place + frame_len s level) (sym none) (fits long refl);
+    };
+    some = λ l is. not_long l is;
+    spilt = λ l is. not_long l is;
+  }
+    where
+      fits : (at : Option Long) → long ≡ at → next_place outlet' + blocks_bytes (block_count s level - (number + 1)) (0 + 2 * left) ≤ place + frame_len s level
+      fits None is = next_fits (next_place outlet) (next_place outlet') (block_count s level) number slots (2 * left) (place + frame_len s level) old.below
+          (next ∙ ap (λ at. closed_place at slots outlet) is) (old.short is).fits
+      fits (Some l) is = next_fits l.begin (next_place outlet') (block_count s level) number (64 * l.words + slots) (2 * left) (place + frame_len s level) old.below
+          (next ∙ ap (λ at. closed_place at slots outlet) is)
+          (fewer_fit l.begin (block_count s level - number) (64 * l.words + (slots + 2 * left)) (64 * l.words + slots + 2 * left) (place + frame_len s level) (omega arith) (old.spilt l is).fits)
+
+  -- one piece more
+  pub growing_take : (slots' count left' : ℕ) (put' : List Piece) → slots < slots' → slots' + 1 ≤ slots + 2 * count → left' + count ≡ left → total put' ≡ total put + count →
+      IsGrowing s level frame wide place number left' outlet ends slots' long put'
+  growing_take slots' count left' put' more twice less sum =
+      let fewer : slots' + 2 * left' ≤ slots + 2 * left = omega (arith, twice, less) in
+      record {
+        valid = old.valid;
+        first = old.first;
+        last = old.last;
+        within = old.within;
+        width_is = old.width_is;
+        place_is = old.place_is;
+        end = old.end;
+        below = old.below;
+        left_is = omega (arith, old.left_is, less, sum);
+        size = old.size;
+        ends_size = old.ends_size;
+        few = λ _. few long refl;
+        short = λ is. record {
+          at = (old.short is).at;
+          fits = fewer_fit (next_place outlet) (block_count s level - number) (slots + 2 * left) (slots' + 2 * left') (place + frame_len s level) fewer (old.short is).fits;
+        };
+        some = λ l is. omega (arith, more);
+        spilt = λ l is. record {
+          at = (old.spilt l is).at;
+          fits = fewer_fit l.begin (block_count s level - number) (64 * l.words + (slots + 2 * left)) (64 * l.words + (slots' + 2 * left')) (place + frame_len s level) (omega (arith, fewer))
+              (old.spilt l is).fits;
+          reach = reaches_fewer l (slots + 2 * left) (slots' + 2 * left') (place + frame_len s level) ends outlet fewer (old.spilt l is).reach;
+        };
+      }
+    where
+      few : (at : Option Long) → long ≡ at → slots_out long + slots' + 2 * left' < 2 * span s level
+      few None is =
+          let none : slots_out long ≡ 0 = ap slots_out is in
+          elim (cases_lt 0 slots) [
+            | inl some ↦ (let before = old.few some in omega (arith, before, none, twice, less))
+            | inr empty ↦ omega (arith, empty, none, twice, less, old.left_is)
+          ]
+      few (Some l) is = let before = old.few (old.some l is) in omega (arith, before, twice, less)
+
+  -- the outlet writes
+  pub growing_flushed : (outlet' : Outlet) → long ≡ None → size_of outlet' ≡ size_of outlet → next_place outlet' ≡ next_place outlet → outlet.at ≤ outlet'.at →
+      IsGrowing s level frame wide place number left outlet' ends slots long put
+  growing_flushed outlet' none size next at = record {
+    valid = old.valid;
+    first = old.first;
+    last = old.last;
+    within = old.within;
+    width_is = old.width_is;
+    place_is = old.place_is;
+    end = old.end;
+    below = old.below;
+    left_is = old.left_is;
+    size = size ∙ old.size;
+    ends_size = old.ends_size;
+    few = old.few;
+    short = λ is. record {
+      at = omega (arith, (old.short is).at, at);
+      fits = subst (λ n. n + blocks_bytes (block_count s level - number) (slots + 2 * left) ≤ place + frame_len s level) (sym next) (old.short is).fits;
+    };
+    some = old.some;
+    spilt = λ l is. not_long l (sym none ∙ is);
+  }
+
+  -- the block is a long one
+  pub growing_long : (outlet' ends' : Outlet) (l : Long) → long ≡ None → 0 < slots → size_of outlet' ≡ 8192 → size_of ends' ≡ 512 → l.begin ≡ next_place outlet → l.words ≡ 0 →
+      Reaches l (slots + 2 * left) (place + frame_len s level) ends' outlet' → IsGrowing s level frame wide place number left outlet' ends' slots (Some l) put
+  growing_long outlet' ends' l none some size ends_size begin words reach =
+      let out : slots_out long ≡ 0 = ap slots_out none in
+      let before = old.few some in
+      record {
+        valid = old.valid;
+        first = old.first;
+        last = old.last;
+        within = old.within;
+        width_is = old.width_is;
+        place_is = old.place_is;
+        end = old.end;
+        below = old.below;
+        left_is = old.left_is;
+        size = size;
+        ends_size = ends_size;
+        few = λ _. omega (arith, before, out, words);
+        short = λ is. not_long l (sym is);
+        some = λ k is. some;
+        spilt = λ k is. subst (λ (j : Long). IsLong place (place + frame_len s level) (block_count s level - number) (slots + 2 * left) j ends' outlet') (same_long l k is) (record {
+          at = omega (arith, (old.short none).at, begin);
+          fits =
+              let none_out : 64 * l.words + (slots + 2 * left) ≡ slots + 2 * left = omega (arith, words) in
+              subst (λ n. l.begin + blocks_bytes (block_count s level - number) n ≤ place + frame_len s level) (sym none_out)
+              (subst (λ p. p + blocks_bytes (block_count s level - number) (slots + 2 * left) ≤ place + frame_len s level) (sym begin) (old.short none).fits);
+          reach = reach;
+        });
+      }
+
+  -- and the room for it
+  pub long_fits : long ≡ None → next_place outlet + block_bytes (slots + 2 * left) ≤ place + frame_len s level
+  long_fits none = one_fits (next_place outlet) (block_count s level) number (slots + 2 * left) (place + frame_len s level) old.below (old.short none).fits
+
+  -- slots of a long block go
+  pub growing_gone : (outlet' ends' : Outlet) (slots' : ℕ) (k l : Long) → long ≡ Some k → size_of outlet' ≡ 8192 → size_of ends' ≡ 512 → l.begin ≡ k.begin →
+      64 * l.words + slots' ≡ 64 * k.words + slots → 0 < slots' → slots' ≤ slots →
+      Reaches l (slots + 2 * left - (slots - slots')) (place + frame_len s level) ends' outlet' → IsGrowing s level frame wide place number left outlet' ends' slots' (Some l) put
+  growing_gone outlet' ends' slots' k l was size ends_size begin words some less reach =
+      let out : slots_out long ≡ 64 * k.words = ap slots_out was in
+      let before = old.few (old.some k was) in
+      let left_is : slots + 2 * left - (slots - slots') ≡ slots' + 2 * left = omega (arith, less) in
+      record {
+        valid = old.valid;
+        first = old.first;
+        last = old.last;
+        within = old.within;
+        width_is = old.width_is;
+        place_is = old.place_is;
+        end = old.end;
+        below = old.below;
+        left_is = old.left_is;
+        size = size;
+        ends_size = ends_size;
+        few = λ _. omega (arith, before, out, words);
+        short = λ is. not_long l (sym is);
+        some = λ j is. some;
+        spilt = λ j is. subst (λ (j : Long). IsLong place (place + frame_len s level) (block_count s level - number) (slots' + 2 * left) j ends' outlet') (same_long l j is) (record {
+          at = omega (arith, (old.spilt k was).at, begin);
+          fits =
+              let same : 64 * k.words + (slots + 2 * left) ≡ 64 * l.words + (slots' + 2 * left) = omega (arith, words) in
+              subst (λ p. p + blocks_bytes (block_count s level - number) (64 * l.words + (slots' + 2 * left)) ≤ place + frame_len s level) (sym begin)
+              (subst (λ n. k.begin + blocks_bytes (block_count s level - number) n ≤ place + frame_len s level) same (old.spilt k was).fits);
+          reach = subst (λ n. Reaches l n (place + frame_len s level) ends' outlet') left_is reach;
+        });
+      }
+
+  -- or stay
+  pub growing_kept : (outlet' ends' : Outlet) (slots' : ℕ) (k : Long) → long ≡ Some k → size_of outlet' ≡ 8192 → size_of ends' ≡ 512 → slots' ≡ slots →
+      Reaches k (slots + 2 * left) (place + frame_len s level) ends' outlet' → IsGrowing s level frame wide place number left outlet' ends' slots' long put
+  growing_kept outlet' ends' slots' k was size ends_size same reach =
+      let some = old.some k was in
+      subst (λ at. IsGrowing s level frame wide place number left outlet' ends' slots' at put) (sym was)
+      (growing_gone outlet' ends' slots' k k was size ends_size refl (omega (arith, same)) (omega (arith, some, same)) (omega (arith, same))
+      (subst (λ n. Reaches k n (place + frame_len s level) ends' outlet') (let same_left : slots + 2 * left ≡ slots + 2 * left - (slots - slots') = omega (arith, same) in same_left) reach))

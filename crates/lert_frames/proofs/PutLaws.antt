@@ -1,0 +1,21 @@
+-- One piece more of a list that is put.
+use Rattle.std.proofs.Common.{ℕ, ◌≡◌, ◌+◌, ◌<◌, ◌≤◌, zero, suc, List, [], ◌∷◌, ◌++◌, length, take, get_or, ap, sym, ◌∙◌, subst, arith}
+use Rattle.std.proofs.lemmas.List.{take_more}
+use Rattle.lert_spec.proofs.GivenLaws.{given_take}
+use Rattle.lert_spec.specs.declared.piece.Piece.{Piece}
+use Rattle.lert_spec.specs.Table.{total, AreGiven}
+
+pub total_front : (n : ℕ) (pieces : List Piece) → total (take n pieces) ≤ total pieces
+total_front zero pieces = omega arith
+total_front (suc n) [] = omega arith
+total_front (suc n) (p ∷ pieces) = let rest = total_front n pieces in omega arith
+
+module _ (limit i : ℕ) (pieces put : List Piece) (d : Piece) (below : i < length pieces) (put_is : put ≡ take i pieces) where
+  pub put_more : put ++ get_or pieces i d ∷ [] ≡ take (i + 1) pieces
+  put_more = ap (λ front. front ++ get_or pieces i d ∷ []) put_is ∙ sym (take_more pieces i d below)
+
+  pub put_given : AreGiven limit pieces → AreGiven limit (put ++ get_or pieces i d ∷ [])
+  put_given given = subst (AreGiven limit) (sym put_more) (given_take limit (i + 1) pieces given)
+
+  pub put_fits : (most : ℕ) → total pieces ≤ most → total (put ++ get_or pieces i d ∷ []) ≤ most
+  put_fits most fits = omega (arith, ap total put_more, total_front (i + 1) pieces, fits)

@@ -1,0 +1,49 @@
+use Rattle.std.proofs.Common.{◌∙◌, ℕ, List, refl, sym, ap, subst, arith, take}
+use Rattle.std.proofs.lemmas.List.{with_items_is}
+use Rattle.lert_bay.specs.declared.bay.TheConstants.{FRAMES}
+use Rattle.lert_bay.specs.Kept.{Bays}
+use Rattle.lert_bay.proofs.KeptLaws.{IsLawful, reads_as, reads_on}
+use Rattle.lert_frames.specs.Steps.{AreEnds}
+use Rattle.lert_frames.specs.Window.{count_of, to_come}
+use Rattle.lert_frames.proofs.AheadLaws.{ahead_since}
+use Rattle.lert_frames.proofs.FaultLaws.{not_err}
+use Rattle.lert_frames.proofs.SlotLaws.{hand_from, hand_read}
+use Rattle.lert_frames.proofs.decoder.Decoder.read_word.Given as given
+use Rattle.lert_frames.proofs.decoder.Decoder.read_word.Goals as goal
+
+abbrev bays : (g : given.Over) → Bays g.row.B.Denot
+bays g = record { faults = g.B.Faulty.faults; mark = g.B.Faulty.mark; files = g.B.Bay.files; leaves = g.B.Bay.leaves; moment = g.B.Bay.moment; left_since = g.B.Bay.left_since }
+
+lawful : (g : given.Over) → IsLawful (bays g)
+lawful g = record { as_read = g.met.B.Bay.as_read; since_now = g.met.B.Bay.since_now; only_now = g.met.B.Bay.only_now; since_earlier = g.met.B.Bay.since_earlier }
+
+pub returns : goal.returns
+returns g c =
+    let before = c.args.bay.now in
+    let between = c.read_ends.new.bay in
+    let after = c.read_slots.new.bay in
+    let old = c.args.self.now in
+    let word = c.in_ok-ends.ensures in
+    let read = c.in_ok-count.ensures in
+    record {
+      width = refl;
+      block = refl;
+      ahead = refl;
+      window = ahead_since (bays g) before between old.window c.read_slots.new.window word.only_reads.seen read.ahead;
+      ends = word.ahead;
+      hand = record {
+        few = omega (arith, read.count);
+        known = omega (arith, read.count);
+        hand = omega (arith, read.count);
+        hand_ends = word.hand;
+        from = hand_from old.block.from old.block.some c.in_ok-ends.ends.words c.in_ok-count.count (count_of c.read_slots.new.window) (count_of old.ends) (count_of old.window)
+            old.standing.from old.standing.near old.standing.hand read.ahead.grows old.standing.word word.one read.count;
+      };
+      slots = λ seen told. hand_read old.block.some (to_come c.read_ends.new.ends (seen FRAMES)) (to_come c.read_slots.new.window (seen FRAMES)) c.in_ok-ends.ends c.in_ok-count.count _
+          c.read_slots.new.window (seen FRAMES)
+          (subst (λ (ends : List ℕ). AreEnds old.block.some ends c.in_ok-ends.ends) (sym (word.ahead.come seen told)) (word.there seen told)) refl read.count
+          (ap (take c.in_ok-count.count) (with_items_is old.slots c.read_slots.new.into (omega (arith, c.read_slots.auto.into, c.deref_mut.ensures.len))) ∙ read.slots)
+          (λ few. read.all seen (word.only_reads.seen ∙ told) few ∙ sym (read.ahead.come seen (word.only_reads.seen ∙ told)));
+      failed = tt;
+      only_reads = reads_on (bays g) (lawful g) before between after _ _ word.only_reads (reads_as (bays g) (lawful g) between after _ _ (λ is. absurd (not_err _ _ is)) read.only_reads);
+    }

@@ -1,0 +1,105 @@
+use Rattle.std.proofs.Common.{◌≡◌, ◌+◌, ◌-◌, ◌<◌, ◌∙◌, Some, length, drop, ap, sym, refl, subst, arith, true, false}
+use Rattle.std.proofs.lemmas.Result.{err_from_is_err_and}
+use Rattle.lert_bay.specs.declared.bay.TheConstants.{FRAMES}
+use Rattle.lert_bay.specs.Kept.{Bays}
+use Rattle.lert_bay.proofs.KeptLaws.{IsLawful, reads_as}
+use Rattle.lert_blocks.specs.Frame.{ends_agree}
+use Rattle.lert_frames.specs.Steps.{fields_len}
+use Rattle.lert_frames.specs.Window.{at_hand, place_of, to_come}
+use Rattle.lert_frames.proofs.FaultLaws.{not_err, not_failed, fault_is, same_place}
+use Rattle.lert_frames.proofs.FieldLaws.{fields_told, end_of, run_ends_short, run_ends_agree, run_ends_differ}
+use Rattle.lert_frames.proofs.NearLaws.{agrees_as, block_words, near_long, near_words, near_held}
+use Rattle.lert_frames.proofs.WriteLaws.{same_err}
+use Rattle.lert_frames.proofs.fields.pass_near_fields.Given as given
+use Rattle.lert_frames.proofs.fields.pass_near_fields.Goals as goal
+
+abbrev bays : (g : given.Over) → Bays g.row.B.Denot
+bays g = record { faults = g.B.Faulty.faults; mark = g.B.Faulty.mark; files = g.B.Bay.files; leaves = g.B.Bay.leaves; moment = g.B.Bay.moment; left_since = g.B.Bay.left_since }
+
+lawful : (g : given.Over) → IsLawful (bays g)
+lawful g = record { as_read = g.met.B.Bay.as_read; since_now = g.met.B.Bay.since_now; only_now = g.met.B.Bay.only_now; since_earlier = g.met.B.Bay.since_earlier }
+
+pub returns-in_err-demand : goal.returns-in_err-demand
+returns-in_err-demand g c =
+    let p = err_from_is_err_and c.from_residual.result c.from_residual.ensures.1 in
+    let asked = c.in_err-demand.ensures in
+    let head = c.args.head in
+    let w = c.args.window.now in
+    rw (p.1, p.2) (record {
+      passes = tt;
+      words = λ seen told. tt;
+      agree = λ seen told. tt;
+      ends_place = tt;
+      malformed = λ seen told at is.
+          let xs = to_come w (seen FRAMES) in
+          let short : length xs < fields_len head = subst (λ n. length xs < n) c.len-len.ensures (asked.short seen told at (same_err _ _ is)) in
+          run_ends_short head xs (fields_told head (at_hand w) xs w (seen FRAMES) refl refl c.requires.fields) (place_of w) (length (seen FRAMES)) short
+          ∙ ap Some (sym (asked.end seen told at (same_err _ _ is)));
+      ahead = asked.ahead;
+      ends_within = λ near. near;
+      ends_room = refl;
+      only_reads = reads_as (bays g) (lawful g) c.args.bay.now c.demand.new.bay _ _ (λ is. same_err _ _ is) asked.only_reads;
+    })
+
+pub returns-then-not-agree : goal.returns-then-not-agree
+returns-then-not-agree g c =
+    let asked = c.in_ok-demand.ensures in
+    let head = c.args.head in
+    let w = c.args.window.now in
+    record {
+      passes = tt;
+      words = λ seen told. tt;
+      agree = λ seen told. tt;
+      ends_place = tt;
+      malformed = λ seen told at is.
+          let xs = to_come w (seen FRAMES) in
+          let near = near_words head c.demand.new.window c.at_hand.result.now c.between-words.result.now xs (seen FRAMES) c.len-len.result c.words.result c.len-len.ensures c.words.ensures
+          c.at_hand.ensures.value c.between-words.ensures.value asked.enough (asked.ahead.come seen told) in
+          let differ : false ≡ ends_agree head.occupied head.count (block_words head xs) =
+          sym c.if-not-agree.true ∙ agrees_as head c.run_ends_of.result c.agree.result _ xs c.agree.ensures c.run_ends_of.ensures near in
+          let long = near_long head c.demand.new.window c.at_hand.result.now c.between-words.result.now xs (seen FRAMES) c.len-len.result c.words.result c.len-len.ensures c.words.ensures
+          c.at_hand.ensures.value c.between-words.ensures.value asked.enough (asked.ahead.come seen told) in
+          let place : place_of c.demand.new.window + fields_len head - 8 ≡ at = same_place _ at (sym c.left_at_last_word.ensures ∙ fault_is _ _ is) in
+          run_ends_differ head xs (fields_told head (at_hand w) xs w (seen FRAMES) refl refl c.requires.fields) (place_of w) (length (seen FRAMES)) long differ
+          ∙ ap Some (ap (λ n. n + fields_len head - 8) (sym asked.ahead.place) ∙ place);
+      ahead = asked.ahead;
+      ends_within = λ near. near;
+      ends_room = refl;
+      only_reads = reads_as (bays g) (lawful g) c.args.bay.now c.demand.new.bay _ _ (λ is. absurd (not_failed _ _ c.left_at_last_word.ensures is)) asked.only_reads;
+    }
+
+pub returns : goal.returns
+returns g c =
+    let asked = c.in_ok-demand.ensures in
+    let head = c.args.head in
+    let w = c.args.window.now in
+    let near = c.demand.new.window in
+    let held = c.hold.ensures in
+    let skipped = c.skip.ensures in
+    let len_is = c.len-len.ensures in
+    record {
+      passes = record {
+        place = skipped.place ∙ (ap (λ n. n + c.len-len.result) asked.ahead.place ∙ ap (λ n. place_of w + n) len_is);
+        room = skipped.room ∙ asked.ahead.room;
+        come = λ seen told. skipped.come (seen FRAMES) ∙ (ap (drop c.len-len.result) (asked.ahead.come seen told) ∙ ap (λ n. drop n (to_come w (seen FRAMES))) len_is);
+        read = λ seen told from before is. skipped.read from (seen FRAMES) (asked.ahead.read seen told from (omega (arith, before, end_of w)) is);
+      };
+      words = λ seen told. near_held head near c.at_hand.result.now c.between-words.result.now (to_come w (seen FRAMES)) (seen FRAMES) c.len-len.result c.words.result len_is c.words.ensures
+          c.at_hand.ensures.value c.between-words.ensures.value asked.enough (asked.ahead.come seen told) _ _
+          (fields_told head (at_hand w) (to_come w (seen FRAMES)) w (seen FRAMES) refl refl c.requires.fields) (held.come (seen FRAMES));
+      agree = λ seen told.
+          let xs = to_come w (seen FRAMES) in
+          let words = near_words head near c.at_hand.result.now c.between-words.result.now xs (seen FRAMES) c.len-len.result c.words.result len_is c.words.ensures
+          c.at_hand.ensures.value c.between-words.ensures.value asked.enough (asked.ahead.come seen told) in
+          let agrees : true ≡ ends_agree head.occupied head.count (block_words head xs) =
+          sym c.if-not-agree.false ∙ agrees_as head c.run_ends_of.result c.agree.result _ xs c.agree.ensures c.run_ends_of.ensures words in
+          run_ends_agree head xs (fields_told head (at_hand w) xs w (seen FRAMES) refl refl c.requires.fields) (place_of w) (length (seen FRAMES))
+          (near_long head near c.at_hand.result.now c.between-words.result.now xs (seen FRAMES) c.len-len.result c.words.result len_is c.words.ensures
+          c.at_hand.ensures.value c.between-words.ensures.value asked.enough (asked.ahead.come seen told)) agrees;
+      ends_place = omega (arith, held.place, c.between-words.ensures.count, c.place.ensures, asked.ahead.place, len_is);
+      malformed = λ seen told at is. absurd (not_err _ _ is);
+      ahead = tt;
+      ends_within = λ near. omega (arith, held.place, c.between-words.ensures.count, c.place.ensures, asked.ahead.place, len_is, c.requires.reach);
+      ends_room = held.room;
+      only_reads = reads_as (bays g) (lawful g) c.args.bay.now c.demand.new.bay _ _ (λ is. absurd (not_err _ _ is)) asked.only_reads;
+    }

@@ -1,0 +1,60 @@
+use Rattle.std.proofs.Common.{◌≡◌, ℕ, ◌+◌, ◌≤◌, ◌∙◌, ◌++◌, List, ap, subst, refl, inr, arith}
+use Rattle.lert_bay.specs.declared.bay.TheConstants.{FRAMES}
+use Rattle.lert_bay.specs.Settled.{part}
+use Rattle.lert_bay.proofs.KeptLaws.{IsLawful}
+use Rattle.lert_frames.specs.Outlet.{IsOut}
+use Rattle.lert_frames.proofs.CallLaws.{writes_on, writes_as, writes_wider, told_then, no_shorter}
+use Rattle.lert_frames.proofs.OutletLaws.{out_all}
+use Rattle.lert_frames.proofs.PartLaws.{part_join}
+use Rattle.lert_frames.proofs.WithinLaws.{part_within}
+use Rattle.lert_frames.proofs.moving.move_down.Given as given
+use Rattle.lert_frames.proofs.moving.move_down.Invariants.{bays}
+use Rattle.lert_frames.proofs.moving.move_down.Goals as goal
+
+lawful : (g : given.Over) → IsLawful (bays g)
+lawful g = record { as_read = g.met.B.Bay.as_read; since_now = g.met.B.Bay.since_now; only_now = g.met.B.Bay.only_now; since_earlier = g.met.B.Bay.since_earlier }
+
+pub returns-in_err-move_part-clause-writes : goal.returns-in_err-move_part-clause-writes
+returns-in_err-move_part-clause-writes g c begin end low high =
+    let inv = c.loop-moved.invariant in
+    writes_on (bays g) (lawful g) begin end _ _ _ _ _
+    (writes_wider (bays g) c.args.to (c.args.to + c.loop-moved.moved) begin end _ _ _ low (omega arith) (omega (arith, inv.some, high)) inv.writes)
+    (writes_as (bays g) (lawful g) begin end _ _ _ _ (λ _. refl) (c.in_err-move_part.ensures.writes begin end (omega (arith, inv.place)) (omega (arith, inv.place))))
+
+pub loop-moved-preserved : goal.loop-moved-preserved
+loop-moved-preserved g c =
+    let inv = c.loop-moved.invariant in
+    let step = c.in_ok-move_part.ensures in
+    let from = c.args.from in
+    let to = c.args.to in
+    let moved = c.loop-moved.moved in
+    let more = c.min-more.result in
+    let few : moved + more ≤ c.args.count = omega (arith, c.min-more.ensures) in
+    record {
+      some = few;
+      empty = step.empty;
+      place = omega (arith, step.place, inv.place);
+      size = step.size ∙ inv.size;
+      writes = writes_on (bays g) (lawful g) to (to + (moved + more)) _ _ _ _ _
+          (writes_wider (bays g) to (to + moved) to (to + (moved + more)) _ _ _ (omega arith) (omega arith) (omega arith) inv.writes)
+          (writes_as (bays g) (lawful g) to (to + (moved + more)) _ _ _ _ (λ never. absurd never) (step.writes to (to + (moved + more)) (omega (arith, inv.place)) (omega (arith, inv.place))));
+      out = λ seen told later told_later within.
+          let mid = told_then (bays g) to (to + moved) _ _ seen inv.writes.within told in
+          let longer = no_shorter (bays g) to (to + moved) _ _ seen mid.0 inv.writes.within told mid.1 in
+          let there = step.out mid.0 mid.1 later told_later (omega (arith, within, longer, few)) to _ (inv.out seen told mid.0 mid.1 within) in
+          let same = part_within (bays g) to (to + moved) _ _ seen mid.0 told mid.1 inv.writes.within (from + moved) (from + moved + more) (omega (arith, within, few)) (omega arith)
+          (inr (omega (arith, c.requires.order))) in
+          let whole : part (seen FRAMES) from (from + moved) ++ part (mid.0 FRAMES) (from + moved) (from + moved + more) ≡ part (seen FRAMES) from (from + (moved + more)) =
+          ap (λ (bytes : List ℕ). part (seen FRAMES) from (from + moved) ++ bytes) same
+          ∙ (part_join (seen FRAMES) from (from + moved) (from + moved + more) (omega arith) (omega arith) (omega (arith, within, few))
+          ∙ ap (part (seen FRAMES) from) (let sum : from + moved + more ≡ from + (moved + more) = omega arith in sum)) in
+          subst (λ (bytes : List ℕ). IsOut to bytes (later FRAMES) c.move_part.new.outlet) whole there;
+    }
+
+pub returns-clause-moved : goal.returns-clause-moved
+returns-clause-moved g c seen told later told_later within =
+    let inv = c.loop-moved.invariant in
+    let all : c.loop-moved.moved ≡ c.args.count = omega (arith, inv.some) in
+    let out = inv.out seen told later told_later within in
+    let place : c.args.to + c.args.count ≡ c.loop-moved.outlet.at = omega (arith, inv.place, all) in
+    ap (part (later FRAMES) c.args.to) place ∙ (out_all c.args.to _ (later FRAMES) c.loop-moved.outlet out inv.empty ∙ ap (λ n. part (seen FRAMES) c.args.from (c.args.from + n)) all)

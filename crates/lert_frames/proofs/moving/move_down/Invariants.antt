@@ -1,0 +1,28 @@
+use Rattle.std.proofs.Common.{◌≡◌, ℕ, ◌+◌, ◌-◌, ◌≤◌, length}
+use Rattle.lert_bay.specs.declared.bay.TheConstants.{FRAMES}
+use Rattle.lert_bay.specs.Files.{IfTold}
+use Rattle.lert_bay.specs.Kept.{Bays}
+use Rattle.lert_bay.specs.Settled.{part}
+use Rattle.lert_frames.specs.Calls.{Writes}
+use Rattle.lert_frames.specs.Outlet.{IsOut, size_of}
+use Rattle.lert_frames.specs.declared.outlet.Outlet.{Outlet}
+use Rattle.lert_frames.proofs.moving.move_down.Given as goal
+
+-- so many bytes are moved, and those behind them are as they were
+pub record IsMoved {B : Type 0} (bays : Bays B) (from to count moved : ℕ) (before after : B) (outlet : Outlet) : Type 0 where
+  pub some : moved ≤ count
+  pub empty : outlet.len ≡ 0
+  pub place : outlet.at ≡ to + moved
+  pub size : size_of outlet ≡ 8192
+  pub writes : Writes bays to (to + moved) before after ⊥
+  pub out : IfTold (bays.files before) (λ seen. IfTold (bays.files after) (λ later. from + count ≤ length (seen FRAMES) →
+      IsOut to (part (seen FRAMES) from (from + moved)) (later FRAMES) outlet))
+
+abbrev pub bays : (g : goal.Over) → Bays g.row.B.Denot
+bays g = record { faults = g.B.Faulty.faults; mark = g.B.Faulty.mark; files = g.B.Bay.files; leaves = g.B.Bay.leaves; moment = g.B.Bay.moment; left_since = g.B.Bay.left_since }
+
+abbrev pub invariant-loop-moved : goal.invariant-loop-moved
+invariant-loop-moved g l = IsMoved (bays g) l.from l.to l.count l.moved l.initial.bay l.bay l.outlet
+
+abbrev pub decreases-loop-moved : goal.decreases-loop-moved
+decreases-loop-moved g l = l.count - l.moved

@@ -1,0 +1,26 @@
+use Rattle.std.proofs.Common.{◌≡◌, ◌-◌, ◌↔◌, ℕ, Some}
+use Rattle.lert_bay.specs.Files.{Files}
+use Rattle.lert_bay.specs.Kept.{Bays, OnlyReads}
+use Rattle.lert_bay.specs.declared.bay.TheConstants.{FRAMES}
+use Rattle.lert_spec.specs.Table.{total}
+use Rattle.lert_frames.specs.ToCome.{Breaks, IsWithin}
+use Rattle.lert_frames.proofs.reader.FrameReader.check.Given as goal
+
+abbrev pub bays : (g : goal.Over) → Bays g.row.B.Denot
+bays g = record { faults = g.B.Faulty.faults; mark = g.B.Faulty.mark; files = g.B.Bay.files; leaves = g.B.Bay.leaves; moment = g.B.Bay.moment; left_since = g.B.Bay.left_since }
+
+-- the frame is the same, it leaves its text where it did, and nothing was changed
+abbrev pub invariant-loop-piece : goal.invariant-loop-piece
+invariant-loop-piece g l = record {
+  settings : l.self.settings ≡ l.initial.self.settings;
+  level : l.self.level ≡ l.initial.self.level;
+  place : l.self.place ≡ l.initial.self.place;
+  wide : l.self.wide ≡ l.initial.self.wide;
+  breaks : (at : ℕ) → Breaks (g.B.Bay.files l.bay) l.self at ↔ Breaks (g.B.Bay.files l.fn.bay) l.initial.self at;
+  within : (seen : Files) → g.B.Bay.files l.fn.bay ≡ Some seen → IsWithin l.self (seen FRAMES);
+  only_reads : OnlyReads (bays g) l.fn.bay l.bay ⊥;
+}
+
+-- each piece raises the sum of those that were given
+abbrev pub decreases-loop-piece : goal.decreases-loop-piece
+decreases-loop-piece g l = l.self.wide - total l.self.gave

@@ -1,0 +1,77 @@
+use Rattle.std.proofs.Common.{◌≡◌, ℕ, ◌∙◌, arith, subst}
+use Rattle.std.proofs.lemmas.Result.{err_from_is_err_and}
+use Rattle.lert_bay.proofs.KeptLaws.{IsLawful, reads_as, reads_none, reads_on}
+use Rattle.lert_frames.proofs.PassLaws.{words_none, words_more, words_short}
+use Rattle.lert_frames.specs.Steps.{PassesWords}
+use Rattle.lert_frames.proofs.FaultLaws.{not_err}
+use Rattle.lert_frames.proofs.WriteLaws.{same_err}
+use Rattle.lert_frames.proofs.run_ends.pass_run_ends.Given as given
+use Rattle.lert_frames.proofs.run_ends.pass_run_ends.Invariants.{bays}
+use Rattle.lert_frames.proofs.run_ends.pass_run_ends.Goals as goal
+
+lawful : (g : given.Over) → IsLawful (bays g)
+lawful g = record { as_read = g.met.B.Bay.as_read; since_now = g.met.B.Bay.since_now; only_now = g.met.B.Bay.only_now; since_earlier = g.met.B.Bay.since_earlier }
+
+pub loop-word-init : goal.loop-word-init
+loop-word-init g c = record {
+  passes = words_none (bays g) c.args.bay.now c.args.ends.now c.none-found.result c.none-found.ensures;
+  reads = reads_none (bays g) (lawful g) c.args.bay.now ⊥ (λ never. never);
+}
+
+pub pass_word-requires-clause-room : goal.pass_word-requires-clause-room
+pass_word-requires-clause-room g c = c.loop-word.invariant.passes.room ∙ c.requires.room
+
+pub pass_word-requires-clause-reach : goal.pass_word-requires-clause-reach
+pass_word-requires-clause-reach g c = omega (arith, c.loop-word.invariant.passes.place, c.requires.reach)
+
+pub with-found-requires : goal.with-found-requires
+with-found-requires g c = omega (arith, c.loop-word.invariant.passes.few, c.requires.few)
+
+pub loop-word-preserved : goal.loop-word-preserved
+loop-word-preserved g c =
+    let now = c.loop-word.invariant in
+    let one = c.in_ok-pass_word.ensures in
+    let more = c.with-found.ensures in
+    record {
+      passes = words_more (bays g) c.args.bay.now c.loop-word._word c.in_ok-pass_word.field-0 c.args.ends.now c.loop-word.ends c.pass_word.new.ends c.loop-word.found c.with-found.result
+          now.passes (record {
+            place = one.behind;
+            room = one.room;
+            later = one.later;
+            word = λ seen told. one.word seen (now.reads.seen ∙ told);
+            long = λ seen told. one.long seen (now.reads.seen ∙ told);
+            come = λ seen told. one.come seen (now.reads.seen ∙ told);
+            read = λ seen told. one.bytes seen (now.reads.seen ∙ told);
+          }) more.counted more.few;
+      reads = reads_on (bays g) (lawful g) c.args.bay.now c.loop-word.bay c.pass_word.new.bay ⊥ ⊥ now.reads
+          (reads_as (bays g) (lawful g) c.loop-word.bay c.pass_word.new.bay _ ⊥ (λ never. absurd never) one.only_reads);
+    }
+
+pub returns-in_err-pass_word : goal.returns-in_err-pass_word
+returns-in_err-pass_word g c =
+    let p = err_from_is_err_and c.from_residual.result c.from_residual.ensures.1 in
+    let now = c.loop-word.invariant in
+    let one = c.in_err-pass_word.ensures in
+    rw (p.1, p.2) (record {
+      passes = tt;
+      short = λ seen told at is. words_short (bays g) c.args.bay.now c.loop-word._word c.args.words c.args.ends.now c.loop-word.ends c.loop-word.found now.passes c.loop-word-test.true
+          seen told (one.short seen (now.reads.seen ∙ told) at (same_err _ _ is));
+      end = λ seen told at is. one.end seen (now.reads.seen ∙ told) at (same_err _ _ is);
+      within = omega (arith, one.within, now.passes.place, c.loop-word-test.true);
+      room = one.room ∙ now.passes.room;
+      only_reads = reads_on (bays g) (lawful g) c.args.bay.now c.loop-word.bay c.pass_word.new.bay ⊥ _ now.reads
+          (reads_as (bays g) (lawful g) c.loop-word.bay c.pass_word.new.bay _ _ (λ is. same_err _ _ is) one.only_reads);
+    })
+
+pub returns : goal.returns
+returns g c =
+    let now = c.loop-word.invariant in
+    let all : c.loop-word._word ≡ c.args.words = omega (arith, c.loop-word-test.false, c.loop-word.auto) in
+    record {
+      passes = subst (λ (n : ℕ). PassesWords (bays g) c.args.bay.now n c.args.ends.now c.loop-word.ends c.loop-word.found) all now.passes;
+      short = λ seen told at is. absurd (not_err _ _ is);
+      end = λ seen told at is. absurd (not_err _ _ is);
+      within = omega (arith, now.passes.place, c.loop-word.auto);
+      room = now.passes.room;
+      only_reads = reads_as (bays g) (lawful g) c.args.bay.now c.loop-word.bay ⊥ _ (λ is. not_err _ _ is) now.reads;
+    }

@@ -1,0 +1,12 @@
+use Rattle.std.proofs.Common.{◌≡◌, ◌-◌, length, take, drop, refl, ◌∙◌, arith}
+use Rattle.byteorder.specs.Endian.{little_number}
+use Rattle.byteorder.specs.Numbers.{little_from-take}
+use Rattle.lert_frames.proofs.EndLaws.{two_words}
+use Rattle.lert_frames.proofs.slots.WordEnds.of.Goals as goal
+
+pub returns-clause-there : goal.returns-clause-there
+returns-clause-there c rest missing =
+    let bytes = c.args.bytes.now in
+    let next : c.read_u64.result ≡ little_number 8 (take (length bytes - 8) (drop 8 bytes)) = c.read_u64.ensures in
+    two_words c.args.some bytes rest _ (omega (arith, c.if-some-le64.false)) c.if-bytes-lt16.false refl c.read_u64-first.ensures
+    (next ∙ little_from-take 0 8 (length bytes - 8) (drop 8 bytes) (omega (arith, c.if-bytes-lt16.false)))

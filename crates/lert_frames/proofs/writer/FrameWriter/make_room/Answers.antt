@@ -1,0 +1,18 @@
+use Rattle.std.proofs.Common.{refl}
+use Rattle.std.proofs.lemmas.Bool.{false≢true}
+use Rattle.lert_frames.proofs.ProceedLaws.{proceeds_none}
+use Rattle.lert_bay.specs.Kept.{Bays}
+use Rattle.lert_bay.proofs.KeptLaws.{IsLawful}
+use Rattle.lert_frames.proofs.writer.FrameWriter.make_room.Given as given
+use Rattle.lert_frames.proofs.writer.FrameWriter.make_room.Goals as goal
+
+abbrev bays : (g : given.Over) → Bays g.row.B.Denot
+bays g = record { faults = g.B.Faulty.faults; mark = g.B.Faulty.mark; files = g.B.Bay.files; leaves = g.B.Bay.leaves; moment = g.B.Bay.moment; left_since = g.B.Bay.left_since }
+
+lawful : (g : given.Over) → IsLawful (bays g)
+lawful g = record { as_read = g.met.B.Bay.as_read; since_now = g.met.B.Bay.since_now; only_now = g.met.B.Bay.only_now; since_earlier = g.met.B.Bay.since_earlier }
+
+pub returns-then-has_room-clause-proceeds : goal.returns-then-has_room-clause-proceeds
+returns-then-has_room-clause-proceeds g c =
+    let w = c.args.self.now in
+    proceeds_none (bays g) (lawful g) w w _ _ (record { settings = refl; level = refl; frame = refl; width = refl; place = refl; put = refl; left = refl }) (λ e. absurd (false≢true e))

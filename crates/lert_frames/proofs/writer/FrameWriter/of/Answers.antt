@@ -1,0 +1,20 @@
+use Rattle.std.proofs.Common.{List, sym, ap, subst, ◌∙◌, arith}
+use Rattle.lert_frames.specs.Place.{tail_limit}
+use Rattle.lert_spec.specs.declared.piece.Piece.{Piece}
+use Rattle.lert_spec.specs.Limits.{IsValid}
+use Rattle.lert_spec.specs.Table.{AreGiven, total}
+use Rattle.lert_frames.proofs.GrowingLaws.{growing_new, some_block}
+use Rattle.lert_frames.proofs.WritingLaws.{given_none}
+use Rattle.lert_frames.proofs.writer.FrameWriter.of.Goals as goal
+
+pub invariant_of-result-clause-growing : goal.invariant_of-result-clause-growing
+invariant_of-result-clause-growing c =
+    let s = c.args.settings.now in
+    let valid : IsValid s = subst IsValid c.numbers-valid.ensures.value c.numbers-valid.ensures.valid in
+    growing_new s c.args.level 0 c.width.result c.frame_place-place.result 0 c.span.result c.restart.new.outlet c.args.ends c.restart.new.block.len c.new.result
+    valid c.requires.first c.requires.last (omega arith) c.width.ensures.value c.frame_place-place.ensures.value c.frame_place-place.ensures.end (some_block s c.args.level valid c.requires.last)
+    (omega (arith, ap total c.new.ensures, c.span.ensures.value)) (c.restart.ensures.size ∙ c.requires.size) c.requires.ends_size c.restart.ensures.len c.restart.ensures.place
+    (omega (arith, c.restart.ensures.at))
+
+pub invariant_of-result-clause-given : goal.invariant_of-result-clause-given
+invariant_of-result-clause-given c = subst (λ (ps : List Piece). AreGiven (tail_limit c.args.settings.now) ps) (sym c.new.ensures) (given_none (tail_limit c.args.settings.now))

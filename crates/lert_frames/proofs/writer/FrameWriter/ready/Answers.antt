@@ -1,0 +1,32 @@
+use Rattle.std.proofs.Common.{arith}
+use Rattle.lert_frames.proofs.ProceedLaws.{proceeds_on, stays_on}
+use Rattle.lert_frames.proofs.WritingLaws.{block_within}
+use Rattle.lert_frames.proofs.WriteLaws.{on_ok}
+use Rattle.lert_bay.specs.Kept.{Bays}
+use Rattle.lert_bay.proofs.KeptLaws.{IsLawful}
+use Rattle.lert_frames.proofs.writer.FrameWriter.ready.Given as given
+use Rattle.lert_frames.proofs.writer.FrameWriter.ready.Goals as goal
+
+abbrev bays : (g : given.Over) → Bays g.row.B.Denot
+bays g = record { faults = g.B.Faulty.faults; mark = g.B.Faulty.mark; files = g.B.Bay.files; leaves = g.B.Bay.leaves; moment = g.B.Bay.moment; left_since = g.B.Bay.left_since }
+
+lawful : (g : given.Over) → IsLawful (bays g)
+lawful g = record { as_read = g.met.B.Bay.as_read; since_now = g.met.B.Bay.since_now; only_now = g.met.B.Bay.only_now; since_earlier = g.met.B.Bay.since_earlier }
+
+pub reach-requires : goal.reach-requires
+reach-requires g c =
+    let w = c.args.self.now in
+    block_within w.settings w.level w.width c.args.piece w.growing.valid w.growing.last w.growing.width_is c.requires
+
+pub returns-clause-proceeds : goal.returns-clause-proceeds
+returns-clause-proceeds g c =
+    proceeds_on (bays g) (lawful g) c.args.self.now c.reach.new.self _ _ _ _ _ _ c.in_ok-reach.ensures.proceeds c.make_room.ensures.proceeds
+
+pub returns-clause-stays : goal.returns-clause-stays
+returns-clause-stays g c =
+    on_ok _ _ c.make_room.result c.make_room.ensures.stays
+    (λ stays. stays_on (bays g) (lawful g) c.args.self.now c.reach.new.self _ _ _ _ _ c.in_ok-reach.ensures.proceeds c.in_ok-reach.ensures.stays stays)
+
+pub returns-clause-number : goal.returns-clause-number
+returns-clause-number g c =
+    on_ok _ _ c.make_room.result c.make_room.ensures.stays (λ _ low. omega (arith, c.make_room.ensures.number, c.in_ok-reach.ensures.number, low))

@@ -1,0 +1,49 @@
+use Rattle.std.proofs.Common.{◌+◌, ◌*◌, ◌%◌, ◌-◌, ◌^◌, ◌∷◌, ◌++◌, List, [], sym, subst, arith}
+use Rattle.lert_blocks.specs.Text.{blocks_text, pieces_in}
+use Rattle.lert_blocks.proofs.LengthLaws.{group_short}
+use Rattle.lert_frames.specs.Growing.{IsGrowing}
+use Rattle.lert_frames.specs.Place.{tail_limit}
+use Rattle.lert_frames.specs.Spilt.{IsBehind}
+use Rattle.lert_spec.specs.declared.piece.Piece.{Piece}
+use Rattle.lert_spec.specs.Table.{AscendsFrom}
+use Rattle.lert_frames.proofs.GrowingLaws.{growing_take}
+use Rattle.lert_frames.proofs.WritingLaws.{last_count, total_push, width_from, passed_take, ahead_take, stands_take}
+use Rattle.lert_frames.proofs.writer.FrameWriter.take.Goals as goal
+
+pub put-requires-clause-narrow : goal.put-requires-clause-narrow
+put-requires-clause-narrow c = let w = c.args.self.now in (width_from w.settings w.level w.width w.growing.valid w.growing.last w.growing.width_is).0
+
+pub put-requires-clause-wide : goal.put-requires-clause-wide
+put-requires-clause-wide c = let w = c.args.self.now in (width_from w.settings w.level w.width w.growing.valid w.growing.last w.growing.width_is).1
+
+pub put-requires-clause-count : goal.put-requires-clause-count
+put-requires-clause-count c = last_count (tail_limit c.args.self.now.settings) c.args.self.now.put c.args.piece c.requires.given
+
+pub overflow_sub-self : goal.overflow_sub-self
+overflow_sub-self c = let w = c.args.self.now in omega (arith, w.growing.left_is, c.requires.fits, total_push w.put c.args.piece)
+
+pub invariant_of-self-clause-growing : goal.invariant_of-self-clause-growing
+invariant_of-self-clause-growing c =
+    let w = c.args.self.now in
+    let p = c.args.piece in
+    let wide = width_from w.settings w.level w.width w.growing.valid w.growing.last w.growing.width_is in
+    let count = last_count (tail_limit w.settings) w.put p c.requires.given in
+    let short = group_short w.width (p.tail % 2 ^ w.width) p.count wide.0 count.0 in
+    subst (λ (ps : List Piece). IsGrowing w.settings w.level w.frame w.width w.place w.number (w.left - p.count) w.outlet w.ends c.put.new.self.len w.long ps) (sym c.push.ensures)
+    (growing_take w.growing c.put.new.self.len p.count (w.left - p.count) (w.put ++ p ∷ []) c.put.ensures.more (omega (arith, c.put.ensures.grows, short))
+    (omega (arith, w.growing.left_is, c.requires.fits, total_push w.put p)) (total_push w.put p))
+
+pub returns-clause-writing : goal.returns-clause-writing
+returns-clause-writing c file here at =
+    let w = c.args.self.now in
+    let p = c.args.piece in
+    let limit = tail_limit w.settings in
+    record {
+      ahead = λ piece up. ahead_take w.width w.number limit w.put p here piece (subst (λ (ps : List Piece). AscendsFrom 0 limit (ps ++ piece ∷ [])) c.push.ensures up);
+      at = record {
+        passed = subst (λ (ps : List Piece). AscendsFrom 0 (64 * (w.number + 1) * 2 ^ w.width) ps) (sym c.push.ensures) (passed_take w.width w.number limit w.put p c.requires.given.table here);
+        stands = subst (λ (ps : List Piece). IsBehind w.long w.place (blocks_text w.width 0 w.number ps) w.width w.number
+            (pieces_in w.width w.number ps) file w.ends w.outlet c.put.new.self) (sym c.push.ensures)
+            (stands_take w.long w.place w.width w.number limit w.put p file w.ends w.outlet w.block c.put.new.self c.requires.given.table here w.growing.some c.put.ensures.filled at.stands);
+      };
+    }

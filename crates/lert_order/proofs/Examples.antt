@@ -1,0 +1,55 @@
+-- Computed fronts and lists: of three streams one ended, and of two lists with an equal tail either may be next.
+use Rattle.std.proofs.Common.{◌≡◌, ℕ, zero, suc, ◌<◌, ◌≤◌, All, List, [], ◌∷◌, Some, None, true, get_or, set, inl, refl, arith}
+use Rattle.std.proofs.lemmas.List.Elements.{All-cons}
+use Rattle.lert_spec.specs.declared.piece.Piece.{Piece}
+use Rattle.lert_tree.specs.Race.{number_at, greatest}
+use Rattle.lert_order.specs.Fronts.{Fronts, front_at, IsFront}
+use Rattle.lert_order.specs.Ordering.{part_in, IsNext}
+
+abbrev piece : ℕ → ℕ → Piece
+piece tail count = record { tail = tail; count = count }
+
+-- stream 2 ended, and stream 3 was not read
+abbrev three : Fronts
+three = record { tails = 5 ∷ 2 ∷ greatest ∷ []; counts = 3 ∷ 1 ∷ 0 ∷ []; is_begun = true; first = 1; room = 4 }
+
+pub three_fronts : (front_at three 0 ≡ piece 5 3 ∷ []) × (front_at three 1 ≡ piece 2 1 ∷ []) × (front_at three 2 ≡ []) × (front_at three 3 ≡ [])
+three_fronts = (refl, refl, refl, refl)
+
+three_least : (k : ℕ) → k < 3 → 2 ≤ number_at three.tails k
+three_least zero low = let less : 2 ≤ 5 = omega arith in less
+three_least (suc zero) low = let less : 2 ≤ 2 = omega arith in less
+three_least (suc (suc zero)) low = let less : 2 ≤ 18446744073709551615 = omega arith in less
+three_least (suc (suc (suc k))) low = absurd (omega arith)
+
+pub three_first : IsFront three 1 (piece 2 1)
+three_first = record {
+  within = let less : 1 < 3 = omega arith in less;
+  tail = refl;
+  count = refl;
+  some = let one : 1 ≤ 1 = omega arith in one;
+  least = three_least;
+  which = inl refl;
+}
+
+-- a piece is its own stream's part alone
+pub parts : (part_in (Some (1, piece 2 1)) 1 ≡ piece 2 1 ∷ []) × (part_in (Some (1, piece 2 1)) 0 ≡ []) × (part_in None 1 ≡ [])
+parts = (refl, refl, refl)
+
+abbrev two : List (List Piece)
+two = (piece 3 1 ∷ []) ∷ (piece 3 2 ∷ piece 4 1 ∷ []) ∷ []
+
+two_least : (k : ℕ) → k < 2 → All (λ other. 3 ≤ other.tail) (get_or two k [])
+two_least zero low = All-cons (λ (other : Piece). 3 ≤ other.tail) (piece 3 1) [] (let less : 3 ≤ 3 = omega arith in less) (λ j d below. absurd (omega arith))
+two_least (suc zero) low = All-cons (λ (other : Piece). 3 ≤ other.tail) (piece 3 2) (piece 4 1 ∷ []) (let less : 3 ≤ 3 = omega arith in less)
+    (All-cons (λ (other : Piece). 3 ≤ other.tail) (piece 4 1) [] (let less : 3 ≤ 4 = omega arith in less) (λ j d below. absurd (omega arith)))
+two_least (suc (suc k)) low = absurd (omega arith)
+
+pub first_next : IsNext two 0 (piece 3 1) []
+first_next = record { within = let less : 0 < 2 = omega arith in less; front = refl; least = two_least }
+
+pub second_next : IsNext two 1 (piece 3 2) (piece 4 1 ∷ [])
+second_next = record { within = let less : 1 < 2 = omega arith in less; front = refl; least = two_least }
+
+pub second_behind : set two 1 (piece 4 1 ∷ []) ≡ (piece 3 1 ∷ []) ∷ (piece 4 1 ∷ []) ∷ []
+second_behind = refl

@@ -1,8 +1,0 @@
-use Rattle.std.proofs.Common.{refl}
-use Rattle.lert_slotframes.proofs.StepLaws.{found_started}
-use Rattle.lert_slotframes.proofs.decoder.Decoder.start.Goals as goal
-
-pub returns-clause-found : goal.returns-clause-found
-returns-clause-found c file =
-    let started = c.start.ensures in
-    found_started c.args.width c.args.place c.args.blocks c.args.most _ _ c.start.new.self c.args.self.now.ends file refl refl refl started.place (started.come file)

@@ -1,5 +1,0 @@
-use Rattle.lert_slotframes.proofs.WindowLaws.{none_read}
-use Rattle.lert_slotframes.proofs.window.Window.start.Goals as goal
-
-pub returns-clause-read : goal.returns-clause-read
-returns-clause-read c file = none_read file c.args.at

@@ -1,8 +1,0 @@
-//! Tests of frames of slots on a disk in memory: the bytes of a small one, what is read back, each place at which a
-//! file leaves a frame, and which calls fail.
-//!
-//! Their expected values come from worked examples, and not from a clause. No crate stands on this one.
-#![tactic(auto)]
-
-#[cfg(test)]
-mod frames;

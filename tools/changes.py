@@ -1,0 +1,245 @@
+"""The changes of the files of cones that tools/damage tries: a table of them, and single bytes.
+
+It knows nothing of the program: what is due of a change stands in docs/FORMATS.md and the definitions.
+"""
+
+from __future__ import annotations
+
+import random
+from itertools import islice
+from typing import Iterator, NamedTuple
+
+from breaks import COUNT_TOP_AT, TOO_GREAT, frame_changes
+from cones import FLUSH, FRAMES, JOURNAL, LOG, SUFFIXES, Cone
+from formats import HEADER_LEN, OPEN
+from recovery import Folder, Settings, file_name, files_in
+from slots import COUNT_AT, frame_len
+
+CUTS = 50
+# Of the version in journal and log.
+VERSION_AT = 5
+GARBAGE_LEN = 200
+# From a gate to its payload.
+PAYLOAD_BEHIND_GATE = 5
+
+
+Changes = dict[str, bytes | None]
+
+
+class Run(NamedTuple):
+    """A run that makes files: so many keys, and the status at its end."""
+
+    settings: Settings
+    keys: int
+    status: int
+
+
+class Kept(NamedTuple):
+    """The files that a run left."""
+
+    run: Run
+    folder: Folder
+
+
+class Case(NamedTuple):
+    """Files of a run with some of them changed, or None for one that is taken away, opened with the run's settings or
+    with others. The line is that which the table says to be due: that of a refusal, or an empty one where nothing
+    changes."""
+
+    name: str
+    kept: Kept
+    changed: Changes
+    line: str | None = None
+    others: Settings | None = None
+
+    def settings(self) -> Settings:
+        return self.others or self.kept.run.settings
+
+    def folder(self) -> Folder:
+        both = {**self.kept.folder, **self.changed}
+        return {name: data for name, data in both.items() if data is not None}
+
+
+def cone_in(kept: Kept, cone: int) -> Cone:
+    read = Cone(files_in(kept.folder, cone))
+    read.read()
+    return read
+
+
+def put(data: bytes, at: int, *values: int) -> bytes:
+    return data[:at] + bytes(values) + data[at + len(values) :]
+
+
+def malformed(cone: int, file: int, at: int) -> str:
+    return f"lert: cone {cone} file {file} malformed at {at}\n"
+
+
+def other_settings(cone: int) -> str:
+    return f"lert: cone {cone} has other settings\n"
+
+
+def cuts(kept: Kept) -> Iterator[Case]:
+    for name, data in kept.folder.items():
+        for length in sorted({len(data) * cut // CUTS for cut in range(CUTS)} | {len(data) - 1}):
+            yield Case(f"{name} cut at {length}", kept, {name: data[:length]})
+
+
+def swaps(kept: Kept) -> Iterator[Case]:
+    """The files of the first two cones are those of each other: all, and one by one."""
+    if len(kept.run.settings.cones()) < 2:
+        return
+    swapped: Changes = {}
+    for file, suffix in enumerate(SUFFIXES):
+        one, other = file_name(0, file), file_name(1, file)
+        pair: Changes = {one: kept.folder[other], other: kept.folder[one]}
+        yield Case(f"each other's {suffix}", kept, pair, other_settings(0) if file == JOURNAL else None)
+        swapped |= pair
+    yield Case("each other's files", kept, swapped, other_settings(0))
+
+
+def settings_changed(kept: Kept) -> Iterator[Case]:
+    for field, number in kept.run.settings._asdict().items():
+        others = kept.run.settings._replace(**{field: number + 1})
+        yield Case(f"{field} {number + 1}", kept, {}, other_settings(0), others)
+
+
+def missing(kept: Kept, cone: int) -> Iterator[Case]:
+    names = [file_name(cone, file) for file in range(len(SUFFIXES))]
+    for word, data in (("empty", b""), ("gone", None)):
+        for file, name in enumerate(names):
+            yield Case(f"{name} {word}", kept, {name: data}, malformed(cone, file, 0))
+        yield Case(f"cone {cone} {word}", kept, dict.fromkeys(names, data), malformed(cone, JOURNAL, 0))
+
+
+def headers(kept: Kept, cone: int) -> Iterator[Case]:
+    for file in (JOURNAL, LOG):
+        name = file_name(cone, file)
+        changed = put(kept.folder[name], VERSION_AT, 2)
+        yield Case(f"{name} of another version", kept, {name: changed}, malformed(cone, file, VERSION_AT))
+    name = file_name(cone, JOURNAL)
+    header = kept.folder[name][:HEADER_LEN]
+    yield Case(f"{name} without a gate", kept, {name: header}, malformed(cone, JOURNAL, HEADER_LEN))
+    # The header's last number is the cone.
+    other = put(header, HEADER_LEN - 4, cone + 2)
+    yield Case(f"{name} of another cone without a gate", kept, {name: other}, other_settings(cone))
+
+
+def lengthened(kept: Kept, cone: int, draw: random.Random) -> Iterator[Case]:
+    for file in (JOURNAL, LOG, FRAMES):
+        name = file_name(cone, file)
+        yield Case(f"{name} with garbage at its end", kept, {name: kept.folder[name] + draw.randbytes(GARBAGE_LEN)}, "")
+
+
+def behind_closing(kept: Kept, cone: int) -> Iterator[Case]:
+    """Any open gate behind the closing record of a log is out of place, whatever stands behind it."""
+    if not cone_in(kept, cone).log.closed:
+        return
+    name = file_name(cone, LOG)
+    gate = len(kept.folder[name]) - 1
+    for record in ((), (0, 0, 0, 0), (255, 255, 255, 255), (1, 0, 0, 0, FLUSH, 0)):
+        changed = put(kept.folder[name], gate, OPEN, *record)
+        yield Case(f"{name} with {record} behind its closing", kept, {name: changed}, malformed(cone, LOG, gate))
+
+
+class Break(NamedTuple):
+    """A byte of a file that is made too great, and the place at which the file is left then."""
+
+    file: int
+    changed: int
+    left: int
+
+
+def in_order(kept: Kept, cone: int) -> Iterator[Case]:
+    """Many broken places, of which the first in the order of reading decides: the header, the log, the frames, levels
+    ascending and bins oldest first, a packet of the journal, and the cones behind this one."""
+    read = cone_in(kept, cone)
+    named = [(level, frame) for level, row in enumerate(read.log.directory, 1) for frame in row]
+    breaks = [Break(file, VERSION_AT, VERSION_AT) for file in (JOURNAL, LOG)]
+    places = [read.levels.frame_place(level, frame) for level, frame in named]
+    breaks += [Break(FRAMES, place + COUNT_TOP_AT, place + COUNT_AT) for place in places]
+    payload = read.packets[0][0] + PAYLOAD_BEHIND_GATE
+    breaks.append(Break(JOURNAL, payload, payload))
+    behind = [file_name(later, JOURNAL) for later in kept.run.settings.cones() if later > cone]
+    for number, (file, _changed, left) in enumerate(breaks):
+        changed = dict(kept.folder)
+        for broken in breaks[number:]:
+            name = file_name(cone, broken.file)
+            changed[name] = put(changed[name], broken.changed, TOO_GREAT)
+        case = f"cone {cone} broken at byte {left} of file {file} and at all places read behind it"
+        yield Case(case, kept, {**changed, **dict.fromkeys(behind, b"")}, malformed(cone, file, left))
+
+
+def frames_changed(kept: Kept, cone: int) -> Iterator[Case]:
+    """The frame of each level's oldest bin."""
+    read = cone_in(kept, cone)
+    name = file_name(cone, FRAMES)
+    data = kept.folder[name]
+    for level, row in enumerate(read.log.directory, 1):
+        for frame in row[:1]:
+            place = read.levels.frame_place(level, frame)
+            for change in frame_changes(data, place, read.shape(level), place + frame_len(read.levels.span(level))):
+                line = "" if change.left is None else malformed(cone, FRAMES, change.left)
+                case = f"{name} with {change.name} at {change.at}"
+                yield Case(case, kept, {name: put(data, change.at, *change.values)}, line)
+
+
+def gate_behind(read: Cone, events: int) -> int:
+    """The gate behind the packets in which the first events came."""
+    before = 0
+    for gate, packet in read.packets:
+        if before >= events:
+            return gate
+        before += len(packet.keys)
+    return len(read.files[JOURNAL]) - 1
+
+
+def stops(kept: Kept, cone: int) -> Iterator[Case]:
+    """A stop at an earlier moment leaves closed gates: the last packet's, the closing record's, and those of the last
+    flush and of the packet behind those that it came in."""
+    read = cone_in(kept, cone)
+    journal, log = file_name(cone, JOURNAL), file_name(cone, LOG)
+    last, _packet = read.packets[-1]
+    without_last = put(kept.folder[journal], last, 0)
+    line = malformed(cone, JOURNAL, last) if read.log.closed else None
+    yield Case(f"{journal} without its last packet", kept, {journal: without_last}, line)
+    if read.log.closed:
+        yield Case(f"{log} without its closing", kept, {log: put(kept.folder[log], read.log.records[-1].gate, 0)})
+    flush = [record for record in read.log.records if record.kind == FLUSH][-1]
+    before_flush: Changes = {
+        journal: put(kept.folder[journal], gate_behind(read, flush.n0), 0),
+        log: put(kept.folder[log], flush.gate, 0),
+    }
+    yield Case(f"cone {cone} before its last flush", kept, before_flush)
+
+
+def table(kept: Kept, draw: random.Random) -> Iterator[Case]:
+    yield Case("the files of a run", kept, {}, "")
+    yield from settings_changed(kept)
+    yield from swaps(kept)
+    for cone in kept.run.settings.cones():
+        yield from missing(kept, cone)
+        yield from headers(kept, cone)
+        yield from lengthened(kept, cone, draw)
+        yield from behind_closing(kept, cone)
+        yield from in_order(kept, cone)
+        yield from frames_changed(kept, cone)
+        yield from stops(kept, cone)
+    yield from cuts(kept)
+
+
+def single_bytes(all_kept: list[Kept], draw: random.Random) -> Iterator[Case]:
+    """A bit flipped, or another value, at any place of any file."""
+    while True:
+        kept = draw.choice(all_kept)
+        name = draw.choice(sorted(kept.folder))
+        data = kept.folder[name]
+        at = draw.randrange(len(data))
+        value = data[at] ^ (1 << draw.randrange(8) if draw.random() < 0.5 else draw.randrange(1, 256))
+        yield Case(f"{name} with {value} at {at}", kept, {name: put(data, at, value)})
+
+
+def cases(all_kept: list[Kept], changes: int, seed: int) -> Iterator[Case]:
+    draw = random.Random(seed)
+    for kept in all_kept:
+        yield from table(kept, draw)
+    yield from islice(single_bytes(all_kept, draw), changes)
