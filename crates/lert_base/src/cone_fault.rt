@@ -15,6 +15,4 @@ pub enum ConeFault {
     /// A frame that was read left its format at byte `at` of its file; or, with the log and place 0, one report more than
     /// there is room for would be needed. The journal has the packet, and the cone is broken.
     Unsound { file: u8, at: u64 },
-    /// There is no memory for what was asked, and the cone is broken. No clause says when this comes.
-    OutOfMemory,
 }

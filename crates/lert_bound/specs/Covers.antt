@@ -11,3 +11,8 @@ times tail events = count_by (λ event. event == tail) events
 pub record Covers (pairs : List Pair) (before present : List ℕ) : Type 0 where
   pub of_before : (tail : ℕ) → min (times tail before) 255 ≤ (pair_of pairs tail).before
   pub of_present : (tail : ℕ) → min (times tail present) 255 ≤ (pair_of pairs tail).present
+
+-- the same, where it is given how often each tail came
+pub record CoversCounts (pairs : List Pair) (before present : ℕ → ℕ) : Type 0 where
+  pub of_before : (tail : ℕ) → min (before tail) 255 ≤ (pair_of pairs tail).before
+  pub of_present : (tail : ℕ) → min (present tail) 255 ≤ (pair_of pairs tail).present

@@ -1,8 +1,8 @@
 //! The bound.
 
-ghost use Rattle.std.specs.Prelude.{◌≡◌, ℕ, ◌+◌, ◌%◌, ◌<◌, ◌≤◌, List, [], ◌∷◌, ◌++◌, false, length, map, min, nat_le, replicate, slice_set, IfOk};
+ghost use Rattle.std.specs.Prelude.{◌≡◌, ℕ, ◌+◌, ◌%◌, ◌<◌, ◌≤◌, ◌==◌, if◌then◌else◌, List, [], ◌∷◌, ◌++◌, false, length, map, min, nat_le, replicate, slice_set, IfOk};
 ghost use Rattle.lert_bound.specs.Bytes.{nothing, pair_of, risen, turned};
-ghost use Rattle.lert_bound.specs.Covers.{times, Covers};
+ghost use Rattle.lert_bound.specs.Covers.{times, Covers, CoversCounts};
 
 use crate::pair::Pair;
 use crate::place::place_of;
@@ -33,6 +33,7 @@ impl Bound {
         requires { 1 ≤ places }
         ensures bytes { IfOk result (λ bound. bound ≡ replicate places nothing) }
         ensures covers { IfOk result (λ bound. Covers bound [] []) }
+        ensures counts { IfOk result (λ bound. CoversCounts bound (λ _. 0) (λ _. 0)) }
     {
         let pairs = vec![in alloc; Pair::NONE; places]?;
         Ok(Bound { pairs })
@@ -43,6 +44,8 @@ impl Bound {
         ensures bytes { self.new ≡ slice_set self.old (tail % length self.old) (risen (pair_of self.old tail)) }
         ensures covers { (before present : List ℕ) → Covers self.old before present
             → Covers self.new before (present ++ tail ∷ []) }
+        ensures counts { (before present : ℕ → ℕ) → CoversCounts self.old before present
+            → CoversCounts self.new before (λ other. present other + (if other == tail then 1 else 0)) }
     {
         let place = place_of(tail, self.pairs.len() as u64) as usize;
         let pair = &mut self.pairs[place];
@@ -53,6 +56,8 @@ impl Bound {
     pub fn turn(&mut self)
         ensures bytes { self.new ≡ map turned self.old }
         ensures covers { (before present : List ℕ) → Covers self.old before present → Covers self.new present [] }
+        ensures counts { (before present : ℕ → ℕ) → CoversCounts self.old before present
+            → CoversCounts self.new present (λ _. 0) }
     {
         turn_all(&mut self.pairs);
     }
@@ -61,6 +66,7 @@ impl Bound {
     pub fn clear(&mut self)
         ensures bytes { self.new ≡ replicate (length self.old) nothing }
         ensures covers { Covers self.new [] [] }
+        ensures counts { CoversCounts self.new (λ _. 0) (λ _. 0) }
     {
         self.pairs.fill(Pair::NONE);
     }
@@ -70,6 +76,8 @@ impl Bound {
         ensures bytes { result ≡ nat_le (min count 255) ((pair_of self.now tail).before + (pair_of self.now tail).present) }
         ensures covers { (before present : List ℕ) → Covers self.now before present → result ≡ false
             → times tail before + times tail present < count }
+        ensures counts { (before present : ℕ → ℕ) → CoversCounts self.now before present → result ≡ false
+            → before tail + present tail < count }
     {
         let place = place_of(tail, self.pairs.len() as u64) as usize;
         let pair = &self.pairs[place];

@@ -1,8 +1,9 @@
 //! A bound from above of how often a tail came, in two bytes for each of some places.
 //!
 //! The one contract is `Covers`, a relation to two lists of tails: of the generation before and of the present one, no
-//! tail came more often than the bytes of its place say. So `may_reach` refuses no tail that came as often as is asked,
-//! and spares a table most of its counts. Level 0 of a cone is to stand on it. Only `new` takes memory.
+//! tail came more often than the bytes of its place say; `CoversCounts` says it where only counts are known. So `may_reach`
+//! refuses no tail that came as often as is asked, and spares level 0 of a cone, which stands on it, most of its counts.
+//! Only `new` takes memory.
 #![tactic(auto)]
 
 mod bound;

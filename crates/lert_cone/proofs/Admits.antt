@@ -13,8 +13,8 @@ use Rattle.lert_spec.specs.Edges.{capacity}
 use Rattle.lert_spec.specs.Timely.{IsTimelySoFar}
 use Rattle.lert_cone.specs.declared.acked.Acked.{Acked}
 use Rattle.lert_base.specs.declared.cone_fault.ConeFault.{ConeFault}
-use Rattle.lert_base.specs.declared.cone_fault.ConeFault.TheVariants.{Closed, Broken, CapacityFull, BayFailed, Unsound, OutOfMemory}
-use Rattle.lert_cone.specs.declared.state.ConeState.TheVariants.{Running, Finished, BrokenByBay, BrokenByRead, BrokenByMemory}
+use Rattle.lert_base.specs.declared.cone_fault.ConeFault.TheVariants.{Closed, Broken, CapacityFull, BayFailed, Unsound}
+use Rattle.lert_cone.specs.declared.state.ConeState.TheVariants.{Running, Finished, BrokenByBay, BrokenByRead}
 use Rattle.lert_bay.specs.Kept.{Bays, KeepsBay}
 use Rattle.lert_cone.specs.Sound.{IsSoundOver}
 use Rattle.lert_cone.specs.Stands.{Standing, StandsFor, WasSound, Answers, IsSameCone, is_broken, is_refusal}
@@ -60,7 +60,6 @@ pub record Admits {B : Type 0} (bays : Bays B) (packet : Packet) (old new : Stan
   pub unsound : (file at : ℕ) → IsErrOf result (Unsound file at) → (new.state ≡ BrokenByRead file at) × ((h : List Packet) → StandsFor bays.files bays.leaves bays.faults old h →
       WasSound bays.files old → bays.files old.bay ≡ None)
   pub shows : (file at : ℕ) → IsErrOf result (Unsound file at) → IfTold (bays.files new.bay) (λ seen. Shows new.listing.settings new.rows new.reports (seen 2) file at)
-  pub out_of_memory : IsErrOf result OutOfMemory → new.state ≡ BrokenByMemory
   pub each_moment : is_broken old.state ≡ false → WasSound bays.files old → IfTold (bays.files old.bay) (λ _. (h : List Packet) → StandsFor bays.files bays.leaves bays.faults old h →
       (image : Files) → bays.left_since new.bay (bays.moment old.bay) image → IsSoundOver old.listing.settings old.listing.cone h (Some packet) image)
   pub seen : Turns Anything (bays.files old.bay) (bays.files new.bay)
@@ -93,7 +92,6 @@ module _ {B : Type 0} (bays : Bays B) (lawful : IsLawful bays) (packet : Packet)
     bay_failed = λ same. absurd (let inner : fault ≡ BayFailed = cc in false≢true (sym (ap is_refusal inner) ∙ refusal));
     unsound = λ file at same. absurd (let inner : fault ≡ Unsound file at = cc in false≢true (sym (ap is_refusal inner) ∙ refusal));
     shows = λ file at same. absurd (let inner : fault ≡ Unsound file at = cc in false≢true (sym (ap is_refusal inner) ∙ refusal));
-    out_of_memory = λ same. absurd (let inner : fault ≡ OutOfMemory = cc in false≢true (sym (ap is_refusal inner) ∙ refusal));
     each_moment = λ still sound seen told h stands image may.
         inl ((stands.whole still sound seen told).files.kept.images image (lawful.only_now old.bay image may)).sound;
     seen = record { told = λ seen told. (seen, told, tt); untold = λ none. none };

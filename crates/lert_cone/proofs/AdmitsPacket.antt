@@ -286,7 +286,6 @@ module _ {B : Type 0} (bays : Bays B) (lawful : IsLawful bays) (packet : Packet)
         bay_failed = λ given. absurd (let never : ⊥ = cc in never);
         unsound = λ file at given. absurd (let never : ⊥ = cc in never);
         shows = λ file at given. absurd (let never : ⊥ = cc in never);
-        out_of_memory = λ given. absurd (let never : ⊥ = cc in never);
         each_moment = λ unbroken sound seen told h stands image may. did.each_moment seen told h (stands.whole unbroken sound seen told) image may;
         seen = did.seen;
         kept = keeps_as bays lawful bay bay_after _ _ (λ given. absurd (let never : ⊥ = cc in never)) did.kept;

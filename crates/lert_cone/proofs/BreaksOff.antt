@@ -6,7 +6,7 @@ use Rattle.lert_gatelog.specs.Gated.{Log}
 use Rattle.lert_io.proofs.Rising.{risen_since}
 use Rattle.lert_spec.specs.Edges.{capacity}
 use Rattle.lert_reports.specs.declared.log_point.LogPoint.{LogPoint}
-use Rattle.lert_base.specs.declared.cone_fault.ConeFault.TheVariants.{Closed, Broken, CapacityFull, BayFailed, Unsound, OutOfMemory}
+use Rattle.lert_base.specs.declared.cone_fault.ConeFault.TheVariants.{Closed, Broken, CapacityFull, BayFailed, Unsound}
 use Rattle.lert_cone.specs.declared.state.ConeState.{ConeState}
 use Rattle.lert_cone.specs.declared.state.ConeState.TheVariants.{Running}
 use Rattle.lert_cone.specs.declared.tally.TakeFault.{TakeFault}
@@ -21,7 +21,7 @@ use Rattle.lert_cone.specs.Wrote.{Anything}
 use Rattle.lert_bay.proofs.KeptLaws.{IsLawful, keeps_as}
 use Rattle.lert_cone.proofs.SoundLaws.{turns_back}
 use Rattle.lert_cone.proofs.StandLaws.{stands_broken}
-use Rattle.lert_cone.proofs.FaultLaws.{kept_since, turned_none, untold, is_broken_by, not_replaying_by, by_bay_of, by_read_of, failed_of, unsound_of, memory_of, no_refusal}
+use Rattle.lert_cone.proofs.FaultLaws.{kept_since, turned_none, untold, is_broken_by, not_replaying_by, by_bay_of, by_read_of, failed_of, unsound_of, no_refusal}
 use Rattle.lert_cone.proofs.Admits.{Admits}
 
 module _ {B : Type 0} (bays : Bays B) (lawful : IsLawful bays) (packet : Packet) where
@@ -171,7 +171,6 @@ module _ {B : Type 0} (bays : Bays B) (lawful : IsLawful bays) (packet : Packet)
                 (ap Err (unsound_of fault file at inner)))),
           ));
           shows = λ file at given seen told. (let inner : cone_fault fault ≡ Unsound file at = cc in did.shows seen told file at (ap Err (unsound_of fault file at inner)));
-          out_of_memory = λ given. (let inner : cone_fault fault ≡ OutOfMemory = cc in state_is ∙ ap broken_by (memory_of fault inner));
           each_moment = λ still sound seen told h stands image may. did.each_moment seen told h (stands.whole still sound seen told) image may;
           seen = did.seen;
           kept = keeps_as bays lawful bay bay_after _ _ (λ given. (let inner : cone_fault fault ≡ BayFailed = cc in ap Err (failed_of fault inner))) did.kept;

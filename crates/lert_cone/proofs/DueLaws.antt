@@ -12,7 +12,7 @@ use Rattle.lert_spec.specs.Look.{is_listed}
 use Rattle.lert_spec.specs.Mix.{cone_of, tail_of}
 use Rattle.lert_spec.specs.Table.{AscendsFrom, IsTable}
 use Rattle.lert_spec.proofs.TailLaws.{key_with, is_due_piece}
-use Rattle.lert_cone.specs.Due.{Dues, TookFrom, TookTotals, due_reports, due_key, with_report, with_total}
+use Rattle.lert_cone.specs.Due.{Dues, PassesOver, TookFrom, TookTotals, due_reports, due_key, with_report, with_total}
 use Rattle.lert_cone.proofs.KeyLemmas.{key_with_is, other_tail}
 
 -- a table without its last piece is one, and that piece is below its limit
@@ -254,3 +254,24 @@ module _ (s : Numbers) (cone : ℕ) (listed : List Report) (piece : Piece) where
 
     pub due_key-fresh : is_listed key listed ≡ false → Some key ≡ due_key s cone listed piece
     due_key-fresh fresh = ap Some is_key ∙ sym (ap tested (test_is false fresh))
+
+-- a total that is not due changes nothing
+module _ (d : Dues) (piece : Piece) (bits : d.settings.cone_bits ≤ 64) (named : d.cone < 2 ^ d.settings.cone_bits) where
+  passes : None ≡ due_key d.settings d.cone d.reports piece → PassesOver d piece
+  passes none = λ start pieces from less.
+      let same : with_total d piece ≡ d = ap (λ key. cond d.is_full d (with_report d key)) (sym none) ∙ either d.is_full in
+      subst (λ (v : Dues). TookFrom start v (pieces ++ piece ∷ [])) same (from_total d piece start pieces bits named from less)
+    where
+      either : (t : Bool) → cond t d d ≡ d
+      either true = refl
+      either false = refl
+
+  pub passes_few : piece.count < d.settings.threshold → PassesOver d piece
+  passes_few few = passes (due_key-few d.settings d.cone d.reports piece few)
+
+  pub passes_listed : is_listed (key_with d.settings d.cone piece.tail) d.reports ≡ true → PassesOver d piece
+  passes_listed there = passes (sym (ap (tested d.settings d.cone d.reports piece) (ap (λ b. leb d.settings.threshold piece.count && not b) there ∙ neither (leb d.settings.threshold piece.count))))
+    where
+      neither : (t : Bool) → (t && false) ≡ false
+      neither true = refl
+      neither false = refl

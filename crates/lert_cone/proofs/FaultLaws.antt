@@ -2,9 +2,9 @@
 use Rattle.std.proofs.Common.{◌≡◌, ◌≢◌, ◌∙◌, ℕ, true, false, Option, Some, None, refl}
 use Rattle.lert_bay.specs.Files.{Files, Turns}
 use Rattle.lert_cone.specs.declared.state.ConeState.TheVariants.{BrokenByBay, BrokenByRead, Replaying}
-use Rattle.lert_base.specs.declared.cone_fault.ConeFault.TheVariants.{BayFailed, Unsound, OutOfMemory}
+use Rattle.lert_base.specs.declared.cone_fault.ConeFault.TheVariants.{BayFailed, Unsound}
 use Rattle.lert_cone.specs.declared.tally.TakeFault.{TakeFault}
-use Rattle.lert_cone.specs.declared.tally.TakeFault.TheVariants.{Failed as TakeFailed, Unsound as TakeUnsound, OutOfMemory as TakeOutOfMemory}
+use Rattle.lert_cone.specs.declared.tally.TakeFault.TheVariants.{Failed as TakeFailed, Unsound as TakeUnsound}
 use Rattle.lert_cone.specs.Sound.{IsKept}
 use Rattle.lert_cone.specs.Stands.{is_broken, is_refusal, broken_by, cone_fault}
 use Rattle.lert_cone.specs.Wrote.{Anything}
@@ -19,42 +19,30 @@ untold (Some seen) never = absurd (never seen refl)
 pub is_broken_by : (fault : TakeFault) → is_broken (broken_by fault) ≡ true
 is_broken_by TakeFailed = refl
 is_broken_by (TakeUnsound file at) = refl
-is_broken_by TakeOutOfMemory = refl
 
 pub not_replaying_by : (fault : TakeFault) → broken_by fault ≢ Replaying
 not_replaying_by TakeFailed same = (let never : ⊥ = cc in never)
 not_replaying_by (TakeUnsound file at) same = (let never : ⊥ = cc in never)
-not_replaying_by TakeOutOfMemory same = (let never : ⊥ = cc in never)
 
 pub by_bay_of : (fault : TakeFault) → broken_by fault ≡ BrokenByBay → fault ≡ TakeFailed
 by_bay_of TakeFailed same = refl
 by_bay_of (TakeUnsound file at) same = absurd (let never : ⊥ = cc in never)
-by_bay_of TakeOutOfMemory same = absurd (let never : ⊥ = cc in never)
 
 pub by_read_of : (fault : TakeFault) (file at : ℕ) → broken_by fault ≡ BrokenByRead file at → fault ≡ TakeUnsound file at
 by_read_of TakeFailed file at same = absurd (let never : ⊥ = cc in never)
 by_read_of (TakeUnsound other place) file at same = (let is : TakeUnsound other place ≡ TakeUnsound file at = cc in is)
-by_read_of TakeOutOfMemory file at same = absurd (let never : ⊥ = cc in never)
 
 pub failed_of : (fault : TakeFault) → cone_fault fault ≡ BayFailed → fault ≡ TakeFailed
 failed_of TakeFailed same = refl
 failed_of (TakeUnsound file at) same = absurd (let never : ⊥ = cc in never)
-failed_of TakeOutOfMemory same = absurd (let never : ⊥ = cc in never)
 
 pub unsound_of : (fault : TakeFault) (file at : ℕ) → cone_fault fault ≡ Unsound file at → fault ≡ TakeUnsound file at
 unsound_of TakeFailed file at same = absurd (let never : ⊥ = cc in never)
 unsound_of (TakeUnsound other place) file at same = (let is : TakeUnsound other place ≡ TakeUnsound file at = cc in is)
-unsound_of TakeOutOfMemory file at same = absurd (let never : ⊥ = cc in never)
-
-pub memory_of : (fault : TakeFault) → cone_fault fault ≡ OutOfMemory → fault ≡ TakeOutOfMemory
-memory_of TakeFailed same = absurd (let never : ⊥ = cc in never)
-memory_of (TakeUnsound file at) same = absurd (let never : ⊥ = cc in never)
-memory_of TakeOutOfMemory same = refl
 
 pub no_refusal : (fault : TakeFault) → is_refusal (cone_fault fault) ≡ false
 no_refusal TakeFailed = refl
 no_refusal (TakeUnsound file at) = refl
-no_refusal TakeOutOfMemory = refl
 
 -- ---- what is left of a bay
 

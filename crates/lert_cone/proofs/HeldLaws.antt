@@ -6,9 +6,9 @@ use Rattle.lert_bay.specs.Files.{Turns}
 use Rattle.lert_bay.specs.Kept.{Bays}
 use Rattle.lert_cone.specs.declared.acked.Acked.{Acked}
 use Rattle.lert_base.specs.declared.cone_fault.ConeFault.{ConeFault}
-use Rattle.lert_base.specs.declared.cone_fault.ConeFault.TheVariants.{Closed, Broken, CapacityFull, BayFailed, Unsound, OutOfMemory}
+use Rattle.lert_base.specs.declared.cone_fault.ConeFault.TheVariants.{Closed, Broken, CapacityFull, BayFailed, Unsound}
 use Rattle.lert_cone.specs.declared.state.ConeState.{ConeState}
-use Rattle.lert_cone.specs.declared.state.ConeState.TheVariants.{Running, Finished, BrokenByBay, BrokenByRead, BrokenByMemory, Replaying}
+use Rattle.lert_cone.specs.declared.state.ConeState.TheVariants.{Running, Finished, BrokenByBay, BrokenByRead, Replaying}
 use Rattle.lert_cone.specs.Locked.{AnswersUnder, RefusesUnder, is_stopped}
 use Rattle.lert_cone.specs.Stands.{Standing, StandsFor, Answers, is_broken, terms_of}
 use Rattle.lert_cone.specs.Wrote.{Anything}
@@ -19,7 +19,6 @@ stopped_if Running broken = broken
 stopped_if Finished broken = refl
 stopped_if BrokenByBay broken = refl
 stopped_if (BrokenByRead file at) broken = refl
-stopped_if BrokenByMemory broken = refl
 stopped_if Replaying broken = refl
 
 module _ {B : Type 0} (bays : Bays B) (packet : Packet) (old new : Standing B) where
@@ -62,4 +61,3 @@ module _ {B : Type 0} (bays : Bays B) (packet : Packet) (old new : Standing B) w
       )
   refuses_under (Err BayFailed) did = λ h stands. inr (broke (ap is_broken (did.bay_failed refl).0) (ap (λ (v : Standing B). v.over) (did.broke refl)))
   refuses_under (Err (Unsound file at)) did = λ h stands. inr (broke (ap is_broken (did.unsound file at refl).0) (ap (λ (v : Standing B). v.over) (did.broke refl)))
-  refuses_under (Err OutOfMemory) did = λ h stands. inr (broke (ap is_broken (did.out_of_memory refl)) (ap (λ (v : Standing B). v.over) (did.broke refl)))

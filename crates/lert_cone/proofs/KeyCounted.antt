@@ -5,7 +5,7 @@ use Rattle.std.specs.Result.{IsErrAnd}
 use Rattle.lert_bay.specs.Files.{Files}
 use Rattle.lert_gatelog.specs.Kept.{InEach}
 use Rattle.lert_rows.specs.declared.fault.FlushFault.{FlushFault}
-use Rattle.lert_rows.specs.declared.fault.FlushFault.TheVariants.{Failed as FlushFailed, Malformed, OutOfMemory as NoMemory}
+use Rattle.lert_rows.specs.declared.fault.FlushFault.TheVariants.{Failed as FlushFailed, Malformed}
 use Rattle.lert_levels.specs.Flushed.{InNamed}
 use Rattle.lert_rows.specs.Landing.{KeepsRest}
 use Rattle.lert_rows.specs.Loading.{OneBreaks}
@@ -32,7 +32,6 @@ use Rattle.lert_cone.proofs.TallyLaws.{frames_more}
 pub failed_flush : (fault : FlushFault) → take_fault fault ≡ Failed → fault ≡ FlushFailed
 failed_flush FlushFailed same = refl
 failed_flush (Malformed at) same = absurd (let never : ⊥ = cc in never)
-failed_flush NoMemory same = absurd (let never : ⊥ = cc in never)
 
 module _ {B : Type 0} (bays : Bays B) (lawful : IsLawful bays) (t : Tallied) (ls : Numbers) (levels_are : ls ≡ t.listing.settings) (valid : IsValid t.listing.settings)
     (named : t.listing.cone < 2 ^ t.listing.settings.cone_bits)
@@ -89,10 +88,7 @@ module _ {B : Type 0} (bays : Bays B) (lawful : IsLawful bays) (t : Tallied) (ls
         sound_fault fault (λ place is. never_malformed_held (Err fault) brings seen told held place (ap Err is)) file at (let inner : take_fault fault ≡ Unsound file at = cc in inner);
     shows = λ seen told file at same.
         shows_frame (Err (take_fault fault)) fault refl t.listing.settings levels_after.rows due.reports (seen 2)
-        (λ place is.
-        let refused = ap Err is in
-        let before = sym (brings.unwritten place refused) ∙ told in
-        subst (λ (v : Numbers). OneBreaks v levels_after.rows (seen 2) place) (brings.settings ∙ levels_are) (brings.malformed seen before place refused))
+        (λ place is. subst (λ (v : Numbers). OneBreaks v levels_after.rows (seen 2) place) (brings.settings ∙ levels_are) (brings.malformed_after seen told place (ap Err is)))
         file at same;
     framed = λ seen told some. tt;
     whole = λ seen told some at same.

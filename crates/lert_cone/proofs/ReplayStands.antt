@@ -1,7 +1,7 @@
 -- A cone that is given the packets of its journal again: what is so of it, what the record at a gate makes of it, and which
 -- lists it stands for at the end.
 use Rattle.std.proofs.Common.{◌≡◌, ℕ, ◌+◌, ◌*◌, ◌^◌, ◌<◌, ◌≤◌, Bool, true, false, cond, List, [], length, Option, Some, None, All, refl, sym, ap, ◌∙◌, subst}
-use Rattle.std.proofs.Common.{inl, inr, ◌⊎◌, arith}
+use Rattle.std.proofs.Common.{arith}
 use Rattle.std.proofs.lemmas.Bool.{false≢true}
 use Rattle.lert_base.specs.Packet.{Packet, events_of}
 use Rattle.lert_bay.specs.Files.{Files, IfTold, Turns}
@@ -21,11 +21,11 @@ use Rattle.lert_spec.specs.declared.report.Report.{Report}
 use Rattle.lert_spec.specs.Edges.{capacity}
 use Rattle.lert_spec.specs.Limits.{IsValid}
 use Rattle.lert_reports.specs.declared.log_point.LogPoint.{LogPoint}
-use Rattle.lert_cone.specs.declared.refusal.ReplayFault.TheVariants.{Failed, Unsound, OutOfMemory}
+use Rattle.lert_cone.specs.declared.refusal.ReplayFault.TheVariants.{Failed, Unsound}
 use Rattle.lert_cone.specs.declared.state.ConeState.{ConeState}
 use Rattle.lert_cone.specs.declared.state.ConeState.TheVariants.{Running, Finished, Replaying}
 use Rattle.lert_cone.specs.declared.tally.TakeFault.{TakeFault}
-use Rattle.lert_cone.specs.declared.tally.TakeFault.TheVariants.{Failed as TakeFailed, Unsound as TakeUnsound, OutOfMemory as TakeOutOfMemory}
+use Rattle.lert_cone.specs.declared.tally.TakeFault.TheVariants.{Failed as TakeFailed, Unsound as TakeUnsound}
 use Rattle.lert_cone.specs.History.{most_payload}
 use Rattle.lert_cone.specs.Listing.{Listing}
 use Rattle.lert_cone.specs.Record.{LogPlace}
@@ -88,26 +88,22 @@ module _ {B : Type 0} (cone : Standing B) (bytes : List ℕ) (gate : ℕ) where
   pub refused_keys : (fault : TakeFault) → IsThere cone bytes gate → WhyRefused cone bytes gate (of_take_fault fault)
   refused_keys TakeFailed there = tt
   refused_keys (TakeUnsound file at) there = there
-  refused_keys TakeOutOfMemory there = there
 
   pub refused_record : (fault : LogFault) → ((at : ℕ) → fault ≡ LogMalformed at → LeavesBehind cone bytes gate at) → WhyRefused cone bytes gate (of_log_fault fault)
   refused_record LogFailed leaves = tt
   refused_record (LogMalformed at) leaves = leaves at refl
 
-pub only_by_bay : (fault : TakeFault) → ((file at : ℕ) → fault ≡ TakeUnsound file at → ⊥) → (of_take_fault fault ≡ Failed) ⊎ (of_take_fault fault ≡ OutOfMemory)
-only_by_bay TakeFailed never = inl refl
+pub only_by_bay : (fault : TakeFault) → ((file at : ℕ) → fault ≡ TakeUnsound file at → ⊥) → of_take_fault fault ≡ Failed
+only_by_bay TakeFailed never = refl
 only_by_bay (TakeUnsound file at) never = absurd (never file at refl)
-only_by_bay TakeOutOfMemory never = inr refl
 
 pub unsound_keys : (fault : TakeFault) (file at : ℕ) → of_take_fault fault ≡ Unsound file at → fault ≡ TakeUnsound file at
 unsound_keys TakeFailed file at same = absurd (let never : ⊥ = cc in never)
 unsound_keys (TakeUnsound other place) file at same = (let is : TakeUnsound other place ≡ TakeUnsound file at = cc in is)
-unsound_keys TakeOutOfMemory file at same = absurd (let never : ⊥ = cc in never)
 
 pub failed_keys : (fault : TakeFault) → of_take_fault fault ≡ Failed → fault ≡ TakeFailed
 failed_keys TakeFailed same = refl
 failed_keys (TakeUnsound file at) same = absurd (let never : ⊥ = cc in never)
-failed_keys TakeOutOfMemory same = absurd (let never : ⊥ = cc in never)
 
 pub failed_record : (fault : LogFault) → of_log_fault fault ≡ Failed → fault ≡ LogFailed
 failed_record LogFailed same = refl

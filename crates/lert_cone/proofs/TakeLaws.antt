@@ -1,6 +1,6 @@
 -- A cone with one more key, from what the parts of the step say.
 use Rattle.std.proofs.Common.{ℕ, ◌≡◌, ◌≢◌, ◌+◌, ◌-◌, ◌^◌, ◌<◌, ◌≤◌, suc, true, false, cond, List, [], ◌∷◌, ◌++◌, length, take, Result, Ok, Err, OnOk}
-use Rattle.std.proofs.Common.{◌⊎◌, inl, inr, refl, ap, ap₂, sym, ◌∙◌, arith}
+use Rattle.std.proofs.Common.{inl, inr, refl, ap, ap₂, sym, ◌∙◌, arith}
 use Rattle.std.proofs.Common.{subst, length-append}
 use Rattle.std.specs.Prelude.{MatchResult, IsErrOf}
 use Rattle.std.proofs.lemmas.List.{length-take, get_or-take}
@@ -18,7 +18,7 @@ use Rattle.lert_spec.specs.Table.{IsTable}
 use Rattle.lert_spec.proofs.TallyLaws.{IsTable-tallied}
 use Rattle.lert_rows.specs.declared.bin_at.BinAt.{BinAt}
 use Rattle.lert_rows.specs.declared.fault.FlushFault.{FlushFault}
-use Rattle.lert_rows.specs.declared.fault.FlushFault.TheVariants.{Failed as FlushFailed, Malformed, OutOfMemory as NoMemory}
+use Rattle.lert_rows.specs.declared.fault.FlushFault.TheVariants.{Failed as FlushFailed, Malformed}
 use Rattle.lert_rows.specs.Loading.{RowBreaks, OneBreaks}
 use Rattle.lert_rows.specs.Ranges.{young_bins}
 use Rattle.lert_rows.specs.Rows.{IsAt, AreRows, HoldsBins}
@@ -243,7 +243,6 @@ module _ (t : Tallied) (ls : Numbers) (levels_are : ls ≡ t.listing.settings) (
 pub sound_fault : (fault : FlushFault) → ((at : ℕ) → fault ≢ Malformed at) → (file at : ℕ) → take_fault fault ≢ Unsound file at
 sound_fault FlushFailed fine file at same = cc
 sound_fault (Malformed place) fine file at same = fine place refl
-sound_fault NoMemory fine file at same = cc
 
 -- and what a call that hands on a fault answers
 pub err_is : (result : Result (Unit {0}) TakeFault) (fault : FlushFault) → IsErrAnd result (λ taken. taken ≡ take_fault fault) → ((at : ℕ) → fault ≢ Malformed at) →
@@ -263,7 +262,6 @@ shows_frame (Err taken) (Malformed place) is s rows reports frames breaks file a
     let number : file ≡ 2 = cc in
     let place_is : place ≡ at = cc in
     inl (number, subst (OneBreaks s rows frames) place_is (breaks place refl))
-shows_frame (Err taken) NoMemory is s rows reports frames breaks file at same = cc
 
 -- and what a report shows that finds no room
 pub shows_full : (s : Numbers) (rows : List (List BinAt)) (reports : List Report) (frames : List ℕ) → length reports ≡ s.room →
@@ -298,8 +296,7 @@ pub on_ok : {T E : Type 0} (A B C : Type 0) (result : Result T E) → OnOk resul
 on_ok A B C (Ok done) one two goes = goes one two
 on_ok A B C (Err fault) one two goes = tt
 
-pub never_malformed : (A : Type 0) (result : Result (Unit {0}) FlushFault) → MatchResult result (λ _. A) (λ fault. (fault ≡ FlushFailed) ⊎ (fault ≡ NoMemory)) → (at : ℕ) →
+pub never_malformed : (A : Type 0) (result : Result (Unit {0}) FlushFault) → MatchResult result (λ _. A) (λ fault. fault ≡ FlushFailed) → (at : ℕ) →
     result ≢ Err (Malformed at)
 never_malformed A (Ok done) holds at same = cc
-never_malformed A (Err fault) (inl failed) at same = cc
-never_malformed A (Err fault) (inr none) at same = cc
+never_malformed A (Err fault) failed at same = cc

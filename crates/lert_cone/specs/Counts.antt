@@ -36,7 +36,7 @@ pub record Flushes {B : Type 0} (bays : Bays B) (start : Dues) (m : ℕ) (bay ba
   pub sound : (events : List ℕ) → length events ≡ m → AreYoung levels.settings events zero.from zero.bins →
       IfTold (bays.files bay) (λ seen. HoldsBins levels.settings events levels.rows (seen FRAMES) → (at : ℕ) → result ≢ Err (Malformed at))
   pub malformed : IfTold (bays.files bay) (λ seen. (at : ℕ) → IsErrOf result (Malformed at) → OneBreaks levels.settings levels.rows (seen FRAMES) at)
-  pub unwritten : (at : ℕ) → IsErrOf result (Malformed at) → bays.files bay_after ≡ bays.files bay
+  pub malformed_after : IfTold (bays.files bay_after) (λ after. (at : ℕ) → IsErrOf result (Malformed at) → OneBreaks levels.settings levels.rows (after FRAMES) at)
   pub durable : OnOk result (IfTold (bays.files bay_after) (λ seen. (image : Files) → bays.leaves bay_after image → image FRAMES ≡ seen FRAMES))
   pub rest : KeepsRest bays (InNamed levels.settings levels.rows) bay bay_after
   pub kept : KeepsBay bays bay bay_after (IsErrOf result FlushFailed)
@@ -61,7 +61,7 @@ pub record Brings {B : Type 0} (bays : Bays B) (start : Dues) (m tail : ℕ) (ba
   pub sound : (events : List ℕ) → length events ≡ m → AreYoung levels.settings events zero.from zero.bins →
       IfTold (bays.files bay) (λ seen. HoldsBins levels.settings events levels.rows (seen FRAMES) → (at : ℕ) → result ≢ Err (Malformed at))
   pub malformed : IfTold (bays.files bay) (λ seen. (at : ℕ) → IsErrOf result (Malformed at) → OneBreaks levels_after.settings levels_after.rows (seen FRAMES) at)
-  pub unwritten : (at : ℕ) → IsErrOf result (Malformed at) → bays.files bay_after ≡ bays.files bay
+  pub malformed_after : IfTold (bays.files bay_after) (λ after. (at : ℕ) → IsErrOf result (Malformed at) → OneBreaks levels_after.settings levels_after.rows (after FRAMES) at)
   pub images : (events : List ℕ) → length events ≡ m → AreYoung levels.settings events zero.from zero.bins →
       IfTold (bays.files bay) (λ seen. HoldsBins levels.settings events levels.rows (seen FRAMES) → InEach (bays.leaves bay) FRAMES (HoldsBins levels.settings events levels.rows) →
       OnOk result (IfTold (bays.files bay_after) (λ _. InEach (bays.leaves bay_after) FRAMES (HoldsBins levels.settings events levels_after.rows))))

@@ -59,6 +59,12 @@ pub record TookFrom (start dues : Dues) (pieces : List Piece) : Type 0 where
   pub grows : length dues.before ≤ length dues.reports
   pub took : TookTotals dues pieces
 
+-- a total that changes nothing: untaken it leaves the reports that it would leave if it were taken
+abbrev pub PassesOver : Dues → Piece → Type 0
+PassesOver dues piece =
+    (start : Dues) (pieces : List Piece) → TookFrom start dues pieces → All (λ lesser. lesser.tail < piece.tail) pieces →
+    TookFrom start dues (pieces ++ piece ∷ [])
+
 -- one more report of a key, where there is one, and room for it
 abbrev pub with_report : Dues → Option ℕ → Dues
 with_report dues None = dues

@@ -1,5 +1,5 @@
 -- A cone that is given the packets of its journal again, and what the record at a gate makes of it.
-use Rattle.std.specs.Prelude.{◌≡◌, ◌⊎◌, ℕ, ◌+◌, ◌≤◌, max, List, [], ◌∷◌, ◌++◌, length, Option, Some, None, Result, Ok, Err}
+use Rattle.std.specs.Prelude.{◌≡◌, ℕ, ◌+◌, ◌≤◌, max, List, [], ◌∷◌, ◌++◌, length, Option, Some, None, Result, Ok, Err}
 use Rattle.lert_base.specs.Packet.{Packet}
 use Rattle.lert_bay.specs.Files.{Files, IfTold}
 use Rattle.lert_bay.specs.Images.{KeepsImages}
@@ -13,11 +13,11 @@ use Rattle.lert_journal.specs.Payload.{IsJournaled, payload_of}
 use Rattle.lert_rows.specs.declared.bin_at.BinAt.{BinAt}
 use Rattle.lert_spec.specs.declared.report.Report.{Report}
 use Rattle.lert_cone.specs.declared.refusal.ReplayFault.{ReplayFault}
-use Rattle.lert_cone.specs.declared.refusal.ReplayFault.TheVariants.{Failed, Malformed, Unsound, OutOfMemory}
+use Rattle.lert_cone.specs.declared.refusal.ReplayFault.TheVariants.{Failed, Malformed, Unsound}
 use Rattle.lert_cone.specs.declared.state.ConeState.{ConeState}
-use Rattle.lert_cone.specs.declared.state.ConeState.TheVariants.{BrokenByBay, BrokenByRead, BrokenByMemory, Replaying}
+use Rattle.lert_cone.specs.declared.state.ConeState.TheVariants.{BrokenByBay, BrokenByRead, Replaying}
 use Rattle.lert_cone.specs.declared.tally.TakeFault.{TakeFault}
-use Rattle.lert_cone.specs.declared.tally.TakeFault.TheVariants.{Failed as TakeFailed, Unsound as TakeUnsound, OutOfMemory as TakeOutOfMemory}
+use Rattle.lert_cone.specs.declared.tally.TakeFault.TheVariants.{Failed as TakeFailed, Unsound as TakeUnsound}
 use Rattle.lert_cone.specs.Framed.{last_flush}
 use Rattle.lert_cone.specs.History.{most_payload}
 use Rattle.lert_cone.specs.Record.{LogPlace}
@@ -99,20 +99,18 @@ abbrev pub WhyRefused : {B : Type 0} → Standing B → List ℕ → ℕ → Rep
 WhyRefused cone bytes gate Failed = Unit {0}
 WhyRefused cone bytes gate (Malformed at) = LeavesBehind cone bytes gate at
 WhyRefused cone bytes gate (Unsound file at) = IsThere cone bytes gate
-WhyRefused cone bytes gate OutOfMemory = IsThere cone bytes gate
 
 -- what becomes of a cone on its way through the journal of a history, of which it took the first packets: it took one more, or
--- all are taken; or a call of its bay failed, or there was no memory
+-- all are taken; or a call of its bay failed
 abbrev pub GoesOn : {B : Type 0} → (B → Option Files) → (B → Files → Type 0) → Standing B → List Packet → List Packet → Result (Option ℕ) ReplayFault → Type 0
 GoesOn files leaves new history done (Ok (Some next)) = (packet : Packet) × Replays files leaves new history (done ++ packet ∷ [])
 GoesOn files leaves new history done (Ok None) = (done ≡ history) × Replays files leaves new history done
-GoesOn files leaves new history done (Err fault) = (fault ≡ Failed) ⊎ (fault ≡ OutOfMemory)
+GoesOn files leaves new history done (Err fault) = fault ≡ Failed
 
 -- why a record isn't taken, and the state that this leaves
 abbrev pub of_take_fault : TakeFault → ReplayFault
 of_take_fault TakeFailed = Failed
 of_take_fault (TakeUnsound file at) = Unsound file at
-of_take_fault TakeOutOfMemory = OutOfMemory
 
 abbrev pub of_log_fault : LogFault → ReplayFault
 of_log_fault LogFailed = Failed
@@ -122,4 +120,3 @@ abbrev pub broken_after : ReplayFault → ConeState
 broken_after Failed = BrokenByBay
 broken_after (Malformed at) = BrokenByRead JOURNAL at
 broken_after (Unsound file at) = BrokenByRead file at
-broken_after OutOfMemory = BrokenByMemory

@@ -16,11 +16,11 @@ use Rattle.lert_spec.specs.Edges.{capacity}
 use Rattle.lert_spec.specs.Limits.{IsValid}
 use Rattle.lert_spec.specs.Look.{look}
 use Rattle.lert_cone.specs.declared.state.ConeState.{ConeState}
-use Rattle.lert_cone.specs.declared.state.ConeState.TheVariants.{Running, Finished, BrokenByBay, BrokenByRead, BrokenByMemory, Replaying}
+use Rattle.lert_cone.specs.declared.state.ConeState.TheVariants.{Running, Finished, BrokenByBay, BrokenByRead, Replaying}
 use Rattle.lert_reports.specs.declared.log_point.LogPoint.{LogPoint}
 use Rattle.lert_cone.specs.declared.acked.Acked.{Acked}
 use Rattle.lert_base.specs.declared.cone_fault.ConeFault.{ConeFault}
-use Rattle.lert_base.specs.declared.cone_fault.ConeFault.TheVariants.{Closed, Broken, CapacityFull, BayFailed, Unsound, OutOfMemory}
+use Rattle.lert_base.specs.declared.cone_fault.ConeFault.TheVariants.{Closed, Broken, CapacityFull, BayFailed, Unsound}
 use Rattle.lert_cone.specs.History.{most_payload, end_of}
 use Rattle.lert_cone.specs.InStep.{IsInStep, IsLogging}
 use Rattle.lert_cone.specs.Listing.{Listing}
@@ -30,7 +30,7 @@ use Rattle.lert_cone.specs.Sound.{IsSound, IsSoundAs, IsSoundOver, IsKept, IsKep
 use Rattle.lert_cone.specs.Tally.{Tallied, IsCounted, IsRecounted}
 use Rattle.lert_cone.specs.Wrote.{Anything, IsShutIfTold}
 use Rattle.lert_cone.specs.declared.tally.TakeFault.{TakeFault}
-use Rattle.lert_cone.specs.declared.tally.TakeFault.TheVariants.{Failed as TakeFailed, Unsound as TakeUnsound, OutOfMemory as TakeOutOfMemory}
+use Rattle.lert_cone.specs.declared.tally.TakeFault.TheVariants.{Failed as TakeFailed, Unsound as TakeUnsound}
 
 -- it takes no packet and doesn't end: a call broke off in the middle, and none writes any more, or its packets aren't all read yet
 abbrev pub is_broken : ConeState → Bool
@@ -38,7 +38,6 @@ is_broken Running = false
 is_broken Finished = false
 is_broken BrokenByBay = true
 is_broken (BrokenByRead file at) = true
-is_broken BrokenByMemory = true
 is_broken Replaying = true
 
 abbrev pub is_finished : ConeState → Bool
@@ -46,7 +45,6 @@ is_finished Running = false
 is_finished Finished = true
 is_finished BrokenByBay = false
 is_finished (BrokenByRead file at) = false
-is_finished BrokenByMemory = false
 is_finished Replaying = false
 
 -- a call was refused before its first step
@@ -56,18 +54,15 @@ is_refusal Broken = true
 is_refusal (CapacityFull n len) = true
 is_refusal BayFailed = false
 is_refusal (Unsound file at) = false
-is_refusal OutOfMemory = false
 
 -- the state that a fault in the middle leaves, and the answer
 abbrev pub broken_by : TakeFault → ConeState
 broken_by TakeFailed = BrokenByBay
 broken_by (TakeUnsound file at) = BrokenByRead file at
-broken_by TakeOutOfMemory = BrokenByMemory
 
 abbrev pub cone_fault : TakeFault → ConeFault
 cone_fault TakeFailed = BayFailed
 cone_fault (TakeUnsound file at) = Unsound file at
-cone_fault TakeOutOfMemory = OutOfMemory
 
 -- the packet of an entry that is kept
 abbrev pub over_of : Option (Snapshot Entry) → Option Packet

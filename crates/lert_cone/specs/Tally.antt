@@ -17,9 +17,9 @@ use Rattle.lert_rows.specs.Ranges.{young_bins}
 use Rattle.lert_rows.specs.Rows.{IsAt, AreRows, HoldsBins}
 use Rattle.lert_rows.specs.Young.{Young}
 use Rattle.lert_rows.specs.declared.fault.FlushFault.{FlushFault}
-use Rattle.lert_rows.specs.declared.fault.FlushFault.TheVariants.{Failed as FlushFailed, Malformed, OutOfMemory as NoMemory}
+use Rattle.lert_rows.specs.declared.fault.FlushFault.TheVariants.{Failed as FlushFailed, Malformed}
 use Rattle.lert_cone.specs.declared.tally.TakeFault.{TakeFault}
-use Rattle.lert_cone.specs.declared.tally.TakeFault.TheVariants.{Failed, Unsound, OutOfMemory}
+use Rattle.lert_cone.specs.declared.tally.TakeFault.TheVariants.{Failed, Unsound}
 use Rattle.lert_cone.specs.Due.{Dues, unbegun}
 use Rattle.lert_cone.specs.Listing.{Listing, reports_of}
 
@@ -102,7 +102,6 @@ totals_at s events m tail =
 abbrev pub take_fault : FlushFault → TakeFault
 take_fault FlushFailed = Failed
 take_fault (Malformed at) = Unsound FRAMES at
-take_fault NoMemory = OutOfMemory
 
 -- what shows that files are sound for no list: a frame that the rows name leaves its format at this byte of the file of
 -- frames, or the reports fill their room and one more is due, which the log would have to name

@@ -217,7 +217,6 @@ impl<B: Bay, T: CountTable> Cone<B, T> {
             × ((h : List Packet) → StandsFor B.files B.leaves B.faults self.old h → WasSound B.files self.old → B.files self.old.bay ≡ None) }
         ensures shows { (file at : ℕ) → IsErrOf result (ConeFault.Unsound file at) →
             IfTold (B.files self.new.bay) (λ seen. Shows self.new.listing.settings self.new.rows self.new.reports (seen FRAMES) file at) }
-        ensures out_of_memory { IsErrOf result ConeFault.OutOfMemory → self.new.state ≡ ConeState.BrokenByMemory }
 
         // In each image of each moment of the call the files are sound for the list, or for the list and the packet.
         ensures each_moment { is_broken self.old.state ≡ false → WasSound B.files self.old → IfTold (B.files self.old.bay) (λ _. (h : List Packet) →
@@ -316,7 +315,6 @@ impl<B: Bay, T: CountTable> Cone<B, T> {
             ConeState::Finished => Err(ConeFault::Closed),
             ConeState::BrokenByBay => Err(ConeFault::Broken),
             ConeState::BrokenByRead { .. } => Err(ConeFault::Broken),
-            ConeState::BrokenByMemory => Err(ConeFault::Broken),
             ConeState::Replaying => Err(ConeFault::Broken),
         }
     }
@@ -353,6 +351,5 @@ fn broken_by(fault: TakeFault) -> ConeState
     match fault {
         TakeFault::Failed => ConeState::BrokenByBay,
         TakeFault::Unsound { file, at } => ConeState::BrokenByRead { file, at },
-        TakeFault::OutOfMemory => ConeState::BrokenByMemory,
     }
 }

@@ -2,7 +2,9 @@
 
 ghost use Rattle.std.specs.Prelude.{◌≡◌, ◌↔◌, ℕ, ◌-◌, ◌^◌, ◌<◌, List, [], ◌∷◌, ◌++◌, All, length, false, IsTrue, MatchOption};
 ghost use Rattle.lert_spec.specs.Limits.{IsValid};
+ghost use Rattle.lert_spec.specs.Look.{is_listed};
 ghost use Rattle.lert_spec.specs.Mix.{cone_of};
+ghost use Rattle.lert_spec.proofs.TailLaws.{key_with};
 ghost use Rattle.lert_spec.specs.declared.piece.Piece.{Piece};
 ghost use Rattle.lert_cone.specs.Due.{Dues, unbegun};
 
@@ -44,7 +46,7 @@ impl<T: CountTable> Model for Due<T> {
 }
 
 impl<T: CountTable> Due<T> {
-    ghost use Rattle.lert_cone.specs.Due.{TookFrom, due_key, started, with_total};
+    ghost use Rattle.lert_cone.specs.Due.{PassesOver, TookFrom, due_key, started, with_total};
 
     /// The reports of a cone in this store, with those that it has already.
     pub fn new(settings: &Settings, cone: u32, store: ReportStore<T>) -> Due<T>
@@ -89,6 +91,27 @@ impl<T: CountTable> Due<T> {
         if self.is_tail(tail) {
             self.take_total(&Piece { tail, count });
         }
+    }
+
+    /// The least total that brings a report.
+    pub fn threshold(&self) -> u64
+        ensures value { result ≡ self.now.settings.threshold }
+        ensures passes { (piece : Piece) → piece.count < result → PassesOver self.now piece }
+    {
+        self.settings.numbers().threshold
+    }
+
+    /// Whether a tail's key is reported already, by one look-up.
+    pub fn is_listed(&self, tail: u64) -> bool
+        ensures value { tail < 2 ^ (64 - self.now.settings.cone_bits)
+            → result ≡ is_listed (key_with self.now.settings self.now.cone tail) self.now.reports }
+        ensures passes { IsTrue result → (count : ℕ) → PassesOver self.now (record { tail = tail; count = count }) }
+    {
+        if !self.is_tail(tail) {
+            return false;
+        }
+        let key = key_of(&self.settings, self.cone, tail);
+        self.store.has(key)
     }
 
     /// The reports.

@@ -18,7 +18,6 @@ impl From<TakeFault> for ConeFault {
         match fault {
             TakeFault::Failed => ConeFault::BayFailed,
             TakeFault::Unsound { file, at } => ConeFault::Unsound { file, at },
-            TakeFault::OutOfMemory => ConeFault::OutOfMemory,
         }
     }
 }
@@ -34,8 +33,6 @@ pub enum ReplayFault {
     Malformed { at: u64 },
     /// As of a packet that is admitted.
     Unsound { file: u8, at: u64 },
-    /// There is no memory for what was asked. No clause says when this comes.
-    OutOfMemory,
 }
 
 impl From<TakeFault> for ReplayFault {
@@ -47,7 +44,6 @@ impl From<TakeFault> for ReplayFault {
         match fault {
             TakeFault::Failed => ReplayFault::Failed,
             TakeFault::Unsound { file, at } => ReplayFault::Unsound { file, at },
-            TakeFault::OutOfMemory => ReplayFault::OutOfMemory,
         }
     }
 }

@@ -19,9 +19,7 @@ const PACKETS: usize = 4;
 
 /// The memory of a cone that isn't numbered yet. As `new` makes it, the tables of level 0, the levels and the store of
 /// reports are empty, the entry has no key and a room for those of any packet of a journal, and the buffer has room for the
-/// greatest text that is appended, a packet's or a log record's.
-///
-/// Until bins are read in streams a flush asks for more.
+/// greatest text that is appended, a packet's or a log record's. No call of the cone takes more.
 #[derive(Drop)]
 pub struct ConeRoom<T: CountTable> {
     pub settings: Settings,

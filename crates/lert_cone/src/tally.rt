@@ -26,8 +26,6 @@ pub enum TakeFault {
     Failed,
     /// A frame left its format at this byte of its file, or a report more than there is room for would be needed.
     Unsound { file: u8, at: u64 },
-    /// There is no memory for what was asked. No clause says when this comes.
-    OutOfMemory,
 }
 
 impl From<FlushFault> for TakeFault {
@@ -39,7 +37,6 @@ impl From<FlushFault> for TakeFault {
         match fault {
             FlushFault::Failed => TakeFault::Failed,
             FlushFault::Malformed { at } => TakeFault::Unsound { file: FRAMES, at },
-            FlushFault::OutOfMemory => TakeFault::OutOfMemory,
         }
     }
 }

@@ -21,11 +21,11 @@ use Rattle.lert_ingest.specs.declared.status.Status.{Status}
 use Rattle.lert_ingest.specs.declared.status.Status.TheVariants.{Done, Usage, PlaceFault, TraceFault, BadTrace, TooLong, NotFresh, BayFault, CapacityFull, Malformed, OtherSettings, OutFault}
 use Rattle.lert_ingest.specs.declared.status.Status.TheVariants.{OutOfMemory}
 use Rattle.lert_ingest.proofs.BayLaws.{bay_at, slice_get-some, told_later}
-use Rattle.lert_run.specs.Finish.{AreFinished}
-use Rattle.lert_run.specs.Print.{printed_as}
-use Rattle.lert_run.specs.Printed.{HoldsReported}
-use Rattle.lert_run.proofs.EndLaws.{all_fit, all_valid, ends_later, finished_ended, one_printed, printed_at}
-use Rattle.lert_run.proofs.WovenLaws.{of_events, times-append}
+use Rattle.lert_cones.specs.Finish.{AreFinished}
+use Rattle.lert_cones.specs.Print.{printed_as}
+use Rattle.lert_cones.specs.Printed.{HoldsReported}
+use Rattle.lert_cones.proofs.EndLaws.{all_fit, all_valid, ends_later, finished_ended, one_printed, printed_at}
+use Rattle.lert_cones.proofs.WovenLaws.{of_events, times-append}
 use Rattle.lert_spec.specs.declared.numbers.Numbers.{Numbers}
 use Rattle.lert_spec.specs.declared.report.Report.{Report}
 use Rattle.lert_spec.specs.Counts.{heavy}

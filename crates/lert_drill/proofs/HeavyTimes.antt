@@ -8,7 +8,7 @@ use Rattle.lert_spec.specs.Timely.{IsTimely, times_listed}
 use Rattle.lert_spec.proofs.CountLaws.{count-whole}
 use Rattle.lert_spec.proofs.ReportLaws.{times, times-cons_other, times-cons_same}
 use Rattle.lert_drill.specs.Print.{keys_of}
-use Rattle.lert_run.proofs.HeavyLaws.{insert_before, insert_behind, insert_same, of_heavy, times-distinct}
+use Rattle.lert_cones.proofs.HeavyLaws.{insert_before, insert_behind, insert_same, of_heavy, times-distinct}
 
 -- ascending keys, each once, from `low` on
 abbrev pub RiseFrom : ℕ → List ℕ → Type 0

@@ -4,7 +4,7 @@ ghost use Rattle.std.specs.Prelude.{◌≡◌, ◌≤◌, ◌++◌, ℕ, List, [
 ghost use Rattle.lert_cone.specs.Stands.{is_broken};
 ghost use Rattle.lert_drill.specs.Print.{drilled_as, keys_of};
 ghost use Rattle.lert_io.specs.Fault.{HasCause};
-ghost use Rattle.lert_run.specs.Print.{ArePrintable};
+ghost use Rattle.lert_cones.specs.Print.{ArePrintable};
 ghost use Rattle.lert_text.specs.Drill.{drill_lines, exclusive_or as xor_of};
 ghost use Rattle.lert_text.specs.Page.{IsCut};
 

@@ -8,7 +8,7 @@ use Rattle.lert_bay.specs.declared.bay.TheConstants.{JOURNAL, LOG, FRAMES}
 use Rattle.lert_bay.specs.Files.{Files}
 use Rattle.lert_rows.specs.declared.bin_at.BinAt.{BinAt}
 use Rattle.lert_rows.specs.declared.fault.FlushFault.{FlushFault}
-use Rattle.lert_rows.specs.declared.fault.FlushFault.TheVariants.{Failed as CheckFailed, Malformed as CheckMalformed, OutOfMemory as CheckOutOfMemory}
+use Rattle.lert_rows.specs.declared.fault.FlushFault.TheVariants.{Failed as CheckFailed, Malformed as CheckMalformed}
 use Rattle.lert_rows.specs.Checked.{rows_left}
 use Rattle.lert_levels.specs.OnDisk.{OnDisk}
 use Rattle.lert_rows.specs.Rows.{IsAt, AreRows, directory_text}
@@ -20,19 +20,19 @@ use Rattle.lert_spec.specs.declared.numbers.Numbers.{Numbers}
 use Rattle.lert_spec.specs.declared.report.Report.{Report}
 use Rattle.lert_spec.specs.Limits.{IsValid}
 use Rattle.lert_files.specs.declared.fault.ReopenFault.{ReopenFault}
-use Rattle.lert_files.specs.declared.fault.ReopenFault.TheVariants.{Failed, Malformed, OtherSettings, OutOfMemory}
+use Rattle.lert_files.specs.declared.fault.ReopenFault.TheVariants.{Failed, Malformed, OtherSettings}
 use Rattle.lert_reports.specs.declared.log_point.LogPoint.{LogPoint}
 use Rattle.lert_files.specs.Headed.{BeginningLeaves, HasOther, IsHeaded, IsHeaderFault}
-use Rattle.lert_files.specs.Opened.{AreLastRows, AreOpened, checked_fault, IsRefused, By_call, By_memory, By_place, By_header, LeaveAt, In_beginning, In_log, In_frame}
+use Rattle.lert_files.specs.Opened.{AreLastRows, AreOpened, checked_fault, IsRefused, By_call, By_place, By_header, LeaveAt, In_beginning, In_log, In_frame}
 use Rattle.lert_files.specs.Read.{IsReadOf}
 use Rattle.lert_files.proofs.HeadLaws.{headed_or_fault, headed_whole, one_beginning, other_or_left}
 
 some_place : (m n : ℕ) → Some m ≡ Some n → m ≡ n
 some_place m n is = cc
 
--- neither a place nor other numbers, but a call or memory
+-- neither a place nor other numbers, but a call
 abbrev pub IsOutside : ReopenFault → Type 0
-IsOutside fault = (fault ≡ Failed) ⊎ (fault ≡ OutOfMemory)
+IsOutside fault = fault ≡ Failed
 
 module _ (s : Numbers) (cone : ℕ) (valid : IsValid s) (below : cone < 2 ^ 32) (seen : Files) where
   no_place : IsHeaded s cone (seen JOURNAL) → (at : ℕ) → BeginningLeaves s cone (seen JOURNAL) at → ⊥
@@ -89,23 +89,20 @@ module _ (s : Numbers) (cone : ℕ) (valid : IsValid s) (below : cone < 2 ^ 32) 
   -- ---- why files aren't read
 
   pub left_there : (fault : ReopenFault) (file at : ℕ) → IsRefused s cone seen fault → LeaveAt s cone seen file at → IsOutside fault ⊎ (fault ≡ Malformed file at)
-  left_there fault file at (By_call is) leaves = inl (inl is)
-  left_there fault file at (By_memory is) leaves = inl (inr is)
+  left_there fault file at (By_call is) leaves = inl is
   left_there fault file at (By_place other_file other is leaves_too) leaves =
       let same = one_place other_file other file at leaves_too leaves in
       inr (is ∙ (λ i. Malformed (same.0 i) (same.1 i)))
   left_there fault file at (By_header kept is has) leaves = absurd (left_or_other file at kept leaves has)
 
   pub other_there : (fault : ReopenFault) (kept : Kept) → IsRefused s cone seen fault → HasOther s cone (seen JOURNAL) kept → IsOutside fault ⊎ (fault ≡ OtherSettings kept)
-  other_there fault kept (By_call is) has = inl (inl is)
-  other_there fault kept (By_memory is) has = inl (inr is)
+  other_there fault kept (By_call is) has = inl is
   other_there fault kept (By_place file at is leaves) has = absurd (left_or_other file at kept leaves has)
   other_there fault kept (By_header other is has_too) has = inr (is ∙ ap OtherSettings (one_header other kept has_too has))
 
   pub outside_there : (fault : ReopenFault) (records : List LogRecord) (log_end : ℕ) (rows : List (List BinAt)) → IsRefused s cone seen fault →
       AreOpened s cone seen records log_end rows → IsOutside fault
-  outside_there fault records log_end rows (By_call is) opened = inl is
-  outside_there fault records log_end rows (By_memory is) opened = inr is
+  outside_there fault records log_end rows (By_call is) opened = is
   outside_there fault records log_end rows (By_place file at is leaves) opened = absurd (opened_or_left records log_end rows file at opened leaves)
   outside_there fault records log_end rows (By_header kept is has) opened = absurd (no_other opened.headed kept has)
 
@@ -113,9 +110,6 @@ module _ (s : Numbers) (cone : ℕ) (valid : IsValid s) (below : cone < 2 ^ 32) 
 
   failed_or_place : (file at : ℕ) → Failed ≡ Malformed file at → ⊥
   failed_or_place file at is = cc
-
-  memory_or_place : (file at : ℕ) → OutOfMemory ≡ Malformed file at → ⊥
-  memory_or_place file at is = cc
 
   header_or_place : (kept : Kept) (file at : ℕ) → OtherSettings kept ≡ Malformed file at → ⊥
   header_or_place kept file at is = cc
@@ -129,21 +123,16 @@ module _ (s : Numbers) (cone : ℕ) (valid : IsValid s) (below : cone < 2 ^ 32) 
   failed_or_header : (kept : Kept) → Failed ≡ OtherSettings kept → ⊥
   failed_or_header kept is = cc
 
-  memory_or_header : (kept : Kept) → OutOfMemory ≡ OtherSettings kept → ⊥
-  memory_or_header kept is = cc
-
   header_of : (kept other : Kept) → OtherSettings kept ≡ OtherSettings other → kept ≡ other
   header_of kept other is = cc
 
   refused_place : (fault : ReopenFault) (file at : ℕ) → fault ≡ Malformed file at → IsRefused s cone seen fault → LeaveAt s cone seen file at
   refused_place fault file at is (By_call failed) = absurd (failed_or_place file at (sym failed ∙ is))
-  refused_place fault file at is (By_memory short) = absurd (memory_or_place file at (sym short ∙ is))
   refused_place fault file at is (By_place other_file other same leaves) = place_of other_file other file at (sym same ∙ is) leaves
   refused_place fault file at is (By_header kept same has) = absurd (header_or_place kept file at (sym same ∙ is))
 
   refused_header : (fault : ReopenFault) (kept : Kept) → fault ≡ OtherSettings kept → IsRefused s cone seen fault → HasOther s cone (seen JOURNAL) kept
   refused_header fault kept is (By_call failed) = absurd (failed_or_header kept (sym failed ∙ is))
-  refused_header fault kept is (By_memory short) = absurd (memory_or_header kept (sym short ∙ is))
   refused_header fault kept is (By_place file at same leaves) = absurd (header_or_place kept file at (sym is ∙ same))
   refused_header fault kept is (By_header other same has) = subst (HasOther s cone (seen JOURNAL)) (header_of other kept (sym same ∙ is)) has
 
@@ -218,17 +207,12 @@ module _ (s : Numbers) (cone : ℕ) (seen : Files) (n0 offset first : ℕ) (clos
   pub check_refused : (fault : ReopenFault) (check : FlushFault) → fault ≡ checked_fault check →
       ((place : ℕ) → check ≡ CheckMalformed place → rows_left levels.settings (seen FRAMES) levels.rows ≡ Some place) → IsRefused s cone seen fault
   check_refused fault CheckFailed is said = By_call is
-  check_refused fault CheckOutOfMemory is said = By_memory is
   check_refused fault (CheckMalformed place) is said =
       By_place 2 place is (In_frame headed records log_end log levels.rows named refl
       (subst (λ (numbers : Numbers). rows_left numbers (seen FRAMES) levels.rows ≡ Some place) own (said place refl)))
 
 pub check_failed : (check : FlushFault) → checked_fault check ≡ Failed → check ≡ CheckFailed
 check_failed CheckFailed is = refl
-check_failed CheckOutOfMemory is = absurd (memory_or_failed is)
-  where
-    memory_or_failed : OutOfMemory ≡ Failed → ⊥
-    memory_or_failed same = cc
 check_failed (CheckMalformed place) is = absurd (place_or_failed is)
   where
     place_or_failed : Malformed FRAMES place ≡ Failed → ⊥

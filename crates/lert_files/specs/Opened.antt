@@ -6,11 +6,11 @@ use Rattle.lert_bay.specs.Files.{Files, IfTold}
 use Rattle.lert_bay.specs.Kept.{Bays, KeepsBay}
 use Rattle.lert_rows.specs.declared.bin_at.BinAt.{BinAt}
 use Rattle.lert_rows.specs.declared.fault.FlushFault.{FlushFault}
-use Rattle.lert_rows.specs.declared.fault.FlushFault.TheVariants.{Failed as CheckFailed, Malformed as CheckMalformed, OutOfMemory as CheckOutOfMemory}
+use Rattle.lert_rows.specs.declared.fault.FlushFault.TheVariants.{Failed as CheckFailed, Malformed as CheckMalformed}
 use Rattle.lert_rows.specs.Checked.{rows_left}
 use Rattle.lert_rows.specs.Named.{AreNamed}
 use Rattle.lert_files.specs.declared.fault.ReopenFault.{ReopenFault}
-use Rattle.lert_files.specs.declared.fault.ReopenFault.TheVariants.{Failed, Malformed, OtherSettings, OutOfMemory}
+use Rattle.lert_files.specs.declared.fault.ReopenFault.TheVariants.{Failed, Malformed, OtherSettings}
 use Rattle.lert_files.specs.Headed.{BeginningLeaves, IsHeaded, HasOther}
 use Rattle.lert_reports.specs.Log.{last_directory, last_n0, HasLog, LogLeavesAt}
 use Rattle.lert_reports.specs.LogText.{LogRecord, directory_bytes}
@@ -35,10 +35,9 @@ pub data LeaveAt (s : Numbers) (cone : ℕ) (seen : Files) (file at : ℕ) : Typ
   In_frame : IsHeaded s cone (seen JOURNAL) → (records : List LogRecord) (log_end : ℕ) → HasLog s cone (seen LOG) records log_end →
       (rows : List (List BinAt)) → AreLastRows s records rows → file ≡ FRAMES → rows_left s (seen FRAMES) rows ≡ Some at → LeaveAt s cone seen file at
 
--- why files aren't read: a call or memory failed, or what stands in them
+-- why files aren't read: a call failed, or what stands in them
 pub data IsRefused (s : Numbers) (cone : ℕ) (seen : Files) (fault : ReopenFault) : Type 0 where
   By_call : fault ≡ Failed → IsRefused s cone seen fault
-  By_memory : fault ≡ OutOfMemory → IsRefused s cone seen fault
   By_place : (file at : ℕ) → fault ≡ Malformed file at → LeaveAt s cone seen file at → IsRefused s cone seen fault
   By_header : (kept : Kept) → fault ≡ OtherSettings kept → HasOther s cone (seen JOURNAL) kept → IsRefused s cone seen fault
 
@@ -46,7 +45,6 @@ pub data IsRefused (s : Numbers) (cone : ℕ) (seen : Files) (fault : ReopenFaul
 abbrev pub checked_fault : FlushFault → ReopenFault
 checked_fault CheckFailed = Failed
 checked_fault (CheckMalformed at) = Malformed FRAMES at
-checked_fault CheckOutOfMemory = OutOfMemory
 
 -- ---- the bay
 

@@ -13,8 +13,6 @@ pub enum ReopenFault {
     Malformed { file: u8, at: u64 },
     /// The journal was written with another number, or by another cone: these, valid or not.
     OtherSettings { kept: Kept },
-    /// There was no memory. Until bins are read in streams, a flush takes some.
-    OutOfMemory,
 }
 
 impl From<Failed> for ReopenFault {
@@ -38,7 +36,6 @@ impl From<FlushFault> for ReopenFault {
         match check {
             FlushFault::Failed => ReopenFault::Failed,
             FlushFault::Malformed { at } => ReopenFault::Malformed { file: FRAMES, at },
-            FlushFault::OutOfMemory => ReopenFault::OutOfMemory,
         }
     }
 }

@@ -59,17 +59,17 @@ pub fn read_files<B: Bay, T: CountTable>(
     ensures other { IfTold (B.files bay.old) (λ seen. (kept : KeptOf) → IsErrOf result (ReopenFault.OtherSettings kept) →
         HasOther settings.now cone (seen JOURNAL) kept) }
 
-    // And what stands in them is the answer, but where a call of the bay or memory fails.
+    // And what stands in them is the answer, but where a call of the bay fails.
     ensures passes { IfTold (B.files bay.old) (λ seen. (records : List LogRecord) (log_end : ℕ) (rows : List (List BinAt)) →
         AreOpened settings.now cone seen records log_end rows →
         MatchResult result
         (λ end. (end.log_end ≡ log_end) × (levels.new.rows ≡ rows)
         × IsReadOf settings.now cone end.n0 end.offset end.first end.closed store.new.reports (directory_text levels.new.rows) records)
-        (λ fault. (fault ≡ ReopenFault.Failed) ⊎ (fault ≡ ReopenFault.OutOfMemory))) }
+        (λ fault. fault ≡ ReopenFault.Failed)) }
     ensures refuses { IfTold (B.files bay.old) (λ seen. (file at : ℕ) → LeaveAt settings.now cone seen file at →
-        IsErrAnd result (λ fault. ((fault ≡ ReopenFault.Failed) ⊎ (fault ≡ ReopenFault.OutOfMemory)) ⊎ (fault ≡ ReopenFault.Malformed file at))) }
+        IsErrAnd result (λ fault. (fault ≡ ReopenFault.Failed) ⊎ (fault ≡ ReopenFault.Malformed file at))) }
     ensures differs { IfTold (B.files bay.old) (λ seen. (kept : KeptOf) → HasOther settings.now cone (seen JOURNAL) kept →
-        IsErrAnd result (λ fault. ((fault ≡ ReopenFault.Failed) ⊎ (fault ≡ ReopenFault.OutOfMemory)) ⊎ (fault ≡ ReopenFault.OtherSettings kept))) }
+        IsErrAnd result (λ fault. (fault ≡ ReopenFault.Failed) ⊎ (fault ≡ ReopenFault.OtherSettings kept))) }
     ensures same { (levels.new.settings ≡ levels.old.settings) × (store.new.settings ≡ store.old.settings) }
     ensures quiet { WritesNothing B.Bay bay.old bay.new (IsErrOf result ReopenFault.Failed) }
 {

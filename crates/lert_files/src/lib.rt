@@ -2,7 +2,7 @@
 //! record names.
 //!
 //! The one contract is that of `read_files`: Ok says what stands in the files, a fault names the first place at which they leave
-//! their format or the numbers of another header, and what stands there is the answer, unless a call of the bay or memory fails.
+//! their format or the numbers of another header, and what stands there is the answer, unless a call of the bay fails.
 //! It stands on `read_journal_header` and `read_whole_log`, which read alone, and keeps none of what it reads itself: the reports
 //! come into a store, the bins into the levels. The records of the journal are read by the cone that is made of these.
 #![tactic(auto)]

@@ -1,20 +1,22 @@
 -- What is to come of a reader stays through a step of its decoder, and so does what it keeps.
-use Rattle.std.proofs.Common.{◌≡◌, ℕ, ◌≤◌, ◌^◌, List, ◌++◌, All, length, take, drop, Option, Some, None, refl, sym, ap, ap₂, ◌∙◌, subst, arith, append_assoc}
+use Rattle.std.proofs.Common.{◌≡◌, ◌≢◌, ℕ, zero, suc, ◌≤◌, ◌^◌, List, ◌++◌, All, length, take, drop, Option, Some, None, refl, sym, ap, ap₂, ◌∙◌, subst, arith, append_assoc, eqb, ne_eqb}
+use Rattle.std.proofs.lemmas.Bool.{cond-false}
 use Rattle.std.proofs.lemmas.List.{drop-append-le}
 use Rattle.lert_base.specs.declared.pieces.PieceFault.{PieceFault}
 use Rattle.lert_base.specs.declared.pieces.PieceFault.TheVariants.{Failed, Malformed}
-use Rattle.lert_blocks.specs.Walk.{Found, behind}
+use Rattle.lert_blocks.specs.Walk.{Found, behind, nothing}
 use Rattle.lert_spec.specs.declared.numbers.Numbers.{Numbers}
 use Rattle.lert_spec.specs.declared.piece.Piece.{Piece}
 use Rattle.lert_spec.specs.Table.{total, AreGiven, AscendsFrom}
 use Rattle.lert_spec.proofs.GivenLaws.{given_wide}
-use Rattle.lert_frames.specs.Decoded.{decoder_floor, decoder_limit}
+use Rattle.lert_frames.specs.Decoded.{decoder_floor, decoder_limit, IsBetween}
 use Rattle.lert_frames.specs.Frame.{if_summed}
 use Rattle.lert_frames.specs.Reading.{IsReading, SumsUp, if_over, verdict, sum_less, pieces_kept}
 use Rattle.lert_frames.specs.ToCome.{known_or}
 use Rattle.lert_frames.specs.declared.decoder.Decoder.{Decoder}
 use Rattle.lert_frames.specs.declared.reader.Sum.{Sum}
 use Rattle.lert_frames.specs.declared.reader.Sum.TheVariants.{Left, Over}
+use Rattle.lert_frames.proofs.StandsLaws.{stands_on}
 use Rattle.lert_frames.proofs.ReadingLaws.{verdict_stays, all_kept, length_kept, kept_given, kept_sums_up}
 
 -- ---- a step that stops
@@ -37,10 +39,11 @@ pub left_broken : (sum : Sum) (place at : ℕ) (found : Found) (before : Option 
 left_broken sum place at found before none is = ap (λ k. known_or k (verdict sum place found)) none ∙ broken_verdict sum place at found is
 
 -- the reader keeps what it kept
-pub reading_stopped : (s : Numbers) (level wide : ℕ) (sum : Sum) (old new : Decoder) (before items : List Piece) (room more given : ℕ) (gave : List Piece) →
-    IsReading s level wide sum old before room given gave → items ≡ before → decoder_floor old ≤ decoder_floor new → decoder_limit new ≡ decoder_limit old →
-    decoder_floor new ≤ decoder_limit new → more ≡ room → IsReading s level wide sum new items more given gave
-reading_stopped s level wide sum old new before items room more given gave is same up limit bounded room_is = record {
+pub reading_stopped : (s : Numbers) (level place wide : ℕ) (sum : Sum) (old new : Decoder) (before items : List Piece) (room more given : ℕ) (gave : List Piece) →
+    IsReading s level place wide sum old before room given gave → items ≡ before → decoder_floor old ≤ decoder_floor new → decoder_limit new ≡ decoder_limit old →
+    decoder_floor new ≤ decoder_limit new → more ≡ room → ((from end : ℕ) → IsBetween from end old → IsBetween from end new) →
+    IsReading s level place wide sum new items more given gave
+reading_stopped s level place wide sum old new before items room more given gave is same up limit bounded room_is between = record {
   valid = is.valid;
   first = is.first;
   last = is.last;
@@ -50,6 +53,7 @@ reading_stopped s level wide sum old new before items room more given gave is sa
   sums = subst (λ xs. SumsUp wide (total (gave ++ drop given xs)) sum) (sym same) is.sums;
   within = omega (arith, ap length same, is.within);
   room = room_is ∙ is.room;
+  stands = stands_on s level place old new between is.stands;
 }
 
 -- ---- a step that gives pieces
@@ -75,12 +79,12 @@ pieces_on less place given items before put old new items_are within whole old_i
     ∙ (ap (λ xs. xs ++ new.pieces) (drop-append-le given before put within)
     ∙ (append_assoc (drop given before) put new.pieces ∙ ap (λ (found : Found). drop given before ++ found.pieces) (sym old_is)))
 
-pub reading_on : (s : Numbers) (level wide : ℕ) (sum less : Sum) (old new : Decoder) (before put items : List Piece) (room more given : ℕ) (gave : List Piece) →
-    IsReading s level wide sum old before room given gave → less ≡ sum_less sum put → items ≡ pieces_kept less before put →
+pub reading_on : (s : Numbers) (level place wide : ℕ) (sum less : Sum) (old new : Decoder) (before put items : List Piece) (room more given : ℕ) (gave : List Piece) →
+    IsReading s level place wide sum old before room given gave → less ≡ sum_less sum put → items ≡ pieces_kept less before put →
     AscendsFrom (decoder_floor old) (decoder_floor new) put → All (λ piece. piece.count ≤ 2 ^ 47) put →
     decoder_floor old ≤ decoder_floor new → decoder_limit new ≡ decoder_limit old → decoder_floor new ≤ decoder_limit new → more ≡ room →
-    IsReading s level wide less new items more given gave
-reading_on s level wide sum less old new before put items room more given gave is less_is items_are ascend counts up limit bounded room_is = record {
+    ((from end : ℕ) → IsBetween from end old → IsBetween from end new) → IsReading s level place wide less new items more given gave
+reading_on s level place wide sum less old new before put items room more given gave is less_is items_are ascend counts up limit bounded room_is between = record {
   valid = is.valid;
   first = is.first;
   last = is.last;
@@ -92,4 +96,16 @@ reading_on s level wide sum less old new before put items room more given gave i
       (subst (λ (sum : Sum). SumsUp wide (total (gave ++ drop given (pieces_kept sum before put))) sum) (sym less_is) (kept_sums_up wide given sum gave before put is.within is.sums));
   within = omega (arith, ap length items_are, length_kept less before put, is.within);
   room = room_is ∙ is.room;
+  stands = stands_on s level place old new between is.stands;
 }
+
+-- ---- the frame's end
+
+-- where the counts are others than the bin's width, the frame leaves its text at its first byte
+unsummed : (sum : Sum) (place : ℕ) → sum ≢ Left 0 → verdict sum place nothing ≡ Some place
+unsummed (Left zero) place other = absurd (other refl)
+unsummed (Left (suc n)) place other = cond-false {A = Option ℕ} (eqb 0 (suc n)) None (Some place) (ne_eqb 0 (suc n) (λ same. absurd (omega (arith, same))))
+unsummed Over place other = refl
+
+pub left_unsummed : (sum : Sum) (place : ℕ) (found : Found) (fault : Option ℕ) → fault ≡ None → sum ≢ Left 0 → found ≡ nothing → known_or fault (verdict sum place found) ≡ Some place
+left_unsummed sum place found fault none other end = ap₂ (λ fault (found : Found). known_or fault (verdict sum place found)) none end ∙ unsummed sum place other

@@ -39,7 +39,7 @@ pub none_of : (left : Option ℕ) → ((at : ℕ) → left ≡ Some at → ⊥) 
 none_of None never = refl
 none_of (Some at) never = absurd (never at refl)
 
-summed_parts : (wide place : ℕ) (pieces : List Piece) (left : Option ℕ) → if_summed wide place pieces left ≡ None → (left ≡ None) × (total pieces ≡ wide)
+pub summed_parts : (wide place : ℕ) (pieces : List Piece) (left : Option ℕ) → if_summed wide place pieces left ≡ None → (left ≡ None) × (total pieces ≡ wide)
 summed_parts wide place pieces (Some at) is = absurd (cc)
 summed_parts wide place pieces None is = elim (cases_eq (total pieces) wide) [
   | inl same ↦ (refl, same)

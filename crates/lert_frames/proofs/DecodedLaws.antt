@@ -158,13 +158,13 @@ word_left width place end at spot block ahead ends slots low within spot_is left
 
 -- ---- a block that is begun
 
--- where none of a block is to come, the blocks behind it are
-none_rest : (width place end : ℕ) (block : Present) (ends slots : List ℕ) → block.some ≡ 0 → block.from ≡ 0 → block_rest width block place end ends slots ≡ nothing
+-- where all of a block is decoded, the blocks behind it are to come
+pub rest_decoded : (width place end : ℕ) (block : Present) (ends slots : List ℕ) → block.from ≡ block.some → block_rest width block place end ends slots ≡ nothing
 unfolding block_rest
-none_rest width place end block ends slots none from =
+rest_decoded width place end block ends slots all =
     let no_ends : drop block.from (ends_there block.some ends) ≡ [] =
     nil_from_length (drop block.from (ends_there block.some ends))
-    (length-drop block.from (ends_there block.some ends) ∙ (let long = length-ends_there block.some ends in omega (arith, long, none))) in
+    (length-drop block.from (ends_there block.some ends) ∙ (let long = length-ends_there block.some ends in omega (arith, long, all))) in
     ap (λ (es : List Bool). placed (place + 8 * block.from) end (drop block.from (slots_there block.some ends slots))
     (rest_found width block.first block.walk es (drop block.from (slots_there block.some ends slots)))) no_ends
 
@@ -174,7 +174,7 @@ unfolding found_by
 found_ahead width place end block ahead ends slots none from =
     let spot : place + 8 * block.some ≡ place = omega (arith, none) in
     let behind_is : drop (8 * block.some) slots ≡ slots = ap (λ n. drop (8 * n) slots) none in
-    ap (λ (first : Found). behind first (blocks_rest width block ahead place end slots)) (none_rest width place end block ends slots none from)
+    ap (λ (first : Found). behind first (blocks_rest width block ahead place end slots)) (rest_decoded width place end block ends slots (from ∙ sym none))
     ∙ (λ i. blocks_found ahead.blocks width ahead.next ahead.most (spot i) end (behind_is i))
 
 module _ (width place end : ℕ) (block : Present) (ahead : Ahead) (ends slots : List ℕ) (none : block.some ≡ 0) (from : block.from ≡ 0) (some : 1 ≤ ahead.blocks) where

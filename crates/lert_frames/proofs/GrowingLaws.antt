@@ -6,9 +6,9 @@ use Rattle.std.proofs.lemmas.Option.{none-some}
 use Rattle.lert_frames.proofs.PlaceLaws.{span_half, blocks_are}
 use Rattle.lert_frames.specs.declared.long.Long.{Long}
 use Rattle.lert_frames.specs.declared.outlet.Outlet.{Outlet}
-use Rattle.lert_frames.specs.Growing.{blocks_bytes, slots_out, IsLong, IsGrowing}
+use Rattle.lert_frames.specs.Growing.{slots_out, IsLong, IsGrowing}
 use Rattle.lert_frames.specs.Outlet.{next_place, size_of}
-use Rattle.lert_frames.specs.Place.{block_count, frame_len, frame_place}
+use Rattle.lert_frames.specs.Place.{block_count, blocks_bytes, frame_len, frame_place}
 use Rattle.lert_frames.specs.Spilt.{Reaches, HasRoom, block_bytes, first_place, last_place, closed_place}
 use Rattle.lert_spec.specs.declared.numbers.Numbers.{Numbers}
 use Rattle.lert_spec.specs.declared.piece.Piece.{Piece}

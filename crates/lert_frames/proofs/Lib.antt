@@ -1,5 +1,7 @@
+mod Examples
 pub mod AdvanceLaws
 pub mod AheadLaws
+pub mod ApartLaws
 pub mod CallLaws
 pub mod CheckLaws
 pub mod ClosingLaws
@@ -9,7 +11,9 @@ pub mod FaultLaws
 pub mod FieldLaws
 pub mod FloorLaws
 pub mod FrameLaws
+pub mod FrontLaws
 pub mod GrowingLaws
+pub mod KeptPlaceLaws
 pub mod NearLaws
 pub mod NumberLaws
 pub mod OutletLaws
@@ -19,10 +23,14 @@ pub mod PlaceLaws
 pub mod ProceedLaws
 pub mod PutLaws
 pub mod ReadingLaws
+pub mod RestLaws
 pub mod RunEndLaws
+pub mod SamePlaceLaws
 pub mod SlotLaws
 pub mod SpiltLaws
+pub mod StandsLaws
 pub mod StepLaws
+pub mod ThereLaws
 pub mod ToComeLaws
 pub mod WindowLaws
 pub mod WithinLaws

@@ -41,7 +41,7 @@ module _ (begin : ℕ) (text file : List ℕ) (o : Outlet) (out : IsOut begin te
   }
 
   -- the bytes gone stand in another file that has them
-  out_elsewhere : (other : List ℕ) → (begin < o.at → part other begin o.at ≡ part file begin o.at) → part other begin o.at ≡ out.gone
+  pub out_elsewhere : (other : List ℕ) → (begin < o.at → part other begin o.at ≡ part file begin o.at) → part other begin o.at ≡ out.gone
   out_elsewhere other same = elim (cases_lt begin o.at) [
     | inl some ↦ same some ∙ out.there
     | inr none ↦ part_none other begin o.at none ∙ (sym (part_none file begin o.at none) ∙ out.there)

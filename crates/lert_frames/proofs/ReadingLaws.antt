@@ -65,7 +65,7 @@ verdict_stays (Left n) place put found = elim (cases_lt n (total put)) [
 verdict_stays Over place put found = refl
 
 -- where no rule is broken, all are kept
-never_over : (place : ℕ) (left : Option ℕ) → if_over place left ≡ None → ⊥
+pub never_over : (place : ℕ) (left : Option ℕ) → if_over place left ≡ None → ⊥
 never_over place (Some at) none = cc
 never_over place None none = cc
 

@@ -1,5 +1,5 @@
 -- What a step of a decoder leaves, by what its parts leave.
-use Rattle.std.proofs.Common.{◌≡◌, ℕ, ◌+◌, ◌-◌, ◌*◌, ◌^◌, ◌<◌, ◌≤◌, List, [], length, drop, Some, None, Ok, Err, sym, ap, ◌∙◌, subst, arith, pow_pos}
+use Rattle.std.proofs.Common.{◌≡◌, ℕ, ◌+◌, ◌-◌, ◌*◌, ◌^◌, ◌<◌, ◌≤◌, List, [], length, drop, Some, None, Ok, Err, refl, sym, ap, ◌∙◌, subst, arith, pow_pos}
 use Rattle.std.specs.Prelude.{IsErrOf, OnErr, OnOk, Result}
 use Rattle.std.proofs.lemmas.List.Elements.{All-nil}
 use Rattle.std.proofs.Math.Nat.{le-mul_of_pos_right}
@@ -25,6 +25,7 @@ use Rattle.lert_frames.proofs.DecodedLaws.{given, found_ahead, fields_left, begi
 use Rattle.lert_frames.proofs.FaultLaws.{not_err}
 use Rattle.lert_frames.proofs.FieldLaws.{head_fits, end_of}
 use Rattle.lert_frames.proofs.FloorLaws.{bounded_by_limit, floor_none, floor_from_first}
+use Rattle.lert_frames.proofs.StandsLaws.{between_begun, between_still}
 
 -- nothing of a block is to come, so none of it is decoded
 none_from : (d : Decoder) → d.block.some ≡ 0 → d.block.from ≡ 0
@@ -33,10 +34,11 @@ none_from d none = omega (arith, d.standing.from, none)
 module _ {B : Type 0} (bays : Bays B) (before after : B) (old new : Decoder) (same_width : new.width ≡ old.width) where
   -- a step that answers an error leaves all that is to come as it was
   pub steps_refused : (put : List Piece) (fault : PieceFault) → new.block ≡ old.block → new.ahead ≡ old.ahead → ReadsAhead bays before old.window new.window →
+      (0 < old.block.some → place_of new.ends ≡ place_of old.ends) →
       ((seen : Files) → bays.files before ≡ Some seen → decoder_found new (seen FRAMES) ≡ decoder_found old (seen FRAMES)) →
       ((seen : Files) → bays.files before ≡ Some seen → (at : ℕ) → fault ≡ Malformed at → (decoder_found old (seen FRAMES)).left ≡ Some at) →
       OnlyReads bays before after (IsErrOf {T = Unit {0}} {E = PieceFault} (Err fault) Failed) → Steps bays before after old new put (Err fault)
-  steps_refused put fault same_block same_ahead window found left only = record {
+  steps_refused put fault same_block same_ahead window ends found left only = record {
     gives = λ seen told. tt;
     malformed = λ seen told at is. left seen told at (let e : fault ≡ Malformed at = cc in e);
     refused = found;
@@ -49,6 +51,7 @@ module _ {B : Type 0} (bays : Bays B) (before after : B) (old new : Decoder) (sa
     stays = λ i. (same_block i).some + 2 ^ 33 * (same_ahead i).blocks;
     read = λ seen told from near is. window.read seen told from (omega (arith, near, end_of old.window)) is;
     moves = omega (arith, window.place);
+    between = λ place end is. between_still place end old new is same_block same_ahead window.place ends;
     end = λ seen told. tt;
     only_reads = only;
   }
@@ -75,7 +78,7 @@ module _ {B : Type 0} (bays : Bays B) (before after : B) (old new : Decoder) (sa
         head_left old.ahead.most (place_of old.window) (length (seen FRAMES)) (to_come old.window (seen FRAMES)) ≡ Some at) →
         OnlyReads bays before after (IsErrOf {T = Unit {0}} {E = PieceFault} (Err fault) Failed) → Steps bays before after old new [] (Err fault)
     steps_unbegun fault same_block same_ahead window left only =
-        steps_refused [] fault same_block same_ahead window
+        steps_refused [] fault same_block same_ahead window (λ more. absurd (omega (arith, more, none)))
         (λ seen told. found_unbegun (seen FRAMES) none same_block same_ahead window.place (window.come seen told))
         (λ seen told at is. unbegun_left (seen FRAMES) at (left seen told at is))
         only
@@ -83,12 +86,12 @@ module _ {B : Type 0} (bays : Bays B) (before after : B) (old new : Decoder) (sa
     -- a block is begun
     pub steps_begun : (head : Head) → new.block ≡ record { first = 64 * old.ahead.next; some = head.count; from = 0; walk = record { occupied = head.occupied; least = 0 } } →
         new.ahead ≡ record { next = old.ahead.next + 1; blocks = old.ahead.blocks - 1; most = old.ahead.most - head.count } → head.count < 2 ^ 32 →
-        IsFitting old.ahead.most head → Passes bays before (fields_len head) old.window new.window →
+        IsFitting old.ahead.most head → Passes bays before (fields_len head) old.window new.window → place_of new.ends ≡ place_of old.window + 12 →
         ((seen : Files) → bays.files before ≡ Some seen → AreFields head (to_come old.window (seen FRAMES))) →
         ((seen : Files) → bays.files before ≡ Some seen → run_ends_left (place_of old.window) (length (seen FRAMES)) (to_come old.window (seen FRAMES)) ≡ None) →
         ((seen : Files) → bays.files before ≡ Some seen → AreWords (words_in (to_come old.window (seen FRAMES))) (word_count head.count) (to_come new.ends (seen FRAMES))) →
         OnlyReads bays before after (IsErrOf {T = Unit {0}} {E = PieceFault} (Ok tt) Failed) → Steps bays before after old new [] (Ok tt)
-    steps_begun head block_is ahead_is count_fits fits passes are agree words only = record {
+    steps_begun head block_is ahead_is count_fits fits passes ends are agree words only = record {
       gives = λ seen told.
           let file = seen FRAMES in
           begin_gives old.width (place_of old.window) (length file) old.block old.ahead (to_come old.ends file) (to_come old.window file) none (none_from old none) some head
@@ -115,6 +118,7 @@ module _ {B : Type 0} (bays : Bays B) (before after : B) (old new : Decoder) (sa
       stays = tt;
       read = passes.read;
       moves = omega (arith, passes.place);
+      between = λ place end is. between_begun place end old new is head _ _ block_is ahead_is refl refl refl some fits.within passes.place ends;
       end = λ seen told.
           let file = seen FRAMES in
           (λ i. end_by (block_is i) (ahead_is i) (passes.place i) (passes.come seen told i))
@@ -169,6 +173,7 @@ steps_since bays before after old middle new put result width block ahead window
       stays = subst (λ n. OnErr result (work_of new ≡ n)) work step.stays;
       read = λ seen told from near is. step.read seen told from (omega (arith, near, window.place)) (window.read seen told from (omega (arith, near, end_of old.window)) is);
       moves = omega (arith, step.moves, window.place);
+      between = λ place end is. step.between place end (between_still place end old middle is block ahead window.place (λ _. ends.place));
       end = λ seen told.
           let end : decoder_end middle (seen FRAMES) ≡ decoder_end old (seen FRAMES) = λ i. end_by (block i) (ahead i) (window.place i) (window.come seen told i) in
           subst (λ n. OnOk result (decoder_end new (seen FRAMES) ≡ n)) end (step.end seen told);

@@ -12,6 +12,7 @@ use Rattle.lert_frames.specs.Place.{block_count}
 use Rattle.lert_frames.specs.Reading.{SumsUp, verdict}
 use Rattle.lert_frames.specs.ToCome.{known_or, left_of, pieces_of, ready_of, if_whole, told_of, Breaks, IsSameFrame, IsSameToCome, HandsOut, IsOver, IsWithin}
 use Rattle.lert_frames.specs.Window.{IsRead, place_of}
+use Rattle.lert_frames.specs.declared.decoder.Decoder.{Decoder}
 use Rattle.lert_frames.specs.declared.reader.FrameReader.{FrameReader}
 use Rattle.lert_frames.specs.declared.reader.Sum.{Sum}
 use Rattle.lert_frames.specs.declared.reader.Sum.TheVariants.{Left, Over}
@@ -109,6 +110,16 @@ told_first (Some seen) before after p ps hands is =
     )
 
 -- the frame's end
+pub handed_over : (before after : FrameReader) → HandsOut before after None → (ready_of before ≡ [] → IsOver before) → IsOver after
+handed_over before after hands over =
+    let is = over hands.given.0 in
+    record {
+      fault = hands.fault ∙ is.fault;
+      sum = hands.sum ∙ is.sum;
+      found = λ file. ap (λ decoder. decoder_found decoder file) hands.decoder ∙ is.found file;
+      end = λ file. subst (λ (d : Decoder). decoder_end d file ≤ d.window.at) (sym hands.decoder) (is.end file);
+    }
+
 pub told_end : (told : Option Files) (before after : FrameReader) (ps : List Piece) → HandsOut before after None → IsOver before → told_of told before ≡ Some ps →
     (ps ≡ []) × (told_of told after ≡ Some [])
 told_end None before after ps hands over is = absurd (cc)

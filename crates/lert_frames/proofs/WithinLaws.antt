@@ -162,7 +162,7 @@ module _ {B : Type 0} (bays : Bays B) (begin end : ℕ) where
   -- where the files are told before, they are told behind
   module _ (before after : B) (seen later : Files) (told : bays.files before ≡ Some seen) (told_then : bays.files after ≡ Some later)
       (wrote : WritesWithin bays begin end before after) where
-    turned : Changes (LeftByFailure begin (end - begin)) FRAMES seen later
+    pub turned : Changes (LeftByFailure begin (end - begin)) FRAMES seen later
     turned = turns_to (Changes (LeftByFailure begin (end - begin)) FRAMES) (bays.files before) (bays.files after) seen later wrote.wrote.seen told told_then
 
     -- bytes outside of the range stay

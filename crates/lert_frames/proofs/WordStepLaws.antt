@@ -26,6 +26,7 @@ use Rattle.lert_frames.proofs.DecodedLaws.{given, slot_spot, word_gives, word_en
 use Rattle.lert_frames.proofs.FaultLaws.{not_err, same_place}
 use Rattle.lert_frames.proofs.FloorLaws.{bounded_by_limit, floor_high, block_rises, floor_none, floor_some}
 use Rattle.lert_frames.proofs.SlotLaws.{slots_len}
+use Rattle.lert_frames.proofs.StandsLaws.{between_passed}
 
 -- the place of a slot, as it is answered
 pub spot_is : (place end there count at spot : ℕ) (fault : PieceFault) → at ≤ count → count ≤ there → (count ≤ at → there ≤ count) →
@@ -59,6 +60,7 @@ pub record DecodesWord (walk : Walk) (upto passed : ℕ) (put : List Piece) (old
   pub block : new.block ≡ record { first = old.block.first; some = old.block.some - passed; from = upto - passed; walk = walk }
   pub passed_is : passed ≡ min old.block.some 64
   pub place : place_of new.window ≡ place_of old.window + 8 * passed
+  pub ends : place_of new.ends ≡ place_of old.ends + 8
   pub low : old.block.from ≤ upto
   pub high : passed ≤ upto
   pub ascend : AscendsFrom (floor_of old.width old.block.first old.block.walk) (floor_of old.width old.block.first walk) put
@@ -106,6 +108,7 @@ steps_word bays before after old new walk upto passed put some made known only =
       stays = tt;
       read = λ seen told. (known seen told).read;
       moves = omega (arith, made.place);
+      between = λ place end is. between_passed place end old new is passed made.passed_is (ap (λ (b : Present). b.some) made.block) made.ahead made.place made.ends some;
       end = λ seen told.
           let file = seen FRAMES in
           let is = known seen told in

@@ -1,5 +1,5 @@
 -- What is to come of a frame behind what a decoder decoded.
-use Rattle.std.specs.Prelude.{◌≡◌, ℕ, ◌+◌, ◌*◌, ◌/◌, ◌^◌, ◌==◌, if◌then◌else◌, Bool, false, List, ◌++◌, length, take, drop, min, replicate, None}
+use Rattle.std.specs.Prelude.{◌≡◌, ℕ, ◌+◌, ◌*◌, ◌/◌, ◌<◌, ◌≤◌, ◌^◌, ◌==◌, if◌then◌else◌, Bool, false, List, ◌++◌, length, take, drop, min, replicate, None}
 use Rattle.lert_slotbits.specs.Bits.{row_of}
 use Rattle.lert_spec.specs.declared.piece.Piece.{Piece}
 use Rattle.lert_blocks.specs.Decoding.{rest_found, floor_of}
@@ -9,6 +9,7 @@ use Rattle.lert_blocks.specs.Walk.{Found, behind}
 use Rattle.lert_frames.specs.declared.decoder.Ahead.{Ahead}
 use Rattle.lert_frames.specs.declared.decoder.Decoder.{Decoder}
 use Rattle.lert_frames.specs.declared.decoder.Present.{Present}
+use Rattle.lert_frames.specs.Place.{blocks_bytes}
 use Rattle.lert_frames.specs.Window.{to_come, place_of}
 
 -- how many words of the run ends of so many slots stand at the front of bytes
@@ -65,3 +66,15 @@ Gives old new put file = decoder_found old file ≡ behind (record { pieces = pu
 -- how much is to be done: a step takes a block, or some of the present one's slots
 abbrev pub work_of : Decoder → ℕ
 work_of d = d.block.some + 2 ^ 33 * d.ahead.blocks
+
+-- ---- where it stands
+
+-- the most bytes that may be wanted of the window yet: the present block's slots, and the blocks behind it
+abbrev pub bytes_wanted : Decoder → ℕ
+bytes_wanted d = 8 * d.block.some + blocks_bytes d.ahead.blocks d.ahead.most
+
+-- whatever may be wanted yet stands between two places, the words of run ends before the slots
+pub record IsBetween (place end : ℕ) (d : Decoder) : Type 0 where
+  pub from : place ≤ place_of d.window
+  pub within : place_of d.window + bytes_wanted d ≤ end
+  pub ends : 0 < d.block.some → (place ≤ place_of d.ends) × (place_of d.ends + 8 * word_count d.block.some ≤ place_of d.window)

@@ -1,19 +1,15 @@
 -- What a writer of a frame keeps, whatever became of the file.
-use Rattle.std.specs.Prelude.{◌≡◌, ℕ, ◌+◌, ◌-◌, ◌*◌, ◌/◌, ◌<◌, ◌≤◌, ◌^◌, List, Option, Some, None}
+use Rattle.std.specs.Prelude.{◌≡◌, ℕ, ◌+◌, ◌-◌, ◌*◌, ◌<◌, ◌≤◌, ◌^◌, List, Option, Some, None}
 use Rattle.lert_frames.specs.declared.long.Long.{Long}
 use Rattle.lert_frames.specs.declared.outlet.Outlet.{Outlet}
 use Rattle.lert_frames.specs.Outlet.{next_place, size_of}
-use Rattle.lert_frames.specs.Place.{block_count, frame_len, frame_place}
+use Rattle.lert_frames.specs.Place.{block_count, blocks_bytes, frame_len, frame_place}
 use Rattle.lert_frames.specs.Spilt.{Reaches}
 use Rattle.lert_spec.specs.declared.numbers.Numbers.{Numbers}
 use Rattle.lert_spec.specs.declared.piece.Piece.{Piece}
 use Rattle.lert_spec.specs.Edges.{span, width}
 use Rattle.lert_spec.specs.Limits.{IsValid}
 use Rattle.lert_spec.specs.Table.{total}
-
--- the bytes of so many blocks with so many slots
-abbrev pub blocks_bytes : ℕ → ℕ → ℕ
-blocks_bytes blocks slots = 20 * blocks + 8 * slots + 8 * (slots / 64)
 
 -- how many slots of a block are out
 abbrev pub slots_out : Option Long → ℕ

@@ -16,6 +16,11 @@ most_slots s level = 2 * span s level
 abbrev pub frame_len : Numbers → ℕ → ℕ
 frame_len s level = 20 * block_count s level + 16 * span s level + 8 * (span s level / 32)
 
+-- the most bytes of so many blocks that have so many slots together: those of a block's fields and its last word of run
+-- ends, of the slots, and of the other words
+abbrev pub blocks_bytes : ℕ → ℕ → ℕ
+blocks_bytes blocks slots = 20 * blocks + 8 * slots + 8 * (slots / 64)
+
 -- those of one place of each level from 1 up to this one, together
 abbrev pub frame_lens : Numbers → ℕ → ℕ
 frame_lens s zero = 0

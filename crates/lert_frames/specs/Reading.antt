@@ -2,9 +2,9 @@
 use Rattle.std.specs.Prelude.{◌≡◌, ℕ, ◌+◌, ◌-◌, ◌≤◌, nat_lt, if◌then◌else◌, List, length, ◌++◌, drop, Option, Some, None}
 use Rattle.std.proofs.Props.{props}
 use Rattle.lert_blocks.specs.Walk.{Found}
-use Rattle.lert_frames.specs.Decoded.{decoder_floor, decoder_limit}
+use Rattle.lert_frames.specs.Decoded.{decoder_floor, decoder_limit, IsBetween}
 use Rattle.lert_frames.specs.Frame.{judged}
-use Rattle.lert_frames.specs.Place.{tail_limit}
+use Rattle.lert_frames.specs.Place.{frame_len, tail_limit}
 use Rattle.lert_frames.specs.declared.decoder.Decoder.{Decoder}
 use Rattle.lert_frames.specs.declared.reader.Sum.{Sum}
 use Rattle.lert_frames.specs.declared.reader.Sum.TheVariants.{Left, Over}
@@ -38,8 +38,14 @@ abbrev pub pieces_kept : Sum → List Piece → List Piece → List Piece
 pieces_kept (Left n) before put = before ++ put
 pieces_kept Over before put = before
 
--- told or not: the pieces given and decoded ascend, below what may come, and add up to no more than the bin's width
-pub record IsReading (s : Numbers) (level wide : ℕ) (sum : Sum) (decoder : Decoder) (pieces : List Piece) (capacity given : ℕ) (gave : List Piece) : Type 0 where
+-- Whatever a decoder may want yet stands in the frame's place: one fact that no search opens, since each reader has it, and
+-- numbers that are divided make a search long.
+unfoldable pub StandsIn : Numbers → ℕ → ℕ → Decoder → Type 0
+StandsIn s level place decoder = IsBetween place (place + frame_len s level) decoder
+
+-- told or not: the pieces given and decoded ascend, below what may come, and add up to no more than the bin's width; and
+-- what may be wanted yet stands in the frame's place
+pub record IsReading (s : Numbers) (level place wide : ℕ) (sum : Sum) (decoder : Decoder) (pieces : List Piece) (capacity given : ℕ) (gave : List Piece) : Type 0 where
   pub valid : IsValid s
   pub first : 1 ≤ level
   pub last : level ≤ s.levels
@@ -49,13 +55,23 @@ pub record IsReading (s : Numbers) (level wide : ℕ) (sum : Sum) (decoder : Dec
   pub sums : SumsUp wide (total (gave ++ drop given pieces)) sum
   pub within : given ≤ length pieces
   pub room : capacity ≡ 128
+  pub stands : StandsIn s level place decoder
 
 -- that is a fact
 sums_prop : (wide decoded : ℕ) (sum : Sum) → IsProp (SumsUp wide decoded sum)
 sums_prop wide decoded (Left n) = hlevel props
 sums_prop wide decoded Over = hlevel props
 
-pub reading_prop : (s : Numbers) (level wide : ℕ) (sum : Sum) (decoder : Decoder) (pieces : List Piece) (capacity given : ℕ) (gave : List Piece) →
-    IsProp (IsReading s level wide sum decoder pieces capacity given gave)
-reading_prop s level wide sum decoder pieces capacity given gave =
-    hlevel (props, given_prop (decoder_floor decoder) (gave ++ drop given pieces), sums_prop wide (total (gave ++ drop given pieces)) sum)
+stands_prop : (s : Numbers) (level place : ℕ) (decoder : Decoder) → IsProp (StandsIn s level place decoder)
+unfolding StandsIn
+stands_prop s level place decoder = hlevel props
+
+pub reading_prop : (s : Numbers) (level place wide : ℕ) (sum : Sum) (decoder : Decoder) (pieces : List Piece) (capacity given : ℕ) (gave : List Piece) →
+    IsProp (IsReading s level place wide sum decoder pieces capacity given gave)
+reading_prop s level place wide sum decoder pieces capacity given gave =
+    hlevel (
+      props,
+      given_prop (decoder_floor decoder) (gave ++ drop given pieces),
+      sums_prop wide (total (gave ++ drop given pieces)) sum,
+      stands_prop s level place decoder,
+    )

@@ -17,7 +17,7 @@ use Rattle.lert_frames.specs.declared.fields.Head.{Head}
 use Rattle.lert_frames.specs.declared.run_ends.RunEnds.{RunEnds}
 use Rattle.lert_frames.specs.declared.slots.WordEnds.{WordEnds}
 use Rattle.lert_frames.specs.declared.window.Window.{Window}
-use Rattle.lert_frames.specs.Decoded.{decoder_found, decoder_floor, decoder_limit, decoder_end, work_of, words_there, Gives}
+use Rattle.lert_frames.specs.Decoded.{decoder_found, decoder_floor, decoder_limit, decoder_end, work_of, words_there, Gives, IsBetween}
 use Rattle.lert_frames.specs.Window.{count_of, place_of, room_of, to_come, IsRead}
 use Rattle.lert_spec.specs.declared.piece.Piece.{Piece}
 use Rattle.lert_spec.specs.Table.{AscendsFrom}
@@ -143,6 +143,7 @@ pub record PassesWord (walk : Walk) (upto : ℕ) (old new : Decoder) : Type 0 wh
   pub ahead : new.ahead ≡ old.ahead
   pub block : new.block ≡ record { first = old.block.first; some = old.block.some - min old.block.some 64; from = upto - min old.block.some 64; walk = walk }
   pub place : place_of new.window ≡ place_of old.window + 8 * min old.block.some 64
+  pub ends_place : place_of new.ends ≡ place_of old.ends + 8
   pub come : (file : List ℕ) → to_come new.window file ≡ drop (8 * min old.block.some 64) (to_come old.window file)
   pub come_ends : (file : List ℕ) → to_come new.ends file ≡ drop 8 (to_come old.ends file)
   pub read : (from : ℕ) (file : List ℕ) → IsRead old.window from file → IsRead new.window from file
@@ -162,5 +163,6 @@ pub record Steps {B : Type 0} (bays : Bays B) (before after : B) (old new : Deco
   pub stays : OnErr result (work_of new ≡ work_of old)
   pub read : IfTold (bays.files before) (λ seen. (from : ℕ) → from ≤ place_of old.window → IsRead old.window from (seen FRAMES) → IsRead new.window from (seen FRAMES))
   pub moves : place_of old.window ≤ place_of new.window
+  pub between : (place end : ℕ) → IsBetween place end old → IsBetween place end new
   pub end : IfTold (bays.files before) (λ seen. OnOk result (decoder_end new (seen FRAMES) ≡ decoder_end old (seen FRAMES)))
   pub only_reads : OnlyReads bays before after (IsErrOf result Failed)

@@ -8,6 +8,7 @@ ghost use Rattle.lert_blocks.specs.Frame.{blocks_len};
 ghost use Rattle.lert_frames.specs.Decoded.{decoder_end, decoder_found, decoder_floor, decoder_limit};
 ghost use Rattle.lert_frames.specs.Frame.{HoldsFrame, IsBin, frame_found, frame_left, frame_pieces};
 ghost use Rattle.lert_frames.specs.Place.{block_count, frame_place, tail_limit};
+ghost use Rattle.lert_frames.specs.Reading.{StandsIn};
 ghost use Rattle.lert_frames.specs.ToCome.{left_of, pieces_of, IsOver, IsWithin, HandsOut};
 ghost use Rattle.lert_frames.specs.Window.{IsRead, place_of};
 ghost use Rattle.lert_spec.specs.Edges.{span};
@@ -26,7 +27,7 @@ use std::alloc::Global;
 const ROOM: usize = 128;
 
 impl FrameReader {
-    /// A reader of the frames of a level, which gives nothing before `start`. Its only error is want of
+    /// A reader of the frames of a level, which gives nothing before `start` or `start_at`. Its only error is want of
     /// memory: it takes some 19 KiB.
     pub fn new(alloc: Global, settings: &Settings, level: u32) -> Result<FrameReader, OutOfMemory>
         requires first { 1 ≤ level }
@@ -64,7 +65,27 @@ impl FrameReader {
         ensures settings { self.new.settings ≡ self.old.settings }
         ensures level { self.new.level ≡ self.old.level }
     {
-        self.place = begin(&mut self.decoder, &self.settings, self.level, frame);
+        self.start_at(self.level, frame, width);
+    }
+
+    /// Begins a frame of any level, that of a bin of this width: a reader of that level from then on. It reads nothing.
+    pub fn start_at(&mut self, level: u32, frame: u32, width: u64)
+        requires first { 1 ≤ level }
+        requires last { level ≤ self.old.settings.levels }
+        requires frame { frame ≤ self.old.settings.bins }
+        requires some { 1 ≤ width }
+        requires width { width ≤ span self.old.settings level }
+        ensures left { (file : List ℕ) → left_of self.new file ≡ frame_left self.new.settings self.new.level frame width file }
+        ensures pieces { (file : List ℕ) → pieces_of self.new file ≡ frame_pieces self.new.settings self.new.level frame file }
+        ensures within { (file : List ℕ) → IsWithin self.new file }
+        ensures place { self.new.place ≡ frame_place self.new.settings self.new.level frame }
+        ensures gave { self.new.gave ≡ [] }
+        ensures wide { self.new.wide ≡ width }
+        ensures settings { self.new.settings ≡ self.old.settings }
+        ensures level { self.new.level ≡ level }
+    {
+        self.level = level;
+        self.place = begin(&mut self.decoder, &self.settings, level, frame);
         self.wide = width;
         self.sum = Sum::Left(width);
         self.pieces.clear();
@@ -201,6 +222,7 @@ fn begin(decoder: &mut Decoder, settings: &Settings, level: u32, frame: u32) -> 
     ensures limit { decoder_limit decoder.new ≡ tail_limit settings.now }
     ensures read { (file : List ℕ) → IsRead decoder.new.window result file }
     ensures from { place_of decoder.new.window ≡ result }
+    ensures stands { StandsIn settings.now level result decoder.new }
     ensures end { (file : List ℕ) → decoder_end decoder.new file ≡ result + blocks_len (block_count settings.now level) (drop result file) }
 {
     let _valid = settings.numbers();

@@ -16,7 +16,8 @@ pub enum Sum {
     Over,
 }
 
-/// A frame of a level, which it reads from front to back and gives piece by piece, over every bay.
+/// A frame of a level, which it reads from front to back and gives piece by piece, over every bay. Other places may be
+/// written meanwhile: where the file has all of the frame's place, or its text is whole, the same is to come.
 ///
 /// It reads by whole buffers of 8,192 bytes and decodes some 64 pieces ahead of those that it gives. Only
 /// `new` takes memory.
@@ -36,5 +37,5 @@ pub struct FrameReader {
     // Where the frame leaves its text, once that was found.
     pub(crate) fault: Option<u64>,
     pub(crate) gave: Seen<Piece>,
-    ghost reading: { IsReading settings level wide sum decoder pieces.items (vec_capacity pieces) given gave } by { reading_prop settings level wide sum decoder pieces.items (vec_capacity pieces) given gave },
+    ghost reading: { IsReading settings level place wide sum decoder pieces.items (vec_capacity pieces) given gave } by { reading_prop settings level place wide sum decoder pieces.items (vec_capacity pieces) given gave },
 }

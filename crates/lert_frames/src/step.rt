@@ -6,7 +6,8 @@ ghost use Rattle.lert_bay.specs.Files.{IfTold};
 ghost use Rattle.lert_bay.specs.Kept.{OnlyReads};
 ghost use Rattle.lert_blocks.specs.Frame.{blocks_found, blocks_len};
 ghost use Rattle.lert_blocks.specs.Walk.{nothing};
-ghost use Rattle.lert_frames.specs.Decoded.{decoder_end, decoder_floor, decoder_found, decoder_limit, work_of, Gives};
+ghost use Rattle.lert_frames.specs.Decoded.{decoder_end, decoder_floor, decoder_found, decoder_limit, work_of, Gives, IsBetween};
+ghost use Rattle.lert_frames.specs.Place.{blocks_bytes};
 ghost use Rattle.lert_frames.specs.Steps.{PassesWord, ReadsWord, Steps};
 ghost use Rattle.lert_frames.specs.Window.{count_of, place_of, IsRead};
 ghost use Rattle.lert_spec.specs.Table.{AscendsFrom};
@@ -123,6 +124,7 @@ impl Decoder {
         ensures limit { decoder_limit self.new ≡ 64 * blocks * 2 ^ width }
         ensures read { (file : List ℕ) → IsRead self.new.window place file }
         ensures place { place_of self.new.window ≡ place }
+        ensures between { IsBetween place (place + blocks_bytes blocks most) self.new }
     {
         self.width = width;
         self.block = Present {
@@ -184,6 +186,7 @@ impl Decoder {
         ensures read { IfTold (B.files bay.old) (λ seen. (from : ℕ) → from ≤ place_of self.old.window → IsRead self.old.window from (seen FRAMES) →
             IsRead self.new.window from (seen FRAMES)) }
         ensures moves { place_of self.old.window ≤ place_of self.new.window }
+        ensures between { (place end : ℕ) → IsBetween place end self.old → IsBetween place end self.new }
         ensures end { IfTold (B.files bay.old) (λ seen. OnOk result (decoder_end self.new (seen FRAMES) ≡ decoder_end self.old (seen FRAMES))) }
         ensures only_reads { OnlyReads B.Bay bay.old bay.new (IsErrOf result PieceFault.Failed) }
     {

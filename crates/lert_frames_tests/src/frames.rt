@@ -71,6 +71,19 @@ fn a_frame_is_written_and_read(rt: HostRuntime) {
 }
 
 #[test]
+fn a_reader_goes_to_another_level(rt: HostRuntime) {
+    let settings = settings_of(&rt, SMALL);
+    let mut bay = empty_bay(&rt, rt.alloc());
+    let mut writer = FrameWriter::new(rt.alloc(), &settings, 2, 1).expect(&rt, "memory");
+    writer.put(&mut bay, TWICE).expect(&rt, "no fault");
+    writer.end(&mut bay).expect(&rt, "no fault");
+    let mut reader = FrameReader::new(rt.alloc(), &settings, 1).expect(&rt, "memory");
+    reader.start_at(2, 1, 2);
+    assert_eq!(rt; reader.next(&mut bay), Ok(Some(TWICE)));
+    assert_eq!(rt; reader.next(&mut bay), Ok(None));
+}
+
+#[test]
 fn a_file_leaves_a_frame_at_a_place(rt: HostRuntime) {
     assert_eq!(rt; checked(&rt, rt.alloc(), SMALL, &ONE, 2), Ok(()));
     for (place, byte, width, at) in BROKEN {

@@ -71,7 +71,7 @@ module _ {S B : Type 0} (remaining : S → Option (List ℕ)) (s_faults s_mark :
               same_Some before now (sym was ∙ is) in record { marked = ap s_mark (sym e); never_falls = (let f = ap s_faults e in omega (arith, f)) };
         };
         read = tt;
-        stopped = inl (refl, refl);
+        stopped = (refl, refl);
         exact = record {
           bad = λ told faultless traces_faultless texts bytes_are few fits trace at bytes is bad lower. inr refl;
           full = λ told faultless traces_faultless texts bytes_are well few over below is_over. inr refl;

@@ -163,7 +163,7 @@ module _ {S B : Type 0} (remaining : S → Option (List ℕ)) (s_faults s_mark :
     rank_below : (cone : ℕ) (c : IsCone cone) (st : ConeState) → c.closed.state ≡ st → (other : Status) → state_fault cone st ≡ Some other → rank one ≤ rank other
     rank_below cone c st is other some = (of_cone cone c other (ap (state_fault cone) is ∙ some)).ranked
 
-    -- a cone of which no fault was counted may take more, where it tells its files, and memory wasn't wanted
+    -- a cone of which no fault was counted may take more, where it tells its files
     pub running_told : 1 ≤ rank one → (cone : ℕ) (c : IsCone cone) → IsFaultless (b_faults c.first.bay) (b_faults c.closed.bay) → (seen : Files) → files c.closed.bay ≡ Some
         seen →
         c.closed.state ≡ state.Running
@@ -175,7 +175,6 @@ module _ {S B : Type 0} (remaining : S → Option (List ℕ)) (s_faults s_mark :
         by_state state.BrokenByBay is = absurd (let rose = subst (λ (m : B). HasRisen (b_faults m) (b_faults c.closed.bay)) c.back.made_is (c.back.stands.by_bay is) in
             let up = rose faultless.below_last in let same = faultless.same in omega (arith, up, same))
         by_state (state.BrokenByRead file at) is = absurd (none-some seen (sym (c.back.stands.by_read file at is c.back.sound) ∙ told))
-        by_state state.BrokenByMemory is = absurd (let low = rank_below cone c state.BrokenByMemory is status.OutOfMemory refl in omega (arith, above, low))
         by_state state.Replaying is = absurd (c.back.stands.ready is)
 
     -- each cone may take more, where a full cone is answered
@@ -187,7 +186,6 @@ module _ {S B : Type 0} (remaining : S → Option (List ℕ)) (s_faults s_mark :
         by_state state.Finished is = absurd (let over = sym c.back.unfinished ∙ ap is_finished is in cc)
         by_state state.BrokenByBay is = absurd (let low = rank_below cone c state.BrokenByBay is (status.BayFault cone) refl in omega (arith, above, low))
         by_state (state.BrokenByRead file at) is = absurd (let low = rank_below cone c (state.BrokenByRead file at) is (status.Malformed cone file at) refl in omega (arith, above, low))
-        by_state state.BrokenByMemory is = absurd (let low = rank_below cone c state.BrokenByMemory is status.OutOfMemory refl in omega (arith, above, low))
         by_state state.Replaying is = absurd (c.back.stands.ready is)
 
     open_partly : 1 ≤ rank one → (open_trace : ℕ → ℕ → Type 0)
@@ -320,7 +318,6 @@ module _ {S B : Type 0} (remaining : S → Option (List ℕ)) (s_faults s_mark :
               (by_full cone n len is (subst (λ (x : Status). 6 ≤ rank x) which (omega arith)))
           cone_end fault.BayFailed is none = absurd (none-some one none)
           cone_end (fault.Unsound file at) is none = absurd (none-some one none)
-          cone_end fault.OutOfMemory is none = absurd (none-some one none)
 
     -- a cone that is broken
     by_state : (cone : ℕ) (c : IsCone cone) (st : ConeState) → c.closed.state ≡ st → state_fault cone st ≡ Some one →
@@ -348,8 +345,6 @@ module _ {S B : Type 0} (remaining : S → Option (List ℕ)) (s_faults s_mark :
           }),
           are_partly,
         )
-    by_state cone c state.BrokenByMemory is some =
-        subst (StopShows remaining s_faults files b_faults s workers opened laters (bays_of firsts) (bays_of backs)) (same_Some status.OutOfMemory one some) (inr are_partly)
     by_state cone c state.Replaying is none = absurd (none-some one none)
 
     -- all that the answer shows

@@ -67,7 +67,6 @@ full_fault cone cone_fault.Broken = None
 full_fault cone (cone_fault.CapacityFull n len) = Some (status.CapacityFull cone n len)
 full_fault cone cone_fault.BayFailed = None
 full_fault cone (cone_fault.Unsound file at) = None
-full_fault cone cone_fault.OutOfMemory = None
 
 -- the fault of how a worker ended
 abbrev pub end_fault : WorkerEnd → Option Status
@@ -81,7 +80,6 @@ state_fault cone state.Running = None
 state_fault cone state.Finished = None
 state_fault cone state.BrokenByBay = Some (status.BayFault cone)
 state_fault cone (state.BrokenByRead file at) = Some (status.Malformed cone file at)
-state_fault cone state.BrokenByMemory = Some status.OutOfMemory
 state_fault cone state.Replaying = None
 
 -- the fault of a cone of a list

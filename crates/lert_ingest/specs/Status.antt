@@ -53,7 +53,6 @@ cone_status cone cone_fault.Broken = status.OutOfMemory
 cone_status cone (cone_fault.CapacityFull n len) = status.CapacityFull cone n len
 cone_status cone cone_fault.BayFailed = status.BayFault cone
 cone_status cone (cone_fault.Unsound file at) = status.Malformed cone file at
-cone_status cone cone_fault.OutOfMemory = status.OutOfMemory
 
 -- why no cone is made over a bay
 abbrev pub create_status : ℕ → CreateFault → Status

@@ -92,7 +92,8 @@ module _ {S B : Type 0} (remaining : S → Option (List ℕ)) (faults : S → �
   StopShows (Malformed cone file at) = IsUntold files bays cone × ArePartly
   StopShows (OtherSettings cone) = ⊥
   StopShows OutFault = ⊥
-  StopShows OutOfMemory = IsUntouched ⊎ ArePartly
+  -- memory is wanted before the first key is read alone
+  StopShows OutOfMemory = IsUntouched
 
   -- Which outcome comes where all traces and bays tell and no fault was counted: over traces within the limit that the cones take,
   -- the first that leaves the format stops the workers, with the place at which it does, and else all is read; and over well-formed

@@ -133,7 +133,6 @@ fn full_fault(cone: u32, fault: ConeFault) -> Option<Status>
         ConeFault::Broken => None,
         ConeFault::BayFailed => None,
         ConeFault::Unsound { .. } => None,
-        ConeFault::OutOfMemory => None,
     }
 }
 
@@ -146,7 +145,6 @@ fn state_fault(cone: u32, state: ConeState) -> Option<Status>
         ConeState::Finished => None,
         ConeState::BrokenByBay => Some(Status::BayFault { cone }),
         ConeState::BrokenByRead { file, at } => Some(Status::Malformed { cone, file, at }),
-        ConeState::BrokenByMemory => Some(Status::OutOfMemory),
         ConeState::Replaying => None,
     }
 }

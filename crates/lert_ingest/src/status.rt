@@ -115,7 +115,6 @@ impl Status {
             ConeFault::CapacityFull { n, len } => Status::CapacityFull { cone, n, len },
             ConeFault::BayFailed => Status::BayFault { cone },
             ConeFault::Unsound { file, at } => Status::Malformed { cone, file, at },
-            ConeFault::OutOfMemory => Status::OutOfMemory,
         }
     }
 }

@@ -1,32 +1,28 @@
 -- What the parts of a flush's merge make: the new bins.
-use Rattle.std.proofs.Common.{ℕ, ◌≡◌, ◌+◌, ◌-◌, ◌*◌, ◌/◌, ◌^◌, ◌<◌, ◌≤◌, zero, suc, cond, List, [], ◌∷◌, ◌++◌, length, map, take, get_or, Some}
+use Rattle.std.proofs.Common.{ℕ, ◌≡◌, ◌+◌, ◌-◌, ◌*◌, ◌/◌, ◌%◌, ◌^◌, ◌<◌, ◌≤◌, ◌≢◌, zero, suc, cond, true, false, List, [], ◌∷◌, ◌++◌, length, map, take, get_or, Some}
 use Rattle.std.proofs.Common.{None, refl, ap, ap₂, sym, ◌∙◌, arith, inl, inr, subst, sum_by, flat_map, slice_range}
+use Rattle.std.specs.Prelude.{sum}
 use Rattle.std.specs.List.{All}
-use Rattle.std.proofs.Math.Nat.{mul-suc}
-use Rattle.std.proofs.lemmas.Bool.{cases_Bool}
-use Rattle.std.proofs.lemmas.List.{get_or-map, length-map, length-take, take_all, get_or_append_left}
-use Rattle.std.proofs.lemmas.List.FromFn.{get_or-map-range_with_len, length-map-range_with_len}
-use Rattle.std.proofs.lemmas.List.Sums.{sum_by-cons, sum_by-take-le}
-use Rattle.lert_frames.specs.Frame.{IsBin}
-use Rattle.lert_frames.specs.Place.{tail_limit}
+use Rattle.std.proofs.Math.Nat.{mul-suc, mul_comm, mul-mod_left}
+use Rattle.std.proofs.lemmas.Bool.{cases_Bool, cases_eq, eq-eqb}
+use Rattle.std.proofs.lemmas.List.{get_or-map, length-map, length-take, get_or_append_left}
+use Rattle.std.proofs.lemmas.List.Sums.{sum_by-cons}
 use Rattle.lert_spec.specs.declared.numbers.Numbers.{Numbers}
 use Rattle.lert_spec.specs.declared.piece.Piece.{Piece}
 use Rattle.lert_spec.specs.Bins.{Bin, tallied}
 use Rattle.lert_spec.specs.Edges.{span, edge, depth, capacity}
 use Rattle.lert_spec.specs.Limits.{IsValid}
-use Rattle.lert_spec.specs.Table.{count_of, total, IsTable}
+use Rattle.lert_spec.specs.Table.{count_of, IsTable}
 use Rattle.lert_spec.proofs.EdgeLaws.{steps, moves_by_one, deepest_within}
 use Rattle.lert_spec.proofs.TallyLaws.{IsTable-tallied}
-use Rattle.lert_merge.specs.Merging.{count_in}
+use Rattle.lert_landing.specs.Summed.{sums_of, AreTables}
+use Rattle.lert_landing.proofs.SummedLaws.{IsTable-sums_of, count_of-sums_of}
 use Rattle.lert_rows.specs.declared.bin_at.BinAt.{BinAt}
-use Rattle.lert_levels.specs.Gathered.{merged, list_at, newest_in, part_table, IsWithin}
-use Rattle.lert_rows.specs.Landing.{CanStand}
-use Rattle.lert_rows.specs.Loading.{AreBins, width_of, widths_in, held_in}
-use Rattle.lert_levels.specs.Merged.{streams_of, widths_of}
-use Rattle.lert_levels.specs.Parts.{streams_to, oldest_stream, part_at, parts_at}
+use Rattle.lert_rows.specs.Loading.{width_of, widths_in, held_in}
+use Rattle.lert_levels.specs.Merged.{streams_of, widths_of, Fills, AreBins}
+use Rattle.lert_levels.specs.Parts.{streams_to, oldest_stream, part_at, list_at, newest_in, in_part, part_table, HaveParts}
 use Rattle.lert_rows.specs.Ranges.{Range, ranges, filled, young_bins}
 use Rattle.lert_rows.specs.Rows.{range_of, row_of, IsAt, newest, begins, arrived, tallied_in}
-use Rattle.lert_levels.proofs.MergedLaws.{AreTables, IsTable-merged, count_of-merged, total-merged, AreGiven-merged}
 use Rattle.lert_levels.proofs.PartLaws.{streams_more, stream_at}
 use Rattle.lert_rows.proofs.RangeLaws.{range_cuts, oldest_is, oldest_young, depth_moves}
 use Rattle.lert_rows.proofs.RowLaws.{row_among, Arrives, arrives}
@@ -53,8 +49,12 @@ oldest_at h first rows young k e len below some =
     stream_at (λ r. map h r) (λ r. length-map r h) first rows young k 0 (streams_to young rows k) e len below (omega arith) (omega arith)
     ∙ get_or-map h (get_or rows k []) 0 nothing e (omega arith)
 
+-- how often a tail stands in some lists
+abbrev count_in : List (List Piece) → ℕ → ℕ
+count_in lists tail = sum_by (λ pieces. count_of pieces tail) lists
+
 -- one of some bins
-bins_at : (limit : ℕ) (widths : List ℕ) (lists : List (List Piece)) (k : ℕ) → AreBins limit widths lists → k < length lists → IsBin limit (get_or widths k 0) (get_or lists k [])
+bins_at : (limit : ℕ) (widths : List ℕ) (lists : List (List Piece)) (k : ℕ) → AreBins limit widths lists → k < length lists → Fills limit (get_or widths k 0) (get_or lists k [])
 bins_at limit [] [] k are below = absurd (omega arith)
 bins_at limit [] (list ∷ lists) k are below = absurd are
 bins_at limit (width ∷ widths) [] k are below = absurd are
@@ -161,28 +161,28 @@ module _ (s : Numbers) (valid : IsValid s) (m : ℕ) (first : 1 ≤ m) (fits : m
       elim (cases_Bool (begins s m (k + 1))) [
         | inl alone ↦ (
             let from_is : new.from ≡ edge s k (m - 1) = ap (λ t. cond t (edge s (k + 1 - 1) (m - 1)) (newest row).from) alone ∙ high_is in
-            let part_is : part_table lists (part_at s m (length young) some_rows k) ≡ merged (tallied s low ∷ []) =
-            ap (λ t. merged (list_at lists (oldest_stream (length young) some_rows k) ∷ newest_in lists (cond t None (Some (streams_to (length young) some_rows (k + 1) - 1))))) alone
-            ∙ ap (λ list. merged (list ∷ [])) oldest in
+            let part_is : part_table lists (part_at s m (length young) some_rows k) ≡ sums_of (tallied s low ∷ []) =
+            ap (λ t. sums_of (list_at lists (oldest_stream (length young) some_rows k) ∷ newest_in [] lists (cond t None (Some (streams_to (length young) some_rows (k + 1) - 1))))) alone
+            ∙ ap (λ list. sums_of (list ∷ [])) oldest in
             let tables = pair_tables limit (tallied s low) [] (IsTable-tallied s low) (no_tables limit) in
             part_is
-            ∙ window_table s events new.from new.to (merged (tallied s low ∷ [])) (IsTable-merged limit (tallied s low ∷ []) tables)
-            (λ tail. count_of-merged limit (tallied s low ∷ []) tail tables ∙ one_count (tallied s low) tail ∙ ap₂ (counted s events tail) (sym from_is) (sym end_is)))
+            ∙ window_table s events new.from new.to (sums_of (tallied s low ∷ [])) (IsTable-sums_of limit (tallied s low ∷ []) tables)
+            (λ tail. count_of-sums_of limit (tallied s low ∷ []) tail tables ∙ one_count (tallied s low) tail ∙ ap₂ (counted s events tail) (sym from_is) (sym end_is)))
         | inr joined ↦ (
             let last = newest row in
             let from_is : new.from ≡ last.from = ap (λ t. cond t (edge s (k + 1 - 1) (m - 1)) last.from) joined in
             let to_is : last.to ≡ edge s k (m - 1) = arrival.ends joined ∙ high_is in
             let newer = newest_at (tallied_in s events) (map pieces young) some_rows (length young) k [] (length-map young pieces) (omega (arith, enough)) (arrival.some joined) in
             let other = tallied_in s events last in
-            let part_is : part_table lists (part_at s m (length young) some_rows k) ≡ merged (tallied s low ∷ other ∷ []) =
-            ap (λ t. merged (list_at lists (oldest_stream (length young) some_rows k) ∷ newest_in lists (cond t None (Some (streams_to (length young) some_rows (k + 1) - 1))))) joined
-            ∙ ap₂ (λ a b. merged (a ∷ b ∷ [])) oldest newer in
+            let part_is : part_table lists (part_at s m (length young) some_rows k) ≡ sums_of (tallied s low ∷ other ∷ []) =
+            ap (λ t. sums_of (list_at lists (oldest_stream (length young) some_rows k) ∷ newest_in [] lists (cond t None (Some (streams_to (length young) some_rows (k + 1) - 1))))) joined
+            ∙ ap₂ (λ a b. sums_of (a ∷ b ∷ [])) oldest newer in
             let tables = pair_tables limit (tallied s low) (other ∷ []) (IsTable-tallied s low)
             (pair_tables limit other [] (IsTable-tallied s (slice_range events last.from last.to)) (no_tables limit)) in
             part_is
-            ∙ window_table s events new.from new.to (merged (tallied s low ∷ other ∷ [])) (IsTable-merged limit (tallied s low ∷ other ∷ []) tables)
+            ∙ window_table s events new.from new.to (sums_of (tallied s low ∷ other ∷ [])) (IsTable-sums_of limit (tallied s low ∷ other ∷ []) tables)
             (λ tail. (
-            let counts = count_of-merged limit (tallied s low ∷ other ∷ []) tail tables ∙ two_counts (tallied s low) other tail in
+            let counts = count_of-sums_of limit (tallied s low ∷ other ∷ []) tail tables ∙ two_counts (tallied s low) other tail in
             let first_part = ap₂ (counted s events tail) (sym from_is) to_is in
             let whole = counted-join s events tail new.from (edge s k (m - 1)) (edge s k m) (omega (arith, arrival.ordered, high_is)) (omega (arith, arrival.further, high_is, end_is)) in
             let ends = ap (counted s events tail new.from) end_is in
@@ -215,31 +215,18 @@ module _ (s : Numbers) (valid : IsValid s) (m : ℕ) (first : 1 ≤ m) (fits : m
       let to_is = ap (λ (r : Range). r.to) oldest.is ∙ ap (λ i. edge s i m) same in
       omega arith
 
-  two_totals : (a b : List Piece) → sum_by total (a ∷ b ∷ []) ≡ total a + total b
-  two_totals a b = omega (arith, sum_by-cons total a (b ∷ []), sum_by-cons total b [])
+  two_sum : (a b : ℕ) → sum (a ∷ b ∷ []) ≡ a + b
+  two_sum a b = omega arith
 
-  one_total : (a : List Piece) → sum_by total (a ∷ []) ≡ total a
-  one_total a = omega (arith, sum_by-cons total a [])
-
-  stands_from : (level : ℕ) (lists : List (List Piece)) → AreTables (tail_limit s) lists → sum_by total lists ≤ span s level → span s level ≤ 2 ^ 47 → CanStand s level (merged lists)
-  stands_from level lists tables few narrow = record {
-    given = AreGiven-merged (tail_limit s) lists tables (omega arith);
-    fits = omega (arith, total-merged lists);
-  }
-
-  -- a part has room in the frame of its level
-  pub part_fits : (young : List Bin) (lists : List (List Piece)) → 1 ≤ length young → All (λ (bin : Bin). bin.to - bin.from ≤ span s 0) young →
-      AreBins (tail_limit s) (widths_of young (take (depth s m) rows)) lists →
-      (k : ℕ) → k < depth s m → IsWithin (length lists) (part_at s m (length young) (take (depth s m) rows) k) → span s (k + 1) ≤ 2 ^ 47 →
-      CanStand s (k + 1) (part_table lists (part_at s m (length young) (take (depth s m) rows) k))
-  part_fits young lists some narrow are k less within small =
+  -- a part's streams are no wider than its level's bins
+  pub part_widths : (young : List Bin) → 1 ≤ length young → All (λ (bin : Bin). bin.to - bin.from ≤ span s 0) young → (k : ℕ) → k < depth s m →
+      sum (in_part 0 (widths_of young (take (depth s m) rows)) (part_at s m (length young) (take (depth s m) rows) k)) ≤ span s (k + 1)
+  part_widths young some narrow k less =
       let some_rows = take (depth s m) rows in
       let row = get_or some_rows k [] in
       let new = arrived s m (k + 1) row in
       let widths = widths_of young some_rows in
-      let place = oldest_stream (length young) some_rows k in
-      let oldest = list_at lists place in
-      let oldest_bin = bins_at (tail_limit s) widths lists place are within.oldest in
+      let oldest = get_or widths (oldest_stream (length young) some_rows k) 0 in
       let oldest_wide = oldest_width young some narrow k less in
       let below : k + 1 - 1 ≡ k = omega arith in
       let high_is : edge s (k + 1 - 1) (m - 1) ≡ edge s k (m - 1) = ap (λ i. edge s i (m - 1)) below in
@@ -249,59 +236,47 @@ module _ (s : Numbers) (valid : IsValid s) (m : ℕ) (first : 1 ≤ m) (fits : m
       elim (cases_Bool (begins s m (k + 1))) [
         | inl alone ↦ (
             let from_is : new.from ≡ edge s k (m - 1) = ap (λ t. cond t (edge s (k + 1 - 1) (m - 1)) (newest row).from) alone ∙ high_is in
-            let few : sum_by total (oldest ∷ []) ≤ span s (k + 1) = omega (arith, one_total oldest, oldest_bin.summed, oldest_wide, arrival.fits) in
-            subst (λ t. CanStand s (k + 1) (merged (oldest ∷ newest_in lists (cond t None (Some last_place))))) (sym alone)
-            (stands_from (k + 1) (oldest ∷ []) (pair_tables (tail_limit s) oldest [] oldest_bin.given.table (no_tables (tail_limit s))) few small))
+            let few : sum (oldest ∷ []) ≤ span s (k + 1) = omega (arith, oldest_wide, arrival.fits) in
+            subst (λ t. sum (oldest ∷ newest_in 0 widths (cond t None (Some last_place))) ≤ span s (k + 1)) (sym alone) few)
         | inr joined ↦ (
             let last = newest row in
-            let newer = list_at lists last_place in
-            let newest_within : last_place < length lists = within.newest last_place (ap (λ t. cond t None (Some last_place)) joined) in
-            let newest_bin = bins_at (tail_limit s) widths lists last_place are newest_within in
+            let newer = get_or widths last_place 0 in
             let newest_wide = newest_at width_of (map (λ (b : Bin). b.to - b.from) young) some_rows (length young) k 0 (length-map young (λ (b : Bin). b.to - b.from)) (omega (arith, enough))
             (arrival.some joined) in
             let from_is : new.from ≡ last.from = ap (λ t. cond t (edge s (k + 1 - 1) (m - 1)) last.from) joined in
             let to_is : last.to ≡ edge s k (m - 1) = arrival.ends joined ∙ high_is in
-            let few : sum_by total (oldest ∷ newer ∷ []) ≤ span s (k + 1) =
-            omega (arith, two_totals oldest newer, oldest_bin.summed, newest_bin.summed, oldest_wide, newest_wide, arrival.fits, arrival.ordered, arrival.further) in
-            subst (λ t. CanStand s (k + 1) (merged (oldest ∷ newest_in lists (cond t None (Some last_place))))) (sym joined)
-            (stands_from (k + 1) (oldest ∷ newer ∷ []) (pair_tables (tail_limit s) oldest (newer ∷ []) oldest_bin.given.table
-            (pair_tables (tail_limit s) newer [] newest_bin.given.table (no_tables (tail_limit s)))) few small))
+            let few : sum (oldest ∷ newer ∷ []) ≤ span s (k + 1) =
+            omega (arith, two_sum oldest newer, oldest_wide, newest_wide, arrival.fits, arrival.ordered, arrival.further) in
+            subst (λ t. sum (oldest ∷ newest_in 0 widths (cond t None (Some last_place))) ≤ span s (k + 1)) (sym joined) few)
       ]
 
-  -- the streams of a part are among all
-  pub part_within : (young : ℕ) → 1 ≤ young → (k : ℕ) → k < depth s m → IsWithin (streams_to young (take (depth s m) rows) (depth s m)) (part_at s m young (take (depth s m) rows) k)
-  part_within young some k less =
-      let some_rows = take (depth s m) rows in
-      let len : List BinAt → ℕ = λ row. length row in
-      let all : (n : ℕ) → streams_to young some_rows n ≤ streams_to young some_rows (depth s m) =
-      λ n. omega (arith, sum_by-take-le len some_rows n, ap (sum_by len) (take_all (depth s m) some_rows (omega (arith, enough)))) in
-      record {
-        oldest = oldest_within young some k less all;
-        newest = λ stream is. newest_within young some k less stream all is;
-      }
+  -- the one bin of a level isn't both: as its oldest one it ends at an aligned interval, and the bin that comes begins one there
+  not_both : (k : ℕ) → suc k < depth s m → begins s m (k + 1) ≡ false → length (get_or (take (depth s m) rows) k []) ≢ 1
+  not_both k less joined one =
+      let row = get_or (take (depth s m) rows) k [] in
+      let oldest = goes k less in
+      let arrival = comes k (omega arith) in
+      let place : length row - 1 ≡ 0 = omega (arith, one) in
+      let newest_is : newest row ≡ get_or row 0 nothing = ap (λ i. get_or row i nothing) place in
+      let end_is : edge s (k + 1 - 1) (m - 1) ≡ edge s (k + 1) m = sym (arrival.ends joined) ∙ ap (λ (b : BinAt). b.to) newest_is ∙ ap (λ (r : Range). r.to) oldest.is in
+      let aligned : edge s (k + 1 - 1) (m - 1) % span s (k + 1) ≡ 0 = ap (λ e. e % span s (k + 1)) end_is ∙ mul-mod_first (span s (k + 1)) (steps s (k + 1) m) in
+      let begun : begins s m (k + 1) ≡ true = eq-eqb (edge s (k + 1 - 1) (m - 1) % span s (k + 1)) 0 aligned in
+      let never : true ≡ false = sym begun ∙ joined in
+      cc
     where
-      oldest_within : (young : ℕ) → 1 ≤ young → (k : ℕ) → k < depth s m →
-          ((n : ℕ) → streams_to young (take (depth s m) rows) n ≤ streams_to young (take (depth s m) rows) (depth s m)) →
-          oldest_stream young (take (depth s m) rows) k < streams_to young (take (depth s m) rows) (depth s m)
-      oldest_within young some zero less all = omega arith
-      oldest_within young some (suc k) less all =
-          omega (arith, all (k + 1), streams_more young (take (depth s m) rows) k (omega (arith, enough)), (goes k less).some)
+      mul-mod_first : (a b : ℕ) → (a * b) % a ≡ 0
+      mul-mod_first a b = ap (λ n. n % a) (mul_comm a b) ∙ mul-mod_left b a
 
-      newest_within : (young : ℕ) → 1 ≤ young → (k : ℕ) → k < depth s m → (stream : ℕ) →
-          ((n : ℕ) → streams_to young (take (depth s m) rows) n ≤ streams_to young (take (depth s m) rows) (depth s m)) →
-          (part_at s m young (take (depth s m) rows) k).newest ≡ Some stream → stream < streams_to young (take (depth s m) rows) (depth s m)
-      newest_within young some k less stream all is =
-          let last_place = streams_to young (take (depth s m) rows) (k + 1) - 1 in
-          elim (cases_Bool (begins s m (k + 1))) [
-            | inl alone ↦ absurd (let none = sym (ap (λ t. cond t None (Some last_place)) alone) ∙ is in cc)
-            | inr joined ↦ (let same = sym (ap (λ t. cond t None (Some last_place)) joined) ∙ is in
-                let stream_is : last_place ≡ stream = cc in omega (arith, all (k + 1)))
-          ]
-
-  pub parts_within : (young n : ℕ) → 1 ≤ young → n ≡ streams_to young (take (depth s m) rows) (depth s m) → All (IsWithin n) (parts_at s m young (take (depth s m) rows))
-  parts_within young n some n_is i d below =
-      let some_rows = take (depth s m) rows in
-      let count = length-map-range_with_len (part_at s m young some_rows) 0 (length some_rows) in
-      subst (λ (streams : ℕ). IsWithin streams (get_or (parts_at s m young some_rows) i d)) (sym n_is)
-      (subst (IsWithin (streams_to young some_rows (depth s m))) (sym (get_or-map-range_with_len (part_at s m young some_rows) 0 (length some_rows) i i d (omega arith) (omega arith)))
-      (part_within young some i (omega (arith, enough))))
+  -- the rows that a flush reaches have the streams of its parts
+  pub parts_have : HaveParts s m (take (depth s m) rows)
+  parts_have = record {
+    goes_on = λ k below. (goes k (omega (arith, below, enough))).some;
+    joined = λ k below alone. (comes k (omega (arith, below, enough))).some alone;
+    two = λ k below joined. (
+        let less : suc k < depth s m = omega (arith, below, enough) in
+        let one = (comes k (omega (arith, less))).some joined in
+        elim (cases_eq (length (get_or (take (depth s m) rows) k [])) 1) [
+          | inl same ↦ absurd (not_both k less joined same)
+          | inr other ↦ omega (arith, one, other)
+        ]);
+  }

@@ -1,40 +1,39 @@
 -- What the merge of a flush or a scan makes, in the words of the cone's events.
-use Rattle.std.proofs.Common.{ℕ, ◌≡◌, ◌+◌, ◌-◌, ◌^◌, ◌<◌, ◌≤◌, List, [], length, map, take, get_or, ap, sym, ◌∙◌, arith, subst, slice_range, Result}
+use Rattle.std.proofs.Common.{ℕ, ◌≡◌, ◌-◌, ◌<◌, ◌≤◌, List, [], length, map, take, get_or, ap, ◌∙◌, arith, subst, slice_range, sum_by, Result}
 use Rattle.std.proofs.Common.{length-take}
 use Rattle.std.specs.Prelude.{Ok, Err, IfOk, IfErr, MatchResult}
 use Rattle.std.proofs.lemmas.List.{length-map, get_or-map}
 use Rattle.std.proofs.lemmas.List.FromFn.{get_or-map-range_with_len, length-map-range_with_len}
 use Rattle.lert_frames.specs.Place.{tail_limit}
-use Rattle.lert_frames.proofs.PlaceLaws.{span_fits}
 use Rattle.lert_spec.specs.declared.numbers.Numbers.{Numbers}
 use Rattle.lert_spec.specs.declared.piece.Piece.{Piece}
 use Rattle.lert_spec.specs.Bins.{Bin, tallied}
-use Rattle.lert_spec.specs.Edges.{span, edge, depth, lookback, capacity}
+use Rattle.lert_spec.specs.Edges.{edge, depth, lookback, capacity}
 use Rattle.lert_spec.specs.Limits.{IsValid}
-use Rattle.lert_spec.specs.Table.{IsTable}
+use Rattle.lert_spec.specs.Table.{count_of, IsTable}
 use Rattle.lert_spec.proofs.EdgeLaws.{deepest_within}
-use Rattle.lert_merge.specs.Merging.{count_in}
+use Rattle.lert_landing.specs.Summed.{sums_of}
+use Rattle.lert_landing.proofs.SummedLaws.{IsTable-sums_of, count_of-sums_of}
 use Rattle.lert_rows.specs.declared.bin_at.BinAt.{BinAt}
-use Rattle.lert_levels.specs.declared.gather.Part.{Part}
-use Rattle.lert_levels.specs.Flushed.{AllCanStand, AreNew, AreEvents, AreAllEvents}
-use Rattle.lert_levels.specs.Gathered.{merged, part_table, IsWithin}
-use Rattle.lert_rows.specs.Landing.{CanStand}
+use Rattle.lert_levels.specs.Flushed.{AreNew, AreEvents, AreAllEvents}
 use Rattle.lert_levels.specs.Merged.{IsMade, streams_of, widths_of}
-use Rattle.lert_levels.specs.Parts.{part_at, parts_at}
+use Rattle.lert_levels.specs.Parts.{Part, part_at, parts_at, part_table}
 use Rattle.lert_rows.specs.Ranges.{young_bins}
 use Rattle.lert_rows.specs.Rows.{IsAt, AreRows, tallied_in}
-use Rattle.lert_levels.proofs.ArrivalLaws.{tables_from_bins, part_fits, part_holds, part_within}
+use Rattle.lert_levels.proofs.ArrivalLaws.{tables_from_bins, part_holds}
 use Rattle.lert_rows.proofs.CoverLaws.{flush_totals, scan_totals}
 use Rattle.lert_levels.proofs.HoldLaws.{rows_stand}
-use Rattle.lert_levels.proofs.MergeLaws.{lists_count}
-use Rattle.lert_levels.proofs.MergedLaws.{IsTable-merged, count_of-merged}
 
 pub matched : {T E : Type 0} (P : T → Type 0) (Q : E → Type 0) (result : Result T E) → IfOk result P → IfErr result Q → MatchResult result P Q
 matched P Q (Ok value) ok err = ok
 matched P Q (Err error) ok err = err
 
+-- how often a tail stands in some lists
+abbrev count_in : List (List Piece) → ℕ → ℕ
+count_in lists tail = sum_by (λ pieces. count_of pieces tail) lists
+
 -- a made list behind its place
-made_at : (lists : List (List Piece)) (s : Numbers) (m young : ℕ) (rows : List (List BinAt)) (made : List (List Piece)) → made ≡ map (part_table lists) (parts_at s m young rows) →
+pub made_at : (lists : List (List Piece)) (s : Numbers) (m young : ℕ) (rows : List (List BinAt)) (made : List (List Piece)) → made ≡ map (part_table lists) (parts_at s m young rows) →
     (k : ℕ) → k < length rows → get_or made k [] ≡ part_table lists (part_at s m young rows k)
 made_at lists s m young rows made is k below =
     let parts = parts_at s m young rows in
@@ -59,20 +58,9 @@ module _ (s : Numbers) (valid : IsValid s) (m : ℕ) (first : 1 ≤ m) (fits : m
       let count = length-map-range_with_len (part_at s m (length young) (take (depth s m) rows)) 0 (length (take (depth s m) rows)) in
       ap (length {A = List Piece}) is.are ∙ length-map parts (part_table is.lists) ∙ count ∙ reached
 
-  -- the new bins have room
-  pub made_can : 1 ≤ length young → AllCanStand s made
-  made_can some k below =
-      let some_rows = take (depth s m) rows in
-      let less : k < depth s m = omega (arith, made_count) in
-      let small : span s (k + 1) ≤ 2 ^ 47 = omega (arith, span_fits s valid (k + 1) (omega (arith, deep))) in
-      let streams = lists_count (tail_limit s) young some_rows is.lists (depth s m) (sym reached) is.bins in
-      let within = subst (λ (n : ℕ). IsWithin n (part_at s m (length young) some_rows k)) (sym streams) (part_within s valid m first fits rows at (length young) some k less) in
-      subst (CanStand s (k + 1)) (sym (made_at is.lists s m (length young) some_rows made is.are k (omega (arith, reached))))
-      (part_fits s valid m first fits rows at young is.lists some is.narrow is.bins k less within small)
-
   -- what `totals` took is a table
-  pub made_table : IsTable (tail_limit s) (merged is.lists)
-  made_table = IsTable-merged (tail_limit s) is.lists (tables_from_bins (tail_limit s) (widths_of young (take (depth s m) rows)) is.lists is.bins)
+  pub made_table : IsTable (tail_limit s) (sums_of is.lists)
+  made_table = IsTable-sums_of (tail_limit s) is.lists (tables_from_bins (tail_limit s) (widths_of young (take (depth s m) rows)) is.lists is.bins)
 
   -- where the frames hold the bins of the events, the lists are the counts of these
   lists_are : (file events : List ℕ) → frames file → AreRows s rows → AreEvents (record { settings = s; rows = rows }) m young events file →
@@ -92,15 +80,15 @@ module _ (s : Numbers) (valid : IsValid s) (m : ℕ) (first : 1 ≤ m) (fits : m
       ∙ part_holds s valid m first fits rows at events of.len k less
 
   pub made_totals : (file events : List ℕ) → frames file → AreRows s rows → AreEvents (record { settings = s; rows = rows }) m young events file →
-      merged is.lists ≡ tallied s (slice_range events (lookback s m) m)
+      sums_of is.lists ≡ tallied s (slice_range events (lookback s m) m)
   made_totals file events here are of =
       let tables = tables_from_bins (tail_limit s) (widths_of young (take (depth s m) rows)) is.lists is.bins in
-      flush_totals s valid events m rows (merged is.lists) at of.len made_table
-      (λ tail. count_of-merged (tail_limit s) is.lists tail tables ∙ ap (λ lists. count_in lists tail) (lists_are file events here are of))
+      flush_totals s valid events m rows (sums_of is.lists) at of.len made_table
+      (λ tail. count_of-sums_of (tail_limit s) is.lists tail tables ∙ ap (λ lists. count_in lists tail) (lists_are file events here are of))
 
   -- `totals` took a table, and the totals where the frames hold the bins
   pub made_took : (list : List Piece) × took list × IsTable (tail_limit s) list
-  made_took = (merged is.lists, is.taken, made_table)
+  made_took = (sums_of is.lists, is.taken, made_table)
 
   pub made_taken : (file events : List ℕ) → frames file → AreRows s rows → AreEvents (record { settings = s; rows = rows }) m young events file →
       took (tallied s (slice_range events (lookback s m) m))
@@ -117,7 +105,7 @@ made_turned s young rows low deep parts others took frames made deep_is others_a
 module _ (s : Numbers) (valid : IsValid s) (rows : List (List BinAt)) (young : List Bin) (parts : List Part) (took : List Piece → Type 0) (frames : List ℕ → Type 0)
     (made : List (List Piece)) (is : IsMade s young (take s.levels rows) parts took frames made) where
   pub scan_took : (list : List Piece) × took list × IsTable (tail_limit s) list
-  scan_took = (merged is.lists, is.taken, IsTable-merged (tail_limit s) is.lists (tables_from_bins (tail_limit s) (widths_of young (take s.levels rows)) is.lists is.bins))
+  scan_took = (sums_of is.lists, is.taken, IsTable-sums_of (tail_limit s) is.lists (tables_from_bins (tail_limit s) (widths_of young (take s.levels rows)) is.lists is.bins))
 
   -- where the frames hold the bins, `totals` took the counts of all events
   pub scan_taken : (file events : List ℕ) → frames file → AreRows s rows → AreAllEvents (record { settings = s; rows = rows }) young events file → took (tallied s events)
@@ -125,5 +113,5 @@ module _ (s : Numbers) (valid : IsValid s) (rows : List (List BinAt)) (young : L
       let tables = tables_from_bins (tail_limit s) (widths_of young (take s.levels rows)) is.lists is.bins in
       let stand = rows_stand s events (length events) rows file of.at are (omega arith) of.held s.levels (omega arith) in
       let lists = is.told file here (tallied_in s events) stand ∙ ap (λ bins. streams_of bins (tallied_in s events) (take s.levels rows)) of.young_are in
-      subst took (scan_totals s valid events rows (merged is.lists) of.at of.fits (IsTable-merged (tail_limit s) is.lists tables)
-      (λ tail. count_of-merged (tail_limit s) is.lists tail tables ∙ ap (λ ls. count_in ls tail) lists)) is.taken
+      subst took (scan_totals s valid events rows (sums_of is.lists) of.at of.fits (IsTable-sums_of (tail_limit s) is.lists tables)
+      (λ tail. count_of-sums_of (tail_limit s) is.lists tail tables ∙ ap (λ ls. count_in ls tail) lists)) is.taken

@@ -3,7 +3,6 @@ use Rattle.std.proofs.Common.{ℕ, ◌≡◌, ◌+◌, ◌-◌, ◌*◌, ◌<◌
 use Rattle.std.specs.List.{All}
 use Rattle.std.proofs.lemmas.List.{length-map, take-map, get_or_default}
 use Rattle.lert_frames.specs.declared.reader.FrameReader.{FrameReader}
-use Rattle.lert_frames.specs.declared.writer.FrameWriter.{FrameWriter}
 use Rattle.lert_spec.specs.declared.numbers.Numbers.{Numbers}
 use Rattle.lert_spec.specs.Edges.{capacity}
 use Rattle.lert_spec.specs.Limits.{IsValid}
@@ -32,8 +31,8 @@ reached_are items s rows lent seen is are lent_is d deep k below =
     (subst (IsRow seen.settings (k + 1)) (row_among seen.rows d k reached) (all.each (k + 1) (omega arith) (omega arith)))
 
 -- the rows that moved on are rows of their levels
-module _ {V : Type 0} (items : V → List BinAt) (capacity_of : V → ℕ) (s : Numbers) (valid : IsValid s) (rows : List V) (directory : List ℕ) (room streams : ℕ)
-    (readers : List FrameReader) (writers : List FrameWriter) (kept : AreKept items capacity_of s rows directory room streams readers writers)
+module _ {V : Type 0} (items : V → List BinAt) (capacity_of : V → ℕ) (s : Numbers) (valid : IsValid s) (rows : List V) (directory : List ℕ) (room : ℕ)
+    (reader : FrameReader) (kept : AreKept items capacity_of s rows directory room reader)
     (m : ℕ) (first : 1 ≤ m) (last : m ≤ capacity s) (at : IsAt s (m - 1) (map items rows)) (new : List V)
     (new_is : map items new ≡ moved s m (map items rows)) where
   pub new_rows : AreRows s (map items new)
@@ -52,20 +51,18 @@ module _ {V : Type 0} (items : V → List BinAt) (capacity_of : V → ℕ) (s : 
       omega (arith, kept.directory_room)
 
   pub new_kept : All (λ row. s.bins < capacity_of row) new → (text : List ℕ) (more : ℕ) → text ≡ directory_text (map items new) → room ≤ more →
-      AreKept items capacity_of s new text more streams readers writers
+      AreKept items capacity_of s new text more reader
   new_kept roomy text more text_is grown = record {
     are = new_rows;
     roomy = roomy;
     directory_is = text_is;
     directory_room = omega (arith, kept.directory_room);
-    merges = kept.merges;
     read_by = kept.read_by;
-    written_by = kept.written_by;
   }
 
 -- the same of a vector whose items were written through a slice
-module _ {V : Type 0} (items : V → List BinAt) (capacity_of : V → ℕ) (s : Numbers) (valid : IsValid s) (rows : List V) (directory : List ℕ) (room streams : ℕ)
-    (readers : List FrameReader) (writers : List FrameWriter) (kept : AreKept items capacity_of s rows directory room streams readers writers)
+module _ {V : Type 0} (items : V → List BinAt) (capacity_of : V → ℕ) (s : Numbers) (valid : IsValid s) (rows : List V) (directory : List ℕ) (room : ℕ)
+    (reader : FrameReader) (kept : AreKept items capacity_of s rows directory room reader)
     (seen : OnDisk) (seen_is : record { settings = s; rows = map items rows } ≡ seen) (m : ℕ) (first : 1 ≤ m) (last : m ≤ capacity seen.settings)
     (at : IsAt seen.settings (m - 1) seen.rows)
     (lent new after : List V) (n : ℕ) (lent_is : lent ≡ rows) (new_is : map items new ≡ moved s m (map items lent)) (len : length lent ≡ n)
@@ -86,25 +83,25 @@ module _ {V : Type 0} (items : V → List BinAt) (capacity_of : V → ℕ) (s : 
       after_is ∙ written_back n new rows (omega arith)
 
   after_rows : AreRows s (map items new)
-  after_rows = new_rows items capacity_of s valid rows directory room streams readers writers kept m first in_capacity here new are_new
+  after_rows = new_rows items capacity_of s valid rows directory room reader kept m first in_capacity here new are_new
 
   pub after_few : (k : ℕ) (d : V) → k < length after → length (items (get_or after k d)) < 256
   after_few k d below = omega (arith, rows_few items s new after after_rows back k d below, valid.limits.bins_to)
 
   pub after_room : length (directory_text (map items after)) ≤ room
   after_room = subst (λ (rs : List V). length (directory_text (map items rs)) ≤ room) (sym back)
-      (new_room items capacity_of s valid rows directory room streams readers writers kept m first in_capacity here new are_new)
+      (new_room items capacity_of s valid rows directory room reader kept m first in_capacity here new are_new)
 
   pub after_kept : All (λ row. s.bins < capacity_of row) new → (text : List ℕ) (more : ℕ) (lent_after : List V) → lent_after ≡ after →
-      text ≡ directory_text (map items lent_after) → room ≤ more → AreKept items capacity_of s after text more streams readers writers
+      text ≡ directory_text (map items lent_after) → room ≤ more → AreKept items capacity_of s after text more reader
   after_kept roomy text more lent_after lent_after_is text_is grown =
-      subst (λ (rs : List V). AreKept items capacity_of s rs text more streams readers writers) (sym back)
-      (new_kept items capacity_of s valid rows directory room streams readers writers kept m first in_capacity here new are_new roomy text more
+      subst (λ (rs : List V). AreKept items capacity_of s rs text more reader) (sym back)
+      (new_kept items capacity_of s valid rows directory room reader kept m first in_capacity here new are_new roomy text more
       (text_is ∙ ap (λ rs. directory_text (map items rs)) (lent_after_is ∙ back)) grown)
 
 -- what stands between two calls once rows are restored, of a vector whose items were written through a slice
-module _ {V : Type 0} (items : V → List BinAt) (capacity_of : V → ℕ) (s : Numbers) (valid : IsValid s) (rows : List V) (directory : List ℕ) (room streams : ℕ)
-    (readers : List FrameReader) (writers : List FrameWriter) (kept : AreKept items capacity_of s rows directory room streams readers writers)
+module _ {V : Type 0} (items : V → List BinAt) (capacity_of : V → ℕ) (s : Numbers) (valid : IsValid s) (rows : List V) (directory : List ℕ) (room : ℕ)
+    (reader : FrameReader) (kept : AreKept items capacity_of s rows directory room reader)
     (n : ℕ) (text : List ℕ) (lent new after : List V) (count : ℕ) (lent_is : lent ≡ rows) (count_is : length lent ≡ count) (named : AreNamed s n text (map items new))
     (after_is : after ≡ take count (new ++ drop (length new) rows)) where
   written_whole : after ≡ new
@@ -125,17 +122,15 @@ module _ {V : Type 0} (items : V → List BinAt) (capacity_of : V → ℕ) (s : 
       subst (λ (rs : List V). length (directory_text (map items rs)) ≤ room) (sym written_whole) (omega (arith, kept.directory_room))
 
   pub restored_kept : All (λ row. s.bins < capacity_of row) new → (bytes : List ℕ) (more : ℕ) (lent_after : List V) → lent_after ≡ after →
-      bytes ≡ directory_text (map items lent_after) → room ≤ more → AreKept items capacity_of s after bytes more streams readers writers
+      bytes ≡ directory_text (map items lent_after) → room ≤ more → AreKept items capacity_of s after bytes more reader
   restored_kept roomy bytes more lent_after lent_after_is bytes_is grown =
-      subst (λ (rs : List V). AreKept items capacity_of s rs bytes more streams readers writers) (sym written_whole)
+      subst (λ (rs : List V). AreKept items capacity_of s rs bytes more reader) (sym written_whole)
       (record {
         are = named.are;
         roomy = roomy;
         directory_is = bytes_is ∙ ap (λ rs. directory_text (map items rs)) (lent_after_is ∙ written_whole);
         directory_room = omega (arith, kept.directory_room);
-        merges = kept.merges;
         read_by = kept.read_by;
-        written_by = kept.written_by;
       })
 
 -- rows that were lent are seen as before

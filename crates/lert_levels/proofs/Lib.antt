@@ -1,12 +1,12 @@
-mod MergeExamples
-mod GatherLaws
-mod SoFarLaws
-pub mod MergedLaws
 pub mod PartLaws
-pub mod MergeLaws
-pub mod HoldLaws
+pub mod PickLaws
 pub mod ArrivalLaws
-mod HandLaws
+pub mod HoldLaws
+pub mod LaterLaws
 pub mod LevelLaws
 pub mod FlushLaws
-pub mod LaterLaws
+pub mod SourceLaws
+pub mod PlacedLaws
+pub mod ReadyLaws
+pub mod LandedLaws
+pub mod ReachLaws

@@ -6,16 +6,11 @@ use Rattle.lert_spec.specs.Bins.{Bin}
 use Rattle.lert_spec.specs.Edges.{edge, capacity}
 use Rattle.lert_spec.specs.declared.piece.Piece.{Piece}
 use Rattle.lert_rows.specs.declared.bin_at.BinAt.{BinAt}
-use Rattle.lert_rows.specs.Landing.{CanStand}
 use Rattle.lert_levels.specs.OnDisk.{OnDisk}
 use Rattle.lert_rows.specs.Ranges.{young_bins}
 use Rattle.lert_rows.specs.Rows.{row_of, IsAt, arrived, tallied_in, HoldsBins}
 
--- the new bins, that of level 1 first, have room in their frames
-abbrev pub AllCanStand : Numbers → List (List Piece) → Type 0
-AllCanStand s made = (k : ℕ) → k < length made → CanStand s (k + 1) (slice_index_or made k [])
-
--- they are the counts of their positions
+-- the new bins, that of level 1 first, are the counts of their positions
 abbrev pub AreNew : Numbers → ℕ → List ℕ → List (List BinAt) → List (List Piece) → Type 0
 AreNew s m events rows made = (k : ℕ) → k < length made → slice_index_or made k [] ≡ tallied_in s events (arrived s m (k + 1) (slice_index_or rows k []))
 

@@ -1,15 +1,16 @@
 -- The merge of level 0 with some of the levels on disk.
-use Rattle.std.specs.Prelude.{◌≡◌, ℕ, ◌-◌, ◌≤◌, List, map, ◌++◌, All, Option, Some}
+use Rattle.std.specs.Prelude.{◌≡◌, ℕ, ◌-◌, ◌≤◌, List, map, ◌++◌, Option, Some}
+use Rattle.std.specs.List.{AllZip}
 use Rattle.lert_bay.specs.Files.{Files}
+use Rattle.lert_landing.specs.Summed.{sums_of}
 use Rattle.lert_spec.specs.declared.numbers.Numbers.{Numbers}
 use Rattle.lert_spec.specs.Bins.{Bin}
+use Rattle.lert_spec.specs.Table.{total, AreGiven}
 use Rattle.lert_spec.specs.declared.piece.Piece.{Piece}
 use Rattle.lert_rows.specs.declared.bin_at.BinAt.{BinAt}
 use Rattle.lert_frames.specs.Place.{tail_limit}
-use Rattle.lert_spec.specs.Edges.{span}
-use Rattle.lert_levels.specs.declared.gather.Part.{Part}
-use Rattle.lert_levels.specs.Gathered.{merged, part_table}
-use Rattle.lert_rows.specs.Loading.{AllStand, AreBins, held_in, widths_in}
+use Rattle.lert_levels.specs.Parts.{Part, part_table}
+use Rattle.lert_rows.specs.Loading.{AllStand, held_in, widths_in}
 
 -- the pieces of its streams: those of the bins of level 0, and those that the frames of the rows' bins hold
 abbrev pub streams_of : List Bin → (BinAt → List Piece) → List (List BinAt) → List (List Piece)
@@ -19,14 +20,22 @@ streams_of young held rows = map (λ bin. bin.pieces) young ++ held_in held rows
 abbrev pub widths_of : List Bin → List (List BinAt) → List ℕ
 widths_of young rows = map (λ bin. bin.to - bin.from) young ++ widths_in rows
 
--- what a merge of these streams made: from some lists, which are bins of their widths, and those that the frames hold, where
+-- pieces that a stream gave, whose counts add up to no more than a width
+pub record Fills (limit wide : ℕ) (pieces : List Piece) : Type 0 where
+  pub given : AreGiven limit pieces
+  pub fits : total pieces ≤ wide
+
+-- pieces of bins of these widths
+abbrev pub AreBins : ℕ → List ℕ → List (List Piece) → Type 0
+AreBins limit widths lists = AllZip (Fills limit) widths lists
+
+-- what a merge of these streams took, from some lists: they fill bins of their widths, and are those that the frames hold, where
 -- they stand in the file
 pub record IsMade (s : Numbers) (young : List Bin) (rows : List (List BinAt)) (parts : List Part) (took : List Piece → Type 0) (file_is : List ℕ → Type 0) (made : List (List Piece)) : Type 0
   where
     pub lists : List (List Piece)
     pub bins : AreBins (tail_limit s) (widths_of young rows) lists
-    pub narrow : All (λ bin. bin.to - bin.from ≤ span s 0) young
-    pub taken : took (merged lists)
+    pub taken : took (sums_of lists)
     pub are : made ≡ map (part_table lists) parts
     pub told : (file : List ℕ) → file_is file → (held : BinAt → List Piece) → AllStand s file held rows → lists ≡ streams_of young held rows
 

@@ -1,10 +1,8 @@
 -- The levels on disk.
 use Rattle.std.specs.Prelude.{◌≡◌, ℕ, ◌+◌, ◌*◌, ◌<◌, ◌≤◌, List, map, All}
 use Rattle.lert_frames.specs.declared.reader.FrameReader.{FrameReader}
-use Rattle.lert_frames.specs.declared.writer.FrameWriter.{FrameWriter}
 use Rattle.lert_spec.specs.declared.numbers.Numbers.{Numbers}
 use Rattle.lert_rows.specs.declared.bin_at.BinAt.{BinAt}
-use Rattle.lert_rows.specs.Hands.{AreReaders, AreWriters}
 use Rattle.lert_rows.specs.Rows.{AreRows, directory_text}
 
 -- what they are seen as: their settings, and the rows from level 1 on
@@ -12,15 +10,12 @@ pub record OnDisk : Type 0 where
   pub settings : Numbers
   pub rows : List (List BinAt)
 
--- what stands between two calls: rows, each with room for a bin more than a level has, their directory, room for as many
--- streams as there are bins, and a reader and a writer of each level
-pub record AreKept {V : Type 0} (items : V → List BinAt) (capacity : V → ℕ) (s : Numbers) (rows : List V) (directory : List ℕ) (room streams : ℕ)
-    (readers : List FrameReader) (writers : List FrameWriter) : Type 0
+-- what stands between two calls: rows, each with room for a bin more than a level has, their directory, and what reads the
+-- frames, of the same settings
+pub record AreKept {V : Type 0} (items : V → List BinAt) (capacity : V → ℕ) (s : Numbers) (rows : List V) (directory : List ℕ) (room : ℕ) (reader : FrameReader) : Type 0
   where
     pub are : AreRows s (map items rows)
     pub roomy : All (λ row. s.bins < capacity row) rows
     pub directory_is : directory ≡ directory_text (map items rows)
     pub directory_room : s.levels * (1 + s.bins) ≤ room
-    pub merges : (s.levels + 1) * s.bins ≤ streams
-    pub read_by : AreReaders s readers
-    pub written_by : AreWriters s writers
+    pub read_by : reader.settings ≡ s

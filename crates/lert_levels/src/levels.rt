@@ -1,6 +1,6 @@
 //! The levels on disk.
 
-ghost use Rattle.std.specs.Prelude.{◌≡◌, ◌⊎◌, ℕ, ◌+◌, ◌-◌, ◌<◌, ◌≤◌, List, [], Some, None, length, map, take, replicate, All, IfOk, IfErr, OnOk, OnErr, MatchResult, IsErr, IsErrOf, IsErrAnd, slice_index_or, slice_range, vec_capacity};
+ghost use Rattle.std.specs.Prelude.{◌≡◌, ◌⊎◌, ℕ, ◌+◌, ◌-◌, ◌<◌, ◌≤◌, List, [], Some, None, take, replicate, IfOk, IfErr, OnOk, OnErr, MatchResult, IsErrOf, IsErrAnd, slice_range};
 ghost use Rattle.lert_bay.specs.declared.bay.TheConstants.{FRAMES};
 ghost use Rattle.lert_bay.specs.Files.{Files, IfTold};
 ghost use Rattle.lert_bay.specs.Kept.{KeepsBay, OnlyReads};
@@ -11,56 +11,56 @@ ghost use Rattle.lert_spec.specs.Edges.{edge, depth, lookback, capacity};
 ghost use Rattle.lert_spec.specs.Table.{IsTable};
 ghost use Rattle.lert_rows.specs.declared.bin_at.BinAt.{BinAt};
 ghost use Rattle.lert_rows.specs.Checked.{EachStands, held_after, rows_left};
-ghost use Rattle.lert_levels.specs.Flushed.{AllCanStand, AreNew, AreEvents, AreAllEvents, InNamed};
-ghost use Rattle.lert_levels.specs.Gathered.{IsWithin};
-ghost use Rattle.lert_rows.specs.Landing.{KeepsRest};
+ghost use Rattle.lert_levels.specs.Flushed.{AreEvents, AreAllEvents, InNamed};
+ghost use Rattle.lert_rows.specs.Landing.{AreApart, KeepsRest};
 ghost use Rattle.lert_rows.specs.Loading.{AllStand, OneBreaks};
-ghost use Rattle.lert_levels.specs.Merged.{IsMade, IsFrames};
 ghost use Rattle.lert_rows.specs.Named.{IsDirectory};
-ghost use Rattle.lert_levels.specs.Parts.{streams_to, parts_at};
-ghost use Rattle.lert_rows.specs.Rows.{row_of, IsAt, IsRow, AreRows, HoldsBins, moved, directory_text};
+ghost use Rattle.lert_levels.specs.Ready.{HasMade};
+ghost use Rattle.lert_spec.specs.Limits.{IsValid};
+ghost use Rattle.lert_rows.specs.Rows.{row_of, IsAt, AreRows, HoldsBins, moved, directory_text};
 
-use crate::gather::{Merger, Part};
-use crate::hands::{readers_of, writers_of};
-use crate::parts::parts_of;
-use crate::streams::load_levels;
-use lert_base::{CountTable, Piece, Settings, Totals};
+use crate::merger::{Reading, Writing, count_rows, land_rows, landings_of};
+use lert_base::{CountTable, Settings, Totals};
 use lert_bay::Bay;
-use lert_frames::{FrameReader, FrameWriter};
-use lert_io::{Failed, OutOfMemory};
+use lert_frames::FrameReader;
+use lert_io::OutOfMemory;
+use lert_order::Ahead;
 use lert_rows::{
     BinAt, FlushFault, Zero, check_rows, empty_rows, lay_directory, move_rows, restore_rows,
-    write_arrivals,
+    sync_frames,
 };
+use lert_streams::StreamRoom;
 use std::alloc::Global;
-use std::marker::{Model, PhantomData};
+use std::marker::Model;
 
 /// The levels of a cone on disk, seen as its settings and a row of bins for each level from 1 on. The bins stand in the file
 /// of frames, and level 0 in memory, in tables of type `T`.
 ///
-/// Only `new`, `flush` and `scan` take memory.
+/// Only `new` takes memory: some 19 KiB for each bin on disk, and as much for each level twice.
 #[derive(Drop)]
 pub struct Levels<T: CountTable> {
-    alloc: Global,
     settings: Settings,
     rows: Vec<Vec<BinAt>>,
     directory: Vec<u8>,
-    merger: Merger,
-    // A reader and a writer of each level, that of level 1 first.
-    readers: Vec<FrameReader>,
-    writers: Vec<FrameWriter>,
-    tables: PhantomData<T>,
+    // For checks.
+    reader: FrameReader,
+    // None while a merge has it.
+    reading: Option<Reading<T>>,
+    writing: Writing,
 }
 
 impl<T: CountTable> Model for Levels<T> {
-    ghost use Rattle.std.specs.Prelude.{map, vec_capacity};
+    ghost use Rattle.std.specs.Prelude.{◌≡◌, ◌+◌, ◌*◌, ◌≤◌, IsSomeAnd, map, vec_capacity};
     ghost use Rattle.lert_levels.specs.OnDisk.{OnDisk, AreKept};
+    ghost use Rattle.lert_levels.specs.Ready.{CanLand};
 
     ghost Value = { OnDisk };
 
     ghost view = { λ l. record { settings = l.settings; rows = map (λ row. row.items) l.rows.items } };
 
-    ghost invariant = { λ l. AreKept (λ row. row.items) (λ row. vec_capacity row) l.settings l.rows.items l.directory.items (vec_capacity l.directory) l.merger l.readers.items l.writers.items };
+    ghost invariant = { λ l. AreKept (λ row. row.items) (λ row. vec_capacity row) l.settings l.rows.items l.directory.items (vec_capacity l.directory) l.reader
+        × IsSomeAnd l.reading (λ reading. (reading.room ≡ l.settings) × ((l.settings.levels + 1) * l.settings.bins ≤ reading.ahead.room))
+        × CanLand l.settings l.writing.landings.items (vec_capacity l.writing.parts) };
 }
 
 impl<T: CountTable> Levels<T> {
@@ -74,15 +74,22 @@ impl<T: CountTable> Levels<T> {
         let rows = empty_rows(alloc, levels, bins + 1)?;
         let mut directory = Vec::with_capacity(alloc, levels * (1 + bins))?;
         lay_directory(&rows, &mut directory);
+        let streams = (levels + 1) * bins;
+        let reading = Reading {
+            room: StreamRoom::new(alloc, settings)?,
+            ahead: Ahead::new(alloc, streams)?,
+        };
+        let writing = Writing {
+            landings: landings_of(alloc, settings)?,
+            parts: Vec::with_capacity(alloc, streams)?,
+        };
         Ok(Levels {
-            alloc,
             settings: *settings,
             rows,
             directory,
-            merger: Merger::new(alloc, (levels + 1) * bins)?,
-            readers: readers_of(alloc, settings)?,
-            writers: writers_of(alloc, settings)?,
-            tables: PhantomData,
+            reader: FrameReader::new(alloc, settings, 1)?,
+            reading: Some(reading),
+            writing,
         })
     }
 
@@ -117,7 +124,7 @@ impl<T: CountTable> Levels<T> {
     ///
     /// `totals` takes each tail with its sum, in ascending tails. A refusal leaves the bins and the directory as they were, and
     /// no frame that the directory names is written, whatever it answers. After a refusal nothing is said of what `totals` took.
-    /// It takes the memory of the bins that it reads and makes.
+    /// The new bins are written while the others are read. It takes no memory.
     pub fn flush<B: Bay, O: Totals>(
         &mut self,
         bay: &mut B,
@@ -139,11 +146,11 @@ impl<T: CountTable> Levels<T> {
         ensures refused { OnErr result (self.new ≡ self.old) }
 
         // Where the frames held the bins of the events before m, those of the rows then hold theirs, and the totals are the counts
-        // above the lookback. Only a call of the bay or memory may fail.
+        // above the lookback. Only a call of the bay may fail.
         ensures told { IfTold (B.files bay.old) (λ seen. (events : List ℕ) → AreEvents self.old m zero.now.bins events (seen FRAMES) → MatchResult result
             (λ _. IfTold (B.files bay.new) (λ after. HoldsBins self.old.settings events (moved self.old.settings m self.old.rows) (after FRAMES)) ×
             O.took totals.new (tallied self.old.settings (slice_range events (lookback self.old.settings m) m)))
-            (λ fault. (fault ≡ FlushFault.Failed) ⊎ (fault ≡ FlushFault.OutOfMemory))) }
+            (λ fault. fault ≡ FlushFault.Failed)) }
         ensures took { OnOk result ((list : List Piece) × O.took totals.new list × IsTable (tail_limit self.old.settings) list) }
 
         // After Ok a crash leaves the file of frames as a read gives it. In the other files, and in the frames that the directory
@@ -154,23 +161,24 @@ impl<T: CountTable> Levels<T> {
         // Malformed comes nowhere where the frames hold bins of their widths, whatever these count.
         ensures sound { IfTold (B.files bay.old) (λ seen. (held : BinAt → List Piece) →
             AllStand self.old.settings (seen FRAMES) held (take (depth self.old.settings m) self.old.rows) →
-            IfErr result (λ fault. (fault ≡ FlushFault.Failed) ⊎ (fault ≡ FlushFault.OutOfMemory))) }
+            IfErr result (λ fault. fault ≡ FlushFault.Failed)) }
         ensures malformed { IfTold (B.files bay.old) (λ seen. (at : ℕ) → IsErrOf result (FlushFault.Malformed at) →
             OneBreaks self.old.settings (take (depth self.old.settings m) self.old.rows) (seen FRAMES) at) }
 
-        // Then nothing was written.
-        ensures unwritten { (at : ℕ) → IsErrOf result (FlushFault.Malformed at) → B.files bay.new ≡ B.files bay.old }
+        // It stands in a frame that was named, so the file of frames has it afterwards too.
+        ensures malformed_after { IfTold (B.files bay.new) (λ after. (at : ℕ) → IsErrOf result (FlushFault.Malformed at) →
+            OneBreaks self.old.settings (take (depth self.old.settings m) self.old.rows) (after FRAMES) at) }
         ensures kept { KeepsBay B.Bay bay.old bay.new (IsErrOf result FlushFault.Failed) }
     {
-        let _valid = self.settings.numbers();
-        let made = self.new_bins(zero, m, bay, totals)?;
-        // All reads lie before the first write: a broken frame is found while nothing is written.
-        self.land(m, &made, bay)?;
+        self.land(zero, m, bay, totals)?;
+        // The frames are durable before the directory moves: a failed sync leaves the old one.
+        sync_frames(bay)?;
+        self.move_on(m);
         Ok(())
     }
 
     /// Merges level 0 with all levels on disk, and writes nothing. `totals` takes each tail with its sum, in ascending tails.
-    /// After a refusal nothing is said of what it took. It takes the memory of the bins.
+    /// After a refusal nothing is said of what it took. It takes no memory.
     pub fn scan<B: Bay, O: Totals>(
         &mut self,
         bay: &mut B,
@@ -182,18 +190,22 @@ impl<T: CountTable> Levels<T> {
         ensures same { self.new ≡ self.old }
         ensures told { IfTold (B.files bay.old) (λ seen. (events : List ℕ) → AreAllEvents self.old zero.now.bins events (seen FRAMES) → MatchResult result
             (λ _. O.took totals.new (tallied self.old.settings events))
-            (λ fault. (fault ≡ FlushFault.Failed) ⊎ (fault ≡ FlushFault.OutOfMemory))) }
+            (λ fault. fault ≡ FlushFault.Failed)) }
         ensures took { OnOk result ((list : List Piece) × O.took totals.new list × IsTable (tail_limit self.old.settings) list) }
         ensures sound { IfTold (B.files bay.old) (λ seen. (held : BinAt → List Piece) →
             AllStand self.old.settings (seen FRAMES) held self.old.rows →
-            IfErr result (λ fault. (fault ≡ FlushFault.Failed) ⊎ (fault ≡ FlushFault.OutOfMemory))) }
+            IfErr result (λ fault. fault ≡ FlushFault.Failed)) }
         ensures malformed { IfTold (B.files bay.old) (λ seen. (at : ℕ) → IsErrOf result (FlushFault.Malformed at) →
             OneBreaks self.old.settings self.old.rows (seen FRAMES) at) }
         ensures only_reads { OnlyReads B.Bay bay.old bay.new (IsErrOf result FlushFault.Failed) }
     {
-        let levels = self.settings.numbers().levels as usize;
-        let _made = self.merge(zero, levels, &[], bay, totals)?;
-        Ok(())
+        let Some(reading) = self.reading.take() else {
+            unreachable!()
+        };
+        let _valid = self.settings.numbers();
+        let (reading, counted) = count_rows(zero, &self.rows, reading, totals, bay);
+        self.reading = Some(reading);
+        counted
     }
 
     /// Reads each frame that the directory names to its end, the levels ascending and each level's oldest bin first, up to the
@@ -218,83 +230,17 @@ impl<T: CountTable> Levels<T> {
         ensures only_reads { OnlyReads B.Bay bay.old bay.new (IsErrOf result FlushFault.Failed) }
     {
         let _valid = self.settings.numbers();
-        Ok(check_rows(&self.settings, &self.rows, &mut self.readers, bay)?)
+        Ok(check_rows(&self.settings, &self.rows, &mut self.reader, bay)?)
     }
 
-    // The rows of the levels from 1 up to `depth`.
-    fn reached(&self, depth: usize) -> &[Vec<BinAt>]
-        requires { depth ≤ self.now.settings.levels }
-        ensures rows { map (λ row. row.items) result.now ≡ take depth self.now.rows }
-        ensures len { length result.now ≡ depth }
-        ensures are { (k : ℕ) → k < length result.now → IsRow self.now.settings (k + 1) (slice_index_or (map (λ row. row.items) result.now) k []) }
-    {
-        &self.rows[..depth]
-    }
-
-    // Merges level 0 with the levels from 1 up to `depth`: `totals` takes each tail with its sum, and the answer has the table
-    // of each part.
-    fn merge<B: Bay, O: Totals>(
-        &mut self,
-        zero: &Zero<T>,
-        depth: usize,
-        parts: &[Part],
-        bay: &mut B,
-        totals: &mut O,
-    ) -> Result<Vec<Vec<Piece>>, FlushFault>
-        requires same { zero.now.settings ≡ self.old.settings }
-        requires depth { depth ≤ self.old.settings.levels }
-        requires within { All (IsWithin (streams_to (length zero.now.bins) (take depth self.old.rows) depth)) parts.now }
-        requires none_taken { O.took totals.old [] }
-        ensures same { self.new ≡ self.old }
-        ensures made { IfOk result (λ made. IsMade self.old.settings zero.now.bins (take depth self.old.rows) parts.now
-            (O.took totals.new) (IsFrames (B.files bay.old)) (map (λ pieces. pieces.items) made.items)) }
-        ensures sound { IfTold (B.files bay.old) (λ seen. (held : BinAt → List Piece) →
-            AllStand self.old.settings (seen FRAMES) held (take depth self.old.rows) →
-            IfErr result (λ fault. (fault ≡ FlushFault.Failed) ⊎ (fault ≡ FlushFault.OutOfMemory))) }
-        ensures malformed { IfTold (B.files bay.old) (λ seen. (at : ℕ) → IsErrOf result (FlushFault.Malformed at) →
-            OneBreaks self.old.settings (take depth self.old.rows) (seen FRAMES) at) }
-        ensures only_reads { OnlyReads B.Bay bay.old bay.new (IsErrOf result FlushFault.Failed) }
-    {
-        let _valid = self.settings.numbers();
-        let reached = &self.rows[..depth];
-        let streams = load_levels(
-            self.alloc,
-            &self.settings,
-            zero,
-            reached,
-            &mut self.readers,
-            bay,
-        )?;
-        Ok(self.merger.gather(self.alloc, streams, parts, totals)?)
-    }
-
-    // The streams of the new bins of the flush at position `m`.
-    fn parts(&self, zero: &Zero<T>, m: u64) -> Result<Vec<Part>, OutOfMemory>
-        requires same { zero.now.settings ≡ self.now.settings }
-        requires first { 1 ≤ m }
-        requires last { m ≤ capacity self.now.settings }
-        requires some { zero.now.from < zero.now.to }
-        ensures parts { IfOk result (λ parts. parts.items ≡ parts_at self.now.settings m (length zero.now.bins) (take (depth self.now.settings m) self.now.rows)) }
-        ensures young { 1 ≤ length zero.now.bins }
-    {
-        let depth = self.settings.depth(m) as usize;
-        parts_of(
-            self.alloc,
-            &self.settings,
-            m,
-            zero.len(),
-            self.reached(depth),
-        )
-    }
-
-    // The new bins of the flush at position `m`. `totals` takes the totals.
-    fn new_bins<B: Bay, O: Totals>(
+    // Merges level 0 and the levels that the flush at position `m` reaches, and writes the new bins into their frames.
+    fn land<B: Bay, O: Totals>(
         &mut self,
         zero: &Zero<T>,
         m: u64,
         bay: &mut B,
         totals: &mut O,
-    ) -> Result<Vec<Vec<Piece>>, FlushFault>
+    ) -> Result<(), FlushFault>
         requires same { zero.now.settings ≡ self.old.settings }
         requires first { 1 ≤ m }
         requires last { m ≤ capacity self.old.settings }
@@ -303,67 +249,27 @@ impl<T: CountTable> Levels<T> {
         requires at { IsAt self.old.settings (m - 1) self.old.rows }
         requires none_taken { O.took totals.old [] }
         ensures same { self.new ≡ self.old }
-        ensures count { IfOk result (λ made. length made.items ≡ depth self.old.settings m) }
-        ensures can { IfOk result (λ made. AllCanStand self.old.settings (map (λ pieces. pieces.items) made.items)) }
-        ensures told { IfTold (B.files bay.old) (λ seen. (events : List ℕ) → AreEvents self.old m zero.now.bins events (seen FRAMES) → MatchResult result
-            (λ made. AreNew self.old.settings m events (take (depth self.old.settings m) self.old.rows) (map (λ pieces. pieces.items) made.items) ×
-            O.took totals.new (tallied self.old.settings (slice_range events (lookback self.old.settings m) m)))
-            (λ fault. (fault ≡ FlushFault.Failed) ⊎ (fault ≡ FlushFault.OutOfMemory))) }
-        ensures sound { IfTold (B.files bay.old) (λ seen. (held : BinAt → List Piece) →
-            AllStand self.old.settings (seen FRAMES) held (take (depth self.old.settings m) self.old.rows) →
-            IfErr result (λ fault. (fault ≡ FlushFault.Failed) ⊎ (fault ≡ FlushFault.OutOfMemory))) }
-        ensures took { OnOk result ((list : List Piece) × O.took totals.new list × IsTable (tail_limit self.old.settings) list) }
+        ensures made { OnOk result (HasMade self.old.settings m zero.now.bins (take (depth self.old.settings m) self.old.rows) (O.took totals.new) (B.files bay.old) (B.files bay.new)) }
         ensures malformed { IfTold (B.files bay.old) (λ seen. (at : ℕ) → IsErrOf result (FlushFault.Malformed at) →
             OneBreaks self.old.settings (take (depth self.old.settings m) self.old.rows) (seen FRAMES) at) }
-        ensures only_reads { OnlyReads B.Bay bay.old bay.new (IsErrOf result FlushFault.Failed) }
+        ensures malformed_after { IfTold (B.files bay.new) (λ after. (at : ℕ) → IsErrOf result (FlushFault.Malformed at) →
+            OneBreaks self.old.settings (take (depth self.old.settings m) self.old.rows) (after FRAMES) at) }
+        ensures valid { IsValid self.old.settings }
+        ensures rows { AreRows self.old.settings self.old.rows }
+        ensures rest { KeepsRest B.Bay (AreApart self.old.settings m (take (depth self.old.settings m) self.old.rows)) bay.old bay.new }
+        ensures kept { KeepsBay B.Bay bay.old bay.new (IsErrOf result FlushFault.Failed) }
     {
-        let _valid = self.settings.numbers();
-        let depth = self.settings.depth(m) as usize;
-        let parts = self.parts(zero, m)?;
-        self.merge(zero, depth, &parts, bay, totals)
-    }
-
-    // Writes the new bins of the flush at position `m` and moves the rows on. A refusal leaves them as they were.
-    fn land<B: Bay>(&mut self, m: u64, made: &[Vec<Piece>], bay: &mut B) -> Result<(), Failed>
-        requires first { 1 ≤ m }
-        requires last { m ≤ capacity self.old.settings }
-        requires at { IsAt self.old.settings (m - 1) self.old.rows }
-        requires count { length made.now ≡ depth self.old.settings m }
-        requires can { AllCanStand self.old.settings (map (λ pieces. pieces.items) made.now) }
-        ensures ok { OnOk result (self.new ≡ record self.old { rows = moved self.old.settings m self.old.rows }) }
-        ensures refused { OnErr result (self.new ≡ self.old) }
-        ensures holds { IfTold (B.files bay.old) (λ seen. (events : List ℕ) → HoldsBins self.old.settings events self.old.rows (seen FRAMES) →
-            AreNew self.old.settings m events (take (depth self.old.settings m) self.old.rows) (map (λ pieces. pieces.items) made.now) →
-            OnOk result (IfTold (B.files bay.new) (λ after. HoldsBins self.old.settings events (moved self.old.settings m self.old.rows) (after FRAMES)))) }
-        ensures durable { OnOk result (IfTold (B.files bay.new) (λ seen. (image : Files) → B.leaves bay.new image → image FRAMES ≡ seen FRAMES)) }
-        ensures rest { KeepsRest B.Bay (InNamed self.old.settings self.old.rows) bay.old bay.new }
-        ensures kept { KeepsBay B.Bay bay.old bay.new (IsErr result) }
-    {
-        self.write(m, made, bay)?;
-        // The frames are durable before the directory moves: a failed write leaves the old one.
-        self.move_on(m);
-        Ok(())
-    }
-
-    // Writes the new bins of the flush at position `m`.
-    fn write<B: Bay>(&mut self, m: u64, made: &[Vec<Piece>], bay: &mut B) -> Result<(), Failed>
-        requires first { 1 ≤ m }
-        requires last { m ≤ capacity self.old.settings }
-        requires at { IsAt self.old.settings (m - 1) self.old.rows }
-        requires count { length made.now ≡ depth self.old.settings m }
-        requires can { AllCanStand self.old.settings (map (λ pieces. pieces.items) made.now) }
-        ensures same { self.new ≡ self.old }
-        ensures holds { IfTold (B.files bay.old) (λ seen. (events : List ℕ) → HoldsBins self.old.settings events self.old.rows (seen FRAMES) →
-            AreNew self.old.settings m events (take (depth self.old.settings m) self.old.rows) (map (λ pieces. pieces.items) made.now) →
-            OnOk result (IfTold (B.files bay.new) (λ after. HoldsBins self.old.settings events (moved self.old.settings m self.old.rows) (after FRAMES)))) }
-        ensures durable { OnOk result (IfTold (B.files bay.new) (λ seen. (image : Files) → B.leaves bay.new image → image FRAMES ≡ seen FRAMES)) }
-        ensures rest { KeepsRest B.Bay (InNamed self.old.settings self.old.rows) bay.old bay.new }
-        ensures kept { KeepsBay B.Bay bay.old bay.new (IsErr result) }
-    {
+        let Some(reading) = self.reading.take() else {
+            unreachable!()
+        };
+        let _tables = zero.tables();
         let _valid = self.settings.numbers();
         let depth = self.settings.depth(m) as usize;
         let rows = &self.rows[..depth];
-        write_arrivals(&self.settings, m, rows, made, &mut self.writers, bay)
+        let Writing { landings, parts } = &mut self.writing;
+        let (reading, landed) = land_rows(zero, m, rows, reading, landings, parts, totals, bay);
+        self.reading = Some(reading);
+        landed
     }
 
     // Moves the rows on through the flush at position `m`.

@@ -4,11 +4,11 @@
 //! their frames.
 #![tactic(auto)]
 
-mod gather;
-mod hands;
 mod levels;
+mod merger;
 mod parts;
-mod streams;
+mod reading;
+mod secure;
 
 pub use lert_rows::{BinAt, FlushFault, Zero};
 pub use levels::Levels;

@@ -1,45 +1,71 @@
 //! Which bins make up the new ones of a flush.
 
-ghost use Rattle.std.specs.Prelude.{◌≡◌, ℕ, ◌+◌, ◌-◌, ◌<◌, ◌≤◌, [], length, map, IfOk, slice_index_or};
+ghost use Rattle.std.specs.Prelude.{◌≡◌, ℕ, ◌+◌, ◌*◌, ◌-◌, ◌<◌, ◌≤◌, ◌++◌, [], Some, None, length, map, replicate, IfSome, slice_index_or, vec_capacity};
 ghost use Rattle.lert_spec.specs.Edges.{capacity};
-ghost use Rattle.lert_levels.specs.Parts.{newest_stream, parts_at};
+ghost use Rattle.lert_levels.specs.Parts.{newest_stream, set_two, streams_to, HaveParts, ArePartsOf};
 ghost use Rattle.lert_rows.specs.Rows.{IsRow};
 
-use crate::gather::Part;
 use lert_base::Settings;
-use lert_io::OutOfMemory;
 use lert_rows::{BinAt, begins};
-use std::alloc::Global;
 
-/// For each level that the flush at position `m` reaches, of which these are the rows, the streams of its new bin. The streams
-/// are `young` bins of level 0 first, and then those of the rows. Its only error is want of memory.
-pub fn parts_of(
-    alloc: Global,
+/// Puts down for each stream of the flush at position `m` which new bin its pieces go to, that of level 1 being number 0: the
+/// oldest bin of a level to that of the next one, with the newest bin of that level where both are joined. The streams are
+/// `young` bins of level 0 and then those of the rows that the flush reaches.
+pub fn lay_parts(
     settings: &Settings,
     m: u64,
     young: usize,
     rows: &[Vec<BinAt>],
-) -> Result<Vec<Part>, OutOfMemory>
+    parts: &mut Vec<Option<usize>>,
+)
     requires first { 1 ≤ m }
     requires last { m ≤ capacity settings.now }
     requires some { 1 ≤ young }
     requires few_young { young ≤ settings.now.bins }
     requires few { length rows.now ≤ settings.now.levels }
     requires rows { (k : ℕ) → k < length rows.now → IsRow settings.now (k + 1) (slice_index_or (map (λ row. row.items) rows.now) k []) }
-    ensures { IfOk result (λ parts. parts.items ≡ parts_at settings.now m young (map (λ row. row.items) rows.now)) }
+    requires parts { HaveParts settings.now m (map (λ row. row.items) rows.now) }
+    requires room { (settings.now.levels + 1) * settings.now.bins ≤ vec_capacity parts.old }
+    ensures parts { ArePartsOf settings.now m young (map (λ row. row.items) rows.now)
+        (streams_to young (map (λ row. row.items) rows.now) (length rows.now)) (length rows.now) parts.new.items }
+    ensures room { vec_capacity parts.old ≤ vec_capacity parts.new }
 {
     let _valid = settings.numbers();
-    let mut parts = Vec::with_capacity(alloc, rows.len())?;
+    parts.clear();
+    add_streams(parts, young);
     let mut oldest = 0;
-    let mut streams = young;
     for (lower, row) in rows.iter().enumerate() {
-        let upto = streams + row.len();
-        let newest = newest_of(settings, m, lower as u32 + 1, upto);
-        parts.push(Part { oldest, newest })?;
-        oldest = streams;
-        streams = upto;
+        let begun = parts.len();
+        add_streams(parts, row.len());
+        let newest = newest_of(settings, m, lower as u32 + 1, parts.len());
+        set_part(parts, lower, oldest, newest);
+        oldest = begun;
     }
-    Ok(parts)
+}
+
+/// Puts down that so many more streams go to no new bin.
+pub fn add_streams(parts: &mut Vec<Option<usize>>, count: usize)
+    requires { length parts.old.items + count ≤ vec_capacity parts.old }
+    ensures parts { parts.new.items ≡ parts.old.items ++ replicate count None }
+    ensures room { vec_capacity parts.old ≤ vec_capacity parts.new }
+{
+    for _ in 0..count {
+        let is_put = parts.push(None).is_ok();
+        prove!(is_put);
+    }
+}
+
+// Puts down that a stream goes to this part, and another one where there is one.
+fn set_part(parts: &mut Vec<Option<usize>>, part: usize, oldest: usize, newest: Option<usize>)
+    requires oldest { oldest < length parts.old.items }
+    requires newest { IfSome newest (λ stream. stream < length parts.old.items) }
+    ensures parts { parts.new.items ≡ set_two parts.old.items oldest newest part }
+    ensures room { vec_capacity parts.old ≤ vec_capacity parts.new }
+{
+    parts[oldest] = Some(part);
+    if let Some(stream) = newest {
+        parts[stream] = Some(part);
+    }
 }
 
 // The stream of the newest bin of a level, the last of so many, where the bin that comes to the level is joined with it.

@@ -15,7 +15,7 @@ use lert_plain::PlainTable;
 use std::alloc::Global;
 use std::test::Fail;
 
-const ROUND: [u64; 12] = [1, 2, 3, 4, 1, 2, 3, 4, 1, 2, 3, 4];
+pub(crate) const ROUND: [u64; 12] = [1, 2, 3, 4, 1, 2, 3, 4, 1, 2, 3, 4];
 
 // The flush at position 12 + 4 * k. After Ok the oldest bin has left level 0, and four more events came.
 fn flush_into(
@@ -39,7 +39,7 @@ fn flush_into(
 }
 
 // The same, whatever the totals.
-fn flush(
+pub(crate) fn flush(
     alloc: Global,
     zero: &mut Zero<PlainTable>,
     levels: &mut Levels<PlainTable>,
@@ -55,7 +55,7 @@ fn flush(
 }
 
 // So many flushes from position 12 on: the directories behind them, one after another.
-fn directories(
+pub(crate) fn directories(
     alloc: Global,
     zero: &mut Zero<PlainTable>,
     levels: &mut Levels<PlainTable>,

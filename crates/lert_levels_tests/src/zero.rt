@@ -1,6 +1,6 @@
-//! Counts over the bins of level 0 as tails come and bins are dropped.
+//! Counts over the bins of level 0, and the bound of them, as tails come and bins are dropped.
 
-ghost use Rattle.std.specs.Prelude.{◌≡◌};
+ghost use Rattle.std.specs.Prelude.{◌≡◌, ◌+◌, ◌%◌, ◌<◌, ◌≤◌};
 
 use crate::samples::{SMALL, fill, small};
 use lert_levels::Zero;
@@ -38,5 +38,94 @@ fn are_counted(zero: &mut Zero<PlainTable>) -> bool
 fn counts_are_those_of_the_bins(rt: HostRuntime) -> Result<(), Fail> {
     let mut zero: Zero<PlainTable> = Zero::new(rt.alloc(), &small()?)?;
     assert!(rt; are_counted(&mut zero));
+    Ok(())
+}
+
+// Whether tails are refused that never came, or only in a bin that was dropped three drops ago.
+fn are_refused(zero: &mut Zero<PlainTable>) -> bool
+    requires settings { zero.old.settings ≡ SMALL }
+    requires from { zero.old.from ≡ 0 }
+    requires to { zero.old.to ≡ 0 }
+{
+    let at_first = !zero.may_reach(5, 1) && !zero.may_reach(7, 1);
+    fill(zero, 0, &[5, 5, 5, 5, 9, 9, 9, 9, 9, 9, 9, 9]);
+    let of_three_bins = zero.may_reach(5, 4) && !zero.may_reach(5, 5) && !zero.may_reach(7, 1);
+    zero.drop_oldest();
+    fill(zero, 12, &[9, 9, 9, 9]);
+    zero.drop_oldest();
+    fill(zero, 16, &[9, 9, 9, 9]);
+    zero.drop_oldest();
+    let of_dropped = !zero.may_reach(5, 1) && zero.may_reach(9, 8);
+    at_first && of_three_bins && of_dropped
+}
+
+#[test]
+fn absent_tails_are_refused(rt: HostRuntime) -> Result<(), Fail> {
+    let mut zero: Zero<PlainTable> = Zero::new(rt.alloc(), &small()?)?;
+    assert!(rt; are_refused(&mut zero));
+    Ok(())
+}
+
+// The tail of the event at a position: below 8, the seldomer the more bits it has.
+fn drawn(m: u64) -> u64
+    ensures { result < 8 }
+{
+    let mixed = m.wrapping_mul(0x9e37_79b9_7f4a_7c15);
+    ((mixed >> 24) & (mixed >> 12)) % 8
+}
+
+// Adds the drawn tails of a bin, whose positions are above `last`.
+fn fill_bin(zero: &mut Zero<PlainTable>, last: u64)
+    requires settings { zero.old.settings ≡ SMALL }
+    requires last { last ≡ zero.old.to }
+    requires aligned { zero.old.from % 4 ≡ 0 }
+    requires ordered { zero.old.from ≤ last }
+    requires tables { last + 4 ≤ zero.old.from + 12 }
+    requires positions { last ≤ 67 }
+    ensures settings { zero.new.settings ≡ SMALL }
+    ensures from { zero.new.from ≡ zero.old.from }
+    ensures to { zero.new.to ≡ last + 4 }
+{
+    let tails = [
+        drawn(last + 1),
+        drawn(last + 2),
+        drawn(last + 3),
+        drawn(last + 4),
+    ];
+    fill(zero, last, &tails);
+}
+
+// Whether each tail may have come as often as it is drawn at the positions above `from`, up to `to`.
+fn may_reach_drawn(zero: &Zero<PlainTable>, from: u64, to: u64) -> bool
+    requires { to ≤ 71 }
+{
+    (0..8).all(|tail| {
+        let times = (from..to).filter(|m| drawn(m + 1) == tail).count();
+        zero.may_reach(tail, times as u64)
+    })
+}
+
+// Whether no tail is refused that came as often in the bins, as these come and go over seven generations of the bound.
+fn none_is_refused(zero: &mut Zero<PlainTable>) -> bool
+    requires settings { zero.old.settings ≡ SMALL }
+    requires from { zero.old.from ≡ 0 }
+    requires to { zero.old.to ≡ 0 }
+{
+    fill_bin(zero, 0);
+    fill_bin(zero, 4);
+    let mut none = true;
+    for bin in 2..17 {
+        fill_bin(zero, 4 * bin);
+        none = none && may_reach_drawn(zero, 4 * bin - 8, 4 * bin + 4);
+        zero.drop_oldest();
+        none = none && may_reach_drawn(zero, 4 * bin - 4, 4 * bin + 4);
+    }
+    none
+}
+
+#[test]
+fn no_tail_that_came_is_refused(rt: HostRuntime) -> Result<(), Fail> {
+    let mut zero: Zero<PlainTable> = Zero::new(rt.alloc(), &small()?)?;
+    assert!(rt; none_is_refused(&mut zero));
     Ok(())
 }

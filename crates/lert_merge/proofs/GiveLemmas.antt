@@ -1,178 +1,112 @@
--- The pieces of the least tail are given.
-use Rattle.std.proofs.Common.{◌≡◌, ℕ, ◌+◌, ◌<◌, ◌≤◌, ◌^◌, Bool, if◌then◌else◌, Option, Some, List, [], ◌∷◌, ◌++◌, length, get_or, sum_by, All, arith, sym}
-use Rattle.std.proofs.Common.{ap, ◌∙◌, refl, subst, inl, inr, length-append, append-nil}
-use Rattle.std.proofs.Math.Seq.{get_or-append_seam}
-use Rattle.std.proofs.lemmas.Bool.{cases_eq, eq-eqb, ne_eqb}
-use Rattle.std.proofs.lemmas.List.Sums.{get_or-le-sum_by}
+-- What is in hand is given.
+use Rattle.std.proofs.Common.{◌≡◌, ℕ, ◌<◌, ◌≤◌, ◌^◌, Option, Some, None, IfSome, List, [], ◌++◌, length, map, get_or, sum_by, All, arith, sym, ap, ◌∙◌, refl, subst}
+use Rattle.std.proofs.Common.{append-nil}
+use Rattle.std.proofs.lemmas.List.{get_or-map, length-map}
 use Rattle.lert_spec.specs.declared.piece.Piece.{Piece}
-use Rattle.lert_spec.specs.Table.{AscendsFrom, count_of}
-use Rattle.lert_merge.specs.declared.heads.Head.{Head}
-use Rattle.lert_merge.specs.declared.heads.Head.TheVariants.{Unread, Read, Ended}
-use Rattle.lert_merge.specs.declared.heads.Seat.{Seat}
-use Rattle.lert_merge.specs.Seats.{Seats, seat_at, fresh, ahead, shared, shared_head, IsLeast, IsNoneRead, AreAsked, AreSmall}
-use Rattle.lert_merge.specs.Merging.{Merging, IsMerging, IsSeated, IsAhead, Gives, part_of, behind, IsAsked, AreEnded}
+use Rattle.lert_spec.specs.Table.{count_of}
+use Rattle.lert_order.specs.Fronts.{pieces_of, front_at}
+use Rattle.lert_order.specs.Ordering.{Ordering, part_in as order_part, Tells as OrderTells, AreEnded as IsOrderEnded}
+use Rattle.lert_order.specs.declared.streams.Streams.{Ghosts as StreamsOf}
+use Rattle.lert_merge.specs.Givers.{Taking, share_in, sum_below}
+use Rattle.lert_merge.specs.Merging.{Merging, IsMerging, HasTaken, Gives, Tells, IsNext, AreShares, IsBelowOne, taken_of, share_of, behind}
+use Rattle.lert_merge.proofs.GiverLemmas.{sum_same, sum_list, some_shared}
+use Rattle.lert_merge.proofs.PartLemmas.{IsShared, shared_is}
+use Rattle.lert_merge.proofs.StepLemmas.{HasStepped, comes_then}
 
--- a list that ends a table
-pub ends_table : (least limit : ℕ) (front : List Piece) (p : Piece) (rest : List Piece) → AscendsFrom least limit ((front ++ p ∷ []) ++ rest) →
-    (p.tail < limit) × (1 ≤ p.count) × AscendsFrom (p.tail + 1) limit rest
-ends_table least limit [] p rest up = (up.1, up.2, up.3)
-ends_table least limit (x ∷ front) p rest up = ends_table (x.tail + 1) limit front p rest up.3
+-- what is in hand was given for a step of the order: what was taken since is that step's piece
+pub record IsGivenFor {S : Type 0} (m after : Merging S) (y : Ordering S) (given : Option (ℕ × Piece)) (q : Piece) : Type 0 where
+  pub order : after.order ≡ y
+  pub some : 1 ≤ length m.sums.taken
+  pub tail : q.tail ≡ m.sums.tail
+  pub count : q.count ≡ sum_by (λ giver. giver.count) m.sums.taken
+  pub counted : 1 ≤ q.count
+  pub small : q.count < 2 ^ 63
+  pub givers : after.sums.given ≡ m.sums.taken
+  pub last : after.sums.last ≡ Some m.sums.tail
+  pub hand : (k : ℕ) → taken_of after k ≡ order_part given k
+  pub above : IfSome given (λ g. m.sums.tail < g.1.tail)
 
-ends_one : (limit : ℕ) (front : List Piece) (p : Piece) → AscendsFrom 0 limit (front ++ p ∷ []) → (p.tail < limit) × (1 ≤ p.count)
-ends_one limit front p up = let e = ends_table 0 limit front p [] (subst (AscendsFrom 0 limit) (sym (append-nil (front ++ p ∷ []))) up) in (e.0, e.1)
+module _ {S C : Type 0} (members : StreamsOf S C) (faults mark : C → ℕ) (a b : C) (m after : Merging S) (y : Ordering S) (given : Option (ℕ × Piece)) (q : Piece)
+    (is : IsMerging members m) (stepped : HasStepped members faults mark a m.order b y given) (gave : IsGivenFor m after y given q) where
+  share_is : (k : ℕ) → share_of after k ≡ share_in m.sums.taken k
+  share_is k = ap (λ givers. share_in givers k) gave.givers
 
-small_last : (front : List Piece) (p : Piece) → All (λ piece. piece.count ≤ 2 ^ 47) (front ++ p ∷ []) → p.count ≤ 2 ^ 47
-small_last front p all = let at = all (length front) p (let e : length (front ++ p ∷ []) ≡ length front + 1 = length-append front (p ∷ []) in omega arith) in
-    subst (λ (q : Piece). q.count ≤ 2 ^ 47) (get_or-append_seam front p [] p) at
+  as_many : members.count after.order.streams ≡ members.count m.order.streams
+  as_many = ap (λ (order : Ordering S). members.count order.streams) gave.order ∙ stepped.same.streams
 
--- a stream of which a piece was read ahead
-ahead_in : {P : Type 0} (given : P → List Piece) (limit : P → ℕ) (m : Merging P) → IsMerging given limit m → (k : ℕ) (d : P) (p : Piece) → k < length m.streams →
-    (seat_at m.seats k).head ≡ Read p → IsAhead (limit (get_or m.streams k d)) (given (get_or m.streams k d)) m.last p
-ahead_in given limit m is k d p under read = subst (IsSeated (limit (get_or m.streams k d)) (given (get_or m.streams k d)) m.last) read (is.seated k d under)
+  below_one : IsBelowOne members after.order.streams q.tail
+  below_one = let one = some_shared (members.count m.order.streams) m.sums.taken is.givers gave.some in
+      let part = is.parts one.0 one.1 one.2 in let low : m.sums.tail < members.limit m.order.streams one.0 = part.below in
+      let same : members.limit y.streams one.0 ≡ members.limit m.order.streams one.0 = stepped.same.limits one.0 one.1 in
+      let still : members.limit after.order.streams one.0 ≡ members.limit y.streams one.0 = ap (λ (order : Ordering S). members.limit order.streams one.0) gave.order in
+      let inside : one.0 < members.count m.order.streams = one.1 in let many : members.count after.order.streams ≡ members.count m.order.streams = as_many in
+      let tail : q.tail ≡ m.sums.tail = gave.tail in record { stream = one.0; within = omega arith; below = omega arith }
 
--- what is done with a seat whose piece has the tail, and with one whose piece has another
-pub shared_here : (tail : ℕ) (p : Piece) → p.tail ≡ tail → shared_head tail (Read p) ≡ record { head = Unread; share = p.count }
-shared_here tail p same = ap (λ (b : Bool). let s : Seat = (if b then record { head = Unread; share = p.count } else record { head = Read p; share = 0 }) in s) (eq-eqb p.tail tail same)
+  taken_then : (k : ℕ) (pieces : List Piece) → k < members.count m.order.streams → HasTaken members m k pieces →
+      HasTaken members after k (pieces ++ pieces_of q.tail (share_of after k))
+  taken_then k pieces under was =
+      let shape : (pieces ++ taken_of m k) ++ order_part given k ≡ (pieces ++ pieces_of q.tail (share_of after k)) ++ taken_of after k =
+      ap (λ xs. (pieces ++ taken_of m k) ++ xs) (sym (gave.hand k)) ∙
+      (λ j. (pieces ++ pieces_of (sym gave.tail j) (sym (share_is k) j)) ++ taken_of after k) in
+      subst (λ (order : Ordering S). members.given order.streams k ≡ ((pieces ++ pieces_of q.tail (share_of after k)) ++ taken_of after k) ++ front_at order.ahead k)
+      (sym gave.order) (stepped.taken k (pieces ++ taken_of m k) under was ∙ ap (λ xs. xs ++ front_at y.ahead k) shape)
 
-pub shared_other : (tail : ℕ) (p : Piece) → (p.tail ≡ tail → ⊥) → shared_head tail (Read p) ≡ record { head = Read p; share = 0 }
-shared_other tail p ne = ap (λ (b : Bool). let s : Seat = (if b then record { head = Unread; share = p.count } else record { head = Read p; share = 0 }) in s) (ne_eqb p.tail tail ne)
+  pub gives_sum : Gives members m after (Some q)
+  gives_sum = record {
+    above = λ last was. let up : last < m.sums.tail = is.above gave.some last was in let tail : q.tail ≡ m.sums.tail = gave.tail in omega arith;
+    below = below_one;
+    last = gave.last ∙ ap Some (sym gave.tail);
+    sum = gave.count ∙ is.givers.sum ∙ sum_same (share_in m.sums.taken) (share_of after) (members.count m.order.streams) (λ k under. sym (share_is k)) ∙
+        ap (sum_below (share_of after)) (sym as_many);
+    small = (gave.counted, gave.small);
+    taken = taken_then;
+    over = λ no. absurd (cc (no));
+    nothing = λ no. absurd (cc (no));
+  }
 
-pub behind_here : (tail : ℕ) (p : Piece) (ps : List Piece) → p.tail ≡ tail → behind tail (p ∷ ps) ≡ ps
-behind_here tail p ps same = ap (λ (b : Bool). let s : List Piece = (if b then ps else p ∷ ps) in s) (eq-eqb p.tail tail same)
+  pub told_sum : (lists : List (List Piece)) → Tells members a m lists →
+      IsNext lists q × AreShares after lists q.tail × Tells members b after (map (behind q.tail) lists)
+  told_sum lists tells =
+      let come = comes_then members faults mark a b m.order y given tells.rest stepped tells.told in
+      let long : length lists ≡ length tells.rest = tells.len in
+      let many : length tells.rest ≡ members.count m.order.streams = tells.told.len in
+      let shared : (k : ℕ) → k < length lists → IsShared q.tail (share_of after k) (get_or lists k []) (get_or tells.rest k []) = λ k under.
+      shared_is q.tail (share_of after k) (get_or lists k []) (get_or tells.rest k [])
+      (tells.each k under ∙ (λ j. pieces_of (sym gave.tail j) (sym (share_is k) j) ++ get_or tells.rest k []))
+      (subst (λ tail. All (λ (other : Piece). tail < other.tail) (get_or tells.rest k [])) (sym gave.tail) (come.above m.sums.tail gave.above k (omega arith))) in (
+        record {
+          counted = gave.counted;
+          count = gave.count ∙ is.givers.sum ∙
+              sum_same (share_in m.sums.taken) (λ k. count_of (get_or lists k []) q.tail) (members.count m.order.streams)
+              (λ k under. sym (share_is k) ∙ (shared k (omega arith)).count) ∙
+              ap (sum_below (λ k. count_of (get_or lists k []) q.tail)) (sym (long ∙ many)) ∙ sum_list (λ pieces. count_of pieces q.tail) lists [];
+          least = λ k under. (shared k under).least;
+        },
+        (λ k under. (shared k under).count),
+        record {
+          rest = come.rest;
+          told = subst (λ (order : Ordering S). OrderTells members b order come.rest) (sym gave.order) come.told;
+          len = length-map lists (behind q.tail) ∙ long ∙ sym come.len;
+          each = λ k under. let under_lists : k < length lists = let same : length (map (behind q.tail) lists) ≡ length lists = length-map lists (behind q.tail) in omega arith in
+              get_or-map (behind q.tail) lists k [] [] under_lists ∙ (shared k under_lists).left ∙ come.each k (omega arith) ∙
+              ap (λ xs. xs ++ get_or come.rest k []) (sym (gave.hand k));
+        },
+      )
 
-pub behind_other : (tail : ℕ) (p : Piece) (ps : List Piece) → (p.tail ≡ tail → ⊥) → behind tail (p ∷ ps) ≡ p ∷ ps
-behind_other tail p ps ne = ap (λ (b : Bool). let s : List Piece = (if b then ps else p ∷ ps) in s) (ne_eqb p.tail tail ne)
-
-pub count_here : (tail : ℕ) (p : Piece) (ps : List Piece) → p.tail ≡ tail → count_of (p ∷ ps) tail ≡ p.count
-count_here tail p ps same = ap (λ (b : Bool). let n : ℕ = (if b then p.count else count_of ps tail) in n) (eq-eqb p.tail tail same)
-
-pub count_other : (tail : ℕ) (p : Piece) (ps : List Piece) → (p.tail ≡ tail → ⊥) → count_of (p ∷ ps) tail ≡ count_of ps tail
-count_other tail p ps ne = ap (λ (b : Bool). let n : ℕ = (if b then p.count else count_of ps tail) in n) (ne_eqb p.tail tail ne)
-
-part_some : (p : Piece) → 1 ≤ p.count → part_of p.tail p.count ≡ p ∷ []
-part_some p some = ap (λ (b : Bool). let ps : List Piece = (if b then [] else p ∷ []) in ps) (ne_eqb p.count 0 (λ none. omega arith))
-
--- how a tail is shared out, seat by seat
-pub record IsSharedOut {P : Type 0} (m : Merging P) (after : Seats) (tail count : ℕ) : Type 0 where
-  pub room : after.room ≡ m.room
-  pub len : length after.seats ≡ length m.seats
-  pub seats : (k : ℕ) → k < length m.seats → seat_at after.seats k ≡ shared tail (seat_at m.seats k)
-  pub sum : count ≡ sum_by (λ seat. seat.share) after.seats
-  pub small : count < 2 ^ 63
-
-abbrev pub shared_out : {P : Type 0} → Merging P → Seats → ℕ → Merging P
-shared_out m after tail = record { streams = m.streams; seats = after.seats; room = after.room; last = Some tail }
-
--- the seat of a stream after
-seated_read : (tail limit : ℕ) (given : List Piece) (last : Option ℕ) (p : Piece) → tail ≤ p.tail → IsAhead limit given last p →
-    IsSeated limit given (Some tail) (shared_head tail (Read p)).head
-seated_read tail limit given last p low is = elim (cases_eq p.tail tail) [
-  | inl same ↦ subst (λ (s : Seat). IsSeated limit given (Some tail) s.head) (sym (shared_here tail p same))
-      (λ before was. record { front = is.front; piece = p; is = is.is; above = let e : tail ≡ before = cc in omega arith })
-  | inr ne ↦ subst (λ (s : Seat). IsSeated limit given (Some tail) s.head) (sym (shared_other tail p ne))
-      (record { given = is.given; front = is.front; is = is.is; above = λ before was. let e : tail ≡ before = cc in omega arith })
-]
-
-seated_after : (tail limit : ℕ) (given : List Piece) (last : Option ℕ) (head : Head) → (head ≡ Unread → ⊥) → ((p : Piece) → head ≡ Read p → tail ≤ p.tail) →
-    IsSeated limit given last head → IsSeated limit given (Some tail) (shared_head tail head).head
-seated_after tail limit given last Unread asked low is = absurd (asked refl)
-seated_after tail limit given last (Read p) asked low is = seated_read tail limit given last p (low p refl) is
-seated_after tail limit given last Ended asked low is = tt
-
-pub merging_after : {P : Type 0} (given : P → List Piece) (limit : P → ℕ) (m : Merging P) (after : Seats) (tail count : ℕ) →
-    IsMerging given limit m → ((k : ℕ) → k < length m.streams → (seat_at m.seats k).head ≡ Unread → ⊥) → IsLeast m.seats (length m.seats) tail →
-    IsSharedOut m after tail count → IsMerging given limit (shared_out m after tail)
-merging_after given limit m after tail count is read least out =
-    let len : length m.seats ≡ length m.streams = is.len in let room : after.room ≡ m.room = out.room in let enough : length m.streams ≤ m.room = is.room in record {
-      few = is.few;
-      room = omega arith;
-      len = out.len ∙ is.len;
-      seated = λ k d under. subst (λ (s : Seat). IsSeated (limit (get_or m.streams k d)) (given (get_or m.streams k d)) (Some tail) s.head) (sym (out.seats k (omega arith)))
-          (seated_after tail (limit (get_or m.streams k d)) (given (get_or m.streams k d)) m.last (seat_at m.seats k).head (read k under) (λ p at. least.least k p (omega arith) at)
-          (is.seated k d under));
-    }
-
--- what was given of a stream after
-taken_read : (tail limit : ℕ) (given : List Piece) (last : Option ℕ) (p : Piece) (pieces : List Piece) → IsAhead limit given last p → given ≡ pieces ++ p ∷ [] →
-    given ≡ (pieces ++ part_of tail (shared_head tail (Read p)).share) ++ ahead (shared_head tail (Read p)).head
-taken_read tail limit given last p pieces is was = elim (cases_eq p.tail tail) [
-  | inl same ↦ subst (λ (s : Seat). given ≡ (pieces ++ part_of tail s.share) ++ ahead s.head) (sym (shared_here tail p same))
-      (subst (λ t. given ≡ (pieces ++ part_of t p.count) ++ []) same
-      (subst (λ xs. given ≡ (pieces ++ xs) ++ []) (sym (part_some p (ends_one limit is.front p (subst (AscendsFrom 0 limit) is.is is.given.table)).1))
-      (was ∙ sym (append-nil (pieces ++ p ∷ [])))))
-  | inr ne ↦ subst (λ (s : Seat). given ≡ (pieces ++ part_of tail s.share) ++ ahead s.head) (sym (shared_other tail p ne))
-      (was ∙ ap (λ xs. xs ++ p ∷ []) (sym (append-nil pieces)))
-]
-
-taken_after : (tail limit : ℕ) (given : List Piece) (last : Option ℕ) (head : Head) (pieces : List Piece) → (head ≡ Unread → ⊥) → IsSeated limit given last head →
-    given ≡ pieces ++ ahead head →
-    given ≡ (pieces ++ part_of tail (shared_head tail head).share) ++ ahead (shared_head tail head).head
-taken_after tail limit given last Unread pieces asked is was = absurd (asked refl)
-taken_after tail limit given last (Read p) pieces asked is was = taken_read tail limit given last p pieces is was
-taken_after tail limit given last Ended pieces asked is was = was ∙ ap (λ xs. xs ++ []) (sym (append-nil pieces))
-
--- a list that has a place has an element
-pub some_in : {X : Type 0} (xs : List X) (k : ℕ) → k < length xs → X
-some_in [] k under = absurd (omega arith)
-some_in (x ∷ xs) k under = x
-
-pub small_seats : {P : Type 0} (given : P → List Piece) (limit : P → ℕ) (m : Merging P) → IsMerging given limit m → AreSmall m.seats
-small_seats given limit m is k p under read =
-    let len : length m.seats ≡ length m.streams = is.len in
-    let inside : k < length m.streams = omega arith in
-    let s = ahead_in given limit m is k (some_in m.streams k inside) p inside read in
-    small_last s.front p (subst (All (λ piece. piece.count ≤ 2 ^ 47)) s.is s.given.counts)
-
-pub gives : {P : Type 0} (given : P → List Piece) (limit : P → ℕ) (m : Merging P) (after : Seats) (tail count : ℕ) →
-    IsMerging given limit m → ((k : ℕ) → k < length m.streams → (seat_at m.seats k).head ≡ Unread → ⊥) → IsLeast m.seats (length m.seats) tail →
-    IsSharedOut m after tail count → Gives given limit m (shared_out m after tail) (record { tail = tail; count = count })
-gives given limit m after tail count is read least out =
-    let len : length m.seats ≡ length m.streams = is.len in
-    let inside : least.place < length m.streams = let w : least.place < length m.seats = least.within in omega arith in
-    let s = ahead_in given limit m is least.place (some_in m.streams least.place inside) least.piece inside least.read in
-    let counted : 1 ≤ least.piece.count = (ends_one _ s.front least.piece (subst (AscendsFrom 0 _) s.is s.given.table)).1 in
-    let whose : seat_at after.seats least.place ≡ record { head = Unread; share = least.piece.count } =
-    out.seats least.place least.within ∙ ap (shared_head tail) least.read ∙ shared_here tail least.piece least.its_tail in
-    let share : (seat_at after.seats least.place).share ≡ least.piece.count = ap (λ s. s.share) whose in
-    let within : least.place < length after.seats = let l : length after.seats ≡ length m.seats = out.len in let w : least.place < length m.seats = least.within in omega arith in
-    let part : (seat_at after.seats least.place).share ≤ sum_by (λ seat. seat.share) after.seats = get_or-le-sum_by (λ seat. seat.share) after.seats least.place fresh within in
-    let sum : count ≡ sum_by (λ seat. seat.share) after.seats = out.sum in
-    record {
-      streams = refl;
-      seats = out.len;
-      room = out.room;
-      last = refl;
-      above = λ before was. let up : before < least.piece.tail = s.above before was in let same : least.piece.tail ≡ tail = least.its_tail in omega arith;
-      below = record {
-        stream = least.place;
-        within = inside;
-        below = λ d. let t = ahead_in given limit m is least.place d least.piece inside least.read in
-            subst (λ n. n < limit (get_or m.streams least.place d)) least.its_tail (ends_one _ t.front least.piece (subst (AscendsFrom 0 _) t.is t.given.table)).0;
-      };
-      sum = out.sum;
-      counted = omega arith;
-      small = out.small;
-      taken = λ k pieces under was d. subst (λ (x : Seat). given (get_or m.streams k d) ≡ (pieces ++ part_of tail x.share) ++ ahead x.head) (sym (out.seats k (omega arith)))
-          (taken_after tail (limit (get_or m.streams k d)) (given (get_or m.streams k d)) m.last (seat_at m.seats k).head pieces (read k under) (is.seated k d under) (was d));
-    }
-
--- no stream of a merge that is seen as another is to be asked
-pub asked_seats : {P : Type 0} (m before : Merging P) → m ≡ before → length m.seats ≡ length m.streams → IsAsked before → AreAsked m.seats
-asked_seats {P} m before seen len asked k under = subst (λ (b : Merging P). IsAsked b) (sym seen) asked k (omega arith)
-
--- the same of a merge that is seen as another
-pub gives_seen : {P : Type 0} (given : P → List Piece) (limit : P → ℕ) (m before : Merging P) (after : Seats) (tail count : ℕ) → m ≡ before →
-    IsMerging given limit m → IsAsked m → IsLeast m.seats (length m.seats) tail →
-    IsSharedOut m after tail count → Gives given limit before (shared_out m after tail) (record { tail = tail; count = count })
-gives_seen given limit m before after tail count seen is read least out =
-    subst (λ b. Gives given limit b (shared_out m after tail) (record { tail = tail; count = count })) seen (gives given limit m after tail count is read least out)
-
--- where none was read ahead of the streams that were asked, all ended
-ended_head : (head : Head) → (head ≡ Unread → ⊥) → ((p : Piece) → head ≡ Read p → ⊥) → head ≡ Ended
-ended_head Unread asked none = absurd (asked refl)
-ended_head (Read p) asked none = absurd (none p refl)
-ended_head Ended asked none = refl
-
-pub all_ended : {P : Type 0} (m before : Merging P) → m ≡ before → length m.seats ≡ length m.streams → IsAsked before → IsNoneRead m.seats (length m.seats) → AreEnded before
-all_ended {P} m before seen len asked none = subst (λ (b : Merging P). AreEnded b) seen (λ k under.
-    ended_head (seat_at m.seats k).head (subst (λ (b : Merging P). IsAsked b) (sym seen) asked k under) (λ p at. none k p (omega arith) at))
+-- the order is over, and nothing was in hand
+pub gives_end : {S C : Type 0} (members : StreamsOf S C) (faults mark : C → ℕ) (a b : C) (m after : Merging S) (y : Ordering S) →
+    HasStepped members faults mark a m.order b y None → m.sums.taken ≡ [] → after.order ≡ y → after.sums ≡ m.sums → Gives members m after None
+gives_end {S} members faults mark a b m after y stepped none order sums = record {
+  above = tt;
+  below = tt;
+  last = tt;
+  sum = tt;
+  small = tt;
+  taken = λ k pieces under was.
+      let shape : (pieces ++ taken_of m k) ++ [] ≡ (pieces ++ []) ++ taken_of after k = append-nil (pieces ++ taken_of m k) ∙
+      (λ j. sym (append-nil pieces) j ++ pieces_of (sym sums j).tail (share_in (sym sums j).taken k)) in
+      subst (λ (x : Ordering S). members.given x.streams k ≡ ((pieces ++ []) ++ taken_of after k) ++ front_at x.ahead k) (sym order)
+      (stepped.taken k (pieces ++ taken_of m k) under was ∙ ap (λ xs. xs ++ front_at y.ahead k) shape);
+  over = λ is. record { order = subst (λ (x : Ordering S). IsOrderEnded members x) (sym order) (stepped.over refl); none = ap (λ (s : Taking). s.taken) sums ∙ none };
+  nothing = λ is. (ap (λ (s : Taking). s.last) sums, λ k. ap (λ (s : Taking). share_in s.given k) sums);
+}

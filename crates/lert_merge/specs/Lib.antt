@@ -1,3 +1,2 @@
-pub mod Draws
-pub mod Seats
+pub mod Givers
 pub mod Merging

@@ -1,191 +1,233 @@
 //! The merge.
 
-ghost use Rattle.std.specs.Prelude.{◌≡◌, ◌≢◌, ℕ, ◌+◌, ◌<◌, ◌≤◌, List, ◌++◌, ◌^◌, length, map, Some, None, Ok, Err, MatchOption, IfSome, IfOk, OnOk, OnErr, sum_by, slice_index_or};
+ghost use Rattle.std.specs.Prelude.{◌≡◌, ℕ, ◌<◌, ◌≤◌, ◌^◌, ◌+◌, IsTrue, List, ◌++◌, ◌∷◌, [], length, map, slice_set, true, false, Some, None, Ok, Err, MatchOption, IfSome, IfOk, OnOk, OnErr};
 ghost use Rattle.lert_io.specs.Fault.{HasRisen};
 ghost use Rattle.lert_spec.specs.declared.piece.Piece.{Piece};
-ghost use Rattle.lert_merge.specs.Seats.{seat_at, fresh, unread_in};
-ghost use Rattle.lert_merge.specs.Merging.{Merging, Tells, HasTaken, part_in, IsNext, AreShares, AreOver, IsAbove, IsBelowOne, IsNothingGiven, IsAsked, IsToAsk, AreEnded, AllStay, AllTold, AreSame, Gives, Breaks, share_of, behind};
-ghost use Rattle.lert_merge.specs.declared.heads.Head.{Head};
-ghost use Rattle.lert_merge.specs.declared.heads.Head.TheVariants.{Unread};
+ghost use Rattle.lert_spec.specs.Table.{AreGiven};
+ghost use Rattle.lert_order.specs.Ordering.{AreOver, AreKnown, AreSame, Breaks, IsNotBelow, IsBelow};
+ghost use Rattle.lert_order.specs.Ordering.{Tells as OrderTells, HasTaken as OrderHasTaken, IsNext as OrderIsNext, part_in as order_part, AreEnded as IsOrderEnded, IsNothingGiven as IsNoneGiven};
+ghost use Rattle.lert_merge.specs.Givers.{sum_below};
+ghost use Rattle.lert_merge.specs.Merging.{Merging, Tells, HasTaken, part_in, IsNext, AreShares, IsAbove, IsBelowOne, IsNothingGiven, AreEnded, HasTurned, share_of, behind, turn_of};
 
 use crate::heads::Heads;
-use lert_base::{Piece, PieceFault, Pieces};
+use crate::sums::Sums;
+use lert_base::{Piece, PieceFault};
 use lert_io::Faulty;
-use std::marker::{Model, PhantomData};
+use lert_order::{Order, Streams};
+use std::marker::Model;
 
-/// A merge of streams of pieces, seen as the streams, what was read ahead of each, and the tail given last.
-///
-/// At most one piece is read ahead of each stream. Only `Heads::new` takes memory.
-#[derive(Drop)]
-pub struct Merge<C: Faulty, P: Pieces<C>> {
-    streams: Vec<P>,
-    heads: Heads,
-    last: Option<u64>,
-    of: PhantomData<C>,
+/// What came of a step of the order.
+#[derive(Clone, Copy, Debug)]
+pub enum Turn {
+    /// A piece was taken of the tail in hand.
+    Taken,
+    /// No more comes of the tail in hand: it is given. None where there was none, and the order is over.
+    Given(Option<Piece>),
 }
 
-impl<C: Faulty, P: Pieces<C>> Model for Merge<C, P> {
+/// The sums of the pieces of a set of streams, seen as the order of their pieces and what was taken of it.
+///
+/// The pieces of one tail are taken one by one, until a piece of another tail comes. Only `Heads::new` takes memory.
+#[derive(Drop)]
+pub struct Merge<C: Faulty, S: Streams<C>> {
+    order: Order<C, S>,
+    sums: Sums,
+    is_over: bool,
+}
+
+impl<C: Faulty, S: Streams<C>> Model for Merge<C, S> {
     ghost use Rattle.lert_merge.specs.Merging.{Merging, IsMerging};
 
-    ghost Value = { Merging P };
+    ghost Value = { Merging S };
 
-    ghost view = { λ m. record { streams = m.streams.items; seats = m.heads.seats; room = m.heads.room; last = m.last } };
+    ghost view = { λ m. record { order = m.order; sums = m.sums; is_over = m.is_over } };
 
-    ghost invariant = { λ m. IsMerging P.given P.limit (record {
-      streams = m.streams.items;
-      seats = m.heads.seats;
-      room = m.heads.room;
-      last = m.last;
-    }) };
+    ghost invariant = { λ m. IsMerging S.Streams (record { order = m.order; sums = m.sums; is_over = m.is_over }) };
 }
 
-impl<C: Faulty, P: Pieces<C>> Merge<C, P> {
+impl<C: Faulty, S: Streams<C>> Merge<C, S> {
     /// Begins a merge of what is to come of the streams. Nothing is read yet.
-    pub fn new(streams: Vec<P>, mut heads: Heads) -> Merge<C, P>
-        requires few { length streams.items ≤ 65535 }
-        requires room { length streams.items ≤ heads.room }
-        ensures streams { result.streams ≡ streams.items }
-        ensures len { length result.seats ≡ length streams.items }
-        ensures fresh { (k : ℕ) → k < length streams.items → seat_at result.seats k ≡ fresh }
-        ensures room { result.room ≡ heads.room }
-        ensures last { result.last ≡ None }
+    pub fn new(streams: S, heads: Heads) -> Merge<C, S>
+        requires few { S.count streams ≤ 65535 }
+        requires room { S.count streams ≤ heads.room }
+        ensures streams { result.order.streams ≡ streams }
+        ensures tails { result.order.ahead.tails ≡ [] }
+        ensures counts { result.order.ahead.counts ≡ [] }
+        ensures taken { result.sums.taken ≡ [] }
+        ensures shares { (k : ℕ) → share_of result k ≡ 0 }
+        ensures last { result.sums.last ≡ None }
+        ensures room { result.sums.room ≡ heads.room }
+        ensures going { result.is_over ≡ false }
     {
-        heads.begin(streams.len());
+        let Heads { ahead, mut sums } = heads;
+        sums.clear();
         Merge {
-            streams,
-            heads,
-            last: None,
-            of: PhantomData,
+            order: Order::new(streams, ahead),
+            sums,
+            is_over: false,
         }
     }
 
     /// The least tail still to come, with the sum of its counts. None exactly where no stream has more.
     ///
-    /// After a refusal nothing is said of what is still to come of the stream that refused.
+    /// After a refusal nothing is said of what is still to come of the stream that refused. What was taken of a tail
+    /// before it stays in the merge, and the next call goes on with it.
+    #[inline]
     pub fn next(&mut self, ctx: &mut C) -> Result<Option<Piece>, PieceFault>
         // Where the context tells, the pieces of the least tail are taken from the front of all lists.
-        ensures told { (lists : List (List Piece)) → Tells P.to_come ctx.old self.old lists → IfOk result (λ piece.
-            MatchOption piece (AreOver lists × Tells P.to_come ctx.new self.new lists) (λ p.
+        ensures told { (lists : List (List Piece)) → Tells S.Streams ctx.old self.old lists → IfOk result (λ piece.
+            MatchOption piece (AreOver lists × Tells S.Streams ctx.new self.new lists) (λ p.
             IsNext lists p × AreShares self.new lists p.tail ×
-            Tells P.to_come ctx.new self.new (map (behind p.tail) lists))) }
-        ensures untold { (k : ℕ) (d : P) → k < length self.old.streams →
-            P.to_come (slice_index_or self.old.streams k d) ctx.old ≡ None →
-            P.to_come (slice_index_or self.new.streams k d) ctx.new ≡ None }
+            Tells S.Streams ctx.new self.new (map (behind p.tail) lists))) }
+        ensures untold { (k : ℕ) → k < S.count self.old.order.streams →
+            S.to_come self.old.order.streams k ctx.old ≡ None → S.to_come self.new.order.streams k ctx.new ≡ None }
 
         // Told or not, the tails ascend below the greatest limit, and the shares are what the streams gave.
-        ensures above { IfOk result (λ piece. IfSome piece (λ p. IsAbove self.old.last p.tail)) }
-        ensures below { IfOk result (λ piece. IfSome piece (λ p. IsBelowOne P.limit self.new.streams p.tail)) }
-        ensures last { IfOk result (λ piece. IfSome piece (λ p. self.new.last ≡ Some p.tail)) }
-        ensures sum { IfOk result (λ piece. IfSome piece (λ p. p.count ≡ sum_by (λ seat. seat.share) self.new.seats)) }
+        ensures above { IfOk result (λ piece. IfSome piece (λ p. IsAbove self.old.sums.last p.tail)) }
+        ensures below { IfOk result (λ piece. IfSome piece (λ p. IsBelowOne S.Streams self.new.order.streams p.tail)) }
+        ensures last { IfOk result (λ piece. IfSome piece (λ p. self.new.sums.last ≡ Some p.tail)) }
+        ensures sum { IfOk result (λ piece. IfSome piece (λ p.
+            p.count ≡ sum_below (share_of self.new) (S.count self.new.order.streams))) }
         ensures small { IfOk result (λ piece. IfSome piece (λ p. (1 ≤ p.count) × (p.count < 2 ^ 63))) }
-        ensures taken { IfOk result (λ piece. (k : ℕ) (pieces : List Piece) → k < length self.old.streams →
-            HasTaken P.given self.old k pieces →
-            HasTaken P.given self.new k (pieces ++ part_in piece (share_of self.new k))) }
-        ensures refused { OnErr result ((k : ℕ) (pieces : List Piece) → k < length self.old.streams →
-            HasTaken P.given self.old k pieces → HasTaken P.given self.new k pieces) }
-        ensures over { result ≡ Ok None → AreEnded self.new }
-        ensures nothing_given { IsNothingGiven result → (self.new.last ≡ self.old.last) ×
+        ensures taken { IfOk result (λ piece. (k : ℕ) (pieces : List Piece) → k < S.count self.old.order.streams →
+            HasTaken S.Streams self.old k pieces →
+            HasTaken S.Streams self.new k (pieces ++ part_in piece (share_of self.new k))) }
+        ensures refused { OnErr result ((k : ℕ) (pieces : List Piece) → k < S.count self.old.order.streams →
+            HasTaken S.Streams self.old k pieces → HasTaken S.Streams self.new k pieces) }
+        ensures over { result ≡ Ok None → AreEnded S.Streams self.new }
+        ensures nothing_given { IsNothingGiven result → (self.new.sums.last ≡ self.old.sums.last) ×
             ((k : ℕ) → share_of self.new k ≡ share_of self.old k) }
 
         ensures failed { result ≡ Err PieceFault.Failed → HasRisen (C.faults ctx.old) (C.faults ctx.new) }
         ensures malformed { (at : ℕ) → result ≡ Err (PieceFault.Malformed at) →
-            Breaks P.to_come P.breaks ctx.old self.old.streams at }
-        ensures same { AreSame P.limit P.breaks ctx.old self.old ctx.new self.new }
+            Breaks S.Streams ctx.old self.old.order.streams at }
+        ensures same { AreSame S.Streams ctx.old self.old.order ctx.new self.new.order }
+        ensures kept { S.same self.old.order.streams self.new.order.streams }
 
         ensures faults { C.faults ctx.old ≤ C.faults ctx.new }
         ensures mark { C.mark ctx.new ≡ C.mark ctx.old }
-        ensures keeps { P.keeps ctx.old ctx.new }
+        ensures keeps { S.keeps ctx.old ctx.new }
     {
-        self.fill(ctx)?;
-        Ok(self.give())
+        if self.is_over() {
+            return Ok(None);
+        }
+        self.advance(ctx)
     }
 
-    // Reads a piece of each stream ahead, where none was.
-    fn fill(&mut self, ctx: &mut C) -> Result<(), PieceFault>
-        ensures stay { AllStay P.to_come P.given P.limit P.breaks ctx.old self.old ctx.new self.new }
-        ensures told { OnOk result (AllTold P.to_come ctx.old self.old ctx.new self.new) }
-        ensures read { OnOk result (IsAsked self.new) }
+    /// The next piece of one stream, as the order gives it, in place of the sum of its tail. Only a merge that gave no
+    /// sum so far may be asked for it.
+    ///
+    /// After a refusal what was read ahead is as it was, and nothing is said of what is still to come of the stream
+    /// that refused.
+    #[inline]
+    pub fn step(&mut self, ctx: &mut C) -> Result<Option<(usize, Piece)>, PieceFault>
+        requires none { self.old.sums.taken ≡ [] }
+        requires going { self.old.is_over ≡ false }
+        ensures told { (lists : List (List Piece)) → OrderTells S.Streams ctx.old self.old.order lists →
+            IfOk result (λ given.
+            MatchOption given (AreOver lists × OrderTells S.Streams ctx.new self.new.order lists) (λ g.
+            (rest : List Piece) × (OrderIsNext lists g.0 g.1 rest ×
+            OrderTells S.Streams ctx.new self.new.order (slice_set lists g.0 rest)))) }
+        ensures untold { (k : ℕ) → k < S.count self.old.order.streams →
+            S.to_come self.old.order.streams k ctx.old ≡ None → S.to_come self.new.order.streams k ctx.new ≡ None }
+        ensures known { OnOk result (AreKnown S.Streams ctx.old self.old.order ctx.new self.new.order) }
+        ensures above { IfOk result (λ given. IfSome given (λ g. IsNotBelow self.old.order.last g.1.tail)) }
+        ensures below { IfOk result (λ given. IfSome given (λ g.
+            IsBelow S.Streams self.new.order.streams g.0 g.1.tail)) }
+        ensures last { IfOk result (λ given. IfSome given (λ g. self.new.order.last ≡ Some g.1.tail)) }
+        ensures small { IfOk result (λ given. IfSome given (λ g. (1 ≤ g.1.count) × (g.1.count ≤ 2 ^ 47))) }
+        ensures ascending { IfOk result (λ given. IfSome given (λ g. (pieces : List Piece) →
+            OrderHasTaken S.Streams self.old.order g.0 pieces →
+            AreGiven (S.limit self.new.order.streams g.0) (pieces ++ g.1 ∷ []))) }
+        ensures taken { IfOk result (λ given. (k : ℕ) (pieces : List Piece) → k < S.count self.old.order.streams →
+            OrderHasTaken S.Streams self.old.order k pieces →
+            OrderHasTaken S.Streams self.new.order k (pieces ++ order_part given k)) }
+        ensures refused { OnErr result ((k : ℕ) (pieces : List Piece) → k < S.count self.old.order.streams →
+            OrderHasTaken S.Streams self.old.order k pieces → OrderHasTaken S.Streams self.new.order k pieces) }
+        ensures held { (k : ℕ) → k < S.count self.old.order.streams →
+            (pieces : List Piece) × OrderHasTaken S.Streams self.old.order k pieces }
+        ensures over { result ≡ Ok None → IsOrderEnded S.Streams self.new.order }
+        ensures nothing_given { IsNoneGiven result → self.new.order.last ≡ self.old.order.last }
+        ensures sums { self.new.sums ≡ self.old.sums }
+        ensures going { self.new.is_over ≡ false }
 
         ensures failed { result ≡ Err PieceFault.Failed → HasRisen (C.faults ctx.old) (C.faults ctx.new) }
         ensures malformed { (at : ℕ) → result ≡ Err (PieceFault.Malformed at) →
-            Breaks P.to_come P.breaks ctx.old self.old.streams at }
+            Breaks S.Streams ctx.old self.old.order.streams at }
+        ensures same { AreSame S.Streams ctx.old self.old.order ctx.new self.new.order }
+        ensures kept { S.same self.old.order.streams self.new.order.streams }
 
         ensures faults { C.faults ctx.old ≤ C.faults ctx.new }
         ensures mark { C.mark ctx.new ≡ C.mark ctx.old }
-        ensures keeps { P.keeps ctx.old ctx.new }
+        ensures keeps { S.keeps ctx.old ctx.new }
     {
-        while let Some(stream) = self.to_ask() {
-            self.read_ahead(stream, ctx)?;
+        self.order.step(ctx)
+    }
+
+    // Whether the order is over, and all that was taken of it given.
+    #[inline]
+    fn is_over(&self) -> bool
+        ensures ended { IsTrue result → AreEnded S.Streams self.now }
+        ensures going { result ≡ false → self.now.is_over ≡ false }
+    {
+        self.is_over
+    }
+
+    // Takes turns until a piece is given.
+    fn advance(&mut self, ctx: &mut C) -> Result<Option<Piece>, PieceFault>
+        requires { self.old.is_over ≡ false }
+        ensures { HasTurned S.Streams C.faults C.mark ctx.old self.old ctx.new self.new (turn_of result) }
+    {
+        loop {
+            if let Turn::Given(piece) = self.turn(ctx)? {
+                return Ok(piece);
+            }
         }
-        Ok(())
     }
 
-    // A stream that no piece was read ahead of, though it didn't end.
-    fn to_ask(&mut self) -> Option<usize>
-        ensures same { self.new ≡ self.old }
-        ensures found { MatchOption result (IsAsked self.old) (IsToAsk self.old) }
+    // Takes the order's next piece. One of another tail than those in hand gives these.
+    fn turn(&mut self, ctx: &mut C) -> Result<Turn, PieceFault>
+        requires { self.old.is_over ≡ false }
+        ensures turned { HasTurned S.Streams C.faults C.mark ctx.old self.old ctx.new self.new result }
+        ensures goes_on { result ≡ Ok Turn.Taken → (self.new.is_over ≡ false)
+            × (length self.new.sums.taken ≡ length self.old.sums.taken + 1)
+            × (length self.new.sums.taken ≤ S.count self.old.order.streams) }
     {
-        self.heads.to_ask()
+        let taken = self.order.step(ctx)?;
+        let Some((stream, piece)) = taken else {
+            self.is_over = true;
+            let rest = self.sums.give();
+            return Ok(Turn::Given(rest));
+        };
+        if self.sums.is_of(piece.tail) {
+            self.sums.add(stream, piece);
+            return Ok(Turn::Taken);
+        }
+        let given = self.sums.give();
+        self.sums.add(stream, piece);
+        Ok(Turn::Given(given))
     }
 
-    // Reads a piece of a stream ahead.
-    fn read_ahead(&mut self, stream: usize, ctx: &mut C) -> Result<(), PieceFault>
-        requires { IsToAsk self.old stream }
-        ensures stay { AllStay P.to_come P.given P.limit P.breaks ctx.old self.old ctx.new self.new }
-        ensures told { OnOk result (AllTold P.to_come ctx.old self.old ctx.new self.new) }
-        ensures read { OnOk result ((seat_at self.new.seats stream).head ≢ Unread) }
-        ensures others { (k : ℕ) → k ≢ stream → seat_at self.new.seats k ≡ seat_at self.old.seats k }
-        ensures fewer { OnOk result (unread_in self.new.seats < unread_in self.old.seats) }
-
-        ensures failed { result ≡ Err PieceFault.Failed → HasRisen (C.faults ctx.old) (C.faults ctx.new) }
-        ensures malformed { (at : ℕ) (d : P) → result ≡ Err (PieceFault.Malformed at) →
-            (P.to_come (slice_index_or self.old.streams stream d) ctx.old ≡ None) ×
-            P.breaks (slice_index_or self.old.streams stream d) ctx.old at }
-
-        ensures faults { C.faults ctx.old ≤ C.faults ctx.new }
-        ensures mark { C.mark ctx.new ≡ C.mark ctx.old }
-        ensures keeps { P.keeps ctx.old ctx.new }
-    {
-        let piece = self.streams[stream].next(ctx)?;
-        self.heads.put(stream, piece);
-        Ok(())
-    }
-
-    // Gives the pieces of the least tail that was read ahead.
-    fn give(&mut self) -> Option<Piece>
-        requires { IsAsked self.old }
-        ensures none { result ≡ None → self.new ≡ self.old }
-        ensures over { result ≡ None → AreEnded self.new }
-        ensures some { IfSome result (Gives P.given P.limit self.old self.new) }
-        ensures told { (ctx : C) (lists : List (List Piece)) → Tells P.to_come ctx self.old lists →
-            MatchOption result (AreOver lists) (λ p. IsNext lists p × AreShares self.new lists p.tail ×
-            Tells P.to_come ctx self.new (map (behind p.tail) lists)) }
-    {
-        let tail = self.heads.least()?;
-        let count = self.heads.share_out(tail);
-        self.last = Some(tail);
-        Some(Piece { tail, count })
-    }
-
-    /// A stream's share of the piece that was given last.
+    /// A stream's share of the piece that was given last, 0 where it had none. It looks at the streams that had one.
+    #[inline]
     pub fn share(&self, stream: usize) -> u64
-        requires { stream < length self.now.streams }
+        requires { stream < S.count self.now.order.streams }
         ensures { result ≡ share_of self.now stream }
     {
-        self.heads.share(stream)
+        self.sums.share(stream)
     }
 
-    /// The streams in their order, and the heads for the next merge.
-    pub fn into_parts(self) -> (Vec<P>, Heads)
-        ensures streams { result.0.items ≡ self.streams }
-        ensures room { result.1.room ≡ self.room }
+    /// The set of streams, and the heads for the next merge.
+    pub fn into_parts(self) -> (S, Heads)
+        ensures streams { result.0 ≡ self.order.streams }
+        ensures room { result.1.room ≡ self.sums.room }
     {
         let Merge {
-            streams,
-            heads,
-            last: _,
-            of: _,
+            order,
+            sums,
+            is_over: _,
         } = self;
-        (streams, heads)
+        let (streams, ahead) = order.into_parts();
+        (streams, Heads { ahead, sums })
     }
 }

@@ -15,6 +15,7 @@ use crate::sorted::{Quiet, Sorted};
 use anyhow::{Context, Result, bail};
 use lert_io::OutOfMemory;
 use lert_merge::{Heads, Merge};
+use lert_order::Each;
 use std::alloc::Global;
 use std::env;
 use std::time::Instant;
@@ -44,8 +45,8 @@ fn read_words<R: env::Env + AllocGlobal>(rt: &R) -> Result<Task> {
 }
 
 /// The streams of a task, and the memory of their merge.
-fn prepare(alloc: Global, task: &Task) -> Result<Merge<Quiet, Sorted>, OutOfMemory>
-    ensures { IfOk result (λ merge. length merge.streams ≡ task.now.streams) }
+fn prepare(alloc: Global, task: &Task) -> Result<Merge<Quiet, Each<Sorted>>, OutOfMemory>
+    ensures { IfOk result (λ merge. length merge.order.streams ≡ task.now.streams) }
 {
     let mut random = Random::new(task.seed);
     let mut streams = Vec::new(alloc);
@@ -53,12 +54,12 @@ fn prepare(alloc: Global, task: &Task) -> Result<Merge<Quiet, Sorted>, OutOfMemo
         streams.push(Sorted::new(random.pieces(alloc, task.pieces)?))?;
     }
     let heads = Heads::new(alloc, streams.len())?;
-    Ok(Merge::new(streams, heads))
+    Ok(Merge::new(Each::of(streams), heads))
 }
 
 /// Merges all that is to come, at most so many pieces, and sums up the tails, the counts and the first stream's shares.
-fn sum_up(merge: &mut Merge<Quiet, Sorted>, most: u64) -> u64
-    requires { 0 < length merge.old.streams }
+fn sum_up(merge: &mut Merge<Quiet, Each<Sorted>>, most: u64) -> u64
+    requires { 0 < length merge.old.order.streams }
 {
     let mut ctx = Quiet {};
     let mut sum = 0u64;

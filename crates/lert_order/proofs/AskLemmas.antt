@@ -1,104 +1,136 @@
--- One stream is asked, and the others stay.
-use Rattle.std.proofs.Common.{◌≡◌, ◌≢◌, ℕ, ◌<◌, ◌↔◌, Option, Some, None, List, [], ◌∷◌, ◌++◌, length, set, get_or, arith, sym, ap, ◌∙◌, refl}
-use Rattle.std.proofs.Common.{subst, inl, inr, MatchOption, get_or-set_same, get_or-set_other, length-set, option_to_list, append-nil}
+-- One stream of a set is asked, and the others stay.
+use Rattle.std.proofs.Common.{◌≡◌, ◌≢◌, ℕ, ◌<◌, ◌↔◌, Option, Some, None, List, [], ◌∷◌, ◌++◌, sym, ap, ◌∙◌, refl}
+use Rattle.std.proofs.Common.{subst, inl, inr, ◌⊎◌, MatchOption, option_to_list, append-nil}
 use Rattle.std.proofs.lemmas.Bool.{cases_eq}
-use Rattle.std.proofs.lemmas.List.{get_or_default}
 use Rattle.lert_spec.specs.declared.piece.Piece.{Piece}
 use Rattle.lert_spec.specs.Table.{AreGiven}
 use Rattle.lert_order.specs.Fronts.{Fronts, front_at}
-use Rattle.lert_order.specs.Ordering.{Ordering, Gives, AllGive, Breaks}
+use Rattle.lert_order.specs.Ordering.{Ordering, none_of, Gives, AllGive, Breaks}
+use Rattle.lert_order.specs.Untouched.{IsUntouched}
+use Rattle.lert_order.specs.declared.streams.Streams.{Ghosts as StreamsOf}
 
--- what holds of the stream that was changed, and of each other, holds of each
-pub each_stream : {P : Type 0} (Q : ℕ → P → Type 0) (streams : List P) (i : ℕ) (new : P) → i < length streams → Q i new →
-    ((k : ℕ) (d : P) → k ≢ i → k < length streams → Q k (get_or streams k d)) →
-    (k : ℕ) (d : P) → k < length streams → Q k (get_or (set streams i new) k d)
-each_stream Q streams i new within here others k d under = elim (cases_eq k i) [
-  | inl same ↦ subst (λ n. Q n (get_or (set streams i new) n d)) (sym same) (subst (Q i) (sym (get_or-set_same streams i new d within)) here)
-  | inr ne ↦ subst (Q k) (sym (get_or-set_other streams i k new d ne)) (others k d ne under)
+-- what holds of the stream that was asked, and of each other, holds of each
+pub each_number : (Q : ℕ → Type 0) (i : ℕ) → Q i → ((k : ℕ) → k ≢ i → Q k) → (k : ℕ) → Q k
+each_number Q i here others k = elim (cases_eq k i) [
+  | inl same ↦ subst Q (sym same) here
+  | inr ne ↦ others k ne
 ]
 
--- the same of streams and their lists
-pub each_list : {P : Type 0} (Q : ℕ → P → List Piece → Type 0) (streams : List P) (lists : List (List Piece)) (i : ℕ) (new : P) (rest : List Piece) →
-    length lists ≡ length streams → i < length streams → Q i new rest →
-    ((k : ℕ) (d : P) → k ≢ i → k < length streams → Q k (get_or streams k d) (get_or lists k [])) →
-    (k : ℕ) (d : P) → k < length streams → Q k (get_or (set streams i new) k d) (get_or (set lists i rest) k [])
-each_list Q streams lists i new rest len within here others k d under =
-    let inside : i < length lists = omega arith in elim (cases_eq k i) [
-      | inl same ↦ subst (λ n. Q n (get_or (set streams i new) n d) (get_or (set lists i rest) n [])) (sym same)
-          (subst (λ s. Q i s (get_or (set lists i rest) i [])) (sym (get_or-set_same streams i new d within))
-          (subst (Q i new) (sym (get_or-set_same lists i rest [] inside)) here))
-      | inr ne ↦ subst (λ s. Q k s (get_or (set lists i rest) k [])) (sym (get_or-set_other streams i k new d ne))
-          (subst (Q k (get_or streams k d)) (sym (get_or-set_other lists i k rest [] ne)) (others k d ne under))
-    ]
+pub none_or : {X : Type 0} (o : Option X) → (o ≡ None) ⊎ ((x : X) × (o ≡ Some x))
+none_or None = inl refl
+none_or (Some x) = inr (x, refl)
+
+-- the laws that each set of streams keeps
+pub record AreLawful {S C : Type 0} (members : StreamsOf S C) : Type 0 where
+  pub in_order : (streams : S) (k : ℕ) (ctx : C) (pieces : List Piece) → k < members.count streams → members.to_come streams k ctx ≡ Some pieces →
+      AreGiven (members.limit streams k) (members.given streams k ++ pieces)
+  pub keeps_same : (ctx : C) → members.keeps ctx ctx
+  pub keeps_on : (a b c : C) → members.keeps a b → members.keeps b c → members.keeps a c
+  pub keeps_told : (streams : S) (k : ℕ) (a b : C) (ps : List Piece) → members.keeps a b → members.to_come streams k a ≡ Some ps → members.to_come streams k b ≡ Some ps
+  pub keeps_untold : (streams : S) (k : ℕ) (a b : C) → members.keeps a b → members.to_come streams k a ≡ None → members.to_come streams k b ≡ None
+  pub keeps_breaks : (streams : S) (k : ℕ) (a b : C) (at : ℕ) → members.keeps a b → members.breaks streams k b at ↔ members.breaks streams k a at
+  pub same_self : (streams : S) → members.same streams streams
+  pub same_on : (a b c : S) → members.same a b → members.same b c → members.same a c
 
 -- what a stream's answer says
-pub record IsAsked {P C : Type 0} (to_come : P → C → Option (List Piece)) (given : P → List Piece) (limit : P → ℕ) (breaks : P → C → ℕ → Type 0)
-    (keeps : C → C → Type 0) (before : C) (old : P) (after : C) (new : P) (next : Option Piece) : Type 0 where
-  pub told : (ps : List Piece) → to_come old before ≡ Some ps → MatchOption next ((ps ≡ []) × (to_come new after ≡ Some []))
-      (λ p. (rest : List Piece) × (ps ≡ p ∷ rest) × (to_come new after ≡ Some rest))
-  pub untold : to_come old before ≡ None → to_come new after ≡ None
-  pub gave : given new ≡ given old ++ option_to_list next
-  pub are : AreGiven (limit new) (given new)
-  pub limits : limit new ≡ limit old
-  pub same_breaks : (at : ℕ) → breaks new after at ↔ breaks old before at
-  pub kept : keeps before after
+pub record IsAsked {S C : Type 0} (members : StreamsOf S C) (i : ℕ) (before : C) (old : S) (after : C) (new : S) (next : Option Piece) : Type 0 where
+  pub told : (ps : List Piece) → members.to_come old i before ≡ Some ps → MatchOption next ((ps ≡ []) × (members.to_come new i after ≡ Some []))
+      (λ p. (rest : List Piece) × (ps ≡ p ∷ rest) × (members.to_come new i after ≡ Some rest))
+  pub untold : members.to_come old i before ≡ None → members.to_come new i after ≡ None
+  pub gave : members.given new i ≡ members.given old i ++ option_to_list next
+  pub are : AreGiven (members.limit new i) (members.given new i)
+  pub limits : members.limit new i ≡ members.limit old i
+  pub same_breaks : (at : ℕ) → members.breaks new i after at ↔ members.breaks old i before at
 
--- a stream gives its part, and its answer is read ahead
-pub gives_next : {P C : Type 0} (to_come : P → C → Option (List Piece)) (given : P → List Piece) (limit : P → ℕ) (breaks : P → C → ℕ → Type 0) (keeps : C → C → Type 0)
-    (part : List Piece) (a b : C) (old new : P) (front ahead : List Piece) (next : Option Piece) →
-    front ≡ part → ahead ≡ option_to_list next → IsAsked to_come given limit breaks keeps a old b new next → Gives to_come given limit breaks part a old front b new ahead
-gives_next to_come given limit breaks keeps part a b old new front ahead next at after asked = record {
-  taken = λ pieces is. asked.gave ∙ ap (λ xs. xs ++ option_to_list next) (is ∙ ap (λ xs. pieces ++ xs) at) ∙ ap (λ xs. (pieces ++ part) ++ xs) (sym after);
-  untold = asked.untold;
-  limits = asked.limits;
-  same_breaks = asked.same_breaks;
-}
+-- what a refusal says of the stream that was asked
+pub record IsRefused {S C : Type 0} (members : StreamsOf S C) (i : ℕ) (before : C) (old : S) (after : C) (new : S) : Type 0 where
+  pub gave : members.given new i ≡ members.given old i
+  pub untold : members.to_come old i before ≡ None → members.to_come new i after ≡ None
+  pub limits : members.limit new i ≡ members.limit old i
+  pub same_breaks : (at : ℕ) → members.breaks new i after at ↔ members.breaks old i before at
 
--- a stream that refused gives nothing
-pub gives_none : {P C : Type 0} (to_come : P → C → Option (List Piece)) (given : P → List Piece) (limit : P → ℕ) (breaks : P → C → ℕ → Type 0)
-    (a b : C) (old new : P) (front : List Piece) → given new ≡ given old → (to_come old a ≡ None → to_come new b ≡ None) →
-    limit new ≡ limit old → ((at : ℕ) → breaks new b at ↔ breaks old a at) → Gives to_come given limit breaks [] a old front b new front
-gives_none to_come given limit breaks a b old new front same untold limits breaks_same = record {
-  taken = λ pieces is. same ∙ is ∙ ap (λ xs. xs ++ front) (sym (append-nil pieces));
-  untold = untold;
-  limits = limits;
-  same_breaks = breaks_same;
-}
+-- what a call leaves of the set, whatever it answers
+pub record IsCalled {S C : Type 0} (members : StreamsOf S C) (i : ℕ) (before : C) (old : S) (after : C) (new : S) : Type 0 where
+  pub others : (k : ℕ) → k ≢ i → IsUntouched members.to_come members.given members.limit members.breaks old new k
+  pub counts : members.count new ≡ members.count old
+  pub set : members.same old new
+  pub kept : members.keeps before after
 
--- one stream gives its part, and the others are as they were
-pub all_give : {P C : Type 0} (to_come : P → C → Option (List Piece)) (given : P → List Piece) (limit : P → ℕ) (breaks : P → C → ℕ → Type 0) (keeps : C → C → Type 0)
-    (part : ℕ → List Piece) (a b : C) (before : Ordering P) (streams : List P) (ahead : Fronts) (last later : Option ℕ) (i : ℕ) (old new : P) (after : Fronts) →
-    record { streams = streams; ahead = ahead; last = last } ≡ before → i < length streams → old ≡ get_or streams i old → after.room ≡ ahead.room →
-    ((k : ℕ) → k ≢ i → front_at after k ≡ front_at ahead k) → ((k : ℕ) → k ≢ i → part k ≡ []) →
-    Gives to_come given limit breaks (part i) a old (front_at ahead i) b new (front_at after i) →
-    ((other : P) (a b : C) → keeps a b → to_come other a ≡ None → to_come other b ≡ None) →
-    ((other : P) (a b : C) (at : ℕ) → keeps a b → (breaks other b at ↔ breaks other a at)) → keeps a b →
-    AllGive to_come given limit breaks part a before b (record { streams = set streams i new; ahead = after; last = later })
-all_give {P} to_come given limit breaks keeps part a b before streams ahead last later i old new after seen within at room others none gives untold broken kept =
-    subst (λ (m : Ordering P). AllGive to_come given limit breaks part a m b (record { streams = set streams i new; ahead = after; last = later })) seen
-    (record {
-      streams = length-set streams i new;
-      room = room;
-      each = λ k d under.
-          each_stream (λ k s. Gives to_come given limit breaks (part k) a (get_or streams k d) (front_at ahead k) b s (front_at after k)) streams i new within
-          (subst (λ s. Gives to_come given limit breaks (part i) a s (front_at ahead i) b new (front_at after i)) (at ∙ get_or_default streams i old d within) gives)
-          (λ k e ne below. subst (λ s. Gives to_come given limit breaks (part k) a s (front_at ahead k) b (get_or streams k e) (front_at after k)) (get_or_default streams k e d below)
-          (subst (λ xs. Gives to_come given limit breaks xs a (get_or streams k e) (front_at ahead k) b (get_or streams k e) (front_at after k)) (sym (none k ne))
-          (subst (λ xs. Gives to_come given limit breaks [] a (get_or streams k e) (front_at ahead k) b (get_or streams k e) xs) (sym (others k ne))
-          (gives_none to_come given limit breaks a b (get_or streams k e) (get_or streams k e) (front_at ahead k) refl (untold (get_or streams k e) a b kept) refl
-          (λ n. broken (get_or streams k e) a b n kept)))))
-          k d under;
-    })
+module _ {S C : Type 0} (members : StreamsOf S C) (laws : AreLawful members) where
+  -- a stream that was not asked
+  pub other_told : (a b : C) (old new : S) (k : ℕ) (ps : List Piece) → IsUntouched members.to_come members.given members.limit members.breaks old new k →
+      members.keeps a b → members.to_come old k a ≡ Some ps → members.to_come new k b ≡ Some ps
+  other_told a b old new k ps same kept told = same.coming b ∙ laws.keeps_told old k a b ps kept told
+
+  pub other_untold : (a b : C) (old new : S) (k : ℕ) → IsUntouched members.to_come members.given members.limit members.breaks old new k →
+      members.keeps a b → members.to_come old k a ≡ None → members.to_come new k b ≡ None
+  other_untold a b old new k same kept none = same.coming b ∙ laws.keeps_untold old k a b kept none
+
+  -- where it was told, it still is
+  pub other_known : (a b : C) (old new : S) (k : ℕ) → IsUntouched members.to_come members.given members.limit members.breaks old new k →
+      members.keeps a b → members.to_come new k b ≡ None → members.to_come old k a ≡ None
+  other_known a b old new k same kept none = elim (none_or (members.to_come old k a)) [
+    | inl is ↦ is
+    | inr some ↦ let told : members.to_come new k b ≡ Some some.0 = other_told a b old new k some.0 same kept some.1 in absurd (cc (told, none))
+  ]
+
+  pub other_breaks : (a b : C) (old new : S) (k at : ℕ) → IsUntouched members.to_come members.given members.limit members.breaks old new k →
+      members.keeps a b → members.breaks new k b at ↔ members.breaks old k a at
+  other_breaks a b old new k at same kept =
+      ((λ x. (laws.keeps_breaks old k a b at kept).0 ((same.breaking b at).0 x)), (λ x. (same.breaking b at).1 ((laws.keeps_breaks old k a b at kept).1 x)))
+
+  -- it gives nothing
+  gives_other : (a b : C) (before after : Ordering S) (k : ℕ) → IsUntouched members.to_come members.given members.limit members.breaks before.streams after.streams k →
+      front_at after.ahead k ≡ front_at before.ahead k → members.keeps a b → Gives members k [] a before b after
+  gives_other a b before after k same front kept = record {
+    taken = λ pieces is. same.pieces ∙ is ∙ ap (λ xs. xs ++ front_at before.ahead k) (sym (append-nil pieces)) ∙ ap (λ xs. (pieces ++ []) ++ xs) (sym front);
+    untold = other_untold a b before.streams after.streams k same kept;
+    limits = same.limits;
+    same_breaks = λ at. other_breaks a b before.streams after.streams k at same kept;
+  }
+
+  -- a stream gives its part, and its answer is read ahead
+  pub gives_next : (part : List Piece) (a b : C) (before after : Ordering S) (i : ℕ) (next : Option Piece) → front_at before.ahead i ≡ part →
+      front_at after.ahead i ≡ option_to_list next → IsAsked members i a before.streams b after.streams next → Gives members i part a before b after
+  gives_next part a b before after i next at put asked = record {
+    taken = λ pieces is. asked.gave ∙ ap (λ xs. xs ++ option_to_list next) (is ∙ ap (λ xs. pieces ++ xs) at) ∙ ap (λ xs. (pieces ++ part) ++ xs) (sym put);
+    untold = asked.untold;
+    limits = asked.limits;
+    same_breaks = asked.same_breaks;
+  }
+
+  -- a stream that refused gives nothing
+  gives_refused : (a b : C) (before after : Ordering S) (i : ℕ) → front_at after.ahead i ≡ front_at before.ahead i →
+      IsRefused members i a before.streams b after.streams → Gives members i [] a before b after
+  gives_refused a b before after i front refused = record {
+    taken = λ pieces is. refused.gave ∙ is ∙ ap (λ xs. xs ++ front_at before.ahead i) (sym (append-nil pieces)) ∙ ap (λ xs. (pieces ++ []) ++ xs) (sym front);
+    untold = refused.untold;
+    limits = refused.limits;
+    same_breaks = refused.same_breaks;
+  }
+
+  -- one stream gives its part, and the others are as they were
+  pub all_give : (part : ℕ → List Piece) (a b : C) (before after : Ordering S) (i : ℕ) → IsCalled members i a before.streams b after.streams →
+      after.ahead.room ≡ before.ahead.room → ((k : ℕ) → k ≢ i → front_at after.ahead k ≡ front_at before.ahead k) → ((k : ℕ) → k ≢ i → part k ≡ []) →
+      Gives members i (part i) a before b after → AllGive members part a before b after
+  all_give part a b before after i called room fronts none here = record {
+    streams = called.counts;
+    room = room;
+    kept = called.set;
+    each = λ k under. each_number (λ k. Gives members k (part k) a before b after) i here
+        (λ k ne. subst (λ xs. Gives members k xs a before b after) (sym (none k ne)) (gives_other a b before after k (called.others k ne) (fronts k ne) called.kept)) k;
+  }
+
+  -- a stream refused: none gives anything, also where the order that was asked is seen as another
+  pub all_refused : (a b : C) (before seen after : Ordering S) (i : ℕ) → before ≡ seen → IsCalled members i a before.streams b after.streams →
+      after.ahead ≡ before.ahead → IsRefused members i a before.streams b after.streams → AllGive members none_of a seen b after
+  all_refused a b before seen after i is called ahead refused = subst (λ (m : Ordering S). AllGive members none_of a m b after) is
+      (all_give none_of a b before after i called (ap (λ (fronts : Fronts). fronts.room) ahead)
+      (λ k ne. ap (λ (fronts : Fronts). front_at fronts k) ahead) (λ k ne. refl)
+      (gives_refused a b before after i (ap (λ (fronts : Fronts). front_at fronts i) ahead) refused))
 
 -- a stream that leaves its format
-pub breaks_at : {P C : Type 0} (to_come : P → C → Option (List Piece)) (breaks : P → C → ℕ → Type 0) (ctx : C) (before : Ordering P)
-    (streams : List P) (ahead : Fronts) (last : Option ℕ) (i : ℕ) (s : P) (at : ℕ) →
-    record { streams = streams; ahead = ahead; last = last } ≡ before → i < length streams → s ≡ get_or streams i s →
-    (to_come s ctx ≡ None) × breaks s ctx at → Breaks to_come breaks ctx before.streams at
-breaks_at {P} to_come breaks ctx before streams ahead last i s at seen within is both =
-    subst (λ (m : Ordering P). Breaks to_come breaks ctx m.streams at) seen (record {
-      stream = i;
-      within = within;
-      untold = λ d. subst (λ s. to_come s ctx ≡ None) (is ∙ get_or_default streams i s d within) both.0;
-      at_it = λ d. subst (λ s. breaks s ctx at) (is ∙ get_or_default streams i s d within) both.1;
-    })
+pub breaks_at : {S C : Type 0} (members : StreamsOf S C) (ctx : C) (order before : Ordering S) (i at : ℕ) → order ≡ before → i < members.count order.streams →
+    (members.to_come order.streams i ctx ≡ None) × members.breaks order.streams i ctx at → Breaks members ctx before.streams at
+breaks_at {S} members ctx order before i at seen within both =
+    subst (λ (m : Ordering S). Breaks members ctx m.streams at) seen (record { stream = i; within = within; untold = both.0; at_it = both.1 })

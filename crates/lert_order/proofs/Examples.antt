@@ -1,9 +1,10 @@
 -- Computed fronts and lists: of three streams one ended, and of two lists with an equal tail either may be next.
-use Rattle.std.proofs.Common.{◌≡◌, ℕ, zero, suc, ◌<◌, ◌≤◌, All, List, [], ◌∷◌, Some, None, true, get_or, set, inl, refl, arith}
+use Rattle.std.proofs.Common.{◌≡◌, ℕ, zero, suc, Option, ◌+◌, ◌<◌, ◌≤◌, All, List, [], ◌∷◌, Some, None, true, get_or, set, inl, refl, arith}
 use Rattle.std.proofs.lemmas.List.Elements.{All-cons}
 use Rattle.lert_spec.specs.declared.piece.Piece.{Piece}
 use Rattle.lert_tree.specs.Race.{number_at, greatest}
 use Rattle.lert_order.specs.Fronts.{Fronts, front_at, IsFront}
+use Rattle.lert_order.specs.Members.{told_at, given_at, limit_at, BreaksAt}
 use Rattle.lert_order.specs.Ordering.{part_in, IsNext}
 
 abbrev piece : ℕ → ℕ → Piece
@@ -53,3 +54,19 @@ second_next = record { within = let less : 1 < 2 = omega arith in less; front = 
 
 pub second_behind : set two 1 (piece 4 1 ∷ []) ≡ (piece 3 1 ∷ []) ∷ (piece 4 1 ∷ []) ∷ []
 second_behind = refl
+
+-- two streams in a list, of which the second leaves its format at byte 7, and none behind them
+abbrev both : List ℕ
+both = 3 ∷ 4 ∷ []
+
+abbrev comes : ℕ → ℕ → Option (List Piece)
+comes stream ctx = Some (piece stream ctx ∷ [])
+
+pub told_both : (told_at comes both 1 9 ≡ Some (piece 4 9 ∷ [])) × (told_at comes both 2 9 ≡ None)
+told_both = (refl, refl)
+
+pub given_both : (given_at (λ stream. piece stream 1 ∷ []) both 0 ≡ piece 3 1 ∷ []) × (limit_at (λ stream. stream + 2) both 1 ≡ 6) × (limit_at (λ stream. stream + 2) both 2 ≡ 0)
+given_both = (refl, refl, refl)
+
+pub breaks_second : BreaksAt (λ stream (ctx : ℕ) at. stream + 3 ≡ at) both 1 9 7
+breaks_second = refl

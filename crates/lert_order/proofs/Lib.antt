@@ -5,4 +5,5 @@ pub mod ToldLemmas
 pub mod StepLemmas
 pub mod ReadLemmas
 pub mod GiveLemmas
+pub mod EachLemmas
 pub mod Examples

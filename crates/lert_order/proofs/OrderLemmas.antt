@@ -1,14 +1,17 @@
 -- What stands between the calls of an order, after one stream was asked.
-use Rattle.std.proofs.Common.{◌≡◌, ◌≢◌, ℕ, ◌+◌, ◌<◌, ◌≤◌, ◌^◌, Option, Some, None, All, true, List, [], ◌∷◌, ◌++◌, length, set, get_or, arith, sym, ap, ◌∙◌, refl}
-use Rattle.std.proofs.Common.{subst, inl, inr, length-append, length-set, option_to_list, append-nil}
+use Rattle.std.proofs.Common.{◌≡◌, ◌≢◌, ℕ, ◌+◌, ◌<◌, ◌≤◌, ◌^◌, Option, Some, None, All, true, List, [], ◌∷◌, ◌++◌, length, arith, sym, ap, ◌∙◌, refl}
+use Rattle.std.proofs.Common.{subst, inl, inr, length-append, option_to_list, append-nil}
 use Rattle.std.proofs.Math.Seq.{get_or-append_seam}
-use Rattle.std.proofs.lemmas.Bool.{cases_lt}
+use Rattle.std.proofs.lemmas.Bool.{cases_eq}
 use Rattle.lert_spec.specs.declared.piece.Piece.{Piece}
 use Rattle.lert_spec.specs.Table.{AreGiven, AscendsFrom}
 use Rattle.lert_tree.specs.Race.{number_at, greatest}
 use Rattle.lert_order.specs.Fronts.{Fronts, tail_in, count_in, IsPut}
-use Rattle.lert_order.specs.Ordering.{IsOrdering, IsSeated, IsAhead, IsNotBelow}
-use Rattle.lert_order.proofs.AskLemmas.{each_stream}
+use Rattle.lert_order.specs.Ordering.{Ordering, HasTaken, IsOrdering, IsSeated, IsAhead, IsNotBelow}
+use Rattle.lert_order.specs.Untouched.{IsUntouched}
+use Rattle.lert_order.specs.declared.streams.Streams.{Ghosts as StreamsOf}
+use Rattle.lert_order.proofs.FrontLemmas.{pieces_some, pieces_none}
+use Rattle.lert_order.proofs.AskLemmas.{each_number, IsAsked, IsRefused, IsCalled}
 
 -- a list that ends a table
 pub ends_table : (least limit : ℕ) (front : List Piece) (p : Piece) (rest : List Piece) → AscendsFrom least limit ((front ++ p ∷ []) ++ rest) →
@@ -31,7 +34,7 @@ counted_in limit before pieces (Some q) is are p at =
     let here : 1 ≤ q.count = (ends_one limit before q (subst (AscendsFrom 0 limit) is are.table)).1 in subst (λ (x : Piece). 1 ≤ x.count) (let e : q ≡ p = cc in e) here
 
 -- a piece behind another has a greater tail
-ascends_last : (least limit : ℕ) (front : List Piece) (p q : Piece) → AscendsFrom least limit ((front ++ p ∷ []) ++ q ∷ []) → p.tail < q.tail
+pub ascends_last : (least limit : ℕ) (front : List Piece) (p q : Piece) → AscendsFrom least limit ((front ++ p ∷ []) ++ q ∷ []) → p.tail < q.tail
 ascends_last least limit [] p q up = let next : p.tail + 1 ≤ q.tail = up.3.0 in omega arith
 ascends_last least limit (x ∷ front) p q up = ascends_last (x.tail + 1) limit front p q up.3
 
@@ -44,17 +47,22 @@ next_above limit before pieces last piece (Some q) ahead is are p at =
     let up : piece.tail < q.tail = ascends_last 0 limit ahead.front piece q (subst (AscendsFrom 0 limit) shape are.table) in
     subst (λ (x : Piece). piece.tail < x.tail) (let e : q ≡ p = cc in e) up
 
+-- what stands of a stream that wasn't asked
+seated_other : {S C : Type 0} (members : StreamsOf S C) (old new : S) (last : Option ℕ) (k tail count : ℕ) →
+    IsUntouched members.to_come members.given members.limit members.breaks old new k → IsSeated (members.limit old k) (members.given old k) last tail count →
+    IsSeated (members.limit new k) (members.given new k) last tail count
+seated_other members old new last k tail count same is = subst (λ n. IsSeated n (members.given new k) last tail count) (sym same.limits)
+    (subst (λ xs. IsSeated (members.limit old k) xs last tail count) (sym same.pieces) is)
+
 -- a stream that refused keeps what stands
-pub refused_stands : {P : Type 0} (given : P → List Piece) (limit : P → ℕ) (streams : List P) (ahead : Fronts) (last : Option ℕ) (i : ℕ) (old new : P) →
-    IsOrdering given limit (record { streams = streams; ahead = ahead; last = last }) → i < length streams → old ≡ get_or streams i old →
-    given new ≡ given old → limit new ≡ limit old →
-    IsOrdering given limit (record { streams = set streams i new; ahead = ahead; last = last })
-refused_stands given limit streams ahead last i old new is within at same limits =
-    let long : length (set streams i new) ≡ length streams = length-set streams i new in
-    let few : length streams ≤ 65535 = is.few in let room : length streams ≤ ahead.room = is.room in
-    let read : length ahead.counts ≤ length streams = is.within in
-    let here : IsSeated (limit old) (given old) last (number_at ahead.tails i) (number_at ahead.counts i) =
-    subst (λ s. IsSeated (limit s) (given s) last (number_at ahead.tails i) (number_at ahead.counts i)) (sym at) (is.seated i old within) in record {
+pub refused_stands : {S C : Type 0} (members : StreamsOf S C) (a b : C) (before after : Ordering S) (i : ℕ) → IsOrdering members before → i < members.count before.streams →
+    IsCalled members i a before.streams b after.streams → IsRefused members i a before.streams b after.streams → after.ahead ≡ before.ahead → after.last ≡ before.last →
+    IsOrdering members after
+refused_stands {S} members a b before after i is within called refused ahead last =
+    let long : members.count after.streams ≡ members.count before.streams = called.counts in
+    let few : members.count before.streams ≤ 65535 = is.few in let room : members.count before.streams ≤ before.ahead.room = is.room in
+    let read : length before.ahead.counts ≤ members.count before.streams = is.within in
+    let moved : IsOrdering members (record { streams = after.streams; ahead = before.ahead; last = before.last }) = record {
       few = omega arith;
       room = omega arith;
       len = is.len;
@@ -62,11 +70,13 @@ refused_stands given limit streams ahead last i old new is within at same limits
       begun = λ begun. is.begun begun ∙ sym long;
       unread = λ less. is.unread (omega arith);
       ended = is.ended;
-      seated = λ k d under. each_stream (λ k s. IsSeated (limit s) (given s) last (number_at ahead.tails k) (number_at ahead.counts k)) streams i new within
-          (subst (λ xs. IsSeated (limit new) xs last (number_at ahead.tails i) (number_at ahead.counts i)) (sym same)
-          (subst (λ n. IsSeated n (given old) last (number_at ahead.tails i) (number_at ahead.counts i)) (sym limits) here))
-          (λ k d ne below. is.seated k d below) k d (omega arith);
-    }
+      seated = λ k under. each_number (λ k. k < members.count before.streams → IsSeated (members.limit after.streams k) (members.given after.streams k)
+          before.last (number_at before.ahead.tails k) (number_at before.ahead.counts k)) i
+          (λ below. subst (λ n. IsSeated n (members.given after.streams i) before.last (number_at before.ahead.tails i) (number_at before.ahead.counts i)) (sym refused.limits)
+          (subst (λ xs. IsSeated (members.limit before.streams i) xs before.last (number_at before.ahead.tails i) (number_at before.ahead.counts i)) (sym refused.gave) (is.seated i below)))
+          (λ k ne below. seated_other members before.streams after.streams before.last k (number_at before.ahead.tails k) (number_at before.ahead.counts k) (called.others k ne) (is.seated k below))
+          k (omega arith);
+    } in subst (IsOrdering members) (λ j. record { streams = after.streams; ahead = sym ahead j; last = sym last j }) moved
 
 -- a stream's answer is seated
 seated_next : (limit : ℕ) (before pieces : List Piece) (later : Option ℕ) (next : Option Piece) → pieces ≡ before ++ option_to_list next → AreGiven limit pieces →
@@ -79,48 +89,48 @@ last_next None some none = refl
 last_next (Some p) some none = let one : 1 ≤ p.count = some p refl in absurd (omega arith)
 
 -- a stream's answer is put down, and what was given last is no greater than what was read ahead
-pub asked_stands : {P : Type 0} (given : P → List Piece) (limit : P → ℕ) (streams : List P) (ahead : Fronts) (last later : Option ℕ) (i : ℕ) (old new : P)
-    (next : Option Piece) (after : Fronts) →
-    IsOrdering given limit (record { streams = streams; ahead = ahead; last = last }) → i < length streams → IsPut ahead after i next →
-    length after.counts ≤ length streams → (after.is_begun ≡ true → length after.counts ≡ length streams) → (length after.counts < length streams → later ≡ None) →
-    given new ≡ given old ++ option_to_list next → AreGiven (limit new) (given new) →
-    ((k : ℕ) → k < length streams → k ≢ i → 1 ≤ number_at ahead.counts k → IsNotBelow later (number_at ahead.tails k)) →
-    ((p : Piece) → next ≡ Some p → IsNotBelow later p.tail) →
-    IsOrdering given limit (record { streams = set streams i new; ahead = after; last = later })
-asked_stands given limit streams ahead last later i old new next after is within put read begun unread gave are others above =
-    let long : length (set streams i new) ≡ length streams = length-set streams i new in
-    let few : length streams ≤ 65535 = is.few in let room : length streams ≤ ahead.room = is.room in let same_room : after.room ≡ ahead.room = put.room in record {
+pub asked_stands : {S C : Type 0} (members : StreamsOf S C) (a b : C) (before after : Ordering S) (i : ℕ) (next : Option Piece) →
+    IsOrdering members before → i < members.count before.streams → IsPut before.ahead after.ahead i next →
+    IsCalled members i a before.streams b after.streams → IsAsked members i a before.streams b after.streams next →
+    length after.ahead.counts ≤ members.count before.streams → (after.ahead.is_begun ≡ true → length after.ahead.counts ≡ members.count before.streams) →
+    (length after.ahead.counts < members.count before.streams → after.last ≡ None) →
+    ((k : ℕ) → k < members.count before.streams → k ≢ i → 1 ≤ number_at before.ahead.counts k → IsNotBelow after.last (number_at before.ahead.tails k)) →
+    ((p : Piece) → next ≡ Some p → IsNotBelow after.last p.tail) → IsOrdering members after
+asked_stands members a b before after i next is within put called asked read begun unread others above =
+    let long : members.count after.streams ≡ members.count before.streams = called.counts in
+    let few : members.count before.streams ≤ 65535 = is.few in let room : members.count before.streams ≤ before.ahead.room = is.room in
+    let same_room : after.ahead.room ≡ before.ahead.room = put.room in
+    let counted : (p : Piece) → next ≡ Some p → 1 ≤ p.count =
+    counted_in (members.limit after.streams i) (members.given before.streams i) (members.given after.streams i) next asked.gave asked.are in record {
       few = omega arith;
       room = omega arith;
       len = put.len;
       within = omega arith;
       begun = λ is. begun is ∙ sym long;
       unread = λ less. unread (omega arith);
-      ended = λ k under none. elim (cases_lt k i) [
-        | inl low ↦ let ne : k ≢ i = λ same. omega arith in put.tails k ne ∙ is.ended k ((put.read k ne).0 under) (sym (put.counts k ne) ∙ none)
-        | inr high ↦ elim (cases_lt i k) [
-          | inl low ↦ let ne : k ≢ i = λ same. omega arith in put.tails k ne ∙ is.ended k ((put.read k ne).0 under) (sym (put.counts k ne) ∙ none)
-          | inr low ↦ let same : k ≡ i = omega arith in ap (number_at after.tails) same ∙ put.tail ∙
-              last_next next (counted_in (limit new) (given old) (given new) next gave are) (sym put.count ∙ ap (number_at after.counts) (sym same) ∙ none)
-        ]
-      ];
-      seated = λ k d under. each_stream (λ k s. IsSeated (limit s) (given s) later (number_at after.tails k) (number_at after.counts k)) streams i new within
-          (subst (λ n. IsSeated (limit new) (given new) later n (number_at after.counts i)) (sym put.tail)
-          (subst (λ n. IsSeated (limit new) (given new) later (tail_in next) n) (sym put.count)
-          (seated_next (limit new) (given old) (given new) later next gave are above)))
-          (λ k d ne below. subst (λ n. IsSeated (limit (get_or streams k d)) (given (get_or streams k d)) later n (number_at after.counts k)) (sym (put.tails k ne))
-          (subst (λ n. IsSeated (limit (get_or streams k d)) (given (get_or streams k d)) later (number_at ahead.tails k) n) (sym (put.counts k ne))
-          (λ some. let ahead = is.seated k d below some in record { given = ahead.given; front = ahead.front; is = ahead.is; above = others k below ne some })))
-          k d (omega arith);
+      ended = each_number (λ k. k < length after.ahead.counts → number_at after.ahead.counts k ≡ 0 → number_at after.ahead.tails k ≡ greatest) i
+          (λ under none. put.tail ∙ last_next next counted (sym put.count ∙ none))
+          (λ k ne under none. put.tails k ne ∙ is.ended k ((put.read k ne).0 under) (sym (put.counts k ne) ∙ none));
+      seated = λ k under. each_number (λ k. k < members.count before.streams → IsSeated (members.limit after.streams k) (members.given after.streams k) after.last
+          (number_at after.ahead.tails k) (number_at after.ahead.counts k)) i
+          (λ below. subst (λ n. IsSeated (members.limit after.streams i) (members.given after.streams i) after.last n (number_at after.ahead.counts i)) (sym put.tail)
+          (subst (λ n. IsSeated (members.limit after.streams i) (members.given after.streams i) after.last (tail_in next) n) (sym put.count)
+          (seated_next (members.limit after.streams i) (members.given before.streams i) (members.given after.streams i) after.last next asked.gave asked.are above)))
+          (λ k ne below. seated_other members before.streams after.streams after.last k (number_at after.ahead.tails k) (number_at after.ahead.counts k) (called.others k ne)
+          (subst (λ n. IsSeated (members.limit before.streams k) (members.given before.streams k) after.last n (number_at after.ahead.counts k)) (sym (put.tails k ne))
+          (subst (λ n. IsSeated (members.limit before.streams k) (members.given before.streams k) after.last (number_at before.ahead.tails k) n) (sym (put.counts k ne))
+          (λ some. let ahead = is.seated k below some in record { given = ahead.given; front = ahead.front; is = ahead.is; above = others k below ne some }))))
+          k (omega arith);
     }
 
 -- the tree knows all tails: nothing else has changed
-pub started_stands : {P : Type 0} (given : P → List Piece) (limit : P → ℕ) (streams : List P) (ahead : Fronts) (last : Option ℕ) (after : Fronts) →
-    IsOrdering given limit (record { streams = streams; ahead = ahead; last = last }) → length ahead.counts ≡ length streams → after.tails ≡ ahead.tails →
-    after.counts ≡ ahead.counts → after.room ≡ ahead.room → IsOrdering given limit (record { streams = streams; ahead = after; last = last })
-started_stands given limit streams ahead last after is read tails counts room =
+pub started_stands : {S C : Type 0} (members : StreamsOf S C) (streams : S) (ahead : Fronts) (last : Option ℕ) (after : Fronts) →
+    IsOrdering members (record { streams = streams; ahead = ahead; last = last }) → length ahead.counts ≡ members.count streams → after.tails ≡ ahead.tails →
+    after.counts ≡ ahead.counts → after.room ≡ ahead.room → IsOrdering members (record { streams = streams; ahead = after; last = last })
+started_stands members streams ahead last after is read tails counts room =
     let long : length after.counts ≡ length ahead.counts = ap length counts in let as_many : length after.tails ≡ length ahead.tails = ap length tails in
-    let both : length ahead.tails ≡ length ahead.counts = is.len in let enough : length streams ≤ ahead.room = is.room in let same : after.room ≡ ahead.room = room in record {
+    let both : length ahead.tails ≡ length ahead.counts = is.len in let enough : members.count streams ≤ ahead.room = is.room in
+    let same : after.room ≡ ahead.room = room in record {
       few = is.few;
       room = omega arith;
       len = omega arith;
@@ -128,6 +138,22 @@ started_stands given limit streams ahead last after is read tails counts room =
       begun = λ begun. long ∙ read;
       unread = λ less. absurd (omega arith);
       ended = λ k under none. ap (λ xs. number_at xs k) tails ∙ is.ended k (omega arith) (sym (ap (λ xs. number_at xs k) counts) ∙ none);
-      seated = λ k d under. subst (λ ts. IsSeated (limit (get_or streams k d)) (given (get_or streams k d)) last (number_at ts k) (number_at after.counts k)) (sym tails)
-          (subst (λ cs. IsSeated (limit (get_or streams k d)) (given (get_or streams k d)) last (number_at ahead.tails k) (number_at cs k)) (sym counts) (is.seated k d under));
+      seated = λ k under. subst (λ ts. IsSeated (members.limit streams k) (members.given streams k) last (number_at ts k) (number_at after.counts k)) (sym tails)
+          (subst (λ cs. IsSeated (members.limit streams k) (members.given streams k) last (number_at ahead.tails k) (number_at cs k)) (sym counts) (is.seated k under));
     }
+
+-- of each stream some pieces were given, if none then the empty list
+pub held_each : {S C : Type 0} (members : StreamsOf S C) (before seen : Ordering S) → before ≡ seen → IsOrdering members before → (k : ℕ) → k < members.count seen.streams →
+    (pieces : List Piece) × HasTaken members seen k pieces
+held_each {S} members before seen same is = subst (λ (m : Ordering S). (k : ℕ) → k < members.count m.streams → (pieces : List Piece) × HasTaken members m k pieces) same
+    (λ k under. elim (cases_eq (number_at before.ahead.counts k) 0) [
+      | inl none ↦ (
+        members.given before.streams k,
+        sym (ap (λ xs. members.given before.streams k ++ xs) (pieces_none (number_at before.ahead.tails k) (number_at before.ahead.counts k) none)
+            ∙ append-nil (members.given before.streams k)),
+      )
+      | inr ne ↦ let some : 1 ≤ number_at before.ahead.counts k = omega arith in let ahead = is.seated k under some in (
+        ahead.front,
+        ahead.is ∙ ap (λ xs. ahead.front ++ xs) (sym (pieces_some (number_at before.ahead.tails k) (number_at before.ahead.counts k) some)),
+      )
+    ])

@@ -1,19 +1,22 @@
 -- Calls on an order in turn.
-use Rattle.std.proofs.Common.{◌≡◌, ℕ, ◌<◌, ◌≤◌, Option, List, ◌++◌, length, arith, sym, ap, ◌∙◌, refl}
-use Rattle.std.proofs.Common.{subst, append-nil}
+use Rattle.std.proofs.Common.{◌≡◌, ℕ, ◌<◌, ◌≤◌, Option, List, ◌++◌, arith, sym, ap, ◌∙◌, refl}
+use Rattle.std.proofs.Common.{subst, append-nil, Result, Ok, Err, IfOk, OnErr}
+use Rattle.lert_base.specs.declared.pieces.PieceFault.{PieceFault}
 use Rattle.lert_spec.specs.declared.piece.Piece.{Piece}
 use Rattle.lert_order.specs.Fronts.{front_at}
-use Rattle.lert_order.specs.Ordering.{Ordering, none_of, AllGive, AllTold, Breaks}
+use Rattle.lert_order.specs.Ordering.{Ordering, HasTaken, none_of, part_of, part_in, AllGive, AllTold, AreKnown, AreSame, Breaks, IsStarted}
+use Rattle.lert_order.specs.declared.streams.Streams.{Ghosts as StreamsOf}
+use Rattle.lert_order.proofs.AskLemmas.{AreLawful}
 
 -- one call behind another by which nothing was given
-pub gives_on : {P C : Type 0} (to_come : P → C → Option (List Piece)) (given : P → List Piece) (limit : P → ℕ) (breaks : P → C → ℕ → Type 0)
-    (part : ℕ → List Piece) (a b c : C) (x y z : Ordering P) → AllGive to_come given limit breaks none_of a x b y → AllGive to_come given limit breaks part b y c z →
-    AllGive to_come given limit breaks part a x c z
-gives_on to_come given limit breaks part a b c x y z first then = record {
+pub gives_on : {S C : Type 0} (members : StreamsOf S C) (laws : AreLawful members) (part : ℕ → List Piece) (a b c : C) (x y z : Ordering S) →
+    AllGive members none_of a x b y → AllGive members part b y c z → AllGive members part a x c z
+gives_on members laws part a b c x y z first then = record {
   streams = then.streams ∙ first.streams;
   room = then.room ∙ first.room;
-  each = λ k d under. let more : length y.streams ≡ length x.streams = first.streams in
-      let one = first.each k d under in let two = then.each k d (omega arith) in record {
+  kept = laws.same_on x.streams y.streams z.streams first.kept then.kept;
+  each = λ k under. let more : members.count y.streams ≡ members.count x.streams = first.streams in
+      let one = first.each k under in let two = then.each k (omega arith) in record {
         taken = λ pieces is. two.taken pieces (one.taken pieces is ∙ ap (λ xs. xs ++ front_at y.ahead k) (append-nil pieces));
         untold = λ is. two.untold (one.untold is);
         limits = two.limits ∙ one.limits;
@@ -21,55 +24,107 @@ gives_on to_come given limit breaks part a b c x y z first then = record {
       };
 }
 
-pub told_on : {P C : Type 0} (to_come : P → C → Option (List Piece)) (a b c : C) (x y z : Ordering P) → length y.streams ≡ length x.streams →
-    AllTold to_come a x b y → AllTold to_come b y c z → AllTold to_come a x c z
-told_on to_come a b c x y z long first then = record {
-  same = λ k d pieces under come. then.same k d pieces (omega arith) (first.same k d pieces under come);
-  known = λ k d under none. first.known k d under (then.known k d (omega arith) none);
+-- what a call by which each stream gave its part says of a refusal, and of all that no call changes
+pub gave_none : {S C : Type 0} (members : StreamsOf S C) (a b : C) (x y : Ordering S) → AllGive members none_of a x b y → (k : ℕ) (pieces : List Piece) →
+    k < members.count x.streams → HasTaken members x k pieces → HasTaken members y k pieces
+gave_none members a b x y gives k pieces under was = subst (HasTaken members y k) (append-nil pieces) ((gives.each k under).taken pieces was)
+
+pub same_by : {S C : Type 0} (members : StreamsOf S C) (part : ℕ → List Piece) (a b : C) (x y : Ordering S) → AllGive members part a x b y → AreSame members a x b y
+same_by members part a b x y gives = record {
+  streams = gives.streams;
+  room = gives.room;
+  limits = λ k under. (gives.each k under).limits;
+  same_breaks = λ k at under. (gives.each k under).same_breaks at;
+}
+
+pub taken_by : {S C : Type 0} (members : StreamsOf S C) (a b : C) (x y : Ordering S) (result : Result (Option (ℕ × Piece)) PieceFault) →
+    AllGive members (part_of result) a x b y → IfOk result (λ given. (k : ℕ) (pieces : List Piece) → k < members.count x.streams → HasTaken members x k pieces →
+    HasTaken members y k (pieces ++ part_in given k))
+taken_by members a b x y (Ok given) gives = λ k pieces under was. (gives.each k under).taken pieces was
+taken_by members a b x y (Err fault) gives = tt
+
+pub refused_by : {S C : Type 0} (members : StreamsOf S C) (a b : C) (x y : Ordering S) (result : Result (Option (ℕ × Piece)) PieceFault) →
+    AllGive members (part_of result) a x b y → OnErr result ((k : ℕ) (pieces : List Piece) → k < members.count x.streams → HasTaken members x k pieces →
+    HasTaken members y k pieces)
+refused_by members a b x y (Ok given) gives = tt
+refused_by members a b x y (Err fault) gives = gave_none members a b x y gives
+
+-- the tree was told the tails: the streams gave what they gave
+pub gives_started : {S C : Type 0} (members : StreamsOf S C) (a b : C) (x y z : Ordering S) → AllGive members none_of a x b y → IsStarted y z → AllGive members none_of a x b z
+gives_started {S} members a b x y z gives started =
+    subst (AllGive members none_of a x b) (λ j. record {
+      streams = sym started.streams j;
+      ahead = record { tails = sym started.tails j; counts = sym started.counts j; is_begun = z.ahead.is_begun; first = z.ahead.first; room = sym started.room j };
+      last = sym started.last j;
+    }) (record {
+      streams = gives.streams;
+      room = gives.room;
+      kept = gives.kept;
+      each = λ k under. let one = gives.each k under in record { taken = one.taken; untold = one.untold; limits = one.limits; same_breaks = one.same_breaks };
+    })
+
+-- the same, where the order that was asked is seen as another
+pub gives_behind : {S C : Type 0} (members : StreamsOf S C) (laws : AreLawful members) (part : ℕ → List Piece) (a b here c : C) (x y seen z : Ordering S) → seen ≡ y →
+    here ≡ b → AllGive members none_of a x b y → AllGive members part here seen c z → AllGive members part a x c z
+gives_behind {S} {C} members laws part a b here c x y seen z self_is ctx_is first then = gives_on members laws part a b c x y z first
+    (subst (λ (at : C). AllGive members part at y c z) ctx_is (subst (λ (m : Ordering S). AllGive members part here m c z) self_is then))
+
+pub gives_seen : {S C : Type 0} (members : StreamsOf S C) (part : ℕ → List Piece) (a here c : C) (x seen z : Ordering S) → seen ≡ x → here ≡ a →
+    AllGive members part here seen c z → AllGive members part a x c z
+gives_seen {S} {C} members part a here c x seen z self_is ctx_is then =
+    subst (λ (at : C). AllGive members part at x c z) ctx_is (subst (λ (m : Ordering S). AllGive members part here m c z) self_is then)
+
+-- where a stream was told before two calls, it is told after them
+pub known_on : {S C : Type 0} (members : StreamsOf S C) (a b c : C) (x y z : Ordering S) → members.count y.streams ≡ members.count x.streams →
+    AreKnown members a x b y → AreKnown members b y c z → AreKnown members a x c z
+known_on members a b c x y z long first then k under none = first k under (then k (omega arith) none)
+
+pub told_on : {S C : Type 0} (members : StreamsOf S C) (a b c : C) (x y z : Ordering S) → members.count y.streams ≡ members.count x.streams →
+    AllTold members a x b y → AllTold members b y c z → AllTold members a x c z
+told_on members a b c x y z long first then = record {
+  same = λ k pieces under come. then.same k pieces (omega arith) (first.same k pieces under come);
+  known = known_on members a b c x y z long first.known then.known;
 }
 
 -- a stream that leaves its format did so before
-pub breaks_on : {P C : Type 0} (to_come : P → C → Option (List Piece)) (given : P → List Piece) (limit : P → ℕ) (breaks : P → C → ℕ → Type 0)
-    (a b : C) (x y : Ordering P) (at : ℕ) → AllGive to_come given limit breaks none_of a x b y → AllTold to_come a x b y → Breaks to_come breaks b y.streams at →
-    Breaks to_come breaks a x.streams at
-breaks_on to_come given limit breaks a b x y at gives told it = let long : length y.streams ≡ length x.streams = gives.streams in
-    let inside : it.stream < length y.streams = it.within in let within : it.stream < length x.streams = omega arith in record {
+pub breaks_on : {S C : Type 0} (members : StreamsOf S C) (a b : C) (x y : Ordering S) (at : ℕ) → AllGive members none_of a x b y → AllTold members a x b y →
+    Breaks members b y.streams at → Breaks members a x.streams at
+breaks_on members a b x y at gives told it = let long : members.count y.streams ≡ members.count x.streams = gives.streams in
+    let inside : it.stream < members.count y.streams = it.within in let within : it.stream < members.count x.streams = omega arith in record {
       stream = it.stream;
       within = within;
-      untold = λ d. told.known it.stream d within (it.untold d);
-      at_it = λ d. ((gives.each it.stream d within).same_breaks at).0 (it.at_it d);
+      untold = told.known it.stream within it.untold;
+      at_it = ((gives.each it.stream within).same_breaks at).0 it.at_it;
     }
 
 -- the same, where the order that was asked is seen as another
-pub breaks_behind : {P C : Type 0} (to_come : P → C → Option (List Piece)) (given : P → List Piece) (limit : P → ℕ) (breaks : P → C → ℕ → Type 0)
-    (a b here : C) (x y seen : Ordering P) (at : ℕ) → seen ≡ y → here ≡ b → AllGive to_come given limit breaks none_of a x b y → AllTold to_come a x b y →
-    Breaks to_come breaks here seen.streams at → Breaks to_come breaks a x.streams at
-breaks_behind {P} {C} to_come given limit breaks a b here x y seen at self_is ctx_is gives told it = breaks_on to_come given limit breaks a b x y at gives told
-    (subst (λ (c : C). Breaks to_come breaks c y.streams at) ctx_is (subst (λ (m : Ordering P). Breaks to_come breaks here m.streams at) self_is it))
+pub breaks_behind : {S C : Type 0} (members : StreamsOf S C) (a b here : C) (x y seen : Ordering S) (at : ℕ) → seen ≡ y → here ≡ b → AllGive members none_of a x b y →
+    AllTold members a x b y → Breaks members here seen.streams at → Breaks members a x.streams at
+breaks_behind {S} {C} members a b here x y seen at self_is ctx_is gives told it = breaks_on members a b x y at gives told
+    (subst (λ (c : C). Breaks members c y.streams at) ctx_is (subst (λ (m : Ordering S). Breaks members here m.streams at) self_is it))
 
-pub breaks_same : {P C : Type 0} (to_come : P → C → Option (List Piece)) (breaks : P → C → ℕ → Type 0) (a here : C) (x seen : Ordering P) (at : ℕ) → seen ≡ x → here ≡ a →
-    Breaks to_come breaks here seen.streams at → Breaks to_come breaks a x.streams at
-breaks_same {P} {C} to_come breaks a here x seen at self_is ctx_is it =
-    subst (λ (c : C). Breaks to_come breaks c x.streams at) ctx_is (subst (λ (m : Ordering P). Breaks to_come breaks here m.streams at) self_is it)
+pub breaks_same : {S C : Type 0} (members : StreamsOf S C) (a here : C) (x seen : Ordering S) (at : ℕ) → seen ≡ x → here ≡ a →
+    Breaks members here seen.streams at → Breaks members a x.streams at
+breaks_same {S} {C} members a here x seen at self_is ctx_is it =
+    subst (λ (c : C). Breaks members c x.streams at) ctx_is (subst (λ (m : Ordering S). Breaks members here m.streams at) self_is it)
 
 -- some streams were read
-pub record IsReading {P C : Type 0} (to_come : P → C → Option (List Piece)) (given : P → List Piece) (limit : P → ℕ) (breaks : P → C → ℕ → Type 0)
-    (keeps : C → C → Type 0) (faults mark : C → ℕ) (before : C) (old : Ordering P) (after : C) (new : Ordering P) : Type 0 where
-  pub gives : AllGive to_come given limit breaks none_of before old after new
+pub record IsReading {S C : Type 0} (members : StreamsOf S C) (faults mark : C → ℕ) (before : C) (old : Ordering S) (after : C) (new : Ordering S) : Type 0 where
+  pub gives : AllGive members none_of before old after new
   pub last : new.last ≡ old.last
-  pub told : AllTold to_come before old after new
+  pub told : AllTold members before old after new
   pub faults_rise : faults before ≤ faults after
   pub same_mark : mark after ≡ mark before
-  pub kept : keeps before after
+  pub kept : members.keeps before after
 
-pub reading_none : {P C : Type 0} (to_come : P → C → Option (List Piece)) (given : P → List Piece) (limit : P → ℕ) (breaks : P → C → ℕ → Type 0)
-    (keeps : C → C → Type 0) (faults mark : C → ℕ) (ctx : C) (x : Ordering P) → ((c : C) → keeps c c) →
-    IsReading to_come given limit breaks keeps faults mark ctx x ctx x
-reading_none to_come given limit breaks keeps faults mark ctx x same = record {
+pub reading_none : {S C : Type 0} (members : StreamsOf S C) (laws : AreLawful members) (faults mark : C → ℕ) (ctx : C) (x : Ordering S) →
+    IsReading members faults mark ctx x ctx x
+reading_none members laws faults mark ctx x = record {
   gives = record {
     streams = refl;
     room = refl;
-    each = λ k d under. record {
+    kept = laws.same_self x.streams;
+    each = λ k under. record {
       taken = λ pieces is. is ∙ ap (λ xs. xs ++ front_at x.ahead k) (sym (append-nil pieces));
       untold = λ is. is;
       limits = refl;
@@ -77,21 +132,20 @@ reading_none to_come given limit breaks keeps faults mark ctx x same = record {
     };
   };
   last = refl;
-  told = record { same = λ k d pieces under come. come; known = λ k d under none. none };
+  told = record { same = λ k pieces under come. come; known = λ k under none. none };
   faults_rise = omega arith;
   same_mark = refl;
-  kept = same ctx;
+  kept = laws.keeps_same ctx;
 }
 
-pub reading_more : {P C : Type 0} (to_come : P → C → Option (List Piece)) (given : P → List Piece) (limit : P → ℕ) (breaks : P → C → ℕ → Type 0)
-    (keeps : C → C → Type 0) (faults mark : C → ℕ) (a b c : C) (x y z : Ordering P) → IsReading to_come given limit breaks keeps faults mark a x b y →
-    AllGive to_come given limit breaks none_of b y c z → z.last ≡ y.last → AllTold to_come b y c z → faults b ≤ faults c → mark c ≡ mark b → keeps b c →
-    ((a b c : C) → keeps a b → keeps b c → keeps a c) → IsReading to_come given limit breaks keeps faults mark a x c z
-reading_more to_come given limit breaks keeps faults mark a b c x y z is gives last told rise same kept on = record {
-  gives = gives_on to_come given limit breaks none_of a b c x y z is.gives gives;
+pub reading_more : {S C : Type 0} (members : StreamsOf S C) (laws : AreLawful members) (faults mark : C → ℕ) (a b c : C) (x y z : Ordering S) →
+    IsReading members faults mark a x b y → AllGive members none_of b y c z → z.last ≡ y.last → AllTold members b y c z → faults b ≤ faults c → mark c ≡ mark b →
+    members.keeps b c → IsReading members faults mark a x c z
+reading_more members laws faults mark a b c x y z is gives last told rise same kept = record {
+  gives = gives_on members laws none_of a b c x y z is.gives gives;
   last = last ∙ is.last;
-  told = told_on to_come a b c x y z is.gives.streams is.told told;
+  told = told_on members a b c x y z is.gives.streams is.told told;
   faults_rise = let one : faults a ≤ faults b = is.faults_rise in omega arith;
   same_mark = same ∙ is.same_mark;
-  kept = on a b c is.kept kept;
+  kept = laws.keeps_on a b c is.kept kept;
 }

@@ -1,2 +1,4 @@
 pub mod Fronts
+pub mod Members
 pub mod Ordering
+pub mod Untouched

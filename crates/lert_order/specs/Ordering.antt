@@ -1,30 +1,31 @@
 -- Several streams in one order: what was read ahead of each, what was given of each, and what is still to come.
-use Rattle.std.specs.Prelude.{ℕ, ◌≡◌, ◌<◌, ◌≤◌, ◌==◌, ◌^◌, ◌↔◌, All, true, Option, Some, None, List, [], ◌∷◌, ◌++◌, length, if◌then◌else◌, slice_index_or}
-use Rattle.std.specs.Prelude.{Result, Ok, Err}
+use Rattle.std.specs.Prelude.{ℕ, ◌≡◌, ◌<◌, ◌≤◌, ◌==◌, ◌^◌, ◌↔◌, All, true, Option, Some, None, List, [], ◌∷◌, ◌++◌, length, if◌then◌else◌}
+use Rattle.std.specs.Prelude.{Result, Ok, Err, slice_index_or}
 use Rattle.lert_base.specs.declared.pieces.PieceFault.{PieceFault}
 use Rattle.lert_spec.specs.declared.piece.Piece.{Piece}
 use Rattle.lert_spec.specs.Table.{AreGiven}
 use Rattle.lert_tree.specs.Race.{number_at}
 use Rattle.lert_order.specs.Fronts.{Fronts, front_at, AreLast, IsBegun}
+use Rattle.lert_order.specs.declared.streams.Streams.{Ghosts as StreamsOf}
 
 -- the streams, what was read ahead of them, and the tail that was given last
-pub record Ordering (P : Type 0) : Type 0 where
-  pub streams : List P
+pub record Ordering (S : Type 0) : Type 0 where
+  pub streams : S
   pub ahead : Fronts
   pub last : Option ℕ
 
 -- each stream was read once at least
-abbrev pub AreRead : {P : Type 0} → Ordering P → Type 0
-AreRead order = length order.ahead.counts ≡ length order.streams
+abbrev pub AreRead : {S C : Type 0} → StreamsOf S C → Ordering S → Type 0
+AreRead members order = length order.ahead.counts ≡ members.count order.streams
 
 -- the next piece can be given
-pub record IsReady {P : Type 0} (order : Ordering P) : Type 0 where
-  pub read : AreRead order
+pub record IsReady {S C : Type 0} (members : StreamsOf S C) (order : Ordering S) : Type 0 where
+  pub read : AreRead members order
   pub begun : IsBegun order.ahead
 
 -- the pieces of a stream that were given are these: those that the stream gave, without the one read ahead
-abbrev pub HasTaken : {P : Type 0} → (P → List Piece) → Ordering P → ℕ → List Piece → Type 0
-HasTaken {P} given order k pieces = (d : P) → given (slice_index_or order.streams k d) ≡ pieces ++ front_at order.ahead k
+abbrev pub HasTaken : {S C : Type 0} → StreamsOf S C → Ordering S → ℕ → List Piece → Type 0
+HasTaken members order k pieces = members.given order.streams k ≡ pieces ++ front_at order.ahead k
 
 -- a stream's part of an answer: the piece, if it is the stream's
 abbrev pub part_in : Option (ℕ × Piece) → ℕ → List Piece
@@ -41,17 +42,16 @@ part_of (Ok given) k = part_in given k
 part_of (Err fault) k = []
 
 -- what is to come of a stream, with what was read ahead of it
-pub record IsToCome {P C : Type 0} (to_come : P → C → Option (List Piece)) (ctx : C) (fronts : Fronts) (k : ℕ) (stream : P) (pieces : List Piece) : Type 0 where
+pub record IsToCome {S C : Type 0} (members : StreamsOf S C) (ctx : C) (streams : S) (fronts : Fronts) (k : ℕ) (pieces : List Piece) : Type 0 where
   pub rest : List Piece
-  pub told : to_come stream ctx ≡ Some rest
+  pub told : members.to_come streams k ctx ≡ Some rest
   pub is : pieces ≡ front_at fronts k ++ rest
   pub ended : k < length fronts.counts → number_at fronts.counts k ≡ 0 → rest ≡ []
 
 -- the context tells what is to come of each stream
-pub record Tells {P C : Type 0} (to_come : P → C → Option (List Piece)) (ctx : C) (order : Ordering P) (lists : List (List Piece)) : Type 0 where
-  pub len : length lists ≡ length order.streams
-  pub each : (k : ℕ) (d : P) → k < length order.streams →
-      IsToCome to_come ctx order.ahead k (slice_index_or order.streams k d) (slice_index_or lists k [])
+pub record Tells {S C : Type 0} (members : StreamsOf S C) (ctx : C) (order : Ordering S) (lists : List (List Piece)) : Type 0 where
+  pub len : length lists ≡ members.count order.streams
+  pub each : (k : ℕ) → k < members.count order.streams → IsToCome members ctx order.streams order.ahead k (slice_index_or lists k [])
 
 -- nothing is left in the lists
 abbrev pub AreOver : List (List Piece) → Type 0
@@ -68,14 +68,14 @@ abbrev pub IsNotBelow : Option ℕ → ℕ → Type 0
 IsNotBelow last tail = (before : ℕ) → last ≡ Some before → before ≤ tail
 
 -- a tail below the limit of a stream
-pub record IsBelow {P : Type 0} (limit : P → ℕ) (streams : List P) (stream tail : ℕ) : Type 0 where
-  pub within : stream < length streams
-  pub below : (d : P) → tail < limit (slice_index_or streams stream d)
+pub record IsBelow {S C : Type 0} (members : StreamsOf S C) (streams : S) (stream tail : ℕ) : Type 0 where
+  pub within : stream < members.count streams
+  pub below : tail < members.limit streams stream
 
 -- each stream answered that no more comes, and all that it gave was given
-pub record AreEnded {P : Type 0} (order : Ordering P) : Type 0 where
-  pub all : AreRead order
-  pub ended : (k : ℕ) → k < length order.streams → number_at order.ahead.counts k ≡ 0
+pub record AreEnded {S C : Type 0} (members : StreamsOf S C) (order : Ordering S) : Type 0 where
+  pub all : AreRead members order
+  pub ended : (k : ℕ) → k < members.count order.streams → number_at order.ahead.counts k ≡ 0
 
 -- no piece came: the order is over, or a stream refused
 abbrev pub IsNothingGiven : Result (Option (ℕ × Piece)) PieceFault → Type 0
@@ -95,51 +95,51 @@ abbrev pub IsSeated : ℕ → List Piece → Option ℕ → ℕ → ℕ → Type
 IsSeated limit pieces last tail count = 1 ≤ count → IsAhead limit pieces last (record { tail = tail; count = count })
 
 -- what stands between two calls: nothing is given before all streams were read
-pub record IsOrdering {P : Type 0} (given : P → List Piece) (limit : P → ℕ) (order : Ordering P) : Type 0 where
-  pub few : length order.streams ≤ 65535
-  pub room : length order.streams ≤ order.ahead.room
+pub record IsOrdering {S C : Type 0} (members : StreamsOf S C) (order : Ordering S) : Type 0 where
+  pub few : members.count order.streams ≤ 65535
+  pub room : members.count order.streams ≤ order.ahead.room
   pub len : length order.ahead.tails ≡ length order.ahead.counts
-  pub within : length order.ahead.counts ≤ length order.streams
-  pub begun : order.ahead.is_begun ≡ true → AreRead order
-  pub unread : length order.ahead.counts < length order.streams → order.last ≡ None
+  pub within : length order.ahead.counts ≤ members.count order.streams
+  pub begun : order.ahead.is_begun ≡ true → AreRead members order
+  pub unread : length order.ahead.counts < members.count order.streams → order.last ≡ None
   pub ended : AreLast order.ahead
-  pub seated : (k : ℕ) (d : P) → k < length order.streams → IsSeated (limit (slice_index_or order.streams k d)) (given (slice_index_or order.streams k d))
+  pub seated : (k : ℕ) → k < members.count order.streams → IsSeated (members.limit order.streams k) (members.given order.streams k)
       order.last (number_at order.ahead.tails k) (number_at order.ahead.counts k)
 
 -- a stream and what is read ahead of it, before and after this much of it was given: its limit and its breaks are the same
-pub record Gives {P C : Type 0} (to_come : P → C → Option (List Piece)) (given : P → List Piece) (limit : P → ℕ) (breaks : P → C → ℕ → Type 0)
-    (part : List Piece) (before : C) (old : P) (old_front : List Piece) (after : C) (new : P) (new_front : List Piece) : Type 0 where
-  pub taken : (pieces : List Piece) → given old ≡ pieces ++ old_front → given new ≡ (pieces ++ part) ++ new_front
-  pub untold : to_come old before ≡ None → to_come new after ≡ None
-  pub limits : limit new ≡ limit old
-  pub same_breaks : (at : ℕ) → breaks new after at ↔ breaks old before at
+pub record Gives {S C : Type 0} (members : StreamsOf S C) (k : ℕ) (part : List Piece) (before : C) (old : Ordering S) (after : C) (new : Ordering S) : Type 0 where
+  pub taken : (pieces : List Piece) → HasTaken members old k pieces → HasTaken members new k (pieces ++ part)
+  pub untold : members.to_come old.streams k before ≡ None → members.to_come new.streams k after ≡ None
+  pub limits : members.limit new.streams k ≡ members.limit old.streams k
+  pub same_breaks : (at : ℕ) → members.breaks new.streams k after at ↔ members.breaks old.streams k before at
 
 -- each stream gives its part
-pub record AllGive {P C : Type 0} (to_come : P → C → Option (List Piece)) (given : P → List Piece) (limit : P → ℕ) (breaks : P → C → ℕ → Type 0)
-    (part : ℕ → List Piece) (before : C) (old : Ordering P) (after : C) (new : Ordering P) : Type 0 where
-  pub streams : length new.streams ≡ length old.streams
+pub record AllGive {S C : Type 0} (members : StreamsOf S C) (part : ℕ → List Piece) (before : C) (old : Ordering S) (after : C) (new : Ordering S) : Type 0 where
+  pub streams : members.count new.streams ≡ members.count old.streams
   pub room : new.ahead.room ≡ old.ahead.room
-  pub each : (k : ℕ) (d : P) → k < length old.streams → Gives to_come given limit breaks (part k)
-      before (slice_index_or old.streams k d) (front_at old.ahead k) after (slice_index_or new.streams k d) (front_at new.ahead k)
+  pub kept : members.same old.streams new.streams
+  pub each : (k : ℕ) → k < members.count old.streams → Gives members k (part k) before old after new
+
+-- where a stream was told it still is
+abbrev pub AreKnown : {S C : Type 0} → StreamsOf S C → C → Ordering S → C → Ordering S → Type 0
+AreKnown members before old after new = (k : ℕ) → k < members.count old.streams →
+    members.to_come new.streams k after ≡ None → members.to_come old.streams k before ≡ None
 
 -- what is to come of each stream, with what was read ahead of it, is the same, and where it was told it still is
-pub record AllTold {P C : Type 0} (to_come : P → C → Option (List Piece)) (before : C) (old : Ordering P) (after : C) (new : Ordering P) : Type 0 where
-  pub same : (k : ℕ) (d : P) (pieces : List Piece) → k < length old.streams →
-      IsToCome to_come before old.ahead k (slice_index_or old.streams k d) pieces →
-      IsToCome to_come after new.ahead k (slice_index_or new.streams k d) pieces
-  pub known : (k : ℕ) (d : P) → k < length old.streams → to_come (slice_index_or new.streams k d) after ≡ None →
-      to_come (slice_index_or old.streams k d) before ≡ None
+pub record AllTold {S C : Type 0} (members : StreamsOf S C) (before : C) (old : Ordering S) (after : C) (new : Ordering S) : Type 0 where
+  pub same : (k : ℕ) (pieces : List Piece) → k < members.count old.streams →
+      IsToCome members before old.streams old.ahead k pieces → IsToCome members after new.streams new.ahead k pieces
+  pub known : AreKnown members before old after new
 
 -- no call changes how many streams there are, their limits, where they leave their format, or the room
-pub record AreSame {P C : Type 0} (limit : P → ℕ) (breaks : P → C → ℕ → Type 0) (before : C) (old : Ordering P) (after : C) (new : Ordering P) : Type 0 where
-  pub streams : length new.streams ≡ length old.streams
+pub record AreSame {S C : Type 0} (members : StreamsOf S C) (before : C) (old : Ordering S) (after : C) (new : Ordering S) : Type 0 where
+  pub streams : members.count new.streams ≡ members.count old.streams
   pub room : new.ahead.room ≡ old.ahead.room
-  pub limits : (k : ℕ) (d : P) → k < length old.streams → limit (slice_index_or new.streams k d) ≡ limit (slice_index_or old.streams k d)
-  pub same_breaks : (k : ℕ) (d : P) (at : ℕ) → k < length old.streams →
-      breaks (slice_index_or new.streams k d) after at ↔ breaks (slice_index_or old.streams k d) before at
+  pub limits : (k : ℕ) → k < members.count old.streams → members.limit new.streams k ≡ members.limit old.streams k
+  pub same_breaks : (k at : ℕ) → k < members.count old.streams → members.breaks new.streams k after at ↔ members.breaks old.streams k before at
 
 -- the tree knows all tails, and nothing else has changed
-pub record IsStarted {P : Type 0} (old new : Ordering P) : Type 0 where
+pub record IsStarted {S : Type 0} (old new : Ordering S) : Type 0 where
   pub streams : new.streams ≡ old.streams
   pub last : new.last ≡ old.last
   pub tails : new.ahead.tails ≡ old.ahead.tails
@@ -147,16 +147,17 @@ pub record IsStarted {P : Type 0} (old new : Ordering P) : Type 0 where
   pub room : new.ahead.room ≡ old.ahead.room
 
 -- what a piece that is given has to do with its stream and with the one given before it
-pub record IsGiven {P : Type 0} (limit : P → ℕ) (old new : Ordering P) (stream : ℕ) (piece : Piece) : Type 0 where
+pub record IsGiven {S C : Type 0} (members : StreamsOf S C) (old new : Ordering S) (stream : ℕ) (piece : Piece) : Type 0 where
   pub above : IsNotBelow old.last piece.tail
-  pub below : IsBelow limit new.streams stream piece.tail
+  pub below : IsBelow members new.streams stream piece.tail
   pub last : new.last ≡ Some piece.tail
   pub counted : 1 ≤ piece.count
   pub small : piece.count ≤ 2 ^ 47
+  pub ascending : (pieces : List Piece) → HasTaken members old stream pieces → AreGiven (members.limit new.streams stream) (pieces ++ piece ∷ [])
 
 -- one of the streams leaves its format here, and isn't told
-pub record Breaks {P C : Type 0} (to_come : P → C → Option (List Piece)) (breaks : P → C → ℕ → Type 0) (ctx : C) (streams : List P) (at : ℕ) : Type 0 where
+pub record Breaks {S C : Type 0} (members : StreamsOf S C) (ctx : C) (streams : S) (at : ℕ) : Type 0 where
   pub stream : ℕ
-  pub within : stream < length streams
-  pub untold : (d : P) → to_come (slice_index_or streams stream d) ctx ≡ None
-  pub at_it : (d : P) → breaks (slice_index_or streams stream d) ctx at
+  pub within : stream < members.count streams
+  pub untold : members.to_come streams stream ctx ≡ None
+  pub at_it : members.breaks streams stream ctx at

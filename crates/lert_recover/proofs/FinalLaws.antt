@@ -17,11 +17,11 @@ use Rattle.lert_reports.proofs.LogOnce.{one_log}
 use Rattle.lert_spec.specs.declared.numbers.Numbers.{Numbers}
 use Rattle.lert_spec.specs.Limits.{IsValid}
 use Rattle.lert_files.specs.declared.fault.ReopenFault.{ReopenFault}
-use Rattle.lert_files.specs.declared.fault.ReopenFault.TheVariants.{Failed, Malformed, OtherSettings, OutOfMemory}
+use Rattle.lert_files.specs.declared.fault.ReopenFault.TheVariants.{Failed, Malformed, OtherSettings}
 use Rattle.lert_files.specs.Headed.{HasOther}
 use Rattle.lert_files.specs.Opened.{AreOpened}
 use Rattle.lert_recover.specs.Replayed.{AreInFormat, FirstLeaves, Before_records, In_records, JournalEnds, JournalLeavesAt}
-use Rattle.lert_recover.specs.Reopened.{IsReopened, IsReopenRefused, Of_call, Of_memory, Of_place, Of_header, Of_sight, IsUnsoundAt}
+use Rattle.lert_recover.specs.Reopened.{IsReopened, IsReopenRefused, Of_call, Of_place, Of_header, Of_sight, IsUnsoundAt}
 use Rattle.lert_files.proofs.OpenedLaws.{IsOutside, left_or_other, no_other, one_header, one_place, opened_or_left}
 use Rattle.lert_recover.proofs.ReplayedLaws.{ends_from_start, ends_here, ends_or_leaves, journal_of, one_journal_place}
 
@@ -102,17 +102,11 @@ module _ (s : Numbers) (cone : ℕ) (valid : IsValid s) (below : cone < 2 ^ 32) 
   failed_or_place : (file at : ℕ) → Failed ≡ Malformed file at → ⊥
   failed_or_place file at is = cc
 
-  memory_or_place : (file at : ℕ) → OutOfMemory ≡ Malformed file at → ⊥
-  memory_or_place file at is = cc
-
   header_or_place : (kept : Kept) (file at : ℕ) → OtherSettings kept ≡ Malformed file at → ⊥
   header_or_place kept file at is = cc
 
   failed_or_header : (kept : Kept) → Failed ≡ OtherSettings kept → ⊥
   failed_or_header kept is = cc
-
-  memory_or_header : (kept : Kept) → OutOfMemory ≡ OtherSettings kept → ⊥
-  memory_or_header kept is = cc
 
   header_of : (kept other : Kept) → OtherSettings kept ≡ OtherSettings other → kept ≡ other
   header_of kept other is = cc
@@ -126,14 +120,12 @@ module _ (s : Numbers) (cone : ℕ) (valid : IsValid s) (below : cone < 2 ^ 32) 
   pub by_place : (fault : ReopenFault) (file at : ℕ) → fault ≡ Malformed file at → IsReopenRefused s cone seen fault →
       FirstLeaves s cone seen file at ⊎ IsUnsoundAt s cone seen file at
   by_place fault file at is (Of_call failed) = absurd (failed_or_place file at (sym failed ∙ is))
-  by_place fault file at is (Of_memory short) = absurd (memory_or_place file at (sym short ∙ is))
   by_place fault file at is (Of_place other_file other same leaves) = inl (place_of (FirstLeaves s cone seen) other_file other file at (sym same ∙ is) leaves)
   by_place fault file at is (Of_header kept same has) = absurd (header_or_place kept file at (sym same ∙ is))
   by_place fault file at is (Of_sight other_file other same unsound) = inr (place_of (IsUnsoundAt s cone seen) other_file other file at (sym same ∙ is) unsound)
 
   pub by_header : (fault : ReopenFault) (kept : Kept) → fault ≡ OtherSettings kept → IsReopenRefused s cone seen fault → HasOther s cone (seen JOURNAL) kept
   by_header fault kept is (Of_call failed) = absurd (failed_or_header kept (sym failed ∙ is))
-  by_header fault kept is (Of_memory short) = absurd (memory_or_header kept (sym short ∙ is))
   by_header fault kept is (Of_place file at same leaves) = absurd (header_or_place kept file at (sym is ∙ same))
   by_header fault kept is (Of_header other same has) = subst (HasOther s cone (seen JOURNAL)) (header_of other kept (sym same ∙ is)) has
   by_header fault kept is (Of_sight file at same unsound) = absurd (header_or_place kept file at (sym is ∙ same))
@@ -143,8 +135,7 @@ module _ (s : Numbers) (cone : ℕ) (valid : IsValid s) (below : cone < 2 ^ 32) 
   Refuses fault file at = IsOutside fault ⊎ (fault ≡ Malformed file at)
 
   pub left_there : (fault : ReopenFault) (file at : ℕ) → IsReopenRefused s cone seen fault → FirstLeaves s cone seen file at → Refuses fault file at
-  left_there fault file at (Of_call is) leaves = inl (inl is)
-  left_there fault file at (Of_memory is) leaves = inl (inr is)
+  left_there fault file at (Of_call is) leaves = inl is
   left_there fault file at (Of_place other_file other is too) leaves =
       let same = one_first other_file other file at too leaves in
       inr (is ∙ (λ i. Malformed (same.0 i) (same.1 i)))
@@ -152,8 +143,7 @@ module _ (s : Numbers) (cone : ℕ) (valid : IsValid s) (below : cone < 2 ^ 32) 
   left_there fault file at (Of_sight other place is unsound) leaves = absurd (whole_or_left file at unsound.whole leaves)
 
   pub other_there : (fault : ReopenFault) (kept : Kept) → IsReopenRefused s cone seen fault → HasOther s cone (seen JOURNAL) kept → IsOutside fault ⊎ (fault ≡ OtherSettings kept)
-  other_there fault kept (Of_call is) has = inl (inl is)
-  other_there fault kept (Of_memory is) has = inl (inr is)
+  other_there fault kept (Of_call is) has = inl is
   other_there fault kept (Of_place file at is leaves) has = absurd (first_or_other file at kept leaves has)
   other_there fault kept (Of_header other is too) has = inr (is ∙ ap OtherSettings (one_header s cone valid below seen other kept too has))
   other_there fault kept (Of_sight file at is unsound) has = absurd (no_other s cone valid below seen unsound.whole.opened.headed kept has)

@@ -1,6 +1,5 @@
 -- What a cone that is made over files has of them, and why one isn't.
-use Rattle.std.proofs.Common.{ℕ, suc, ◌≡◌, ◌≤◌, Bool, Result, Ok, Err, List, [], ◌∷◌, ◌++◌, length, map, take, drop, refl, ap, ap₂, sym, ◌∙◌, subst, arith, inl}
-use Rattle.std.proofs.Common.{inr, ◌⊎◌}
+use Rattle.std.proofs.Common.{ℕ, suc, ◌≡◌, ◌≤◌, Bool, Result, Ok, Err, List, [], ◌∷◌, ◌++◌, length, map, take, drop, refl, ap, ap₂, sym, ◌∙◌, subst, arith}
 use Rattle.std.specs.Prelude.{MatchResult, IfErr, IfOk}
 use Rattle.std.proofs.lemmas.List.{append_cancel_left, length-map, length-replicate, length-take-le, take_all, take_at}
 use Rattle.lert_base.specs.declared.kept.Kept.{Kept}
@@ -27,12 +26,12 @@ use Rattle.lert_spec.specs.declared.numbers.Numbers.{Numbers}
 use Rattle.lert_spec.specs.declared.report.Report.{Report}
 use Rattle.lert_spec.specs.Limits.{IsValid}
 use Rattle.lert_files.specs.declared.fault.ReopenFault.{ReopenFault}
-use Rattle.lert_files.specs.declared.fault.ReopenFault.TheVariants.{Failed, Malformed, OtherSettings, OutOfMemory}
+use Rattle.lert_files.specs.declared.fault.ReopenFault.TheVariants.{Failed, Malformed, OtherSettings}
 use Rattle.lert_files.specs.Headed.{HasOther, IsHeaded}
 use Rattle.lert_files.specs.Opened.{AreLastRows, AreOpened, IsAsRead, LeaveAt}
 use Rattle.lert_files.specs.Read.{IsReadOf}
 use Rattle.lert_recover.specs.Replayed.{Before_records, In_records, HasReplayed, JournalEnds, JournalLeavesAt}
-use Rattle.lert_recover.specs.Reopened.{IsReopened, IsReopenRefused, Of_call, Of_memory, Of_place, Of_header, Of_sight, IsStopped, At_call, At_memory, At_place, At_sight}
+use Rattle.lert_recover.specs.Reopened.{IsReopened, IsReopenRefused, Of_call, Of_place, Of_header, Of_sight, IsStopped, At_call, At_place, At_sight}
 use Rattle.lert_files.proofs.PointLaws.{directed}
 use Rattle.lert_files.proofs.RecordsLaws.{walk}
 
@@ -134,17 +133,15 @@ module _ (s : Numbers) (cone : ℕ) (seen : Files) where
   pub refused_before : (fault : ReopenFault) → ((file at : ℕ) → fault ≡ Malformed file at → LeaveAt s cone seen file at) →
       ((kept : Kept) → fault ≡ OtherSettings kept → HasOther s cone (seen JOURNAL) kept) → IsReopenRefused s cone seen fault
   refused_before Failed place other = Of_call refl
-  refused_before OutOfMemory place other = Of_memory refl
   refused_before (Malformed file at) place other = Of_place file at refl (Before_records (place file at refl))
   refused_before (OtherSettings kept) place other = Of_header kept refl (other kept refl)
 
   -- by the journal, behind files that are in their format before its records
   pub refused_behind : (records : List LogRecord) (log_end : ℕ) (rows : List (List BinAt)) (n0 : ℕ) (closed : Bool) (fault : ReopenFault) →
       AreOpened s cone seen records log_end rows → n0 ≡ last_n0 records → closed ≡ is_closed records →
-      ((history : List Packet) → IsSound s cone history seen → (fault ≡ Failed) ⊎ (fault ≡ OutOfMemory)) → IsStopped s cone n0 closed (seen JOURNAL) fault →
+      ((history : List Packet) → IsSound s cone history seen → fault ≡ Failed) → IsStopped s cone n0 closed (seen JOURNAL) fault →
       IsReopenRefused s cone seen fault
   refused_behind records log_end rows n0 closed fault opened n0_is closed_is fails (At_call is) = Of_call is
-  refused_behind records log_end rows n0 closed fault opened n0_is closed_is fails (At_memory is) = Of_memory is
   refused_behind records log_end rows n0 closed fault opened n0_is closed_is fails (At_place at is leaves) =
       Of_place 0 at is
       (In_records records log_end rows opened refl
@@ -161,20 +158,13 @@ module _ (s : Numbers) (cone : ℕ) (seen : Files) where
           journal = subst (λ (c : Bool). JournalEnds s cone (last_n0 records) c (seen JOURNAL) 0 32) closed_is
               (subst (λ n. JournalEnds s cone n closed (seen JOURNAL) 0 32) n0_is ends);
         };
-        none = λ history sound. neither file at (sym is) (fails history sound);
+        none = λ history sound. failed_or_place file at (sym is ∙ fails history sound);
         file_is = file_is;
         at_is = at_is;
       })
     where
       failed_or_place : (file at : ℕ) → Malformed file at ≡ Failed → ⊥
       failed_or_place file at is = cc
-
-      memory_or_place : (file at : ℕ) → Malformed file at ≡ OutOfMemory → ⊥
-      memory_or_place file at is = cc
-
-      neither : (file at : ℕ) → Malformed file at ≡ fault → (fault ≡ Failed) ⊎ (fault ≡ OutOfMemory) → ⊥
-      neither file at is (inl failed) = failed_or_place file at (is ∙ failed)
-      neither file at is (inr short) = memory_or_place file at (is ∙ short)
 
 -- ---- an answer behind files that are in their format before the records of the journal
 
@@ -199,7 +189,7 @@ module _ {K E : Type 0} (closed_in : K → Bool) (events_in : K → List ℕ) (g
       MatchResult result (λ now. HasReplayed s cone n0 closed (seen JOURNAL) (gate_in now) (events_in now) × IsClosed (seen JOURNAL) (gate_in now))
       (λ refused. IsStopped s cone n0 closed (seen JOURNAL) (fault_in refused)) →
       IfOk result (λ now. n0 ≤ length (events_in now)) → IfOk result (λ now. closed_in now ≡ closed) →
-      IfErr result (λ refused. (history : List Packet) → IsSound s cone history seen → (fault_in refused ≡ Failed) ⊎ (fault_in refused ≡ OutOfMemory)) →
+      IfErr result (λ refused. (history : List Packet) → IsSound s cone history seen → fault_in refused ≡ Failed) →
       MatchResult result (λ now. IsReopened s cone seen (closed_in now) (events_in now) (gate_in now)) (λ refused. IsReopenRefused s cone seen (fault_in refused))
   reopened_of s cone seen records log_end rows n0 closed opened n0_is closed_is (Ok now) told enough same fails = record {
     records = records;

@@ -1,9 +1,9 @@
 -- Why a replay stopped, and what was so of a cone when it was made.
-use Rattle.std.proofs.Common.{ℕ, ◌≡◌, Bool, Option, List, length, refl, ap, ◌∙◌, subst, inl, inr, ◌⊎◌}
+use Rattle.std.proofs.Common.{ℕ, ◌≡◌, Bool, Option, List, length, refl, ap, ◌∙◌, subst, inl, inr}
 use Rattle.lert_bay.specs.declared.bay.TheConstants.{LOG, FRAMES}
 use Rattle.lert_bay.specs.Files.{Files}
 use Rattle.lert_cone.specs.declared.refusal.ReplayFault.{ReplayFault}
-use Rattle.lert_cone.specs.declared.refusal.ReplayFault.TheVariants.{Failed as ReplayFailed, Malformed as ReplayMalformed, Unsound as ReplayUnsound, OutOfMemory as ReplayOutOfMemory}
+use Rattle.lert_cone.specs.declared.refusal.ReplayFault.TheVariants.{Failed as ReplayFailed, Malformed as ReplayMalformed, Unsound as ReplayUnsound}
 use Rattle.lert_cone.specs.Replay.{ReplayLeavesAt}
 use Rattle.lert_cone.specs.Sound.{IsSound}
 use Rattle.lert_cone.specs.Stands.{IsSameCone, Standing, WasSound}
@@ -12,9 +12,9 @@ use Rattle.lert_rows.specs.declared.bin_at.BinAt.{BinAt}
 use Rattle.lert_spec.specs.declared.numbers.Numbers.{Numbers}
 use Rattle.lert_spec.specs.declared.report.Report.{Report}
 use Rattle.lert_files.specs.declared.fault.ReopenFault.{ReopenFault}
-use Rattle.lert_files.specs.declared.fault.ReopenFault.TheVariants.{Failed, OutOfMemory}
-use Rattle.lert_recover.specs.Replayed.{HasReplayed, IsOutsideReplay, JournalEnds, JournalLeavesAt}
-use Rattle.lert_recover.specs.Reopened.{IsStopped, IsWhy, At_call, At_memory, At_place, At_sight}
+use Rattle.lert_files.specs.declared.fault.ReopenFault.TheVariants.{Failed}
+use Rattle.lert_recover.specs.Replayed.{HasReplayed, JournalEnds, JournalLeavesAt}
+use Rattle.lert_recover.specs.Reopened.{IsStopped, IsWhy, At_call, At_place, At_sight}
 use Rattle.lert_recover.proofs.ReplayedLaws.{ends_from_start, here, leaves_from_start}
 
 -- a replay that stopped at a gate behind what it had replayed
@@ -31,7 +31,6 @@ module _ (s : Numbers) (cone n0 : ℕ) (closed : Bool) (bytes : List ℕ) (gate 
       ((file at : ℕ) → replay ≡ ReplayUnsound file at → (file ≡ LOG) × (at ≡ 0)) →
       IsStopped s cone n0 closed bytes fault
   stopped_of fault ReplayFailed why left shown = At_call why
-  stopped_of fault ReplayOutOfMemory why left shown = At_memory why
   stopped_of fault (ReplayMalformed at) why left shown = At_place at why (start_leaves at (here s cone n0 closed bytes n gate at (left at refl)))
   stopped_of fault (ReplayUnsound file at) (inl failed) left shown = At_call failed
   stopped_of fault (ReplayUnsound file at) (inr (inl (is, ends))) left shown = (let where_ = shown file at refl in At_sight file at is (start_ends ends) where_.0 where_.1)
@@ -40,23 +39,14 @@ module _ (s : Numbers) (cone n0 : ℕ) (closed : Bool) (bytes : List ℕ) (gate 
 failed_or_unsound : (file at : ℕ) → ReplayUnsound file at ≡ ReplayFailed → ⊥
 failed_or_unsound file at is = cc
 
-memory_or_unsound : (file at : ℕ) → ReplayUnsound file at ≡ ReplayOutOfMemory → ⊥
-memory_or_unsound file at is = cc
-
 failed_or_malformed : (at : ℕ) → ReplayMalformed at ≡ ReplayFailed → ⊥
 failed_or_malformed at is = cc
 
-memory_or_malformed : (at : ℕ) → ReplayMalformed at ≡ ReplayOutOfMemory → ⊥
-memory_or_malformed at is = cc
-
 pub outside_of : (s : Numbers) (cone n0 : ℕ) (closed : Bool) (bytes : List ℕ) (n gate : ℕ) (fault : ReopenFault) (replay : ReplayFault) →
-    IsWhy s cone n0 closed bytes n gate replay fault → IsOutsideReplay replay → (fault ≡ Failed) ⊎ (fault ≡ OutOfMemory)
-outside_of s cone n0 closed bytes n gate fault ReplayFailed why outside = inl why
-outside_of s cone n0 closed bytes n gate fault ReplayOutOfMemory why outside = inr why
-outside_of s cone n0 closed bytes n gate fault (ReplayMalformed at) why (inl failed) = absurd (failed_or_malformed at failed)
-outside_of s cone n0 closed bytes n gate fault (ReplayMalformed at) why (inr short) = absurd (memory_or_malformed at short)
-outside_of s cone n0 closed bytes n gate fault (ReplayUnsound file at) why (inl failed) = absurd (failed_or_unsound file at failed)
-outside_of s cone n0 closed bytes n gate fault (ReplayUnsound file at) why (inr short) = absurd (memory_or_unsound file at short)
+    IsWhy s cone n0 closed bytes n gate replay fault → replay ≡ ReplayFailed → fault ≡ Failed
+outside_of s cone n0 closed bytes n gate fault ReplayFailed why outside = why
+outside_of s cone n0 closed bytes n gate fault (ReplayMalformed at) why failed = absurd (failed_or_malformed at failed)
+outside_of s cone n0 closed bytes n gate fault (ReplayUnsound file at) why failed = absurd (failed_or_unsound file at failed)
 
 -- what was so when the cone was made
 pub was_before : {B : Type 0} (files : B → Option Files) (start now : Standing B) → IsSameCone start now → WasSound files now → WasSound files start

@@ -6,12 +6,12 @@ use Rattle.lert_base.specs.Packet.{Packet}
 use Rattle.lert_bay.specs.declared.bay.TheConstants.{JOURNAL, LOG}
 use Rattle.lert_bay.specs.Files.{Files}
 use Rattle.lert_cone.specs.declared.refusal.ReplayFault.{ReplayFault}
-use Rattle.lert_cone.specs.declared.refusal.ReplayFault.TheVariants.{Failed as ReplayFailed, Malformed as ReplayMalformed, Unsound as ReplayUnsound, OutOfMemory as ReplayOutOfMemory}
+use Rattle.lert_cone.specs.declared.refusal.ReplayFault.TheVariants.{Failed as ReplayFailed, Malformed as ReplayMalformed, Unsound as ReplayUnsound}
 use Rattle.lert_cone.specs.Sound.{IsSound}
 use Rattle.lert_gatelog.specs.Gated.{IsClosed}
 use Rattle.lert_rows.specs.declared.bin_at.BinAt.{BinAt}
 use Rattle.lert_files.specs.declared.fault.ReopenFault.{ReopenFault}
-use Rattle.lert_files.specs.declared.fault.ReopenFault.TheVariants.{Failed, Malformed, OtherSettings, OutOfMemory}
+use Rattle.lert_files.specs.declared.fault.ReopenFault.TheVariants.{Failed, Malformed, OtherSettings}
 use Rattle.lert_files.specs.Headed.{HasOther}
 use Rattle.lert_files.specs.Opened.{AreOpened}
 use Rattle.lert_recover.specs.Replayed.{AreInFormat, FirstLeaves, HasReplayed, JournalEnds, JournalLeavesAt}
@@ -38,11 +38,10 @@ pub record IsUnsoundAt (s : Numbers) (cone : ℕ) (seen : Files) (file at : ℕ)
   pub file_is : file ≡ LOG
   pub at_is : at ≡ 0
 
--- why a cone isn't reopened: a call or memory failed, or what stands in its files, which leave their format first at a place,
+-- why a cone isn't reopened: a call failed, or what stands in its files, which leave their format first at a place,
 -- or begin with other numbers, or are sound for no list
 pub data IsReopenRefused (s : Numbers) (cone : ℕ) (seen : Files) (fault : ReopenFault) : Type 0 where
   Of_call : fault ≡ Failed → IsReopenRefused s cone seen fault
-  Of_memory : fault ≡ OutOfMemory → IsReopenRefused s cone seen fault
   Of_place : (file at : ℕ) → fault ≡ Malformed file at → FirstLeaves s cone seen file at → IsReopenRefused s cone seen fault
   Of_header : (kept : Kept) → fault ≡ OtherSettings kept → HasOther s cone (seen JOURNAL) kept → IsReopenRefused s cone seen fault
   Of_sight : (file at : ℕ) → fault ≡ Malformed file at → IsUnsoundAt s cone seen file at → IsReopenRefused s cone seen fault
@@ -52,7 +51,6 @@ pub data IsReopenRefused (s : Numbers) (cone : ℕ) (seen : Files) (fault : Reop
 -- why a replay stopped
 pub data IsStopped (s : Numbers) (cone n0 : ℕ) (closed : Bool) (bytes : List ℕ) (fault : ReopenFault) : Type 0 where
   At_call : fault ≡ Failed → IsStopped s cone n0 closed bytes fault
-  At_memory : fault ≡ OutOfMemory → IsStopped s cone n0 closed bytes fault
   At_place : (at : ℕ) → fault ≡ Malformed JOURNAL at → JournalLeavesAt s cone n0 closed bytes 0 32 at → IsStopped s cone n0 closed bytes fault
   At_sight : (file at : ℕ) → fault ≡ Malformed file at → JournalEnds s cone n0 closed bytes 0 32 → file ≡ LOG → at ≡ 0 → IsStopped s cone n0 closed bytes fault
 
@@ -61,7 +59,6 @@ pub data IsStopped (s : Numbers) (cone n0 : ℕ) (closed : Bool) (bytes : List �
 abbrev pub IsWhy : Numbers → ℕ → ℕ → Bool → List ℕ → ℕ → ℕ → ReplayFault → ReopenFault → Type 0
 IsWhy s cone n0 closed bytes n gate ReplayFailed fault = fault ≡ Failed
 IsWhy s cone n0 closed bytes n gate (ReplayMalformed at) fault = fault ≡ Malformed JOURNAL at
-IsWhy s cone n0 closed bytes n gate ReplayOutOfMemory fault = fault ≡ OutOfMemory
 IsWhy s cone n0 closed bytes n gate (ReplayUnsound file at) fault =
     (fault ≡ Failed)
     ⊎ (((fault ≡ Malformed file at) × JournalEnds s cone n0 closed bytes n gate)

@@ -1,11 +1,8 @@
 -- The packets of a journal as they are replayed, and where the files of a cone first leave their format.
 use Rattle.std.specs.Prelude.{◌≡◌, ℕ, ◌+◌, ◌≤◌, Bool, List, [], ◌∷◌, length, map, Option}
-use Rattle.std.proofs.Common.{◌⊎◌}
 use Rattle.lert_base.specs.Packet.{Packet, events_of}
 use Rattle.lert_bay.specs.declared.bay.TheConstants.{JOURNAL}
 use Rattle.lert_bay.specs.Files.{Files, Turns}
-use Rattle.lert_cone.specs.declared.refusal.ReplayFault.{ReplayFault}
-use Rattle.lert_cone.specs.declared.refusal.ReplayFault.TheVariants.{Failed, OutOfMemory}
 use Rattle.lert_cone.specs.Framed.{last_flush}
 use Rattle.lert_cone.specs.History.{most_payload}
 use Rattle.lert_cone.specs.Replay.{MayFollow, ReplayLeavesAt}
@@ -73,7 +70,3 @@ FlushesNothing s n0 bytes = (packets : List Packet) (end : ℕ) → Records (mos
 -- the journal reads as before
 abbrev pub IsJournalSame : Option Files → Option Files → Type 0
 IsJournalSame before after = Turns (λ old new. new JOURNAL ≡ old JOURNAL) before after
-
--- a call or memory failed
-abbrev pub IsOutsideReplay : ReplayFault → Type 0
-IsOutsideReplay fault = (fault ≡ Failed) ⊎ (fault ≡ OutOfMemory)

@@ -87,7 +87,6 @@ pub fn why_stopped<B: Bay>(
     match stop.fault {
         ReplayFault::Failed => ReopenFault::Failed,
         ReplayFault::Malformed { at } => ReopenFault::Malformed { file: JOURNAL, at },
-        ReplayFault::OutOfMemory => ReopenFault::OutOfMemory,
         ReplayFault::Unsound { file, at } => {
             match find_left(bay, settings, cone, last, stop.gate, stop.events) {
                 Ok(None) => ReopenFault::Malformed { file, at },

@@ -42,9 +42,8 @@ pub struct ReopenRefused<B: Bay> {
 /// the run didn't come to.
 ///
 /// A refusal hands the bay back, and lets the room go. Reads all of the journal and the log once, each named frame once, and what
-/// a flush reads. Takes the memory of the bins that it reads and makes. Where the store shows while the journal is replayed that
-/// the files are sound for no list, the rest of the journal is read too, and the first place at which it leaves its format comes
-/// before that.
+/// a flush reads. Takes no memory. Where the store shows while the journal is replayed that the files are sound for no list, the
+/// rest of the journal is read too, and the first place at which it leaves its format comes before that.
 pub fn reopen<B: Bay, T: CountTable>(
     room: ConeRoom<T>,
     cone: u32,
@@ -54,11 +53,11 @@ pub fn reopen<B: Bay, T: CountTable>(
     requires room { IsRoom room.settings room.zero room.levels room.store room.entry.keys (length room.buffer.items) }
 
     // Files that are told and sound for a list make a cone that stands for it, finished exactly where the log's last record is a
-    // closing one.
+    // closing one. Only a call of the bay may fail.
     ensures sound_opens { IfTold (B.files bay) (λ seen. (h : List Packet) (sound : IsSound room.settings cone h seen) →
         MatchResult result
         (λ now. StandsFor B.files B.leaves B.faults now h × (now.state ≡ if is_closed sound.logged then ConeState.Finished else ConeState.Running))
-        (λ refused. (refused.fault ≡ ReopenFault.Failed) ⊎ (refused.fault ≡ ReopenFault.OutOfMemory))) }
+        (λ refused. refused.fault ≡ ReopenFault.Failed)) }
 
     // Told or not, it stands for each list of as many events. Where the files were told and sound for a list, that is such a list.
     ensures stands { IfOk result (λ now. (h : List Packet) → All (λ packet. 0 < length packet.keys) h → length (events_of h) ≡ now.events →
@@ -75,11 +74,11 @@ pub fn reopen<B: Bay, T: CountTable>(
     ensures other { IfTold (B.files bay) (λ seen. IfErr result (λ refused. (kept : KeptOf) → refused.fault ≡ ReopenFault.OtherSettings kept →
         HasOther room.settings cone (seen JOURNAL) kept)) }
 
-    // And where they leave it there, that is the answer, but where a call of the bay or memory fails.
+    // And where they leave it there, that is the answer, but where a call of the bay fails.
     ensures refuses { IfTold (B.files bay) (λ seen. (file at : ℕ) → FirstLeaves room.settings cone seen file at →
-        IsErrAnd result (λ refused. ((refused.fault ≡ ReopenFault.Failed) ⊎ (refused.fault ≡ ReopenFault.OutOfMemory)) ⊎ (refused.fault ≡ ReopenFault.Malformed file at))) }
+        IsErrAnd result (λ refused. (refused.fault ≡ ReopenFault.Failed) ⊎ (refused.fault ≡ ReopenFault.Malformed file at))) }
     ensures differs { IfTold (B.files bay) (λ seen. (kept : KeptOf) → HasOther room.settings cone (seen JOURNAL) kept →
-        IsErrAnd result (λ refused. ((refused.fault ≡ ReopenFault.Failed) ⊎ (refused.fault ≡ ReopenFault.OutOfMemory)) ⊎ (refused.fault ≡ ReopenFault.OtherSettings kept))) }
+        IsErrAnd result (λ refused. (refused.fault ≡ ReopenFault.Failed) ⊎ (refused.fault ≡ ReopenFault.OtherSettings kept))) }
 
     // It is closed exactly where the log is, whether or not the files are sound for a list.
     ensures closed { IfTold (B.files bay) (λ seen. IfOk result (λ now. (records : List LogRecord) × (log_end : ℕ)
@@ -115,7 +114,7 @@ fn reopen_in_order<B: Bay, T: CountTable>(
         (λ now. IsReopened room.settings cone seen now.listing.closed now.listing.events now.gate)
         (λ refused. IsReopenRefused room.settings cone seen refused.fault)) }
     ensures fails { IfTold (B.files bay) (λ seen. IfErr result (λ refused. (h : List Packet) → IsSound room.settings cone h seen →
-        (refused.fault ≡ ReopenFault.Failed) ⊎ (refused.fault ≡ ReopenFault.OutOfMemory))) }
+        refused.fault ≡ ReopenFault.Failed)) }
     ensures stands { IfOk result (λ now. (h : List Packet) → All (λ packet. 0 < length packet.keys) h → length (events_of h) ≡ now.events →
         IfTold (B.files bay) (λ seen. (other : List Packet) → IsSound room.settings cone other seen → IsSound room.settings cone h seen) →
         StandsFor B.files B.leaves B.faults now h) }
@@ -170,7 +169,7 @@ fn replay_journal<B: Bay, T: CountTable>(
         (λ now. HasReplayed cone.listing.settings cone.listing.cone cone.last.n0 cone.last.closed (seen JOURNAL) now.gate now.listing.events × IsClosed (seen JOURNAL) now.gate)
         (λ refused. IsStopped cone.listing.settings cone.listing.cone cone.last.n0 cone.last.closed (seen JOURNAL) refused.fault)) }
     ensures fails { IfTold (B.files cone.bay) (λ _. IfErr result (λ refused. (h : List Packet) → Replays B.files B.leaves cone h [] →
-        (refused.fault ≡ ReopenFault.Failed) ⊎ (refused.fault ≡ ReopenFault.OutOfMemory))) }
+        refused.fault ≡ ReopenFault.Failed)) }
     ensures stands { IfOk result (λ now. (h : List Packet) → All (λ packet. 0 < length packet.keys) h → length (events_of h) ≡ now.events →
         (WasSound B.files cone → IfTold (B.files cone.bay) (λ _. Replays B.files B.leaves cone h [])) → StandsFor B.files B.leaves B.faults now h) }
     ensures passed { IfOk result (λ now. cone.last.n0 ≤ length now.listing.events) }

@@ -13,7 +13,7 @@ ghost use Rattle.lert_cone.specs.Stands.{IsSameCone};
 ghost use Rattle.lert_cone.specs.Wrote.{IsShutIfTold};
 ghost use Rattle.lert_files.specs.Opened.{WritesNothing};
 ghost use Rattle.lert_gatelog.specs.Gated.{IsClosed};
-ghost use Rattle.lert_recover.specs.Replayed.{FlushesNothing, HasReplayed, IsJournalSame, IsOutsideReplay};
+ghost use Rattle.lert_recover.specs.Replayed.{FlushesNothing, HasReplayed, IsJournalSame};
 ghost use Rattle.lert_spec.specs.Edges.{capacity};
 ghost use Rattle.lert_spec.specs.Limits.{IsValid};
 
@@ -55,7 +55,7 @@ pub fn replay_all<B: Bay, T: CountTable>(cone: &mut Cone<B, T>) -> Result<u64, S
 
     // A cone on its way through the packets of a list is then behind all of them.
     ensures replays { IfTold (B.files cone.old.bay) (λ _. (h : List Packet) → Replays B.files B.leaves cone.old h [] →
-        MatchResult result (λ _. Replays B.files B.leaves cone.new h h) (λ stop. IsOutsideReplay stop.fault)) }
+        MatchResult result (λ _. Replays B.files B.leaves cone.new h h) (λ stop. stop.fault ≡ ReplayFault.Failed)) }
 
     // Whatever it answers, the files that it leaves are sound for that list; and they are as they were where no flush comes.
     ensures stays_sound { IfTold (B.files cone.old.bay) (λ _. (h : List Packet) → Replays B.files B.leaves cone.old h [] →

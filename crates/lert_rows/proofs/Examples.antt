@@ -4,12 +4,14 @@ use Rattle.std.proofs.Common.{◌≡◌, ℕ, List, [], ◌∷◌, ◌++◌, ref
 use Rattle.std.specs.List.{range_with_len}
 use Rattle.lert_slotbits.specs.Bits.{word_bits}
 use Rattle.lert_spec.specs.declared.numbers.Numbers.{Numbers}
+use Rattle.lert_spec.specs.declared.piece.Piece.{Piece}
 use Rattle.lert_spec.specs.Bins.{bins}
 use Rattle.lert_rows.specs.declared.bin_at.BinAt.{BinAt}
 use Rattle.lert_rows.specs.Ranges.{ranges, filled, young_bins}
 use Rattle.lert_rows.specs.Checked.{level_of, rows_left}
 use Rattle.lert_rows.specs.Named.{frames_text}
 use Rattle.lert_rows.specs.Rows.{moved, directory_text}
+use Rattle.lert_rows.specs.Young.{times_in}
 
 abbrev small : Numbers
 small = record { threshold = 3; bins = 3; ratio = 2; base = 4; levels = 2; cone_bits = 8; room = 32; packet = 8 }
@@ -92,3 +94,10 @@ cut_file = refl
 no_pieces : rows_left small (replicate 1000 0) at_32 ≡ Some 296
 unfolding word_bits
 no_pieces = refl
+
+-- how often tail 5 stands in two tables
+abbrev two_tables : List (List Piece)
+two_tables = (record { tail = 5; count = 3 } ∷ record { tail = 9; count = 2 } ∷ []) ∷ (record { tail = 5; count = 1 } ∷ []) ∷ []
+
+five_is : times_in (λ pieces. pieces) two_tables 5 ≡ 4
+five_is = refl

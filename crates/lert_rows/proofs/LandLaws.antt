@@ -1,5 +1,5 @@
 -- Calls that write some frames and leave the rest, one after the other.
-use Rattle.std.proofs.Common.{ℕ, ◌≡◌, ◌≢◌, ◌+◌, ◌-◌, ◌<◌, ◌≤◌, List, [], length, take, get_or, refl, ap, sym, ◌∙◌, arith, inl, inr, ◌⊎◌, subst, Option, Some}
+use Rattle.std.proofs.Common.{ℕ, ◌≡◌, ◌≢◌, ◌+◌, ◌-◌, ◌<◌, ◌≤◌, List, length, take, refl, ap, sym, ◌∙◌, arith, inl, inr, ◌⊎◌, subst, Option, Some}
 use Rattle.std.proofs.Common.{Result, length-take, length-drop}
 use Rattle.std.specs.Prelude.{Ok, Err, OnOk, OnErr}
 use Rattle.std.proofs.lemmas.Bool.{cases_eq, cases_lt}
@@ -13,15 +13,12 @@ use Rattle.lert_bay.proofs.Settling.{part_none, part_torn}
 use Rattle.lert_frames.specs.Frame.{HoldsFrame, frame_text}
 use Rattle.lert_frames.specs.Kept.{WritesWithin}
 use Rattle.lert_frames.specs.Place.{frame_place, frame_len}
-use Rattle.lert_frames.proofs.FrameLaws.{text_within}
-use Rattle.lert_frames.proofs.PlaceLaws.{places_apart}
 use Rattle.lert_frames.proofs.WithinLaws.{within_outside}
 use Rattle.lert_frames.proofs.WriteLaws.{either_way}
-use Rattle.lert_spec.specs.Limits.{IsValid}
 use Rattle.lert_spec.specs.declared.numbers.Numbers.{Numbers}
 use Rattle.lert_spec.specs.declared.piece.Piece.{Piece}
 use Rattle.lert_rows.specs.declared.bin_at.BinAt.{BinAt}
-use Rattle.lert_rows.specs.Landing.{IsApart, LeavesRest, KeepsRest, landing_frame, AreApart, CanStand, AreLanded}
+use Rattle.lert_rows.specs.Landing.{IsApart, LeavesRest, KeepsRest}
 use Rattle.lert_rows.specs.Rows.{IsRow, arrived}
 use Rattle.lert_rows.proofs.RowLaws.{lowest_is_free}
 
@@ -172,46 +169,6 @@ sync_rest bays lawful kept before after elapsed same was = record {
 
 pub landing_within : (s : Numbers) (m level : ℕ) (row : List BinAt) → IsRow s level row → (arrived s m level row).frame ≤ s.bins
 landing_within s m level row is = omega (arith, (lowest_is_free row).within, is.few)
-
-module _ (s : Numbers) (m : ℕ) (rows : List (List BinAt)) (bins : List (List Piece)) (valid : IsValid s) (few : length rows ≤ s.levels)
-    (rows_are : (k : ℕ) → k < length rows → IsRow s (k + 1) (get_or rows k [])) (len : length bins ≡ length rows)
-    (bins_are : (k : ℕ) → k < length bins → CanStand s (k + 1) (get_or bins k [])) where
-  -- a bin more stands, and those before it still do
-  pub landed_more : (old new : Files) (i frame : ℕ) (pieces : List Piece) → i < length rows → landing_frame s m rows i ≡ frame → get_or bins i [] ≡ pieces →
-      LeavesRest (IsApart s (i + 1) frame) old new →
-      HoldsFrame s (i + 1) frame (new FRAMES) pieces → AreLanded s m rows (old FRAMES) bins i → AreLanded s m rows (new FRAMES) bins (i + 1)
-  landed_more old new i frame pieces below frame_is pieces_are leaves here before k within =
-      elim (cases_lt k i) [
-        | inl earlier ↦ (
-            let list = get_or bins k [] in
-            let own = landing_frame s m rows k in
-            let place = frame_place s (k + 1) own in
-            let can = bins_are k (omega arith) in
-            let fits = text_within s (k + 1) list valid (omega (arith, few)) can.given.table can.fits in
-            let own_within = landing_within s m (k + 1) (get_or rows k []) (rows_are k (omega arith)) in
-            let frame_within : frame ≤ s.bins = subst (λ (n : ℕ). n ≤ s.bins) frame_is (landing_within s m (i + 1) (get_or rows i []) (rows_are i below)) in
-            let levels_differ : k + 1 ≢ i + 1 = λ same. omega arith in
-            let apart : IsApart s (i + 1) frame place (place + length (frame_text s (k + 1) list)) =
-            elim (places_apart s (i + 1) frame (k + 1) own (omega arith) frame_within (omega arith) own_within (inl levels_differ)) [
-              | inl behind ↦ inl (omega (arith, behind, fits))
-              | inr ahead ↦ inr ahead
-            ] in
-            holds_stays (IsApart s (i + 1) frame) old new s (k + 1) own list leaves apart (before k earlier))
-        | inr last ↦ (
-            let same : i ≡ k = omega arith in
-            subst (λ (n : ℕ). HoldsFrame s (n + 1) (landing_frame s m rows n) (new FRAMES) (get_or bins n [])) same
-            (subst (λ (f : ℕ). HoldsFrame s (i + 1) f (new FRAMES) (get_or bins i [])) (sym frame_is)
-            (subst (HoldsFrame s (i + 1) frame (new FRAMES)) (sym pieces_are) here)))
-      ]
-
-  -- and the rest is as it was
-  pub rest_more : {B : Type 0} (bays : Bays B) → IsLawful bays → (i frame : ℕ) (first middle last : B) (First Failed : Type 0) → i < length rows → landing_frame s m rows i ≡ frame →
-      KeepsBay bays first middle First → KeepsBay bays middle last Failed →
-      KeepsRest bays (AreApart s m rows) first middle → KeepsRest bays (IsApart s (i + 1) frame) middle last → KeepsRest bays (AreApart s m rows) first last
-  rest_more bays lawful i frame first middle last First Failed below frame_is kept_first kept_last one two =
-      rest_on bays lawful (AreApart s m rows) first middle last First Failed kept_first kept_last one
-      (rest_fewer bays (IsApart s (i + 1) frame) (AreApart s m rows) middle last
-      (λ from to apart. subst (λ (f : ℕ). IsApart s (i + 1) f from to) frame_is (apart i below)) two)
 
 -- after a sync that may have failed each image is one of before
 pub synced_was : {T E : Type 0} (result : Result T E) (files : Option Files) (leaves_before leaves_after : Files → Type 0) →

@@ -8,11 +8,11 @@ mod YoungLaws
 mod YoungAdds
 mod YoungDrops
 mod YoungCounts
+mod YoungBounds
 pub mod YoungBins
 mod LoadLaws
 pub mod ReadLaws
 pub mod LandLaws
-mod WriterLaws
 pub mod MoveLaws
 pub mod NamedLaws
 pub mod CheckLaws

@@ -1,74 +1,19 @@
--- Tables and the bins of level 0 as lists of pieces.
-use Rattle.std.proofs.Common.{ℕ, zero, suc, ◌≡◌, ◌+◌, ◌-◌, ◌*◌, ◌/◌, ◌%◌, ◌^◌, ◌<◌, ◌≤◌, min, List, [], ◌∷◌, ◌++◌, All, length, get_or, map}
-use Rattle.std.proofs.Common.{take, refl, ap, ap₂, sym, ◌∙◌, subst, arith, inl, inr, lit<, append-nil, append_assoc}
-use Rattle.std.proofs.Math.Nat.{pow-le-pow_right, mul-le-mul_right, suc-mul}
+-- The tables of level 0 that are in use, as the pieces of its bins.
+use Rattle.std.proofs.Common.{ℕ, zero, suc, ◌≡◌, ◌+◌, ◌-◌, ◌*◌, ◌/◌, ◌%◌, ◌^◌, ◌<◌, ◌≤◌, min, List, [], ◌∷◌, All, length, get_or, map}
+use Rattle.std.proofs.Common.{take, refl, ap, ap₂, sym, ◌∙◌, subst, arith, inl, inr}
+use Rattle.std.proofs.Math.Nat.{mul-le-mul_right, suc-mul}
 use Rattle.std.proofs.lemmas.Bool.{cases_lt}
-use Rattle.std.proofs.lemmas.List.{map-append, map_more, get_or-map, get_or_default, length-map, take-map}
-use Rattle.std.proofs.lemmas.List.Elements.{All-append, All-take}
+use Rattle.std.proofs.lemmas.List.{get_or-map, length-map, take-map}
+use Rattle.std.proofs.lemmas.List.Elements.{All-take}
 use Rattle.std.proofs.lemmas.Grind.{div_ceil_times}
-use Rattle.lert_spec.proofs.GivenLaws.{given_take, given_wide}
-use Rattle.lert_frames.specs.Frame.{IsBin}
 use Rattle.lert_spec.specs.declared.piece.Piece.{Piece}
-use Rattle.lert_spec.specs.Table.{total, IsTable, AreGiven}
-use Rattle.lert_spec.proofs.Tables.{count_le-total}
+use Rattle.lert_spec.specs.Table.{total}
 use Rattle.lert_spec.specs.declared.numbers.Numbers.{Numbers}
 use Rattle.lert_spec.specs.Bins.{Bin}
 use Rattle.lert_spec.specs.Edges.{span}
-use Rattle.lert_rows.specs.declared.listed.Listed.{Listed}
-use Rattle.lert_rows.specs.Listed.{bound_of, given_bound}
-use Rattle.lert_rows.specs.Loading.{lists_of}
 use Rattle.lert_rows.specs.Young.{Young, bins_of, IsOfZero, IsFilled, AreFilled}
 use Rattle.lert_rows.proofs.YoungLaws.{bins_of-none, bins_of-some, bins_of-length, bits_of_zero}
 use Rattle.lert_rows.proofs.YoungCounts.{width_within}
-
--- the first pieces, below the bound of all
-pub first_given : (limit n : ℕ) (pieces : List Piece) → AreGiven limit pieces → AreGiven (bound_of pieces) (take n pieces)
-first_given limit n pieces are = given_take (bound_of pieces) n pieces (given_bound limit pieces are)
-
--- the pieces of a table of few events
-pub given_of : (bits room : ℕ) (pieces : List Piece) → IsTable (2 ^ bits) pieces → total pieces ≤ room → room ≤ 2 ^ 47 → AreGiven (2 ^ bits) pieces
-given_of bits room pieces table fits few = record { table = table; counts = λ k d within. omega (arith, count_le-total pieces k d within) }
-
-pub given_in_word : (bits : ℕ) (pieces items : List Piece) → AreGiven (2 ^ bits) pieces → bits ≤ 64 → items ≡ pieces → AreGiven (2 ^ 64) items
-given_in_word bits pieces items given few same =
-    subst (AreGiven (2 ^ 64)) (sym same) (given_wide (2 ^ bits) (2 ^ 64) pieces (pow-le-pow_right {n = 2} (lit< tt) {i = bits} {j = 64} few) given)
-
-pub all_loaded : (items left pieces : List Piece) → items ++ left ≡ pieces → left ≡ [] → items ≡ pieces
-all_loaded items left pieces is over = sym (append-nil items) ∙ ap (λ rest. items ++ rest) (sym over) ∙ is
-
--- the first tables were put behind the lists, and are tables indeed
-pub record IsLoaded {T : Type 0} (pieces : T → List Piece) (tail_bits : T → ℕ) (tables : List T) (number : ℕ) (old new : List (List Piece)) : Type 0 where
-  pub lists : new ≡ old ++ map pieces (take number tables)
-  pub given : (k : ℕ) (d : T) → k < number → AreGiven (2 ^ tail_bits (get_or tables k d)) (pieces (get_or tables k d))
-
-pub loaded_none : {T : Type 0} (pieces : T → List Piece) (tail_bits : T → ℕ) (tables : List T) (old : List (List Piece)) → IsLoaded pieces tail_bits tables 0 old old
-loaded_none pieces tail_bits tables old = record { lists = sym (append-nil old); given = λ k d below. absurd (omega arith) }
-
-pub loaded_more : {T : Type 0} (pieces : T → List Piece) (tail_bits : T → ℕ) (tables : List T) (number : ℕ) (old : List (List Piece)) (bins after : List Listed) (bin : Listed)
-    (table : T) →
-    IsLoaded pieces tail_bits tables number old (lists_of bins) → number < length tables → table ≡ get_or tables number table →
-    bin.pieces.items ≡ pieces table → AreGiven (2 ^ tail_bits table) (pieces table) → after ≡ bins ++ bin ∷ [] →
-    IsLoaded pieces tail_bits tables (number + 1) old (lists_of after)
-loaded_more {T} pieces tail_bits tables number old bins after bin table loaded below is items given after_is = record {
-  lists = ap lists_of after_is ∙ map-append (λ (b : Listed). b.pieces.items) bins (bin ∷ [])
-      ∙ ap₂ (λ xs ps. xs ++ ps ∷ []) loaded.lists (items ∙ ap pieces is)
-      ∙ append_assoc old (map pieces (take number tables)) (pieces (get_or tables number table) ∷ [])
-      ∙ ap (λ xs. old ++ xs) (sym (map_more pieces tables number table below));
-  given = λ k d within. elim (cases_lt k number) [
-    | inl before ↦ loaded.given k d before
-    | inr behind ↦ (
-        let last : k ≡ number = omega arith in
-        let there : get_or tables k d ≡ table = ap (λ n. get_or tables n d) last ∙ get_or_default tables number d table below ∙ sym is in
-        subst (λ (t : T). AreGiven (2 ^ tail_bits t) (pieces t)) (sym there) given)
-  ];
-}
-
-pub fresh_more : (old bins after : List Listed) (bin : Listed) → (All (λ (b : Listed). b.given ≡ 0) old → All (λ (b : Listed). b.given ≡ 0) bins) →
-    bin.given ≡ 0 → after ≡ bins ++ bin ∷ [] → All (λ (b : Listed). b.given ≡ 0) old → All (λ (b : Listed). b.given ≡ 0) after
-fresh_more old bins after bin fresh none after_is before =
-    subst (All (λ (b : Listed). b.given ≡ 0)) (sym after_is)
-    (All-append (λ (b : Listed). b.given ≡ 0) bins (bin ∷ []) (fresh before)
-    (λ k d below. elim k as (λ n. n < 1 → (get_or (bin ∷ []) n d).given ≡ 0) [ zero ↦ λ _. none | suc k ↦ λ more. absurd (omega arith) ] below))
 
 -- ---- the tables in use
 
@@ -198,22 +143,3 @@ pub used : {T : Type 0} (pieces : T → List Piece) (room quotient remainder : T
     count ≡ (to - from) / wide + min 1 ((to - from) % wide) → IsUsed pieces room quotient remainder s tables all from to young wide count
 used pieces room quotient remainder filled seen same wide_is positive count_is =
     record { filled = filled; seen = seen; same = same; wide_is = wide_is; positive = positive; count_is = count_is }
-
--- ---- the bins
-
-pub each_bin : {T : Type 0} (pieces : T → List Piece) (tail_bits : T → ℕ) (bits : ℕ) (tables : List T) (bins : List Bin) → map pieces tables ≡ map (λ (bin : Bin). bin.pieces) bins →
-    All (λ table. AreGiven (2 ^ tail_bits table) (pieces table)) tables → All (λ table. tail_bits table ≡ bits) tables → All (λ (bin : Bin). AreGiven (2 ^ bits) bin.pieces) bins
-each_bin {T} pieces tail_bits bits tables [] same given are = λ k d below. absurd (omega arith)
-each_bin {T} pieces tail_bits bits [] (bin ∷ bins) same given are = absurd (cc)
-each_bin {T} pieces tail_bits bits (table ∷ tables) (bin ∷ bins) same given are =
-    let first : pieces table ≡ bin.pieces = cc in
-    let others : map pieces tables ≡ map (λ (b : Bin). b.pieces) bins = cc in
-    let here : AreGiven (2 ^ tail_bits table) (pieces table) = given 0 table (omega arith) in
-    let bits_are : tail_bits table ≡ bits = are 0 table (omega arith) in
-    let turned : AreGiven (2 ^ bits) bin.pieces = subst (λ b. AreGiven (2 ^ b) bin.pieces) bits_are (subst (AreGiven (2 ^ tail_bits table)) first here) in
-    let rest = each_bin pieces tail_bits bits tables bins others (λ k d below. given (suc k) d (omega arith)) (λ k d below. are (suc k) d (omega arith)) in
-    (λ k d below. elim k as (λ n. n < suc (length bins) → AreGiven (2 ^ bits) (get_or (bin ∷ bins) n d).pieces) [ zero ↦ λ _. turned | suc k ↦ λ within. rest k d (omega arith) ] below)
-
-pub each_width : (limit : ℕ) (bins : List Bin) → All (λ (bin : Bin). AreGiven limit bin.pieces) bins → All (λ (bin : Bin). total bin.pieces ≡ bin.to - bin.from) bins →
-    All (λ (bin : Bin). IsBin limit (bin.to - bin.from) bin.pieces) bins
-each_width limit bins given widths = λ k d below. record { given = given k d below; summed = widths k d below }

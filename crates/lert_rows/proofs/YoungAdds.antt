@@ -103,6 +103,28 @@ add_place {T} {pieces} {room} {quotient} {remainder} {s} {tables} {from} {to} {y
       | inr above ↦ absurd (let more = mul-le-mul_right (span s 0) above in omega arith)
     ]
 
+-- full bins are below it, also once its position is counted
+pub add_behind : {T : Type 0} {pieces : T → List Piece} {room quotient remainder : T → ℕ} {s : Numbers} {tables : List T} {from to : ℕ} {young : Young} {m begin wide at : ℕ} →
+    Adds pieces room quotient remainder s tables from to young m begin wide at → (count : ℕ) → from + count * span s 0 ≤ to → (count ≤ at) × (begin + count * span s 0 ≤ m)
+add_behind {T} {pieces} {room} {quotient} {remainder} {s} {tables} {from} {to} {young} {m} {begin} {wide} {at} adds count full =
+    let known = stands adds in
+    let first = known.first in
+    let high = known.place.high in
+    let next = subst (λ y. IsNextPosition y m) (sym adds.seen) adds.next in
+    let before : begin + count * span s 0 ≤ m - 1 = elim (cases_eq from to) [
+      | inl none ↦ (let begin_is : begin ≡ m - 1 = adds.begin_is ∙ ap (λ t. cond t (m - 1) from) (eq-eqb from to none) in omega arith)
+      | inr some ↦ (
+          let begin_is : begin ≡ from = adds.begin_is ∙ ap (λ t. cond t (m - 1) from) (ne_eqb from to some) in
+          let follows = next.follows some in
+          omega arith)
+    ] in (
+      elim (cases_lt at count) [
+        | inl above ↦ absurd (let more = mul-le-mul_right (span s 0) (let over : suc at ≤ count = above in over) in omega arith)
+        | inr below ↦ below
+      ],
+      omega arith,
+    )
+
 pub add_fits : {T : Type 0} {pieces : T → List Piece} {room quotient remainder : T → ℕ} {s : Numbers} {tables : List T} {from to : ℕ} {young : Young} {m begin wide at : ℕ} →
     Adds pieces room quotient remainder s tables from to young m begin wide at → (table : T) → table ≡ get_or tables at table → total (pieces table) + 1 ≤ room table
 add_fits {T} {pieces} {room} {quotient} {remainder} {s} {tables} {from} {to} {young} {m} {begin} {wide} {at} adds table is =

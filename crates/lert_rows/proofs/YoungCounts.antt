@@ -52,7 +52,7 @@ counted_fits pieces room quotient remainder s all tables from to filled same_tab
     let len = filled.len in
     omega (arith, counted.few, filled.valid.limits.bins_to, ap length same_tables)
 
-counts_are : {T : Type 0} (pieces : T → List Piece) (tail wide from to : ℕ) (tables : List T) →
+pub counts_are : {T : Type 0} (pieces : T → List Piece) (tail wide from to : ℕ) (tables : List T) →
     ((k : ℕ) (d : T) → k < length tables → to ≤ from + k * wide → pieces (get_or tables k d) ≡ []) →
     sum_by (λ (bin : Bin). count_of bin.pieces tail) (bins_of wide from to (map pieces tables)) ≡ sum_by (λ table. count_of (pieces table) tail) tables
 counts_are pieces tail wide from to [] unused = refl

@@ -2,8 +2,6 @@ pub mod Ranges
 pub mod Rows
 pub mod Young
 pub mod Loading
-pub mod Hands
 pub mod Landing
-pub mod Listed
 pub mod Checked
 pub mod Named

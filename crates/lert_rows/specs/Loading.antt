@@ -1,6 +1,5 @@
 -- The bins of some levels as they are read, level by level from the first on, each level's oldest first.
 use Rattle.std.specs.Prelude.{◌≡◌, ℕ, ◌+◌, ◌-◌, ◌<◌, List, [], length, map, flat_map, All, Contains, Some, slice_index_or}
-use Rattle.std.specs.List.{AllZip}
 use Rattle.lert_frames.specs.Frame.{HoldsFrame, IsBin, frame_left}
 use Rattle.lert_frames.specs.Place.{tail_limit}
 use Rattle.lert_base.specs.declared.pieces.PieceFault.{PieceFault}
@@ -9,19 +8,10 @@ use Rattle.lert_spec.specs.declared.numbers.Numbers.{Numbers}
 use Rattle.lert_spec.specs.declared.piece.Piece.{Piece}
 use Rattle.lert_rows.specs.declared.bin_at.BinAt.{BinAt}
 use Rattle.lert_rows.specs.declared.fault.FlushFault.{FlushFault}
-use Rattle.lert_rows.specs.declared.listed.Listed.{Listed}
 use Rattle.lert_rows.specs.declared.fault.FlushFault.TheVariants.{Failed, Malformed}
-
--- the pieces of bins in memory
-abbrev pub lists_of : List Listed → List (List Piece)
-lists_of bins = map (λ bin. bin.pieces.items) bins
 
 abbrev pub width_of : BinAt → ℕ
 width_of bin = bin.to - bin.from
-
--- pieces of bins of these widths
-abbrev pub AreBins : ℕ → List ℕ → List (List Piece) → Type 0
-AreBins limit widths lists = AllZip (λ width pieces. IsBin limit width pieces) widths lists
 
 -- the frame of a bin of a level holds these pieces, which are a bin of its width
 pub record Stands (s : Numbers) (level : ℕ) (file : List ℕ) (held : BinAt → List Piece) (bin : BinAt) : Type 0 where

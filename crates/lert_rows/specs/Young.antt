@@ -1,12 +1,14 @@
 -- Level 0 in memory: the bins of the newest positions, oldest first, each with a table of its own.
 use Rattle.std.specs.Prelude.{ℕ, suc, ◌≡◌, ◌≢◌, ◌+◌, ◌-◌, ◌*◌, ◌%◌, ◌<◌, ◌≤◌, ◌==◌, nat_lt, min, List, [], ◌∷◌, ◌++◌, length}
-use Rattle.std.specs.Prelude.{if◌then◌else◌, slice_index_or}
+use Rattle.std.specs.Prelude.{if◌then◌else◌, slice_index_or, take, drop, sum_by}
+use Rattle.lert_bound.specs.declared.pair.Pair.{Pair}
+use Rattle.lert_bound.specs.Covers.{CoversCounts}
 use Rattle.lert_spec.specs.declared.numbers.Numbers.{Numbers}
 use Rattle.lert_spec.specs.declared.piece.Piece.{Piece}
 use Rattle.lert_spec.specs.Bins.{Bin}
 use Rattle.lert_spec.specs.Edges.{span, capacity, quotient_bits, width}
 use Rattle.lert_spec.specs.Limits.{IsValid}
-use Rattle.lert_spec.specs.Table.{total, plus}
+use Rattle.lert_spec.specs.Table.{count_of, total, plus}
 
 -- what level 0 is seen as: its settings, and the bins of the positions above `from`, up to `to`
 pub record Young : Type 0 where
@@ -79,3 +81,13 @@ pub record AreFilled {T : Type 0} (pieces : T → List Piece) (room quotient rem
   pub each : (k : ℕ) (d : T) → k < length tables →
       IsFilled s from to k (pieces (slice_index_or tables k d)) (room (slice_index_or tables k d))
       (quotient (slice_index_or tables k d)) (remainder (slice_index_or tables k d))
+
+-- how often a tail stands in tables
+abbrev pub times_in : {T : Type 0} → (T → List Piece) → List T → ℕ → ℕ
+times_in pieces tables tail = sum_by (λ table. count_of (pieces table) tail) tables
+
+-- the bound of the tails covers those of the first bins, which are full, in the generation before, and those of all others in
+-- the present one
+pub record AreBounded {T : Type 0} (pieces : T → List Piece) (s : Numbers) (tables : List T) (from to : ℕ) (pairs : List Pair) (earlier : ℕ) : Type 0 where
+  pub full : from + earlier * span s 0 ≤ to
+  pub covers : CoversCounts pairs (times_in pieces (take earlier tables)) (times_in pieces (drop earlier tables))

@@ -1,8 +1,7 @@
 //! Why a flush or a scan gives no totals.
 
 use lert_base::PieceFault;
-use lert_io::{Failed, OutOfMemory};
-use std::alloc::{AllocError, AllocFailed};
+use lert_io::Failed;
 
 /// Why a flush or a scan gives no totals. The bins are then those of before.
 #[derive(Clone, Copy, Debug, PartialEq, Eq)]
@@ -11,8 +10,6 @@ pub enum FlushFault {
     Failed,
     /// A frame of a bin leaves its format at this byte of the file of frames.
     Malformed { at: u64 },
-    /// There is no memory for the bins. No clause says when this comes.
-    OutOfMemory,
 }
 
 impl From<PieceFault> for FlushFault {
@@ -37,38 +34,5 @@ impl From<Failed> for FlushFault {
 
     fn from(_failed: Failed) -> FlushFault {
         FlushFault::Failed
-    }
-}
-
-impl From<OutOfMemory> for FlushFault {
-    ghost use Rattle.std.specs.Prelude.{◌≡◌};
-    ghost use Rattle.lert_rows.specs.declared.fault.FlushFault.TheVariants.{OutOfMemory as NoMemory};
-
-    ghost from_gives = { λ _ fault. fault ≡ NoMemory };
-
-    fn from(_error: OutOfMemory) -> FlushFault {
-        FlushFault::OutOfMemory
-    }
-}
-
-impl From<AllocError> for FlushFault {
-    ghost use Rattle.std.specs.Prelude.{◌≡◌};
-    ghost use Rattle.lert_rows.specs.declared.fault.FlushFault.TheVariants.{OutOfMemory as NoMemory};
-
-    ghost from_gives = { λ _ fault. fault ≡ NoMemory };
-
-    fn from(_error: AllocError) -> FlushFault {
-        FlushFault::OutOfMemory
-    }
-}
-
-impl<T: Drop> From<AllocFailed<T>> for FlushFault {
-    ghost use Rattle.std.specs.Prelude.{◌≡◌};
-    ghost use Rattle.lert_rows.specs.declared.fault.FlushFault.TheVariants.{OutOfMemory as NoMemory};
-
-    ghost from_gives = { λ _ fault. fault ≡ NoMemory };
-
-    fn from(_error: AllocFailed<T>) -> FlushFault {
-        FlushFault::OutOfMemory
     }
 }

@@ -14,7 +14,7 @@ use std::alloc::Global;
 /// The bin that a flush at position `m` writes into a level: the one that comes in, by itself where it begins an aligned
 /// interval of the level's span, and else joined with the newest bin of the row. It stands in the least frame in which no
 /// bin of the row stands.
-pub(crate) fn arrival(settings: &Settings, m: u64, level: u32, row: &[BinAt]) -> BinAt
+pub fn arrival(settings: &Settings, m: u64, level: u32, row: &[BinAt]) -> BinAt
     requires first { 1 ≤ m }
     requires last { m ≤ capacity settings.now }
     requires from { 1 ≤ level }

@@ -1,14 +1,13 @@
 //! Level 0 in memory.
 
-ghost use Rattle.std.specs.Prelude.{◌≡◌, ◌+◌, ◌-◌, ◌/◌, ◌^◌, ◌<◌, ◌≤◌, ◌==◌, if◌then◌else◌, ◌++◌, [], All, drop, length, map, IfOk, OnOk, sum_by};
+ghost use Rattle.std.specs.Prelude.{◌≡◌, ◌≢◌, ℕ, ◌+◌, ◌-◌, ◌*◌, ◌/◌, ◌%◌, ◌^◌, ◌<◌, ◌≤◌, ◌==◌, if◌then◌else◌, false, ◌++◌, [], All, drop, length, map, IfOk, OnOk, sum_by};
+ghost use Rattle.lert_bound.specs.Covers.{CoversCounts};
 ghost use Rattle.lert_spec.specs.Edges.{span, quotient_bits, width};
-ghost use Rattle.lert_frames.specs.Frame.{IsBin};
 ghost use Rattle.lert_spec.specs.Table.{count_of, total, AreGiven};
-ghost use Rattle.lert_rows.specs.Loading.{lists_of};
 ghost use Rattle.lert_rows.specs.Young.{with_event, IsNextPosition, IsOfZero};
 
-use crate::listed::Listed;
 use lert_base::{CountTable, Settings};
+use lert_bound::Bound;
 use lert_io::OutOfMemory;
 use std::alloc::Global;
 use std::marker::Model;
@@ -16,12 +15,17 @@ use std::marker::Model;
 /// The events of the newest positions of a cone, in bins of the base: seen as its settings, the last position before the
 /// oldest bin, the last position in the newest one, and the bins, oldest first.
 ///
-/// Only `new` takes memory: a table of a bin's events for each bin that a level has at most.
+/// Only `new` takes memory: a table of a bin's events for each bin that a level has at most, and a bound of two bytes a
+/// place, with four places for each event of a bin, up to a power of two.
 #[derive(Drop)]
 pub struct Zero<T: CountTable> {
     settings: Settings,
     // That of the oldest bin first, and behind those in use the free ones.
     tables: Vec<T>,
+    // Of how often a tail came in all bins.
+    bound: Bound,
+    // How many of the bins are of the bound's generation before: the oldest ones.
+    earlier: u64,
     from: u64,
     to: u64,
 }
@@ -29,7 +33,7 @@ pub struct Zero<T: CountTable> {
 impl<T: CountTable> Model for Zero<T> {
     ghost use Rattle.std.specs.Prelude.{map};
     ghost use Rattle.lert_spec.specs.Edges.{span};
-    ghost use Rattle.lert_rows.specs.Young.{Young, bins_of, AreFilled};
+    ghost use Rattle.lert_rows.specs.Young.{Young, bins_of, AreFilled, AreBounded};
 
     ghost Value = { Young };
 
@@ -40,11 +44,12 @@ impl<T: CountTable> Model for Zero<T> {
       bins = bins_of (span z.settings 0) z.from z.to (map T.pieces z.tables.items);
     } };
 
-    ghost invariant = { λ z. AreFilled T.pieces T.room T.quotient_bits T.width z.settings z.tables.items z.from z.to };
+    ghost invariant = { λ z. AreFilled T.pieces T.room T.quotient_bits T.width z.settings z.tables.items z.from z.to
+        × AreBounded T.pieces z.settings z.tables.items z.from z.to z.bound z.earlier };
 }
 
 impl<T: CountTable> Zero<T> {
-    /// No bin yet, and a table for each bin of a level. Its only error is want of memory.
+    /// No bin yet, and a table for each bin of a level, with a bound. Its only error is want of memory.
     pub fn new(alloc: Global, settings: &Settings) -> Result<Zero<T>, OutOfMemory>
         ensures { IfOk result (λ zero. zero ≡ record { settings = settings.now; from = 0; to = 0; bins = [] }) }
     {
@@ -53,9 +58,12 @@ impl<T: CountTable> Zero<T> {
         for _ in 0..bins {
             tables.push(empty_table(alloc, settings)?)?;
         }
+        let bound = Bound::new(alloc, places(settings))?;
         Ok(Zero {
             settings: *settings,
             tables,
+            bound,
+            earlier: 0,
             from: 0,
             to: 0,
         })
@@ -78,6 +86,7 @@ impl<T: CountTable> Zero<T> {
         let from = beginning(self.from, self.to, m);
         let bin = number_of(m, from, self.settings.span(0));
         self.tables[bin as usize].add(tail, 1);
+        self.bound.add(tail);
         self.from = from;
         self.to = m;
     }
@@ -93,6 +102,14 @@ impl<T: CountTable> Zero<T> {
         count
     }
 
+    /// Whether a tail can have been added `count` times, over all bins. It looks at two bytes and into no table. Where
+    /// it answers true the tail may have come less often: tails share bytes, which keep dropped events for a while.
+    pub fn may_reach(&self, tail: u64, count: u64) -> bool
+        ensures { result ≡ false → sum_by (λ bin. count_of bin.pieces tail) self.now.bins < count }
+    {
+        self.bound.may_reach(tail, count)
+    }
+
     /// How many bins there are.
     pub fn len(&self) -> usize
         ensures count { result ≡ length self.now.bins }
@@ -100,21 +117,6 @@ impl<T: CountTable> Zero<T> {
         ensures few { result ≤ self.now.settings.bins }
     {
         self.tables().len()
-    }
-
-    /// Puts the pieces of each bin behind these streams, the oldest bin's first. It takes the memory of the pieces: 16 bytes
-    /// for each. Its only error is want of memory.
-    pub fn load(&self, alloc: Global, streams: &mut Vec<Listed>) -> Result<(), OutOfMemory>
-        ensures lists { OnOk result (lists_of streams.new.items ≡
-            lists_of streams.old.items ++ map (λ bin. bin.pieces) self.now.bins) }
-        ensures fresh { OnOk result (All (λ bin. bin.given ≡ 0) streams.old.items → All (λ bin. bin.given ≡ 0) streams.new.items) }
-        ensures bins { OnOk result (All (λ bin.
-            IsBin (2 ^ (64 - self.now.settings.cone_bits)) (bin.to - bin.from) bin.pieces) self.now.bins) }
-        ensures narrow { All (λ bin. bin.to - bin.from ≤ span self.now.settings 0) self.now.bins }
-        ensures some { self.now.from < self.now.to → 1 ≤ length self.now.bins }
-        ensures few { length self.now.bins ≤ self.now.settings.bins }
-    {
-        load_tables(alloc, self.tables(), streams)
     }
 
     /// The tables of the bins, the oldest one's first, each with the room, the quotient bits and the width of level 0.
@@ -132,7 +134,8 @@ impl<T: CountTable> Zero<T> {
         &self.tables[..bins as usize]
     }
 
-    /// Drops the oldest bin, which is whole. Its table is free then.
+    /// Drops the oldest bin, which is whole. Its table is free then. Where no bin of the bound's generation before is left
+    /// the bound turns, in one pass over its places: once in about as many drops as there are bins.
     pub fn drop_oldest(&mut self)
         requires { self.old.from + span self.old.settings 0 ≤ self.old.to }
         ensures { self.new ≡ record self.old {
@@ -140,44 +143,40 @@ impl<T: CountTable> Zero<T> {
           bins = drop 1 self.old.bins;
         } }
     {
+        let span = self.settings.span(0);
         self.tables[0].clear();
         self.tables.rotate_left(1);
-        self.from += self.settings.span(0);
+        self.from += span;
+        self.earlier = aged(&mut self.bound, self.earlier, self.to - self.from, span);
     }
 }
 
-// Puts the pieces of each table behind these streams.
-fn load_tables<T: CountTable>(
-    alloc: Global,
-    tables: &[T],
-    streams: &mut Vec<Listed>,
-) -> Result<(), OutOfMemory>
-    requires { All (λ table. (T.room table ≤ 2 ^ 47) × (T.quotient_bits table + T.width table ≤ 64)) tables.now }
-    ensures lists { OnOk result (lists_of streams.new.items ≡ lists_of streams.old.items ++ map T.pieces tables.now) }
-    ensures fresh { OnOk result (All (λ bin. bin.given ≡ 0) streams.old.items → All (λ bin. bin.given ≡ 0) streams.new.items) }
-    ensures given { OnOk result (All (λ table. AreGiven (2 ^ (T.quotient_bits table + T.width table)) (T.pieces table)) tables.now) }
+// Turns the bound where none of the bins that stay is of its generation before, and answers how many of them are of it
+// then. Before the drop `earlier` bins were of it, the oldest ones, and those that stay have `stay` positions.
+fn aged(bound: &mut Bound, earlier: u64, stay: u64, span: u64) -> u64
+    requires { 1 ≤ span }
+    ensures some { 1 < earlier → (bound.new ≡ bound.old) × (result ≡ earlier - 1) }
+    ensures part { earlier ≤ 1 → stay % span ≢ 0 → (bound.new ≡ bound.old) × (result ≡ 0) }
+    ensures none { earlier ≤ 1 → stay % span ≡ 0 → (result ≡ stay / span)
+        × ((before present : ℕ → ℕ) → CoversCounts bound.old before present → CoversCounts bound.new present (λ _. 0)) }
 {
-    for table in tables {
-        streams.push(load_table(alloc, table)?)?;
+    if earlier > 1 {
+        return earlier - 1;
     }
-    Ok(())
+    // The newest bin would have events of both generations, so a later drop turns the bound.
+    if stay % span != 0 {
+        return 0;
+    }
+    bound.turn();
+    stay / span
 }
 
-// The pieces of a table, of which none was given.
-fn load_table<T: CountTable>(alloc: Global, table: &T) -> Result<Listed, OutOfMemory>
-    requires room { T.room table.now ≤ 2 ^ 47 }
-    requires bits { T.quotient_bits table.now + T.width table.now ≤ 64 }
-    ensures pieces { IfOk result (λ bin. bin.pieces.items ≡ T.pieces table.now) }
-    ensures fresh { IfOk result (λ bin. bin.given ≡ 0) }
-    ensures given { OnOk result (AreGiven (2 ^ (T.quotient_bits table.now + T.width table.now)) (T.pieces table.now)) }
+// How many places the bound has: four for each event of a bin, up to a power of two, of which a remainder is a mask.
+fn places(settings: &Settings) -> usize
+    ensures { 4 * settings.now.base ≤ result }
 {
-    let _in_room = table.events();
-    let mut cursor = table.start();
-    let mut pieces = Vec::new(alloc);
-    while let Some(piece) = table.step(&mut cursor) {
-        pieces.push(piece)?;
-    }
-    Ok(Listed::of(pieces))
+    let numbers = settings.numbers();
+    (4 * numbers.base as usize).next_power_of_two()
 }
 
 // The last position before the oldest bin, once position `m` is added.

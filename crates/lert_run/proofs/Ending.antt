@@ -13,59 +13,10 @@ use Rattle.lert_ingest.specs.Stops.{AreOpenPartly, ArePartly, IsExact, StopShows
 use Rattle.lert_ingest.specs.Traces.{AreKeysOf, AreReadToEnd}
 use Rattle.lert_ingest.proofs.EachLaws.{but_more, unused_but}
 use Rattle.lert_ingest.proofs.BayLaws.{failed_since, slice_get-some, told_later, untold_since}
-use Rattle.lert_run.specs.Finish.{AreClosed, EndShows}
+use Rattle.lert_cones.specs.Finish.{AreClosed, EndShows}
+use Rattle.lert_cones.proofs.StatusLaws.{failed_or_not, faultless_since, faultless_until, fresh_told, no_rise, stale_or_not, untold_or_not}
 use Rattle.lert_run.specs.Run.{ReadAll, StatusShows}
-use Rattle.lert_run.specs.Unmade.{IsUnmade}
-
-pub some_is : {X : Type 0} {x y : X} → Some x ≡ Some y → x ≡ y
-some_is same = cc
-
--- some statuses differ
-pub no_memory_no_place : OutOfMemory ≡ PlaceFault → ⊥
-no_memory_no_place same = cc
-
-pub no_memory_not_done : OutOfMemory ≡ Done → ⊥
-no_memory_not_done same = cc
-
-pub no_memory_no_usage : (rule : ℕ) → OutOfMemory ≡ Usage rule → ⊥
-no_memory_no_usage rule same = cc
-
-pub no_place_no_usage : (rule : ℕ) → PlaceFault ≡ Usage rule → ⊥
-no_place_no_usage rule same = cc
-
--- what rose had no room for a count without a fault
-pub no_rise : (a b : ℕ) → IsFaultless a b → HasRisen a b → ⊥
-no_rise a b none rose = absurd (omega (arith, none.same, rose none.below_last))
-
--- without a fault from a first moment on there is none from a later one on
-pub faultless_since : (a b c : ℕ) → a ≤ b → b ≤ c → IsFaultless a c → IsFaultless b c
-faultless_since a b c one two none = record { same = omega (arith, one, two, none.same); below_last = omega (arith, one, two, none.same, none.below_last) }
-
-pub faultless_until : (a b c : ℕ) → a ≤ b → b ≤ c → IsFaultless a c → IsFaultless a b
-faultless_until a b c one two none = record { same = omega (arith, one, two, none.same); below_last = none.below_last }
-
--- no fault of a bay was counted, or one was
-pub failed_or_not : {B : Type 0} (faults : B → ℕ) (bays later : List B) (cone : ℕ) → AreFaultless faults bays later → HasFailed faults bays later cone → ⊥
-failed_or_not faults bays later cone none failed =
-    no_rise (faults failed.before) (faults failed.now) (none cone failed.before failed.now failed.was failed.is) failed.rose
-
--- a bay isn't stale where all are fresh
-pub stale_or_not : {B : Type 0} (files : B → Option Files) (bays : List B) (cone : ℕ) → AreToldFresh files bays → IsStale files bays cone → ⊥
-stale_or_not files bays cone fresh stale =
-    let there = slice_get-some bays cone stale.named in
-    let held = fresh cone there.0 there.1 in
-    stale.not_empty there.0 there.1 held.0 held.1 held.2
-
--- a bay tells its files where all tell them
-pub untold_or_not : {B : Type 0} (files : B → Option Files) (bays : List B) (cone : ℕ) → AreTold files bays → IsUntold files bays cone → ⊥
-untold_or_not files bays cone told untold =
-    let there = slice_get-some bays cone untold.named in
-    let held = told cone there.0 there.1 in
-    untold.untold there.0 there.1 held.0 held.1
-
--- fresh bays that tell it tell their files
-pub fresh_told : {B : Type 0} (files : B → Option Files) (bays : List B) → AreToldFresh files bays → AreTold files bays
-fresh_told files bays fresh = λ cone bay is. let held = fresh cone bay is in (held.0, held.1)
+use Rattle.lert_cones.specs.Unmade.{IsUnmade}
 
 module _ {B : Type 0} (files : B → Option Files) (faults mark : B → ℕ) (first then now : List B) (one : AreLater files faults mark first then) (two : AreLater files faults
     mark then now) where
@@ -160,13 +111,7 @@ module _ {S K B : Type 0} (remaining : S → Option (List ℕ)) (faults : S → 
           text = shows.1.text;
         },
       )
-      shows_since OutOfMemory shows = (
-        shows.0,
-        elim shows.1 [
-          | inl early ↦ inl (early.0, but_more files settings (λ _. ⊥) first then now two.number unused early.1)
-          | inr parts ↦ inr (part_since parts)
-        ],
-      )
+      shows_since OutOfMemory shows = (shows.0, (shows.1.0, but_more files settings (λ _. ⊥) first then now two.number unused shows.1.1))
 
     -- so it is of which one comes
     pub exact_since : (ok : Type 0) (fails : Status → Type 0) → AreToldFresh files first → IsExact remaining faults files bay_faults settings workers opened backs then now ok fails →
@@ -195,7 +140,7 @@ module _ {S K B : Type 0} (remaining : S → Option (List ℕ)) (faults : S → 
     shows_unmade (Malformed cone file at) unmade = absurd unmade
     shows_unmade (OtherSettings cone) unmade = absurd unmade
     shows_unmade OutFault unmade = absurd unmade
-    shows_unmade OutOfMemory unmade = (refl, inl (refl, unused_but files settings (λ _. ⊥) bays later unmade))
+    shows_unmade OutOfMemory unmade = (refl, (refl, unused_but files settings (λ _. ⊥) bays later unmade))
 
     only_memory : (status : Status) → IsUnmade files bay_faults settings bays later status → AreToldFresh files bays → AreFaultless bay_faults bays later → status ≡ OutOfMemory
     only_memory Done unmade fresh none = absurd unmade
@@ -245,16 +190,8 @@ module _ {S K B : Type 0} (remaining : S → Option (List ℕ)) (faults : S → 
     shows_stopped (Malformed cone file at) stopped same = (stopped.0, refl, stopped.1)
     shows_stopped (OtherSettings cone) stopped same = absurd stopped
     shows_stopped OutFault stopped same = absurd stopped
-    shows_stopped OutOfMemory stopped same = (
-      refl,
-      elim stopped [
-        | inl untouched ↦ inl (
-          untouched.0,
-          unused_but files settings (λ _. ⊥) bays later (subst (AreUnused files settings bays) (sym untouched.1) same),
-        )
-        | inr parts ↦ inr parts
-      ],
-    )
+    shows_stopped OutOfMemory stopped same =
+        (refl, (stopped.0, unused_but files settings (λ _. ⊥) bays later (subst (AreUnused files settings bays) (sym stopped.1) same)))
 
   -- all was read, and what the end of the cones says
   module _ (mark : B → ℕ) (opened backs : List S) (before after : K) (bays then later : List B) (traces : List (List ℕ)) (one : AreLater files bay_faults mark bays then)
@@ -295,7 +232,7 @@ module _ {S K B : Type 0} (remaining : S → Option (List ℕ)) (faults : S → 
     )
     shows_ended (OtherSettings cone) shows = absurd shows
     shows_ended OutFault shows = (shows.0, read_all _ shows.1)
-    shows_ended OutOfMemory shows = (shows.0, inr (record { traces = traces; keys = keys; woven = shows.1 }))
+    shows_ended OutOfMemory shows = absurd shows
 
     pub ends_done : (status : Status) → EndShows taken sink_faults files bay_faults settings workers traces before after then later status → AreTold files bays →
         AreFaultless bay_faults bays later → IsFaultless (sink_faults before) (sink_faults after) → (status ≡ Done) ⊎ (status ≡ OutOfMemory)
@@ -311,4 +248,4 @@ module _ {S K B : Type 0} (remaining : S → Option (List ℕ)) (faults : S → 
     ends_done (Malformed cone file at) shows told none kept = absurd (untold_or_not files bays cone told (untold_since files bay_faults mark bays then cone one shows.0))
     ends_done (OtherSettings cone) shows told none kept = absurd shows
     ends_done OutFault shows told none kept = absurd (no_rise (sink_faults before) (sink_faults after) kept shows.0)
-    ends_done OutOfMemory shows told none kept = inr refl
+    ends_done OutOfMemory shows told none kept = absurd shows

@@ -1,12 +1,3 @@
-pub mod AskedLaws
-pub mod ConeLaws
-pub mod ConeTexts
-pub mod EndLaws
 pub mod Ending
-pub mod FinishLaws
-pub mod FreshLaws
-pub mod HeavyLaws
-pub mod PrintedLaws
 pub mod RunLaws
-pub mod TraceSums
-pub mod WovenLaws
+pub mod UnmadeLaws

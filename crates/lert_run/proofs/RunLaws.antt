@@ -13,10 +13,11 @@ use Rattle.lert_ingest.specs.Bays.{AreFaultlessTo, AreFresh, AreFreshBelow, AreL
 use Rattle.lert_ingest.specs.Stops.{IsExact}
 use Rattle.lert_ingest.specs.Traces.{AreKeysOf, AreReadToEnd}
 use Rattle.lert_ingest.proofs.BayLaws.{slice_get-some}
-use Rattle.lert_run.specs.Finish.{EndShows}
+use Rattle.lert_cones.specs.Finish.{EndShows}
 use Rattle.lert_run.specs.Ran.{IsDone}
 use Rattle.lert_run.specs.Run.{HasRun, StatusShows, is_past_freshness}
-use Rattle.lert_run.proofs.Ending.{are_faultless_until, ends_done, exact_memory, fresh_told, no_rise}
+use Rattle.lert_cones.proofs.StatusLaws.{fresh_told, no_rise}
+use Rattle.lert_run.proofs.Ending.{are_faultless_until, ends_done, exact_memory}
 
 errors_same : {T : Type 0} {E : Type 0} (r : Result T E) (a b : E) → r ≡ Err a → r ≡ Err b → a ≡ b
 errors_same r a b one two = let same : Err a ≡ Err b = sym one ∙ two in cc
@@ -139,6 +140,6 @@ module _ {S K B : Type 0} (remaining : S → Option (List ℕ)) (faults : S → 
       after bays later OutOfMemory
   run_none backs_are after_is none_later none_bays =
       HasRun-shows OutOfMemory
-      (after_is, inl (backs_are, λ cone first last was is broke. absurd (let gone = slice_get_within later cone last is in omega (arith, gone, ap length none_later)))) (λ other.
+      (after_is, (backs_are, λ cone first last was is broke. absurd (let gone = slice_get_within later cone last is in omega (arith, gone, ap length none_later)))) (λ other.
       absurd (other refl))
       (λ is. absurd (cc)) (λ told. exact_memory remaining faults taken sink_faults files bay_faults s workers opened backs bays later (IsDone sink_faults before after OutOfMemory))

@@ -1,7 +1,2 @@
-pub mod Asked
-pub mod Finish
-pub mod Print
-pub mod Printed
 pub mod Ran
 pub mod Run
-pub mod Unmade

@@ -10,7 +10,7 @@ use Rattle.lert_spec.specs.Trace.{left, whole}
 use Rattle.lert_ingest.specs.Bays.{AreFaultless, AreFaultlessTo, AreFresh, AreFreshBelow, AreKept, AreToldFresh, AreUnused, AreUnusedBut, AreWoven, HasFailed, IfHeld, IsStale, IsUntold}
 use Rattle.lert_ingest.specs.Stops.{AreEnough, AreOpenPartly, ArePartly, IsFull}
 use Rattle.lert_ingest.specs.Traces.{AllFit, AreBytesOf, AreKeysOf, AreReadToEnd, AreTracesFaultless, HasTraceFailed, IsOpened, IsOver, most_keys}
-use Rattle.lert_run.specs.Printed.{ArePrinted}
+use Rattle.lert_cones.specs.Printed.{ArePrinted}
 use Rattle.lert_text.specs.Page.{IsCut}
 use Rattle.lert_ingest.specs.declared.status.Status.{Status}
 use Rattle.lert_ingest.specs.declared.status.Status.TheVariants.{Done, Usage, PlaceFault, TraceFault, BadTrace, TooLong, NotFresh, BayFault, CapacityFull, Malformed, OtherSettings, OutFault}
@@ -71,7 +71,7 @@ module _ {S K B : Type 0} (remaining : S → Option (List ℕ)) (faults : S → 
   -- nothing of the traces was read, and the files are as they were
   StatusShows stale found (NotFresh cone) = stale cone × (after ≡ before) × (backs ≡ opened)
       × IfHeld files bays cone (λ _. AreKept files bays later) × AreUnused files settings bays later
-  -- a fault of a bay, or want of memory, comes early, or leaves journals that are partly woven
+  -- a fault of a bay comes early, or leaves journals that are partly woven
   StatusShows stale found (BayFault cone) = HasFailed bay_faults bays later cone × (after ≡ before)
       × (IsEarly (λ other. other ≡ cone) ⊎ PartlyWoven) × found cone
   StatusShows stale found (CapacityFull cone n len) = IsFull files settings later cone n len
@@ -81,7 +81,8 @@ module _ {S K B : Type 0} (remaining : S → Option (List ℕ)) (faults : S → 
   StatusShows stale found (OtherSettings cone) = ⊥
   -- all was read, and of the text a part was written
   StatusShows stale found OutFault = HasRisen (sink_faults before) (sink_faults after) × ReadAll (IsCut (taken before) (taken after))
-  StatusShows stale found OutOfMemory = (after ≡ before) × (IsEarly (λ _. ⊥) ⊎ PartlyWoven)
+  -- want of memory comes early: no journal has a packet then
+  StatusShows stale found OutOfMemory = (after ≡ before) × IsEarly (λ _. ⊥)
 
   -- a run over traces and bays that were opened: what its status says, and which one comes where no fault was counted.
   -- Bays that aren't all fresh are answered with the first that isn't, whatever those above it do. Over fresh bays and within

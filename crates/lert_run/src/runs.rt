@@ -10,19 +10,18 @@ ghost use Rattle.lert_ingest.specs.Cones.{AreNew};
 ghost use Rattle.lert_ingest.specs.Stops.{AreWeaving, IsExact};
 ghost use Rattle.lert_ingest.specs.Traces.{AreTracesLater};
 ghost use Rattle.lert_place.specs.Openings.{AreReturned, AreReturnedSame};
-ghost use Rattle.lert_run.specs.Asked.{IsAsked, IsAskedForBays};
-ghost use Rattle.lert_run.specs.Finish.{EndShows};
+ghost use Rattle.lert_cones.specs.Asked.{IsAsked, IsAskedForBays};
+ghost use Rattle.lert_cones.specs.Finish.{EndShows};
 ghost use Rattle.lert_run.specs.Ran.{HasPutBack, IsDone};
 ghost use Rattle.lert_run.specs.Run.{HasRun, StatusShows, is_past_freshness};
 
-use crate::bays::{find_stale, open_bays, put_back_bays};
-use crate::cones::{bring_back, make_cones};
-use crate::finish::finish_cones;
-use crate::print::print_cones;
 use crate::traces::{open_traces, put_back_traces};
 use lert_base::{Settings, Words};
 use lert_bay::Bay;
 use lert_cone::Cone;
+use lert_cones::{
+    bring_back, find_stale, finish_cones, make_cones, open_bays, print_cones, put_back_bays,
+};
 use lert_cqf::Cqf;
 use lert_ingest::{Status, ingest};
 use lert_io::{Failed, OutOfMemory, Sink, Source};

@@ -5,7 +5,7 @@ ghost use Rattle.lert_args.specs.Names.{names_of};
 ghost use Rattle.lert_ingest.specs.Bays.{AreMarked};
 ghost use Rattle.lert_io.specs.Fault.{HasRisen};
 ghost use Rattle.lert_place.specs.Openings.{AreReturned, AreReturnedSame};
-ghost use Rattle.lert_run.specs.Asked.{IsNameRefused, traces_opened};
+ghost use Rattle.lert_cones.specs.Asked.{IsNameRefused, traces_opened};
 
 use lert_base::Words;
 use lert_ingest::Status;

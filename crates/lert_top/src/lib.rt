@@ -1,4 +1,4 @@
-//! The top call of LERT, `run`, and `recover_to`, which opens what it left.
+//! The top call of LERT, `run`.
 //!
 //! The one contract is that of `run`: with `Done` the journal of each cone is a weave of its part of the keys of all traces,
 //! and the text that was written is that of these journals and of the reports that closed cones make of them, which are in
@@ -7,12 +7,10 @@
 #![tactic(auto)]
 
 mod generate;
-mod recover;
-mod reopened_cones;
 mod top;
 
 pub use generate::gen_to;
 pub use lert_ingest::Status;
 pub use lert_place::{MemPlace, Opening, Place, Wanted};
-pub use recover::recover_to;
+pub use lert_recovery::recover_to;
 pub use top::run;

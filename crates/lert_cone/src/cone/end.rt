@@ -66,7 +66,6 @@ impl<B: Bay, T: CountTable> Cone<B, T> {
             × ((h : List Packet) → StandsFor B.files B.leaves B.faults self.old h → WasSound B.files self.old → B.files self.old.bay ≡ None) }
         ensures shows { (file at : ℕ) → IsErrOf result (ConeFault.Unsound file at) →
             IfTold (B.files self.new.bay) (λ seen. Shows self.new.listing.settings self.new.rows self.new.reports (seen FRAMES) file at) }
-        ensures out_of_memory { IsErrOf result ConeFault.OutOfMemory → self.new.state ≡ ConeState.BrokenByMemory }
 
         // In each image of each moment of the call the files are sound for the list, and after Ok they are closed.
         ensures each_moment { is_broken self.old.state ≡ false → WasSound B.files self.old → IfTold (B.files self.old.bay) (λ _. (h : List Packet) →

@@ -41,8 +41,11 @@ impl<B: Bay, T: CountTable> Held for Cone<B, T> {
     ghost short = { λ c h stands. short B.files B.leaves B.faults c h stands };
 }
 
-// A cone crosses threads where its bay and its tables may.
-fn crosses<B: Bay + Send, T: CountTable + Send>(cone: &Cone<B, T>) {
+// A cone crosses threads where its bay, its tables and their cursors may.
+fn crosses<B: Bay + Send, T: CountTable + Send>(cone: &Cone<B, T>)
+where
+    T::Cursor: Send,
+{
     sent(cone);
 }
 

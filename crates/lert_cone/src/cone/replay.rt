@@ -116,8 +116,8 @@ impl<B: Bay, T: CountTable> Cone<B, T> {
           log = self.new.log;
         }) }
 
-        // A cone on its way through a list's journal goes on by its next packet. At its end it took all. Only a call of the bay,
-        // or memory, may keep it from that.
+        // A cone on its way through a list's journal goes on by its next packet. At its end it took all. Only a call of the bay
+        // may keep it from that.
         ensures replays { IfTold (B.files self.old.bay) (λ _. (h done : List Packet) → Replays B.files B.leaves self.old h done → gate ≡ self.old.gate →
             GoesOn B.files B.leaves self.new h done result) }
 
@@ -213,6 +213,5 @@ fn broken_after(fault: ReplayFault) -> ConeState
         ReplayFault::Failed => ConeState::BrokenByBay,
         ReplayFault::Malformed { at } => ConeState::BrokenByRead { file: JOURNAL, at },
         ReplayFault::Unsound { file, at } => ConeState::BrokenByRead { file, at },
-        ReplayFault::OutOfMemory => ConeState::BrokenByMemory,
     }
 }

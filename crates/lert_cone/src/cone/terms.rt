@@ -52,7 +52,6 @@ fn is_finished(state: ConeState) -> bool
         ConeState::Finished => true,
         ConeState::BrokenByBay => false,
         ConeState::BrokenByRead { .. } => false,
-        ConeState::BrokenByMemory => false,
         ConeState::Replaying => false,
     }
 }

@@ -1,11 +1,12 @@
 //! The totals that a key or the end brings to the reports.
 
-ghost use Rattle.std.specs.Prelude.{◌≡◌, ◌≢◌, ◌-◌, ◌≤◌, []};
+ghost use Rattle.std.specs.Prelude.{◌≡◌, ◌≢◌, ◌-◌, ◌≤◌, [], ◌∷◌, sum_by};
 ghost use Rattle.lert_spec.specs.Edges.{edge, capacity};
 ghost use Rattle.lert_spec.specs.Limits.{IsValid};
+ghost use Rattle.lert_spec.specs.Table.{count_of};
 ghost use Rattle.lert_rows.specs.Rows.{IsAt};
 ghost use Rattle.lert_cone.specs.Counts.{Brings, Flushes, Scans};
-ghost use Rattle.lert_cone.specs.Due.{TookFrom};
+ghost use Rattle.lert_cone.specs.Due.{Dues, TookFrom};
 
 use crate::due::{Begun, Due, DueSince};
 use lert_base::CountTable;
@@ -35,6 +36,21 @@ fn flush_into<B: Bay, T: CountTable, N: Begun>(
     (taker.into_due(), result)
 }
 
+// Gives the reports the total of a tail in level 0. The tables are counted only where the total may bring a report.
+fn total_of_key<T: CountTable>(due: &mut Due<T>, zero: &Zero<T>, tail: u64)
+    ensures { (start : Dues) → TookFrom start due.old []
+        → TookFrom start due.new (record { tail = tail; count = sum_by (λ bin. count_of bin.pieces tail) zero.now.bins } ∷ []) }
+{
+    // Of most keys this is all: two bytes are looked at, and no table.
+    if !zero.may_reach(tail, due.threshold()) {
+        return;
+    }
+    if due.is_listed(tail) {
+        return;
+    }
+    due.total(tail, zero.count(tail));
+}
+
 // Gives the reports the totals that the event at position `m` brings, which level 0 has, its tail being this one. At a
 // flush position the levels are flushed, and the oldest bin of level 0 is dropped.
 pub(super) fn bring<B: Bay, T: CountTable, N: Begun>(
@@ -56,7 +72,7 @@ pub(super) fn bring<B: Bay, T: CountTable, N: Begun>(
     ensures { Brings B.Bay N.start m tail bay.old bay.new zero.old zero.new levels.old levels.new result.0 result.1 }
 {
     if zero.settings().depth(m) == 0 {
-        due.total(tail, zero.count(tail));
+        total_of_key(&mut due, zero, tail);
         return (due, Ok(()));
     }
     let (due, result) = flush_into::<B, T, N>(levels, bay, zero, m, due);

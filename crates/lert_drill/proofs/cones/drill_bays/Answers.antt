@@ -1,6 +1,6 @@
 use Rattle.lert_ingest.specs.Bays.{bays_of}
 use Rattle.lert_ingest.proofs.BayLaws.{told_later}
-use Rattle.lert_run.proofs.Ending.{fresh_told}
+use Rattle.lert_cones.proofs.StatusLaws.{fresh_told}
 use Rattle.lert_drill.proofs.cones.drill_bays.Goals as goal
 
 pub drill_cones-cones-requires-clause-told : goal.drill_cones-cones-requires-clause-told

@@ -2,8 +2,8 @@ use Rattle.std.proofs.Common.{◌++◌, List, map, Some, refl, ap, sym, ◌∙�
 use Rattle.lert_cone.specs.Stands.{Standing}
 use Rattle.lert_drill.specs.Print.{drilled_as}
 use Rattle.lert_drill.proofs.DrillLaws.{finished_fits, lines_same}
-use Rattle.lert_run.specs.Print.{ArePrintable}
-use Rattle.lert_run.proofs.EndLaws.{finished_printable}
+use Rattle.lert_cones.specs.Print.{ArePrintable}
+use Rattle.lert_cones.proofs.EndLaws.{finished_printable}
 use Rattle.lert_text.specs.Drill.{drill_lines}
 use Rattle.lert_text.specs.Page.{IsCut}
 use Rattle.lert_drill.proofs.cones.finish_and_print.Goals as goal

@@ -5,7 +5,7 @@ use Rattle.std.proofs.lemmas.Option.{slice_get_read}
 use Rattle.std.proofs.lemmas.Result.{err_from_is_err_and, on_ok_weaker, on_err_weaker}
 use Rattle.lert_drill.specs.Print.{drilled_as}
 use Rattle.lert_io.proofs.Rising.{risen_since}
-use Rattle.lert_run.proofs.ConeTexts.{IsCut-begins}
+use Rattle.lert_cones.proofs.ConeTexts.{IsCut-begins}
 use Rattle.lert_text.specs.Drill.{Drilled, drill_line, drill_lines, drill_text, drill_texts}
 use Rattle.lert_text.specs.Page.{IsCut, IsPrinting}
 use Rattle.lert_text.proofs.Printing.{IsPrinting-all, IsPrinting-start}

@@ -1,10 +1,12 @@
-use Rattle.std.proofs.Common.{◌≡◌, ◌∙◌, ◌-◌, ◌*◌, ◌^◌, length, drop, ap₂, subst, arith}
+use Rattle.std.proofs.Common.{◌≡◌, ◌∙◌, ◌+◌, ◌-◌, ◌*◌, ◌^◌, ℕ, length, drop, ap₂, subst, arith}
 use Rattle.std.proofs.Math.Nat.{pow-le-pow_right}
 use Rattle.std.proofs.Common.{lit<}
 use Rattle.lert_blocks.specs.Frame.{blocks_found}
 use Rattle.lert_spec.specs.Limits.{IsValid}
-use Rattle.lert_frames.specs.Place.{tail_limit}
+use Rattle.lert_frames.specs.Decoded.{IsBetween}
+use Rattle.lert_frames.specs.Place.{blocks_bytes, frame_len, tail_limit}
 use Rattle.lert_frames.proofs.PlaceLaws.{span_half, tails_are}
+use Rattle.lert_frames.proofs.StandsLaws.{stands_as}
 use Rattle.lert_frames.proofs.read.begin.Goals as goal
 
 valid : (c : goal.After-block_count) → IsValid c.args.settings.now
@@ -34,3 +36,12 @@ returns-clause-limit c =
     c.start.ensures.limit
     ∙ (ap₂ (λ blocks width. 64 * blocks * 2 ^ width) c.block_count.ensures.value c.width-width.ensures.value
     ∙ tails_are c.args.settings.now (subst IsValid c.numbers-valid.ensures.value c.numbers-valid.ensures.valid) c.args.level c.requires.last)
+
+-- two slots for each event of the bin: their bytes fill the frame's place
+pub returns-clause-stands : goal.returns-clause-stands
+returns-clause-stands c =
+    let s = c.args.settings.now in
+    let place = c.frame_place-place.result in
+    let fills : place + blocks_bytes c.block_count.result (2 * c.span-most.result) ≡ place + frame_len s c.args.level =
+    omega (arith, c.block_count.ensures.value, c.span-most.ensures.value) in
+    stands_as s c.args.level place c.start.new.self (subst (λ (end : ℕ). IsBetween place end c.start.new.self) fills c.start.ensures.between)

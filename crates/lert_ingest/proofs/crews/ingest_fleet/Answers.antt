@@ -1,6 +1,6 @@
 use denote.Exit.{no}
 use denote.Param.Send.{arg_send, param_send}
-use Rattle.lert_cone.proofs.ConeSend.{cone_send_with}
+use Rattle.lert_cone.proofs.ConeSend.{cone_send}
 use Rattle.std.proofs.Common.{◌≡◌, ◌∙◌, ◌+◌, ◌<◌, List, ap, sym, subst, refl, arith, length, rules}
 use Rattle.std.proofs.lemmas.List.{with_items_is}
 use Rattle.std.proofs.lemmas.Bool.{false≢true}
@@ -189,4 +189,4 @@ first_of_cones-requires g c = (let n = c.close-cones.ensures.as_many.1 in let v 
 
 pub read_all-traces-requires-send-H : goal.read_all-traces-requires-send-H
 read_all-traces-requires-send-H g c κs within =
-    param_send _ _ (arg_send _ no _ (cone_send_with _ _ _ g.B.Bay g.B.Faulty g.T.CountTable c.type_bounds.send-B c.type_bounds.send-T c.type_bounds.send-T-Cursor))
+    param_send _ _ (arg_send _ no _ (cone_send _ _ _ g.B.Bay g.B.Faulty g.T.CountTable c.type_bounds.send-B c.type_bounds.send-T c.type_bounds.send-T-Cursor))

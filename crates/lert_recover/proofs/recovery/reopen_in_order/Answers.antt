@@ -1,4 +1,4 @@
-use Rattle.std.proofs.Common.{◌≡◌, ℕ, ◌<◌, ◌≤◌, ◌⊎◌, Some, Err, List, [], length, refl, ap, sym, ◌∙◌, subst, arith}
+use Rattle.std.proofs.Common.{◌≡◌, ℕ, ◌<◌, ◌≤◌, Some, Err, List, [], length, refl, ap, sym, ◌∙◌, subst, arith}
 use Rattle.std.specs.List.{length_refill}
 use Rattle.std.proofs.lemmas.Option.{same_Some}
 use Rattle.std.proofs.lemmas.Result.{IfErr-weaker}
@@ -14,7 +14,7 @@ use Rattle.lert_cone.specs.Framed.{HoldsSome}
 use Rattle.lert_cone.specs.Replays.{Replays}
 use Rattle.lert_cone.specs.Sound.{IsSound}
 use Rattle.lert_cone.specs.Stands.{Standing, StandsFor, WasSound}
-use Rattle.lert_files.specs.declared.fault.ReopenFault.TheVariants.{Failed, OutOfMemory}
+use Rattle.lert_files.specs.declared.fault.ReopenFault.TheVariants.{Failed}
 use Rattle.lert_recover.specs.declared.recovery.ReopenRefused.{ReopenRefused}
 use Rattle.lert_files.specs.Opened.{WritesNothing}
 use Rattle.lert_files.proofs.QuietLaws.{quiet_as}
@@ -155,7 +155,7 @@ returns-in-Ok g c =
     let there : (seen : Files) → files c.args.bay ≡ Some seen → files start.bay ≡ Some seen = λ seen told. ap files bay_is ∙ (read.quiet.seen ∙ told) in
     let fails = λ (seen : Files) (told : files c.args.bay ≡ Some seen).
     fails_on (λ h. Replays files leaves start h []) (λ h. IsSound s c.args.cone h seen)
-    (λ (refused : ReopenRefused g.row.B.Denot). (refused.fault ≡ Failed) ⊎ (refused.fault ≡ OutOfMemory))
+    (λ (refused : ReopenRefused g.row.B.Denot). refused.fault ≡ Failed)
     c.replay_journal.result (begun seen told) (c.replay_journal.ensures.fails seen (there seen told)) in
     record {
       told = λ seen told.

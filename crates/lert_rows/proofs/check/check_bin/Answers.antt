@@ -1,16 +1,34 @@
-use Rattle.std.proofs.Common.{ℕ, ◌≡◌, Some, subst}
+use Rattle.std.proofs.Common.{ℕ, ◌≡◌, Some, None, subst}
+use Rattle.std.specs.Prelude.{OnOk}
 use Rattle.lert_bay.specs.declared.bay.TheConstants.{FRAMES}
-use Rattle.lert_frames.specs.Frame.{frame_left}
+use Rattle.lert_frames.specs.Frame.{HoldsFrame, IsBin, frame_left, frame_pieces}
+use Rattle.lert_frames.specs.Place.{tail_limit}
 use Rattle.lert_rows.specs.Loading.{width_of}
-use Rattle.lert_rows.proofs.ReadLaws.{checked_stands}
+use Rattle.lert_rows.proofs.ReadLaws.{checked_stands, level_from}
 use Rattle.lert_rows.proofs.check.check_bin.Goals as goal
 
 pub returns-clause-stand : goal.returns-clause-stand
 returns-clause-stand g c seen told =
-    let r = c.args.reader.now in
-    checked_stands c.check.result r.settings r.level c.args.bin.now c.from.result (seen FRAMES) c.from.ensures (c.check.ensures.bin seen told) (c.check.ensures.stands seen told)
+    let s = c.args.reader.now.settings in
+    let level = c.args.level in
+    let frame = c.from-frame.result in
+    let begun = c.start_at.ensures in
+    let file = seen FRAMES in
+    checked_stands c.check.result s level c.args.bin.now frame file c.from-frame.ensures
+    (level_from (λ t l. OnOk c.check.result (IsBin (tail_limit t) (width_of c.args.bin.now) (frame_pieces t l frame file))) s _ level _ begun.settings begun.level
+    (c.check.ensures.bin seen told))
+    (level_from (λ t l. OnOk c.check.result (HoldsFrame t l frame file (frame_pieces t l frame file))) s _ level _ begun.settings begun.level (c.check.ensures.stands seen told))
+
+pub returns-clause-whole : goal.returns-clause-whole
+returns-clause-whole g c seen told =
+    let begun = c.start_at.ensures in
+    subst (λ (frame : ℕ). OnOk c.check.result (frame_left c.args.reader.now.settings c.args.level frame (width_of c.args.bin.now) (seen FRAMES) ≡ None)) c.from-frame.ensures
+    (level_from (λ t l. OnOk c.check.result (frame_left t l c.from-frame.result (width_of c.args.bin.now) (seen FRAMES) ≡ None)) c.args.reader.now.settings _ c.args.level _
+    begun.settings begun.level (c.check.ensures.whole seen told))
 
 pub returns-clause-malformed : goal.returns-clause-malformed
 returns-clause-malformed g c seen told at is =
-    let r = c.args.reader.now in
-    subst (λ (frame : ℕ). frame_left r.settings r.level frame (width_of c.args.bin.now) (seen FRAMES) ≡ Some at) c.from.ensures (c.check.ensures.malformed seen told at is)
+    let begun = c.start_at.ensures in
+    subst (λ (frame : ℕ). frame_left c.args.reader.now.settings c.args.level frame (width_of c.args.bin.now) (seen FRAMES) ≡ Some at) c.from-frame.ensures
+    (level_from (λ t l. frame_left t l c.from-frame.result (width_of c.args.bin.now) (seen FRAMES) ≡ Some at) c.args.reader.now.settings _ c.args.level _
+    begun.settings begun.level (c.check.ensures.malformed seen told at is))

@@ -1,4 +1,4 @@
-use Rattle.std.proofs.Common.{◌≡◌, ◌≤◌, ◌∙◌, Some, None, get_or, subst, sym}
+use Rattle.std.proofs.Common.{◌≡◌, ◌≤◌, ◌∙◌, Some, None, get_or, map, subst, sym, ap}
 use Rattle.std.proofs.lemmas.List.{take_all}
 use Rattle.std.proofs.lemmas.List.Elements.{All-more}
 use Rattle.std.proofs.lemmas.Result.{err_from_is_err_and}
@@ -8,10 +8,9 @@ use Rattle.lert_frames.proofs.WriteLaws.{same_err}
 use Rattle.lert_spec.specs.declared.numbers.Numbers.{Numbers}
 use Rattle.lert_spec.specs.Edges.{span}
 use Rattle.lert_rows.specs.declared.bin_at.BinAt.{BinAt}
-use Rattle.lert_rows.specs.Checked.{pieces_in, RowStands, bin_left}
+use Rattle.lert_rows.specs.Checked.{pieces_in, RowStands, bin_left, first_of}
 use Rattle.lert_rows.specs.Loading.{width_of, Stands}
 use Rattle.lert_rows.proofs.CheckLaws.{row_more, row_breaks}
-use Rattle.lert_rows.proofs.ReadLaws.{reader_to, reader_from}
 use Rattle.lert_rows.proofs.check.check_row.Given as given
 use Rattle.lert_rows.proofs.check.check_row.Invariants.{bays}
 use Rattle.lert_rows.proofs.check.check_row.Goals as goal
@@ -22,24 +21,26 @@ lawful g = record { as_read = g.met.B.Bay.as_read; since_now = g.met.B.Bay.since
 abbrev nothing : BinAt
 nothing = record { from = 0; to = 0; frame = 0 }
 
+pub check_bin-requires-clause-last : goal.check_bin-requires-clause-last
+check_bin-requires-clause-last g c = subst (λ (s : Numbers). c.args.level ≤ s.levels) (sym c.loop-bin.invariant.settings) c.requires.last
+
 pub check_bin-requires-clause-frame : goal.check_bin-requires-clause-frame
 check_bin-requires-clause-frame g c =
-    subst (λ (s : Numbers). (get_or c.args.row.now c.loop-bin.bin-index nothing).frame ≤ s.bins) (sym c.loop-bin.invariant.reader.settings)
+    subst (λ (s : Numbers). (get_or c.args.row.now c.loop-bin.bin-index nothing).frame ≤ s.bins) (sym c.loop-bin.invariant.settings)
     (c.requires.row.frames c.loop-bin.bin-index nothing c.loop-bin-test.true)
 
 pub check_bin-requires-clause-width : goal.check_bin-requires-clause-width
 check_bin-requires-clause-width g c =
-    let first = c.args.reader.now in
-    reader_to (λ s level. width_of (get_or c.args.row.now c.loop-bin.bin-index nothing) ≤ span s level) first.settings first.level c.loop-bin.reader c.loop-bin.invariant.reader
+    subst (λ (s : Numbers). width_of (get_or c.args.row.now c.loop-bin.bin-index nothing) ≤ span s c.args.level) (sym c.loop-bin.invariant.settings)
     (c.requires.row.widths c.loop-bin.bin-index nothing c.loop-bin-test.true)
 
 pub returns-in_err-check_bin-clause-malformed : goal.returns-in_err-check_bin-clause-malformed
 returns-in_err-check_bin-clause-malformed g c seen told at =
     let p = err_from_is_err_and c.from_residual.result c.from_residual.ensures.1 in
-    let first = c.args.reader.now in
+    let s = c.args.reader.now.settings in
     let i = c.loop-bin.bin-index in
-    rw (p.1, p.2) (λ is. row_breaks (bin_left first.settings (seen FRAMES) first.level) c.args.row.now i nothing c.loop-bin-test.true (c.loop-bin.invariant.whole seen told) at
-    (reader_from (λ s level. bin_left s (seen FRAMES) level (get_or c.args.row.now i nothing) ≡ Some at) first.settings first.level c.loop-bin.reader c.loop-bin.invariant.reader
+    rw (p.1, p.2) (λ is. row_breaks (bin_left s (seen FRAMES) c.args.level) c.args.row.now i nothing c.loop-bin-test.true (c.loop-bin.invariant.whole seen told) at
+    (subst (λ (t : Numbers). bin_left t (seen FRAMES) c.args.level (get_or c.args.row.now i nothing) ≡ Some at) c.loop-bin.invariant.settings
     (c.in_err-check_bin.ensures.malformed seen (c.loop-bin.invariant.only_reads.seen ∙ told) at (same_err _ _ is))))
 
 pub loop-bin-preserved : goal.loop-bin-preserved
@@ -47,24 +48,24 @@ loop-bin-preserved g c =
     let is = c.loop-bin.invariant in
     let e = c.in_ok-check_bin.ensures in
     let i = c.loop-bin.bin-index in
-    let first = c.args.reader.now in
+    let s = c.args.reader.now.settings in
+    let level = c.args.level in
     let bin = get_or c.args.row.now i nothing in
     record {
       stand = λ seen told.
-          All-more (Stands first.settings first.level (seen FRAMES) (pieces_in first.settings (seen FRAMES) first.level)) c.args.row.now i nothing c.loop-bin-test.true (is.stand seen told)
-          (reader_from (λ s level. Stands s level (seen FRAMES) (pieces_in s (seen FRAMES) level) bin) first.settings first.level c.loop-bin.reader is.reader
-          (e.stand seen (is.only_reads.seen ∙ told)));
+          All-more (Stands s level (seen FRAMES) (pieces_in s (seen FRAMES) level)) c.args.row.now i nothing c.loop-bin-test.true (is.stand seen told)
+          (subst (λ (t : Numbers). Stands t level (seen FRAMES) (pieces_in t (seen FRAMES) level) bin) is.settings (e.stand seen (is.only_reads.seen ∙ told)));
       whole = λ seen told.
-          row_more (bin_left first.settings (seen FRAMES) first.level) c.args.row.now i nothing c.loop-bin-test.true (is.whole seen told)
-          (reader_from (λ s level. bin_left s (seen FRAMES) level bin ≡ None) first.settings first.level c.loop-bin.reader is.reader (e.whole seen (is.only_reads.seen ∙ told)));
-      reader = record { settings = e.settings ∙ is.reader.settings; level_is = e.level ∙ is.reader.level_is };
+          row_more (bin_left s (seen FRAMES) level) c.args.row.now i nothing c.loop-bin-test.true (is.whole seen told)
+          (subst (λ (t : Numbers). bin_left t (seen FRAMES) level bin ≡ None) is.settings (e.whole seen (is.only_reads.seen ∙ told)));
+      settings = e.settings ∙ is.settings;
       only_reads = reads_on (bays g) (lawful g) c.args.bay.now c.loop-bin.bay c.check_bin.new.bay ⊥ ⊥ is.only_reads
           (reads_as (bays g) (lawful g) c.loop-bin.bay c.check_bin.new.bay _ ⊥ (λ none. absurd none) c.check_bin.ensures.only_reads);
     }
 
 pub returns-clause-stand : goal.returns-clause-stand
 returns-clause-stand g c seen told =
-    subst (RowStands c.args.reader.now.settings (seen FRAMES) c.args.reader.now.level) (take_all c.loop-bin.bin-index c.args.row.now c.loop-bin-test.false)
+    subst (RowStands c.args.reader.now.settings (seen FRAMES) c.args.level) (take_all c.loop-bin.bin-index c.args.row.now c.loop-bin-test.false)
     (c.loop-bin.invariant.stand seen told)
 
 pub returns-in_err-check_bin-clause-stand : goal.returns-in_err-check_bin-clause-stand
@@ -78,3 +79,8 @@ returns-in_err-check_bin-clause-only_reads g c =
     let p = err_from_is_err_and c.from_residual.result c.from_residual.ensures.1 in
     rw (p.1, p.2) (reads_as (bays g) (lawful g) c.args.bay.now c.check_bin.new.bay _ _ (λ is. same_err _ _ is)
     (reads_on (bays g) (lawful g) c.args.bay.now c.loop-bin.bay c.check_bin.new.bay ⊥ _ c.loop-bin.invariant.only_reads c.in_err-check_bin.ensures.only_reads))
+
+pub returns-clause-whole : goal.returns-clause-whole
+returns-clause-whole g c seen told =
+    ap (λ bins. first_of (map (bin_left c.args.reader.now.settings (seen FRAMES) c.args.level) bins)) (sym (take_all c.loop-bin.bin-index c.args.row.now c.loop-bin-test.false))
+    ∙ c.loop-bin.invariant.whole seen told

@@ -3,7 +3,6 @@ use Rattle.lert_bay.specs.declared.bay.TheConstants.{FRAMES}
 use Rattle.lert_bay.specs.Files.{Files}
 use Rattle.lert_bay.specs.Kept.{Bays, OnlyReads}
 use Rattle.lert_rows.specs.Checked.{RowStands, bin_left, first_of}
-use Rattle.lert_rows.specs.Hands.{IsReader}
 use Rattle.lert_rows.proofs.check.check_row.Given as goal
 
 abbrev pub bays : (g : goal.Over) → Bays g.row.B.Denot
@@ -12,9 +11,9 @@ bays g = record { faults = g.B.Faulty.faults; mark = g.B.Faulty.mark; files = g.
 -- the bins so far stand, and nothing was changed
 abbrev pub invariant-loop-bin : goal.invariant-loop-bin
 invariant-loop-bin g l = record {
-  stand : (seen : Files) → g.B.Bay.files l.fn.bay ≡ Some seen → RowStands l.fn.reader.settings (seen FRAMES) l.fn.reader.level (take l.bin-index l.row);
+  stand : (seen : Files) → g.B.Bay.files l.fn.bay ≡ Some seen → RowStands l.fn.reader.settings (seen FRAMES) l.level (take l.bin-index l.row);
   whole : (seen : Files) → g.B.Bay.files l.fn.bay ≡ Some seen →
-      first_of (map (bin_left l.fn.reader.settings (seen FRAMES) l.fn.reader.level) (take l.bin-index l.row)) ≡ None;
-  reader : IsReader l.fn.reader.settings l.fn.reader.level l.reader;
+      first_of (map (bin_left l.fn.reader.settings (seen FRAMES) l.level) (take l.bin-index l.row)) ≡ None;
+  settings : l.reader.settings ≡ l.fn.reader.settings;
   only_reads : OnlyReads (bays g) l.fn.bay l.bay ⊥;
 }

@@ -1,14 +1,15 @@
-use Rattle.std.proofs.Common.{ℕ, ◌≡◌, ◌+◌, ◌<◌, ◌∙◌, [], None, Some, length, subst, map, get_or, ap, sym, arith, inl, inr}
+use Rattle.std.proofs.Common.{ℕ, ◌≡◌, ◌+◌, ◌<◌, ◌≤◌, ◌∙◌, [], None, Some, length, subst, map, get_or, ap, sym, arith, inl, inr, refl}
 use Rattle.std.proofs.lemmas.Bool.{cases_lt}
 use Rattle.std.proofs.lemmas.List.{take_all, length-map}
 use Rattle.std.proofs.lemmas.Result.{err_from_is_err_and}
 use Rattle.lert_bay.specs.declared.bay.TheConstants.{FRAMES}
-use Rattle.lert_bay.proofs.KeptLaws.{IsLawful, reads_on, reads_as}
+use Rattle.lert_bay.proofs.KeptLaws.{IsLawful, reads_none, reads_on, reads_as}
 use Rattle.lert_frames.proofs.WriteLaws.{same_err}
 use Rattle.lert_rows.specs.Checked.{RowStands, row_left, rows_left}
 use Rattle.lert_rows.specs.Rows.{IsRow}
+use Rattle.lert_spec.specs.declared.numbers.Numbers.{Numbers}
 use Rattle.lert_rows.proofs.CheckLaws.{rows_more, rows_break}
-use Rattle.lert_rows.proofs.ReadLaws.{row_here, hand_to, hand_from, reader_from, reader_kept, readers_set}
+use Rattle.lert_rows.proofs.ReadLaws.{row_here, hand_to, hand_from}
 use Rattle.lert_rows.proofs.check.check_rows.Given as given
 use Rattle.lert_rows.proofs.check.check_rows.Invariants.{bays}
 use Rattle.lert_rows.proofs.check.check_rows.Goals as goal
@@ -16,15 +17,16 @@ use Rattle.lert_rows.proofs.check.check_rows.Goals as goal
 lawful : (g : given.Over) → IsLawful (bays g)
 lawful g = record { as_read = g.met.B.Bay.as_read; since_now = g.met.B.Bay.since_now; only_now = g.met.B.Bay.only_now; since_earlier = g.met.B.Bay.since_earlier }
 
-pub check_row-requires : goal.check_row-requires
-check_row-requires g c =
+pub check_row-requires-clause-last : goal.check_row-requires-clause-last
+check_row-requires-clause-last g c =
+    subst (λ (s : Numbers). c.loop-lower.lower + 1 ≤ s.levels) (sym c.loop-lower.invariant.reader) (omega (arith, c.requires.few, c.loop-lower-test.true))
+
+pub check_row-requires-clause-row : goal.check_row-requires-clause-row
+check_row-requires-clause-row g c =
     let i = c.loop-lower.lower in
-    let s = c.args.settings.now in
     let rows = map (λ row. row.items) c.args.rows.now in
     let here = row_here (λ row. row.items) c.args.rows.now i c.index-rows-lower.result c.deref.result.now c.loop-lower-test.true c.index-rows-lower.is c.deref.ensures.value in
-    let reader = get_or c.loop-lower.readers i c.index-readers-lower.result in
-    let hand = c.loop-lower.invariant.readers.each i c.index-readers-lower.result (omega arith) in
-    record { row = hand_to (λ t level row. IsRow t level row) s rows i c.deref.result.now reader here hand (c.requires.rows i c.loop-lower-test.true) }
+    hand_to (λ t row. IsRow t (i + 1) row) c.args.settings.now _ rows i c.deref.result.now here c.loop-lower.invariant.reader (c.requires.rows i c.loop-lower-test.true)
 
 pub returns-in_err-check_row-clause-malformed : goal.returns-in_err-check_row-clause-malformed
 returns-in_err-check_row-clause-malformed g c seen told at =
@@ -33,22 +35,11 @@ returns-in_err-check_row-clause-malformed g c seen told at =
     let rows = map (λ row. row.items) c.args.rows.now in
     let now = c.deref.result.now in
     let here = row_here (λ row. row.items) c.args.rows.now i c.index-rows-lower.result now c.loop-lower-test.true c.index-rows-lower.is c.deref.ensures.value in
-    let reader = get_or c.loop-lower.readers i c.index-readers-lower.result in
-    let hand = c.loop-lower.invariant.readers.each i c.index-readers-lower.result (omega arith) in
     let p = err_from_is_err_and c.from_residual.result c.from_residual.ensures.1 in
     rw (p.1, p.2) (λ is. rows_break s (seen FRAMES) rows i now here (omega (arith, c.loop-lower-test.true, length-map c.args.rows.now (λ row. row.items)))
     (c.loop-lower.invariant.whole seen told) at
-    (reader_from (λ t level. row_left t (seen FRAMES) level now ≡ Some at) s (i + 1) reader hand
+    (subst (λ (t : Numbers). row_left t (seen FRAMES) (i + 1) now ≡ Some at) c.loop-lower.invariant.reader
     (c.in_err-check_row.ensures.malformed seen (c.loop-lower.invariant.only_reads.seen ∙ told) at (same_err _ _ is))))
-
-pub returns-in_err-check_row-clause-readers : goal.returns-in_err-check_row-clause-readers
-returns-in_err-check_row-clause-readers g c =
-    let i = c.loop-lower.lower in
-    let s = c.args.settings.now in
-    let reader = get_or c.loop-lower.readers i c.index-readers-lower.result in
-    let hand = c.loop-lower.invariant.readers.each i c.index-readers-lower.result (omega arith) in
-    readers_set s c.loop-lower.readers i c.check_row.new.reader c.loop-lower.invariant.readers
-    (reader_kept s (i + 1) reader c.check_row.new.reader hand c.check_row.ensures.settings c.check_row.ensures.level)
 
 pub loop-lower-preserved : goal.loop-lower-preserved
 loop-lower-preserved g c =
@@ -58,22 +49,20 @@ loop-lower-preserved g c =
     let now = c.deref.result.now in
     let here = row_here (λ row. row.items) c.args.rows.now i c.index-rows-lower.result now c.loop-lower-test.true c.index-rows-lower.is c.deref.ensures.value in
     let below : i < length rows = omega (arith, c.loop-lower-test.true, length-map c.args.rows.now (λ row. row.items)) in
-    let reader = get_or c.loop-lower.readers i c.index-readers-lower.result in
     let is = c.loop-lower.invariant in
     let e = c.in_ok-check_row.ensures in
-    let hand = is.readers.each i c.index-readers-lower.result (omega arith) in
     record {
       stand = λ seen told k less. elim (cases_lt k i) [
         | inl before ↦ is.stand seen told k before
         | inr last ↦ (
             let same : i ≡ k = omega arith in
             subst (λ (n : ℕ). RowStands s (seen FRAMES) (n + 1) (get_or rows n [])) same
-            (hand_from (λ t level row. RowStands t (seen FRAMES) level row) s rows i now reader here hand (e.stand seen (is.only_reads.seen ∙ told))))
+            (hand_from (λ t row. RowStands t (seen FRAMES) (i + 1) row) s _ rows i now here is.reader (e.stand seen (is.only_reads.seen ∙ told))))
       ];
       whole = λ seen told.
           rows_more s (seen FRAMES) rows i now here below (is.whole seen told)
-          (reader_from (λ t level. row_left t (seen FRAMES) level now ≡ None) s (i + 1) reader hand (e.whole seen (is.only_reads.seen ∙ told)));
-      readers = readers_set s c.loop-lower.readers i c.check_row.new.reader is.readers (reader_kept s (i + 1) reader c.check_row.new.reader hand e.settings e.level);
+          (subst (λ (t : Numbers). row_left t (seen FRAMES) (i + 1) now ≡ None) is.reader (e.whole seen (is.only_reads.seen ∙ told)));
+      reader = e.settings ∙ is.reader;
       only_reads = reads_on (bays g) (lawful g) c.args.bay.now c.loop-lower.bay c.check_row.new.bay ⊥ ⊥ is.only_reads
           (reads_as (bays g) (lawful g) c.loop-lower.bay c.check_row.new.bay _ ⊥ (λ none. absurd none) c.check_row.ensures.only_reads);
     }
@@ -95,3 +84,15 @@ returns-in_err-check_row-clause-only_reads g c =
     let p = err_from_is_err_and c.from_residual.result c.from_residual.ensures.1 in
     rw (p.1, p.2) (reads_as (bays g) (lawful g) c.args.bay.now c.check_row.new.bay _ _ (λ is. same_err _ _ is)
     (reads_on (bays g) (lawful g) c.args.bay.now c.loop-lower.bay c.check_row.new.bay ⊥ _ c.loop-lower.invariant.only_reads c.in_err-check_row.ensures.only_reads))
+
+pub loop-lower-init : goal.loop-lower-init
+loop-lower-init g c = record {
+  stand = λ seen told k less. absurd (omega arith);
+  whole = λ seen told. refl;
+  reader = c.requires.reader;
+  only_reads = reads_none (bays g) (lawful g) c.args.bay.now ⊥ (λ none. none);
+}
+
+pub returns-clause-stand : goal.returns-clause-stand
+returns-clause-stand g c seen told k below =
+    c.loop-lower.invariant.stand seen told k (omega (arith, below, c.loop-lower-test.false, length-map c.args.rows.now (λ row. row.items)))

@@ -3,7 +3,6 @@ use Rattle.lert_bay.specs.declared.bay.TheConstants.{FRAMES}
 use Rattle.lert_bay.specs.Files.{Files}
 use Rattle.lert_bay.specs.Kept.{Bays, OnlyReads}
 use Rattle.lert_rows.specs.Checked.{RowStands, rows_left}
-use Rattle.lert_rows.specs.Hands.{AreReaders}
 use Rattle.lert_rows.proofs.check.check_rows.Given as goal
 
 abbrev pub bays : (g : goal.Over) → Bays g.row.B.Denot
@@ -14,6 +13,6 @@ abbrev pub invariant-loop-lower : goal.invariant-loop-lower
 invariant-loop-lower g l = record {
   stand : (seen : Files) → g.B.Bay.files l.fn.bay ≡ Some seen → (k : ℕ) → k < l.lower → RowStands l.settings (seen FRAMES) (k + 1) (get_or (map (λ row. row.items) l.rows) k []);
   whole : (seen : Files) → g.B.Bay.files l.fn.bay ≡ Some seen → rows_left l.settings (seen FRAMES) (take l.lower (map (λ row. row.items) l.rows)) ≡ None;
-  readers : AreReaders l.settings l.readers;
+  reader : l.reader.settings ≡ l.settings;
   only_reads : OnlyReads (bays g) l.fn.bay l.bay ⊥;
 }

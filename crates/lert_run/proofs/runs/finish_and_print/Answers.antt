@@ -1,10 +1,10 @@
 use Rattle.std.proofs.Common.{◌≡◌, ◌++◌, List, map, Some, refl, ap, sym, ◌∙◌, subst}
 use Rattle.lert_cone.specs.Stands.{Standing}
 use Rattle.lert_spec.specs.Lines.{lines}
-use Rattle.lert_run.specs.Print.{ArePrintable, printed_as}
+use Rattle.lert_cones.specs.Print.{ArePrintable, printed_as}
 use Rattle.lert_io.specs.Reading.{IfTold}
 use Rattle.lert_text.specs.Page.{IsCut}
-use Rattle.lert_run.proofs.EndLaws.{ends_later, finished_closed, finished_ended, finished_printable, stopped_ended, stopped_shows}
+use Rattle.lert_cones.proofs.EndLaws.{ends_later, finished_closed, finished_ended, finished_printable, stopped_ended, stopped_shows}
 use Rattle.lert_run.proofs.runs.finish_and_print.Goals as goal
 
 pub finish_cones-requires-clause-running : goal.finish_cones-requires-clause-running

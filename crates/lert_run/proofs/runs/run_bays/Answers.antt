@@ -7,7 +7,8 @@ use Rattle.lert_ingest.proofs.BayLaws.{are_more}
 use Rattle.lert_ingest.proofs.EachLaws.{kept_unused, unused_more}
 use Rattle.lert_run.specs.Ran.{IsDone}
 use Rattle.lert_run.specs.Run.{StatusShows}
-use Rattle.lert_run.proofs.ConeLaws.{unmade_before, unmade_since}
+use Rattle.lert_cones.proofs.ConeLaws.{unmade_since}
+use Rattle.lert_run.proofs.UnmadeLaws.{unmade_before}
 use Rattle.lert_run.proofs.Ending.{exact_since, exact_unmade, shows_since, shows_unmade}
 use Rattle.lert_run.proofs.runs.run_bays.Goals as goal
 

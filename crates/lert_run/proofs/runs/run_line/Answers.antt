@@ -7,12 +7,12 @@ use Rattle.lert_ingest.specs.Bays.{AreLater}
 use Rattle.lert_ingest.specs.Traces.{AreTracesLater}
 use Rattle.lert_ingest.specs.declared.status.Status.{Status}
 use Rattle.lert_ingest.proofs.BayLaws.{are_same}
-use Rattle.lert_run.proofs.AskedLaws.{same_returned}
-use Rattle.lert_run.specs.Asked.{IsNameRefused, traces_opened}
+use Rattle.lert_cones.proofs.AskedLaws.{same_returned}
+use Rattle.lert_cones.specs.Asked.{IsNameRefused, traces_opened}
 use Rattle.lert_run.specs.Run.{HasRun}
-use Rattle.lert_run.proofs.AskedLaws.{asked_along, none_returned, none_returned_same, nothing_handed, returned_along, returned_same_along}
-use Rattle.lert_run.proofs.AskedLaws.{traces_marked, traces_returned, traces_same, word_at-slice_get}
-use Rattle.lert_run.proofs.Ending.{no_memory_no_place, no_memory_no_usage, no_place_no_usage}
+use Rattle.lert_cones.proofs.AskedLaws.{asked_along, none_returned, none_returned_same, nothing_handed, returned_along, returned_same_along}
+use Rattle.lert_cones.proofs.AskedLaws.{traces_marked, traces_returned, traces_same, word_at-slice_get}
+use Rattle.lert_cones.proofs.StatusLaws.{no_memory_no_place, no_memory_no_usage, no_place_no_usage}
 use Rattle.lert_run.proofs.RunLaws.{run_none}
 use Rattle.lert_run.proofs.runs.run_line.Goals as goal
 

@@ -2,9 +2,9 @@ use Rattle.std.proofs.Common.{[], List, length, refl, ap, sym, ◌∙◌, subst,
 use Rattle.lert_ingest.specs.declared.status.Status.{Status}
 use Rattle.lert_ingest.specs.Bays.{AreLater}
 use Rattle.lert_run.specs.Run.{HasRun}
-use Rattle.lert_run.proofs.AskedLaws.{all_back, none_returned, traces_same}
+use Rattle.lert_cones.proofs.AskedLaws.{all_back, none_returned, traces_same}
 use Rattle.lert_ingest.proofs.BayLaws.{are_same, still_marked}
-use Rattle.lert_run.proofs.Ending.{no_memory_no_place, no_memory_no_usage, no_memory_not_done, no_place_no_usage}
+use Rattle.lert_cones.proofs.StatusLaws.{no_memory_no_place, no_memory_no_usage, no_memory_not_done, no_place_no_usage}
 use Rattle.lert_run.proofs.RunLaws.{HasRun-shows, not_place_fault, not_usage, run_none}
 use Rattle.lert_run.proofs.runs.run_traces.Goals as goal
 

@@ -4,10 +4,10 @@ use Rattle.lert_args.specs.Word.{word_at}
 use Rattle.lert_io.proofs.Rising.{risen_since}
 use Rattle.lert_io.specs.Fault.{HasRisen}
 use Rattle.lert_place.specs.Openings.{trace_asked}
-use Rattle.lert_run.proofs.AskedLaws.{all_returned, same_returned}
-use Rattle.lert_run.specs.Asked.{traces_opened}
-use Rattle.lert_run.proofs.AskedLaws.{name_there, names_before, opened_more, word_at-slice_get}
-use Rattle.lert_run.proofs.ConeLaws.{each-push}
+use Rattle.lert_cones.proofs.AskedLaws.{all_returned, same_returned}
+use Rattle.lert_cones.specs.Asked.{traces_opened}
+use Rattle.lert_cones.proofs.AskedLaws.{name_there, names_before, opened_more, word_at-slice_get}
+use Rattle.lert_cones.proofs.ConeLaws.{each-push}
 use Rattle.lert_run.proofs.traces.open_traces.Goals as goal
 
 pub returns-in-Err-clause-refused : goal.returns-in-Err-clause-refused

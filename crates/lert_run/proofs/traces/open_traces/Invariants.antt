@@ -2,7 +2,7 @@ use Rattle.std.proofs.Common.{◌≡◌, ◌≤◌, ◌++◌, length, take}
 use Rattle.std.specs.VecDeque.{deque_capacity}
 use Rattle.lert_args.specs.Names.{names_of}
 use Rattle.lert_ingest.specs.Bays.{AreMarked}
-use Rattle.lert_run.specs.Asked.{traces_opened}
+use Rattle.lert_cones.specs.Asked.{traces_opened}
 use Rattle.lert_run.proofs.traces.open_traces.Given as goal
 
 -- the traces so far were opened

@@ -5,11 +5,11 @@ use Rattle.lert_args.proofs.SoundLines.{AreBelow, along_drill, along_recover, al
 use Rattle.lert_drill.specs.Drilled.{DrillShows}
 use Rattle.lert_ingest.specs.declared.status.Status.TheVariants.{OutOfMemory, PlaceFault}
 use Rattle.lert_ingest.specs.Bays.{AreLater}
-use Rattle.lert_run.specs.Asked.{IsAskedForBays}
+use Rattle.lert_cones.specs.Asked.{IsAskedForBays}
 use Rattle.lert_run.specs.Ran.{HasPutBack}
 use Rattle.lert_run.specs.Run.{HasRun}
 use Rattle.lert_spec.specs.declared.numbers.Numbers.{Numbers}
-use Rattle.lert_top.specs.Recovered.{HasRecovered}
+use Rattle.lert_recovery.specs.Recovered.{HasRecovered}
 use Rattle.std.specs.Prelude.{slice_get}
 use Rattle.lert_top.proofs.top.run.Goals as goal
 

@@ -1,4 +1,4 @@
-use Rattle.std.proofs.Common.{ap}
+use Rattle.std.proofs.Common.{ap, Err}
 use Rattle.lert_gatelog.specs.Gated.{Log}
 use Rattle.lert_cone.proofs.StandLaws.{new_cone, new_stands, new_was_sound}
 use Rattle.lert_cone.proofs.cone.Cone.create.Goals as goal
@@ -23,3 +23,6 @@ returns-in-Ok-clause-stands_for g c =
     c.requires.room.valid c.into_parts-tally.ensures.listing (ap (λ (log : Log). log.gate) c.in-Ok.ensures.journal) c.in-Ok.ensures.log c.into_parts-tally.ensures.rows
     c.into_parts-tally.ensures.none c.into_parts-tally.ensures.counted
     c.in-Ok.ensures.begun (g.met.B.Bay.as_read c.begin.new.bay)
+
+pub returns-in-Err-clause-not_fresh : goal.returns-in-Err-clause-not_fresh
+returns-in-Err-clause-not_fresh g c seen told same = c.in-Err.ensures.not_fresh seen told (ap Err same)

@@ -1,4 +1,4 @@
-use Rattle.std.proofs.Common.{◌≡◌, ◌∙◌, ℕ, ◌*◌, ◌++◌, ◌∷◌, [], All, List, length, take, drop, max, Err, IsTrue, IsFalse, refl, sym, ap, subst, inl, ◌⊎◌, arith}
+use Rattle.std.proofs.Common.{◌≡◌, ◌∙◌, ℕ, ◌*◌, ◌++◌, ◌∷◌, [], All, List, length, take, drop, max, Err, IsTrue, IsFalse, refl, sym, ap, subst, arith}
 use Rattle.lert_base.specs.Entries.{packet_of}
 use Rattle.lert_base.specs.Packet.{events_of}
 use Rattle.lert_bay.specs.Files.{Files}
@@ -9,7 +9,7 @@ use Rattle.lert_journal.specs.Payload.{payload_of}
 use Rattle.lert_spec.specs.Mix.{cone_of}
 use Rattle.lert_spec.specs.declared.numbers.Numbers.{Numbers}
 use Rattle.lert_cone.specs.declared.refusal.ReplayFault.{ReplayFault}
-use Rattle.lert_cone.specs.declared.refusal.ReplayFault.TheVariants.{Failed, OutOfMemory, Unsound}
+use Rattle.lert_cone.specs.declared.refusal.ReplayFault.TheVariants.{Failed, Unsound}
 use Rattle.lert_cone.specs.declared.state.ConeState.TheVariants.{Replaying}
 use Rattle.lert_cone.specs.Framed.{HoldsSome}
 use Rattle.lert_cone.specs.History.{most_payload}
@@ -100,7 +100,7 @@ returns-in-Err-replay_keys-clause-refused g c =
 pub returns-in-Err-replay_keys-clause-replays : goal.returns-in-Err-replay_keys-clause-replays
 returns-in-Err-replay_keys-clause-replays g c =
     rw (← c.self.view_is) (λ seen told h done way gate_same.
-    subst (λ (fault : ReplayFault). (fault ≡ Failed) ⊎ (fault ≡ OutOfMemory)) (sym c.from.ensures)
+    subst (λ (fault : ReplayFault). fault ≡ Failed) (sym c.from.ensures)
     (only_by_bay c.in-Err-replay_keys.fault (λ file at same.
     with_keys (bays g) (lawful g) c.self.inside.bay c.read_packet.new.bay _ _ _ _ _ c.read_packet.ensures.keeps c.self.inside.tally c.self.inside.log c.self.inside.last
     seen told h done c.args.gate (way.on_way seen told) (subst (λ g. IsPast h done c.self.inside.tally.listing.events g) (sym gate_same) way.past)
@@ -279,13 +279,13 @@ returns-in-Err-clause-replays g c =
     let past : IsPast h done c.self.inside.tally.listing.events c.args.gate = subst (λ g. IsPast h done c.self.inside.tally.listing.events g) (sym gate_same) way.past in
     let on_way = way.on_way seen told in
     let read = g.met.B.Bay.as_read c.self.inside.bay seen told in
-    inl (c.from-fault.ensures ∙ only_failed c.in-Err.fault (λ at same.
+    c.from-fault.ensures ∙ only_failed c.in-Err.fault (λ at same.
     never_on_way (g.B.Bay.leaves c.self.inside.bay) seen h c.self.inside.tally.listing c.self.inside.tally.rows c.self.inside.tally.due.reports c.self.inside.log c.self.inside.last.n0 on_way read
     done c.args.gate at past
     (leaves_listing c.self.inside.tally.listing.settings c.self.inside.tally.listing.cone c.self.inside.last.n0 (length c.self.inside.tally.listing.events) c.args.gate at
     c.self.inside.tally.listing.closed c.self.inside.last.closed (seen 0) (c.self.invariant.replaying way.state_is).closed
     (subst (λ (j : Log). ReplayLeavesAt c.self.inside.tally.listing.settings c.self.inside.tally.listing.cone c.self.inside.last.n0 c.self.inside.last.closed
-    (length c.self.inside.tally.listing.events) (seen 0) j.gate at) c.at_gate-self-inside.ensures (c.in-Err.ensures.malformed seen told at (ap Err same)))))))
+    (length c.self.inside.tally.listing.events) (seen 0) j.gate at) c.at_gate-self-inside.ensures (c.in-Err.ensures.malformed seen told at (ap Err same))))))
 
 pub returns-in-Err-replay_keys-clause-unsound : goal.returns-in-Err-replay_keys-clause-unsound
 returns-in-Err-replay_keys-clause-unsound g c = λ file at same.

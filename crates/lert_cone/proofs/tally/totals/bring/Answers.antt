@@ -1,5 +1,4 @@
-use Rattle.std.proofs.Common.{◌≡◌, ◌≢◌, ℕ, ◌+◌, ◌<◌, List, [], ◌∷◌, drop, refl, subst, sym, ap, ap₂, ◌∙◌, arith}
-use Rattle.std.proofs.lemmas.List.Elements.{All-nil}
+use Rattle.std.proofs.Common.{◌≡◌, ◌≢◌, ℕ, ◌+◌, List, [], ◌∷◌, drop, refl, subst, sym, sum_by, ap, ap₂, ◌∙◌, arith}
 use Rattle.std.proofs.lemmas.Option.{same_Some}
 use Rattle.lert_bay.specs.Files.{Files}
 use Rattle.lert_bay.specs.Kept.{Bays}
@@ -7,7 +6,9 @@ use Rattle.lert_bay.proofs.KeptLaws.{IsLawful}
 use Rattle.lert_bay.proofs.Lasting.{lasts_none}
 use Rattle.lert_spec.specs.declared.numbers.Numbers.{Numbers}
 use Rattle.lert_spec.specs.declared.piece.Piece.{Piece}
+use Rattle.lert_spec.specs.Bins.{Bin}
 use Rattle.lert_spec.specs.Edges.{span, depth}
+use Rattle.lert_spec.specs.Table.{count_of}
 use Rattle.lert_levels.specs.Flushed.{InNamed}
 use Rattle.lert_rows.specs.Loading.{OneBreaks}
 use Rattle.lert_levels.specs.OnDisk.{OnDisk}
@@ -52,14 +53,18 @@ returns-then-depth-eq0 g c = record {
       subst (λ (files : Files). HoldsBins c.args.levels.now.settings events c.args.levels.now.rows (files 2)) (same_Some seen after (sym told ∙ told_after)) holds;
   totals = λ events long bins seen told holds.
       let s = c.args.levels.now.settings in
-      let is = young_total s c.requires.valid events c.args.m c.args.tail c.count.result c.args.zero.now.from c.args.zero.now.bins long c.requires.from
-      (shallow c.depth.result c.args.m c.settings.result.now s c.depth.ensures.value (c.settings.ensures ∙ c.requires.settings) c.if-depth-eq0.true) bins c.count.ensures in
-      subst (λ (pieces : List Piece). TookFrom g.N.Begun.start c.total.new.self pieces) is
-      (c.total.ensures g.N.Begun.start [] c.requires.start (All-nil (λ (piece : Piece). piece.tail < c.args.tail)));
-  took = (record { tail = c.args.tail; count = c.count.result } ∷ [], c.total.ensures g.N.Begun.start [] c.requires.start (All-nil (λ (piece : Piece). piece.tail < c.args.tail)));
+      let is = young_total s c.requires.valid events c.args.m c.args.tail (sum_by (λ (bin : Bin). count_of bin.pieces c.args.tail) c.args.zero.now.bins)
+      c.args.zero.now.from c.args.zero.now.bins long c.requires.from
+      (shallow c.depth.result c.args.m c.settings.result.now s c.depth.ensures.value (c.settings.ensures ∙ c.requires.settings) c.if-depth-eq0.true) bins refl in
+      subst (λ (pieces : List Piece). TookFrom g.N.Begun.start c.total_of_key.new.due pieces) is
+      (c.total_of_key.ensures g.N.Begun.start c.requires.start);
+  took = (
+    record { tail = c.args.tail; count = sum_by (λ (bin : Bin). count_of bin.pieces c.args.tail) c.args.zero.now.bins } ∷ [],
+    c.total_of_key.ensures g.N.Begun.start c.requires.start,
+  );
   sound = λ events long bins seen told holds at same. (let never : ⊥ = cc in never);
   malformed = λ seen told at same. absurd (let never : ⊥ = cc in never);
-  unwritten = λ at same. refl;
+  malformed_after = λ after told at same. absurd (let never : ⊥ = cc in never);
   images = λ events long bins seen told holds each after told_after. each;
   are = λ are. are;
   still = λ stays. refl;
@@ -120,7 +125,7 @@ returns-in-Ok g c = record {
   took = (let took_ = rw c.in-Ok.is at c.flush_into-due.ensures.took in took_);
   sound = λ events long bins seen told holds at same. (let never : ⊥ = cc in never);
   malformed = λ seen told at same. absurd (let never : ⊥ = cc in never);
-  unwritten = λ at same. absurd (let never : ⊥ = cc in never);
+  malformed_after = λ after told at same. absurd (let never : ⊥ = cc in never);
   images = λ events long bins seen told holds each after told_after image may.
       let moved_ = rw c.in-Ok.is at c.flush_into-due.ensures.flushed in
       let held = rw c.in-Ok.is at (c.flush_into-due.ensures.holds events long bins seen told holds) in
@@ -162,7 +167,9 @@ returns-in-Err g c = record {
   malformed = λ seen told at same.
       let stays = rw c.in-Err.is at c.flush_into-due.ensures.refused in
       subst (λ (v : OnDisk). OneBreaks v.settings v.rows (seen 2) at) (sym stays) (c.flush_into-due.ensures.malformed seen told at (c.in-Err.is ∙ same));
-  unwritten = λ at same. c.flush_into-due.ensures.unwritten at (c.in-Err.is ∙ same);
+  malformed_after = λ after told at same.
+      let stays = rw c.in-Err.is at c.flush_into-due.ensures.refused in
+      subst (λ (v : OnDisk). OneBreaks v.settings v.rows (after 2) at) (sym stays) (c.flush_into-due.ensures.malformed_after after told at (c.in-Err.is ∙ same));
   images = λ events long bins seen told holds each. tt;
   are = tt;
   still = λ stays. tt;

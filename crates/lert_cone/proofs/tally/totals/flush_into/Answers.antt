@@ -1,7 +1,7 @@
-use Rattle.std.proofs.Common.{◌≡◌, ◌⊎◌, ◌∙◌, List, OnOk, Result, Ok, Err, ap, subst, sym, slice_range}
+use Rattle.std.proofs.Common.{◌≡◌, ◌∙◌, List, OnOk, Result, Ok, Err, ap, subst, sym, slice_range}
 use Rattle.lert_bay.specs.Files.{IfTold}
 use Rattle.lert_rows.specs.declared.fault.FlushFault.{FlushFault}
-use Rattle.lert_rows.specs.declared.fault.FlushFault.TheVariants.{Failed, OutOfMemory}
+use Rattle.lert_rows.specs.declared.fault.FlushFault.TheVariants.{Failed}
 use Rattle.lert_levels.specs.Flushed.{AreEvents}
 use Rattle.lert_levels.specs.OnDisk.{OnDisk}
 use Rattle.lert_rows.specs.Ranges.{young_bins}
@@ -35,7 +35,7 @@ returns g c = record {
       (IfTold (g.B.Bay.files c.flush-result.new.bay) (λ after. HoldsBins c.flush-result.new.self.settings events c.flush-result.new.self.rows (after 2)))
       c.flush-result.result c.flush-result.ensures.ok (ok_of (IfTold (g.B.Bay.files c.flush-result.new.bay) (λ after. HoldsBins c.args.levels.now.settings events
       (moved c.args.levels.now.settings c.args.m c.args.levels.now.rows) (after 2)) × TookFrom g.N.Begun.start c.flush-result.new.totals.due (tallied c.args.levels.now.settings
-      (slice_range events (lookback c.args.levels.now.settings c.args.m) c.args.m))) (λ (fault : FlushFault). (fault ≡ Failed) ⊎ (fault ≡ OutOfMemory)) c.flush-result.result both)
+      (slice_range events (lookback c.args.levels.now.settings c.args.m) c.args.m))) (λ (fault : FlushFault). fault ≡ Failed) c.flush-result.result both)
       (λ is parts after told_after. subst (λ (v : OnDisk). HoldsBins v.settings events v.rows (after 2)) (sym is) (parts.0 after told_after));
   totals = λ events long bins seen told holds.
       let events_ : AreEvents c.args.levels.now c.args.m c.args.zero.now.bins events (seen 2) = record {
@@ -54,11 +54,11 @@ returns g c = record {
       (TookFrom g.N.Begun.start c.flush-result.new.totals.due (tallied c.args.levels.now.settings (slice_range events (lookback c.args.levels.now.settings c.args.m) c.args.m)))
       c.flush-result.result (ok_of (IfTold (g.B.Bay.files c.flush-result.new.bay) (λ after. HoldsBins c.args.levels.now.settings events
       (moved c.args.levels.now.settings c.args.m c.args.levels.now.rows) (after 2)) × TookFrom g.N.Begun.start c.flush-result.new.totals.due (tallied c.args.levels.now.settings
-      (slice_range events (lookback c.args.levels.now.settings c.args.m) c.args.m))) (λ (fault : FlushFault). (fault ≡ Failed) ⊎ (fault ≡ OutOfMemory)) c.flush-result.result both)
+      (slice_range events (lookback c.args.levels.now.settings c.args.m) c.args.m))) (λ (fault : FlushFault). fault ≡ Failed) c.flush-result.result both)
       (ok_of (IfTold
       (g.B.Bay.files c.flush-result.new.bay) (λ after. HoldsBins c.args.levels.now.settings events (moved c.args.levels.now.settings c.args.m c.args.levels.now.rows)
       (after 2)) × TookFrom g.N.Begun.start c.flush-result.new.totals.due (tallied c.args.levels.now.settings (slice_range events (lookback c.args.levels.now.settings c.args.m) c.args.m))) (λ
-      (fault : FlushFault). (fault ≡ Failed) ⊎ (fault ≡ OutOfMemory)) c.flush-result.result both) (λ _ parts. parts.1));
+      (fault : FlushFault). fault ≡ Failed) c.flush-result.result both) (λ _ parts. parts.1));
   took = subst (λ (v : Dues). OnOk c.flush-result.result ((list : List Piece) × TookFrom g.N.Begun.start v list)) (sym c.into_due.ensures)
       (only_took g.N.Begun.start c.flush-result.new.totals.due _ c.flush-result.result c.flush-result.ensures.took);
   sound = λ events long bins seen told holds at.
@@ -73,7 +73,8 @@ returns g c = record {
       (lookback c.args.levels.now.settings c.args.m) c.args.m))) c.flush-result.result both at;
   malformed = λ seen told at is.
       one_of_first c.args.levels.now.settings (depth c.args.levels.now.settings c.args.m) c.args.levels.now.rows (seen 2) at (c.flush-result.ensures.malformed seen told at is);
-  unwritten = c.flush-result.ensures.unwritten;
+  malformed_after = λ after told at is.
+      one_of_first c.args.levels.now.settings (depth c.args.levels.now.settings c.args.m) c.args.levels.now.rows (after 2) at (c.flush-result.ensures.malformed_after after told at is);
   durable = c.flush-result.ensures.durable;
   rest = c.flush-result.ensures.rest;
   kept = c.flush-result.ensures.kept;

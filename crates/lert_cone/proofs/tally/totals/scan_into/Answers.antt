@@ -1,6 +1,6 @@
-use Rattle.std.proofs.Common.{◌≡◌, ◌⊎◌, ◌∙◌, List, OnOk, Result, Ok, Err, ap, subst, sym}
+use Rattle.std.proofs.Common.{◌≡◌, ◌∙◌, List, OnOk, Result, Ok, Err, ap, subst, sym}
 use Rattle.lert_rows.specs.declared.fault.FlushFault.{FlushFault}
-use Rattle.lert_rows.specs.declared.fault.FlushFault.TheVariants.{Failed, OutOfMemory}
+use Rattle.lert_rows.specs.declared.fault.FlushFault.TheVariants.{Failed}
 use Rattle.lert_levels.specs.Flushed.{AreAllEvents}
 use Rattle.lert_rows.specs.Ranges.{young_bins}
 use Rattle.lert_spec.specs.declared.piece.Piece.{Piece}
@@ -26,8 +26,7 @@ returns g c = record {
       } in
       let all = c.scan-result.ensures.told seen told events events_ in
       subst (λ (v : Dues). OnOk c.scan-result.result (TookFrom g.N.Begun.start v (tallied c.args.levels.now.settings events))) (sym c.into_due.ensures)
-      (ok_of (TookFrom g.N.Begun.start c.scan-result.new.totals.due (tallied c.args.levels.now.settings events)) (λ (fault : FlushFault). (fault ≡ Failed) ⊎
-      (fault ≡ OutOfMemory)) c.scan-result.result all);
+      (ok_of (TookFrom g.N.Begun.start c.scan-result.new.totals.due (tallied c.args.levels.now.settings events)) (λ (fault : FlushFault). fault ≡ Failed) c.scan-result.result all);
   took = subst (λ (v : Dues). OnOk c.scan-result.result ((list : List Piece) × TookFrom g.N.Begun.start v list)) (sym c.into_due.ensures)
       (only_took g.N.Begun.start c.scan-result.new.totals.due _ c.scan-result.result c.scan-result.ensures.took);
   sound = λ events fits at from bins seen told holds place.

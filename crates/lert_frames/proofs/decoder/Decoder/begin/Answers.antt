@@ -81,6 +81,7 @@ returns g c =
     let near = c.read_head.new.window in
     let passes = passes_on (bays g) before between asked.only_reads.seen old.window near c.pass_fields.new.window asked.ahead (fields_len head) passed.passes in
     steps_begun (bays g) before after old _ refl c.requires.decoded c.requires.more head c.begun-self.ensures c.behind-self.ensures asked.small asked.fits passes
+    (passed.ends_place ∙ ap (λ n. n + 12) asked.ahead.place)
     (λ seen told. fields_told head (at_hand near) (to_come old.window (seen FRAMES)) near (seen FRAMES) refl (asked.ahead.come seen told) asked.fields)
     (λ seen told. (λ i. run_ends_left (sym asked.ahead.place i) (length (seen FRAMES)) (sym (asked.ahead.come seen told) i)) ∙ passed.agree seen (asked.only_reads.seen ∙ told))
     (λ seen told. subst (λ (xs : List ℕ). AreWords (words_in xs) (word_count head.count) (to_come c.pass_fields.new.ends (seen FRAMES))) (asked.ahead.come seen told)

@@ -28,7 +28,7 @@ returns-in_err-word-clause-steps g c =
     let after = c.read_word.new.bay in
     let middle = c.read_word.new.self in
     let read = c.in_err-word.ensures in
-    rw (p.1, p.2) (steps_refused (bays g) before after c.args.self.now middle read.width _ _ read.block read.ahead read.window
+    rw (p.1, p.2) (steps_refused (bays g) before after c.args.self.now middle read.width _ _ read.block read.ahead read.window (λ _. read.ends.place)
     (λ seen told i. found_by (read.width i) (read.block i) (read.ahead i) (read.window.place i) (length (seen FRAMES)) (read.ends.come seen told i) (read.window.come seen told i))
     (λ seen told at is. absurd (no_place at _ read.failed is))
     (reads_as (bays g) (lawful g) before after _ _ (λ is. same_err _ _ is) read.only_reads))
@@ -50,6 +50,7 @@ returns-in-Ok-clause-steps g c =
       block = passes.block;
       passed_is = refl;
       place = passes.place;
+      ends = passes.ends_place;
       low = decoded.upto.3;
       high = decoded.upto.0;
       ascend = decoded.ascend;
@@ -88,7 +89,7 @@ returns-in-Err-clause-steps g c =
     let fault = c.slot_fault.ensures in
     steps_since (bays g) before after c.args.self.now middle _ _ (Err c.slot_fault.result) read.width read.block read.ahead read.window read.ends
     (steps_refused (bays g) before after middle middle refl _ c.slot_fault.result refl refl
-    (record { place = refl; room = refl; grows = omega arith; later = omega arith; come = λ seen told. refl; read = λ seen told from near is. is }) (λ seen told. refl)
+    (record { place = refl; room = refl; grows = omega arith; later = omega arith; come = λ seen told. refl; read = λ seen told from near is. is }) (λ _. refl) (λ seen told. refl)
     (λ seen told spot is.
     let ends = to_come middle.ends (seen FRAMES) in
     let slots = to_come middle.window (seen FRAMES) in

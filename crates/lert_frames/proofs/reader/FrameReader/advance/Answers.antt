@@ -15,8 +15,8 @@ invariant_of-self-in-Err g c =
     let self = c.args.self.now in
     let e = c.in-Err.ensures in
     record {
-      reading = reading_stopped self.settings self.level self.wide self.sum self.decoder _ self.pieces.items _ _ _ self.given self.gave self.reading
-          e.none e.floor e.limit e.bounded e.capacity;
+      reading = reading_stopped self.settings self.level self.place self.wide self.sum self.decoder _ self.pieces.items _ _ _ self.given self.gave self.reading
+          e.none e.floor e.limit e.bounded e.capacity e.between;
     }
 
 pub returns-in-Err-clause-to_come : goal.returns-in-Err-clause-to_come
@@ -46,8 +46,8 @@ invariant_of-self g c =
     let less_is = less_behind self.sum c.settle-self.result c.len-before.result (length self.pieces.items) c.step.new.pieces.items from_is c.settle-self.ensures.sum in
     let items_are = kept_behind c.settle-self.result c.len-before.result self.pieces.items c.step.new.pieces.items c.settle-self.new.pieces.items from_is e.kept c.settle-self.ensures.kept in
     record {
-      reading = reading_on self.settings self.level self.wide self.sum c.settle-self.result self.decoder c.step.new.self self.pieces.items put c.settle-self.new.pieces.items
-          _ _ self.given self.gave self.reading less_is items_are e.ascend e.counts e.floor e.limit e.bounded (c.settle-self.ensures.capacity ∙ e.capacity);
+      reading = reading_on self.settings self.level self.place self.wide self.sum c.settle-self.result self.decoder c.step.new.self self.pieces.items put c.settle-self.new.pieces.items
+          _ _ self.given self.gave self.reading less_is items_are e.ascend e.counts e.floor e.limit e.bounded (c.settle-self.ensures.capacity ∙ e.capacity) e.between;
     }
 
 pub returns-in-Ok-clause-to_come : goal.returns-in-Ok-clause-to_come

@@ -15,5 +15,6 @@ invariant_of-result c = record {
     sums = omega (arith, total_none _ _ c.new-2.ensures c.in_ok-with_capacity.ensures.items);
     within = omega arith;
     room = c.in_ok-with_capacity.ensures.exact;
+    stands = c.begin-place.ensures.stands;
   };
 }

@@ -9,7 +9,6 @@ use Rattle.lert_bay.proofs.KeptLaws.{IsLawful, reads_as}
 use Rattle.lert_base.specs.declared.pieces.PieceFault.TheVariants.{Malformed}
 use Rattle.lert_spec.specs.Limits.{IsValid}
 use Rattle.lert_rows.specs.Checked.{EachStands, rows_left}
-use Rattle.lert_rows.specs.Hands.{AreReaders}
 use Rattle.lert_levels.specs.OnDisk.{OnDisk}
 use Rattle.lert_rows.specs.Rows.{AreRows}
 use Rattle.lert_rows.proofs.CheckLaws.{all_whole, check_refuses, check_passes, lent_rows}
@@ -26,10 +25,7 @@ lawful : (g : given.Over) → IsLawful (bays g)
 lawful g = record { as_read = g.met.B.Bay.as_read; since_now = g.met.B.Bay.since_now; only_now = g.met.B.Bay.only_now; since_earlier = g.met.B.Bay.since_earlier }
 
 pub check_rows-requires-clause-rows : goal.check_rows-requires-clause-rows
-check_rows-requires-clause-rows g c = lent_rows (λ row. row.items) c.self.inside.settings c.self.inside.rows.items c.deref.result.now c.self.invariant.are c.deref.ensures.value
-
-pub check_rows-requires-clause-readers : goal.check_rows-requires-clause-readers
-check_rows-requires-clause-readers g c = subst (AreReaders c.self.inside.settings) (sym c.deref_mut.ensures.value) c.self.invariant.read_by
+check_rows-requires-clause-rows g c = lent_rows (λ row. row.items) c.self.inside.settings c.self.inside.rows.items c.deref.result.now c.self.invariant.0.are c.deref.ensures.value
 
 -- ---- each frame stands
 
@@ -91,7 +87,7 @@ returns-in_err-check_rows-clause-sound g c seen told held stand =
     let s = c.args.self.now.settings in
     let settings_is : c.self.inside.settings ≡ s = ap (λ (v : OnDisk). v.settings) c.self.view_is in
     let valid : IsValid s = subst IsValid (c.numbers-valid.ensures.value ∙ settings_is) c.numbers-valid.ensures.valid in
-    let are : AreRows s c.args.self.now.rows = subst (λ (v : OnDisk). AreRows v.settings v.rows) c.self.view_is c.self.invariant.are in
+    let are : AreRows s c.args.self.now.rows = subst (λ (v : OnDisk). AreRows v.settings v.rows) c.self.view_is c.self.invariant.0.are in
     check_passes c.from_residual.result c.in_err-check_rows.field-0.0 (rows_left s (seen FRAMES) c.args.self.now.rows) (all_whole s c.args.self.now.rows (seen FRAMES) held valid are stand)
     c.from_residual.ensures.1 (broken_at g c seen told)
 

@@ -8,7 +8,7 @@ returns-clause-restores g c n at = record {
   rows = c.args.self.now.rows;
   named = record {
     at = at;
-    are = subst (λ (v : OnDisk). AreRows v.settings v.rows) c.self.view_is c.self.invariant.are;
-    text_is = sym (ap (λ (v : OnDisk). directory_text v.rows) c.self.view_is) ∙ sym c.self.invariant.directory_is ∙ sym c.deref.ensures.value;
+    are = subst (λ (v : OnDisk). AreRows v.settings v.rows) c.self.view_is c.self.invariant.0.are;
+    text_is = sym (ap (λ (v : OnDisk). directory_text v.rows) c.self.view_is) ∙ sym c.self.invariant.0.directory_is ∙ sym c.deref.ensures.value;
   };
 }

@@ -1,18 +1,21 @@
-use Rattle.std.proofs.Common.{◌≡◌, ◌∙◌, map, take, refl, ap, sym, subst}
+use Rattle.std.proofs.Common.{◌-◌, ◌∙◌, take, refl, ap, sym, subst, arith}
+use Rattle.std.specs.Prelude.{Err}
 use Rattle.std.proofs.lemmas.Result.{err_from_is_err_and}
 use Rattle.lert_bay.specs.declared.bay.TheConstants.{FRAMES}
 use Rattle.lert_bay.specs.Kept.{Bays}
 use Rattle.lert_bay.proofs.KeptLaws.{IsLawful, keeps_on, keeps_as}
-use Rattle.lert_bay.specs.Files.{IfTold}
 use Rattle.lert_frames.proofs.WriteLaws.{same_err}
 use Rattle.lert_spec.specs.Edges.{depth}
-use Rattle.lert_spec.specs.Limits.{IsValid}
-use Rattle.lert_levels.specs.Flushed.{AllCanStand, AreNew, InNamed}
-use Rattle.lert_rows.specs.Landing.{KeepsRest}
+use Rattle.lert_levels.specs.Flushed.{InNamed}
+use Rattle.lert_levels.specs.Merged.{IsFrames}
 use Rattle.lert_levels.specs.OnDisk.{OnDisk}
-use Rattle.lert_rows.specs.Rows.{IsAt, HoldsBins, moved}
-use Rattle.lert_rows.proofs.LandLaws.{rest_on, read_rest}
+use Rattle.lert_rows.specs.Landing.{AreApart, Anywhere}
+use Rattle.lert_rows.specs.Rows.{IsAt, moved, tallied_in}
+use Rattle.lert_rows.proofs.LandLaws.{rest_on, rest_fewer}
 use Rattle.lert_rows.proofs.RowLaws.{IsAt-moved}
+use Rattle.lert_levels.proofs.FlushLaws.{made_took, made_taken}
+use Rattle.lert_levels.proofs.HoldLaws.{named_apart, rows_stand}
+use Rattle.lert_levels.proofs.ReachLaws.{failed_by, no_break, reached_rows, reached_few, has_moved, deep}
 use Rattle.lert_levels.proofs.levels.Levels.flush.Given as given
 use Rattle.lert_levels.proofs.levels.Levels.flush.Goals as goal
 
@@ -22,76 +25,136 @@ bays g = record { faults = g.B.Faulty.faults; mark = g.B.Faulty.mark; files = g.
 lawful : (g : given.Over) → IsLawful (bays g)
 lawful g = record { as_read = g.met.B.Bay.as_read; since_now = g.met.B.Bay.since_now; only_now = g.met.B.Bay.only_now; since_earlier = g.met.B.Bay.since_earlier }
 
-pub returns-in_err-made-clause-told : goal.returns-in_err-made-clause-told
-returns-in_err-made-clause-told g c seen told events of =
+-- ---- a merge that failed
+
+pub returns-in_err-land-clause-told : goal.returns-in_err-land-clause-told
+returns-in_err-land-clause-told g c seen told events of =
     let p = err_from_is_err_and c.from_residual.result c.from_residual.ensures.1 in
-    rw (p.1, p.2) (c.in_err-made.ensures.told seen told events of)
+    let s = c.args.self.now.settings in
+    let m = c.args.m in
+    let rows = c.args.self.now.rows in
+    let first = c.requires.first in
+    let last = c.requires.last in
+    let valid = c.in_err-land.ensures.valid in
+    let are = c.in_err-land.ensures.rows in
+    let stand = rows_stand s events (m - 1) rows (seen FRAMES) c.requires.at are (omega (arith, of.len)) of.held (depth s m) (deep s valid m first last rows c.requires.at are) in
+    rw (p.1, p.2) (failed_by _ (λ at is. no_break s valid (take (depth s m) rows) (seen FRAMES) (tallied_in s events) at (reached_few s valid m first last rows c.requires.at are)
+    (reached_rows s valid m first last rows c.requires.at are) stand (c.in_err-land.ensures.malformed seen told at (ap Err is))))
 
-pub returns-in_err-made-clause-malformed : goal.returns-in_err-made-clause-malformed
-returns-in_err-made-clause-malformed g c seen told at =
+pub returns-in_err-land-clause-sound : goal.returns-in_err-land-clause-sound
+returns-in_err-land-clause-sound g c seen told hold stand =
     let p = err_from_is_err_and c.from_residual.result c.from_residual.ensures.1 in
-    rw (p.1, p.2) (λ is. c.in_err-made.ensures.malformed seen told at (same_err _ _ is))
+    let s = c.args.self.now.settings in
+    let m = c.args.m in
+    let rows = c.args.self.now.rows in
+    let first = c.requires.first in
+    let last = c.requires.last in
+    let valid = c.in_err-land.ensures.valid in
+    let are = c.in_err-land.ensures.rows in
+    rw (p.1, p.2) (failed_by _ (λ at is. no_break s valid (take (depth s m) rows) (seen FRAMES) hold at (reached_few s valid m first last rows c.requires.at are)
+    (reached_rows s valid m first last rows c.requires.at are) stand (c.in_err-land.ensures.malformed seen told at (ap Err is))))
 
-pub land-requires-clause-can : goal.land-requires-clause-can
-land-requires-clause-can g c =
-    subst (λ (v : OnDisk). AllCanStand v.settings (map (λ pieces. pieces.items) c.deref.result.now)) (sym c.in_ok-made.ensures.same)
-    (subst (λ items. AllCanStand c.args.self.now.settings (map (λ pieces. pieces.items) items)) (sym c.deref.ensures.value) c.in_ok-made.ensures.can)
+pub returns-in_err-land-clause-malformed : goal.returns-in_err-land-clause-malformed
+returns-in_err-land-clause-malformed g c seen told at =
+    let p = err_from_is_err_and c.from_residual.result c.from_residual.ensures.1 in
+    rw (p.1, p.2) (λ is. c.in_err-land.ensures.malformed seen told at (same_err _ _ is))
 
-pub returns-in_err-made-clause-rest : goal.returns-in_err-made-clause-rest
-returns-in_err-made-clause-rest g c =
-    read_rest (bays g) (InNamed c.args.self.now.settings c.args.self.now.rows) c.args.bay.now c.new_bins.new.bay _ c.in_err-made.ensures.only_reads
+pub returns-in_err-land-clause-malformed_after : goal.returns-in_err-land-clause-malformed_after
+returns-in_err-land-clause-malformed_after g c seen told at =
+    let p = err_from_is_err_and c.from_residual.result c.from_residual.ensures.1 in
+    rw (p.1, p.2) (λ is. c.in_err-land.ensures.malformed_after seen told at (same_err _ _ is))
 
 pub returns-in_err-land-clause-rest : goal.returns-in_err-land-clause-rest
 returns-in_err-land-clause-rest g c =
-    let kept = InNamed c.args.self.now.settings c.args.self.now.rows in
-    rest_on (bays g) (lawful g) kept c.args.bay.now c.new_bins.new.bay c.land.new.bay _ _ c.in_ok-made.ensures.only_reads.kept c.in_err-land.ensures.kept
-    (read_rest (bays g) kept c.args.bay.now c.new_bins.new.bay _ c.in_ok-made.ensures.only_reads)
-    (subst (λ (v : OnDisk). KeepsRest (bays g) (InNamed v.settings v.rows) c.new_bins.new.bay c.land.new.bay) c.in_ok-made.ensures.same c.in_err-land.ensures.rest)
+    let s = c.args.self.now.settings in
+    let m = c.args.m in
+    let rows = c.args.self.now.rows in
+    let first = c.requires.first in
+    let last = c.requires.last in
+    let valid = c.in_err-land.ensures.valid in
+    let are = c.in_err-land.ensures.rows in
+    rest_fewer (bays g) (AreApart s m (take (depth s m) rows)) (InNamed s rows) c.args.bay.now c.land.new.bay
+    (named_apart s m rows are (depth s m) (deep s valid m first last rows c.requires.at are)) c.in_err-land.ensures.rest
 
-pub returns-clause-rest : goal.returns-clause-rest
-returns-clause-rest g c =
-    let kept = InNamed c.args.self.now.settings c.args.self.now.rows in
-    rest_on (bays g) (lawful g) kept c.args.bay.now c.new_bins.new.bay c.land.new.bay _ _ c.in_ok-made.ensures.only_reads.kept c.in_ok-land.ensures.kept
-    (read_rest (bays g) kept c.args.bay.now c.new_bins.new.bay _ c.in_ok-made.ensures.only_reads)
-    (subst (λ (v : OnDisk). KeepsRest (bays g) (InNamed v.settings v.rows) c.new_bins.new.bay c.land.new.bay) c.in_ok-made.ensures.same c.in_ok-land.ensures.rest)
+-- ---- a sync that failed
 
-pub returns-in_err-made-clause-kept : goal.returns-in_err-made-clause-kept
-returns-in_err-made-clause-kept g c =
-    let p = err_from_is_err_and c.from_residual.result c.from_residual.ensures.1 in
-    rw (p.1, p.2) (keeps_as (bays g) (lawful g) c.args.bay.now c.new_bins.new.bay _ _ (λ is. same_err _ _ is) c.in_err-made.ensures.only_reads.kept)
+pub returns-in_err-sync_frames-clause-rest : goal.returns-in_err-sync_frames-clause-rest
+returns-in_err-sync_frames-clause-rest g c =
+    let s = c.args.self.now.settings in
+    let m = c.args.m in
+    let rows = c.args.self.now.rows in
+    let first = c.requires.first in
+    let last = c.requires.last in
+    let valid = c.in_ok-land.ensures.valid in
+    let are = c.in_ok-land.ensures.rows in
+    rest_on (bays g) (lawful g) (InNamed s rows) c.args.bay.now c.land.new.bay c.sync_frames.new.bay _ _ c.in_ok-land.ensures.kept c.in_err-sync_frames.ensures.kept
+    (rest_fewer (bays g) (AreApart s m (take (depth s m) rows)) (InNamed s rows) c.args.bay.now c.land.new.bay
+    (named_apart s m rows are (depth s m) (deep s valid m first last rows c.requires.at are)) c.in_ok-land.ensures.rest)
+    (rest_fewer (bays g) Anywhere (InNamed s rows) c.land.new.bay c.sync_frames.new.bay (λ from to inside. tt) c.in_err-sync_frames.ensures.rest)
 
-pub returns-in_err-land-clause-kept : goal.returns-in_err-land-clause-kept
-returns-in_err-land-clause-kept g c =
-    keeps_as (bays g) (lawful g) c.args.bay.now c.land.new.bay _ _ (λ is. refl)
-    (keeps_on (bays g) (lawful g) c.args.bay.now c.new_bins.new.bay c.land.new.bay _ _ c.in_ok-made.ensures.only_reads.kept c.in_err-land.ensures.kept)
+pub returns-in_err-sync_frames-clause-kept : goal.returns-in_err-sync_frames-clause-kept
+returns-in_err-sync_frames-clause-kept g c =
+    keeps_as (bays g) (lawful g) c.args.bay.now c.sync_frames.new.bay _ _ (λ is. refl)
+    (keeps_on (bays g) (lawful g) c.args.bay.now c.land.new.bay c.sync_frames.new.bay _ _ c.in_ok-land.ensures.kept c.in_err-sync_frames.ensures.kept)
 
-pub returns-clause-kept : goal.returns-clause-kept
-returns-clause-kept g c =
-    keeps_as (bays g) (lawful g) c.args.bay.now c.land.new.bay _ _ (λ is. absurd (cc is))
-    (keeps_on (bays g) (lawful g) c.args.bay.now c.new_bins.new.bay c.land.new.bay _ _ c.in_ok-made.ensures.only_reads.kept c.in_ok-land.ensures.kept)
+-- ---- all went well
 
 pub returns-clause-at : goal.returns-clause-at
 returns-clause-at g c =
     let s = c.args.self.now.settings in
-    let settings_is : c.self.inside.settings ≡ s = ap (λ (v : OnDisk). v.settings) c.self.view_is in
-    let valid : IsValid s = subst IsValid (c.numbers-valid.ensures.value ∙ settings_is) c.numbers-valid.ensures.valid in
-    subst (λ (v : OnDisk). IsAt v.settings c.args.m v.rows) (sym c.in_ok-land.ensures.ok)
-    (subst (λ (v : OnDisk). IsAt v.settings c.args.m (moved v.settings c.args.m v.rows)) (sym c.in_ok-made.ensures.same)
-    (IsAt-moved s valid c.args.m c.requires.first c.requires.last c.args.self.now.rows c.requires.at))
+    let m = c.args.m in
+    let rows = c.args.self.now.rows in
+    let first = c.requires.first in
+    let last = c.requires.last in
+    let valid = c.in_ok-land.ensures.valid in
+    let are = c.in_ok-land.ensures.rows in
+    subst (λ (v : OnDisk). IsAt v.settings m v.rows) (sym c.move_on.ensures)
+    (subst (λ (v : OnDisk). IsAt v.settings m (moved v.settings m v.rows)) (sym c.in_ok-land.ensures.same) (IsAt-moved s valid m first last rows c.requires.at))
 
 pub returns-clause-told : goal.returns-clause-told
 returns-clause-told g c seen told events of =
     let s = c.args.self.now.settings in
     let m = c.args.m in
-    let made = c.in_ok-made.ensures.told seen told events of in
-    let news = subst (λ items. AreNew s m events (take (depth s m) c.args.self.now.rows) (map (λ pieces. pieces.items) items)) (sym c.deref.ensures.value) made.0 in
-    let holds = subst
-    (λ (v : OnDisk). HoldsBins v.settings events v.rows (seen FRAMES) → AreNew v.settings m events (take (depth v.settings m) v.rows) (map (λ pieces. pieces.items) c.deref.result.now) →
-    IfTold (g.B.Bay.files c.land.new.bay) (λ after. HoldsBins v.settings events (moved v.settings m v.rows) (after FRAMES)))
-    c.in_ok-made.ensures.same (c.in_ok-land.ensures.holds seen (c.in_ok-made.ensures.only_reads.seen ∙ told) events) in
-    (holds of.held news, made.1)
+    let rows = c.args.self.now.rows in
+    let first = c.requires.first in
+    let last = c.requires.last in
+    let valid = c.in_ok-land.ensures.valid in
+    let are = c.in_ok-land.ensures.rows in
+    let took = g.O.Totals.took c.land.new.totals in
+    let before = g.B.Bay.files c.args.bay.now in
+    let has = c.in_ok-land.ensures.made in (
+      λ after told_after. has_moved s valid m first last rows c.requires.at are c.args.zero.now.bins took before (g.B.Bay.files c.land.new.bay) has c.in_ok-land.ensures.rest.seen seen told events of
+          after (sym c.in_ok-sync_frames.ensures.seen ∙ told_after),
+      made_taken s valid m first last rows c.requires.at c.args.zero.now.bins took (IsFrames before) has.made has.is (seen FRAMES) events (record { seen = seen; told = told; is = refl }) are of,
+    )
 
-pub returns-in_err-made-clause-sound : goal.returns-in_err-made-clause-sound
-returns-in_err-made-clause-sound g c seen told held stand =
-    let p = err_from_is_err_and c.from_residual.result c.from_residual.ensures.1 in
-    rw (p.1, p.2) (c.in_err-made.ensures.sound seen told held stand)
+pub returns-clause-took : goal.returns-clause-took
+returns-clause-took g c =
+    let s = c.args.self.now.settings in
+    let m = c.args.m in
+    let rows = c.args.self.now.rows in
+    let first = c.requires.first in
+    let last = c.requires.last in
+    let valid = c.in_ok-land.ensures.valid in
+    let are = c.in_ok-land.ensures.rows in
+    let has = c.in_ok-land.ensures.made in
+    made_took s valid m first last rows c.requires.at c.args.zero.now.bins (g.O.Totals.took c.land.new.totals) (IsFrames (g.B.Bay.files c.args.bay.now)) has.made has.is
+
+pub returns-clause-rest : goal.returns-clause-rest
+returns-clause-rest g c =
+    let s = c.args.self.now.settings in
+    let m = c.args.m in
+    let rows = c.args.self.now.rows in
+    let first = c.requires.first in
+    let last = c.requires.last in
+    let valid = c.in_ok-land.ensures.valid in
+    let are = c.in_ok-land.ensures.rows in
+    rest_on (bays g) (lawful g) (InNamed s rows) c.args.bay.now c.land.new.bay c.sync_frames.new.bay _ _ c.in_ok-land.ensures.kept c.in_ok-sync_frames.ensures.kept
+    (rest_fewer (bays g) (AreApart s m (take (depth s m) rows)) (InNamed s rows) c.args.bay.now c.land.new.bay
+    (named_apart s m rows are (depth s m) (deep s valid m first last rows c.requires.at are)) c.in_ok-land.ensures.rest)
+    (rest_fewer (bays g) Anywhere (InNamed s rows) c.land.new.bay c.sync_frames.new.bay (λ from to inside. tt) c.in_ok-sync_frames.ensures.rest)
+
+pub returns-clause-kept : goal.returns-clause-kept
+returns-clause-kept g c =
+    keeps_as (bays g) (lawful g) c.args.bay.now c.sync_frames.new.bay _ _ (λ is. absurd (cc is))
+    (keeps_on (bays g) (lawful g) c.args.bay.now c.land.new.bay c.sync_frames.new.bay _ _ c.in_ok-land.ensures.kept c.in_ok-sync_frames.ensures.kept)

@@ -6,18 +6,18 @@ use Rattle.lert_rows.proofs.MoveLaws.{rows_few}
 use Rattle.lert_levels.proofs.levels.Levels.move_on.Goals as goal
 
 pub move_rows-requires-clause-few : goal.move_rows-requires-clause-few
-move_rows-requires-clause-few g c = rows_few (λ row. row.items) c.self.inside.settings c.self.inside.rows.items c.deref_mut.result.now c.self.invariant.are c.deref_mut.ensures.value
+move_rows-requires-clause-few g c = rows_few (λ row. row.items) c.self.inside.settings c.self.inside.rows.items c.deref_mut.result.now c.self.invariant.0.are c.deref_mut.ensures.value
 
 pub move_rows-requires-clause-roomy : goal.move_rows-requires-clause-roomy
 move_rows-requires-clause-roomy g c =
-    subst (All (λ row. c.self.inside.settings.bins < vec_capacity row)) (sym c.deref_mut.ensures.value) c.self.invariant.roomy
+    subst (All (λ row. c.self.inside.settings.bins < vec_capacity row)) (sym c.deref_mut.ensures.value) c.self.invariant.0.roomy
 
 pub lay_directory-requires-clause-few : goal.lay_directory-requires-clause-few
 lay_directory-requires-clause-few g c =
     let s = c.self.inside.settings in
     let valid : IsValid s = subst IsValid c.numbers-valid.ensures.value c.numbers-valid.ensures.valid in
-    after_few (λ row. row.items) (λ row. vec_capacity row) s valid c.self.inside.rows.items c.self.inside.directory.items (vec_capacity c.self.inside.directory) c.self.inside.merger
-    c.self.inside.readers.items c.self.inside.writers.items c.self.invariant
+    after_few (λ row. row.items) (λ row. vec_capacity row) s valid c.self.inside.rows.items c.self.inside.directory.items (vec_capacity c.self.inside.directory) c.self.inside.reader
+    c.self.invariant.0
     c.args.self.now c.self.view_is c.args.m c.requires.first c.requires.last c.requires.at
     c.deref_mut.result.now c.move_rows.new.rows c.deref.result.now c.self.inside.rows.len c.deref_mut.ensures.value c.move_rows.ensures.rows c.deref_mut.ensures.len c.deref.ensures.value
 
@@ -25,8 +25,8 @@ pub lay_directory-requires-clause-room : goal.lay_directory-requires-clause-room
 lay_directory-requires-clause-room g c =
     let s = c.self.inside.settings in
     let valid : IsValid s = subst IsValid c.numbers-valid.ensures.value c.numbers-valid.ensures.valid in
-    after_room (λ row. row.items) (λ row. vec_capacity row) s valid c.self.inside.rows.items c.self.inside.directory.items (vec_capacity c.self.inside.directory) c.self.inside.merger
-    c.self.inside.readers.items c.self.inside.writers.items c.self.invariant
+    after_room (λ row. row.items) (λ row. vec_capacity row) s valid c.self.inside.rows.items c.self.inside.directory.items (vec_capacity c.self.inside.directory) c.self.inside.reader
+    c.self.invariant.0
     c.args.self.now c.self.view_is c.args.m c.requires.first c.requires.last c.requires.at
     c.deref_mut.result.now c.move_rows.new.rows c.deref.result.now c.self.inside.rows.len c.deref_mut.ensures.value c.move_rows.ensures.rows c.deref_mut.ensures.len c.deref.ensures.value
 
@@ -34,10 +34,13 @@ pub invariant_of-self : goal.invariant_of-self
 invariant_of-self g c =
     let s = c.self.inside.settings in
     let valid : IsValid s = subst IsValid c.numbers-valid.ensures.value c.numbers-valid.ensures.valid in
-    let after = take c.self.inside.rows.len (c.move_rows.new.rows ++ drop (length c.move_rows.new.rows) c.self.inside.rows.items) in
-    after_kept (λ row. row.items) (λ row. vec_capacity row) s valid c.self.inside.rows.items c.self.inside.directory.items (vec_capacity c.self.inside.directory) c.self.inside.merger
-    c.self.inside.readers.items c.self.inside.writers.items c.self.invariant
-    c.args.self.now c.self.view_is c.args.m c.requires.first c.requires.last c.requires.at
-    c.deref_mut.result.now c.move_rows.new.rows after c.self.inside.rows.len c.deref_mut.ensures.value c.move_rows.ensures.rows c.deref_mut.ensures.len (λ i. after)
-    c.move_rows.ensures.roomy c.lay_directory.new.directory.items (vec_capacity c.lay_directory.new.directory) c.deref.result.now c.deref.ensures.value c.lay_directory.ensures.text
-    c.lay_directory.ensures.capacity
+    let after = take c.self.inside.rows.len (c.move_rows.new.rows ++ drop (length c.move_rows.new.rows) c.self.inside.rows.items) in (
+      after_kept (λ row. row.items) (λ row. vec_capacity row) s valid c.self.inside.rows.items c.self.inside.directory.items (vec_capacity c.self.inside.directory) c.self.inside.reader
+          c.self.invariant.0
+          c.args.self.now c.self.view_is c.args.m c.requires.first c.requires.last c.requires.at
+          c.deref_mut.result.now c.move_rows.new.rows after c.self.inside.rows.len c.deref_mut.ensures.value c.move_rows.ensures.rows c.deref_mut.ensures.len (λ i. after)
+          c.move_rows.ensures.roomy c.lay_directory.new.directory.items (vec_capacity c.lay_directory.new.directory) c.deref.result.now c.deref.ensures.value c.lay_directory.ensures.text
+          c.lay_directory.ensures.capacity,
+      c.self.invariant.1,
+      c.self.invariant.2,
+    )

@@ -1,5 +1,6 @@
 use Rattle.std.proofs.Common.{◌≡◌, ◌+◌, ◌*◌, ◌≤◌, ◌∙◌, List, [], map, replicate, length, ap, sym, subst, arith, vec_capacity}
 use Rattle.lert_spec.specs.declared.numbers.Numbers.{Numbers}
+use Rattle.lert_order.specs.Fronts.{Fronts}
 use Rattle.lert_rows.specs.declared.bin_at.BinAt.{BinAt}
 use Rattle.lert_rows.specs.Rows.{AreRows, directory_text}
 use Rattle.lert_rows.proofs.MoveLaws.{all_empty, AreRows-none, short_directory}
@@ -25,17 +26,22 @@ invariant_of-result g c =
     let value = c.numbers-numbers.ensures.value in
     let empty : map (λ row. row.items) c.in_ok-rows.rows.items ≡ replicate s.levels [] =
     all_empty (λ row. row.items) c.in_ok-rows.rows.items c.numbers-numbers.result.levels c.in_ok-rows.ensures.len c.in_ok-rows.ensures.empty
-    ∙ ap (λ (n : Numbers). replicate {A = List BinAt} n.levels []) value in
-    record {
-      are = subst (AreRows s) (sym empty) (AreRows-none s);
-      roomy = λ k d below. omega (arith, c.in_ok-rows.ensures.roomy k d below, ap (λ (n : Numbers). n.bins) value);
-      directory_is = c.lay_directory.ensures.text ∙ ap (λ rows. directory_text (map (λ row. row.items) rows)) c.deref.ensures.value;
-      directory_room = subst (λ (n : Numbers). n.levels * (1 + n.bins) ≤ vec_capacity c.lay_directory.new.directory) value
-          (omega (arith, c.in_ok-directory.ensures.capacity, c.lay_directory.ensures.capacity));
-      merges = subst (λ (n : Numbers). (n.levels + 1) * n.bins ≤ c.in_ok-new.field-0) value (omega (arith, c.in_ok-new.ensures));
-      read_by = c.in_ok-readers_of.ensures;
-      written_by = c.in_ok-writers_of.ensures;
-    }
+    ∙ ap (λ (n : Numbers). replicate {A = List BinAt} n.levels []) value in (
+      record {
+        are = subst (AreRows s) (sym empty) (AreRows-none s);
+        roomy = λ k d below. omega (arith, c.in_ok-rows.ensures.roomy k d below, ap (λ (n : Numbers). n.bins) value);
+        directory_is = c.lay_directory.ensures.text ∙ ap (λ rows. directory_text (map (λ row. row.items) rows)) c.deref.ensures.value;
+        directory_room = subst (λ (n : Numbers). n.levels * (1 + n.bins) ≤ vec_capacity c.lay_directory.new.directory) value
+            (omega (arith, c.in_ok-directory.ensures.capacity, c.lay_directory.ensures.capacity));
+        read_by = c.in_ok-new-3.ensures.settings;
+      },
+      (c.in_ok-new.ensures, subst (λ (n : Numbers). (n.levels + 1) * n.bins ≤ c.in_ok-new-2.field-0.room) value (omega (arith, ap (λ (f : Fronts). f.room) c.in_ok-new-2.ensures))),
+      record {
+        of_levels = c.in_ok-landings_of.ensures.landings;
+        count = c.in_ok-landings_of.ensures.len;
+        room = subst (λ (n : Numbers). (n.levels + 1) * n.bins ≤ vec_capacity c.in_ok-with_capacity.field-0) value (omega (arith, c.in_ok-with_capacity.ensures.capacity));
+      },
+    )
 
 pub returns : goal.returns
 returns g c =

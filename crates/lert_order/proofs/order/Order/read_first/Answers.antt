@@ -1,15 +1,39 @@
 use Rattle.std.proofs.lemmas.Result.{err_from_is_err_and}
-use Rattle.lert_order.proofs.StepLemmas.{reading_more, breaks_on}
+use Rattle.lert_order.specs.Ordering.{none_of}
+use Rattle.lert_order.proofs.AskLemmas.{AreLawful}
+use Rattle.lert_order.proofs.StepLemmas.{reading_none, reading_more, breaks_on, gives_on, gives_started}
+use Rattle.lert_order.proofs.order.Order.read_first.Given as given
 use Rattle.lert_order.proofs.order.Order.read_first.Goals as goal
 
+laws : (g : given.Over) → AreLawful g.S.Streams
+laws g = record {
+  in_order = g.met.S.Streams.in_order;
+  keeps_same = g.met.S.Streams.keeps_same;
+  keeps_on = g.met.S.Streams.keeps_on;
+  keeps_told = g.met.S.Streams.keeps_told;
+  keeps_untold = g.met.S.Streams.keeps_untold;
+  keeps_breaks = g.met.S.Streams.keeps_breaks;
+  same_self = g.met.S.Streams.same_self;
+  same_on = g.met.S.Streams.same_on;
+}
+
+pub loop-self-init : goal.loop-self-init
+loop-self-init g c = reading_none g.S.Streams (laws g) g.C.Faulty.faults g.C.Faulty.mark c.args.ctx.now c.args.self.now
+
 pub loop-self-preserved : goal.loop-self-preserved
-loop-self-preserved g c = reading_more g.P.Pieces.to_come g.P.Pieces.given g.P.Pieces.limit g.P.Pieces.breaks g.P.Pieces.keeps g.C.Faulty.faults g.C.Faulty.mark
+loop-self-preserved g c = reading_more g.S.Streams (laws g) g.C.Faulty.faults g.C.Faulty.mark
     c.args.ctx.now c.loop-self.ctx c.read_one.new.ctx c.args.self.now c.loop-self.self c.read_one.new.self c.loop-self.invariant
     c.read_one.ensures.gives c.read_one.ensures.last c.in_ok-read_one.ensures.told c.read_one.ensures.faults c.read_one.ensures.mark c.read_one.ensures.keeps
-    g.met.P.Pieces.keeps_on
 
 pub returns-in_err-read_one-clause-malformed : goal.returns-in_err-read_one-clause-malformed
 returns-in_err-read_one-clause-malformed g c at is =
     let p = err_from_is_err_and c.from_residual.result c.from_residual.ensures.1 in
-    breaks_on g.P.Pieces.to_come g.P.Pieces.given g.P.Pieces.limit g.P.Pieces.breaks c.args.ctx.now c.loop-self.ctx c.args.self.now c.loop-self.self at
+    breaks_on g.S.Streams c.args.ctx.now c.loop-self.ctx c.args.self.now c.loop-self.self at
     c.loop-self.invariant.gives c.loop-self.invariant.told (c.in_err-read_one.ensures.malformed at (cc (p.1, p.2)))
+
+pub returns-in_err-read_one-clause-gives : goal.returns-in_err-read_one-clause-gives
+returns-in_err-read_one-clause-gives g c = gives_on g.S.Streams (laws g) none_of c.args.ctx.now c.loop-self.ctx c.read_one.new.ctx c.args.self.now c.loop-self.self
+    c.read_one.new.self c.loop-self.invariant.gives c.read_one.ensures.gives
+
+pub returns-clause-gives : goal.returns-clause-gives
+returns-clause-gives g c = gives_started g.S.Streams c.args.ctx.now c.loop-self.ctx c.args.self.now c.loop-self.self c.start.new.self c.loop-self.invariant.gives c.start.ensures.started

@@ -3,8 +3,7 @@ use Rattle.lert_order.proofs.StepLemmas.{IsReading}
 use Rattle.lert_order.proofs.order.Order.read_first.Given as goal
 
 abbrev pub invariant-loop-self : goal.invariant-loop-self
-invariant-loop-self g l = IsReading g.P.Pieces.to_come g.P.Pieces.given g.P.Pieces.limit g.P.Pieces.breaks g.P.Pieces.keeps g.C.Faulty.faults g.C.Faulty.mark
-    l.initial.ctx l.initial.self l.ctx l.self
+invariant-loop-self g l = IsReading g.S.Streams g.C.Faulty.faults g.C.Faulty.mark l.initial.ctx l.initial.self l.ctx l.self
 
 abbrev pub decreases-loop-self : goal.decreases-loop-self
-decreases-loop-self g l = length l.self.streams - length l.self.ahead.counts
+decreases-loop-self g l = g.S.Streams.count l.self.streams - length l.self.ahead.counts

@@ -1,5 +1,6 @@
 use Rattle.std.proofs.Common.{List, subst, sym, ◌+◌}
 use Rattle.lert_rows.proofs.YoungLaws.{AreEmpty, empty_begin, empty_more, empty_filled, empty_bins}
+use Rattle.lert_rows.proofs.YoungBounds.{empty_bounded}
 use Rattle.lert_rows.proofs.zero.Zero.new.Goals as goal
 
 pub loop-init : goal.loop-init
@@ -14,10 +15,13 @@ loop-preserved g c =
     c.in_ok-empty_table.ensures.empty c.in_ok-empty_table.ensures.room c.in_ok-empty_table.ensures.quotient_bits c.in_ok-empty_table.ensures.width)
 
 pub invariant_of-result : goal.invariant_of-result
-invariant_of-result g c =
-    empty_filled g.T.CountTable.pieces g.T.CountTable.room g.T.CountTable.quotient_bits g.T.CountTable.width c.args.settings.now c.numbers.result c.loop.tables.items c.loop.counter
-    c.numbers.ensures.value c.numbers.ensures.valid c.loop.invariant
-    c.loop-test.false c.loop.auto.counter-end
+invariant_of-result g c = (
+  empty_filled g.T.CountTable.pieces g.T.CountTable.room g.T.CountTable.quotient_bits g.T.CountTable.width c.args.settings.now c.numbers.result c.loop.tables.items c.loop.counter
+      c.numbers.ensures.value c.numbers.ensures.valid c.loop.invariant
+      c.loop-test.false c.loop.auto.counter-end,
+  empty_bounded g.T.CountTable.pieces g.T.CountTable.room g.T.CountTable.quotient_bits g.T.CountTable.width c.args.settings.now c.loop.tables.items c.loop.counter
+      c.in_ok-bound.bound c.loop.invariant c.in_ok-bound.ensures.counts,
+)
 
 pub returns : goal.returns
 returns g c = empty_bins g.T.CountTable.pieces c.args.settings.now c.loop.tables.items

@@ -30,7 +30,6 @@ returns-clause-refuses g c =
       bay_failed = all.bay_failed;
       unsound = all.unsound;
       shows = all.shows;
-      out_of_memory = all.out_of_memory;
       each_moment = all.each_moment;
       seen = all.seen;
       kept = all.kept;

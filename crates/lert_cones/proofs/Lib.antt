@@ -1,0 +1,11 @@
+pub mod AskedLaws
+pub mod ConeLaws
+pub mod ConeTexts
+pub mod EndLaws
+pub mod FinishLaws
+pub mod FreshLaws
+pub mod HeavyLaws
+pub mod PrintedLaws
+pub mod StatusLaws
+pub mod TraceSums
+pub mod WovenLaws

@@ -1,0 +1,8 @@
+mod PickLaws
+mod SumsLaws
+mod GatheringLaws
+mod BoundLaws
+mod PartLaws
+mod SteadyLaws
+mod MergingLaws
+mod Examples

@@ -1,0 +1,3 @@
+pub mod Merged
+pub mod Staying
+pub mod Writing

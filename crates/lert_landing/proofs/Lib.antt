@@ -1,0 +1,6 @@
+mod Examples
+pub mod SumLaws
+pub mod LandingLaws
+pub mod ApartLaws
+pub mod LandingsLaws
+pub mod SummedLaws

@@ -1,0 +1,4 @@
+pub mod Whole
+pub mod Landed
+pub mod Landings
+pub mod Summed

@@ -1,0 +1,7 @@
+use Rattle.std.specs.List.{All}
+use Rattle.lert_landing_tests.specs.Ready.{IsReady}
+use Rattle.lert_landing_tests.proofs.frames.land.Given as goal
+
+-- the landings may take what is left
+abbrev pub invariant-loop-step : goal.invariant-loop-step
+invariant-loop-step g l = record { ready : All (IsReady l.last l.left) l.landings }

@@ -1,0 +1,155 @@
+-- What a merge is given and what it made, of streams that were begun and landings that were started.
+use Rattle.std.proofs.Common.{ℕ, ◌≡◌, ◌+◌, ◌<◌, ◌≤◌, List, [], ◌∷◌, length, map, get_or, Option, Some, None, refl, ap, sym, ◌∙◌, arith, subst, sum_by, Result}
+use Rattle.std.specs.Prelude.{Ok, Err, OnOk, sum}
+use Rattle.std.proofs.lemmas.List.{length-map, take_all}
+use Rattle.lert_bay.specs.declared.bay.TheConstants.{FRAMES}
+use Rattle.lert_bay.specs.Files.{Files, IfTold}
+use Rattle.lert_flush.specs.Merged.{AreParts, picked}
+use Rattle.lert_frames.specs.Frame.{HoldsFrame}
+use Rattle.lert_frames.specs.Place.{tail_limit}
+use Rattle.lert_landing.specs.Landings.{AreLandings, AreApart}
+use Rattle.lert_landing.specs.Summed.{sums_of}
+use Rattle.lert_landing.specs.declared.landing.Landing.{Landing}
+use Rattle.lert_order.specs.Members.{limit_at}
+use Rattle.lert_rows.specs.declared.bin_at.BinAt.{BinAt}
+use Rattle.lert_rows.specs.Landing.{IsApart, landing_frame, AreApart as RowsApart}
+use Rattle.lert_rows.specs.Loading.{AllStand}
+use Rattle.lert_spec.specs.Bins.{Bin}
+use Rattle.lert_spec.specs.Edges.{span}
+use Rattle.lert_spec.specs.Limits.{IsValid}
+use Rattle.lert_spec.specs.Table.{total, AreGiven}
+use Rattle.lert_spec.specs.declared.numbers.Numbers.{Numbers}
+use Rattle.lert_spec.specs.declared.piece.Piece.{Piece}
+use Rattle.lert_streams.specs.Bin.{Bin as Stream, limit_of, width_of as wide_of}
+use Rattle.lert_streams.specs.BinSet.{Reads}
+use Rattle.lert_streams.specs.SetLaws.{to_come_at}
+use Rattle.lert_levels.specs.Merged.{IsMade, IsFrames, Fills, streams_of, widths_of}
+use Rattle.lert_levels.specs.Parts.{Part, streams_to, parts_at, part_table, ArePartsOf}
+use Rattle.lert_levels.specs.Ready.{AreStarted, AreReached, HasMade}
+use Rattle.lert_levels.specs.Sources.{sources, pieces_in, width_in, AreBegun}
+use Rattle.lert_levels.proofs.FlushLaws.{made_at}
+use Rattle.lert_levels.proofs.PartLaws.{some_streams}
+use Rattle.lert_levels.proofs.PickLaws.{picked_part}
+use Rattle.lert_levels.proofs.PlacedLaws.{begun_reads}
+use Rattle.lert_levels.proofs.SourceLaws.{begun_length, begun_limit, begun_width, begun_told, sources_length, sources_pieces, sources_widths, sources_stand, bins_from}
+use Rattle.lert_rows.specs.Rows.{IsRow}
+
+pub on_ok : {T E : Type 0} (result : Result T E) (P Q : Type 0) → (P → Q) → OnOk result P → OnOk result Q
+on_ok (Ok value) P Q weaker is = weaker is
+on_ok (Err error) P Q weaker is = tt
+
+-- how many streams there are
+pub begun_number : (s : Numbers) (young : List Bin) (rows : List (List BinAt)) (bins : List Stream) → AreBegun s (sources young rows) bins →
+    length bins ≡ streams_to (length young) rows (length rows)
+begun_number s young rows bins begun =
+    begun_length s (sources young rows) bins begun ∙ sources_length young rows
+    ∙ ap (λ rs. length young + sum_by (λ (row : List BinAt). length row) rs) (sym (take_all (length rows) rows (omega arith)))
+
+pub widths_number : (young : List Bin) (rows : List (List BinAt)) → length (widths_of young rows) ≡ streams_to (length young) rows (length rows)
+widths_number young rows =
+    sym (ap (length {A = ℕ}) (sources_widths young rows)) ∙ length-map (sources young rows) width_in ∙ sources_length young rows
+    ∙ ap (λ rs. length young + sum_by (λ (row : List BinAt). length row) rs) (sym (take_all (length rows) rows (omega arith)))
+
+pub begun_wide : (s : Numbers) (young : List Bin) (rows : List (List BinAt)) (bins : List Stream) (k : ℕ) → AreBegun s (sources young rows) bins →
+    limit_at wide_of bins k ≤ get_or (widths_of young rows) k 0
+begun_wide s young rows bins k begun =
+    let width = begun_width s (sources young rows) bins k begun in
+    let same = ap (λ ws. get_or ws k 0) (sources_widths young rows) in
+    omega (arith, width, same)
+
+-- ---- what a merge took
+
+module _ (s : Numbers) (valid : IsValid s) (young : List Bin) (rows : List (List BinAt)) (few : length rows ≤ s.levels)
+    (are : (k : ℕ) → k < length rows → IsRow s (k + 1) (get_or rows k [])) (bins : List Stream) (begun : AreBegun s (sources young rows) bins)
+    (took : List Piece → Type 0) (before : Option Files) (lists : List (List Piece)) (len : length lists ≡ length bins)
+    (given : (k : ℕ) → k < length bins → AreGiven (limit_at limit_of bins k) (get_or lists k []))
+    (fits : (k : ℕ) → k < length bins → total (get_or lists k []) ≤ limit_at wide_of bins k) (totals_are : took (sums_of lists))
+    (told : (all : List (List Piece)) → length all ≡ length bins → ((k : ℕ) → k < length bins → to_come_at before bins k ≡ Some (get_or all k [])) → lists ≡ all) where
+  each_fills : (k : ℕ) → k < length lists → Fills (tail_limit s) (get_or (widths_of young rows) k 0) (get_or lists k [])
+  each_fills k below =
+      let within : k < length bins = omega (arith, below, len) in
+      record {
+        given = subst (λ l. AreGiven l (get_or lists k [])) (begun_limit s (sources young rows) bins k begun within) (given k within);
+        fits = omega (arith, fits k within, begun_wide s young rows bins k begun);
+      }
+
+  told_lists : (file : List ℕ) → IsFrames before file → (held : BinAt → List Piece) → AllStand s file held rows → lists ≡ streams_of young held rows
+  told_lists file here held stand =
+      let there : AllStand s (here.seen FRAMES) held rows = subst (λ (bytes : List ℕ). AllStand s bytes held rows) here.is stand in
+      let hold = sources_stand s (here.seen FRAMES) held young rows few are there in
+      let pieces = sources_pieces held young rows in
+      told (streams_of young held rows)
+      (sym (ap (length {A = List Piece}) pieces) ∙ length-map (sources young rows) (pieces_in held) ∙ sym (begun_length s (sources young rows) bins begun))
+      (λ k below. begun_told s valid (sources young rows) bins k before here.seen held here.told begun hold below ∙ ap (λ (ls : List (List Piece)). Some (get_or ls k [])) pieces)
+
+  pub made_of : (parts : List Part) → IsMade s young rows parts took (IsFrames before) (map (part_table lists) parts)
+  made_of parts = record {
+    lists = lists;
+    bins = bins_from (tail_limit s) (widths_of young rows) lists (len ∙ begun_number s young rows bins begun ∙ sym (widths_number young rows)) each_fills;
+    taken = totals_are;
+    are = refl;
+    told = told_lists;
+  }
+
+-- ---- what it is given
+
+-- some item of a list that has one
+item_at : (landings : List Landing) (k : ℕ) → k < length landings → Landing
+item_at [] k below = absurd (omega (arith, below))
+item_at (l ∷ landings) k below = l
+
+-- parts as they were laid, by other words for the settings and the streams
+pub laid_parts : (s t : Numbers) (m young count : ℕ) (rows : List (List BinAt)) (n : ℕ) (parts : List (Option ℕ)) → t ≡ s → count ≡ young → length rows ≡ n →
+    ArePartsOf t m count rows (streams_to count rows n) n parts → ArePartsOf s m young rows (streams_to young rows (length rows)) (length rows) parts
+laid_parts s t m young count rows n parts settings same number are =
+    subst (λ (k : ℕ). ArePartsOf s m young rows (streams_to young rows k) k parts) (sym number)
+    (subst (λ (y : ℕ). ArePartsOf s m y rows (streams_to y rows n) n parts) same
+    (subst (λ (r : Numbers). ArePartsOf r m count rows (streams_to count rows n) n parts) settings are))
+
+module _ (s : Numbers) (m : ℕ) (young : List Bin) (rows : List (List BinAt)) (reached : AreReached s m young rows) (parts : List (Option ℕ))
+    (of_parts : ArePartsOf s m (length young) rows (streams_to (length young) rows (length rows)) (length rows) parts) (landings : List Landing) (are : AreLandings s landings)
+    (started : AreStarted s m rows landings) (count : length landings ≡ length rows) where
+  pub parts_are : (streams : ℕ) → streams ≡ streams_to (length young) rows (length rows) → AreParts parts streams (length landings)
+  parts_are streams number = record {
+    len = of_parts.len ∙ sym number;
+    within = λ k below. some_streams (get_or parts k None) (get_or parts k None) (λ part. part < length landings) refl
+        (λ part is. omega (arith, (of_parts.no_other k part is).0, count));
+  }
+
+  pub part_fits : (part : ℕ) → part < length landings → sum (picked parts part (widths_of young rows)) ≤ span s (part + 1)
+  part_fits part below =
+      let within : part < length rows = omega (arith, below, count) in
+      subst (λ ws. sum ws ≤ span s (part + 1))
+      (sym (picked_part s m (length young) rows reached.some reached.parts parts (widths_of young rows) 0 of_parts (widths_number young rows) part within)) (reached.fits part within)
+
+  -- a range apart from the rows' new frames is apart from the landings
+  pub apart_landings : (from to : ℕ) → RowsApart s m rows from to → AreApart landings from to
+  apart_landings from to apart k d below =
+      let within : k < length rows = omega (arith, below, count) in
+      let is = are k d below in
+      let l = get_or landings k d in
+      subst (λ (t : Numbers). IsApart t l.writer.level l.frame from to) (sym is.settings)
+      (subst (λ (level : ℕ). IsApart s level l.frame from to) (sym is.level_is)
+      (subst (λ (frame : ℕ). IsApart s (k + 1) frame from to) (sym (started.frame k d within)) (apart k within)))
+
+  pub reads_apart : (bins : List Stream) → AreBegun s (sources young rows) bins → (from to : ℕ) → Reads bins from to → AreApart landings from to
+  reads_apart bins begun from to reads = apart_landings from to (reached.apart from to (begun_reads s young rows bins from to reached.few begun reads))
+
+  -- what stands in the landings' frames are the new bins
+  pub has_made : (took : List Piece → Type 0) (before after : Option Files) (lists : List (List Piece)) → length lists ≡ streams_to (length young) rows (length rows) →
+      IsMade s young rows (parts_at s m (length young) rows) took (IsFrames before) (map (part_table lists) (parts_at s m (length young) rows)) →
+      IfTold after (λ seen. (k : ℕ) (d : Landing) → k < length landings →
+      HoldsFrame s (k + 1) (get_or landings k d).frame (seen FRAMES) (sums_of (picked parts k lists))) →
+      HasMade s m young rows took before after
+  has_made took before after lists number is stand = record {
+    made = map (part_table lists) (parts_at s m (length young) rows);
+    is = is;
+    landed = λ seen told k below. (
+        let within : k < length landings = omega (arith, below, count) in
+        let part_is : get_or (map (part_table lists) (parts_at s m (length young) rows)) k [] ≡ sums_of (picked parts k lists) =
+        made_at lists s m (length young) rows (map (part_table lists) (parts_at s m (length young) rows)) refl k below
+        ∙ ap sums_of (sym (picked_part s m (length young) rows reached.some reached.parts parts lists [] of_parts number k below)) in
+        let some = item_at landings k within in
+        subst (HoldsFrame s (k + 1) (landing_frame s m rows k) (seen FRAMES)) (sym part_is)
+        (subst (λ (frame : ℕ). HoldsFrame s (k + 1) frame (seen FRAMES) (sums_of (picked parts k lists))) (started.frame k some below) (stand seen told k some within)));
+  }

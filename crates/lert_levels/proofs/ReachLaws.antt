@@ -1,0 +1,127 @@
+-- The rows that a flush reaches, and what an answer says of their frames.
+use Rattle.std.proofs.Common.{ℕ, ◌≡◌, ◌+◌, ◌-◌, ◌<◌, ◌≤◌, List, [], length, take, get_or, Option, Some, refl, sym, ◌∙◌, arith, subst, Result, length-take}
+use Rattle.std.specs.Prelude.{Ok, Err, IfErr, OnOk, MatchResult, IsSomeAnd}
+use Rattle.std.specs.List.{All}
+use Rattle.std.proofs.lemmas.Option.{none-some}
+use Rattle.lert_bay.specs.declared.bay.TheConstants.{FRAMES}
+use Rattle.lert_bay.specs.Files.{Files, IfTold, Turns}
+use Rattle.lert_frames.proofs.FrameLaws.{left_is}
+use Rattle.lert_rows.specs.declared.bin_at.BinAt.{BinAt}
+use Rattle.lert_rows.specs.declared.fault.FlushFault.{FlushFault}
+use Rattle.lert_rows.specs.declared.fault.FlushFault.TheVariants.{Failed, Malformed}
+use Rattle.lert_rows.specs.Landing.{LeavesRest, AreApart}
+use Rattle.lert_rows.specs.Loading.{width_of, Stands, AllStand, OneBreaks}
+use Rattle.lert_rows.specs.Rows.{IsAt, IsRow, AreRows, HoldsBins, moved}
+use Rattle.lert_rows.proofs.RangeLaws.{edge_within}
+use Rattle.lert_rows.proofs.RowLaws.{row_among}
+use Rattle.lert_spec.specs.Bins.{Bin}
+use Rattle.lert_spec.specs.Edges.{span, edge, depth, capacity}
+use Rattle.lert_spec.specs.Limits.{IsValid}
+use Rattle.lert_spec.proofs.EdgeLaws.{deepest_within}
+use Rattle.lert_spec.specs.declared.numbers.Numbers.{Numbers}
+use Rattle.lert_spec.specs.declared.piece.Piece.{Piece}
+use Rattle.lert_levels.specs.Flushed.{AreEvents}
+use Rattle.lert_levels.specs.Merged.{IsFrames}
+use Rattle.lert_levels.specs.Ready.{AreReached, HasMade}
+use Rattle.lert_levels.proofs.ArrivalLaws.{part_widths, parts_have}
+use Rattle.lert_levels.proofs.FlushLaws.{made_count, made_new}
+use Rattle.lert_levels.proofs.HoldLaws.{named_apart, written_holds}
+use Rattle.lert_levels.proofs.PlacedLaws.{named_more}
+
+-- what is so of a thing that is held
+pub held : {R : Type 0} (P : R → Type 0) (a b : Option R) (x : R) → IsSomeAnd a P → b ≡ a → b ≡ Some x → P x
+held {R} P a b x is same some = subst (λ (o : Option R). IsSomeAnd o P) (sym same ∙ some) is
+
+-- a fact by other words for the settings and the rows
+pub turned : (P : Numbers → List (List BinAt) → Type 0) (s t : Numbers) (rows others : List (List BinAt)) → t ≡ s → others ≡ rows → P t others → P s rows
+turned P s t rows others settings same is = subst (P s) same (subst (λ (n : Numbers). P n others) settings is)
+
+-- ---- a flush
+
+module _ (s : Numbers) (valid : IsValid s) (m : ℕ) (first : 1 ≤ m) (fits : m ≤ capacity s) (rows : List (List BinAt)) (at : IsAt s (m - 1) rows) (are : AreRows s rows) where
+  pub deep : depth s m ≤ s.levels
+  deep = deepest_within s (omega (arith, valid.limits.base_from)) (omega (arith, valid.limits.ratio_from)) s.levels m
+
+  pub reached_rows : (k : ℕ) → k < length (take (depth s m) rows) → IsRow s (k + 1) (get_or (take (depth s m) rows) k [])
+  reached_rows k below =
+      let less : k < depth s m = omega (arith, below, length-take (depth s m) rows) in
+      subst (IsRow s (k + 1)) (row_among rows (depth s m) k less) (are.each (k + 1) (omega arith) (omega (arith, less, deep)))
+
+  pub reached_count : length (take (depth s m) rows) ≡ depth s m
+  reached_count = omega (arith, length-take (depth s m) rows, are.levels, deep)
+
+  pub reached_few : length (take (depth s m) rows) ≤ s.levels
+  reached_few = omega (arith, length-take (depth s m) rows, deep)
+
+  -- the rows that it reaches make up the new bins
+  pub reached_are : (young : List Bin) → 1 ≤ length young → All (λ (bin : Bin). bin.to - bin.from ≤ span s 0) young → AreReached s m young (take (depth s m) rows)
+  reached_are young some narrow = record {
+    some = some;
+    narrow = narrow;
+    few = reached_few;
+    are = reached_rows;
+    parts = parts_have s valid m first fits rows at;
+    fits = λ k below. part_widths s valid m first fits rows at young some narrow k (omega (arith, below, length-take (depth s m) rows));
+    apart = λ from to inside. named_apart s m rows are (depth s m) deep from to (named_more s rows (depth s m) from to are.levels inside);
+  }
+
+  -- where the new bins stand, the frames hold the bins of the rows as they are then
+  pub has_moved : (young : List Bin) (took : List Piece → Type 0) (before after : Option Files) → HasMade s m young (take (depth s m) rows) took before after →
+      Turns (LeavesRest (AreApart s m (take (depth s m) rows))) before after → (seen : Files) → before ≡ Some seen → (events : List ℕ) →
+      AreEvents (record { settings = s; rows = rows }) m young events (seen FRAMES) →
+      IfTold after (λ then. HoldsBins s events (moved s m rows) (then FRAMES))
+  has_moved young took before after has turns seen told events of = λ then then_told. (
+      let news = made_new s valid m first fits rows at young took (IsFrames before) has.made has.is (seen FRAMES) events (record { seen = seen; told = told; is = refl }) are of in
+      let count = made_count s valid m first fits rows at young took (IsFrames before) has.made has.is in
+      written_holds {E = FlushFault} (Ok (tt {0})) s m rows has.made before after valid are.levels are count
+      (record {
+        told = λ old old_told. (let step = turns.told old old_told in (
+          step.0,
+          step.1,
+          record {
+            others = step.2.others;
+            longer = step.2.longer;
+            rest = λ from to inside within. step.2.rest from to (named_apart s m rows are (depth s m) deep from to inside) within;
+          },
+        ));
+        untold = turns.untold;
+      })
+      (λ last last_told k below. has.landed last last_told k (omega (arith, below, reached_count)))
+      seen told events of.held news then then_told)
+
+-- level 0 has a bin before a flush
+pub young_some : (s : Numbers) (m from to : ℕ) → 1 ≤ m → from ≡ edge s 0 (m - 1) → to ≡ m → from < to
+young_some s m from to first from_is to_is = omega (arith, edge_within s 0 (m - 1), from_is, to_is, first)
+
+-- ---- frames that stand don't break
+
+pub no_break : (s : Numbers) (valid : IsValid s) (rows : List (List BinAt)) (file : List ℕ) (hold : BinAt → List Piece) (at : ℕ) → length rows ≤ s.levels →
+    ((k : ℕ) → k < length rows → IsRow s (k + 1) (get_or rows k [])) → AllStand s file hold rows → OneBreaks s rows file at → ⊥
+no_break s valid rows file hold at few are stand breaks =
+    let bin = breaks.breaks.bin in
+    let named = breaks.breaks.named in
+    let k = breaks.number in
+    let below = breaks.within in
+    let stands : Stands s (k + 1) file hold bin = subst (Stands s (k + 1) file hold) named.2 (stand k below named.0 bin named.1) in
+    let narrow : width_of bin ≤ span s (k + 1) = subst (λ (b : BinAt). width_of b ≤ span s (k + 1)) named.2 ((are k below).widths named.0 bin named.1) in
+    none-some at (sym (left_is s (k + 1) bin.frame (width_of bin) file (hold bin) valid (omega (arith, below, few)) narrow stands.are stands.text) ∙ breaks.breaks.breaks.left)
+
+-- where no frame is malformed, only a call failed
+pub sound_by : {T : Type 0} (result : Result T FlushFault) → ((at : ℕ) → result ≡ Err (Malformed at) → ⊥) → IfErr result (λ fault. fault ≡ Failed)
+sound_by (Ok value) never = tt
+sound_by (Err Failed) never = refl
+sound_by (Err (Malformed at)) never = absurd (never at refl)
+
+pub matched_by : {T : Type 0} (P : T → Type 0) (result : Result T FlushFault) → ((value : T) → result ≡ Ok value → P value) → ((at : ℕ) → result ≡ Err (Malformed at) → ⊥) →
+    MatchResult result P (λ fault. fault ≡ Failed)
+matched_by P (Ok value) ok never = ok value refl
+matched_by P (Err Failed) ok never = refl
+matched_by P (Err (Malformed at)) ok never = absurd (never at refl)
+
+pub at_ok : {T : Type 0} (P : Type 0) (result : Result T FlushFault) (value : T) → result ≡ Ok value → OnOk result P → P
+at_ok P (Ok other) value is on = on
+at_ok P (Err fault) value is on = absurd (cc)
+
+pub failed_by : (fault : FlushFault) → ((at : ℕ) → fault ≡ Malformed at → ⊥) → fault ≡ Failed
+failed_by Failed never = refl
+failed_by (Malformed at) never = absurd (never at refl)

@@ -1,0 +1,134 @@
+use Rattle.std.proofs.Common.{◌≡◌, ◌-◌, ◌≤◌, ◌∙◌, ◌++◌, List, map, take, drop, length, ap, sym, subst, arith}
+use Rattle.std.specs.Prelude.{OnOk}
+use Rattle.lert_bay.specs.declared.bay.TheConstants.{FRAMES}
+use Rattle.lert_bay.specs.Kept.{Bays}
+use Rattle.lert_landing.specs.Landings.{AreLandings}
+use Rattle.lert_landing.specs.declared.landing.Landing.{Landing}
+use Rattle.lert_rows.specs.declared.bin_at.BinAt.{BinAt}
+use Rattle.lert_rows.specs.Landing.{AreApart, KeepsRest}
+use Rattle.lert_rows.specs.Loading.{OneBreaks}
+use Rattle.lert_rows.specs.Rows.{AreRows}
+use Rattle.lert_rows.proofs.MoveLaws.{written_back}
+use Rattle.lert_spec.specs.Edges.{depth, span}
+use Rattle.lert_spec.specs.Bins.{Bin}
+use Rattle.std.specs.List.{All}
+use Rattle.lert_spec.specs.Limits.{IsValid}
+use Rattle.lert_spec.specs.declared.numbers.Numbers.{Numbers}
+use Rattle.lert_levels.specs.OnDisk.{OnDisk}
+use Rattle.lert_levels.specs.Ready.{AreReached, HasMade}
+use Rattle.lert_levels.proofs.LevelLaws.{reached_rows}
+use Rattle.lert_levels.proofs.ReachLaws.{held, turned, reached_are, young_some}
+use Rattle.lert_levels.proofs.levels.Levels.land.Given as given
+use Rattle.lert_levels.proofs.levels.Levels.land.Goals as goal
+
+abbrev bays : (g : given.Over) → Bays g.row.B.Denot
+bays g = record { faults = g.B.Faulty.faults; mark = g.B.Faulty.mark; files = g.B.Bay.files; leaves = g.B.Bay.leaves; moment = g.B.Bay.moment; left_since = g.B.Bay.left_since }
+
+pub land_rows-reading-requires-clause-landings : goal.land_rows-reading-requires-clause-landings
+land_rows-reading-requires-clause-landings g c =
+    subst (λ (ls : List Landing). AreLandings c.args.zero.now.settings ls) (sym c.deref_mut.ensures.value)
+    (subst (λ (t : Numbers). AreLandings t c.self.inside.writing.landings.items) (ap (λ (v : OnDisk). v.settings) c.self.view_is ∙ sym c.requires.same) c.self.invariant.2.of_levels)
+
+pub land_rows-reading-requires-clause-reached : goal.land_rows-reading-requires-clause-reached
+land_rows-reading-requires-clause-reached g c =
+    let s = c.args.self.now.settings in
+    let t = c.args.zero.now.settings in
+    let m = c.args.m in
+    let rows = c.args.self.now.rows in
+    let young = c.args.zero.now.bins in
+    let settings_is : c.self.inside.settings ≡ s = ap (λ (v : OnDisk). v.settings) c.self.view_is in
+    let depth_is : c.depth-depth.result ≡ depth s m = c.depth-depth.ensures.value ∙ ap (λ (n : Numbers). depth n m) settings_is in
+    let lent = map (λ row. row.items) (take c.depth-depth.result c.deref.result.now) in
+    let lent_is : lent ≡ take (depth s m) rows =
+    reached_rows (λ row. row.items) c.self.inside.settings c.self.inside.rows.items c.deref.result.now c.args.self.now c.self.view_is c.deref.ensures.value c.depth-depth.result
+    ∙ ap (λ d. take d rows) depth_is in
+    let valid : IsValid s = subst IsValid (c.numbers-valid.ensures.value ∙ settings_is) c.numbers-valid.ensures.valid in
+    let are : AreRows s rows = subst (λ (v : OnDisk). AreRows v.settings v.rows) c.self.view_is c.self.invariant.0.are in
+    let some = c.tables-tables.ensures.some (young_some s m c.args.zero.now.from c.args.zero.now.to c.requires.first c.requires.from c.requires.to) in
+    let narrow = subst (λ (n : Numbers). All (λ (bin : Bin). bin.to - bin.from ≤ span n 0) young) c.requires.same c.tables-tables.ensures.narrow in
+    subst (λ (rs : List (List BinAt)). AreReached t m young rs) (sym lent_is)
+    (subst (λ (n : Numbers). AreReached n m young (take (depth s m) rows)) (sym c.requires.same)
+    (reached_are s valid m c.requires.first c.requires.last rows c.requires.at are young some narrow))
+
+pub invariant_of-self : goal.invariant_of-self
+invariant_of-self g c =
+    let inside = c.self.inside.settings in
+    let settings_is : c.args.zero.now.settings ≡ inside = c.requires.same ∙ sym (ap (λ (v : OnDisk). v.settings) c.self.view_is) in
+    let e = c.land_rows-reading.ensures in
+    let new = c.land_rows-reading.new.landings in
+    let all = c.self.inside.writing.landings.items in
+    let count : length new ≡ length all = e.count ∙ ap (length {A = Landing}) c.deref_mut.ensures.value in
+    let len : c.self.inside.writing.landings.len ≡ length new = omega (arith, count, c.deref_mut.ensures.len, ap (length {A = Landing}) c.deref_mut.ensures.value) in
+    let back : take c.self.inside.writing.landings.len (new ++ drop (length new) all) ≡ new = written_back c.self.inside.writing.landings.len new all (omega (arith, len, count)) in
+    let before = held _ c.self.inside.reading c.take.result c.in-Some.reading c.self.invariant.1 c.take.ensures.value c.in-Some.is in (
+      c.self.invariant.0,
+      (e.room ∙ settings_is, omega (arith, e.ahead, before.1)),
+      record {
+        of_levels = subst (AreLandings inside) (sym back) (subst (λ (t : Numbers). AreLandings t new) settings_is e.landings);
+        count = ap (length {A = Landing}) back ∙ count ∙ c.self.invariant.2.count;
+        room = omega (arith, c.self.invariant.2.room, e.parts);
+      },
+    )
+
+pub returns-clause-made : goal.returns-clause-made
+returns-clause-made g c =
+    let s = c.args.self.now.settings in
+    let t = c.args.zero.now.settings in
+    let m = c.args.m in
+    let rows = c.args.self.now.rows in
+    let young = c.args.zero.now.bins in
+    let settings_is : c.self.inside.settings ≡ s = ap (λ (v : OnDisk). v.settings) c.self.view_is in
+    let depth_is : c.depth-depth.result ≡ depth s m = c.depth-depth.ensures.value ∙ ap (λ (n : Numbers). depth n m) settings_is in
+    let lent = map (λ row. row.items) (take c.depth-depth.result c.deref.result.now) in
+    let lent_is : lent ≡ take (depth s m) rows =
+    reached_rows (λ row. row.items) c.self.inside.settings c.self.inside.rows.items c.deref.result.now c.args.self.now c.self.view_is c.deref.ensures.value c.depth-depth.result
+    ∙ ap (λ d. take d rows) depth_is in
+    let took = g.O.Totals.took c.land_rows-reading.new.totals in
+    let before = g.B.Bay.files c.args.bay.now in
+    let after = g.B.Bay.files c.land_rows-reading.new.bay in
+    turned (λ n rs. OnOk c.land_rows-reading.result.1 (HasMade n m young rs took before after)) s t (take (depth s m) rows) lent c.requires.same lent_is c.land_rows-reading.ensures.made
+
+pub returns-clause-malformed : goal.returns-clause-malformed
+returns-clause-malformed g c seen told at is =
+    let s = c.args.self.now.settings in
+    let t = c.args.zero.now.settings in
+    let m = c.args.m in
+    let rows = c.args.self.now.rows in
+    let young = c.args.zero.now.bins in
+    let settings_is : c.self.inside.settings ≡ s = ap (λ (v : OnDisk). v.settings) c.self.view_is in
+    let depth_is : c.depth-depth.result ≡ depth s m = c.depth-depth.ensures.value ∙ ap (λ (n : Numbers). depth n m) settings_is in
+    let lent = map (λ row. row.items) (take c.depth-depth.result c.deref.result.now) in
+    let lent_is : lent ≡ take (depth s m) rows =
+    reached_rows (λ row. row.items) c.self.inside.settings c.self.inside.rows.items c.deref.result.now c.args.self.now c.self.view_is c.deref.ensures.value c.depth-depth.result
+    ∙ ap (λ d. take d rows) depth_is in
+    turned (λ n rs. OneBreaks n rs (seen FRAMES) at) s t (take (depth s m) rows) lent c.requires.same lent_is (c.land_rows-reading.ensures.malformed seen told at is)
+
+pub returns-clause-malformed_after : goal.returns-clause-malformed_after
+returns-clause-malformed_after g c seen told at is =
+    let s = c.args.self.now.settings in
+    let t = c.args.zero.now.settings in
+    let m = c.args.m in
+    let rows = c.args.self.now.rows in
+    let young = c.args.zero.now.bins in
+    let settings_is : c.self.inside.settings ≡ s = ap (λ (v : OnDisk). v.settings) c.self.view_is in
+    let depth_is : c.depth-depth.result ≡ depth s m = c.depth-depth.ensures.value ∙ ap (λ (n : Numbers). depth n m) settings_is in
+    let lent = map (λ row. row.items) (take c.depth-depth.result c.deref.result.now) in
+    let lent_is : lent ≡ take (depth s m) rows =
+    reached_rows (λ row. row.items) c.self.inside.settings c.self.inside.rows.items c.deref.result.now c.args.self.now c.self.view_is c.deref.ensures.value c.depth-depth.result
+    ∙ ap (λ d. take d rows) depth_is in
+    turned (λ n rs. OneBreaks n rs (seen FRAMES) at) s t (take (depth s m) rows) lent c.requires.same lent_is (c.land_rows-reading.ensures.malformed_after seen told at is)
+
+pub returns-clause-rest : goal.returns-clause-rest
+returns-clause-rest g c =
+    let s = c.args.self.now.settings in
+    let t = c.args.zero.now.settings in
+    let m = c.args.m in
+    let rows = c.args.self.now.rows in
+    let young = c.args.zero.now.bins in
+    let settings_is : c.self.inside.settings ≡ s = ap (λ (v : OnDisk). v.settings) c.self.view_is in
+    let depth_is : c.depth-depth.result ≡ depth s m = c.depth-depth.ensures.value ∙ ap (λ (n : Numbers). depth n m) settings_is in
+    let lent = map (λ row. row.items) (take c.depth-depth.result c.deref.result.now) in
+    let lent_is : lent ≡ take (depth s m) rows =
+    reached_rows (λ row. row.items) c.self.inside.settings c.self.inside.rows.items c.deref.result.now c.args.self.now c.self.view_is c.deref.ensures.value c.depth-depth.result
+    ∙ ap (λ d. take d rows) depth_is in
+    turned (λ n rs. KeepsRest (bays g) (AreApart n m rs) c.args.bay.now c.land_rows-reading.new.bay) s t (take (depth s m) rows) lent c.requires.same lent_is c.land_rows-reading.ensures.rest

@@ -1,0 +1,16 @@
+use Rattle.std.proofs.Common.{ℕ, ◌≡◌, ◌<◌, List, [], length, map, get_or}
+use Rattle.lert_landing.specs.Landed.{taken, IsLanding}
+use Rattle.lert_landing.specs.Landings.{AreLandings}
+use Rattle.lert_landing.specs.declared.landing.Landing.{Landing}
+use Rattle.lert_rows.specs.Landing.{landing_frame}
+use Rattle.lert_levels.proofs.merger.start_landings.Given as goal
+
+-- the landings so far begin at their frames
+abbrev pub invariant-loop-lower : goal.invariant-loop-lower
+invariant-loop-lower l = record {
+  len : length l.landings ≡ length l.fn.landings;
+  started : (k : ℕ) (d : Landing) → k < l.lower →
+      ((get_or l.landings k d).frame ≡ landing_frame l.settings l.m (map (λ row. row.items) l.rows) k) × (taken (get_or l.landings k d) ≡ [])
+      × ((file : List ℕ) → IsLanding (get_or l.landings k d) file);
+  landings : AreLandings l.settings l.landings;
+}

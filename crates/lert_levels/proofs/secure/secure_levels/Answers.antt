@@ -1,0 +1,69 @@
+use Rattle.std.proofs.Common.{◌+◌, ◌<◌, ◌≤◌, ◌∙◌, length, map, subst, sym, arith}
+use Rattle.std.proofs.lemmas.List.{take_all, length-map}
+use Rattle.std.proofs.lemmas.Result.{err_from_is_err_and}
+use Rattle.lert_bay.specs.declared.bay.TheConstants.{FRAMES}
+use Rattle.lert_bay.proofs.KeptLaws.{IsLawful, reads_on, reads_as}
+use Rattle.lert_frames.proofs.WriteLaws.{same_err}
+use Rattle.lert_spec.specs.declared.numbers.Numbers.{Numbers}
+use Rattle.lert_rows.specs.Loading.{RowBreaks}
+use Rattle.lert_rows.specs.Rows.{IsRow}
+use Rattle.lert_rows.proofs.ReadLaws.{row_here, hand_to, hand_from}
+use Rattle.lert_levels.specs.Sources.{of_bin, placed_at, AllOf, IsSecure, AreSecure}
+use Rattle.lert_levels.proofs.PlacedLaws.{rows_more}
+use Rattle.lert_levels.proofs.secure.secure_levels.Given as given
+use Rattle.lert_levels.proofs.secure.secure_levels.Invariants.{bays}
+use Rattle.lert_levels.proofs.secure.secure_levels.Goals as goal
+
+lawful : (g : given.Over) → IsLawful (bays g)
+lawful g = record { as_read = g.met.B.Bay.as_read; since_now = g.met.B.Bay.since_now; only_now = g.met.B.Bay.only_now; since_earlier = g.met.B.Bay.since_earlier }
+
+pub secure_row-requires-clause-last : goal.secure_row-requires-clause-last
+secure_row-requires-clause-last g c =
+    subst (λ (s : Numbers). c.loop-lower.lower + 1 ≤ s.levels) (sym c.loop-lower.invariant.room) (omega (arith, c.requires.few, c.loop-lower-test.true))
+
+pub secure_row-requires-clause-row : goal.secure_row-requires-clause-row
+secure_row-requires-clause-row g c =
+    let i = c.loop-lower.lower in
+    let rows = map (λ row. row.items) c.args.rows.now in
+    let here = row_here (λ row. row.items) c.args.rows.now i c.index-rows-lower.result c.deref.result.now c.loop-lower-test.true c.index-rows-lower.is c.deref.ensures.value in
+    hand_to (λ t row. IsRow t (i + 1) row) c.args.settings.now _ rows i c.deref.result.now here c.loop-lower.invariant.room (c.requires.rows i c.loop-lower-test.true)
+
+pub loop-lower-preserved : goal.loop-lower-preserved
+loop-lower-preserved g c =
+    let i = c.loop-lower.lower in
+    let s = c.args.settings.now in
+    let rows = map (λ row. row.items) c.args.rows.now in
+    let now = c.deref.result.now in
+    let here = row_here (λ row. row.items) c.args.rows.now i c.index-rows-lower.result now c.loop-lower-test.true c.index-rows-lower.is c.deref.ensures.value in
+    let below : i < length rows = omega (arith, c.loop-lower-test.true, length-map c.args.rows.now (λ row. row.items)) in
+    let is = c.loop-lower.invariant in
+    let e = c.in_ok-secure_row.ensures in
+    record {
+      secure = λ seen told long.
+          rows_more (IsSecure s (seen FRAMES)) rows i now here below (is.secure seen told long)
+          (subst (λ (t : Numbers). AllOf (IsSecure t (seen FRAMES)) (map of_bin (map (placed_at (i + 1)) now))) is.room (e.secure seen (is.only_reads.seen ∙ told) long));
+      room = e.room ∙ is.room;
+      only_reads = reads_on (bays g) (lawful g) c.args.bay.now c.loop-lower.bay c.secure_row.new.bay ⊥ ⊥ is.only_reads
+          (reads_as (bays g) (lawful g) c.loop-lower.bay c.secure_row.new.bay _ ⊥ (λ none. absurd none) e.only_reads);
+    }
+
+pub returns-in_err-secure_row-clause-malformed : goal.returns-in_err-secure_row-clause-malformed
+returns-in_err-secure_row-clause-malformed g c seen told at =
+    let i = c.loop-lower.lower in
+    let s = c.args.settings.now in
+    let rows = map (λ row. row.items) c.args.rows.now in
+    let now = c.deref.result.now in
+    let here = row_here (λ row. row.items) c.args.rows.now i c.index-rows-lower.result now c.loop-lower-test.true c.index-rows-lower.is c.deref.ensures.value in
+    let p = err_from_is_err_and c.from_residual.result c.from_residual.ensures.1 in
+    rw (p.1, p.2) (λ broken. record {
+      number = i;
+      within = omega (arith, c.loop-lower-test.true, length-map c.args.rows.now (λ row. row.items));
+      breaks = hand_from (λ t row. RowBreaks t (i + 1) row (seen FRAMES) at) s _ rows i now here c.loop-lower.invariant.room
+          (c.in_err-secure_row.ensures.malformed seen (c.loop-lower.invariant.only_reads.seen ∙ told) at (same_err _ _ broken));
+    })
+
+pub returns-clause-secure : goal.returns-clause-secure
+returns-clause-secure g c seen told long =
+    subst (AreSecure c.args.settings.now (seen FRAMES) 1)
+    (take_all c.loop-lower.lower (map (λ row. row.items) c.args.rows.now) (omega (arith, c.loop-lower-test.false, length-map c.args.rows.now (λ row. row.items))))
+    (c.loop-lower.invariant.secure seen told long)

@@ -1,0 +1,65 @@
+use Rattle.std.proofs.Common.{ℕ, ◌≡◌, ◌+◌, ◌≤◌, ◌∙◌, ◌⊎◌, Some, None, get_or, length, map, subst}
+use Rattle.std.proofs.lemmas.List.{take_all}
+use Rattle.std.proofs.lemmas.List.Elements.{Contains-get_or}
+use Rattle.std.proofs.lemmas.Result.{err_from_is_err_and}
+use Rattle.lert_bay.specs.declared.bay.TheConstants.{FRAMES}
+use Rattle.lert_bay.proofs.KeptLaws.{IsLawful, reads_on, reads_as}
+use Rattle.lert_frames.specs.Frame.{frame_left}
+use Rattle.lert_frames.specs.Place.{frame_place, frame_len}
+use Rattle.lert_frames.proofs.WriteLaws.{same_err}
+use Rattle.lert_spec.specs.declared.numbers.Numbers.{Numbers}
+use Rattle.lert_rows.specs.declared.bin_at.BinAt.{BinAt}
+use Rattle.lert_rows.specs.Loading.{width_of}
+use Rattle.lert_levels.specs.Sources.{of_bin, placed_at, AllOf, IsSecure}
+use Rattle.lert_levels.proofs.PlacedLaws.{row_more}
+use Rattle.lert_levels.proofs.secure.secure_row.Given as given
+use Rattle.lert_levels.proofs.secure.secure_row.Invariants.{bays}
+use Rattle.lert_levels.proofs.secure.secure_row.Goals as goal
+
+lawful : (g : given.Over) → IsLawful (bays g)
+lawful g = record { as_read = g.met.B.Bay.as_read; since_now = g.met.B.Bay.since_now; only_now = g.met.B.Bay.only_now; since_earlier = g.met.B.Bay.since_earlier }
+
+abbrev nothing : BinAt
+nothing = record { from = 0; to = 0; frame = 0 }
+
+pub loop-bin-preserved : goal.loop-bin-preserved
+loop-bin-preserved g c =
+    let is = c.loop-bin.invariant in
+    let e = c.in_ok-secure.ensures in
+    let i = c.loop-bin.bin-index in
+    let s = c.args.room.now in
+    let level = c.args.level in
+    let bin = get_or c.args.row.now i nothing in
+    record {
+      secure = λ seen told long.
+          row_more (IsSecure s (seen FRAMES)) level c.args.row.now i nothing c.loop-bin-test.true (is.secure seen told long)
+          (subst (λ (frame : ℕ). (frame_place s level frame + frame_len s level ≤ length (seen FRAMES)) ⊎ (frame_left s level frame (width_of bin) (seen FRAMES) ≡ None)) c.from.ensures
+          (subst (λ (t : Numbers). (frame_place t level c.from.result + frame_len t level ≤ length (seen FRAMES)) ⊎ (frame_left t level c.from.result (width_of bin) (seen FRAMES) ≡ None)) is.room
+          (e.secured seen (is.only_reads.seen ∙ told) long)));
+      room = e.settings ∙ is.room;
+      only_reads = reads_on (bays g) (lawful g) c.args.bay.now c.loop-bin.bay c.secure.new.bay ⊥ ⊥ is.only_reads
+          (reads_as (bays g) (lawful g) c.loop-bin.bay c.secure.new.bay _ ⊥ (λ none. absurd none) e.only_reads);
+    }
+
+pub returns-in_err-secure-clause-malformed : goal.returns-in_err-secure-clause-malformed
+returns-in_err-secure-clause-malformed g c seen told at =
+    let p = err_from_is_err_and c.from_residual.result c.from_residual.ensures.1 in
+    let is = c.loop-bin.invariant in
+    let i = c.loop-bin.bin-index in
+    let s = c.args.room.now in
+    let level = c.args.level in
+    let bin = get_or c.args.row.now i nothing in
+    rw (p.1, p.2) (λ broken. record {
+      bin = bin;
+      named = Contains-get_or c.args.row.now i nothing c.loop-bin-test.true;
+      breaks = record {
+        left = subst (λ (frame : ℕ). frame_left s level frame (width_of bin) (seen FRAMES) ≡ Some at) c.from.ensures
+            (subst (λ (t : Numbers). frame_left t level c.from.result (width_of bin) (seen FRAMES) ≡ Some at) is.room
+            (c.in_err-secure.ensures.malformed seen (is.only_reads.seen ∙ told) at (same_err _ _ broken)));
+      };
+    })
+
+pub returns-clause-secure : goal.returns-clause-secure
+returns-clause-secure g c seen told long =
+    subst (λ row. AllOf (IsSecure c.args.room.now (seen FRAMES)) (map of_bin (map (placed_at c.args.level) row))) (take_all c.loop-bin.bin-index c.args.row.now c.loop-bin-test.false)
+    (c.loop-bin.invariant.secure seen told long)

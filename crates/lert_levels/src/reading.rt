@@ -1,0 +1,45 @@
+//! The streams of a flush: level 0 and some of the levels on disk.
+
+ghost use Rattle.std.specs.Prelude.{◌≡◌, ℕ, ◌+◌, ◌*◌, ◌<◌, ◌≤◌, ◌++◌, List, [], ◌∷◌, length, map, slice_index_or};
+ghost use Rattle.lert_rows.specs.Rows.{IsRow};
+ghost use Rattle.lert_levels.specs.Sources.{Source, of_bin, placed, placed_at, AreBegun};
+
+use lert_base::{CountTable, Settings};
+use lert_rows::BinAt;
+use lert_streams::BinStreams;
+
+/// Begins the frames of the rows' bins behind the other streams, from level 1 on, each level's oldest first. It reads nothing.
+pub fn read_rows<T: CountTable>(
+    settings: &Settings,
+    rows: &[Vec<BinAt>],
+    streams: &mut BinStreams<T>,
+)
+    requires same { streams.old.settings ≡ settings.now }
+    requires few { length rows.now ≤ settings.now.levels }
+    requires rows { (k : ℕ) → k < length rows.now → IsRow settings.now (k + 1) (slice_index_or (map (λ row. row.items) rows.now) k []) }
+    requires spare { settings.now.bins * settings.now.levels ≤ streams.old.spare }
+    ensures begun { (before : List Source) → AreBegun settings.now before streams.old.bins →
+        AreBegun settings.now (before ++ map of_bin (placed 1 (map (λ row. row.items) rows.now))) streams.new.bins }
+    ensures settings { streams.new.settings ≡ settings.now }
+{
+    let _valid = settings.numbers();
+    for (lower, row) in rows.iter().enumerate() {
+        read_row(streams, lower as u32 + 1, row);
+    }
+}
+
+// Begins the frames of a level's row.
+fn read_row<T: CountTable>(streams: &mut BinStreams<T>, level: u32, row: &[BinAt])
+    requires first { 1 ≤ level }
+    requires last { level ≤ streams.old.settings.levels }
+    requires row { IsRow streams.old.settings level row.now }
+    requires spare { length row.now ≤ streams.old.spare }
+    ensures begun { (before : List Source) → AreBegun streams.old.settings before streams.old.bins →
+        AreBegun streams.old.settings (before ++ map of_bin (map (placed_at level) row.now)) streams.new.bins }
+    ensures settings { streams.new.settings ≡ streams.old.settings }
+    ensures spare { streams.new.spare + length row.now ≡ streams.old.spare }
+{
+    for bin in row {
+        streams.read(level, u32::from(bin.frame), bin.to - bin.from);
+    }
+}

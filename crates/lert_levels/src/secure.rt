@@ -1,0 +1,83 @@
+//! Frames that are made sure of before a flush writes anything.
+
+ghost use Rattle.std.specs.Prelude.{◌≡◌, ℕ, ◌+◌, ◌<◌, ◌≤◌, [], length, map, OnOk, IsErrOf, slice_index_or};
+ghost use Rattle.lert_bay.specs.declared.bay.TheConstants.{FRAMES};
+ghost use Rattle.lert_bay.specs.Files.{IfTold};
+ghost use Rattle.lert_bay.specs.Kept.{OnlyReads};
+ghost use Rattle.lert_rows.specs.Loading.{OneBreaks, RowBreaks};
+ghost use Rattle.lert_rows.specs.Rows.{IsRow};
+ghost use Rattle.lert_levels.specs.Sources.{of_bin, placed_at, AllOf, IsSecure, AreSecure};
+
+use lert_base::{CountTable, PieceFault, Settings};
+use lert_bay::{Bay, FRAMES};
+use lert_rows::{BinAt, FlushFault};
+use lert_streams::StreamRoom;
+
+/// Makes sure of the frames of the rows' bins: each that the file of frames hasn't wholly is read to its end. So a frame that is
+/// cut at the file's end is found while nothing is written. It changes no file and takes no memory.
+pub fn secure_rows<T: CountTable, B: Bay>(
+    settings: &Settings,
+    rows: &[Vec<BinAt>],
+    room: &mut StreamRoom<T>,
+    bay: &mut B,
+) -> Result<(), FlushFault>
+    requires same { room.old ≡ settings.now }
+    requires few { length rows.now ≤ settings.now.levels }
+    requires rows { (k : ℕ) → k < length rows.now → IsRow settings.now (k + 1) (slice_index_or (map (λ row. row.items) rows.now) k []) }
+    ensures secure { IfTold (B.files bay.old) (λ seen. OnOk result (AreSecure settings.now (seen FRAMES) 1 (map (λ row. row.items) rows.now))) }
+    ensures malformed { IfTold (B.files bay.old) (λ seen. (at : ℕ) → IsErrOf result (FlushFault.Malformed at) →
+        OneBreaks settings.now (map (λ row. row.items) rows.now) (seen FRAMES) at) }
+    ensures room { room.new ≡ settings.now }
+    ensures only_reads { OnlyReads B.Bay bay.old bay.new (IsErrOf result FlushFault.Failed) }
+{
+    let len = bay.len(FRAMES)?;
+    secure_levels(settings, rows, room, len, bay)?;
+    Ok(())
+}
+
+// The same for a file of at least so many bytes.
+fn secure_levels<T: CountTable, B: Bay>(
+    settings: &Settings,
+    rows: &[Vec<BinAt>],
+    room: &mut StreamRoom<T>,
+    len: u64,
+    bay: &mut B,
+) -> Result<(), PieceFault>
+    requires same { room.old ≡ settings.now }
+    requires few { length rows.now ≤ settings.now.levels }
+    requires rows { (k : ℕ) → k < length rows.now → IsRow settings.now (k + 1) (slice_index_or (map (λ row. row.items) rows.now) k []) }
+    ensures secure { IfTold (B.files bay.old) (λ seen. len ≤ length (seen FRAMES) → OnOk result (AreSecure settings.now (seen FRAMES) 1 (map (λ row. row.items) rows.now))) }
+    ensures malformed { IfTold (B.files bay.old) (λ seen. (at : ℕ) → IsErrOf result (PieceFault.Malformed at) →
+        OneBreaks settings.now (map (λ row. row.items) rows.now) (seen FRAMES) at) }
+    ensures room { room.new ≡ settings.now }
+    ensures only_reads { OnlyReads B.Bay bay.old bay.new (IsErrOf result PieceFault.Failed) }
+{
+    let _valid = settings.numbers();
+    for (lower, row) in rows.iter().enumerate() {
+        secure_row(room, lower as u32 + 1, row, len, bay)?;
+    }
+    Ok(())
+}
+
+// The same for a level's row.
+fn secure_row<T: CountTable, B: Bay>(
+    room: &mut StreamRoom<T>,
+    level: u32,
+    row: &[BinAt],
+    len: u64,
+    bay: &mut B,
+) -> Result<(), PieceFault>
+    requires first { 1 ≤ level }
+    requires last { level ≤ room.old.levels }
+    requires row { IsRow room.old level row.now }
+    ensures secure { IfTold (B.files bay.old) (λ seen. len ≤ length (seen FRAMES) → OnOk result (AllOf (IsSecure room.old (seen FRAMES)) (map of_bin (map (placed_at level) row.now)))) }
+    ensures malformed { IfTold (B.files bay.old) (λ seen. (at : ℕ) → IsErrOf result (PieceFault.Malformed at) →
+        RowBreaks room.old level row.now (seen FRAMES) at) }
+    ensures room { room.new ≡ room.old }
+    ensures only_reads { OnlyReads B.Bay bay.old bay.new (IsErrOf result PieceFault.Failed) }
+{
+    for bin in row {
+        room.secure(bay, len, level, u32::from(bin.frame), bin.to - bin.from)?;
+    }
+    Ok(())
+}

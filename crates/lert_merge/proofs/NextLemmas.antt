@@ -1,0 +1,189 @@
+-- A refusal, turns behind one another, and what they say of the next piece.
+use Rattle.std.proofs.Common.{◌≡◌, ℕ, ◌<◌, ◌≤◌, false, Option, Some, None, Result, Ok, Err, OnOk, IfSome, List, [], ◌++◌, length, get_or, arith, sym}
+use Rattle.std.proofs.Common.{ap, ◌∙◌, refl, subst, append-nil}
+use Rattle.lert_base.specs.declared.pieces.PieceFault.{PieceFault}
+use Rattle.lert_io.specs.Fault.{HasRisen}
+use Rattle.lert_io.proofs.Rising.{risen_since}
+use Rattle.lert_spec.specs.declared.piece.Piece.{Piece}
+use Rattle.lert_order.specs.Ordering.{Ordering, AreKnown, AreSame, Breaks, HasTaken as OrderHasTaken}
+use Rattle.lert_order.specs.declared.streams.Streams.{Ghosts as StreamsOf}
+use Rattle.lert_order.proofs.AskLemmas.{AreLawful}
+use Rattle.lert_order.proofs.FrontLemmas.{pieces_none}
+use Rattle.lert_order.proofs.StepLemmas.{known_on}
+use Rattle.lert_order.proofs.ToldLemmas.{are_over}
+use Rattle.lert_merge.specs.declared.merge.Turn.{Turn}
+use Rattle.lert_merge.specs.declared.merge.Turn.TheVariants.{Taken, Given}
+use Rattle.lert_merge.specs.Givers.{share_in, AreGivers}
+use Rattle.lert_merge.specs.Merging.{Merging, IsMerging, AreEnded, HasTaken, Keeps, Gives, Moves, HasTurned, taken_of}
+use Rattle.lert_merge.proofs.GiverLemmas.{share_none}
+
+-- the clauses of a step that was refused
+pub record IsRefused {S C : Type 0} (members : StreamsOf S C) (faults mark : C → ℕ) (a : C) (x : Ordering S) (b : C) (y : Ordering S) (fault : PieceFault) : Type 0 where
+  pub taken : (k : ℕ) (pieces : List Piece) → k < members.count x.streams → OrderHasTaken members x k pieces → OrderHasTaken members y k pieces
+  pub untold : (k : ℕ) → k < members.count x.streams → members.to_come x.streams k a ≡ None → members.to_come y.streams k b ≡ None
+  pub last : y.last ≡ x.last
+  pub failed : fault ≡ PieceFault.Failed → HasRisen (faults a) (faults b)
+  pub malformed : (at : ℕ) → fault ≡ PieceFault.Malformed at → Breaks members a x.streams at
+  pub same : AreSame members a x b y
+  pub set : members.same x.streams y.streams
+  pub rises : faults a ≤ faults b
+  pub marked : mark b ≡ mark a
+  pub kept : members.keeps a b
+
+pub turned_refused : {S C : Type 0} (members : StreamsOf S C) (faults mark : C → ℕ) (a b : C) (m seen : Merging S) (y : Ordering S) (fault : PieceFault) → m ≡ seen →
+    IsRefused members faults mark a m.order b y fault →
+    HasTurned members faults mark a seen b (record { order = y; sums = m.sums; is_over = m.is_over }) (Err fault)
+turned_refused {S} members faults mark a b m seen y fault is refused =
+    subst (λ (old : Merging S). HasTurned members faults mark a old b (record { order = y; sums = m.sums; is_over = m.is_over }) (Err fault)) is (record {
+      same = refused.same;
+      set = refused.set;
+      untold = refused.untold;
+      known = tt;
+      moved = record { taken = λ k pieces under was. refused.taken k (pieces ++ taken_of m k) under was; last = refl; shares = λ k. refl };
+      told = λ lists tells. tt;
+      failed = λ at. refused.failed (let is : fault ≡ PieceFault.Failed = cc (at) in is);
+      malformed = λ place at. refused.malformed place (let is : fault ≡ PieceFault.Malformed place = cc (at) in is);
+      rises = refused.rises;
+      marked = refused.marked;
+      kept = refused.kept;
+    })
+
+pub refused_stands : {S C : Type 0} (members : StreamsOf S C) (faults mark : C → ℕ) (a b : C) (m : Merging S) (y : Ordering S) (fault : PieceFault) → IsMerging members m →
+    m.is_over ≡ false → IsRefused members faults mark a m.order b y fault → IsMerging members (record { order = y; sums = m.sums; is_over = m.is_over })
+refused_stands members faults mark a b m y fault is going refused = let many : members.count y.streams ≡ members.count m.order.streams = refused.same.streams in record {
+  few = omega (arith, is.few);
+  room = omega (arith, is.room);
+  same_room = refused.same.room ∙ is.same_room;
+  givers = subst (λ n. AreGivers n m.sums.taken) (sym many) is.givers;
+  parts = λ k under some. let inside : k < members.count m.order.streams = omega (arith, under, many) in let part = is.parts k inside some in record {
+    front = part.front;
+    taken = refused.taken k (part.front ++ _) inside part.taken;
+    below = let limit : members.limit y.streams k ≡ members.limit m.order.streams k = refused.same.limits k inside in
+        let low : m.sums.tail < members.limit m.order.streams k = part.below in omega arith;
+  };
+  last = λ some. refused.last ∙ is.last some;
+  above = is.above;
+  first = is.first;
+  over = λ over. absurd (cc (over, going));
+}
+
+same_on : {S C : Type 0} (members : StreamsOf S C) (a b c : C) (x y z : Ordering S) → AreSame members a x b y → AreSame members b y c z → AreSame members a x c z
+same_on members a b c x y z one two = let many : members.count y.streams ≡ members.count x.streams = one.streams in record {
+  streams = two.streams ∙ one.streams;
+  room = two.room ∙ one.room;
+  limits = λ k under. two.limits k (omega arith) ∙ one.limits k under;
+  same_breaks = λ k at under. (
+    λ is. (one.same_breaks k at under).0 ((two.same_breaks k at (omega arith)).0 is),
+    λ is. (two.same_breaks k at (omega arith)).1 ((one.same_breaks k at under).1 is),
+  );
+}
+
+keeps_on : {S C : Type 0} (members : StreamsOf S C) (x y z : Merging S) → members.count y.order.streams ≡ members.count x.order.streams → Keeps members x y →
+    Keeps members y z → Keeps members x z
+keeps_on members x y z many one two = record {
+  taken = λ k pieces under was. two.taken k pieces (omega arith) (one.taken k pieces under was);
+  last = two.last ∙ one.last;
+  shares = λ k. two.shares k ∙ one.shares k;
+}
+
+gives_on : {S C : Type 0} (members : StreamsOf S C) (x y z : Merging S) (given : Option Piece) → members.count y.order.streams ≡ members.count x.order.streams →
+    Keeps members x y → Gives members y z given → Gives members x z given
+gives_on {S} members x y z given many one two = record {
+  above = subst (λ last. IfSome given (λ p. (before : ℕ) → last ≡ Some before → before < p.tail)) one.last two.above;
+  below = two.below;
+  last = two.last;
+  sum = two.sum;
+  small = two.small;
+  taken = λ k pieces under was. two.taken k pieces (omega arith) (one.taken k pieces under was);
+  over = two.over;
+  nothing = λ none. ((two.nothing none).0 ∙ one.last, λ k. (two.nothing none).1 k ∙ one.shares k);
+}
+
+moves_on : {S C : Type 0} (members : StreamsOf S C) (x y z : Merging S) (result : Result Turn PieceFault) → members.count y.order.streams ≡ members.count x.order.streams →
+    Keeps members x y → Moves members y z result → Moves members x z result
+moves_on members x y z (Ok Taken) many one two = keeps_on members x y z many one two
+moves_on members x y z (Ok (Given given)) many one two = gives_on members x y z given many one two
+moves_on members x y z (Err fault) many one two = keeps_on members x y z many one two
+
+known_by : {S C : Type 0} (members : StreamsOf S C) (a b c : C) (x y z : Ordering S) (result : Result Turn PieceFault) → members.count y.streams ≡ members.count x.streams →
+    AreKnown members a x b y → OnOk result (AreKnown members b y c z) → OnOk result (AreKnown members a x c z)
+known_by members a b c x y z (Ok turn) many one two = known_on members a b c x y z many one two
+known_by members a b c x y z (Err fault) many one two = tt
+
+-- a turn behind one that took a piece
+pub turned_on : {S C : Type 0} (members : StreamsOf S C) (laws : AreLawful members) (faults mark : C → ℕ) (a b c : C) (x y z : Merging S) (result : Result Turn PieceFault) →
+    HasTurned members faults mark a x b y (Ok Taken) → HasTurned members faults mark b y c z result → HasTurned members faults mark a x c z result
+turned_on members laws faults mark a b c x y z result one two =
+    let many : members.count y.order.streams ≡ members.count x.order.streams = one.same.streams in record {
+      same = same_on members a b c x.order y.order z.order one.same two.same;
+      set = laws.same_on x.order.streams y.order.streams z.order.streams one.set two.set;
+      untold = λ k under none. two.untold k (omega arith) (one.untold k under none);
+      known = known_by members a b c x.order y.order z.order result many one.known two.known;
+      moved = moves_on members x y z result many one.moved two.moved;
+      told = λ lists tells. two.told lists (one.told lists tells);
+      failed = λ is. risen_since (faults a) (faults b) (faults c) one.rises two.rises (two.failed is);
+      malformed = λ at is. let it = two.malformed at is in let inside : it.stream < members.count y.order.streams = it.within in
+          let within : it.stream < members.count x.order.streams = omega arith in record {
+            stream = it.stream;
+            within = within;
+            untold = one.known it.stream within it.untold;
+            at_it = (one.same.same_breaks it.stream at within).0 it.at_it;
+          };
+      rises = omega (arith, one.rises, two.rises);
+      marked = two.marked ∙ one.marked;
+      kept = laws.keeps_on a b c one.kept two.kept;
+    }
+
+-- no turn: nothing has changed
+pub turned_none : {S C : Type 0} (members : StreamsOf S C) (laws : AreLawful members) (faults mark : C → ℕ) (ctx : C) (m : Merging S) →
+    HasTurned members faults mark ctx m ctx m (Ok Taken)
+turned_none members laws faults mark ctx m = record {
+  same = record { streams = refl; room = refl; limits = λ k under. refl; same_breaks = λ k at under. (λ is. is, λ is. is) };
+  set = laws.same_self m.order.streams;
+  untold = λ k under none. none;
+  known = λ k under none. none;
+  moved = record { taken = λ k pieces under was. was; last = refl; shares = λ k. refl };
+  told = λ lists tells. tells;
+  failed = λ no. absurd (cc (no));
+  malformed = λ at no. absurd (cc (no));
+  rises = omega arith;
+  marked = refl;
+  kept = laws.keeps_same ctx;
+}
+
+-- a merge that is over
+pub turned_ended : {S C : Type 0} (members : StreamsOf S C) (laws : AreLawful members) (faults mark : C → ℕ) (ctx : C) (m : Merging S) → AreEnded members m →
+    HasTurned members faults mark ctx m ctx m (Ok (Given None))
+turned_ended members laws faults mark ctx m ended =
+    let none = turned_none members laws faults mark ctx m in record {
+      same = none.same;
+      set = none.set;
+      untold = none.untold;
+      known = none.known;
+      moved = record {
+        above = tt;
+        below = tt;
+        last = tt;
+        sum = tt;
+        small = tt;
+        taken = λ k pieces under was. subst (HasTaken members m k) (sym (append-nil pieces)) was;
+        over = λ none. ended;
+        nothing = λ none. (refl, λ k. refl);
+      };
+      told = λ lists tells. (
+        λ k under. tells.each k under ∙ ap (λ xs. xs ++ get_or tells.rest k []) (pieces_none m.sums.tail (share_in m.sums.taken k) (share_none m.sums.taken k ended.none)) ∙
+            are_over members ctx m.order tells.rest ended.order.all
+            (λ j below. ended.order.ended j (let all : length m.order.ahead.counts ≡ members.count m.order.streams = ended.order.all in omega arith)) tells.told k (omega (arith, tells.len)),
+        tells,
+      );
+      failed = λ no. absurd (cc (no));
+      malformed = λ at no. absurd (cc (no));
+      rises = none.rises;
+      marked = none.marked;
+      kept = none.kept;
+    }
+
+-- some turns took a piece each
+pub record IsTurning {S C : Type 0} (members : StreamsOf S C) (faults mark : C → ℕ) (before : C) (old : Merging S) (after : C) (new : Merging S) : Type 0 where
+  pub turned : HasTurned members faults mark before old after new (Ok Taken)
+  pub going : new.is_over ≡ false

@@ -1,0 +1,45 @@
+use Rattle.std.proofs.Common.{◌++◌, ap, sym, ◌∙◌, subst, arith, append-nil}
+use Rattle.lert_ingest.specs.Bays.{AreLater, bays_of}
+use Rattle.lert_recovery.specs.Recovered.{AreJournalsSame, AreSoundStill, IsUnopened}
+use Rattle.lert_cones.proofs.ConeLaws.{cones_and_left}
+use Rattle.lert_recovery.proofs.reopened_cones.reopen_cones.Goals as goal
+
+pub returns-in-Ok-reopen_rooms-clause-later : goal.returns-in-Ok-reopen_rooms-clause-later
+returns-in-Ok-reopen_rooms-clause-later g c =
+    let made = bays_of c.reopen_rooms.new.cones.items in
+    subst (AreLater g.B.Bay.files g.B.Faulty.faults g.B.Faulty.mark c.args.bays.now.items) (ap (λ xs. made ++ xs) c.in-Ok-reopen_rooms.ensures.emptied ∙ append-nil made)
+    c.reopen_rooms.ensures.later
+
+pub bring_back-requires : goal.bring_back-requires
+bring_back-requires g c =
+    omega (
+      arith,
+      c.requires.room,
+      c.reopen_rooms.ensures.room,
+      cones_and_left g.B.Bay.files g.B.Faulty.faults g.B.Faulty.mark c.args.bays.now.items c.reopen_rooms.new.cones.items c.reopen_rooms.new.bays.items c.reopen_rooms.ensures.later,
+    )
+
+pub returns-clause-kept : goal.returns-clause-kept
+returns-clause-kept g c = subst (AreLater g.B.Bay.files g.B.Faulty.faults g.B.Faulty.mark c.args.bays.now.items) (sym c.bring_back.ensures.bays) c.reopen_rooms.ensures.later
+
+pub returns-clause-unopened : goal.returns-clause-unopened
+returns-clause-unopened g c =
+    subst (λ xs. IsUnopened g.B.Bay.files g.B.Faulty.faults c.args.settings.now c.args.bays.now.items xs c.in-Err.status) (sym c.bring_back.ensures.bays) c.in-Err.ensures.unopened
+
+pub returns-in-Ok-reopen_rooms-clause-journals : goal.returns-in-Ok-reopen_rooms-clause-journals
+returns-in-Ok-reopen_rooms-clause-journals g c =
+    let made = bays_of c.reopen_rooms.new.cones.items in
+    subst (AreJournalsSame g.B.Bay.files c.args.bays.now.items) (ap (λ xs. made ++ xs) c.in-Ok-reopen_rooms.ensures.emptied ∙ append-nil made) c.reopen_rooms.ensures.journals
+
+pub returns-clause-journals_kept : goal.returns-clause-journals_kept
+returns-clause-journals_kept g c = subst (AreJournalsSame g.B.Bay.files c.args.bays.now.items) (sym c.bring_back.ensures.bays) c.reopen_rooms.ensures.journals
+
+pub returns-in-Ok-reopen_rooms-clause-stays_sound : goal.returns-in-Ok-reopen_rooms-clause-stays_sound
+returns-in-Ok-reopen_rooms-clause-stays_sound g c =
+    let made = bays_of c.reopen_rooms.new.cones.items in
+    subst (AreSoundStill g.B.Bay.files c.args.settings.now c.args.bays.now.items)
+    (ap (λ xs. made ++ xs) c.in-Ok-reopen_rooms.ensures.emptied ∙ append-nil made) c.reopen_rooms.ensures.stays_sound
+
+pub returns-clause-stays_sound_kept : goal.returns-clause-stays_sound_kept
+returns-clause-stays_sound_kept g c =
+    subst (AreSoundStill g.B.Bay.files c.args.settings.now c.args.bays.now.items) (sym c.bring_back.ensures.bays) c.reopen_rooms.ensures.stays_sound

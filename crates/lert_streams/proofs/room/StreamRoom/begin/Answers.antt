@@ -1,0 +1,38 @@
+use Rattle.std.proofs.Common.{◌≡◌, ◌+◌, ◌^◌, Some, List, [], map, sym, ap, ◌∙◌, subst, append-nil}
+use Rattle.std.specs.Prelude.{slice_index_or}
+use Rattle.lert_order.specs.Members.{given_at, limit_at}
+use Rattle.lert_spec.specs.Table.{total}
+use Rattle.lert_streams.specs.Bin.{Bin, of_table, given_of, limit_of, width_of}
+use Rattle.lert_streams.specs.BinSet.{AreSure, Reads}
+use Rattle.lert_streams.specs.SetLaws.{to_come_at}
+use Rattle.lert_streams.proofs.FreshLaws.{fresh_coming, fresh_given, fresh_limit, fresh_width, fresh_sure, fresh_reads}
+use Rattle.lert_streams.proofs.room.StreamRoom.begin.Goals as goal
+
+pub returns-clause-bins : goal.returns-clause-bins
+returns-clause-bins g c = append-nil _ ∙ ap (map of_table) c.start_all.ensures.started.bins
+
+pub returns-clause-coming : goal.returns-clause-coming
+returns-clause-coming g c told k d within = subst (λ (bins : List Bin). to_come_at told bins k ≡ Some (g.T.CountTable.pieces (slice_index_or c.args.tables.now k d))) (sym (returns-clause-bins g c))
+    (fresh_coming (λ table. g.T.CountTable.quotient_bits table + g.T.CountTable.width table) g.T.CountTable.pieces told c.args.tables.now k d c.start_all.ensures.started.ordered within)
+
+pub returns-clause-given : goal.returns-clause-given
+returns-clause-given g c k = subst (λ (bins : List Bin). given_at given_of bins k ≡ []) (sym (returns-clause-bins g c))
+    (fresh_given (λ table. g.T.CountTable.quotient_bits table + g.T.CountTable.width table) g.T.CountTable.pieces c.args.tables.now k)
+
+pub returns-clause-limit : goal.returns-clause-limit
+returns-clause-limit g c k d within = subst (λ (bins : List Bin). limit_at limit_of bins k ≡ 2 ^ (g.T.CountTable.quotient_bits (slice_index_or
+    c.args.tables.now k d) + g.T.CountTable.width (slice_index_or c.args.tables.now k d))) (sym (returns-clause-bins g c))
+    (fresh_limit (λ table. g.T.CountTable.quotient_bits table + g.T.CountTable.width table) g.T.CountTable.pieces c.args.tables.now k d within)
+
+pub returns-clause-width : goal.returns-clause-width
+returns-clause-width g c k d within = subst (λ (bins : List Bin). limit_at width_of bins k ≡ total (g.T.CountTable.pieces (slice_index_or c.args.tables.now k d))) (sym (returns-clause-bins g c))
+    (fresh_width (λ table. g.T.CountTable.quotient_bits table + g.T.CountTable.width table) g.T.CountTable.pieces c.args.tables.now k d within)
+
+pub returns-clause-sure : goal.returns-clause-sure
+returns-clause-sure g c file = subst (λ (bins : List Bin). AreSure bins file) (sym (returns-clause-bins g c))
+    (fresh_sure (λ table. g.T.CountTable.quotient_bits table + g.T.CountTable.width table) g.T.CountTable.pieces c.args.tables.now file)
+
+pub returns-clause-reads : goal.returns-clause-reads
+returns-clause-reads g c from to reads =
+    fresh_reads (λ table. g.T.CountTable.quotient_bits table + g.T.CountTable.width table) g.T.CountTable.pieces c.args.tables.now from to
+    (subst (λ (bins : List Bin). Reads bins from to) (returns-clause-bins g c) reads)
