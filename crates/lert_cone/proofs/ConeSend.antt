@@ -78,7 +78,7 @@ module _ (T C : RattleType) (k : table.Ghosts T.Denot C.Denot) where
         search (sendable, crosses) depth 20,
         (
           levels_send c,
-          (search (sendable, crosses) depth 30, (search (sendable, crosses) depth 20, (search sendable, (search sendable, tt)))),
+          (search (sendable, crosses) depth 30, (search (sendable, crosses) depth 20, (search sendable, (search sendable, (search sendable, tt))))),
         ),
       ),
     ),

@@ -22,6 +22,7 @@ pub mod KeysReplayed
 pub mod KeysTaken
 pub mod LogLaws
 pub mod MadeReports
+pub mod NextFlush
 pub mod PacketTaken
 pub mod RecordLaws
 pub mod ReplayLaws

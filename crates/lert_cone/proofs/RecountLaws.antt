@@ -1,5 +1,6 @@
 -- A cone whose keys come again up to n0, while its rows are those after n0 events already.
-use Rattle.std.proofs.Common.{ℕ, ◌≡◌, ◌≢◌, ◌+◌, ◌-◌, ◌*◌, ◌%◌, ◌^◌, ◌<◌, ◌≤◌, suc, cond, ltb, List, [], ◌∷◌, ◌++◌, length, ap, sym, ◌∙◌}
+use Rattle.std.proofs.Common.{ℕ, ◌≡◌, ◌≢◌, ◌+◌, ◌-◌, ◌*◌, ◌%◌, ◌^◌, ◌<◌, ◌≤◌, suc, cond, ltb, Bool, true, false, List, [], ◌∷◌}
+use Rattle.std.proofs.Common.{◌++◌, length, ap, sym, ◌∙◌}
 use Rattle.std.proofs.Common.{arith, inl, inr, subst, length-append}
 use Rattle.std.proofs.Math.Nat.{mul-div-le}
 use Rattle.std.proofs.lemmas.Bool.{cases_eq, cases_lt, eq-eqb, ne_eqb, lt-ltb, le-ltb}
@@ -276,3 +277,8 @@ recounted_behind t n0 counted enough = record {
 -- and one that comes again from none on is counted
 pub counted_from_none : (t : Tallied) → IsRecounted t 0 → IsCounted t
 counted_from_none t recounted = recounted.behind (omega arith)
+
+-- level 0 keeps its settings, whether a key is counted again or not
+pub again_settings : (counts : Bool) (y next : Young) (tail m : ℕ) → next ≡ cond counts (with_event y tail m) y → next.settings ≡ y.settings
+again_settings true y next tail m is = ap (λ (v : Young). v.settings) is
+again_settings false y next tail m is = ap (λ (v : Young). v.settings) is

@@ -1,10 +1,9 @@
 -- Level 0 and the rows as the next key comes.
-use Rattle.std.proofs.Common.{ℕ, ◌≡◌, ◌≢◌, ◌+◌, ◌-◌, ◌*◌, ◌/◌, ◌%◌, ◌<◌, ◌≤◌, zero, suc, cond, eqb, not, List, [], ◌∷◌, ◌++◌, length, drop}
+use Rattle.std.proofs.Common.{ℕ, ◌≡◌, ◌≢◌, ◌+◌, ◌-◌, ◌*◌, ◌/◌, ◌%◌, ◌<◌, ◌≤◌, zero, suc, cond, List, [], ◌∷◌, ◌++◌, length, drop}
 use Rattle.std.proofs.Common.{get_or, map, All, refl, ap, ap₂, sym, ◌∙◌, arith, inl, inr}
 use Rattle.std.proofs.Common.{subst, slice_range, sum_by, replicate}
 use Rattle.std.proofs.Math.Nat.{div-add-mod, mod-lt, mul-mod_left, mul_comm, mul-suc, suc-mul}
-use Rattle.std.specs.Prelude.{IsTrue, IsFalse}
-use Rattle.std.proofs.lemmas.Bool.{cases_eq, cases_lt, eq-eqb, ne_eqb, false≢true}
+use Rattle.std.proofs.lemmas.Bool.{cases_eq, cases_lt, eq-eqb, ne_eqb}
 use Rattle.std.proofs.lemmas.List.{get_or-map, length-replicate}
 use Rattle.lert_spec.specs.declared.numbers.Numbers.{Numbers}
 use Rattle.lert_spec.specs.declared.piece.Piece.{Piece}
@@ -99,20 +98,6 @@ module _ (s : Numbers) (valid : IsValid s) where
   -- where no edge moves that of level 0 stays
   pub edge_still : (m : ℕ) → depth s m ≡ 0 → edge s 0 m ≡ edge s 0 (m - 1)
   edge_still m shallow = depth_stays s base ratio 0 m (omega (arith, valid.limits.levels_from)) (omega (arith, shallow))
-
-  -- what the depth of the last key's flush says of the edge
-  module _ (found m n : ℕ) (found_is : found ≡ depth s m) (m_is : m ≡ n) where
-    pub flushed_moves : IsTrue (not (eqb found 0)) → edge s 0 n ≢ edge s 0 (n - 1)
-    flushed_moves deep = elim (cases_eq found 0) [
-      | inl none ↦ absurd (false≢true (sym (ap not (eq-eqb found 0 none)) ∙ deep))
-      | inr some ↦ subst (λ k. edge s 0 k ≢ edge s 0 (k - 1)) m_is (flush_moves m (λ none. some (found_is ∙ none)))
-    ]
-
-    pub flushed_stays : IsFalse (not (eqb found 0)) → edge s 0 n ≡ edge s 0 (n - 1)
-    flushed_stays shallow = elim (cases_eq found 0) [
-      | inl none ↦ subst (λ k. edge s 0 k ≡ edge s 0 (k - 1)) m_is (edge_still m (sym found_is ∙ none))
-      | inr some ↦ absurd (false≢true (sym shallow ∙ ap not (ne_eqb found 0 some)))
-    ]
 
   -- and the total that is brought is that of level 0
   pub young_total : (events : List ℕ) (m tail found from : ℕ) (bins : List Bin) → length events ≡ m → from ≡ edge s 0 (m - 1) → depth s m ≡ 0 → AreYoung s events from bins →

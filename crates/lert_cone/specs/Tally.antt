@@ -1,12 +1,13 @@
 -- What the counts and reports of a cone are seen as, and what they hold.
-use Rattle.std.specs.Prelude.{ℕ, ◌≡◌, ◌⊎◌, ◌-◌, ◌^◌, ◌<◌, ◌≤◌, ◌==◌, List, [], ◌∷◌, length, slice_range, Option, Some, None, if◌then◌else◌}
+use Rattle.std.specs.Prelude.{ℕ, ◌≡◌, ◌⊎◌, ◌+◌, ◌-◌, ◌*◌, ◌^◌, ◌<◌, ◌≤◌, ◌==◌, List, [], ◌∷◌, length, slice_range, Option, Some, None}
+use Rattle.std.specs.Prelude.{if◌then◌else◌}
 use Rattle.lert_bay.specs.Files.{Files}
 use Rattle.lert_bay.specs.declared.bay.TheConstants.{LOG, FRAMES}
 use Rattle.lert_spec.specs.declared.numbers.Numbers.{Numbers}
 use Rattle.lert_spec.specs.declared.piece.Piece.{Piece}
 use Rattle.lert_spec.specs.declared.report.Report.{Report}
 use Rattle.lert_spec.specs.Bins.{Bin, tallied}
-use Rattle.lert_spec.specs.Edges.{edge, depth, lookback, capacity}
+use Rattle.lert_spec.specs.Edges.{span, edge, depth, lookback, capacity}
 use Rattle.lert_spec.specs.Limits.{IsValid}
 use Rattle.lert_spec.specs.Table.{count_of}
 use Rattle.lert_spec.proofs.LookLaws.{AreKeys}
@@ -36,13 +37,14 @@ due_in None = unbegun
 due_in (Some due) = due
 
 -- what is so between any two calls
-pub record IsTally (tally : Tallied) (levels : Numbers) (due : Option Dues) (len : ℕ) : Type 0 where
+pub record IsTally (tally : Tallied) (levels : Numbers) (due : Option Dues) (len flush : ℕ) : Type 0 where
   pub valid : IsValid tally.listing.settings
   pub named : tally.listing.cone < 2 ^ tally.listing.settings.cone_bits
   pub young_settings : tally.young.settings ≡ tally.listing.settings
   pub levels_settings : levels ≡ tally.listing.settings
   pub there : due ≡ Some tally.due
   pub len_is : len ≡ length tally.listing.events
+  pub flush_is : flush ≡ edge tally.listing.settings 0 (len - 1) + tally.listing.settings.bins * span tally.listing.settings 0
 
 -- these are the bins of level 0 above a position
 pub record AreYoung (s : Numbers) (events : List ℕ) (from : ℕ) (bins : List Bin) : Type 0 where

@@ -7,6 +7,7 @@ ghost use Rattle.lert_spec.specs.Mix.{cone_of};
 ghost use Rattle.lert_rows.specs.Rows.{IsAt, AreRows, directory_text};
 
 use crate::due::Due;
+use flush::flush_behind;
 use lert_base::{CountTable, Settings};
 use lert_bay::{Bay, FRAMES, LOG};
 use lert_io::{Failed, Seen};
@@ -14,8 +15,9 @@ use lert_levels::{FlushFault, Levels, Zero};
 use lert_mixer::tail_of;
 use lert_reports::ReportStore;
 use std::marker::{Brand, Model};
-use totals::{bring, scan_into};
+use totals::{begin, bring, is_full, scan_into};
 
+mod flush;
 mod recount;
 mod totals;
 
@@ -65,6 +67,8 @@ pub struct Tally<T: CountTable> {
     due: Option<Due<T>>,
     taken: Seen<u64>,
     len: u64,
+    // The least flush position from that of the last key on, kept so that no key divides.
+    flush: u64,
     closed: bool,
 }
 
@@ -85,7 +89,7 @@ impl<T: CountTable> Model for Tally<T> {
       young = t.zero;
       rows = t.levels.rows;
       due = due_in t.due;
-    }) t.levels.settings t.due t.len };
+    }) t.levels.settings t.due t.len t.flush };
 }
 
 impl<T: CountTable> Tally<T> {
@@ -135,7 +139,7 @@ impl<T: CountTable> Tally<T> {
         ensures reports { result.due.reports ≡ store.reports }
         ensures recounted { (n0 : ℕ) → n0 ≤ capacity settings.now → IsAt settings.now n0 levels.rows → IsRecounted result n0 }
     {
-        let _valid = settings.numbers();
+        let bins = settings.numbers().bins;
         Tally {
             settings: *settings,
             cone,
@@ -144,6 +148,7 @@ impl<T: CountTable> Tally<T> {
             due: Some(Due::new(settings, cone, store)),
             taken: Seen::new(),
             len: 0,
+            flush: bins * settings.span(0),
             closed,
         }
     }
@@ -193,7 +198,7 @@ impl<T: CountTable> Tally<T> {
         ensures flushed { IsTrue result → edge self.now.listing.settings 0 (length self.now.listing.events) ≢ edge self.now.listing.settings 0 (length self.now.listing.events - 1) }
         ensures still { IsFalse result → edge self.now.listing.settings 0 (length self.now.listing.events) ≡ edge self.now.listing.settings 0 (length self.now.listing.events - 1) }
     {
-        self.settings.depth(self.len) != 0
+        self.len == self.flush
     }
 
     /// Takes the next key: counts it in level 0, flushes where its position is a flush position, and lists the reports that
@@ -207,28 +212,25 @@ impl<T: CountTable> Tally<T> {
     {
         let m = self.len + 1;
         let tail = tail_of(&self.settings, key);
+        let flush = flush_behind(&self.settings, self.len, self.flush);
         // Into level 0 first: a flush at this position counts the key.
         self.zero.add(tail, m);
-        let Some(mut due) = self.due.take() else {
-            unreachable!()
-        };
-        due.begin(m);
-        let (due, result) = bring::<B, T, Brand>(
+        begin(&mut self.due, m);
+        bring::<B, T, Brand>(
             &mut self.zero,
             &mut self.levels,
             bay,
             tail,
             m,
-            due,
-        );
-        let is_full = due.is_full();
-        self.due = Some(due);
-        result?;
-        if is_full {
+            m == flush,
+            &mut self.due,
+        )?;
+        if is_full(&self.due) {
             return Err(TakeFault::Unsound { file: LOG, at: 0 });
         }
         self.taken.push(&key);
         self.len = m;
+        self.flush = flush;
         Ok(())
     }
 

@@ -9,6 +9,7 @@ mod YoungAdds
 mod YoungDrops
 mod YoungCounts
 mod YoungBounds
+mod YoungNumbers
 pub mod YoungBins
 mod LoadLaws
 pub mod ReadLaws

@@ -1,17 +1,16 @@
 -- The tables of level 0 that are in use, as the pieces of its bins.
-use Rattle.std.proofs.Common.{ℕ, zero, suc, ◌≡◌, ◌+◌, ◌-◌, ◌*◌, ◌/◌, ◌%◌, ◌^◌, ◌<◌, ◌≤◌, min, List, [], ◌∷◌, All, length, get_or, map}
-use Rattle.std.proofs.Common.{take, refl, ap, ap₂, sym, ◌∙◌, subst, arith, inl, inr}
+use Rattle.std.proofs.Common.{ℕ, zero, suc, ◌≡◌, ◌+◌, ◌-◌, ◌*◌, ◌^◌, ◌<◌, ◌≤◌, min, List, [], ◌∷◌, All, length, get_or, map}
+use Rattle.std.proofs.Common.{take, refl, ap, sym, ◌∙◌, subst, arith, inl, inr}
 use Rattle.std.proofs.Math.Nat.{mul-le-mul_right, suc-mul}
 use Rattle.std.proofs.lemmas.Bool.{cases_lt}
 use Rattle.std.proofs.lemmas.List.{get_or-map, length-map, take-map}
 use Rattle.std.proofs.lemmas.List.Elements.{All-take}
-use Rattle.std.proofs.lemmas.Grind.{div_ceil_times}
 use Rattle.lert_spec.specs.declared.piece.Piece.{Piece}
 use Rattle.lert_spec.specs.Table.{total}
 use Rattle.lert_spec.specs.declared.numbers.Numbers.{Numbers}
 use Rattle.lert_spec.specs.Bins.{Bin}
 use Rattle.lert_spec.specs.Edges.{span}
-use Rattle.lert_rows.specs.Young.{Young, bins_of, IsOfZero, IsFilled, AreFilled}
+use Rattle.lert_rows.specs.Young.{Young, bins_of, IsOfZero, IsFilled, AreFilled, AreNumbered}
 use Rattle.lert_rows.proofs.YoungLaws.{bins_of-none, bins_of-some, bins_of-length, bits_of_zero}
 use Rattle.lert_rows.proofs.YoungCounts.{width_within}
 
@@ -49,64 +48,54 @@ bins_of-few wide from to (p ∷ tables) = elim (cases_lt from to) [
 ]
 
 -- how many tables are in use
-pub record IsUsed {T : Type 0} (pieces : T → List Piece) (room quotient remainder : T → ℕ) (s : Numbers) (tables all : List T) (from to : ℕ) (young : Young) (wide count : ℕ) : Type 0
+pub record IsUsed {T : Type 0} (pieces : T → List Piece) (room quotient remainder : T → ℕ) (s : Numbers) (tables all : List T) (from to : ℕ) (young : Young) (count : ℕ) : Type 0
   where
     pub filled : AreFilled pieces room quotient remainder s all from to
     pub seen : record { settings = s; from = from; to = to; bins = bins_of (span s 0) from to (map pieces all) } ≡ young
     pub same : tables ≡ all
-    pub wide_is : wide ≡ span s 0
-    pub positive : 1 ≤ wide
-    pub count_is : count ≡ (to - from) / wide + min 1 ((to - from) % wide)
+    pub covers : to ≤ from + count * span s 0
+    pub few : count * span s 0 < (to - from) + span s 0
 
-pub used_covers : {T : Type 0} {pieces : T → List Piece} {room quotient remainder : T → ℕ} {s : Numbers} {tables all : List T} {from to : ℕ} {young : Young} {wide count : ℕ} →
-    IsUsed pieces room quotient remainder s tables all from to young wide count → (to ≤ from + count * span s 0) × (count * span s 0 < (to - from) + span s 0)
-used_covers {T} {pieces} {room} {quotient} {remainder} {s} {tables} {all} {from} {to} {young} {wide} {count} used =
-    let times = div_ceil_times (to - from) wide (omega (arith, used.positive)) in
-    let product : count * span s 0 ≡ ((to - from) / wide + min 1 ((to - from) % wide)) * wide = ap₂ (λ n w. n * w) used.count_is (sym used.wide_is) in
-    let wide_is = used.wide_is in
-    (omega (arith, times.0), omega (arith, times.1))
-
-pub used_within : {T : Type 0} {pieces : T → List Piece} {room quotient remainder : T → ℕ} {s : Numbers} {tables all : List T} {from to : ℕ} {young : Young} {wide count : ℕ} →
-    IsUsed pieces room quotient remainder s tables all from to young wide count → count ≤ length tables
-used_within {T} {pieces} {room} {quotient} {remainder} {s} {tables} {all} {from} {to} {young} {wide} {count} used =
-    let covers = used_covers used in
+pub used_within : {T : Type 0} {pieces : T → List Piece} {room quotient remainder : T → ℕ} {s : Numbers} {tables all : List T} {from to : ℕ} {young : Young} {count : ℕ} →
+    IsUsed pieces room quotient remainder s tables all from to young count → count ≤ length tables
+used_within {T} {pieces} {room} {quotient} {remainder} {s} {tables} {all} {from} {to} {young} {count} used =
+    let few = used.few in
     let within = used.filled.within in
     let len : length tables ≡ s.bins = ap length used.same ∙ used.filled.len in
     elim (cases_lt s.bins count) [
-      | inl more ↦ absurd (let products = mul-le-mul_right (span s 0) (let next : suc s.bins ≤ count = more in next) in let step = suc-mul s.bins (span s 0) in omega (arith, covers.1))
+      | inl more ↦ absurd (let products = mul-le-mul_right (span s 0) (let next : suc s.bins ≤ count = more in next) in let step = suc-mul s.bins (span s 0) in omega arith)
       | inr few ↦ omega arith
     ]
 
-pub used_are : {T : Type 0} {pieces : T → List Piece} {room quotient remainder : T → ℕ} {s : Numbers} {tables all : List T} {from to : ℕ} {young : Young} {wide count : ℕ} →
-    IsUsed pieces room quotient remainder s tables all from to young wide count → map pieces (take count tables) ≡ map (λ (bin : Bin). bin.pieces) young.bins
-used_are {T} {pieces} {room} {quotient} {remainder} {s} {tables} {all} {from} {to} {young} {wide} {count} used =
-    let covers = used_covers used in
+pub used_are : {T : Type 0} {pieces : T → List Piece} {room quotient remainder : T → ℕ} {s : Numbers} {tables all : List T} {from to : ℕ} {young : Young} {count : ℕ} →
+    IsUsed pieces room quotient remainder s tables all from to young count → map pieces (take count tables) ≡ map (λ (bin : Bin). bin.pieces) young.bins
+used_are {T} {pieces} {room} {quotient} {remainder} {s} {tables} {all} {from} {to} {young} {count} used =
     sym (take-map pieces count tables)
     ∙ ap (λ (ts : List T). take count (map pieces ts)) used.same
-    ∙ used_pieces (span s 0) from to count (map pieces all) covers.0 covers.1
+    ∙ used_pieces (span s 0) from to count (map pieces all) used.covers used.few
     ∙ ap (λ (y : Young). map (λ (bin : Bin). bin.pieces) y.bins) used.seen
 
-pub used_rooms : {T : Type 0} {pieces : T → List Piece} {room quotient remainder : T → ℕ} {s : Numbers} {tables all : List T} {from to : ℕ} {young : Young} {wide count : ℕ} →
-    IsUsed pieces room quotient remainder s tables all from to young wide count →
+pub used_rooms : {T : Type 0} {pieces : T → List Piece} {room quotient remainder : T → ℕ} {s : Numbers} {tables all : List T} {from to : ℕ} {young : Young} {count : ℕ} →
+    IsUsed pieces room quotient remainder s tables all from to young count →
     All (λ table. (room table ≤ 2 ^ 47) × (quotient table + remainder table ≡ 64 - young.settings.cone_bits)) (take count tables)
-used_rooms {T} {pieces} {room} {quotient} {remainder} {s} {tables} {all} {from} {to} {young} {wide} {count} used =
+used_rooms {T} {pieces} {room} {quotient} {remainder} {s} {tables} {all} {from} {to} {young} {count} used =
     subst (λ (y : Young). All (λ table. (room table ≤ 2 ^ 47) × (quotient table + remainder table ≡ 64 - y.settings.cone_bits)) (take count tables)) used.seen
     (All-take (λ table. (room table ≤ 2 ^ 47) × (quotient table + remainder table ≡ 64 - s.cone_bits)) count tables
     (subst (All (λ table. (room table ≤ 2 ^ 47) × (quotient table + remainder table ≡ 64 - s.cone_bits))) (sym used.same)
     (λ k d below. let numbers = (used.filled.each k d below).of_zero in
     (omega (arith, numbers.events, width_within s used.filled.valid), bits_of_zero s used.filled.valid numbers))))
 
-pub used_of_zero : {T : Type 0} {pieces : T → List Piece} {room quotient remainder : T → ℕ} {s : Numbers} {tables all : List T} {from to : ℕ} {young : Young} {wide count : ℕ} →
-    IsUsed pieces room quotient remainder s tables all from to young wide count →
+pub used_of_zero : {T : Type 0} {pieces : T → List Piece} {room quotient remainder : T → ℕ} {s : Numbers} {tables all : List T} {from to : ℕ} {young : Young} {count : ℕ} →
+    IsUsed pieces room quotient remainder s tables all from to young count →
     All (λ table. IsOfZero young.settings (room table) (quotient table) (remainder table)) (take count tables)
-used_of_zero {T} {pieces} {room} {quotient} {remainder} {s} {tables} {all} {from} {to} {young} {wide} {count} used =
+used_of_zero {T} {pieces} {room} {quotient} {remainder} {s} {tables} {all} {from} {to} {young} {count} used =
     subst (λ (y : Young). All (λ table. IsOfZero y.settings (room table) (quotient table) (remainder table)) (take count tables)) used.seen
     (All-take (λ table. IsOfZero s (room table) (quotient table) (remainder table)) count tables
     (subst (All (λ table. IsOfZero s (room table) (quotient table) (remainder table))) (sym used.same) (λ k d below. (used.filled.each k d below).of_zero)))
 
-pub used_widths : {T : Type 0} {pieces : T → List Piece} {room quotient remainder : T → ℕ} {s : Numbers} {tables all : List T} {from to : ℕ} {young : Young} {wide count : ℕ} →
-    IsUsed pieces room quotient remainder s tables all from to young wide count → All (λ (bin : Bin). total bin.pieces ≡ bin.to - bin.from) young.bins
-used_widths {T} {pieces} {room} {quotient} {remainder} {s} {tables} {all} {from} {to} {young} {wide} {count} used =
+pub used_widths : {T : Type 0} {pieces : T → List Piece} {room quotient remainder : T → ℕ} {s : Numbers} {tables all : List T} {from to : ℕ} {young : Young} {count : ℕ} →
+    IsUsed pieces room quotient remainder s tables all from to young count → All (λ (bin : Bin). total bin.pieces ≡ bin.to - bin.from) young.bins
+used_widths {T} {pieces} {room} {quotient} {remainder} {s} {tables} {all} {from} {to} {young} {count} used =
     subst (λ (y : Young). All (λ (bin : Bin). total bin.pieces ≡ bin.to - bin.from) y.bins) used.seen
     (bins_of-each (λ (bin : Bin). total bin.pieces ≡ bin.to - bin.from) (span s 0) from to (map pieces all)
     (λ k start is under within. some_width all used.filled.each k start is under (omega (arith, length-map all pieces))))
@@ -119,27 +108,32 @@ used_widths {T} {pieces} {room} {quotient} {remainder} {s} {tables} {all} {from}
         let here = each k first within in
         ap total (get_or-map pieces (first ∷ rest) k first [] within) ∙ here.summed ∙ omega arith
 
-pub used_narrow : {T : Type 0} {pieces : T → List Piece} {room quotient remainder : T → ℕ} {s : Numbers} {tables all : List T} {from to : ℕ} {young : Young} {wide count : ℕ} →
-    IsUsed pieces room quotient remainder s tables all from to young wide count → All (λ (bin : Bin). bin.to - bin.from ≤ span young.settings 0) young.bins
-used_narrow {T} {pieces} {room} {quotient} {remainder} {s} {tables} {all} {from} {to} {young} {wide} {count} used =
+pub used_narrow : {T : Type 0} {pieces : T → List Piece} {room quotient remainder : T → ℕ} {s : Numbers} {tables all : List T} {from to : ℕ} {young : Young} {count : ℕ} →
+    IsUsed pieces room quotient remainder s tables all from to young count → All (λ (bin : Bin). bin.to - bin.from ≤ span young.settings 0) young.bins
+used_narrow {T} {pieces} {room} {quotient} {remainder} {s} {tables} {all} {from} {to} {young} {count} used =
     subst (λ (y : Young). All (λ (bin : Bin). bin.to - bin.from ≤ span y.settings 0) y.bins) used.seen
     (bins_of-each (λ (bin : Bin). bin.to - bin.from ≤ span s 0) (span s 0) from to (map pieces all) (λ k start is under within. omega arith))
 
-pub used_some : {T : Type 0} {pieces : T → List Piece} {room quotient remainder : T → ℕ} {s : Numbers} {tables all : List T} {from to : ℕ} {young : Young} {wide count : ℕ} →
-    IsUsed pieces room quotient remainder s tables all from to young wide count → young.from < young.to → 1 ≤ length young.bins
-used_some {T} {pieces} {room} {quotient} {remainder} {s} {tables} {all} {from} {to} {young} {wide} {count} used =
+pub used_some : {T : Type 0} {pieces : T → List Piece} {room quotient remainder : T → ℕ} {s : Numbers} {tables all : List T} {from to : ℕ} {young : Young} {count : ℕ} →
+    IsUsed pieces room quotient remainder s tables all from to young count → young.from < young.to → 1 ≤ length young.bins
+used_some {T} {pieces} {room} {quotient} {remainder} {s} {tables} {all} {from} {to} {young} {count} used =
     subst (λ (y : Young). y.from < y.to → 1 ≤ length y.bins) used.seen
     (λ under. bins_of-length (span s 0) from to (map pieces all) under (omega (arith, length-map all pieces, used.filled.len, used.filled.valid.limits.bins_from)))
 
-pub used_few : {T : Type 0} {pieces : T → List Piece} {room quotient remainder : T → ℕ} {s : Numbers} {tables all : List T} {from to : ℕ} {young : Young} {wide count : ℕ} →
-    IsUsed pieces room quotient remainder s tables all from to young wide count → length young.bins ≤ young.settings.bins
-used_few {T} {pieces} {room} {quotient} {remainder} {s} {tables} {all} {from} {to} {young} {wide} {count} used =
+pub used_few : {T : Type 0} {pieces : T → List Piece} {room quotient remainder : T → ℕ} {s : Numbers} {tables all : List T} {from to : ℕ} {young : Young} {count : ℕ} →
+    IsUsed pieces room quotient remainder s tables all from to young count → length young.bins ≤ young.settings.bins
+used_few {T} {pieces} {room} {quotient} {remainder} {s} {tables} {all} {from} {to} {young} {count} used =
     subst (λ (y : Young). length y.bins ≤ y.settings.bins) used.seen
     (omega (arith, bins_of-few (span s 0) from to (map pieces all), length-map all pieces, used.filled.len))
 
-pub used : {T : Type 0} (pieces : T → List Piece) (room quotient remainder : T → ℕ) {s : Numbers} {tables all : List T} {from to : ℕ} {young : Young} {wide count : ℕ} →
+pub used : {T : Type 0} (pieces : T → List Piece) (room quotient remainder : T → ℕ) {s : Numbers} {tables all : List T} {from to : ℕ} {young : Young} {count end : ℕ} →
     AreFilled pieces room quotient remainder s all from to → record { settings = s; from = from; to = to; bins = bins_of (span s 0) from to (map pieces all) } ≡ young → tables ≡ all →
-    wide ≡ span s 0 → 1 ≤ wide →
-    count ≡ (to - from) / wide + min 1 ((to - from) % wide) → IsUsed pieces room quotient remainder s tables all from to young wide count
-used pieces room quotient remainder filled seen same wide_is positive count_is =
-    record { filled = filled; seen = seen; same = same; wide_is = wide_is; positive = positive; count_is = count_is }
+    AreNumbered s from to count end → IsUsed pieces room quotient remainder s tables all from to young count
+used pieces room quotient remainder filled seen same numbered =
+    record {
+      filled = filled;
+      seen = seen;
+      same = same;
+      covers = omega (arith, numbered.end_is, numbered.covers);
+      few = omega (arith, numbered.end_is, numbered.few, filled.ordered);
+    }

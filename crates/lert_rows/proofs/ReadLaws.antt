@@ -23,10 +23,12 @@ pub row_here : {V : Type 0} (items : V → List BinAt) (rows : List V) (i : ℕ)
 row_here items rows i row now below is now_is = get_or-map items rows i row [] below ∙ ap items (sym is) ∙ sym now_is
 
 -- what holds of the row at a place holds at the reader's settings, and back
-pub hand_to : (P : Numbers → List BinAt → Type 0) (s t : Numbers) (rows : List (List BinAt)) (i : ℕ) (now : List BinAt) → get_or rows i [] ≡ now → t ≡ s → P s (get_or rows i []) → P t now
+pub hand_to : (P : Numbers → List BinAt → Type 0) (s t : Numbers) (rows : List (List BinAt)) (i : ℕ) (now : List BinAt) →
+    get_or rows i [] ≡ now → t ≡ s → P s (get_or rows i []) → P t now
 hand_to P s t rows i now is same holds = subst (λ (m : Numbers). P m now) (sym same) (subst (P s) is holds)
 
-pub hand_from : (P : Numbers → List BinAt → Type 0) (s t : Numbers) (rows : List (List BinAt)) (i : ℕ) (now : List BinAt) → get_or rows i [] ≡ now → t ≡ s → P t now → P s (get_or rows i [])
+pub hand_from : (P : Numbers → List BinAt → Type 0) (s t : Numbers) (rows : List (List BinAt)) (i : ℕ) (now : List BinAt) →
+    get_or rows i [] ≡ now → t ≡ s → P t now → P s (get_or rows i [])
 hand_from P s t rows i now is same holds = subst (P s) (sym is) (subst (λ (m : Numbers). P m now) same holds)
 
 -- ---- what a refused piece is to a flush

@@ -1,5 +1,6 @@
 -- What the bound of level 0 covers, as an event is added and the oldest bin is dropped.
-use Rattle.std.proofs.Common.{ℕ, zero, suc, ◌≡◌, ◌≢◌, ◌+◌, ◌-◌, ◌*◌, ◌/◌, ◌%◌, ◌<◌, ◌≤◌, cond, eqb, List, [], ◌∷◌, ◌++◌, length, get_or, set, map, refl, ap, sym, ◌∙◌}
+use Rattle.std.proofs.Common.{ℕ, zero, suc, ◌≡◌, ◌≢◌, ◌+◌, ◌-◌, ◌*◌, ◌/◌, ◌%◌, ◌<◌, ◌≤◌, cond, eqb, List, [], ◌∷◌, ◌++◌, length, get_or}
+use Rattle.std.proofs.Common.{set, map, refl, ap, sym, ◌∙◌}
 use Rattle.std.proofs.Common.{subst, arith, inl, inr, take, drop, sum_by}
 use Rattle.std.proofs.Math.Nat.{div-add-mod, mul-le-mul_right, suc-mul, mul_comm}
 use Rattle.std.proofs.lemmas.Bool.{cases_lt, cases_eq, cases_order}
@@ -197,7 +198,8 @@ module _ {T : Type 0} (pieces : T → List Piece) (s : Numbers) (first new : T) 
     ]
   ]
 
-drop_bounded : {T : Type 0} (pieces : T → List Piece) (room quotient remainder : T → ℕ) (tables : List T) {s : Numbers} {from to wide : ℕ} (new : T) (pairs pairs' : List Pair) (earlier count : ℕ) →
+drop_bounded : {T : Type 0} (pieces : T → List Piece) (room quotient remainder : T → ℕ) (tables : List T) {s : Numbers} {from to wide : ℕ}
+    (new : T) (pairs pairs' : List Pair) (earlier count : ℕ) →
     1 ≤ length tables → wide ≡ span s 0 → 1 ≤ wide → from + wide ≤ to → pieces new ≡ [] → AreBounded pieces s tables from to pairs earlier →
     AreFilled pieces room quotient remainder s (drop 1 (set tables 0 new) ++ take 1 (set tables 0 new)) (from + wide) to →
     (1 < earlier → (pairs' ≡ pairs) × (count ≡ earlier - 1)) →

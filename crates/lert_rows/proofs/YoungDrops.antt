@@ -109,6 +109,14 @@ pub drops : {T : Type 0} (pieces : T → List Piece) (room quotient remainder : 
 drops pieces room quotient remainder new filled seen whole wide_is positive after_is =
     record { filled = filled; seen = seen; whole = whole; wide_is = wide_is; positive = positive; after_is = after_is }
 
+-- the same of the fields
+pub drops_whole : {T : Type 0} {pieces : T → List Piece} {room quotient remainder : T → ℕ} {s : Numbers} {tables : List T} {from to : ℕ} {young : Young} {wide : ℕ} {new : T}
+    {after : List T} →
+    Drops pieces room quotient remainder s tables from to young wide new after → from + wide ≤ to
+drops_whole {T} {pieces} {room} {quotient} {remainder} {s} {tables} {from} {to} {young} {wide} {new} {after} drops =
+    let fits = subst (λ (y : Young). y.from + span y.settings 0 ≤ y.to) (sym drops.seen) drops.whole in
+    omega (arith, drops.wide_is)
+
 pub dropped_filled : {T : Type 0} {pieces : T → List Piece} {room quotient remainder : T → ℕ} {s : Numbers} {tables : List T} {from to : ℕ} {young : Young} {wide : ℕ} {new : T}
     {after : List T} →
     Drops pieces room quotient remainder s tables from to young wide new after → (old : T) → old ≡ get_or tables 0 old → pieces new ≡ [] → room new ≡ room old →

@@ -82,6 +82,12 @@ pub record AreFilled {T : Type 0} (pieces : T → List Piece) (room quotient rem
       IsFilled s from to k (pieces (slice_index_or tables k d)) (room (slice_index_or tables k d))
       (quotient (slice_index_or tables k d)) (remainder (slice_index_or tables k d))
 
+-- so many bins, the newest of which has room up to `end`
+pub record AreNumbered (s : Numbers) (from to bins end : ℕ) : Type 0 where
+  pub end_is : end ≡ from + bins * span s 0
+  pub covers : to ≤ end
+  pub few : end < to + span s 0
+
 -- how often a tail stands in tables
 abbrev pub times_in : {T : Type 0} → (T → List Piece) → List T → ℕ → ℕ
 times_in pieces tables tail = sum_by (λ table. count_of (pieces table) tail) tables

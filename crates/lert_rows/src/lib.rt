@@ -8,6 +8,7 @@
 mod bin_at;
 mod check;
 mod directory;
+mod extent;
 mod fault;
 mod named;
 mod rows;

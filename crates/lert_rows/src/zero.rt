@@ -6,6 +6,7 @@ ghost use Rattle.lert_spec.specs.Edges.{span, quotient_bits, width};
 ghost use Rattle.lert_spec.specs.Table.{count_of, total, AreGiven};
 ghost use Rattle.lert_rows.specs.Young.{with_event, IsNextPosition, IsOfZero};
 
+use crate::extent::Extent;
 use lert_base::{CountTable, Settings};
 use lert_bound::Bound;
 use lert_io::OutOfMemory;
@@ -26,26 +27,26 @@ pub struct Zero<T: CountTable> {
     bound: Bound,
     // How many of the bins are of the bound's generation before: the oldest ones.
     earlier: u64,
-    from: u64,
-    to: u64,
+    extent: Extent,
 }
 
 impl<T: CountTable> Model for Zero<T> {
     ghost use Rattle.std.specs.Prelude.{map};
     ghost use Rattle.lert_spec.specs.Edges.{span};
-    ghost use Rattle.lert_rows.specs.Young.{Young, bins_of, AreFilled, AreBounded};
+    ghost use Rattle.lert_rows.specs.Young.{Young, bins_of, AreFilled, AreBounded, AreNumbered};
 
     ghost Value = { Young };
 
     ghost view = { λ z. record {
       settings = z.settings;
-      from = z.from;
-      to = z.to;
-      bins = bins_of (span z.settings 0) z.from z.to (map T.pieces z.tables.items);
+      from = z.extent.from;
+      to = z.extent.to;
+      bins = bins_of (span z.settings 0) z.extent.from z.extent.to (map T.pieces z.tables.items);
     } };
 
-    ghost invariant = { λ z. AreFilled T.pieces T.room T.quotient_bits T.width z.settings z.tables.items z.from z.to
-        × AreBounded T.pieces z.settings z.tables.items z.from z.to z.bound z.earlier };
+    ghost invariant = { λ z. AreFilled T.pieces T.room T.quotient_bits T.width z.settings z.tables.items z.extent.from z.extent.to
+        × AreBounded T.pieces z.settings z.tables.items z.extent.from z.extent.to z.bound z.earlier
+        × AreNumbered z.settings z.extent.from z.extent.to z.extent.bins z.extent.end };
 }
 
 impl<T: CountTable> Zero<T> {
@@ -64,8 +65,12 @@ impl<T: CountTable> Zero<T> {
             tables,
             bound,
             earlier: 0,
-            from: 0,
-            to: 0,
+            extent: Extent {
+                from: 0,
+                to: 0,
+                bins: 0,
+                end: 0,
+            },
         })
     }
 
@@ -83,12 +88,10 @@ impl<T: CountTable> Zero<T> {
         requires position { IsNextPosition self.old m }
         ensures { self.new ≡ with_event self.old tail m }
     {
-        let from = beginning(self.from, self.to, m);
-        let bin = number_of(m, from, self.settings.span(0));
-        self.tables[bin as usize].add(tail, 1);
+        self.extent.grow(m, self.settings.span(0));
+        let newest = self.extent.bins - 1;
+        self.tables[newest as usize].add(tail, 1);
         self.bound.add(tail);
-        self.from = from;
-        self.to = m;
     }
 
     /// How often a tail was added, over all bins. It looks into each table.
@@ -130,8 +133,7 @@ impl<T: CountTable> Zero<T> {
         ensures some { self.now.from < self.now.to → 1 ≤ length self.now.bins }
         ensures few { length self.now.bins ≤ self.now.settings.bins }
     {
-        let bins = (self.to - self.from).div_ceil(self.settings.span(0));
-        &self.tables[..bins as usize]
+        &self.tables[..self.extent.bins as usize]
     }
 
     /// Drops the oldest bin, which is whole. Its table is free then. Where no bin of the bound's generation before is left
@@ -146,8 +148,10 @@ impl<T: CountTable> Zero<T> {
         let span = self.settings.span(0);
         self.tables[0].clear();
         self.tables.rotate_left(1);
-        self.from += span;
-        self.earlier = aged(&mut self.bound, self.earlier, self.to - self.from, span);
+        self.extent.from += span;
+        self.extent.bins -= 1;
+        let stay = self.extent.to - self.extent.from;
+        self.earlier = aged(&mut self.bound, self.earlier, stay, span);
     }
 }
 
@@ -177,23 +181,6 @@ fn places(settings: &Settings) -> usize
 {
     let numbers = settings.numbers();
     (4 * numbers.base as usize).next_power_of_two()
-}
-
-// The last position before the oldest bin, once position `m` is added.
-fn beginning(from: u64, to: u64, m: u64) -> u64
-    requires { 1 ≤ m }
-    ensures { result ≡ (if from == to then m - 1 else from) }
-{
-    if from == to { m - 1 } else { from }
-}
-
-// The number of the bin of position `m`. The oldest one, above `from`, has number 0.
-fn number_of(m: u64, from: u64, span: u64) -> u64
-    requires span { 1 ≤ span }
-    requires above { from < m }
-    ensures { result ≡ (m - 1 - from) / span }
-{
-    (m - 1 - from) / span
 }
 
 // A table for the events of a bin of level 0.

@@ -7,6 +7,7 @@ ghost use Rattle.lert_spec.specs.Mix.{cone_of};
 ghost use Rattle.lert_cone.specs.Tally.{IsRecounted};
 
 use crate::tally::Tally;
+use crate::tally::flush::flush_behind;
 use lert_base::CountTable;
 use lert_levels::Zero;
 use lert_mixer::tail_of;
@@ -25,13 +26,15 @@ impl<T: CountTable> Tally<T> {
         ensures due { self.new.due ≡ self.old.due }
         ensures recounted { IsRecounted self.new n0 }
     {
+        let from = self.settings.edge(0, n0);
         for key in keys {
-            self.recount_key(n0, *key);
+            self.recount_key(n0, from, *key);
         }
     }
 
-    // Takes one key again.
-    fn recount_key(&mut self, n0: u64, key: u64)
+    // Takes one key again, where `from` is the edge that level 0 has at `n0`.
+    fn recount_key(&mut self, n0: u64, from: u64, key: u64)
+        requires from { from ≡ edge self.old.listing.settings 0 n0 }
         requires own { cone_of self.old.listing.settings key ≡ self.old.listing.cone }
         requires within { length self.old.listing.events < n0 }
         requires recounted { IsRecounted self.old n0 }
@@ -42,20 +45,21 @@ impl<T: CountTable> Tally<T> {
     {
         let m = self.len + 1;
         let tail = tail_of(&self.settings, key);
-        count_again(&mut self.zero, n0, tail, m);
+        let flush = flush_behind(&self.settings, self.len, self.flush);
+        count_again(&mut self.zero, from, tail, m);
         self.taken.push(&key);
         self.len = m;
+        self.flush = flush;
     }
 }
 
-// Counts the event at position `m`, where it is above the edge that level 0 has after `n0` events.
-fn count_again<T: CountTable>(zero: &mut Zero<T>, n0: u64, tail: u64, m: u64)
+// Counts the event at position `m`, where it is above this edge of level 0.
+fn count_again<T: CountTable>(zero: &mut Zero<T>, from: u64, tail: u64, m: u64)
     requires below { tail < 2 ^ (64 - zero.old.settings.cone_bits) }
-    requires last { n0 ≤ capacity zero.old.settings }
-    requires position { edge zero.old.settings 0 n0 < m → IsNextPosition zero.old m }
-    ensures { zero.new ≡ (if nat_lt (edge zero.old.settings 0 n0) m then with_event zero.old tail m else zero.old) }
+    requires position { from < m → IsNextPosition zero.old m }
+    ensures { zero.new ≡ (if nat_lt from m then with_event zero.old tail m else zero.old) }
 {
-    if zero.settings().edge(0, n0) < m {
+    if from < m {
         zero.add(tail, m);
     }
 }

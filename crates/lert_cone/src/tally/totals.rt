@@ -1,12 +1,13 @@
 //! The totals that a key or the end brings to the reports.
 
-ghost use Rattle.std.specs.Prelude.{◌≡◌, ◌≢◌, ◌-◌, ◌≤◌, [], ◌∷◌, sum_by};
+ghost use Rattle.std.specs.Prelude.{◌≡◌, ◌≢◌, ◌-◌, ◌≤◌, [], ◌∷◌, length, sum_by, Some, IsTrue, IsFalse};
 ghost use Rattle.lert_spec.specs.Edges.{edge, capacity};
 ghost use Rattle.lert_spec.specs.Limits.{IsValid};
 ghost use Rattle.lert_spec.specs.Table.{count_of};
 ghost use Rattle.lert_rows.specs.Rows.{IsAt};
 ghost use Rattle.lert_cone.specs.Counts.{Brings, Flushes, Scans};
-ghost use Rattle.lert_cone.specs.Due.{Dues, TookFrom};
+ghost use Rattle.lert_cone.specs.Due.{Dues, TookFrom, started};
+ghost use Rattle.lert_cone.specs.Tally.{due_in};
 
 use crate::due::{Begun, Due, DueSince};
 use lert_base::CountTable;
@@ -51,38 +52,69 @@ fn total_of_key<T: CountTable>(due: &mut Due<T>, zero: &Zero<T>, tail: u64)
     due.total(tail, zero.count(tail));
 }
 
+// Totals from now on bring reports at position `m`.
+pub(super) fn begin<T: CountTable>(due: &mut Option<Due<T>>, m: u64)
+    requires there { due.old ≡ Some (due_in due.old) }
+    ensures there { due.new ≡ Some (due_in due.new) }
+    ensures begun { due_in due.new ≡ started (due_in due.old) m }
+    ensures took { TookFrom (due_in due.new) (due_in due.new) [] }
+{
+    let Some(due) = due else { unreachable!() };
+    due.begin(m);
+}
+
+// Whether a report found no room since the totals began. The reports then fill it.
+pub(super) fn is_full<T: CountTable>(due: &Option<Due<T>>) -> bool
+    requires there { due.now ≡ Some (due_in due.now) }
+    ensures value { result ≡ (due_in due.now).is_full }
+    ensures full { IsTrue result → length (due_in due.now).reports ≡ (due_in due.now).settings.room }
+{
+    let Some(due) = due else { unreachable!() };
+    due.is_full()
+}
+
 // Gives the reports the totals that the event at position `m` brings, which level 0 has, its tail being this one. At a
-// flush position the levels are flushed, and the oldest bin of level 0 is dropped.
+// flush position the levels are flushed, and the oldest bin of level 0 is dropped. Elsewhere the reports stay in place.
 pub(super) fn bring<B: Bay, T: CountTable, N: Begun>(
     zero: &mut Zero<T>,
     levels: &mut Levels<T>,
     bay: &mut B,
     tail: u64,
     m: u64,
-    mut due: Due<T>,
-) -> (Due<T>, Result<(), FlushFault>)
-    requires start { TookFrom N.start due [] }
+    flushes: bool,
+    due: &mut Option<Due<T>>,
+) -> Result<(), FlushFault>
+    requires there { due.old ≡ Some (due_in due.old) }
+    requires start { TookFrom N.start (due_in due.old) [] }
     requires valid { IsValid levels.old.settings }
     requires first { 1 ≤ m }
     requires last { m ≤ capacity levels.old.settings }
+    requires moves { IsTrue flushes → edge levels.old.settings 0 m ≢ edge levels.old.settings 0 (m - 1) }
+    requires stays { IsFalse flushes → edge levels.old.settings 0 m ≡ edge levels.old.settings 0 (m - 1) }
     requires settings { zero.old.settings ≡ levels.old.settings }
     requires from { zero.old.from ≡ edge levels.old.settings 0 (m - 1) }
     requires to { zero.old.to ≡ m }
     requires rows { IsAt levels.old.settings (m - 1) levels.old.rows }
-    ensures { Brings B.Bay N.start m tail bay.old bay.new zero.old zero.new levels.old levels.new result.0 result.1 }
+    ensures there { due.new ≡ Some (due_in due.new) }
+    ensures brings { Brings B.Bay N.start m tail bay.old bay.new zero.old zero.new levels.old levels.new (due_in due.new) result }
 {
-    if zero.settings().depth(m) == 0 {
-        total_of_key(&mut due, zero, tail);
-        return (due, Ok(()));
+    if !flushes {
+        let Some(due) = due else { unreachable!() };
+        total_of_key(due, zero, tail);
+        return Ok(());
     }
-    let (due, result) = flush_into::<B, T, N>(levels, bay, zero, m, due);
+    let Some(taken) = due.take() else {
+        unreachable!()
+    };
+    let (taken, result) = flush_into::<B, T, N>(levels, bay, zero, m, taken);
+    *due = Some(taken);
     match result {
         Ok(()) => {
             // Only now: the flush has put the oldest bin's counts into a frame.
             zero.drop_oldest();
-            (due, Ok(()))
+            Ok(())
         }
-        Err(fault) => (due, Err(fault)),
+        Err(fault) => Err(fault),
     }
 }
 

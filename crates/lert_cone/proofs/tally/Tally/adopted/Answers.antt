@@ -6,7 +6,7 @@ use Rattle.lert_cone.proofs.tally.Tally.adopted.Goals as goal
 
 pub returns-clause-recounted : goal.returns-clause-recounted
 returns-clause-recounted g c = λ n0 fits at.
-    let valid = subst IsValid c.numbers-valid.ensures.value c.numbers-valid.ensures.valid in
+    let valid = subst IsValid c.numbers-bins.ensures.value c.numbers-bins.ensures.valid in
     recounted_none (record {
       listing = record { settings = c.args.settings.now; cone = c.args.cone; events = c.new-2.result; closed = c.args.closed };
       young = c.args.zero;

@@ -1,20 +1,12 @@
-use Rattle.std.proofs.Common.{◌≡◌, ℕ, ◌+◌, ◌<◌, List, suc, length, ap, sym, subst, arith}
-use Rattle.lert_spec.specs.Edges.{capacity}
+use Rattle.std.proofs.Common.{◌≡◌, ◌∙◌, ℕ, ◌+◌, ◌<◌, List, suc, length, ap, sym, subst, arith, cond, ltb, refl, [], ◌∷◌, length-append}
+use Rattle.lert_spec.specs.declared.numbers.Numbers.{Numbers}
+use Rattle.lert_rows.specs.Young.{IsNextPosition, with_event}
+use Rattle.lert_spec.specs.Edges.{edge}
 use Rattle.lert_spec.specs.Mix.{cone_of}
 use Rattle.lert_cone.specs.Tally.{Tallied, IsRecounted, due_in}
-use Rattle.lert_cone.proofs.RecountLaws.{recount_position, recounted_more}
+use Rattle.lert_cone.proofs.RecountLaws.{again_settings, recount_position, recounted_more}
+use Rattle.lert_cone.proofs.NextFlush.{flush_next}
 use Rattle.lert_cone.proofs.tally.Tally.recount_key.Goals as goal
-
-pub count_again-requires-clause-last : goal.count_again-requires-clause-last
-count_again-requires-clause-last g c =
-    let t : Tallied = record {
-      listing = record { settings = c.self.inside.settings; cone = c.self.inside.cone; events = c.self.inside.taken; closed = c.self.inside.closed };
-      young = c.self.inside.zero;
-      rows = c.self.inside.levels.rows;
-      due = due_in c.self.inside.due;
-    } in
-    let recounted : IsRecounted t c.args.n0 = subst (λ (v : Tallied). IsRecounted v c.args.n0) (sym c.self.view_is) c.requires.recounted in
-    omega (arith, recounted.n0_fits, ap capacity c.self.invariant.young_settings)
 
 pub count_again-requires-clause-position : goal.count_again-requires-clause-position
 count_again-requires-clause-position g c =
@@ -27,7 +19,23 @@ count_again-requires-clause-position g c =
     let recounted : IsRecounted t c.args.n0 = subst (λ (v : Tallied). IsRecounted v c.args.n0) (sym c.self.view_is) c.requires.recounted in
     let before : length c.self.inside.taken < c.args.n0 = subst (λ (v : Tallied). length v.listing.events < c.args.n0) (sym c.self.view_is) c.requires.within in
     let m_is : c.self.inside.len + 1 ≡ suc (length c.self.inside.taken) = omega (arith, c.self.invariant.len_is) in
-    recount_position t c.args.n0 recounted c.self.invariant.young_settings before c.args.key c.tail_of-tail.result (c.self.inside.len + 1) c.tail_of-tail.ensures.value m_is
+    let from_is : c.args.from ≡ edge c.self.inside.settings 0 c.args.n0 =
+    subst (λ (v : Tallied). c.args.from ≡ edge v.listing.settings 0 c.args.n0) (sym c.self.view_is) c.requires.from in
+    let from_young : c.args.from ≡ edge c.self.inside.zero.settings 0 c.args.n0 = from_is ∙ ap (λ (v : Numbers). edge v 0 c.args.n0) (sym c.self.invariant.young_settings) in
+    subst (λ e. e < c.self.inside.len + 1 → IsNextPosition c.self.inside.zero (c.self.inside.len + 1)) (sym from_young)
+    (recount_position t c.args.n0 recounted c.self.invariant.young_settings before c.args.key c.tail_of-tail.result (c.self.inside.len + 1) c.tail_of-tail.ensures.value m_is)
+
+pub invariant_of-self : goal.invariant_of-self
+invariant_of-self g c = record {
+  valid = c.self.invariant.valid;
+  named = c.self.invariant.named;
+  young_settings = again_settings (ltb c.args.from (c.self.inside.len + 1)) c.self.inside.zero c.count_again.new.zero c.tail_of-tail.result (c.self.inside.len + 1) c.count_again.ensures
+      ∙ c.self.invariant.young_settings;
+  levels_settings = c.self.invariant.levels_settings;
+  there = c.self.invariant.there;
+  len_is = omega (arith, c.self.invariant.len_is, ap length c.push.ensures, length-append c.self.inside.taken (c.args.key ∷ []));
+  flush_is = flush_next c.self.inside.settings c.self.inside.settings refl c.self.invariant.valid c.self.inside.len c.flush_behind-flush.result c.flush_behind-flush.ensures;
+}
 
 pub returns-clause-recounted : goal.returns-clause-recounted
 returns-clause-recounted g c =
@@ -42,8 +50,12 @@ returns-clause-recounted g c =
     let m_is : c.self.inside.len + 1 ≡ suc (length c.self.inside.taken) = omega (arith, c.self.invariant.len_is) in
     let own : cone_of c.self.inside.settings c.args.key ≡ c.self.inside.cone =
     subst (λ (v : Tallied). cone_of v.listing.settings c.args.key ≡ v.listing.cone) (sym c.self.view_is) c.requires.own in
+    let from_is : c.args.from ≡ edge c.self.inside.settings 0 c.args.n0 =
+    subst (λ (v : Tallied). c.args.from ≡ edge v.listing.settings 0 c.args.n0) (sym c.self.view_is) c.requires.from in
+    let from_young : c.args.from ≡ edge c.self.inside.zero.settings 0 c.args.n0 = from_is ∙ ap (λ (v : Numbers). edge v 0 c.args.n0) (sym c.self.invariant.young_settings) in
     recounted_more t c.args.n0 recounted c.self.invariant.young_settings before c.args.key c.tail_of-tail.result (c.self.inside.len + 1) c.tail_of-tail.ensures.value m_is c.ranges.key.fits own
-    c.count_again.new.zero c.count_again.ensures
+    c.count_again.new.zero
+    (c.count_again.ensures ∙ ap (λ e. cond (ltb e (c.self.inside.len + 1)) (with_event c.self.inside.zero c.tail_of-tail.result (c.self.inside.len + 1)) c.self.inside.zero) from_young)
     (record {
       listing = record { settings = c.self.inside.settings; cone = c.self.inside.cone; events = c.push.new.self; closed = c.self.inside.closed };
       young = c.count_again.new.zero;

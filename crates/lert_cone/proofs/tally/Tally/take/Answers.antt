@@ -1,10 +1,13 @@
-use Rattle.std.proofs.Common.{◌≡◌, ◌+◌, ◌<◌, suc, false, length, Option, ap, sym, ◌∙◌, subst, arith}
+use Rattle.std.proofs.Common.{◌≡◌, ◌+◌, ◌<◌, suc, false, length, sym, ◌∙◌, subst, arith}
 use Rattle.lert_spec.specs.Edges.{capacity}
 use Rattle.lert_spec.specs.Mix.{cone_of}
-use Rattle.lert_cone.specs.Due.{Dues, started}
+use Rattle.lert_cone.specs.Due.{started}
 use Rattle.lert_cone.specs.Tally.{Tallied, IsCounted, due_in}
 use Rattle.lert_cone.proofs.KeyCounted.{not_counted, no_room, key_counted}
+use Rattle.lert_cone.proofs.NextFlush.{next_flushes, next_stays}
 use Rattle.lert_cone.proofs.TakeLaws.{rows_before}
+use Rattle.lert_cone.proofs.TallyLaws.{next_position}
+use Rattle.lert_rows.specs.Young.{IsNextPosition}
 use Rattle.lert_bay.specs.Kept.{Bays}
 use Rattle.lert_bay.proofs.KeptLaws.{IsLawful}
 use Rattle.lert_cone.proofs.tally.Tally.take.Given as given
@@ -16,8 +19,22 @@ bays g = record { faults = g.B.Faulty.faults; mark = g.B.Faulty.mark; files = g.
 lawful : (g : given.Over) → IsLawful (bays g)
 lawful g = record { as_read = g.met.B.Bay.as_read; since_now = g.met.B.Bay.since_now; only_now = g.met.B.Bay.only_now; since_earlier = g.met.B.Bay.since_earlier }
 
-pub bring-due-requires-clause-rows : goal.bring-due-requires-clause-rows
-bring-due-requires-clause-rows g c =
+pub add-requires-clause-position : goal.add-requires-clause-position
+add-requires-clause-position g c =
+    let counted : IsCounted (record {
+      listing = record { settings = c.self.inside.settings; cone = c.self.inside.cone; events = c.self.inside.taken; closed = c.self.inside.closed };
+      young = c.self.inside.zero;
+      rows = c.self.inside.levels.rows;
+      due = due_in c.self.inside.due;
+    }) = subst (λ (v : Tallied). IsCounted v) (sym c.self.view_is) c.requires.counted in
+    let fits : length c.self.inside.taken < capacity c.self.inside.settings = subst (λ (v : Tallied). length v.listing.events < capacity v.listing.settings) (sym c.self.view_is) c.requires.fits
+    in
+    let m_is : c.self.inside.len + 1 ≡ suc (length c.self.inside.taken) = omega (arith, c.self.invariant.len_is) in
+    subst (IsNextPosition c.self.inside.zero) (sym m_is)
+    (next_position c.self.inside.settings c.self.invariant.valid c.self.inside.zero c.self.inside.taken c.args.key c.self.invariant.young_settings counted.from counted.to counted.bins.is fits)
+
+pub bring-requires-clause-rows : goal.bring-requires-clause-rows
+bring-requires-clause-rows g c =
     let t : Tallied = record {
       listing = record { settings = c.self.inside.settings; cone = c.self.inside.cone; events = c.self.inside.taken; closed = c.self.inside.closed };
       young = c.self.inside.zero;
@@ -31,8 +48,16 @@ bring-due-requires-clause-rows g c =
     rows_before t c.self.inside.levels.settings c.self.invariant.levels_settings c.self.invariant.valid c.self.invariant.named c.self.invariant.young_settings counted fits c.args.key
     c.tail_of-tail.result (c.self.inside.len + 1) c.tail_of-tail.ensures.value m_is c.add.new.self c.add.ensures
 
-pub returns-in_err-result : goal.returns-in_err-result
-returns-in_err-result g c =
+pub bring-requires-clause-moves : goal.bring-requires-clause-moves
+bring-requires-clause-moves g c = next_flushes c.self.inside.settings c.self.inside.levels.settings c.self.invariant.levels_settings c.self.invariant.valid c.self.inside.len
+    c.flush_behind-flush.result c.flush_behind-flush.ensures
+
+pub bring-requires-clause-stays : goal.bring-requires-clause-stays
+bring-requires-clause-stays g c = next_stays c.self.inside.settings c.self.inside.levels.settings c.self.invariant.levels_settings c.self.invariant.valid c.self.inside.len
+    c.flush_behind-flush.result c.flush_behind-flush.ensures
+
+pub returns-in_err-bring : goal.returns-in_err-bring
+returns-in_err-bring g c =
     let counted : IsCounted (record {
       listing = record { settings = c.self.inside.settings; cone = c.self.inside.cone; events = c.self.inside.taken; closed = c.self.inside.closed };
       young = c.self.inside.zero;
@@ -42,8 +67,8 @@ returns-in_err-result g c =
     let fits : length c.self.inside.taken < capacity c.self.inside.settings = subst (λ (v : Tallied). length v.listing.events < capacity v.listing.settings) (sym c.self.view_is) c.requires.fits
     in
     let m_is : c.self.inside.len + 1 ≡ suc (length c.self.inside.taken) = omega (arith, c.self.invariant.len_is) in
-    let start_is : c.begin.new.self ≡ started (due_in c.self.inside.due) (c.self.inside.len + 1) =
-    c.begin.ensures.begun ∙ ap (λ (d : Option Dues). started (due_in d) (c.self.inside.len + 1)) (sym c.in-Some.is ∙ c.take.ensures.value) in
+    let start_is : (due_in c.begin.new.due) ≡ started (due_in c.self.inside.due) (c.self.inside.len + 1) =
+    c.begin.ensures.begun in
     rw (← c.self.view_is) (not_counted (bays g) (lawful g)
     (record {
       listing = record { settings = c.self.inside.settings; cone = c.self.inside.cone; events = c.self.inside.taken; closed = c.self.inside.closed };
@@ -53,8 +78,8 @@ returns-in_err-result g c =
     })
     c.self.inside.levels.settings c.self.invariant.levels_settings c.self.invariant.valid c.self.invariant.named c.self.invariant.young_settings counted fits
     c.args.key c.tail_of-tail.result (c.self.inside.len + 1) c.tail_of-tail.ensures.value m_is c.add.new.self c.add.ensures
-    c.begin.new.self c.bring-due.result.0 start_is c.args.bay.now c.bring-due.new.bay c.bring-due.new.zero c.bring-due.new.levels
-    c.bring-due.result.1 c.in_err-result.field-0.0 c.in_err-result.was c.bring-due.ensures c.from_residual.result c.from_residual.ensures.1)
+    (due_in c.begin.new.due) (due_in c.bring.new.due) start_is c.args.bay.now c.bring.new.bay c.bring.new.zero c.bring.new.levels
+    c.bring.result c.in_err-bring.field-0.0 c.in_err-bring.was c.bring.ensures.brings c.from_residual.result c.from_residual.ensures.1)
 
 pub returns-then-is_full : goal.returns-then-is_full
 returns-then-is_full g c =
@@ -67,12 +92,12 @@ returns-then-is_full g c =
     let fits : length c.self.inside.taken < capacity c.self.inside.settings = subst (λ (v : Tallied). length v.listing.events < capacity v.listing.settings) (sym c.self.view_is) c.requires.fits
     in
     let m_is : c.self.inside.len + 1 ≡ suc (length c.self.inside.taken) = omega (arith, c.self.invariant.len_is) in
-    let start_is : c.begin.new.self ≡ started (due_in c.self.inside.due) (c.self.inside.len + 1) =
-    c.begin.ensures.begun ∙ ap (λ (d : Option Dues). started (due_in d) (c.self.inside.len + 1)) (sym c.in-Some.is ∙ c.take.ensures.value) in
+    let start_is : (due_in c.begin.new.due) ≡ started (due_in c.self.inside.due) (c.self.inside.len + 1) =
+    c.begin.ensures.begun in
     let own : cone_of c.self.inside.settings c.args.key ≡ c.self.inside.cone =
     subst (λ (v : Tallied). cone_of v.listing.settings c.args.key ≡ v.listing.cone) (sym c.self.view_is) c.requires.own in
     let still : c.self.inside.closed ≡ false = subst (λ (v : Tallied). v.listing.closed ≡ false) (sym c.self.view_is) c.requires.still in
-    let brings = rw c.in_ok-result.was at c.bring-due.ensures in
+    let brings = rw c.in_ok-bring.was at c.bring.ensures.brings in
     rw (← c.self.view_is) (no_room (bays g) (lawful g)
     (record {
       listing = record { settings = c.self.inside.settings; cone = c.self.inside.cone; events = c.self.inside.taken; closed = c.self.inside.closed };
@@ -82,8 +107,8 @@ returns-then-is_full g c =
     })
     c.self.inside.levels.settings c.self.invariant.levels_settings c.self.invariant.valid c.self.invariant.named c.self.invariant.young_settings counted fits
     c.args.key c.tail_of-tail.result (c.self.inside.len + 1) c.tail_of-tail.ensures.value m_is c.add.new.self c.add.ensures
-    c.begin.new.self c.bring-due.result.0 start_is c.args.bay.now c.bring-due.new.bay c.bring-due.new.zero c.bring-due.new.levels
-    c.ranges.key.fits own still brings (sym c.is_full-is_full.ensures.value ∙ c.if-is_full.true) (c.is_full-is_full.ensures.full c.if-is_full.true))
+    (due_in c.begin.new.due) (due_in c.bring.new.due) start_is c.args.bay.now c.bring.new.bay c.bring.new.zero c.bring.new.levels
+    c.ranges.key.fits own still brings (sym c.is_full.ensures.value ∙ c.if-is_full.true) (c.is_full.ensures.full c.if-is_full.true))
 
 pub returns : goal.returns
 returns g c =
@@ -96,12 +121,12 @@ returns g c =
     let fits : length c.self.inside.taken < capacity c.self.inside.settings = subst (λ (v : Tallied). length v.listing.events < capacity v.listing.settings) (sym c.self.view_is) c.requires.fits
     in
     let m_is : c.self.inside.len + 1 ≡ suc (length c.self.inside.taken) = omega (arith, c.self.invariant.len_is) in
-    let start_is : c.begin.new.self ≡ started (due_in c.self.inside.due) (c.self.inside.len + 1) =
-    c.begin.ensures.begun ∙ ap (λ (d : Option Dues). started (due_in d) (c.self.inside.len + 1)) (sym c.in-Some.is ∙ c.take.ensures.value) in
+    let start_is : (due_in c.begin.new.due) ≡ started (due_in c.self.inside.due) (c.self.inside.len + 1) =
+    c.begin.ensures.begun in
     let own : cone_of c.self.inside.settings c.args.key ≡ c.self.inside.cone =
     subst (λ (v : Tallied). cone_of v.listing.settings c.args.key ≡ v.listing.cone) (sym c.self.view_is) c.requires.own in
     let still : c.self.inside.closed ≡ false = subst (λ (v : Tallied). v.listing.closed ≡ false) (sym c.self.view_is) c.requires.still in
-    let brings = rw c.in_ok-result.was at c.bring-due.ensures in
+    let brings = rw c.in_ok-bring.was at c.bring.ensures.brings in
     rw (← c.self.view_is) (key_counted (bays g) (lawful g)
     (record {
       listing = record { settings = c.self.inside.settings; cone = c.self.inside.cone; events = c.self.inside.taken; closed = c.self.inside.closed };
@@ -111,5 +136,5 @@ returns g c =
     })
     c.self.inside.levels.settings c.self.invariant.levels_settings c.self.invariant.valid c.self.invariant.named c.self.invariant.young_settings counted fits
     c.args.key c.tail_of-tail.result (c.self.inside.len + 1) c.tail_of-tail.ensures.value m_is c.add.new.self c.add.ensures
-    c.begin.new.self c.bring-due.result.0 start_is c.args.bay.now c.bring-due.new.bay c.bring-due.new.zero c.bring-due.new.levels
-    c.ranges.key.fits own still brings c.push.new.self c.push.ensures (sym c.is_full-is_full.ensures.value ∙ c.if-is_full.false))
+    (due_in c.begin.new.due) (due_in c.bring.new.due) start_is c.args.bay.now c.bring.new.bay c.bring.new.zero c.bring.new.levels
+    c.ranges.key.fits own still brings c.push.new.self c.push.ensures (sym c.is_full.ensures.value ∙ c.if-is_full.false))

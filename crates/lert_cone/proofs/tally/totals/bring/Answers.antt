@@ -1,4 +1,4 @@
-use Rattle.std.proofs.Common.{◌≡◌, ◌≢◌, ℕ, ◌+◌, List, [], ◌∷◌, drop, refl, subst, sym, sum_by, ap, ap₂, ◌∙◌, arith}
+use Rattle.std.proofs.Common.{◌≡◌, ℕ, ◌+◌, List, [], ◌∷◌, drop, refl, subst, sym, sum_by, ap, ap₂, ◌∙◌, arith}
 use Rattle.std.proofs.lemmas.Option.{same_Some}
 use Rattle.lert_bay.specs.Files.{Files}
 use Rattle.lert_bay.specs.Kept.{Bays}
@@ -7,7 +7,7 @@ use Rattle.lert_bay.proofs.Lasting.{lasts_none}
 use Rattle.lert_spec.specs.declared.numbers.Numbers.{Numbers}
 use Rattle.lert_spec.specs.declared.piece.Piece.{Piece}
 use Rattle.lert_spec.specs.Bins.{Bin}
-use Rattle.lert_spec.specs.Edges.{span, depth}
+use Rattle.lert_spec.specs.Edges.{span}
 use Rattle.lert_spec.specs.Table.{count_of}
 use Rattle.lert_levels.specs.Flushed.{InNamed}
 use Rattle.lert_rows.specs.Loading.{OneBreaks}
@@ -18,7 +18,8 @@ use Rattle.lert_rows.specs.Young.{Young}
 use Rattle.lert_rows.proofs.LandLaws.{rest_none}
 use Rattle.lert_rows.proofs.RowLaws.{IsAt-moved, AreRows-moved}
 use Rattle.lert_cone.specs.Due.{TookFrom}
-use Rattle.lert_cone.proofs.TallyLaws.{edge_still, young_total, flush_total, rows_still, flush_moves, dropped_edge, dropped_bins}
+use Rattle.lert_cone.proofs.TallyLaws.{young_total, flush_total, rows_still, dropped_edge, dropped_bins}
+use Rattle.lert_cone.proofs.NextFlush.{moves_deep, stays_shallow}
 use Rattle.lert_cone.proofs.TotalLaws.{edge_within}
 use Rattle.lert_cone.proofs.tally.totals.bring.Given as given
 use Rattle.lert_cone.proofs.tally.totals.bring.Goals as goal
@@ -29,38 +30,30 @@ bays g = record { faults = g.B.Faulty.faults; mark = g.B.Faulty.mark; files = g.
 lawful : (g : given.Over) → IsLawful (bays g)
 lawful g = record { as_read = g.met.B.Bay.as_read; since_now = g.met.B.Bay.since_now; only_now = g.met.B.Bay.only_now; since_earlier = g.met.B.Bay.since_earlier }
 
-shallow : (found m : ℕ) (now s : Numbers) → found ≡ depth now m → now ≡ s → found ≡ 0 → depth s m ≡ 0
-shallow found m now s value same none = ap (λ (t : Numbers). depth t m) (sym same) ∙ sym value ∙ none
-
-deep : (found m : ℕ) (now s : Numbers) → found ≡ depth now m → now ≡ s → (found ≡ 0 → ⊥) → depth s m ≢ 0
-deep found m now s value same some none = some (value ∙ ap (λ (t : Numbers). depth t m) same ∙ none)
-
-pub returns-then-depth-eq0 : goal.returns-then-depth-eq0
-returns-then-depth-eq0 g c = record {
+pub returns-then-not-flushes-clause-brings : goal.returns-then-not-flushes-clause-brings
+returns-then-not-flushes-clause-brings g c = record {
   young_settings = refl;
   settings = refl;
-  from = c.requires.from ∙ sym (edge_still c.args.levels.now.settings c.requires.valid c.args.m (shallow c.depth.result c.args.m c.settings.result.now c.args.levels.now.settings
-      c.depth.ensures.value (c.settings.ensures ∙ c.requires.settings) c.if-depth-eq0.true));
+  from = c.requires.from ∙ sym (c.requires.stays c.if-not-flushes.true);
   to = c.requires.to;
   bins = λ events long bins.
       let s = c.args.levels.now.settings in
-      let still = edge_still s c.requires.valid c.args.m (shallow c.depth.result c.args.m c.settings.result.now s
-      c.depth.ensures.value (c.settings.ensures ∙ c.requires.settings) c.if-depth-eq0.true) in
+      let still = c.requires.stays c.if-not-flushes.true in
       record { is = bins.is ∙ ap (λ p. young_bins c.args.levels.now.settings events p) (c.requires.from ∙ sym still) };
-  rows = rows_still c.args.levels.now.settings c.requires.valid c.args.m c.args.levels.now.rows (shallow c.depth.result c.args.m c.settings.result.now c.args.levels.now.settings
-      c.depth.ensures.value (c.settings.ensures ∙ c.requires.settings) c.if-depth-eq0.true) c.requires.rows;
+  rows = rows_still c.args.levels.now.settings c.requires.valid c.args.m c.args.levels.now.rows
+      (stays_shallow c.args.levels.now.settings c.requires.valid c.args.m (c.requires.stays c.if-not-flushes.true)) c.requires.rows;
   holds = λ events long bins seen told holds after told_after.
       subst (λ (files : Files). HoldsBins c.args.levels.now.settings events c.args.levels.now.rows (files 2)) (same_Some seen after (sym told ∙ told_after)) holds;
   totals = λ events long bins seen told holds.
       let s = c.args.levels.now.settings in
       let is = young_total s c.requires.valid events c.args.m c.args.tail (sum_by (λ (bin : Bin). count_of bin.pieces c.args.tail) c.args.zero.now.bins)
       c.args.zero.now.from c.args.zero.now.bins long c.requires.from
-      (shallow c.depth.result c.args.m c.settings.result.now s c.depth.ensures.value (c.settings.ensures ∙ c.requires.settings) c.if-depth-eq0.true) bins refl in
+      (stays_shallow c.args.levels.now.settings c.requires.valid c.args.m (c.requires.stays c.if-not-flushes.true)) bins refl in
       subst (λ (pieces : List Piece). TookFrom g.N.Begun.start c.total_of_key.new.due pieces) is
-      (c.total_of_key.ensures g.N.Begun.start c.requires.start);
+      (c.total_of_key.ensures g.N.Begun.start (let start = rw c.in-Some.is at c.requires.start in start));
   took = (
     record { tail = c.args.tail; count = sum_by (λ (bin : Bin). count_of bin.pieces c.args.tail) c.args.zero.now.bins } ∷ [],
-    c.total_of_key.ensures g.N.Begun.start c.requires.start,
+    c.total_of_key.ensures g.N.Begun.start (let start = rw c.in-Some.is at c.requires.start in start),
   );
   sound = λ events long bins seen told holds at same. (let never : ⊥ = cc in never);
   malformed = λ seen told at same. absurd (let never : ⊥ = cc in never);
@@ -78,83 +71,76 @@ returns-then-depth-eq0 g c = record {
   };
 }
 
-pub flush_into-due-requires-clause-flushes : goal.flush_into-due-requires-clause-flushes
-flush_into-due-requires-clause-flushes g c =
-    flush_moves c.args.levels.now.settings c.requires.valid c.args.m (deep c.depth.result c.args.m c.settings.result.now c.args.levels.now.settings c.depth.ensures.value (c.settings.ensures
-    ∙ c.requires.settings) c.if-depth-eq0.false)
+pub flush_into-taken-requires-clause-flushes : goal.flush_into-taken-requires-clause-flushes
+flush_into-taken-requires-clause-flushes g c =
+    c.requires.moves c.if-not-flushes.false
 
 pub drop_oldest-requires : goal.drop_oldest-requires
 drop_oldest-requires g c =
-    let next = dropped_edge c.args.levels.now.settings c.requires.valid c.args.m (deep c.depth.result c.args.m c.settings.result.now c.args.levels.now.settings c.depth.ensures.value
-    (c.settings.ensures ∙ c.requires.settings) c.if-depth-eq0.false) in
+    let next = dropped_edge c.args.levels.now.settings c.requires.valid c.args.m (moves_deep c.args.levels.now.settings c.requires.valid c.args.m (c.requires.moves c.if-not-flushes.false)) in
     let wide : span c.args.zero.now.settings 0 ≡ span c.args.levels.now.settings 0 = ap (λ (t : Numbers). span t 0) c.requires.settings in
     omega (arith, next, wide, c.requires.from, c.requires.to, edge_within c.args.levels.now.settings 0 c.args.m)
 
-pub returns-in-Ok : goal.returns-in-Ok
-returns-in-Ok g c = record {
+pub returns-in-Ok-clause-brings : goal.returns-in-Ok-clause-brings
+returns-in-Ok-clause-brings g c = record {
   young_settings = ap (λ (y : Young). y.settings) c.drop_oldest.ensures;
-  settings = (let flushed_ = rw c.in-Ok.is at c.flush_into-due.ensures.flushed in ap (λ (v : OnDisk). v.settings) flushed_);
-  from = (let next = dropped_edge c.args.levels.now.settings c.requires.valid c.args.m (deep c.depth.result c.args.m c.settings.result.now c.args.levels.now.settings c.depth.ensures.value
-      (c.settings.ensures ∙ c.requires.settings) c.if-depth-eq0.false) in
+  settings = (let flushed_ = rw c.in-Ok.is at c.flush_into-taken.ensures.flushed in ap (λ (v : OnDisk). v.settings) flushed_);
+  from = (let next = dropped_edge c.args.levels.now.settings c.requires.valid c.args.m (moves_deep c.args.levels.now.settings c.requires.valid c.args.m (c.requires.moves c.if-not-flushes.false)) in
       ap (λ (y : Young). y.from) c.drop_oldest.ensures
       ∙ ap₂ (λ (from : ℕ) (t : Numbers). from + span t 0) c.requires.from c.requires.settings
       ∙ sym next);
   to = ap (λ (y : Young). y.to) c.drop_oldest.ensures ∙ c.requires.to;
   bins = λ events long bins.
       let dropped = dropped_bins c.args.levels.now.settings c.requires.valid events c.args.m long
-      (deep c.depth.result c.args.m c.settings.result.now c.args.levels.now.settings c.depth.ensures.value
-      (c.settings.ensures ∙ c.requires.settings) c.if-depth-eq0.false) in
+      (moves_deep c.args.levels.now.settings c.requires.valid c.args.m (c.requires.moves c.if-not-flushes.false)) in
       record {
         is = ap (λ (y : Young). y.bins) c.drop_oldest.ensures
             ∙ ap (drop 1) (bins.is ∙ ap (λ p. young_bins c.args.levels.now.settings events p) c.requires.from)
             ∙ dropped;
       };
-  rows = (let moved_ = rw c.in-Ok.is at c.flush_into-due.ensures.flushed in
+  rows = (let moved_ = rw c.in-Ok.is at c.flush_into-taken.ensures.flushed in
       subst (λ (v : OnDisk). IsAt c.args.levels.now.settings c.args.m v.rows) (sym moved_)
       (IsAt-moved c.args.levels.now.settings c.requires.valid c.args.m c.requires.first c.requires.last c.args.levels.now.rows c.requires.rows));
   holds = λ events long bins seen told holds after told_after.
-      let moved_ = rw c.in-Ok.is at c.flush_into-due.ensures.flushed in
-      let held = rw c.in-Ok.is at (c.flush_into-due.ensures.holds events long bins seen told holds) in
-      subst (λ (t : Numbers). HoldsBins t events c.flush_into-due.new.levels.rows (after 2)) (ap (λ (v : OnDisk). v.settings) moved_) (held after told_after);
+      let moved_ = rw c.in-Ok.is at c.flush_into-taken.ensures.flushed in
+      let held = rw c.in-Ok.is at (c.flush_into-taken.ensures.holds events long bins seen told holds) in
+      subst (λ (t : Numbers). HoldsBins t events c.flush_into-taken.new.levels.rows (after 2)) (ap (λ (v : OnDisk). v.settings) moved_) (held after told_after);
   totals = λ events long bins seen told holds.
-      let took = rw c.in-Ok.is at (c.flush_into-due.ensures.totals events long bins seen told holds) in
-      subst (λ (pieces : List Piece). TookFrom g.N.Begun.start c.flush_into-due.result.0 pieces)
-      (flush_total c.args.levels.now.settings c.requires.valid events c.args.m c.args.tail (deep c.depth.result c.args.m c.settings.result.now c.args.levels.now.settings c.depth.ensures.value
-      (c.settings.ensures ∙ c.requires.settings) c.if-depth-eq0.false))
+      let took = rw c.in-Ok.is at (c.flush_into-taken.ensures.totals events long bins seen told holds) in
+      subst (λ (pieces : List Piece). TookFrom g.N.Begun.start c.flush_into-taken.result.0 pieces)
+      (flush_total c.args.levels.now.settings c.requires.valid events c.args.m c.args.tail (moves_deep c.args.levels.now.settings c.requires.valid c.args.m (c.requires.moves c.if-not-flushes.false)))
       took;
-  took = (let took_ = rw c.in-Ok.is at c.flush_into-due.ensures.took in took_);
+  took = (let took_ = rw c.in-Ok.is at c.flush_into-taken.ensures.took in took_);
   sound = λ events long bins seen told holds at same. (let never : ⊥ = cc in never);
   malformed = λ seen told at same. absurd (let never : ⊥ = cc in never);
   malformed_after = λ after told at same. absurd (let never : ⊥ = cc in never);
   images = λ events long bins seen told holds each after told_after image may.
-      let moved_ = rw c.in-Ok.is at c.flush_into-due.ensures.flushed in
-      let held = rw c.in-Ok.is at (c.flush_into-due.ensures.holds events long bins seen told holds) in
-      let durable = rw c.in-Ok.is at c.flush_into-due.ensures.durable in
-      subst (λ (bytes : List ℕ). HoldsBins c.args.levels.now.settings events c.flush_into-due.new.levels.rows bytes) (sym (durable after told_after image may))
-      (subst (λ (t : Numbers). HoldsBins t events c.flush_into-due.new.levels.rows (after 2)) (ap (λ (v : OnDisk). v.settings) moved_) (held after told_after));
+      let moved_ = rw c.in-Ok.is at c.flush_into-taken.ensures.flushed in
+      let held = rw c.in-Ok.is at (c.flush_into-taken.ensures.holds events long bins seen told holds) in
+      let durable = rw c.in-Ok.is at c.flush_into-taken.ensures.durable in
+      subst (λ (bytes : List ℕ). HoldsBins c.args.levels.now.settings events c.flush_into-taken.new.levels.rows bytes) (sym (durable after told_after image may))
+      (subst (λ (t : Numbers). HoldsBins t events c.flush_into-taken.new.levels.rows (after 2)) (ap (λ (v : OnDisk). v.settings) moved_) (held after told_after));
   are = λ are.
-      let moved_ = rw c.in-Ok.is at c.flush_into-due.ensures.flushed in
+      let moved_ = rw c.in-Ok.is at c.flush_into-taken.ensures.flushed in
       subst (λ (v : OnDisk). AreRows c.args.levels.now.settings v.rows) (sym moved_)
       (AreRows-moved c.args.levels.now.settings c.requires.valid c.args.m c.requires.first c.requires.last c.args.levels.now.rows c.requires.rows are);
   still = λ stays.
-      absurd (flush_moves c.args.levels.now.settings c.requires.valid c.args.m (deep c.depth.result c.args.m c.settings.result.now c.args.levels.now.settings c.depth.ensures.value
-      (c.settings.ensures ∙ c.requires.settings) c.if-depth-eq0.false) stays);
+      absurd (c.requires.moves c.if-not-flushes.false stays);
   unflushed = λ stays.
-      absurd (flush_moves c.args.levels.now.settings c.requires.valid c.args.m (deep c.depth.result c.args.m c.settings.result.now c.args.levels.now.settings c.depth.ensures.value
-      (c.settings.ensures ∙ c.requires.settings) c.if-depth-eq0.false) stays);
-  rest = c.flush_into-due.ensures.rest;
+      absurd (c.requires.moves c.if-not-flushes.false stays);
+  rest = c.flush_into-taken.ensures.rest;
   kept = record {
-    time = c.flush_into-due.ensures.kept.time;
-    never_falls = c.flush_into-due.ensures.kept.never_falls;
+    time = c.flush_into-taken.ensures.kept.time;
+    never_falls = c.flush_into-taken.ensures.kept.never_falls;
     failed = λ same. absurd (let never : ⊥ = cc in never);
-    mark = c.flush_into-due.ensures.kept.mark;
+    mark = c.flush_into-taken.ensures.kept.mark;
   };
 }
 
-pub returns-in-Err : goal.returns-in-Err
-returns-in-Err g c = record {
+pub returns-in-Err-clause-brings : goal.returns-in-Err-clause-brings
+returns-in-Err-clause-brings g c = record {
   young_settings = refl;
-  settings = (let stays = rw c.in-Err.is at c.flush_into-due.ensures.refused in ap (λ (v : OnDisk). v.settings) stays);
+  settings = (let stays = rw c.in-Err.is at c.flush_into-taken.ensures.refused in ap (λ (v : OnDisk). v.settings) stays);
   from = tt;
   to = tt;
   bins = λ events long bins. tt;
@@ -163,24 +149,23 @@ returns-in-Err g c = record {
   totals = λ events long bins seen told holds. tt;
   took = tt;
   sound = λ events long bins seen told holds at same.
-      c.flush_into-due.ensures.sound events long bins seen told holds at (c.in-Err.is ∙ same);
+      c.flush_into-taken.ensures.sound events long bins seen told holds at (c.in-Err.is ∙ same);
   malformed = λ seen told at same.
-      let stays = rw c.in-Err.is at c.flush_into-due.ensures.refused in
-      subst (λ (v : OnDisk). OneBreaks v.settings v.rows (seen 2) at) (sym stays) (c.flush_into-due.ensures.malformed seen told at (c.in-Err.is ∙ same));
+      let stays = rw c.in-Err.is at c.flush_into-taken.ensures.refused in
+      subst (λ (v : OnDisk). OneBreaks v.settings v.rows (seen 2) at) (sym stays) (c.flush_into-taken.ensures.malformed seen told at (c.in-Err.is ∙ same));
   malformed_after = λ after told at same.
-      let stays = rw c.in-Err.is at c.flush_into-due.ensures.refused in
-      subst (λ (v : OnDisk). OneBreaks v.settings v.rows (after 2) at) (sym stays) (c.flush_into-due.ensures.malformed_after after told at (c.in-Err.is ∙ same));
+      let stays = rw c.in-Err.is at c.flush_into-taken.ensures.refused in
+      subst (λ (v : OnDisk). OneBreaks v.settings v.rows (after 2) at) (sym stays) (c.flush_into-taken.ensures.malformed_after after told at (c.in-Err.is ∙ same));
   images = λ events long bins seen told holds each. tt;
   are = tt;
   still = λ stays. tt;
   unflushed = λ stays.
-      absurd (flush_moves c.args.levels.now.settings c.requires.valid c.args.m (deep c.depth.result c.args.m c.settings.result.now c.args.levels.now.settings c.depth.ensures.value
-      (c.settings.ensures ∙ c.requires.settings) c.if-depth-eq0.false) stays);
-  rest = c.flush_into-due.ensures.rest;
+      absurd (c.requires.moves c.if-not-flushes.false stays);
+  rest = c.flush_into-taken.ensures.rest;
   kept = record {
-    time = c.flush_into-due.ensures.kept.time;
-    never_falls = c.flush_into-due.ensures.kept.never_falls;
-    failed = λ same. c.flush_into-due.ensures.kept.failed (c.in-Err.is ∙ same);
-    mark = c.flush_into-due.ensures.kept.mark;
+    time = c.flush_into-taken.ensures.kept.time;
+    never_falls = c.flush_into-taken.ensures.kept.never_falls;
+    failed = λ same. c.flush_into-taken.ensures.kept.failed (c.in-Err.is ∙ same);
+    mark = c.flush_into-taken.ensures.kept.mark;
   };
 }

@@ -1,6 +1,13 @@
 use Rattle.lert_rows.proofs.YoungBounds.{dropped_bounded}
-use Rattle.lert_rows.proofs.YoungDrops.{drops, dropped_filled, dropped_bins}
+use Rattle.lert_rows.proofs.YoungDrops.{drops, drops_whole, dropped_filled, dropped_bins}
+use Rattle.lert_rows.proofs.YoungNumbers.{some_numbered, dropped_numbered}
 use Rattle.lert_rows.proofs.zero.Zero.drop_oldest.Goals as goal
+
+pub overflow_sub-self : goal.overflow_sub-self
+overflow_sub-self g c =
+    some_numbered c.self.inside.settings c.self.invariant.2 c.span-span.ensures.value c.span-span.ensures.positive
+    (drops_whole (drops g.T.CountTable.pieces g.T.CountTable.room g.T.CountTable.quotient_bits g.T.CountTable.width c.clear.new.self c.self.invariant.0 c.self.view_is c.requires
+    c.span-span.ensures.value c.span-span.ensures.positive c.rotate_left.ensures.items))
 
 pub invariant_of-self : goal.invariant_of-self
 invariant_of-self g c =
@@ -11,6 +18,7 @@ invariant_of-self g c =
       filled,
       dropped_bounded known filled c.clear.ensures.pieces c.self.inside.bound c.aged-self-inside.new.bound c.self.inside.earlier c.aged-self-inside.result c.self.invariant.1
           c.aged-self-inside.ensures.some c.aged-self-inside.ensures.part c.aged-self-inside.ensures.none,
+      dropped_numbered c.self.inside.settings c.self.invariant.2 c.span-span.ensures.value c.span-span.ensures.positive (drops_whole known),
     )
 
 pub returns : goal.returns

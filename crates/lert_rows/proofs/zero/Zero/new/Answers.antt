@@ -1,6 +1,8 @@
 use Rattle.std.proofs.Common.{List, subst, sym, ◌+◌}
+use Rattle.lert_spec.specs.Limits.{IsValid}
 use Rattle.lert_rows.proofs.YoungLaws.{AreEmpty, empty_begin, empty_more, empty_filled, empty_bins}
 use Rattle.lert_rows.proofs.YoungBounds.{empty_bounded}
+use Rattle.lert_rows.proofs.YoungNumbers.{none_numbered}
 use Rattle.lert_rows.proofs.zero.Zero.new.Goals as goal
 
 pub loop-init : goal.loop-init
@@ -21,6 +23,7 @@ invariant_of-result g c = (
       c.loop-test.false c.loop.auto.counter-end,
   empty_bounded g.T.CountTable.pieces g.T.CountTable.room g.T.CountTable.quotient_bits g.T.CountTable.width c.args.settings.now c.loop.tables.items c.loop.counter
       c.in_ok-bound.bound c.loop.invariant c.in_ok-bound.ensures.counts,
+  none_numbered c.args.settings.now (subst IsValid c.numbers.ensures.value c.numbers.ensures.valid),
 )
 
 pub returns : goal.returns
