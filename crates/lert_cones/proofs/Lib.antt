@@ -1,4 +1,5 @@
 pub mod AskedLaws
+pub mod ClosedLaws
 pub mod ConeLaws
 pub mod ConeTexts
 pub mod EndLaws

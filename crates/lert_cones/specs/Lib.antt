@@ -1,4 +1,5 @@
 pub mod Asked
+pub mod Closed
 pub mod Finish
 pub mod Print
 pub mod Printed

@@ -1,8 +1,10 @@
 pub mod BayLaws
 pub mod FinalLaws
+pub mod MomentLaws
 pub mod ReopenLaws
 pub mod ReplayedLaws
 pub mod ReplayingLaws
 pub mod RestLaws
+pub mod ShownLaws
 pub mod SomeEvents
 pub mod StopLaws

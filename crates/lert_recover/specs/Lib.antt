@@ -1,3 +1,5 @@
+pub mod Moments
 pub mod Replayed
 pub mod Reopened
 pub mod Rest
+pub mod Shown

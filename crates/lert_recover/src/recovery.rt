@@ -1,6 +1,6 @@
 //! A cone over the files of a stopped run.
 
-ghost use Rattle.std.specs.Prelude.{◌≡◌, ◌⊎◌, ℕ, ◌<◌, ◌≤◌, ◌^◌, [], List, All, length, if◌then◌else◌, MatchResult, IfOk, IfErr, IsErrAnd};
+ghost use Rattle.std.specs.Prelude.{◌≡◌, ◌⊎◌, ℕ, ◌<◌, ◌≤◌, ◌^◌, ◌++◌, [], List, All, length, if◌then◌else◌, MatchResult, IfOk, IfErr, IsErrAnd};
 ghost use Rattle.lert_base.specs.declared.kept.Kept.{Kept as KeptOf};
 ghost use Rattle.lert_base.specs.Packet.{Packet, events_of};
 ghost use Rattle.lert_bay.specs.declared.bay.TheConstants.{JOURNAL, LOG, FRAMES};
@@ -9,17 +9,21 @@ ghost use Rattle.lert_bay.specs.Kept.{KeepsBay};
 ghost use Rattle.lert_cone.specs.Framed.{HoldsSome};
 ghost use Rattle.lert_cone.specs.Replays.{Replays};
 ghost use Rattle.lert_cone.specs.Room.{IsRoom};
-ghost use Rattle.lert_cone.specs.Sound.{IsSound, IsJournal};
+ghost use Rattle.lert_cone.specs.Sound.{IsSound, IsJournal, StaysSound};
 ghost use Rattle.lert_cone.specs.Stands.{IsSameCone, StandsFor, WasSound};
 ghost use Rattle.lert_gatelog.specs.Gated.{IsClosed};
 ghost use Rattle.lert_files.specs.Headed.{HasOther};
 ghost use Rattle.lert_files.specs.Opened.{WritesNothing};
+ghost use Rattle.lert_recover.specs.Moments.{AreSound};
 ghost use Rattle.lert_recover.specs.Reopened.{IsReopened, IsReopenRefused, IsStopped, IsUnsoundAt};
 ghost use Rattle.lert_recover.specs.Replayed.{FirstLeaves, FlushesNothing, HasReplayed, IsJournalSame};
 ghost use Rattle.lert_reports.specs.Log.{is_closed, last_n0, HasLog};
 ghost use Rattle.lert_reports.specs.LogText.{LogRecord};
+ghost use Rattle.lert_recover.specs.Shown.{reports_for};
+ghost use Rattle.lert_spec.specs.declared.report.Report.{Report};
 ghost use Rattle.lert_spec.specs.Edges.{capacity};
 ghost use Rattle.lert_spec.specs.Limits.{IsValid};
+ghost use Rattle.lert_spec.specs.Look.{look};
 
 use crate::journal_rest::why_stopped;
 use crate::replay::replay_all;
@@ -59,6 +63,13 @@ pub fn reopen<B: Bay, T: CountTable>(
         (λ now. StandsFor B.files B.leaves B.faults now h × (now.state ≡ if is_closed sound.logged then ConeState.Finished else ConeState.Running))
         (λ refused. refused.fault ≡ ReopenFault.Failed)) }
 
+    // Its reports are those of that list. So all that a cone showed that stood for the packets before some of the last ones are
+    // among them, with their positions, and first.
+    ensures reports { IfTold (B.files bay) (λ seen. (h : List Packet) (sound : IsSound room.settings cone h seen) →
+        IfOk result (λ now. now.reports ≡ reports_for room.settings h (is_closed sound.logged))) }
+    ensures shown { IfTold (B.files bay) (λ seen. (h more : List Packet) → IsSound room.settings cone (h ++ more) seen →
+        IfOk result (λ now. (rest : List Report) × (now.reports ≡ look room.settings (events_of h) ++ rest))) }
+
     // Told or not, it stands for each list of as many events. Where the files were told and sound for a list, that is such a list.
     ensures stands { IfOk result (λ now. (h : List Packet) → All (λ packet. 0 < length packet.keys) h → length (events_of h) ≡ now.events →
         IfTold (B.files bay) (λ seen. (other : List Packet) → IsSound room.settings cone other seen → IsSound room.settings cone h seen) →
@@ -84,10 +95,18 @@ pub fn reopen<B: Bay, T: CountTable>(
     ensures closed { IfTold (B.files bay) (λ seen. IfOk result (λ now. (records : List LogRecord) × (log_end : ℕ)
         × HasLog room.settings cone (seen LOG) records log_end × (now.listing.closed ≡ is_closed records))) }
 
-    // A refusal leaves files that are sound for a list sound for it. And where no flush position above the log's last record lies
-    // among the keys of the journal, nothing is written, whatever it answers: the files are as they were, byte for byte.
+    // A refusal leaves files that are sound for a list sound for it.
     ensures stays_sound { IfTold (B.files bay) (λ seen. (h : List Packet) → IsSound room.settings cone h seen →
         IfErr result (λ refused. IfTold (B.files refused.bay) (IsSound room.settings cone h))) }
+
+    // A stop at any moment of it leaves what it may open again: where every image is sound for a list as it begins, so is every
+    // image of each moment up to its answer, whatever that is.
+    ensures each_moment { IfTold (B.files bay) (λ _. (h : List Packet) → AreSound (B.leaves bay) room.settings cone h → MatchResult result
+        (λ now. StaysSound B.Bay room.settings cone h bay now.bay)
+        (λ refused. StaysSound B.Bay room.settings cone h bay refused.bay)) }
+
+    // Where no flush position above the log's last record lies among the keys of the journal, nothing is written, whatever it
+    // answers: the files are as they were, byte for byte.
     ensures unflushed { IfTold (B.files bay) (λ seen.
         ((records : List LogRecord) (log_end : ℕ) → HasLog room.settings cone (seen LOG) records log_end → FlushesNothing room.settings (last_n0 records) (seen JOURNAL)) →
         MatchResult result (λ now. WritesNothing B.Bay bay now.bay ⊥) (λ refused. WritesNothing B.Bay bay refused.bay ⊥)) }
@@ -120,6 +139,9 @@ fn reopen_in_order<B: Bay, T: CountTable>(
         StandsFor B.files B.leaves B.faults now h) }
     ensures stays_sound { IfTold (B.files bay) (λ seen. (h : List Packet) → IsSound room.settings cone h seen →
         IfErr result (λ refused. IfTold (B.files refused.bay) (IsSound room.settings cone h))) }
+    ensures each_moment { IfTold (B.files bay) (λ _. (h : List Packet) → AreSound (B.leaves bay) room.settings cone h → MatchResult result
+        (λ now. StaysSound B.Bay room.settings cone h bay now.bay)
+        (λ refused. StaysSound B.Bay room.settings cone h bay refused.bay)) }
     ensures unflushed { IfTold (B.files bay) (λ seen.
         ((records : List LogRecord) (log_end : ℕ) → HasLog room.settings cone (seen LOG) records log_end → FlushesNothing room.settings (last_n0 records) (seen JOURNAL)) →
         MatchResult result (λ now. WritesNothing B.Bay bay now.bay ⊥) (λ refused. WritesNothing B.Bay bay refused.bay ⊥)) }
@@ -180,6 +202,10 @@ fn replay_journal<B: Bay, T: CountTable>(
     ensures kept { MatchResult result (λ now. KeepsBay B.Bay cone.bay now.bay ⊥) (λ refused. KeepsBay B.Bay cone.bay refused.bay (refused.fault ≡ ReopenFault.Failed)) }
     ensures stays_sound { IfTold (B.files cone.bay) (λ _. IfErr result (λ refused. (h : List Packet) → Replays B.files B.leaves cone h [] →
         IfTold (B.files refused.bay) (IsSound cone.listing.settings cone.listing.cone h))) }
+    ensures each_moment { IfTold (B.files cone.bay) (λ _. (h : List Packet) → Replays B.files B.leaves cone h [] →
+        AreSound (B.leaves cone.bay) cone.listing.settings cone.listing.cone h → MatchResult result
+        (λ now. StaysSound B.Bay cone.listing.settings cone.listing.cone h cone.bay now.bay)
+        (λ refused. StaysSound B.Bay cone.listing.settings cone.listing.cone h cone.bay refused.bay)) }
     ensures unflushed { IfTold (B.files cone.bay) (λ seen. FlushesNothing cone.listing.settings cone.last.n0 (seen JOURNAL) →
         MatchResult result (λ now. WritesNothing B.Bay cone.bay now.bay ⊥) (λ refused. WritesNothing B.Bay cone.bay refused.bay ⊥)) }
 {

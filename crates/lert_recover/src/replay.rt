@@ -8,11 +8,12 @@ ghost use Rattle.lert_bay.specs.Kept.{KeepsBay};
 ghost use Rattle.lert_cone.specs.Framed.{HoldsSome};
 ghost use Rattle.lert_cone.specs.Replay.{ReplayLeavesAt};
 ghost use Rattle.lert_cone.specs.Replays.{Replays};
-ghost use Rattle.lert_cone.specs.Sound.{IsSound};
+ghost use Rattle.lert_cone.specs.Sound.{IsSound, StaysSound};
 ghost use Rattle.lert_cone.specs.Stands.{IsSameCone};
 ghost use Rattle.lert_cone.specs.Wrote.{IsShutIfTold};
 ghost use Rattle.lert_files.specs.Opened.{WritesNothing};
 ghost use Rattle.lert_gatelog.specs.Gated.{IsClosed};
+ghost use Rattle.lert_recover.specs.Moments.{AreSound};
 ghost use Rattle.lert_recover.specs.Replayed.{FlushesNothing, HasReplayed, IsJournalSame};
 ghost use Rattle.lert_spec.specs.Edges.{capacity};
 ghost use Rattle.lert_spec.specs.Limits.{IsValid};
@@ -57,9 +58,13 @@ pub fn replay_all<B: Bay, T: CountTable>(cone: &mut Cone<B, T>) -> Result<u64, S
     ensures replays { IfTold (B.files cone.old.bay) (λ _. (h : List Packet) → Replays B.files B.leaves cone.old h [] →
         MatchResult result (λ _. Replays B.files B.leaves cone.new h h) (λ stop. stop.fault ≡ ReplayFault.Failed)) }
 
-    // Whatever it answers, the files that it leaves are sound for that list; and they are as they were where no flush comes.
+    // Whatever it answers, the files that it leaves are sound for that list, and every image of each moment is, where every image
+    // was before; and they are as they were where no flush comes.
     ensures stays_sound { IfTold (B.files cone.old.bay) (λ _. (h : List Packet) → Replays B.files B.leaves cone.old h [] →
         IfTold (B.files cone.new.bay) (IsSound cone.old.listing.settings cone.old.listing.cone h)) }
+    ensures each_moment { IfTold (B.files cone.old.bay) (λ _. (h : List Packet) → Replays B.files B.leaves cone.old h [] →
+        AreSound (B.leaves cone.old.bay) cone.old.listing.settings cone.old.listing.cone h →
+        StaysSound B.Bay cone.old.listing.settings cone.old.listing.cone h cone.old.bay cone.new.bay) }
     ensures unflushed { IfTold (B.files cone.old.bay) (λ seen. FlushesNothing cone.old.listing.settings cone.old.last.n0 (seen JOURNAL) →
         WritesNothing B.Bay cone.old.bay cone.new.bay ⊥) }
 

@@ -3,12 +3,12 @@ use Rattle.std.proofs.Common.{◌≡◌, ◌⊎◌, ℕ, ◌≤◌, List, Option
 use Rattle.std.specs.Prelude.{⊤}
 use Rattle.std.proofs.lemmas.Option.{slice_get_within}
 use Rattle.lert_bay.specs.Files.{Files}
-use Rattle.lert_io.specs.Fault.{HasRisen, IsFaultless}
+use Rattle.lert_io.specs.Fault.{IsFaultless}
 use Rattle.lert_spec.specs.declared.numbers.Numbers.{Numbers}
 use Rattle.lert_ingest.specs.declared.status.Status.{Status}
 use Rattle.lert_ingest.specs.declared.status.Status.TheVariants.{Done, Usage, PlaceFault, TraceFault, BadTrace, TooLong, NotFresh, BayFault, CapacityFull, Malformed, OtherSettings, OutFault}
 use Rattle.lert_ingest.specs.declared.status.Status.TheVariants.{OutOfMemory}
-use Rattle.lert_ingest.specs.Bays.{AreFaultless, AreFresh, AreFreshBelow, AreLater, AreOpenWoven, AreTold, AreToldFresh, AreUnused, HasFailed, IsStale, IsUntold}
+use Rattle.lert_ingest.specs.Bays.{AreFaultless, AreFresh, AreFreshBelow, AreLater, AreOpenWoven, AreTold, AreToldFresh, AreUnused, IsStale}
 use Rattle.lert_ingest.specs.Stops.{AreOpenPartly, ArePartly, IsExact, StopShows}
 use Rattle.lert_ingest.specs.Traces.{AreKeysOf, AreReadToEnd}
 use Rattle.lert_ingest.proofs.EachLaws.{but_more, unused_but}

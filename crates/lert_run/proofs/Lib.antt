@@ -1,3 +1,4 @@
+pub mod DoneLaws
 pub mod Ending
 pub mod RunLaws
 pub mod UnmadeLaws

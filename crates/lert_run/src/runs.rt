@@ -11,6 +11,7 @@ ghost use Rattle.lert_ingest.specs.Stops.{AreWeaving, IsExact};
 ghost use Rattle.lert_ingest.specs.Traces.{AreTracesLater};
 ghost use Rattle.lert_place.specs.Openings.{AreReturned, AreReturnedSame};
 ghost use Rattle.lert_cones.specs.Asked.{IsAsked, IsAskedForBays};
+ghost use Rattle.lert_cones.specs.Closed.{AreClosedInEach, AreReturnedClosed};
 ghost use Rattle.lert_cones.specs.Finish.{EndShows};
 ghost use Rattle.lert_run.specs.Ran.{HasPutBack, IsDone};
 ghost use Rattle.lert_run.specs.Run.{HasRun, StatusShows, is_past_freshness};
@@ -74,6 +75,8 @@ pub fn run_line<P: Place, K: Sink, R: Threads + Wait + Sync>(
         × (result ≢ Status.OutOfMemory → length (P.handed_traces place.new) ≡ length job.entry.traces.now)
         × HasRun P.Trace.remaining P.Trace.faults K.taken K.faults P.Bay.files P.Bay.faults settings.now job.entry.workers
         (P.handed_traces place.new) backs out.old out.new (P.handed_bays place.new) bays result }
+    // With Done a crash leaves of each bay that was put back a closed journal, whenever it comes.
+    ensures closed { result ≡ Status.Done → AreReturnedClosed P.Bay.files P.Bay.leaves settings.now (P.returned_bay place.new) }
 {
     let opened = match open_traces(alloc, place, words, job.traces) {
         Ok(opened) => opened,
@@ -114,6 +117,7 @@ fn run_traces<P: Place, K: Sink, R: Threads + Wait + Sync>(
     ensures never_falls { P.faults place.old ≤ P.faults place.new }
     ensures no_usage { (rule : ℕ) → result.1 ≡ Status.Usage rule → ⊥ }
     ensures handed { P.handed_traces place.new ≡ P.handed_traces place.old }
+    ensures closed { result.1 ≡ Status.Done → AreReturnedClosed P.Bay.files P.Bay.leaves settings.now (P.returned_bay place.new) }
 {
     let mut bays = match open_bays(alloc, place, dir, settings.cones()) {
         Ok(bays) => bays,
@@ -148,6 +152,7 @@ fn run_bays<S: Source + Send, B: Bay + Send, K: Sink, R: Threads + Wait + Sync>(
         out.old out.new bays.old.items bays.new.items (IsStale B.files bays.old.items) (AreFreshBelow B.files bays.old.items) result.1 }
     ensures exact { AreToldFresh B.files bays.old.items → IsExact S.remaining S.faults B.files B.faults settings.now workers
         traces.items result.0.items bays.old.items bays.new.items (IsDone K.faults out.old out.new result.1) (λ status. result.1 ≡ status) }
+    ensures closed { result.1 ≡ Status.Done → AreClosedInEach B.files B.leaves settings.now bays.new.items }
 {
     if let Err(status) = find_stale(bays) {
         return (traces, status);
@@ -183,6 +188,7 @@ fn run_cones<S: Source + Send, B: Bay + Send, K: Sink, R: Threads + Wait + Sync>
         out.old out.new (bays_of cones.items) (bays_of result.0.items) (λ _. ⊥) (λ _. ⊤) result.2 }
     ensures exact { IsExact S.remaining S.faults B.files B.faults settings.now workers traces.items result.1.items
         (bays_of cones.items) (bays_of result.0.items) (IsDone K.faults out.old out.new result.2) (λ status. result.2 ≡ status) }
+    ensures closed { result.2 ≡ Status.Done → AreClosedInEach B.files B.leaves settings.now (bays_of result.0.items) }
 {
     // The page's memory is taken before the first key is read, so that a run that was read can't want it.
     let mut page = match Page::new(alloc) {
@@ -210,6 +216,7 @@ fn finish_and_print<B: Bay, K: Sink>(
     ensures later { AreLater B.files B.faults B.mark (bays_of cones.old.items) (bays_of cones.new.items) }
     ensures shows { (workers : ℕ) (traces : List (List ℕ)) → AreWeaving B.files B.leaves B.faults settings.now workers traces cones.old.items →
         EndShows K.taken K.faults B.files B.faults settings.now workers traces out.old out.new (bays_of cones.old.items) (bays_of cones.new.items) result }
+    ensures closed { result ≡ Status.Done → AreClosedInEach B.files B.leaves settings.now (bays_of cones.new.items) }
 {
     let _valid = settings.numbers();
     if let Err(status) = finish_cones(cones) {

@@ -9,10 +9,12 @@ ghost use Rattle.lert_ingest.specs.Bays.{AreLater};
 ghost use Rattle.lert_io.specs.Fault.{HasRisen};
 ghost use Rattle.lert_place.specs.Openings.{AreReturned, AreReturnedSame};
 ghost use Rattle.lert_cones.specs.Asked.{IsAsked, IsAskedForBays};
+ghost use Rattle.lert_cones.specs.Closed.{AreReturnedClosed};
 ghost use Rattle.lert_run.specs.Ran.{HasPutBack};
 ghost use Rattle.lert_run.specs.Run.{HasRun};
 ghost use Rattle.lert_spec.specs.declared.numbers.Numbers.{Numbers};
 ghost use Rattle.lert_top.specs.Generated.{TraceShows};
+ghost use Rattle.lert_recovery.specs.Moments.{AreReturnedSound};
 ghost use Rattle.lert_recovery.specs.Recovered.{HasRecovered};
 
 use crate::generate::gen_to;
@@ -66,6 +68,8 @@ pub fn run<P: Place, K: Sink, R: Threads + Wait + Sync>(
         × (result ≢ Status.OutOfMemory → length (P.handed_traces place.new) ≡ length traces)
         × HasRun P.Trace.remaining P.Trace.faults K.taken K.faults P.Bay.files P.Bay.faults settings workers
         (P.handed_traces place.new) backs out.old out.new (P.handed_bays place.new) bays result }
+    ensures closed { (settings : Numbers) (workers dir : ℕ) (traces : List ℕ) → command words.now ≡ Some (Line.Run settings workers dir traces) →
+        usage words.now ≡ None → result ≡ Status.Done → AreReturnedClosed P.Bay.files P.Bay.leaves settings (P.returned_bay place.new) }
     // A line of a recovery asks for the bays of the cones alone.
     ensures asked_again { (settings : Numbers) (dir : ℕ) → command words.now ≡ Some (Line.Recover settings dir) → usage words.now ≡ None →
         IsAskedForBays (word_at words.now dir) (2 ^ settings.cone_bits) [] (P.asked place.new) result }
@@ -73,6 +77,8 @@ pub fn run<P: Place, K: Sink, R: Threads + Wait + Sync>(
         (backs : List P.Bay) × ((cone : ℕ) → cone < length backs → P.returned_bay place.new cone ≡ slice_get backs cone)
         × AreLater P.Bay.files P.Bay.faults P.Bay.mark (P.handed_bays place.new) backs
         × HasRecovered K.taken K.faults P.Bay.files P.Bay.faults settings out.old out.new (P.handed_bays place.new) backs result }
+    ensures each_moment { (settings : Numbers) (dir : ℕ) → command words.now ≡ Some (Line.Recover settings dir) → usage words.now ≡ None →
+        result ≢ Status.PlaceFault → AreReturnedSound P.Bay.Bay settings (P.handed_bays place.new) (P.returned_bay place.new) }
     // The lines that generate keys ask for nothing.
     ensures generated { (seed events : ℕ) → command words.now ≡ Some (Line.Gen seed events) → usage words.now ≡ None → (place.new ≡ place.old)
         × (((result ≡ Status.OutOfMemory) × (out.new ≡ out.old)) ⊎ TraceShows K.taken K.faults seed events out.old out.new result) }

@@ -1,5 +1,4 @@
-use denote.Exit.{no}
-use denote.Param.Send.{arg_send, param_send, sendable}
+use denote.Param.Send.{sendable}
 use Rattle.std.proofs.Crossing.{crosses}
 use Rattle.lert_cone.proofs.ConeSend.{room_send}
 use Rattle.std.proofs.Common.{rules}

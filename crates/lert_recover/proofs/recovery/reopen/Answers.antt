@@ -1,10 +1,13 @@
-use Rattle.std.proofs.Common.{◌≡◌, Bool, length}
+use Rattle.std.proofs.Common.{◌≡◌, ◌++◌, Bool, length}
 use Rattle.lert_cone.specs.declared.state.ConeState.TheVariants.{Finished, Running}
 use Rattle.lert_cone.specs.Stands.{Standing, StandsFor}
 use Rattle.std.specs.Prelude.{if◌then◌else◌}
+use Rattle.lert_files.specs.declared.fault.ReopenFault.TheVariants.{Failed}
+use Rattle.lert_reports.specs.Log.{is_closed}
 use Rattle.lert_recover.specs.declared.recovery.ReopenRefused.{ReopenRefused}
 use Rattle.lert_recover.proofs.FinalLaws.{closed_told, differs_told, journal_told, malformed_told, other_told, refuses_told, sound_told}
 use Rattle.lert_recover.proofs.ReopenLaws.{ok_on}
+use Rattle.lert_recover.proofs.ShownLaws.{reports_told, shown_told}
 use Rattle.lert_recover.proofs.recovery.reopen.Goals as goal
 
 pub returns-clause-journal : goal.returns-clause-journal
@@ -58,3 +61,14 @@ returns-clause-sound_opens g c seen told h sound =
     h sound c.reopen_in_order.result (c.reopen_in_order.ensures.told seen told) (c.reopen_in_order.ensures.fails seen told) c.reopen_in_order.ensures.stands
     (ok_on own counted c.reopen_in_order.result (λ now is. is.2) c.reopen_in_order.ensures.own)
     (ok_on own finished c.reopen_in_order.result (λ now is. is.3) c.reopen_in_order.ensures.own)
+
+pub returns-clause-reports : goal.returns-clause-reports
+returns-clause-reports g c seen told h sound =
+    reports_told g.B.Bay.files g.B.Bay.leaves g.B.Faulty.faults g.B.Faulty.mark c.args.room.settings c.args.cone c.args.bay seen told h sound
+    (λ (refused : ReopenRefused g.row.B.Denot). refused.bay) (λ (refused : ReopenRefused g.row.B.Denot). refused.fault ≡ Failed)
+    c.reopen_in_order.result (returns-clause-sound_opens g c seen told h sound) c.reopen_in_order.ensures.own c.reopen_in_order.ensures.made c.reopen_in_order.ensures.reads
+
+pub returns-clause-shown : goal.returns-clause-shown
+returns-clause-shown g c seen told h more sound =
+    shown_told c.args.room.settings c.args.cone seen h more (is_closed sound.logged) c.requires.room.valid sound c.reopen_in_order.result
+    (returns-clause-reports g c seen told (h ++ more) sound)

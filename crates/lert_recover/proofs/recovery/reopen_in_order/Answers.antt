@@ -25,6 +25,7 @@ use Rattle.lert_reports.specs.Stored.{Stored}
 use Rattle.lert_spec.specs.declared.numbers.Numbers.{Numbers}
 use Rattle.lert_spec.specs.Limits.{IsValid}
 use Rattle.lert_recover.proofs.BayLaws.{bay_before, made_of, own_of, quiet_before}
+use Rattle.lert_recover.proofs.MomentLaws.{stays_made, stays_quiet}
 use Rattle.lert_recover.proofs.ReplayingLaws.{journal_same}
 use Rattle.lert_recover.proofs.ReopenLaws.{fails_on, frames_settled, journal_settled, last_of, log_shut, ok_on, refused_before, reopened_of, sound_opened, stands_on}
 use Rattle.lert_recover.proofs.SomeEvents.{some_events}
@@ -119,6 +120,7 @@ returns-in-Err g c =
       reads = journal_same (g.B.Bay.files c.args.bay) (g.B.Bay.files c.read_files.new.bay) read.quiet.seen;
       kept = keeps_as (bays g) (lawful g) c.args.bay c.read_files.new.bay _ _ (λ is. ap Err is) read.quiet.kept;
       stays_sound = λ seen told h sound now is. subst (IsSound c.args.room.settings c.args.cone h) (same_Some seen now (sym (read.quiet.seen ∙ told) ∙ is)) sound;
+      each_moment = λ seen told h each. stays_quiet (bays g) (lawful g) h c.args.room.settings c.args.cone c.args.bay c.read_files.new.bay _ read.quiet seen told each;
       unflushed = λ seen told nothing. quiet_as (bays g) (lawful g) c.args.bay c.read_files.new.bay _ ⊥ (λ never. absurd never) read.quiet;
     }
 
@@ -220,6 +222,10 @@ returns-in-Ok g c =
           (subst (λ (n : ℕ). IsSound start.listing.settings n h now) (ap (λ (k : Standing g.row.B.Denot). k.listing.cone) made)
           (all h (begun seen told h sound) now is)))
           (replayed.stays_sound seen (there seen told));
+      each_moment = λ seen told h each.
+          stays_made (bays g) (lawful g) h bay_in (λ (refused : ReopenRefused g.row.B.Denot). refused.fault ≡ Failed) s cone start c.args.bay
+          (ap (λ (k : Standing g.row.B.Denot). k.listing.settings) made) (ap (λ (k : Standing g.row.B.Denot). k.listing.cone) made) before seen told each result replayed.kept
+          (replayed.each_moment seen (there seen told) h (begun seen told h (each seen ((lawful g).as_read c.args.bay seen told))));
       unflushed = λ seen told nothing.
           let opened = c.in-Ok.ensures.opened seen told in
           let n0_is = ap (λ (k : Standing g.row.B.Denot). k.last.n0) made ∙ opened.1.n0_is in

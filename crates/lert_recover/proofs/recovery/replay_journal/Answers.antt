@@ -9,6 +9,7 @@ use Rattle.lert_spec.specs.declared.numbers.Numbers.{Numbers}
 use Rattle.lert_spec.specs.Edges.{capacity}
 use Rattle.lert_reports.specs.declared.log_point.LogPoint.{LogPoint}
 use Rattle.lert_cone.specs.declared.state.ConeState.TheVariants.{Finished, Running}
+use Rattle.lert_cone.specs.Sound.{StaysSound}
 use Rattle.lert_cone.specs.Stands.{Standing}
 use Rattle.lert_cone.proofs.SoundLaws.{turns_back}
 use Rattle.lert_gatelog.specs.Gated.{IsClosed}
@@ -17,6 +18,7 @@ use Rattle.lert_files.proofs.QuietLaws.{quiet_on, quiet_reads}
 use Rattle.lert_recover.specs.Replayed.{HasReplayed, IsJournalSame}
 use Rattle.lert_recover.specs.Reopened.{IsWhy}
 use Rattle.lert_recover.proofs.ReplayingLaws.{journal_on, journal_same, same_on}
+use Rattle.lert_recover.proofs.MomentLaws.{stays_read}
 use Rattle.lert_recover.proofs.StopLaws.{outside_of, stopped_of, was_before}
 use Rattle.lert_recover.proofs.recovery.replay_journal.Given as given
 use Rattle.lert_recover.proofs.recovery.replay_journal.Goals as goal
@@ -93,6 +95,8 @@ returns-in-Ok g c =
       kept = subst (λ (bay : g.row.B.Denot). KeepsBay (bays g) start.bay bay ⊥) (sym bay_is)
           (keeps_as (bays g) (lawful g) start.bay c.replay_all.new.cone.bay _ ⊥ (λ never. absurd never) all.kept);
       stays_sound = λ seen told. tt;
+      each_moment = λ seen told h begun each. subst (λ (bay : g.row.B.Denot). StaysSound (bays g) start.listing.settings start.listing.cone h start.bay bay) (sym bay_is)
+          (all.each_moment seen told h begun each);
       unflushed = λ seen told nothing. subst (λ (bay : g.row.B.Denot). WritesNothing (bays g) start.bay bay ⊥) (sym bay_is) (all.unflushed seen told nothing);
     }
 
@@ -149,6 +153,8 @@ returns-in-Err g c =
         mark = both.mark;
       };
       stays_sound = λ seen told h begun now is. all.stays_sound seen told h begun now (sym behind.seen ∙ is);
+      each_moment = λ seen told h begun each. stays_read (bays g) (lawful g) h start.listing.settings start.listing.cone start.bay end.bay last _ ⊥ all.kept
+          (all.each_moment seen told h begun each) behind;
       unflushed = λ seen told nothing. quiet_on (bays g) (lawful g) start.bay end.bay last ⊥ ⊥ (all.unflushed seen told nothing)
           (quiet_reads (bays g) (lawful g) end.bay last ⊥ behind);
     }

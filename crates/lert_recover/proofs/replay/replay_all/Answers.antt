@@ -12,6 +12,7 @@ use Rattle.lert_cone.specs.Stands.{Standing}
 use Rattle.lert_files.proofs.QuietLaws.{quiet_on, quiet_reads}
 use Rattle.lert_recover.specs.Replayed.{HasReplayed}
 use Rattle.lert_recover.proofs.ReplayingLaws.{framed_none, journal_none, journal_on, left_on, quiet_of, read_none, read_on, same_none, same_on, shut_on, sound_on, still_on}
+use Rattle.lert_recover.proofs.MomentLaws.{stays_none, stays_replayed}
 use Rattle.lert_recover.proofs.StopLaws.{full_alone}
 use Rattle.lert_recover.proofs.replay.replay_all.Given as given
 use Rattle.lert_recover.proofs.replay.replay_all.Invariants.{bays}
@@ -35,6 +36,7 @@ packets-init g c =
       near = omega arith;
       read = λ seen told. read_none start.listing.settings start.listing.cone start.last.n0 start.last.closed (seen JOURNAL) start.listing.events begun.1;
       sound = λ seen told h replays. ([], replays);
+      throughout = λ seen told h begun each. stays_none (bays g) (lawful g) h start.listing.settings start.listing.cone start.bay each;
       framed = λ seen told some there told_there. framed_none (g.B.Bay.files start.bay) start.listing.settings start.last.n0 start.rows start.listing.events begun.1 seen there
           told told_there some;
       journal = journal_none (g.B.Bay.files start.bay);
@@ -94,6 +96,11 @@ packets-preserved g c =
           let there = now.journal.told seen told in
           let one_more = rw c.in-Ok-Some.field-0-is at (c.in-Ok-Some.ensures.replays there.0 there.1 h done.0 done.1 (sym now.gate_is)) in
           (done.0 ++ one_more.0 ∷ [], one_more.1);
+      throughout = λ seen told h begun each.
+          let done = now.sound seen told h begun in
+          let there = now.journal.told seen told in
+          stays_replayed (bays g) (lawful g) h start old new.bay ⊥ ⊥ now.same now.kept step (now.throughout seen told h begun each)
+          (c.replay.ensures.stays_sound there.0 there.1 h done.0 done.1 (sym now.gate_is));
       framed = λ seen told some.
           let there = now.journal.told seen told in
           c.in-Ok-Some.ensures.framed there.0 there.1 (now.framed seen told some there.0 there.1);
@@ -143,6 +150,11 @@ returns-in-Ok-None g c =
           let done = now.sound seen told h begun in
           let there = now.journal.told seen told in
           sound_on start old (files new.bay) h now.same (c.replay.ensures.stays_sound there.0 there.1 h done.0 done.1 (sym now.gate_is)).as_read;
+      each_moment = λ seen told h begun each.
+          let done = now.sound seen told h begun in
+          let there = now.journal.told seen told in
+          stays_replayed (bays g) (lawful g) h start old new.bay ⊥ ⊥ now.same now.kept step (now.throughout seen told h begun each)
+          (c.replay.ensures.stays_sound there.0 there.1 h done.0 done.1 (sym now.gate_is));
       unflushed = λ seen told nothing.
           let there = now.journal.told seen told in
           quiet_on (bays g) (lawful g) start.bay old.bay new.bay ⊥ ⊥ (now.unwritten seen told nothing)
@@ -191,6 +203,11 @@ returns-in-Err g c =
           let done = now.sound seen told h begun in
           let there = now.journal.told seen told in
           sound_on start old (files new.bay) h now.same (c.replay.ensures.stays_sound there.0 there.1 h done.0 done.1 (sym now.gate_is)).as_read;
+      each_moment = λ seen told h begun each.
+          let done = now.sound seen told h begun in
+          let there = now.journal.told seen told in
+          stays_replayed (bays g) (lawful g) h start old new.bay ⊥ ⊥ now.same now.kept step (now.throughout seen told h begun each)
+          (c.replay.ensures.stays_sound there.0 there.1 h done.0 done.1 (sym now.gate_is));
       unflushed = λ seen told nothing.
           let there = now.journal.told seen told in
           quiet_on (bays g) (lawful g) start.bay old.bay new.bay ⊥ ⊥ (now.unwritten seen told nothing)

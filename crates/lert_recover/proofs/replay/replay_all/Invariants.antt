@@ -6,9 +6,11 @@ use Rattle.lert_bay.specs.Kept.{Bays, KeepsBay}
 use Rattle.lert_cone.specs.declared.state.ConeState.TheVariants.{Replaying}
 use Rattle.lert_cone.specs.Framed.{HoldsSome}
 use Rattle.lert_cone.specs.Replays.{Replays}
+use Rattle.lert_cone.specs.Sound.{StaysSound}
 use Rattle.lert_cone.specs.Stands.{IsSameCone}
 use Rattle.lert_files.specs.Opened.{WritesNothing}
 use Rattle.lert_spec.specs.Edges.{capacity}
+use Rattle.lert_recover.specs.Moments.{AreSound}
 use Rattle.lert_recover.specs.Replayed.{FlushesNothing, HasReplayed, IsJournalSame}
 use Rattle.lert_recover.proofs.replay.replay_all.Given as goal
 
@@ -29,6 +31,9 @@ invariant-packets g l = record {
       (seen JOURNAL) l.gate l.cone.listing.events;
   sound : (seen : Files) → g.B.Bay.files l.fn.cone.bay ≡ Some seen → (h : List Packet) → Replays g.B.Bay.files g.B.Bay.leaves l.fn.cone h [] →
       (done : List Packet) × Replays g.B.Bay.files g.B.Bay.leaves l.cone h done;
+  throughout : (seen : Files) → g.B.Bay.files l.fn.cone.bay ≡ Some seen → (h : List Packet) → Replays g.B.Bay.files g.B.Bay.leaves l.fn.cone h [] →
+      AreSound (g.B.Bay.leaves l.fn.cone.bay) l.fn.cone.listing.settings l.fn.cone.listing.cone h →
+      StaysSound (bays g) l.fn.cone.listing.settings l.fn.cone.listing.cone h l.fn.cone.bay l.cone.bay;
   framed : (seen : Files) → g.B.Bay.files l.fn.cone.bay ≡ Some seen → HoldsSome l.fn.cone.listing.settings l.fn.cone.last.n0 l.fn.cone.rows (seen FRAMES) →
       (there : Files) → g.B.Bay.files l.cone.bay ≡ Some there → HoldsSome l.cone.listing.settings (max l.cone.last.n0 (length l.cone.listing.events)) l.cone.rows (there FRAMES);
   journal : IsJournalSame (g.B.Bay.files l.fn.cone.bay) (g.B.Bay.files l.cone.bay);

@@ -12,7 +12,18 @@ use Rattle.lert_recovery.proofs.JournalLaws.{journals_same}
 use Rattle.lert_recovery.proofs.RecoverEnding.{shows_unopened}
 use Rattle.lert_recovery.proofs.RecoverLaws.{all_formed, open_printable, open_recovered}
 use Rattle.lert_recovery.proofs.SoundLaws.{sound_same}
+use Rattle.lert_bay.specs.Kept.{Bays}
+use Rattle.lert_bay.proofs.KeptLaws.{IsLawful}
+use Rattle.lert_recovery.specs.Moments.{AreSoundThroughout}
+use Rattle.lert_recovery.proofs.MomentLaws.{throughout_same}
+use Rattle.lert_recovery.proofs.recover.recover_bays.Given as given
 use Rattle.lert_recovery.proofs.recover.recover_bays.Goals as goal
+
+abbrev bays_in : (g : given.Over) → Bays g.row.B.Denot
+bays_in g = record { faults = g.B.Faulty.faults; mark = g.B.Faulty.mark; files = g.B.Bay.files; leaves = g.B.Bay.leaves; moment = g.B.Bay.moment; left_since = g.B.Bay.left_since }
+
+lawful : (g : given.Over) → IsLawful (bays_in g)
+lawful g = record { as_read = g.met.B.Bay.as_read; since_now = g.met.B.Bay.since_now; only_now = g.met.B.Bay.only_now; since_earlier = g.met.B.Bay.since_earlier }
 
 few_bits : (known bits : ℕ) → known ≡ bits → known ≤ 8 → bits ≤ 8
 few_bits known bits same few = omega (arith, same, few)
@@ -140,3 +151,21 @@ returns-clause-stays_sound g c =
     let cones = c.in-Ok-reopen_cones.cones.items in
     let back = c.bring_back.ensures.bays ∙ (ap (λ xs. bays_of cones ++ xs) c.in-Ok-reopen_cones.ensures.emptied ∙ append-nil (bays_of cones)) in
     subst (AreSoundStill g.B.Bay.files c.args.settings.now c.args.bays.now.items) (sym back) c.in-Ok-reopen_cones.ensures.stays_sound
+
+pub returns-in-Err-clause-each_moment : goal.returns-in-Err-clause-each_moment
+returns-in-Err-clause-each_moment g c = throughout_same (bays_in g) (lawful g) c.args.settings.now c.args.bays.now.items
+
+pub returns-in-Err-reopen_cones-clause-each_moment : goal.returns-in-Err-reopen_cones-clause-each_moment
+returns-in-Err-reopen_cones-clause-each_moment g c = c.in-Err-reopen_cones.ensures.each_moment_kept
+
+pub returns-in-Ok-printed-clause-each_moment : goal.returns-in-Ok-printed-clause-each_moment
+returns-in-Ok-printed-clause-each_moment g c =
+    let cones = c.in-Ok-reopen_cones.cones.items in
+    let back = c.bring_back.ensures.bays ∙ (ap (λ xs. bays_of cones ++ xs) c.in-Ok-reopen_cones.ensures.emptied ∙ append-nil (bays_of cones)) in
+    subst (AreSoundThroughout (bays_in g) c.args.settings.now c.args.bays.now.items) (sym back) c.in-Ok-reopen_cones.ensures.each_moment
+
+pub returns-clause-each_moment : goal.returns-clause-each_moment
+returns-clause-each_moment g c =
+    let cones = c.in-Ok-reopen_cones.cones.items in
+    let back = c.bring_back.ensures.bays ∙ (ap (λ xs. bays_of cones ++ xs) c.in-Ok-reopen_cones.ensures.emptied ∙ append-nil (bays_of cones)) in
+    subst (AreSoundThroughout (bays_in g) c.args.settings.now c.args.bays.now.items) (sym back) c.in-Ok-reopen_cones.ensures.each_moment

@@ -1,3 +1,4 @@
+use Rattle.std.proofs.lemmas.Option.{slice_get_within}
 use Rattle.std.proofs.Common.{[], List, length, refl, ap, sym, ◌∙◌, subst, arith, inl, inr, append-nil}
 use Rattle.lert_ingest.specs.declared.status.Status.{Status}
 use Rattle.lert_ingest.specs.declared.status.Status.TheVariants.{OutOfMemory}
@@ -10,7 +11,21 @@ use Rattle.lert_place.specs.Openings.{bays_granted}
 use Rattle.lert_recovery.proofs.JournalLaws.{journals_same}
 use Rattle.lert_recovery.proofs.SoundLaws.{sound_same}
 use Rattle.lert_recovery.proofs.RecoverEnding.{has_recovered, recovery_not_place_fault, recovery_not_usage}
+use Rattle.lert_bay.specs.Kept.{Bays}
+use Rattle.lert_recovery.specs.Moments.{AreSoundThroughout}
+use Rattle.lert_recovery.proofs.MomentLaws.{returned_sound}
+use Rattle.lert_recovery.proofs.recover.recover_to.Given as given
 use Rattle.lert_recovery.proofs.recover.recover_to.Goals as goal
+
+abbrev bays_in : (g : given.Over) → Bays g.row.P-Bay.Denot
+bays_in g = record {
+  faults = g.P.Bay.Faulty.faults;
+  mark = g.P.Bay.Faulty.mark;
+  files = g.P.Bay.Bay.files;
+  leaves = g.P.Bay.Bay.leaves;
+  moment = g.P.Bay.Bay.moment;
+  left_since = g.P.Bay.Bay.left_since;
+}
 
 pub returns-in-Err-clause-asked : goal.returns-in-Err-clause-asked
 returns-in-Err-clause-asked g c =
@@ -139,3 +154,22 @@ put_back_bays-requires-clause-handed g c = λ lifetimes outlive. c.recover_bays-
 pub open_bays-requires-clause-none : goal.open_bays-requires-clause-none
 open_bays-requires-clause-none g c = λ lifetimes outlive.
     nothing_handed bays_granted (g.P.Place.asked c.args.place.now) (g.P.Place.handed_bays c.args.place.now) (g.met.P.Place.tied_bays c.args.place.now) c.requires.no_bay
+
+pub returns-in-Err-clause-each_moment : goal.returns-in-Err-clause-each_moment
+returns-in-Err-clause-each_moment g c = λ differs.
+    elim c.in-Err.ensures.refused [
+      | inl none ↦
+          let same = ap g.P.Place.handed_bays none.1 ∙ nothing_handed bays_granted (g.P.Place.asked c.args.place.now) (g.P.Place.handed_bays c.args.place.now)
+          (g.met.P.Place.tied_bays c.args.place.now) c.requires.no_bay in
+          λ cone before now was is. absurd (omega (arith, slice_get_within _ cone before was, ap length same))
+      | inr bay ↦ absurd (differs bay.0)
+    ]
+
+pub returns-clause-each_moment : goal.returns-clause-each_moment
+returns-clause-each_moment g c = λ differs.
+    let same = c.put_back_bays.ensures.bays ∙ c.in-Ok.ensures.opened in
+    let first = c.in-Ok.bays.items in
+    let now = c.recover_bays-status.new.bays.items in
+    returned_sound (bays_in g) c.args.settings.now (g.P.Place.handed_bays c.put_back_bays.new.place) now (g.P.Place.returned_bay c.put_back_bays.new.place)
+    (c.recover_bays-status.ensures.later.number ∙ ap length (sym same)) c.put_back_bays.ensures.returned
+    (subst (λ (xs : List g.row.P-Bay.Denot). AreSoundThroughout (bays_in g) c.args.settings.now xs now) (sym same) c.recover_bays-status.ensures.each_moment)

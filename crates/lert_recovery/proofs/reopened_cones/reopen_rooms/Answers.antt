@@ -12,7 +12,15 @@ use Rattle.lert_cones.proofs.ConeLaws.{back_later, bay_there, call_later, each-p
 use Rattle.lert_recovery.proofs.JournalLaws.{journals_back, journals_made, journals_same}
 use Rattle.lert_recovery.proofs.RecoverLaws.{WasRefused, open_over, unopened_by}
 use Rattle.lert_recovery.proofs.SoundLaws.{sound_back, sound_made, sound_same, stays_by, stays_open}
+use Rattle.lert_bay.proofs.KeptLaws.{IsLawful}
+use Rattle.lert_recovery.specs.Moments.{AreSoundThroughout, IsSoundThroughout}
+use Rattle.lert_recovery.proofs.MomentLaws.{throughout_back, throughout_by, throughout_made, throughout_same}
+use Rattle.lert_recovery.proofs.reopened_cones.reopen_rooms.Given as given
+use Rattle.lert_recovery.proofs.reopened_cones.reopen_rooms.Invariants.{bays as bays_in}
 use Rattle.lert_recovery.proofs.reopened_cones.reopen_rooms.Goals as goal
+
+lawful : (g : given.Over) → IsLawful (bays_in g)
+lawful g = record { as_read = g.met.B.Bay.as_read; since_now = g.met.B.Bay.since_now; only_now = g.met.B.Bay.only_now; since_earlier = g.met.B.Bay.since_earlier }
 
 pub returns-in-Err-clause-room : goal.returns-in-Err-clause-room
 returns-in-Err-clause-room g c = c.push_front_reserved.ensures.capacity ∙ (c.pop_front.ensures.capacity ∙ c.loop-number.invariant.room)
@@ -93,6 +101,26 @@ returns-in-Err-clause-stays_sound g c =
     subst (AreSoundStill g.B.Bay.files s bays) (ap (λ xs. bays_of cones ++ xs) (sym c.push_front_reserved.ensures.items))
     (sound_back g.B.Bay.files s bays cones bay c.pop_front.new.self.items so_far back one_here)
 
+pub returns-in-Err-clause-each_moment : goal.returns-in-Err-clause-each_moment
+returns-in-Err-clause-each_moment g c =
+    let here = c.loop-number.invariant in
+    let s = c.args.settings.now in
+    let first = c.args.bays.now.items in
+    let bay = c.in-Some.bay in
+    let cones = c.loop-number.cones.items in
+    let room = c.in-Some-pop.room in
+    let back = c.in-Err.refused.bay in
+    let so_far = subst (λ xs. AreSoundThroughout (bays_in g) s first (bays_of cones ++ xs)) c.in-Some.ensures.items here.throughout in
+    let popped = All-pop (IsNewRoom s) c.loop-number.rooms.items c.pop.new.self.items (Some room) c.in-Some-pop.ensures.items here.rooms in
+    let one = throughout_by (bays_in g) room.settings c.loop-number.number bay back _ c.in-Err.ensures.kept c.in-Err.ensures.reads c.in-Err.ensures.each_moment in
+    let one_here = subst (λ (n : Numbers). IsSoundThroughout (bays_in g) n (length cones) bay back) popped.1.0
+    (subst (λ (n : ℕ). IsSoundThroughout (bays_in g) room.settings n bay back) (sym here.number) one) in
+    subst (AreSoundThroughout (bays_in g) s first) (ap (λ xs. bays_of cones ++ xs) (sym c.push_front_reserved.ensures.items))
+    (throughout_back (bays_in g) (lawful g) s first cones bay c.pop_front.new.self.items so_far back one_here)
+
+pub returns-clause-each_moment : goal.returns-clause-each_moment
+returns-clause-each_moment g c = c.loop-number.invariant.throughout
+
 pub returns-clause-stays_sound : goal.returns-clause-stays_sound
 returns-clause-stays_sound g c = c.loop-number.invariant.stays_sound
 
@@ -157,6 +185,13 @@ loop-number-preserved g c =
       stays_sound = subst (λ xs. AreSoundStill g.B.Bay.files s bays (bays_of xs ++ rest)) (sym pushed)
           (sound_made g.B.Bay.files s bays cones bay rest (subst (λ xs. AreSoundStill g.B.Bay.files s bays (bays_of cones ++ xs)) items here.stays_sound) cone
           (stays_open g.B.Bay.files g.B.Bay.leaves g.B.Faulty.faults s (length cones) bay cone opened_here c.in-Ok.ensures.reads));
+      throughout =
+          let so_far = subst (λ xs. AreSoundThroughout (bays_in g) s bays (bays_of cones ++ xs)) items here.throughout in
+          let moments = throughout_by (bays_in g) room.settings c.loop-number.number bay cone.bay ⊥ c.in-Ok.ensures.kept c.in-Ok.ensures.reads c.in-Ok.ensures.each_moment in
+          let moments_here = subst (λ (n : Numbers). IsSoundThroughout (bays_in g) n (length cones) bay cone.bay) popped.1.0
+          (subst (λ (n : ℕ). IsSoundThroughout (bays_in g) room.settings n bay cone.bay) (sym here.number) moments) in
+          subst (λ xs. AreSoundThroughout (bays_in g) s bays (bays_of xs ++ rest)) (sym pushed)
+          (throughout_made (bays_in g) (lawful g) s bays cones bay rest so_far cone moments_here);
       open_cones = λ place found is.
           each-push (λ (k : ℕ) (x : Standing g.row.B.Denot). (held : g.row.B.Denot) → slice_get bays k ≡ Some held → IsOpenOver g.B.Bay.files g.B.Bay.leaves g.B.Faulty.faults s k held x)
           cones cone here.open_cones
@@ -179,6 +214,8 @@ loop-number-init g c =
       journals = subst (λ (xs : List (Standing g.row.B.Denot)). AreJournalsSame g.B.Bay.files bays (bays_of xs ++ bays)) (sym c.requires.none) (journals_same g.B.Bay.files bays);
       stays_sound = subst (λ (xs : List (Standing g.row.B.Denot)). AreSoundStill g.B.Bay.files c.args.settings.now bays (bays_of xs ++ bays)) (sym c.requires.none)
           (sound_same g.B.Bay.files c.args.settings.now bays);
+      throughout = subst (λ (xs : List (Standing g.row.B.Denot)). AreSoundThroughout (bays_in g) c.args.settings.now bays (bays_of xs ++ bays)) (sym c.requires.none)
+          (throughout_same (bays_in g) (lawful g) c.args.settings.now bays);
       open_cones = λ place cone is _ _. absurd (omega (arith, slice_get_within c.args.cones.now.items place cone is, ap length c.requires.none));
       room = refl;
       cones_room = c.requires.cones_room;

@@ -4,6 +4,7 @@ use Rattle.lert_spec.specs.Lines.{lines}
 use Rattle.lert_cones.specs.Print.{ArePrintable, printed_as}
 use Rattle.lert_io.specs.Reading.{IfTold}
 use Rattle.lert_text.specs.Page.{IsCut}
+use Rattle.lert_cones.proofs.ClosedLaws.{finished_in_each, stopped_not_done}
 use Rattle.lert_cones.proofs.EndLaws.{ends_later, finished_closed, finished_ended, finished_printable, stopped_ended, stopped_shows}
 use Rattle.lert_run.proofs.runs.finish_and_print.Goals as goal
 
@@ -55,3 +56,18 @@ returns-in-Err-print_cones-clause-shows g c = λ workers traces weaving.
           c.requires.number c.in_default.ensures.finished (IsCut start end)
           (subst (λ (xs : List (Standing g.row.B.Denot)). IsCut start end (lines (map printed_as xs))) c.deref.ensures.value c.in-Err-print_cones.ensures.cut),
     )
+
+pub returns-in-Err-clause-closed : goal.returns-in-Err-clause-closed
+returns-in-Err-clause-closed g c = λ is.
+    let stopped = c.in-Err.ensures.stopped in
+    absurd (stopped_not_done stopped.cone stopped.fault (sym stopped.status_is ∙ is))
+
+pub returns-in-Ok-clause-closed : goal.returns-in-Ok-clause-closed
+returns-in-Ok-clause-closed g c = λ is.
+    finished_in_each g.B.Bay.files g.B.Bay.leaves g.B.Faulty.faults g.B.Faulty.mark c.args.settings.now c.requires.weaving.0 c.requires.weaving.1.0 c.args.cones.now.items
+    c.finish_cones.new.cones.items c.requires.weaving.1.1 c.in_default.ensures.finished
+
+pub returns-in-Err-print_cones-clause-closed : goal.returns-in-Err-print_cones-clause-closed
+returns-in-Err-print_cones-clause-closed g c = λ is.
+    finished_in_each g.B.Bay.files g.B.Bay.leaves g.B.Faulty.faults g.B.Faulty.mark c.args.settings.now c.requires.weaving.0 c.requires.weaving.1.0 c.args.cones.now.items
+    c.finish_cones.new.cones.items c.requires.weaving.1.1 c.in_default.ensures.finished

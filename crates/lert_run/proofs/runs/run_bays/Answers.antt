@@ -8,6 +8,8 @@ use Rattle.lert_ingest.proofs.EachLaws.{kept_unused, unused_more}
 use Rattle.lert_run.specs.Ran.{IsDone}
 use Rattle.lert_run.specs.Run.{StatusShows}
 use Rattle.lert_cones.proofs.ConeLaws.{unmade_since}
+use Rattle.lert_cones.specs.Closed.{AreClosedInEach}
+use Rattle.lert_run.proofs.DoneLaws.{unmade_not_done}
 use Rattle.lert_run.proofs.UnmadeLaws.{unmade_before}
 use Rattle.lert_run.proofs.Ending.{exact_since, exact_unmade, shows_since, shows_unmade}
 use Rattle.lert_run.proofs.runs.run_bays.Goals as goal
@@ -142,3 +144,19 @@ bring_back-requires g c =
       c.run_cones-cones.ensures.later.number,
       length-map c.run_cones-cones.result.0.items (λ (cone : Standing g.row.B.Denot). cone.bay),
     )
+
+pub returns-in-Err-clause-closed : goal.returns-in-Err-clause-closed
+returns-in-Err-clause-closed g c = λ is.
+    absurd (unmade_not_done g.B.Bay.files g.B.Faulty.faults c.args.settings.now c.args.bays.now.items c.find_stale.new.bays.items c.in-Err.status
+    (c.in-Err.ensures.unmade c.args.settings.now) is)
+
+pub returns-in-Err-make_cones-clause-closed : goal.returns-in-Err-make_cones-clause-closed
+returns-in-Err-make_cones-clause-closed g c = λ is.
+    absurd (unmade_not_done g.B.Bay.files g.B.Faulty.faults c.args.settings.now c.find_stale.new.bays.items c.make_cones.new.bays.items c.in-Err-make_cones.status
+    c.in-Err-make_cones.ensures.unmade is)
+
+pub returns-clause-closed : goal.returns-clause-closed
+returns-clause-closed g c = λ is.
+    let now = bays_of c.run_cones-cones.result.0.items in
+    let back = c.bring_back.ensures.bays ∙ (ap (λ xs. now ++ xs) c.in-Ok.ensures.emptied ∙ append-nil now) in
+    subst (AreClosedInEach g.B.Bay.files g.B.Bay.leaves c.args.settings.now) (sym back) (c.run_cones-cones.ensures.closed is)

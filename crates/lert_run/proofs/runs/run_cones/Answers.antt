@@ -3,6 +3,8 @@ use Rattle.std.specs.Prelude.{IfErr, OnOk}
 use Rattle.lert_ingest.specs.Bays.{bays_of}
 use Rattle.lert_ingest.proofs.BayLaws.{are_more}
 use Rattle.lert_ingest.proofs.EachLaws.{unused_same}
+use Rattle.lert_cones.proofs.StatusLaws.{no_memory_not_done}
+use Rattle.lert_run.proofs.DoneLaws.{reading_not_done}
 use Rattle.lert_run.proofs.Ending.{shows_ended, shows_stopped}
 use Rattle.lert_run.proofs.RunLaws.{exact_ended, exact_stopped}
 use Rattle.lert_run.proofs.runs.run_cones.Goals as goal
@@ -60,3 +62,15 @@ returns-clause-exact g c =
     c.ingest-traces.ensures.later c.finish_and_print-status.ensures.later read.keys read.read c.ingest-traces.result.2 c.in_default.is
     c.ingest-traces.ensures.exact c.finish_and_print-status.result
     (c.finish_and_print-status.ensures.shows c.args.workers read.traces read.weaving)
+
+pub returns-in-Err-clause-closed : goal.returns-in-Err-clause-closed
+returns-in-Err-clause-closed g c = λ is. absurd (no_memory_not_done is)
+
+pub returns-in-Err-read-clause-closed : goal.returns-in-Err-read-clause-closed
+returns-in-Err-read-clause-closed g c = λ is.
+    absurd (reading_not_done {S = g.row.S.Denot} {B = g.row.B.Denot} g.S.Source.remaining g.S.Faulty.faults g.B.Bay.files g.B.Faulty.faults c.args.settings.now c.args.workers
+    c.args.traces.items c.ingest-traces.result.0.items (bays_of c.args.cones.items) (bays_of c.ingest-traces.result.1.items) c.in-Err-read.status
+    (err_at c.ingest-traces.result.2 c.in-Err-read.status _ c.in-Err-read.is c.ingest-traces.ensures.stopped) is)
+
+pub returns-clause-closed : goal.returns-clause-closed
+returns-clause-closed g c = c.finish_and_print-status.ensures.closed

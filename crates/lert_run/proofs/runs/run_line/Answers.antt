@@ -10,9 +10,10 @@ use Rattle.lert_ingest.proofs.BayLaws.{are_same}
 use Rattle.lert_cones.proofs.AskedLaws.{same_returned}
 use Rattle.lert_cones.specs.Asked.{IsNameRefused, traces_opened}
 use Rattle.lert_run.specs.Run.{HasRun}
+use Rattle.lert_cones.proofs.ClosedLaws.{place_not_done, returned_still}
 use Rattle.lert_cones.proofs.AskedLaws.{asked_along, none_returned, none_returned_same, nothing_handed, returned_along, returned_same_along}
 use Rattle.lert_cones.proofs.AskedLaws.{traces_marked, traces_returned, traces_same, word_at-slice_get}
-use Rattle.lert_cones.proofs.StatusLaws.{no_memory_no_place, no_memory_no_usage, no_place_no_usage}
+use Rattle.lert_cones.proofs.StatusLaws.{no_memory_no_place, no_memory_no_usage, no_memory_not_done, no_place_no_usage}
 use Rattle.lert_run.proofs.RunLaws.{run_none}
 use Rattle.lert_run.proofs.runs.run_line.Goals as goal
 
@@ -167,3 +168,15 @@ returns-clause-ran g c = λ differs.
           g.P.Bay.Bay.files g.P.Bay.Faulty.faults c.args.settings.now c.args.job.workers
           c.in-Ok.opened.items back c.args.out.now c.run_traces-opened.new.out xs ran.0 c.run_traces-opened.result.1) (sym bays) ran.3),
     )
+
+pub returns-in-Err-clause-closed : goal.returns-in-Err-clause-closed
+returns-in-Err-clause-closed g c = λ is.
+    elim c.in-Err.ensures.refused [
+      | inl none ↦ absurd (no_memory_not_done (sym none.0 ∙ is))
+      | inr name ↦ absurd (place_not_done (sym name.0 ∙ is))
+    ]
+
+pub returns-clause-closed : goal.returns-clause-closed
+returns-clause-closed g c = λ is.
+    returned_still g.P.Bay.Bay.files g.P.Bay.Bay.leaves c.args.settings.now (g.P.Place.returned_bay c.run_traces-opened.new.place)
+    (g.P.Place.returned_bay c.put_back_traces.new.place) c.put_back_traces.ensures.returned_bays (c.run_traces-opened.ensures.closed is)

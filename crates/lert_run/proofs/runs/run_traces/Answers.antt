@@ -3,6 +3,7 @@ use Rattle.lert_ingest.specs.declared.status.Status.{Status}
 use Rattle.lert_ingest.specs.Bays.{AreLater}
 use Rattle.lert_run.specs.Run.{HasRun}
 use Rattle.lert_cones.proofs.AskedLaws.{all_back, none_returned, traces_same}
+use Rattle.lert_cones.proofs.ClosedLaws.{place_not_done, returned_in_each}
 use Rattle.lert_ingest.proofs.BayLaws.{are_same, still_marked}
 use Rattle.lert_cones.proofs.StatusLaws.{no_memory_no_place, no_memory_no_usage, no_memory_not_done, no_place_no_usage}
 use Rattle.lert_run.proofs.RunLaws.{HasRun-shows, not_place_fault, not_usage, run_none}
@@ -144,3 +145,15 @@ returns-clause-handed g c = c.put_back_bays.ensures.traces ∙ c.open_bays.ensur
 
 pub returns-clause-never_falls : goal.returns-clause-never_falls
 returns-clause-never_falls g c = omega (arith, c.open_bays.ensures.never_falls, c.put_back_bays.ensures.faults)
+
+pub returns-in-Err-clause-closed : goal.returns-in-Err-clause-closed
+returns-in-Err-clause-closed g c = λ is.
+    elim c.in-Err.ensures.refused [
+      | inl none ↦ absurd (no_memory_not_done (sym none.0 ∙ is))
+      | inr bay ↦ absurd (place_not_done (sym bay.0 ∙ is))
+    ]
+
+pub returns-clause-closed : goal.returns-clause-closed
+returns-clause-closed g c = λ is.
+    returned_in_each g.P.Bay.Bay.files g.P.Bay.Bay.leaves c.args.settings.now c.run_bays-traces.new.bays.items (g.P.Place.returned_bay c.put_back_bays.new.place)
+    (c.run_bays-traces.ensures.later.number ∙ (c.in-Ok.ensures.number ∙ c.cones.ensures)) c.put_back_bays.ensures.returned (c.run_bays-traces.ensures.closed is)

@@ -3,15 +3,29 @@ use Rattle.lert_args.specs.Command.{command}
 use Rattle.lert_args.specs.Word.{word_at}
 use Rattle.lert_args.proofs.SoundLines.{AreBelow, along_drill, along_recover, along_run, recover_placed, run_placed, word_at-slice_get}
 use Rattle.lert_drill.specs.Drilled.{DrillShows}
-use Rattle.lert_ingest.specs.declared.status.Status.TheVariants.{OutOfMemory, PlaceFault}
+use Rattle.lert_ingest.specs.declared.status.Status.TheVariants.{Done, OutOfMemory, PlaceFault}
 use Rattle.lert_ingest.specs.Bays.{AreLater}
 use Rattle.lert_cones.specs.Asked.{IsAskedForBays}
+use Rattle.lert_cones.specs.Closed.{AreReturnedClosed}
 use Rattle.lert_run.specs.Ran.{HasPutBack}
 use Rattle.lert_run.specs.Run.{HasRun}
 use Rattle.lert_spec.specs.declared.numbers.Numbers.{Numbers}
 use Rattle.lert_recovery.specs.Recovered.{HasRecovered}
 use Rattle.std.specs.Prelude.{slice_get}
+use Rattle.lert_bay.specs.Kept.{Bays}
+use Rattle.lert_recovery.specs.Moments.{AreReturnedSound}
+use Rattle.lert_top.proofs.top.run.Given as given
 use Rattle.lert_top.proofs.top.run.Goals as goal
+
+abbrev bays_in : (g : given.Over) → Bays g.row.P-Bay.Denot
+bays_in g = record {
+  faults = g.P.Bay.Faulty.faults;
+  mark = g.P.Bay.Faulty.mark;
+  files = g.P.Bay.Bay.files;
+  leaves = g.P.Bay.Bay.leaves;
+  moment = g.P.Bay.Bay.moment;
+  left_since = g.P.Bay.Bay.left_since;
+}
 
 pub run_line-requires-clause-dir : goal.run_line-requires-clause-dir
 run_line-requires-clause-dir g c κs within =
@@ -41,6 +55,12 @@ returns-in-Run-clause-ran g c = λ settings workers dir traces spelled sound.
         g.P.Bay.Bay.files g.P.Bay.Faulty.faults s w (g.P.Place.handed_traces c.run_line.new.place) backs c.args.out.now c.run_line.new.out
         (g.P.Place.handed_bays c.run_line.new.place) bays c.run_line.result
 
+pub returns-in-Run-clause-closed : goal.returns-in-Run-clause-closed
+returns-in-Run-clause-closed g c = λ settings workers dir traces spelled sound.
+    along_run (command c.args.words.now) c.in-Ok.line c.in-Ok.ensures.line
+    (λ (s : Numbers) (w d : ℕ) (t : List ℕ). c.run_line.result ≡ Done → AreReturnedClosed g.P.Bay.Bay.files g.P.Bay.Bay.leaves s (g.P.Place.returned_bay c.run_line.new.place))
+    c.in-Run.settings settings c.in-Run.workers workers c.in-Run.dir dir c.in-Run.traces traces c.in-Run.is spelled c.run_line.ensures.closed
+
 pub returns-in-Recover-clause-asked_again : goal.returns-in-Recover-clause-asked_again
 returns-in-Recover-clause-asked_again g c = λ settings dir spelled sound.
     let words = c.args.words.now in
@@ -61,6 +81,12 @@ returns-in-Recover-clause-recovered g c = λ settings dir spelled sound.
     × HasRecovered {K = g.row.K.Denot} {B = g.row.P-Bay.Denot} g.K.Sink.taken g.K.Faulty.faults g.P.Bay.Bay.files g.P.Bay.Faulty.faults s c.args.out.now
     c.recover_to.new.out (g.P.Place.handed_bays c.recover_to.new.place) backs c.recover_to.result)
     c.in-Recover.settings settings c.in-Recover.dir dir c.in-Recover.is spelled c.recover_to.ensures.recovered
+
+pub returns-in-Recover-clause-each_moment : goal.returns-in-Recover-clause-each_moment
+returns-in-Recover-clause-each_moment g c = λ settings dir spelled sound.
+    along_recover (command c.args.words.now) c.in-Ok.line c.in-Ok.ensures.line
+    (λ (s : Numbers) (d : ℕ). c.recover_to.result ≢ PlaceFault → AreReturnedSound (bays_in g) s (g.P.Place.handed_bays c.recover_to.new.place) (g.P.Place.returned_bay c.recover_to.new.place))
+    c.in-Recover.settings settings c.in-Recover.dir dir c.in-Recover.is spelled c.recover_to.ensures.each_moment
 
 pub returns-in-Drill-clause-drilled : goal.returns-in-Drill-clause-drilled
 returns-in-Drill-clause-drilled g c = λ settings workers seed events spelled sound.

@@ -1,0 +1,120 @@
+-- The reports of a cone that is reopened, of which those that were shown before are the first.
+use Rattle.std.proofs.Common.{◌≡◌, ℕ, ◌^◌, ◌<◌, ◌≤◌, Bool, true, false, Option, Some, Result, Ok, Err, List, [], ◌∷◌, ◌++◌, length, All, length-append}
+use Rattle.std.proofs.Common.{ap, sym, ◌∙◌, refl, subst, arith}
+use Rattle.std.specs.Prelude.{IfOk, MatchResult, if◌then◌else◌}
+use Rattle.std.proofs.lemmas.List.Concat.{flat_map-append}
+use Rattle.std.proofs.lemmas.List.Elements.{All-head, All-tail}
+use Rattle.std.proofs.lemmas.Option.{same_Some}
+use Rattle.lert_base.specs.Packet.{Packet, events_of}
+use Rattle.lert_bay.specs.Files.{Files}
+use Rattle.lert_cone.specs.declared.state.ConeState.TheVariants.{Finished, Running}
+use Rattle.lert_cone.specs.Sound.{IsSound, KeysFit}
+use Rattle.lert_cone.specs.Stands.{Standing, StandsFor, WasSound, is_broken}
+use Rattle.lert_cone.proofs.MadeReports.{BeginsWith, closing_begins, look_begins}
+use Rattle.lert_reports.specs.Log.{is_closed}
+use Rattle.lert_spec.specs.declared.numbers.Numbers.{Numbers}
+use Rattle.lert_spec.specs.declared.report.Report.{Report}
+use Rattle.lert_spec.specs.Limits.{IsValid}
+use Rattle.lert_spec.specs.Look.{closing, look, look_to}
+use Rattle.lert_spec.proofs.LookLaws.{AreKeys, look_to-append}
+use Rattle.lert_recover.specs.Replayed.{IsJournalSame}
+use Rattle.lert_recover.specs.Shown.{reports_for}
+use Rattle.lert_recover.proofs.MomentLaws.{sound_as}
+
+-- ---- keys of 64 bits
+
+keys_joined : (keys others : List ℕ) → All (λ key. key < 2 ^ 64) keys → AreKeys others → AreKeys (keys ++ others)
+keys_joined [] others fit rest = rest
+keys_joined (key ∷ keys) others fit rest =
+    (All-head (λ key. key < 2 ^ 64) key keys fit, keys_joined keys others (All-tail (λ key. key < 2 ^ 64) key keys fit) rest)
+
+keys_of : (history : List Packet) → KeysFit history → AreKeys (events_of history)
+keys_of [] fit = tt
+keys_of (packet ∷ rest) fit =
+    keys_joined packet.keys (events_of rest) (All-head (λ (p : Packet). All (λ key. key < 2 ^ 64) p.keys) packet rest fit)
+    (keys_of rest (All-tail (λ (p : Packet). All (λ key. key < 2 ^ 64) p.keys) packet rest fit))
+
+keys_split : (keys others : List ℕ) → AreKeys (keys ++ others) → AreKeys keys × AreKeys others
+keys_split [] others fit = (tt, fit)
+keys_split (key ∷ keys) others fit = (let behind = keys_split keys others fit.1 in ((fit.0, behind.0), behind.1))
+
+-- ---- the reports of the first events are the first reports
+
+begins_either : (s : Numbers) (events : List ℕ) (front : List Report) (closed : Bool) → BeginsWith front (look s events) →
+    BeginsWith front (if closed then closing s events else look s events)
+begins_either s events front true begun = closing_begins s events front begun
+begins_either s events front false begun = begun
+
+first_shown : (s : Numbers) (first more : List ℕ) (closed : Bool) → 1 ≤ s.threshold → AreKeys (first ++ more) →
+    BeginsWith (look s first) (if closed then closing s (first ++ more) else look s (first ++ more))
+first_shown s first more closed positive fit =
+    let parts = keys_split first more fit in
+    let all = first ++ more in
+    let same : look_to s all (length first) ≡ look s first = look_to-append s first more (length first) positive parts.0 parts.1 (omega arith) in
+    begins_either s all (look s first) closed
+    (subst (λ (front : List Report). BeginsWith front (look s all)) same (look_begins s all (length first) (length all) (omega (arith, length-append first more))))
+
+pub shown_in : (s : Numbers) (cone : ℕ) (seen : Files) (history more : List Packet) (closed : Bool) (reports : List Report) → IsValid s → IsSound s cone (history ++ more) seen →
+    reports ≡ reports_for s (history ++ more) closed → (rest : List Report) × (reports ≡ look s (events_of history) ++ rest)
+shown_in s cone seen history more closed reports valid sound is =
+    let joined : events_of (history ++ more) ≡ events_of history ++ events_of more = flat_map-append (λ (p : Packet). p.keys) history more in
+    let fit : AreKeys (events_of history ++ events_of more) = subst AreKeys joined (keys_of (history ++ more) sound.journal.fit) in
+    let begun = first_shown s (events_of history) (events_of more) closed valid.limits.threshold_from fit in
+    (begun.more, is ∙ (ap (λ (events : List ℕ). if closed then closing s events else look s events) joined ∙ begun.is))
+
+-- ---- the cone
+
+closed_apart : Finished ≡ Running → ⊥
+closed_apart is = cc
+
+same_closed : (one other : Bool) → (if one then Finished else Running) ≡ (if other then Finished else Running) → one ≡ other
+same_closed true true is = refl
+same_closed true false is = absurd (closed_apart is)
+same_closed false true is = absurd (closed_apart (sym is))
+same_closed false false is = refl
+
+never_broken : (closed : Bool) → is_broken (if closed then Finished else Running) ≡ false
+never_broken true = refl
+never_broken false = refl
+
+-- what is so of a cone, told or not
+abbrev pub IsOwn : {B : Type 0} → Numbers → ℕ → Standing B → Type 0
+IsOwn s cone now =
+    (now.listing.settings ≡ s) × (now.listing.cone ≡ cone) × (now.events ≡ length now.listing.events) × (now.state ≡ if now.listing.closed then Finished else Running)
+
+abbrev pub WasMade : {B : Type 0} → (B → Option Files) → (B → ℕ) → (B → ℕ) → B → Standing B → Type 0
+WasMade files faults mark before now = (files now.made ≡ files before) × (faults before ≤ faults now.made) × (mark now.made ≡ mark before)
+
+module _ {B : Type 0} (files : B → Option Files) (leaves : B → Files → Type 0) (faults mark : B → ℕ) (s : Numbers) (cone : ℕ) (before : B) (seen : Files)
+    (told : files before ≡ Some seen) (history : List Packet) (sound : IsSound s cone history seen) where
+  was_sound : (now : Standing B) → IsOwn s cone now → WasMade files faults mark before now → WasSound files now
+  was_sound now own made first first_told =
+      let same = same_Some seen first (sym told ∙ (sym made.0 ∙ first_told)) in
+      (history, sound_as s now.listing.settings cone now.listing.cone history first own.0 own.1 (subst (IsSound s cone history) same sound))
+
+  reports_are : (now : Standing B) → StandsFor files leaves faults now history → now.state ≡ (if is_closed sound.logged then Finished else Running) → IsOwn s cone now →
+      WasMade files faults mark before now → IsJournalSame (files before) (files now.bay) → now.reports ≡ reports_for s history (is_closed sound.logged)
+  reports_are now stands state own made reads =
+      let there = reads.told seen told in
+      let whole = stands.whole (ap is_broken own.3 ∙ never_broken now.listing.closed) (was_sound now own made) there.0 there.1 in
+      let closed_is = same_closed now.listing.closed (is_closed sound.logged) (sym own.3 ∙ state) in
+      whole.in_step.reports_are
+      ∙ (ap (λ (closed : Bool). if closed then closing now.listing.settings now.listing.events else look now.listing.settings now.listing.events) closed_is
+      ∙ (ap (λ (t : Numbers). if is_closed sound.logged then closing t now.listing.events else look t now.listing.events) own.0
+      ∙ ap (λ (events : List ℕ). if is_closed sound.logged then closing s events else look s events) whole.keys))
+
+  module _ {E : Type 0} (bay_in : E → B) (Outside : E → Type 0) where
+    pub reports_told : (result : Result (Standing B) E) →
+        MatchResult result
+        (λ now. StandsFor files leaves faults now history × (now.state ≡ if is_closed sound.logged then Finished else Running)) (λ refused. Outside refused) →
+        IfOk result (IsOwn s cone) → IfOk result (WasMade files faults mark before) →
+        MatchResult result (λ now. IsJournalSame (files before) (files now.bay)) (λ refused. IsJournalSame (files before) (files (bay_in refused))) →
+        IfOk result (λ now. now.reports ≡ reports_for s history (is_closed sound.logged))
+    reports_told (Ok now) stands own made reads = reports_are now stands.0 stands.1 own made reads
+    reports_told (Err refused) stands own made reads = tt
+
+pub shown_told : {B E : Type 0} (s : Numbers) (cone : ℕ) (seen : Files) (history more : List Packet) (closed : Bool) → IsValid s → IsSound s cone (history ++ more) seen →
+    (result : Result (Standing B) E) → IfOk result (λ now. now.reports ≡ reports_for s (history ++ more) closed) →
+    IfOk result (λ now. (rest : List Report) × (now.reports ≡ look s (events_of history) ++ rest))
+shown_told s cone seen history more closed valid sound (Ok now) are = shown_in s cone seen history more closed now.reports valid sound are
+shown_told s cone seen history more closed valid sound (Err refused) are = tt
