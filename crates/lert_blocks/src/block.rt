@@ -1,6 +1,7 @@
 //! A block as it is filled, piece by piece.
 
-ghost use Rattle.std.specs.Prelude.{◌≡◌, ℕ, ◌+◌, ◌-◌, ◌*◌, ◌/◌, ◌%◌, ◌^◌, ◌<◌, ◌≤◌, ◌≢◌, ◌++◌, [], ◌∷◌, List, length, take, drop, IfOk, IsTrue, ◌↔◌, true, false, slice_index, slice_set, if◌then◌else◌};
+ghost use Rattle.std.specs.Prelude.{◌≡◌, ℕ, ◌+◌, ◌-◌, ◌*◌, ◌/◌, ◌%◌, ◌^◌, ◌<◌, ◌≤◌, ◌≢◌, ◌++◌, [], ◌∷◌, List, length, take, drop, IfOk};
+ghost use Rattle.std.specs.Prelude.{IsTrue, ◌↔◌, true, false, slice_index, slice_set, if◌then◌else◌};
 ghost use Rattle.lert_counter.specs.Group.{IsCount, group};
 ghost use Rattle.std.specs.Int.{bit_at};
 ghost use Rattle.lert_slotbits.specs.Bits.{row_of};

@@ -1,6 +1,7 @@
 //! Reading a group.
 
-ghost use Rattle.std.specs.Prelude.{◌≡◌, ℕ, ◌+◌, ◌-◌, ◌*◌, ◌^◌, ◌<◌, ◌≤◌, ◌≢◌, ◌↔◌, ◌++◌, [], ◌∷◌, List, map, take, drop, length, slice_index, IsTrue, IfSome, Some, None, IsSome, IsNone, IfNone, true, false};
+ghost use Rattle.std.specs.Prelude.{◌≡◌, ℕ, ◌+◌, ◌-◌, ◌*◌, ◌^◌, ◌<◌, ◌≤◌, ◌≢◌, ◌↔◌, ◌++◌, [], ◌∷◌, List, map, take, drop, length};
+ghost use Rattle.std.specs.Prelude.{slice_index, IsTrue, IfSome, Some, None, IsSome, IsNone, IfNone, true, false};
 ghost use Rattle.lert_counter.specs.Group.{group, written, IsCount, BeginsWith};
 ghost use Rattle.lert_counter.specs.Reading.{read_as, number_of, HasTwoZeros, IsReadFrom, IsCounterRead, IsZeroRead, Follows, Spells, SpellsCounter, IsSpelled};
 

@@ -308,7 +308,8 @@ all_of_rows P level (row ∷ rows) k bin below named all =
     ] below named
 
 -- one that is secure stays broken where other places were written
-pub breaks_stay : (s : Numbers) (rows : List (List BinAt)) (old new : Files) (at : ℕ) → AreSecure s (old FRAMES) 1 rows → (kept : ℕ → ℕ → Type 0) → ((from to : ℕ) → InNamed s rows from to → kept from to) →
+pub breaks_stay : (s : Numbers) (rows : List (List BinAt)) (old new : Files) (at : ℕ) → AreSecure s (old FRAMES) 1 rows →
+    (kept : ℕ → ℕ → Type 0) → ((from to : ℕ) → InNamed s rows from to → kept from to) →
     length rows ≤ s.levels → LeavesRest kept old new → OneBreaks s rows (old FRAMES) at → OneBreaks s rows (new FRAMES) at
 breaks_stay s rows old new at secure kept apart few leaves breaks =
     let row = breaks.breaks in

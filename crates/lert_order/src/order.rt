@@ -4,7 +4,8 @@ ghost use Rattle.std.specs.Prelude.{◌≡◌, ℕ, ◌+◌, ◌<◌, ◌≤◌,
 ghost use Rattle.lert_io.specs.Fault.{HasRisen};
 ghost use Rattle.lert_spec.specs.Table.{AreGiven};
 ghost use Rattle.lert_spec.specs.declared.piece.Piece.{Piece};
-ghost use Rattle.lert_order.specs.Ordering.{Ordering, AreRead, Tells, HasTaken, part_in, part_of, none_of, IsNext, AreOver, IsNotBelow, IsBelow, IsNothingGiven, IsGiven, IsReady, IsStarted, AreEnded, AllGive, AllTold, AreKnown, AreSame, Breaks};
+ghost use Rattle.lert_order.specs.Ordering.{Ordering, AreRead, Tells, HasTaken, part_in, part_of, none_of, IsNext, AreOver, IsNotBelow, IsBelow, IsNothingGiven, IsGiven, IsReady, IsStarted};
+ghost use Rattle.lert_order.specs.Ordering.{AreEnded, AllGive, AllTold, AreKnown, AreSame, Breaks};
 
 use crate::ahead::Ahead;
 use crate::streams::Streams;

@@ -1,7 +1,9 @@
 //! Records of a log as they are read: where one leaves the format, and what stands where in it.
 
 ghost use Rattle.std.specs.Prelude.{◌≡◌, ℕ, ◌+◌, ◌*◌, ◌<◌, ◌≤◌, ◌^◌, min, true, false, [], ◌∷◌, None, Some, nat_lt, length, slice_index, MatchResult, IfOk, IsOkAnd};
-ghost use Rattle.lert_reports.specs.LogText.{LogRecord, log_payload_of, kind_number, kind_field, n0_field, offset_field, first_field, head_fields, keeps_n0, next_flush, number_in, n0_in, is_broken, left_at, bin_count, level_place, reports_place, level_fields, directory_fields, bins_field, frame_field, frame_fields, count_field, reports_in, report_place, report_fields, all_report_fields, at_before, key_field, at_field, log_end, end_field, log_left, ArePartsOf};
+ghost use Rattle.lert_reports.specs.LogText.{LogRecord, log_payload_of, kind_number, kind_field, n0_field, offset_field, first_field, head_fields, keeps_n0, next_flush, number_in, n0_in, is_broken};
+ghost use Rattle.lert_reports.specs.LogText.{left_at, bin_count, level_place, reports_place, level_fields, directory_fields, bins_field, frame_field, frame_fields, count_field, reports_in};
+ghost use Rattle.lert_reports.specs.LogText.{report_place, report_fields, all_report_fields, at_before, key_field, at_field, log_end, end_field, log_left, ArePartsOf};
 ghost use Rattle.lert_reports.specs.LogRules.{KeepsRules, TellOf, record_in};
 ghost use Rattle.lert_spec.specs.Edges.{capacity, edge};
 

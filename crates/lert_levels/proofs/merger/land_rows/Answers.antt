@@ -28,7 +28,8 @@ returns-in-Err-clause-malformed g c seen told at is =
     (c.secure_rows.ensures.malformed seen told at (c.in-Err.is ∙ is))
 
 pub returns-in-Err-clause-rest : goal.returns-in-Err-clause-rest
-returns-in-Err-clause-rest g c = read_rest (bays g) (RowsApart c.args.zero.now.settings c.args.m (map (λ row. row.items) c.args.rows.now)) c.args.bay.now c.secure_rows.new.bay _ c.secure_rows.ensures.only_reads
+returns-in-Err-clause-rest g c = read_rest (bays g) (RowsApart c.args.zero.now.settings c.args.m (map (λ row. row.items) c.args.rows.now)) c.args.bay.now
+    c.secure_rows.new.bay _ c.secure_rows.ensures.only_reads
 
 pub returns-clause-malformed : goal.returns-clause-malformed
 returns-clause-malformed g c seen told at is = c.land_secure.ensures.malformed seen (c.secure_rows.ensures.only_reads.seen ∙ told) at is

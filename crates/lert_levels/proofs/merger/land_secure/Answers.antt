@@ -114,7 +114,8 @@ land_bins-landed-requires-clause-room g c =
         each = λ k below. begun_wide s young rows bins k begun;
         all = widths_small s valid young rows (omega (arith, c.len.ensures.few, c.len.ensures.count)) reached.few reached.narrow reached.are;
       };
-      fits = λ part below. subst (λ (ps : List (Option ℕ)). sum (picked ps part (widths_of young rows)) ≤ span s (part + 1)) (sym c.deref.ensures.value) (part_fits s m young rows reached c.lay_parts.new.parts.items parts landings are started count part below);
+      fits = λ part below. subst (λ (ps : List (Option ℕ)). sum (picked ps part (widths_of young rows)) ≤ span s (part + 1)) (sym c.deref.ensures.value)
+          (part_fits s m young rows reached c.lay_parts.new.parts.items parts landings are started count part below);
       empty = λ part d below. started.empty part d (omega (arith, below, count));
     }
 

@@ -62,7 +62,13 @@ set_part-requires-clause-newest c =
     let below : i < length rows = omega (arith, c.loop-lower-test.true, length-map c.args.rows.now (λ row. row.items)) in
     let count : c.len.result ≡ length (get_or rows i []) = omega (arith, c.len.ensures, ap length here) in
     let added_is = c.add_streams-in-loop-lower.ensures.parts ∙ ap (λ n. c.loop-lower.parts.items ++ replicate n None) count in
-    let whole : c.len-in-loop-lower.result ≡ streams_to c.args.young rows (i + 1) = omega (arith, c.len-in-loop-lower.ensures, added_length s c.args.m c.args.young rows c.requires.some c.requires.parts i below c.loop-lower.parts.items c.add_streams-in-loop-lower.new.parts.items c.loop-lower.invariant.parts added_is) in
+    let whole : c.len-in-loop-lower.result ≡ streams_to c.args.young rows (i + 1) =
+    omega (
+      arith,
+      c.len-in-loop-lower.ensures,
+      added_length s c.args.m c.args.young rows c.requires.some c.requires.parts i below c.loop-lower.parts.items
+          c.add_streams-in-loop-lower.new.parts.items c.loop-lower.invariant.parts added_is,
+    ) in
     let newest_is = c.newest_of-newest.ensures ∙ ap (newest_stream s c.args.m (i + 1)) whole in
     some_streams c.newest_of-newest.result (part_at s c.args.m c.args.young rows i).newest (λ stream. stream < length c.add_streams-in-loop-lower.new.parts.items) newest_is
     (newest_added s c.args.m c.args.young rows c.requires.some c.requires.parts i below c.loop-lower.parts.items c.add_streams-in-loop-lower.new.parts.items c.loop-lower.invariant.parts added_is)
@@ -79,11 +85,18 @@ loop-lower-preserved c =
     let added_is = c.add_streams-in-loop-lower.ensures.parts ∙ ap (λ n. c.loop-lower.parts.items ++ replicate n None) count in
     let row = subst (IsRow s (i + 1)) here (c.requires.rows i c.loop-lower-test.true) in
     let few = streams_few_more c.args.young rows i s.bins s.levels below (omega (arith, ap length here, row.few)) (omega (arith, c.loop-lower-test.true, c.requires.few)) c.loop-lower.invariant.few in
-    let whole : c.len-in-loop-lower.result ≡ streams_to c.args.young rows (i + 1) = omega (arith, c.len-in-loop-lower.ensures, added_length s c.args.m c.args.young rows c.requires.some c.requires.parts i below c.loop-lower.parts.items c.add_streams-in-loop-lower.new.parts.items c.loop-lower.invariant.parts added_is) in
+    let whole : c.len-in-loop-lower.result ≡ streams_to c.args.young rows (i + 1) =
+    omega (
+      arith,
+      c.len-in-loop-lower.ensures,
+      added_length s c.args.m c.args.young rows c.requires.some c.requires.parts i below c.loop-lower.parts.items
+          c.add_streams-in-loop-lower.new.parts.items c.loop-lower.invariant.parts added_is,
+    ) in
     let newest_is = c.newest_of-newest.ensures ∙ ap (newest_stream s c.args.m (i + 1)) whole in
     let begun : c.len-begun.result ≡ streams_to c.args.young rows i = omega (arith, c.len-begun.ensures, c.loop-lower.invariant.parts.len) in
     record {
-      parts = parts_more s c.args.m c.args.young rows c.requires.some c.requires.parts i below c.loop-lower.parts.items c.add_streams-in-loop-lower.new.parts.items c.loop-lower.invariant.parts added_is c.set_part.new.parts.items
+      parts = parts_more s c.args.m c.args.young rows c.requires.some c.requires.parts i below c.loop-lower.parts.items
+          c.add_streams-in-loop-lower.new.parts.items c.loop-lower.invariant.parts added_is c.set_part.new.parts.items
           (c.set_part.ensures.parts ∙ (λ j. set_two c.add_streams-in-loop-lower.new.parts.items (c.loop-lower.invariant.oldest j) (newest_is j) i));
       oldest = begun ∙ ap (oldest_stream c.args.young rows) (sym (add-one i));
       few = few.0;
