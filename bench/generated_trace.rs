@@ -4,17 +4,12 @@
 //! mod 1000, where v is even, else v itself. So half of the events are of keys that come often, and half
 //! of keys that come once.
 
-use std::env;
-use std::io::{self, BufWriter, ErrorKind, Write};
+mod mixer;
+mod trace_writer;
 
-const HEADER: [u8; 8] = *b"LERT\x01\0\0\0";
-
-/// The mixed value of a key.
-fn mix(key: u64) -> u64 {
-    let key = (key ^ (key >> 33)).wrapping_mul(0xff51_afd7_ed55_8ccd);
-    let key = (key ^ (key >> 33)).wrapping_mul(0xc4ce_b9fe_1a85_ec53);
-    key ^ (key >> 33)
-}
+use mixer::mix;
+use std::io;
+use trace_writer::{seed_and_keys, write_trace};
 
 fn key_at(seed: u64, event: u64) -> u64 {
     let value = mix(seed.wrapping_add(event));
@@ -22,14 +17,6 @@ fn key_at(seed: u64, event: u64) -> u64 {
 }
 
 fn main() -> io::Result<()> {
-    let words: Result<Vec<u64>, _> = env::args().skip(1).map(|word| word.parse()).collect();
-    let Ok([seed, keys]) = words.as_deref() else {
-        return Err(io::Error::new(ErrorKind::InvalidInput, "the words are SEED KEYS"));
-    };
-    let mut out = BufWriter::with_capacity(1 << 16, io::stdout().lock());
-    out.write_all(&HEADER)?;
-    for event in 1..=*keys {
-        out.write_all(&key_at(*seed, event).to_le_bytes())?;
-    }
-    out.flush()
+    let (seed, keys) = seed_and_keys()?;
+    write_trace((1..=keys).map(|event| key_at(seed, event)))
 }

@@ -2,12 +2,15 @@
 //! same data syncs, counts the keys of each packet behind them, and reports each key at the event that
 //! makes it reach the threshold. It prints the same lines.
 //!
-//! Words: THRESHOLD ROOM CONE_BITS WORKERS DIR TRACE.. The other settings are the program's defaults; the room
-//! is written into the journals and bounds nothing here, and a cone takes as many keys as there are. DIR is
-//! made, and has no journal yet. Trace t is read by the thread t mod WORKERS, which brings a cone's keys to it
+//! Words: THRESHOLD ROOM BASE CONE_BITS WORKERS DIR TRACE.. The other settings are the program's defaults; the room
+//! and the base are written into the journals and bound nothing here, and a cone takes as many keys as there are.
+//! DIR is made, and has no journal yet. Trace t is read by the thread t mod WORKERS, which brings a cone's keys to it
 //! as the program's workers do: a whole packet, or two or three, where the cone isn't held, and four whatever
 //! it waits. It keeps no log and no frames. It is the yardstick of `bench/run`, and ends at the first fault.
 
+mod mixer;
+
+use mixer::mix;
 use std::collections::HashMap;
 use std::env;
 use std::fs::{self, File};
@@ -23,7 +26,6 @@ const BUFFER_LEN: usize = 1 << 16;
 const MOST_CONE_BITS: u32 = 8;
 const BINS: u8 = 4;
 const RATIO: u8 = 4;
-const BASE: u32 = 4096;
 const LEVELS: u8 = 5;
 const PACKET: usize = 1024;
 /// A ring holds four packets at most.
@@ -34,6 +36,7 @@ const OPEN: u8 = 1;
 struct Settings {
     threshold: u32,
     room: u32,
+    base: u32,
     cone_bits: u32,
 }
 
@@ -41,7 +44,7 @@ impl Settings {
     /// The header of a cone's journal.
     fn header(&self, cone: u32) -> Vec<u8> {
         let mut header = JOURNAL_MAGIC.to_vec();
-        for number in [self.threshold, self.room, BASE, PACKET as u32] {
+        for number in [self.threshold, self.room, self.base, PACKET as u32] {
             header.extend_from_slice(&number.to_le_bytes());
         }
         header.extend_from_slice(&[BINS, RATIO, LEVELS, self.cone_bits as u8]);
@@ -53,12 +56,6 @@ impl Settings {
     fn cone_of(&self, key: u64) -> usize {
         mix(key).checked_shr(64 - self.cone_bits).unwrap_or(0) as usize
     }
-}
-
-fn mix(key: u64) -> u64 {
-    let key = (key ^ (key >> 33)).wrapping_mul(0xff51_afd7_ed55_8ccd);
-    let key = (key ^ (key >> 33)).wrapping_mul(0xc4ce_b9fe_1a85_ec53);
-    key ^ (key >> 33)
 }
 
 /// Packets on disk, as gated records. The present gate is closed, and stands behind the last packet.
@@ -207,7 +204,9 @@ fn route(workers: u32, settings: &Settings, cones: &[Mutex<Cone>], traces: &[Str
     thread::scope(|scope| {
         let work = |by| move || work(by, workers, settings, cones, traces);
         let threads: Vec<_> = (0..workers).map(|by| scope.spawn(work(by))).collect();
-        threads.into_iter().try_for_each(|thread| thread.join().unwrap_or_else(|_| Err(io::Error::other("a thread panicked"))))
+        threads.into_iter().try_for_each(|thread| {
+            thread.join().unwrap_or_else(|_| Err(io::Error::other("a thread panicked")))
+        })
     })
 }
 
@@ -231,16 +230,17 @@ fn print(out: &mut impl Write, cones: &[Cone]) -> io::Result<()> {
 
 fn main() -> io::Result<()> {
     let wrong = || {
-        io::Error::new(ErrorKind::InvalidInput, "the words are THRESHOLD ROOM CONE_BITS WORKERS DIR TRACE..")
+        io::Error::new(ErrorKind::InvalidInput, "the words are THRESHOLD ROOM BASE CONE_BITS WORKERS DIR TRACE..")
     };
     let words: Vec<String> = env::args().skip(1).collect();
-    let [threshold, room, cone_bits, workers, dir, traces @ ..] = words.as_slice() else {
+    let [threshold, room, base, cone_bits, workers, dir, traces @ ..] = words.as_slice() else {
         return Err(wrong());
     };
     let number = |word: &String| word.parse::<u32>().map_err(|_| wrong());
     let settings = Settings {
         threshold: number(threshold)?,
         room: number(room)?,
+        base: number(base)?,
         cone_bits: number(cone_bits)?,
     };
     let workers = number(workers)?;

@@ -10,16 +10,11 @@
 // and RocksDB. These have their settings by default, and a Bloom filter, by which a key that never came costs no read.
 // It is the yardstick of `bench/peers`, and ends at the first fault. For little-endian Linux alone.
 
-#include <fcntl.h>
-#include <signal.h>
-#include <sys/prctl.h>
-#include <sys/socket.h>
-#include <sys/un.h>
-#include <sys/wait.h>
+#include "counter.h"
+#include "redis_counter.h"
+
 #include <unistd.h>
 
-#include <cerrno>
-#include <chrono>
 #include <cstdint>
 #include <cstdio>
 #include <cstring>
@@ -28,9 +23,6 @@
 #include <memory>
 #include <stdexcept>
 #include <string>
-#include <string_view>
-#include <system_error>
-#include <thread>
 #include <unordered_map>
 #include <vector>
 
@@ -51,13 +43,9 @@ static_assert(__BYTE_ORDER__ == __ORDER_LITTLE_ENDIAN__, "a trace is read as it 
 
 namespace {
 
-using Keys = std::vector<std::uint64_t>;
-
 constexpr char TRACE_HEADER[8] = {'L', 'E', 'R', 'T', 1, 0, 0, 0};
 // Bits for each key: of the look-ups for a key that isn't there, one in a hundred reads in vain.
 [[maybe_unused]] constexpr int FILTER_BITS = 10;
-
-std::system_error system_fault(const char* what) { return {errno, std::generic_category(), what}; }
 
 // The keys of a trace, behind its header.
 class Trace {
@@ -83,17 +71,6 @@ class Trace {
   std::ifstream file_;
 };
 
-class Counter {
- public:
-  virtual ~Counter() = default;
-
-  // Counts the keys, and returns once that is on the disk: those keys whose counts came to the threshold.
-  virtual Keys count(const Keys& keys) = 0;
-
-  // Ends with all counts on the disk. Nothing is counted behind it.
-  virtual void close() = 0;
-};
-
 #if defined(WITH_LEVELDB) || defined(WITH_ROCKSDB)
 
 template <class Status>
@@ -101,11 +78,23 @@ void check(const Status& status) {
   if (!status.ok()) throw std::runtime_error(status.ToString());
 }
 
+// A store in a folder that isn't there yet.
+template <class Db, class Options>
+std::unique_ptr<Db> opened_anew(Options options, const std::string& dir) {
+  options.create_if_missing = true;
+  options.error_if_exists = true;
+  Db* opened = nullptr;
+  check(Db::Open(options, dir, &opened));
+  return std::unique_ptr<Db>(opened);
+}
+
 // The counts in a store of key and value, of which LevelDB and RocksDB have the same calls.
-template <class Store>
+template <class Db, class Batch, class Slice, class Write>
 class StoreCounter : public Counter {
  public:
-  StoreCounter(const std::string& dir, std::uint64_t threshold) : threshold_(threshold), store_(dir) {
+  template <class Options>
+  StoreCounter(const std::string& dir, const Options& options, std::uint64_t threshold)
+      : threshold_(threshold), db_(opened_anew<Db>(options, dir)) {
     write_.sync = true;
   }
 
@@ -113,26 +102,26 @@ class StoreCounter : public Counter {
     std::unordered_map<std::uint64_t, std::uint64_t> added(keys.size());
     for (const auto key : keys) ++added[key];
     Keys reached;
-    typename Store::Batch batch;
+    Batch batch;
     for (const auto& [key, more] : added) {
       const auto before = count_of(key);
       const auto after = before + more;
       batch.Put(bytes_of(key), bytes_of(after));
       if (before < threshold_ && after >= threshold_) reached.push_back(key);
     }
-    check(store_.db->Write(write_, &batch));
+    check(db_->Write(write_, &batch));
     return reached;
   }
 
-  void close() override { store_.db.reset(); }
+  void close() override { db_.reset(); }
 
  private:
-  static typename Store::Slice bytes_of(const std::uint64_t& number) {
+  static Slice bytes_of(const std::uint64_t& number) {
     return {reinterpret_cast<const char*>(&number), sizeof number};
   }
 
   std::uint64_t count_of(std::uint64_t key) {
-    const auto status = store_.db->Get({}, bytes_of(key), &value_);
+    const auto status = db_->Get({}, bytes_of(key), &value_);
     if (status.IsNotFound()) return 0;
     check(status);
     std::uint64_t count;
@@ -142,8 +131,8 @@ class StoreCounter : public Counter {
   }
 
   const std::uint64_t threshold_;
-  Store store_;
-  typename Store::Write write_;
+  std::unique_ptr<Db> db_;
+  Write write_;
   std::string value_;
 };
 
@@ -151,226 +140,39 @@ class StoreCounter : public Counter {
 
 #ifdef WITH_LEVELDB
 
-struct LevelDb {
-  using Batch = leveldb::WriteBatch;
-  using Slice = leveldb::Slice;
-  using Write = leveldb::WriteOptions;
+using LevelDb = StoreCounter<leveldb::DB, leveldb::WriteBatch, leveldb::Slice, leveldb::WriteOptions>;
 
-  explicit LevelDb(const std::string& dir) : filter(leveldb::NewBloomFilterPolicy(FILTER_BITS)) {
-    leveldb::Options options;
-    options.create_if_missing = true;
-    options.error_if_exists = true;
-    options.filter_policy = filter.get();
-    leveldb::DB* opened = nullptr;
-    check(leveldb::DB::Open(options, dir, &opened));
-    db.reset(opened);
-  }
-
-  static std::string version() {
-    return std::to_string(leveldb::kMajorVersion) + "." + std::to_string(leveldb::kMinorVersion);
-  }
-
-  // The database uses the filter, so it goes first.
-  std::unique_ptr<const leveldb::FilterPolicy> filter;
-  std::unique_ptr<leveldb::DB> db;
-};
+std::unique_ptr<Counter> make_leveldb(const std::string& dir, std::uint64_t threshold) {
+  // The database uses it to its end.
+  static const std::unique_ptr<const leveldb::FilterPolicy> filter(leveldb::NewBloomFilterPolicy(FILTER_BITS));
+  leveldb::Options options;
+  options.filter_policy = filter.get();
+  return std::make_unique<LevelDb>(dir, options, threshold);
+}
 
 #endif
 
 #ifdef WITH_ROCKSDB
 
-struct RocksDb {
-  using Batch = rocksdb::WriteBatch;
-  using Slice = rocksdb::Slice;
-  using Write = rocksdb::WriteOptions;
+using RocksDb = StoreCounter<rocksdb::DB, rocksdb::WriteBatch, rocksdb::Slice, rocksdb::WriteOptions>;
 
-  explicit RocksDb(const std::string& dir) {
-    rocksdb::BlockBasedTableOptions table;
-    table.filter_policy.reset(rocksdb::NewBloomFilterPolicy(FILTER_BITS));
-    rocksdb::Options options;
-    options.create_if_missing = true;
-    options.error_if_exists = true;
-    options.table_factory.reset(rocksdb::NewBlockBasedTableFactory(table));
-    rocksdb::DB* opened = nullptr;
-    check(rocksdb::DB::Open(options, dir, &opened));
-    db.reset(opened);
-  }
-
-  static std::string version() { return rocksdb::GetRocksVersionAsString(); }
-
-  std::unique_ptr<rocksdb::DB> db;
-};
+std::unique_ptr<Counter> make_rocksdb(const std::string& dir, std::uint64_t threshold) {
+  rocksdb::BlockBasedTableOptions table;
+  table.filter_policy.reset(rocksdb::NewBloomFilterPolicy(FILTER_BITS));
+  rocksdb::Options options;
+  options.table_factory.reset(rocksdb::NewBlockBasedTableFactory(table));
+  return std::make_unique<RocksDb>(dir, options, threshold);
+}
 
 #endif
-
-// A redis-server of our own, in the present folder. Its end is waited for, so what it took counts as ours.
-class Server {
- public:
-  static constexpr const char* SOCKET = "redis.socket";
-
-  Server() : pid_(fork()) {
-    if (pid_ < 0) throw system_fault("fork");
-    if (pid_ == 0) become_server();
-  }
-
-  Server(const Server&) = delete;
-  Server& operator=(const Server&) = delete;
-
-  ~Server() {
-    if (pid_ <= 0) return;
-    kill(pid_, SIGTERM);
-    waitpid(pid_, nullptr, 0);
-  }
-
-  bool has_ended() {
-    int status;
-    if (pid_ > 0 && waitpid(pid_, &status, WNOHANG) == pid_) pid_ = 0;
-    return pid_ == 0;
-  }
-
-  // Waits for the end that it was asked for.
-  void join() {
-    int status;
-    const pid_t pid = pid_;
-    pid_ = 0;
-    if (waitpid(pid, &status, 0) != pid) throw system_fault("waitpid");
-    if (!WIFEXITED(status) || WEXITSTATUS(status) != 0) throw std::runtime_error("redis-server failed");
-  }
-
- private:
-  // Without snapshots: they would be a second copy beside the file of commands. What it says isn't kept.
-  [[noreturn]] static void become_server() {
-    prctl(PR_SET_PDEATHSIG, SIGTERM);
-    dup2(open("/dev/null", O_WRONLY | O_CLOEXEC), STDOUT_FILENO);
-    execlp("redis-server", "redis-server", "--port", "0", "--unixsocket", SOCKET, "--appendonly", "yes",
-           "--appendfsync", "always", "--save", "", static_cast<char*>(nullptr));
-    _exit(127);
-  }
-
-  pid_t pid_;
-};
-
-// A connection to a server, which speaks RESP.
-class Connection {
- public:
-  explicit Connection(Server& server) {
-    sockaddr_un address{};
-    address.sun_family = AF_UNIX;
-    std::strcpy(address.sun_path, Server::SOCKET);
-    const auto deadline = std::chrono::steady_clock::now() + std::chrono::seconds(60);
-    while (!connects(address)) {
-      if (server.has_ended()) throw std::runtime_error("redis-server doesn't run");
-      if (std::chrono::steady_clock::now() > deadline) throw std::runtime_error("redis-server doesn't answer");
-      std::this_thread::sleep_for(std::chrono::milliseconds(1));
-    }
-  }
-
-  Connection(const Connection&) = delete;
-  Connection& operator=(const Connection&) = delete;
-
-  ~Connection() { ::close(socket_); }
-
-  void send(const std::string& text) {
-    for (std::size_t at = 0; at < text.size();) {
-      const auto sent = ::send(socket_, text.data() + at, text.size() - at, MSG_NOSIGNAL);
-      if (sent < 0) throw system_fault("send");
-      at += static_cast<std::size_t>(sent);
-    }
-  }
-
-  // The next line, without its end. A view of it holds until the next call.
-  std::string_view line() {
-    for (std::size_t looked = at_;;) {
-      const auto end = text_.find("\r\n", looked);
-      if (end != std::string::npos) {
-        const std::string_view found(text_.data() + at_, end - at_);
-        at_ = end + 2;
-        return found;
-      }
-      text_.erase(0, at_);
-      at_ = 0;
-      // The first half of a line's end may stand there.
-      looked = text_.empty() ? 0 : text_.size() - 1;
-      receive();
-    }
-  }
-
-  // Takes a line that has to be this one.
-  void expect(std::string_view due) {
-    const auto found = line();
-    if (found != due) throw std::runtime_error("redis-server says " + std::string(found));
-  }
-
- private:
-  // A server that hasn't got so far refuses, or has made no socket.
-  bool connects(const sockaddr_un& address) {
-    socket_ = socket(AF_UNIX, SOCK_STREAM | SOCK_CLOEXEC, 0);
-    if (socket_ < 0) throw system_fault("socket");
-    if (connect(socket_, reinterpret_cast<const sockaddr*>(&address), sizeof address) == 0) return true;
-    ::close(socket_);
-    socket_ = -1;
-    return false;
-  }
-
-  void receive() {
-    char part[1 << 16];
-    const auto len = recv(socket_, part, sizeof part, 0);
-    if (len < 0) throw system_fault("recv");
-    if (len == 0) throw std::runtime_error("redis-server closed the connection");
-    text_.append(part, static_cast<std::size_t>(len));
-  }
-
-  int socket_ = -1;
-  std::string text_;
-  std::size_t at_ = 0;
-};
-
-// The counts in Redis, which adds to them by itself.
-class RedisCounter : public Counter {
- public:
-  explicit RedisCounter(std::uint64_t threshold)
-      : connection_(server_), reply_at_threshold_(":" + std::to_string(threshold)) {}
-
-  // Redis answers EXEC once the commands are synced.
-  Keys count(const Keys& keys) override {
-    std::string text = "*1\r\n$5\r\nMULTI\r\n";
-    for (const auto& key : keys) {
-      text += "*2\r\n$4\r\nINCR\r\n$8\r\n";
-      text.append(reinterpret_cast<const char*>(&key), sizeof key);
-      text += "\r\n";
-    }
-    text += "*1\r\n$4\r\nEXEC\r\n";
-    connection_.send(text);
-    connection_.expect("+OK");
-    for (std::size_t queued = 0; queued < keys.size(); ++queued) connection_.expect("+QUEUED");
-    connection_.expect("*" + std::to_string(keys.size()));
-    Keys reached;
-    for (const auto key : keys) {
-      const auto reply = connection_.line();
-      if (reply.empty() || reply[0] != ':') throw std::runtime_error("redis-server says " + std::string(reply));
-      if (reply == reply_at_threshold_) reached.push_back(key);
-    }
-    return reached;
-  }
-
-  void close() override {
-    connection_.send("*2\r\n$8\r\nSHUTDOWN\r\n$6\r\nNOSAVE\r\n");
-    server_.join();
-  }
-
- private:
-  Server server_;
-  Connection connection_;
-  const std::string reply_at_threshold_;
-};
 
 // Makes the folder, and the store in it.
 std::unique_ptr<Counter> make_counter(const std::string& store, const std::string& dir, std::uint64_t threshold) {
 #ifdef WITH_LEVELDB
-  if (store == "leveldb") return std::make_unique<StoreCounter<LevelDb>>(dir, threshold);
+  if (store == "leveldb") return make_leveldb(dir, threshold);
 #endif
 #ifdef WITH_ROCKSDB
-  if (store == "rocksdb") return std::make_unique<StoreCounter<RocksDb>>(dir, threshold);
+  if (store == "rocksdb") return make_rocksdb(dir, threshold);
 #endif
   if (store == "redis") {
     if (!std::filesystem::create_directory(dir)) throw std::runtime_error(dir + " is there");
@@ -383,10 +185,10 @@ std::unique_ptr<Counter> make_counter(const std::string& store, const std::strin
 
 void print_version(const std::string& store) {
 #ifdef WITH_LEVELDB
-  if (store == "leveldb") std::puts(LevelDb::version().c_str());
+  if (store == "leveldb") std::printf("%d.%d\n", leveldb::kMajorVersion, leveldb::kMinorVersion);
 #endif
 #ifdef WITH_ROCKSDB
-  if (store == "rocksdb") std::puts(RocksDb::version().c_str());
+  if (store == "rocksdb") std::puts(rocksdb::GetRocksVersionAsString().c_str());
 #endif
   if (store == "redis") {
     execlp("redis-server", "redis-server", "--version", static_cast<char*>(nullptr));

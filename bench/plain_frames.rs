@@ -10,9 +10,10 @@
 
 mod plain_frame_writer;
 mod plain_pieces;
+mod random;
 
 use plain_frame_writer::Writer;
-use plain_pieces::Random;
+use random::Random;
 use std::env;
 use std::fs::{File, OpenOptions};
 use std::io::{self, Error, ErrorKind};

@@ -1,10 +1,13 @@
-//! The merge of `crates/lert_merging` in plain Rust. Words: KIND STREAMS PIECES SEED. The kind is
-//! `tournament`, for the tournament that the proved merge plays too, or `heap`, for the heap of std.
-//! It prints the same sum, and on standard error the nanoseconds that the merge took. It is the
-//! yardstick of `bench/merge`, and ends at the first fault.
+//! The merge of `crates/lert_merging` in plain Rust. Words: KIND STREAMS PIECES SEED. The kind is `tree`, for the tree
+//! of losers that the proved merge has, or `heap`, for the heap of std. It prints the same sums, and on standard error
+//! the nanoseconds that the merge took. It is the yardstick of `bench/merge`, and ends at the first fault.
 
+mod random;
+
+use random::Random;
 use std::cmp::Reverse;
 use std::collections::BinaryHeap;
+use std::collections::binary_heap::PeekMut;
 use std::env;
 use std::io::{Error, ErrorKind};
 use std::time::Instant;
@@ -19,6 +22,7 @@ struct Piece {
 
 /// Why a stream gives no piece. The streams here always do.
 #[allow(dead_code)]
+#[derive(Debug)]
 enum PieceFault {
     Failed,
     Malformed { at: u64 },
@@ -43,196 +47,206 @@ impl Pieces for Sorted {
     }
 }
 
-/// A merge that gives each tail once, with the sum of its counts and the share of each stream.
-trait Merge {
-    fn next(&mut self) -> Result<Option<Piece>, PieceFault>;
-    fn share(&self, stream: usize) -> u64;
+/// The pieces of some streams in ascending tails, one by one, each with its stream's number.
+trait Order {
+    fn step(&mut self) -> Result<Option<(usize, Piece)>, PieceFault>;
 }
 
-#[derive(Clone, Copy)]
-struct Entrant {
-    tail: u64,
-    stream: usize,
-    is_out: bool,
+/// The tail and the count that an answer is put down as: an ended stream has the greatest tail, and the count 0.
+fn entry_of(next: Option<Piece>) -> (u64, u64) {
+    next.map_or((u64::MAX, 0), |piece| (piece.tail, piece.count))
 }
 
-const NOBODY: Entrant = Entrant { tail: 0, stream: 0, is_out: true };
-
-fn winner_of(one: Entrant, other: Entrant) -> Entrant {
-    if other.is_out || (!one.is_out && one.tail <= other.tail) { one } else { other }
+/// A tree of losers: the winner of places 2j and 2j + 1 is that of place j, where the other one's number stands.
+struct Tree {
+    tails: Vec<u64>,
+    losers: Vec<usize>,
+    first: usize,
 }
 
-/// A tournament of the streams: the winner of places 2j and 2j + 1 stands at place j.
-struct Tournament<P> {
+impl Tree {
+    fn new(mut tails: Vec<u64>) -> Self {
+        let leaves = tails.len().next_power_of_two();
+        tails.resize(leaves, u64::MAX);
+        let mut winners: Vec<usize> = (0..2 * leaves).map(|place| place.saturating_sub(leaves)).collect();
+        let mut losers = vec![0; leaves];
+        for place in (1..leaves).rev() {
+            let (one, other) = (winners[2 * place], winners[2 * place + 1]);
+            let is_other = tails[other] < tails[one];
+            (winners[place], losers[place]) = if is_other { (other, one) } else { (one, other) };
+        }
+        Tree { first: winners[1], tails, losers }
+    }
+
+    /// Gives the first stream another tail. Which of two is less can't be guessed, so no branch is on it.
+    fn replace(&mut self, tail: u64) {
+        self.tails[self.first] = tail;
+        let (mut winner, mut least) = (self.first, tail);
+        let mut place = (self.tails.len() + winner) / 2;
+        while place > 0 {
+            let rival = self.losers[place];
+            let rivals = self.tails[rival];
+            let is_less = rivals < least;
+            let streams = (winner ^ rival) & usize::from(is_less).wrapping_neg();
+            self.losers[place] = rival ^ streams;
+            winner ^= streams;
+            least ^= (least ^ rivals) & u64::from(is_less).wrapping_neg();
+            place /= 2;
+        }
+        self.first = winner;
+    }
+}
+
+/// An order by a tree, with the counts beside it.
+struct TreeOrder<P> {
     streams: Vec<P>,
     counts: Vec<u64>,
-    shares: Vec<u64>,
-    places: Vec<Entrant>,
-    given: Vec<usize>,
+    tree: Tree,
 }
 
-impl<P: Pieces> Tournament<P> {
-    fn new(streams: Vec<P>) -> Self {
-        let len = streams.len();
-        Tournament {
-            streams,
-            counts: vec![0; len],
-            shares: vec![0; len],
-            places: vec![NOBODY; 2 * len],
-            given: (0..len).collect(),
+impl<P: Pieces> TreeOrder<P> {
+    fn new(mut streams: Vec<P>) -> Result<Self, PieceFault> {
+        let mut tails = Vec::with_capacity(streams.len());
+        let mut counts = Vec::with_capacity(streams.len());
+        for stream in &mut streams {
+            let (tail, count) = entry_of(stream.next()?);
+            tails.push(tail);
+            counts.push(count);
         }
+        Ok(TreeOrder { streams, counts, tree: Tree::new(tails) })
     }
 
-    /// Whether each match of the stream is against a greater tail.
-    fn is_alone(&self, stream: usize, tail: u64) -> bool {
-        let mut place = self.streams.len() + stream;
-        while place > 1 {
-            let rival = self.places[place ^ 1];
-            if !rival.is_out && rival.tail <= tail {
-                return false;
-            }
-            place /= 2;
+    /// The stream in front: where its tail is the greatest one, any that hasn't ended.
+    fn front(&self) -> Option<usize> {
+        let first = self.tree.first;
+        if self.counts.get(first).is_some_and(|&count| count > 0) {
+            return Some(first);
         }
-        true
+        self.left()
     }
 
-    fn put(&mut self, stream: usize, entrant: Entrant) {
-        let mut place = self.streams.len() + stream;
-        let mut winner = entrant;
-        self.places[place] = winner;
-        while place > 1 {
-            winner = winner_of(winner, self.places[place ^ 1]);
-            place /= 2;
-            self.places[place] = winner;
-        }
+    #[cold]
+    fn left(&self) -> Option<usize> {
+        self.counts.iter().position(|&count| count > 0)
     }
 }
 
-impl<P: Pieces> Merge for Tournament<P> {
-    fn next(&mut self) -> Result<Option<Piece>, PieceFault> {
-        for at in 0..self.given.len() {
-            let stream = self.given[at];
-            match self.streams[stream].next()? {
-                Some(piece) => {
-                    self.counts[stream] = piece.count;
-                    self.put(stream, Entrant { tail: piece.tail, stream, is_out: false });
-                }
-                None => self.put(stream, NOBODY),
-            }
-        }
-        let first = self.places[1];
-        if first.is_out {
+impl<P: Pieces> Order for TreeOrder<P> {
+    fn step(&mut self) -> Result<Option<(usize, Piece)>, PieceFault> {
+        let Some(stream) = self.front() else {
             return Ok(None);
-        }
-        for &stream in &self.given {
-            self.shares[stream] = 0;
-        }
-        self.given.clear();
-        let mut count = 0;
-        while !self.places[1].is_out && self.places[1].tail == first.tail {
-            let stream = self.places[1].stream;
-            self.shares[stream] = self.counts[stream];
-            count += self.counts[stream];
-            self.given.push(stream);
-            if self.is_alone(stream, first.tail) {
-                break;
-            }
-            self.put(stream, NOBODY);
-        }
-        Ok(Some(Piece { tail: first.tail, count }))
-    }
-
-    fn share(&self, stream: usize) -> u64 {
-        self.shares[stream]
+        };
+        let piece = Piece { tail: self.tree.tails[stream], count: self.counts[stream] };
+        let (tail, count) = entry_of(self.streams[stream].next()?);
+        self.counts[stream] = count;
+        self.tree.replace(tail);
+        Ok(Some((stream, piece)))
     }
 }
 
-/// A heap of the tails that were read ahead.
-struct Heap<P> {
+/// An order by a heap of the tails that were read ahead.
+struct HeapOrder<P> {
     streams: Vec<P>,
     counts: Vec<u64>,
-    shares: Vec<u64>,
     heads: BinaryHeap<Reverse<(u64, usize)>>,
-    given: Vec<usize>,
 }
 
-impl<P: Pieces> Heap<P> {
-    fn new(streams: Vec<P>) -> Self {
-        let len = streams.len();
-        Heap {
-            streams,
-            counts: vec![0; len],
-            shares: vec![0; len],
-            heads: BinaryHeap::with_capacity(len),
-            given: (0..len).collect(),
+impl<P: Pieces> HeapOrder<P> {
+    fn new(mut streams: Vec<P>) -> Result<Self, PieceFault> {
+        let mut heads = BinaryHeap::with_capacity(streams.len());
+        let mut counts = vec![0; streams.len()];
+        for (number, stream) in streams.iter_mut().enumerate() {
+            if let Some(piece) = stream.next()? {
+                counts[number] = piece.count;
+                heads.push(Reverse((piece.tail, number)));
+            }
         }
+        Ok(HeapOrder { streams, counts, heads })
     }
 }
 
-impl<P: Pieces> Merge for Heap<P> {
-    fn next(&mut self) -> Result<Option<Piece>, PieceFault> {
-        for at in 0..self.given.len() {
-            let stream = self.given[at];
-            if let Some(piece) = self.streams[stream].next()? {
-                self.counts[stream] = piece.count;
-                self.heads.push(Reverse((piece.tail, stream)));
-            }
-        }
-        let Some(&Reverse((tail, _))) = self.heads.peek() else {
+impl<P: Pieces> Order for HeapOrder<P> {
+    fn step(&mut self) -> Result<Option<(usize, Piece)>, PieceFault> {
+        let Some(mut head) = self.heads.peek_mut() else {
             return Ok(None);
         };
-        for &stream in &self.given {
-            self.shares[stream] = 0;
-        }
-        self.given.clear();
-        let mut count = 0;
-        while let Some(&Reverse((least, stream))) = self.heads.peek() {
-            if least != tail {
-                break;
+        let Reverse((tail, stream)) = *head;
+        let piece = Piece { tail, count: self.counts[stream] };
+        match self.streams[stream].next()? {
+            Some(next) => {
+                self.counts[stream] = next.count;
+                *head = Reverse((next.tail, stream));
             }
-            self.heads.pop();
-            self.shares[stream] = self.counts[stream];
-            count += self.counts[stream];
-            self.given.push(stream);
+            None => {
+                PeekMut::pop(head);
+            }
         }
-        Ok(Some(Piece { tail, count }))
-    }
-
-    fn share(&self, stream: usize) -> u64 {
-        self.shares[stream]
+        Ok(Some((stream, piece)))
     }
 }
 
-fn sum_up(merge: &mut impl Merge) -> u64 {
-    let mut sum = 0u64;
-    while let Ok(Some(piece)) = merge.next() {
-        sum = sum.rotate_left(1) ^ piece.tail ^ piece.count.rotate_left(32) ^ merge.share(0);
-    }
-    sum
+/// The pieces of the last tail, added up.
+struct Sum {
+    last: Option<Piece>,
 }
 
-/// Numbers that follow from a seed, as splitmix64 makes them.
-struct Random(u64);
+impl Sum {
+    /// Adds a piece to the sum of its tail, or begins with it, and then answers the sum before.
+    fn add(&mut self, piece: Piece) -> Option<Piece> {
+        match &mut self.last {
+            Some(last) if last.tail == piece.tail => {
+                last.count += piece.count;
+                None
+            }
+            last => last.replace(piece),
+        }
+    }
+}
 
-impl Random {
-    fn next(&mut self) -> u64 {
-        self.0 = self.0.wrapping_add(0x9e37_79b9_7f4a_7c15);
-        let mut mixed = self.0;
-        mixed = (mixed ^ (mixed >> 30)).wrapping_mul(0xbf58_476d_1ce4_e5b9);
-        mixed = (mixed ^ (mixed >> 27)).wrapping_mul(0x94d0_49bb_1331_11eb);
-        mixed ^ (mixed >> 31)
+/// What came of a merge: the totals, in their order, and the pieces with their streams, where equal tails may come in
+/// any order.
+#[derive(Default)]
+struct Checksum {
+    totals: u64,
+    pieces: u64,
+}
+
+impl Checksum {
+    fn total(&mut self, total: Piece) {
+        self.totals = self.totals.rotate_left(1) ^ total.tail ^ total.count.rotate_left(32);
     }
 
-    fn pieces(&mut self, len: u64) -> Vec<Piece> {
-        let mut least = 0;
-        let mut piece = |_| {
-            let drawn = self.next();
-            let tail = least + drawn % FARTHEST;
-            least = tail + 1;
-            Piece { tail, count: (drawn >> 60) + 1 }
-        };
-        (0..len).map(&mut piece).collect()
+    fn piece(&mut self, stream: usize, piece: Piece) {
+        let number = stream as u64 + 1;
+        self.pieces = self.pieces.wrapping_add((piece.tail ^ piece.count).wrapping_mul(number));
     }
+}
+
+fn sum_up(mut order: impl Order) -> Result<Checksum, PieceFault> {
+    let mut checksum = Checksum::default();
+    let mut sum = Sum { last: None };
+    while let Some((stream, piece)) = order.step()? {
+        checksum.piece(stream, piece);
+        if let Some(total) = sum.add(piece) {
+            checksum.total(total);
+        }
+    }
+    if let Some(total) = sum.last {
+        checksum.total(total);
+    }
+    Ok(checksum)
+}
+
+/// Pieces that follow from a seed.
+fn drawn(random: &mut Random, len: u64) -> Sorted {
+    let mut least = 0;
+    let mut piece = |_| {
+        let drawn = random.next();
+        let tail = least + drawn % FARTHEST;
+        least = tail + 1;
+        Piece { tail, count: (drawn >> 60) + 1 }
+    };
+    Sorted { pieces: (0..len).map(&mut piece).collect(), given: 0 }
 }
 
 fn main() -> Result<(), Error> {
@@ -244,23 +258,16 @@ fn main() -> Result<(), Error> {
     let number = |word: &String| word.parse::<u64>().map_err(|_| wrong());
     let mut random = Random(number(seed)?);
     let len = number(pieces)?;
-    let streams: Vec<Sorted> = (0..number(streams)?)
-        .map(|_| Sorted { pieces: random.pieces(len), given: 0 })
-        .collect();
-    let (sum, time) = match kind.as_str() {
-        "tournament" => {
-            let mut merge = Tournament::new(streams);
-            let start = Instant::now();
-            (sum_up(&mut merge), start.elapsed())
-        }
-        "heap" => {
-            let mut merge = Heap::new(streams);
-            let start = Instant::now();
-            (sum_up(&mut merge), start.elapsed())
-        }
+    let streams: Vec<Sorted> = (0..number(streams)?).map(|_| drawn(&mut random, len)).collect();
+    let start = Instant::now();
+    let merged = match kind.as_str() {
+        "tree" => TreeOrder::new(streams).and_then(sum_up),
+        "heap" => HeapOrder::new(streams).and_then(sum_up),
         _ => return Err(wrong()),
     };
-    println!("{sum}");
+    let time = start.elapsed();
+    let Checksum { totals, pieces } = merged.map_err(|fault| Error::other(format!("{fault:?}")))?;
+    println!("{totals} {pieces}");
     eprintln!("{}", time.as_nanos());
     Ok(())
 }

@@ -1,21 +1,11 @@
 //! The pieces of a frame, drawn from a seed.
 
 use crate::Piece;
+use crate::random::Random;
 
 const FARTHEST: u64 = 35_000_000_000_000;
 
-/// Numbers that follow from a seed, as splitmix64 makes them.
-pub struct Random(pub u64);
-
 impl Random {
-    fn next(&mut self) -> u64 {
-        self.0 = self.0.wrapping_add(0x9e37_79b9_7f4a_7c15);
-        let mut mixed = self.0;
-        mixed = (mixed ^ (mixed >> 30)).wrapping_mul(0xbf58_476d_1ce4_e5b9);
-        mixed = (mixed ^ (mixed >> 27)).wrapping_mul(0x94d0_49bb_1331_11eb);
-        mixed ^ (mixed >> 31)
-    }
-
     /// By how much a count is above 1: by nothing in three of four.
     fn excess(&mut self) -> u64 {
         let drawn = self.next();

@@ -3,16 +3,13 @@
 //
 // Words: CONE_BITS KEYS SEED. It prints a sum over all packets, in their order, and on standard error
 // the nanoseconds that the loop took.
+mod mixer;
+
+use mixer::mix;
 use std::io::{BufReader, Read};
 use std::time::Instant;
 
 const PACKET: usize = 1024;
-
-fn mix(key: u64) -> u64 {
-    let key = (key ^ (key >> 33)).wrapping_mul(0xff51_afd7_ed55_8ccd);
-    let key = (key ^ (key >> 33)).wrapping_mul(0xc4ce_b9fe_1a85_ec53);
-    key ^ (key >> 33)
-}
 
 // A trace of so many keys, each another one.
 fn trace(keys: u64, seed: u64) -> Vec<u8> {

@@ -5,11 +5,13 @@ It knows nothing of the program but its words and its lines. All files are kept 
 
 from __future__ import annotations
 
+import os
 import re
 import subprocess
+import tempfile
 from functools import lru_cache
 from pathlib import Path
-from typing import Iterable, Iterator, NamedTuple, Sequence
+from typing import Iterable, Iterator, Mapping, NamedTuple, Sequence
 
 from cones import CLOSED, JOURNAL, LOOK, SUFFIXES, Broken, Cone, Report, Unsound
 from formats import TRACE_MAGIC, Header, OtherSettings
@@ -58,6 +60,12 @@ def files_in(folder: Folder, cone: int) -> Files:
     return tuple(folder.get(file_name(cone, file), b"") for file in range(len(SUFFIXES)))
 
 
+def in_memory() -> tempfile.TemporaryDirectory[str]:
+    """A directory to work in. In memory a data sync costs nothing."""
+    memory = Path("/dev/shm")
+    return tempfile.TemporaryDirectory(dir=memory if "TMPDIR" not in os.environ and memory.is_dir() else None)
+
+
 def write_trace(path: Path, keys: Iterable[int]) -> None:
     path.write_bytes(TRACE_MAGIC + b"".join(key.to_bytes(8, "little") for key in keys))
 
@@ -74,9 +82,14 @@ class Answer(NamedTuple):
         return f"status {self.status}, {self.out!r}, {self.err!r}"
 
 
-def asked(program: Path, words: Sequence[str | Path], seconds: float = SECONDS) -> Answer:
+def asked(
+    program: Path, words: Sequence[str | Path], seconds: float = SECONDS, variables: Mapping[str, str] | None = None
+) -> Answer:
+    """What it answers, in this environment or in ours."""
     try:
-        done = subprocess.run([program, *words], stdin=subprocess.DEVNULL, capture_output=True, timeout=seconds)
+        done = subprocess.run(
+            [program, *words], stdin=subprocess.DEVNULL, capture_output=True, timeout=seconds, env=variables
+        )
     except subprocess.TimeoutExpired:
         return Answer(HANGS, "", "")
     return Answer(done.returncode, done.stdout.decode(errors="replace"), done.stderr.decode(errors="replace"))

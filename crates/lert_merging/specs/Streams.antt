@@ -1,5 +1,5 @@
 -- Sorted pieces, of which the first were given.
-use Rattle.std.proofs.Common.{ℕ, ◌≡◌, ◌^◌, ◌++◌, ◌+◌, List, take, drop, Some, sym, ap, ◌∙◌, subst}
+use Rattle.std.proofs.Common.{ℕ, ◌≡◌, ◌^◌, ◌++◌, List, take, drop, Some, sym, ap, ◌∙◌, subst}
 use Rattle.std.proofs.lemmas.List.{take-append-drop}
 use Rattle.lert_spec.specs.declared.piece.Piece.{Piece}
 use Rattle.lert_spec.specs.Table.{AreGiven}
@@ -9,3 +9,7 @@ pub stays_given : (n : ℕ) (pieces rest : List Piece) → AreGiven (2 ^ 64) pie
 stays_given n pieces rest are told =
     let left : rest ≡ drop n pieces = cc in
     subst (AreGiven (2 ^ 64)) (sym (ap (λ xs. take n pieces ++ xs) left ∙ take-append-drop n pieces)) are
+
+-- a checksum tells nothing of what it took: it may be any list
+abbrev pub took_any : {T : Type 0} → T → List Piece → Type 0
+took_any totals pieces = Unit {0}

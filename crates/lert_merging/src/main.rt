@@ -1,24 +1,29 @@
-//! A merge of sorted streams in memory, which `bench/merge` times.
+//! The merge of a flush over sorted streams in memory, which `bench/merge` times: the steps of an order, and the sums of
+//! equal tails behind them.
 //!
-//! Words: STREAMS PIECES SEED. It draws so many streams of so many pieces, and merges them. It prints a
-//! sum over all that the merge gave, in order, and on standard error the nanoseconds that this took.
-//! The streams are proved sorted; that the sum is right is seen beside a plain program's.
+//! Words: STREAMS PIECES SEED. It draws so many streams of so many pieces, and merges them. It prints two
+//! sums over all that the merge gave, and on standard error the nanoseconds that this took.
+//! The streams are proved sorted; that the sums are right is seen beside a plain program's.
 #![tactic(auto)]
 
-ghost use Rattle.std.specs.Prelude.{◌≡◌, ◌<◌, length, IfOk};
-
+mod checksum;
 mod drawn;
 mod sorted;
 
+use crate::checksum::Checksum;
 use crate::drawn::Random;
 use crate::sorted::{Quiet, Sorted};
 use anyhow::{Context, Result, bail};
 use lert_io::OutOfMemory;
-use lert_merge::{Heads, Merge};
-use lert_order::Each;
+use lert_landing::{Sum, add_total, end_totals};
+use lert_order::{Ahead, Each, Order};
 use std::alloc::Global;
 use std::env;
 use std::time::Instant;
+
+const MOST_PIECES: u64 = 1 << 47;
+
+const MOST_COUNT: u64 = 1 << 15;
 
 /// What the words ask for.
 #[derive(Drop)]
@@ -44,45 +49,43 @@ fn read_words<R: env::Env + AllocGlobal>(rt: &R) -> Result<Task> {
     })
 }
 
-/// The streams of a task, and the memory of their merge.
-fn prepare(alloc: Global, task: &Task) -> Result<Merge<Quiet, Each<Sorted>>, OutOfMemory>
-    ensures { IfOk result (λ merge. length merge.order.streams ≡ task.now.streams) }
-{
+/// The streams of a task in one order, with its memory.
+fn prepare(alloc: Global, task: &Task) -> Result<Order<Quiet, Each<Sorted>>, OutOfMemory> {
     let mut random = Random::new(task.seed);
     let mut streams = Vec::new(alloc);
     for _ in 0..task.streams {
         streams.push(Sorted::new(random.pieces(alloc, task.pieces)?))?;
     }
-    let heads = Heads::new(alloc, streams.len())?;
-    Ok(Merge::new(Each::of(streams), heads))
+    let ahead = Ahead::new(alloc, streams.len())?;
+    Ok(Order::new(Each::of(streams), ahead))
 }
 
-/// Merges all that is to come, at most so many pieces, and sums up the tails, the counts and the first stream's shares.
-fn sum_up(merge: &mut Merge<Quiet, Each<Sorted>>, most: u64) -> u64
-    requires { 0 < length merge.old.order.streams }
-{
+/// Merges all that is to come, as a flush does that lands nothing.
+fn merge_all(order: &mut Order<Quiet, Each<Sorted>>, checksum: &mut Checksum) {
     let mut ctx = Quiet {};
-    let mut sum = 0u64;
-    for _ in 0..most {
-        let Ok(Some(piece)) = merge.next(&mut ctx) else {
-            break;
+    let mut sum = Sum::new();
+    for _ in 0..MOST_PIECES {
+        let Ok(Some((stream, piece))) = order.step(&mut ctx) else {
+            end_totals(checksum, &mut sum);
+            return;
         };
-        sum = sum.rotate_left(1) ^ piece.tail ^ piece.count.rotate_left(32) ^ merge.share(0);
+        // So the counts can be added up. Those that are drawn are far less.
+        if piece.count > MOST_COUNT {
+            return;
+        }
+        checksum.piece(stream, piece);
+        add_total(checksum, &mut sum, piece);
     }
-    sum
 }
 
 fn main(rt: HostRuntime) -> Result<()> {
     let task = read_words(&rt)?;
-    if task.streams == 0 {
-        bail!("no stream");
-    }
-    let most = u64::from(task.streams) * u64::from(task.pieces);
-    let mut merge = prepare(rt.alloc(), &task).ok().context("out of memory")?;
+    let mut order = prepare(rt.alloc(), &task).ok().context("out of memory")?;
+    let mut checksum = Checksum::new();
     let start = Instant::now(&rt)?;
-    let sum = sum_up(&mut merge, most);
+    merge_all(&mut order, &mut checksum);
     let time = start.elapsed(&rt)?;
-    println!(rt; "{sum}")?;
+    println!(rt; "{} {}", checksum.totals, checksum.pieces)?;
     eprintln!(rt; "{}", time.as_nanos())?;
     Ok(())
 }
