@@ -35,7 +35,7 @@ left_without_names() {
 }
 
 check_keys() {
-    local line refusal='keys: line 2 is no decimal number below 2^64\n'
+    local line refusal='keys: standard input, line 2: no decimal number below 2^64\n'
     has python3 od || return
     gives 'packs numbers' 0 '4c45525401000000\n6401000000000000\nffffffffffffffff\n' '' \
         pack_bytes < <(printf '356\n18446744073709551615\n')
@@ -57,11 +57,11 @@ check_keys() {
 
 check_unpacking() {
     has python3 || return
-    local left='keys: the trace leaves its format at byte'
-    gives 'unpacks no empty file' 1 '' "$left 0\n" keys unpack empty
-    gives 'unpacks no cut header' 1 '' "$left 7\n" keys unpack cut_header
-    gives 'unpacks no other header' 1 '' "$left 3\n" keys unpack other_header
-    gives 'unpacks no cut key' 1 '7\n' "$left 16\n" keys unpack cut_key
+    local left='the trace leaves its format\n'
+    gives 'unpacks no empty file' 1 '' "keys: empty, byte 0: $left" keys unpack empty
+    gives 'unpacks no cut header' 1 '' "keys: cut_header, byte 7: $left" keys unpack cut_header
+    gives 'unpacks no other header' 1 '' "keys: other_header, byte 3: $left" keys unpack other_header
+    gives 'unpacks no cut key' 1 '7\n' "keys: cut_key, byte 16: $left" keys unpack cut_key
 }
 
 # --- tools/journal

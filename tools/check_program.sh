@@ -341,5 +341,6 @@ check_program() {
     check_reports
     check_recovery
     check_example
+    check_look
 }
 

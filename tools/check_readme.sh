@@ -17,6 +17,7 @@ check_commands() {
     printf '```\n$ echo 7\n8\n```\n' >stale.md
     gives 'finds another output' 1 '$ echo 7\nis to print:\n8\nbut prints:\n7\n' '' commands stale.md
     has /usr/share/common-licenses/GPL-3 && gives 'the commands of the README' 0 '' '' commands
+    gives 'the commands of docs/LOOK.md' 0 '' '' commands "$top/docs/LOOK.md"
 }
 
 check_readme() {

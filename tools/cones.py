@@ -102,6 +102,10 @@ class Levels(NamedTuple):
         return (self.bins + 1) * younger + frame * frame_len(self.span(level))
 
 
+def levels_of(header: Header) -> Levels:
+    return Levels(header.base, header.ratio, header.bins, header.levels)
+
+
 class Report(NamedTuple):
     key: int
     at: int
@@ -192,13 +196,20 @@ class Log:
 
     def read(self, data: bytes) -> None:
         begins_with(data, LOG_MAGIC)
+        self.follow(data[len(LOG_MAGIC) :], len(LOG_MAGIC))
+
+    def follow(self, data: bytes, start: int) -> int:
+        """Takes the open records from the gate at byte `start` of the file on, where `data` begins, and gives the gate
+        behind them."""
+        gate = start
         most = 29 + self.levels.levels * (1 + self.levels.bins) + 16 * self.header.room
-        for at, payload in payloads(data, len(LOG_MAGIC), most):
+        for at, payload in payloads(data, start, most, start):
             self.take(at - 1, Fields(payload, at + 4))
-            behind = at + 4 + len(payload)
+            gate = at + 4 + len(payload)
             # Nothing stands behind a closing record, whatever its length would be.
-            if self.closed and data[behind : behind + 1] == bytes([OPEN]):
-                raise Left(behind)
+            if self.closed and data[gate - start : gate - start + 1] == bytes([OPEN]):
+                raise Left(gate)
+        return gate
 
     def take(self, gate: int, fields: Fields) -> None:
         kind = fields.ruled(1, FLUSH, CLOSING)
@@ -265,7 +276,7 @@ class Cone:
         """The three files in their order, and the header that is due in the journal, where it is known."""
         self.files = files
         self.header = header = in_file(JOURNAL, lambda data: header_of(data, due), files[JOURNAL])
-        self.levels = Levels(header.base, header.ratio, header.bins, header.levels)
+        self.levels = levels_of(header)
         self.log = Log(header, self.levels)
         self.packets: list[tuple[int, Packet]] = []
         self.events: list[int] = []

@@ -119,36 +119,43 @@ def header_of(data: bytes, due: Header | None = None) -> Header:
     return header
 
 
-def payloads(data: bytes, first: int, most: int) -> Iterator[tuple[int, bytes]]:
-    """The payloads of the open records from the first gate on, each with the place of its length."""
-    gate = first
+def payloads(data: bytes, first: int, most: int, start: int = 0) -> Iterator[tuple[int, bytes]]:
+    """The payloads of the open records from the first gate on, each with the place of its length. `data` is the file
+    from byte `start` on."""
+    gate = first - start
     while True:
         if gate >= len(data):
-            raise Left(len(data))
+            raise Left(start + len(data))
         if data[gate] != OPEN:
             return
         if gate + 5 > len(data):
-            raise Left(len(data))
+            raise Left(start + len(data))
         (count,) = struct.unpack_from("<I", data, gate + 1)
         if not 0 < count <= most:
-            raise Left(gate + 1)
+            raise Left(start + gate + 1)
         end = gate + 5 + count
         if end > len(data):
-            raise Left(len(data))
-        yield gate + 1, data[gate + 5 : end]
+            raise Left(start + len(data))
+        yield start + gate + 1, data[gate + 5 : end]
         gate = end
 
 
-def packet_of(header: Header, at: int, payload: bytes) -> Packet:
+def keys_of(header: Header, at: int, payload: bytes) -> bytes:
+    """The bytes of a packet's keys, of which there are as many as the settings let a packet have."""
     count, rest = divmod(len(payload) - 8, 8)
     if rest or not 1 <= count <= 4 * header.packet:
         raise Left(at)
+    return payload[8:]
+
+
+def packet_of(header: Header, at: int, payload: bytes) -> Packet:
+    data = keys_of(header, at, payload)
     by, trace = struct.unpack_from("<2I", payload)
     if by > MOST_BY:
         raise Left(at + 4)
     if trace > MOST_TRACE:
         raise Left(at + 8)
-    keys = struct.unpack_from(f"<{count}Q", payload, 8)
+    keys = struct.unpack(f"<{len(data) // 8}Q", data)
     for number, key in enumerate(keys):
         if cone_of(header.cone_bits, key) != header.cone:
             raise Left(at + 12 + 8 * number)
