@@ -7,4 +7,5 @@ pub mod Crashing
 pub mod Settling
 pub mod Lasting
 pub mod KeptLaws
+pub mod HandedLaws
 pub mod Copying

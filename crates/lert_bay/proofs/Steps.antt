@@ -6,7 +6,7 @@ use Rattle.std.proofs.lemmas.List.{get_or_append_left, get_or_at, get_or_default
 use Rattle.lert_bay.specs.Files.{Files, Changes, Turns, Torn, Holds, LeftByFailure}
 use Rattle.lert_bay.specs.Images.{Elapses, Follow, Settles}
 use Rattle.lert_bay.specs.Since.{IsTornSince}
-use Rattle.lert_bay.specs.Memory.{FileState, untouched, file_of, seen_of, MayLeave, MayLeaveAll, Disk, LeftSince, Rewrites, durable}
+use Rattle.lert_bay.specs.Memory.{FileState, untouched, file_of, seen_of, handed_of, MayLeave, MayLeaveAll, Disk, LeftSince, Rewrites, durable}
 use Rattle.lert_bay.specs.declared.extent.Extent.{Extent}
 use Rattle.lert_bay.proofs.Tearing.{left_by_part, left_same, torn_more, torn_less, only_synced}
 
@@ -253,3 +253,8 @@ pub write_time : (first begun wrote after : Disk) (number at count : ℕ) (step 
     after.past ≡ wrote.past → Elapses (length first.past) (length after.past) (LeftSince first) (LeftSince after) (MayLeaveAll after.files)
 write_time first begun wrote after number at count step call rewrote same =
     elapses first after (same ∙ (ap (λ disk. disk.past) rewrote.rest ∙ call.past))
+
+-- what reads have handed out
+pub write_handed : (first begun wrote after : Disk) (number at count : ℕ) (step : List ℕ → List ℕ → Type 0) → begun.handed ≡ first.handed
+    → Rewrites number at count step begun wrote → after.handed ≡ wrote.handed → handed_of after.handed ≡ handed_of first.handed
+write_handed first begun wrote after number at count step call rewrote same = ap handed_of (same ∙ (ap (λ disk. disk.handed) rewrote.rest ∙ call))

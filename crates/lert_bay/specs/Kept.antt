@@ -2,10 +2,11 @@
 use Rattle.std.specs.Prelude.{◌≡◌, ℕ, ◌≤◌, Option}
 use Rattle.lert_bay.specs.Files.{Files}
 use Rattle.lert_bay.specs.Images.{KeepsImages, Lasts}
+use Rattle.lert_bay.specs.declared.bay.TheConstants.{JOURNAL}
 use Rattle.lert_io.specs.Fault.{HasRisen}
 
--- what bays of a type are seen by: the count of faults of each and its mark, its files, its images, its moment, and its images
--- since a time
+-- what bays of a type are seen by: the count of faults of each and its mark, its files, its images, its moment, its images
+-- since a time, and how many bytes reads have handed out of each file
 abbrev pub Bays : Type 0 → Type 1
 Bays B = record {
   faults : B → ℕ;
@@ -14,17 +15,33 @@ Bays B = record {
   leaves : B → Files → Type 0;
   moment : B → ℕ;
   left_since : B → ℕ → Files → Type 0;
+  handed_out : B → ℕ → ℕ;
 }
 
 -- Whatever the calls answer: time goes on, the count of faults doesn't fall, and rose where one of them is said to have failed,
 -- and the mark is the same.
-pub record KeepsBay {B : Type 0} (bays : Bays B) (before after : B) (Failed : Type 0) : Type 0 where
+pub record CallsBay {B : Type 0} (bays : Bays B) (before after : B) (Failed : Type 0) : Type 0 where
   pub time : Lasts (bays.moment before) (bays.moment after) (bays.left_since before) (bays.left_since after)
   pub never_falls : bays.faults before ≤ bays.faults after
   pub failed : Failed → HasRisen (bays.faults before) (bays.faults after)
   pub mark : bays.mark after ≡ bays.mark before
 
 -- The calls read alone: no file and no image changed, also at no moment between.
+pub record ReadsBay {B : Type 0} (bays : Bays B) (before after : B) (Failed : Type 0) : Type 0 where
+  pub kept : CallsBay bays before after Failed
+  pub seen : bays.files after ≡ bays.files before
+  pub images : KeepsImages (bays.leaves before) (bays.leaves after)
+  pub moments : (image : Files) → bays.left_since after (bays.moment before) image → bays.leaves before image
+
+-- What `CallsBay` says, and no byte of the journal was handed out.
+pub record KeepsBay {B : Type 0} (bays : Bays B) (before after : B) (Failed : Type 0) : Type 0 where
+  pub time : Lasts (bays.moment before) (bays.moment after) (bays.left_since before) (bays.left_since after)
+  pub never_falls : bays.faults before ≤ bays.faults after
+  pub failed : Failed → HasRisen (bays.faults before) (bays.faults after)
+  pub mark : bays.mark after ≡ bays.mark before
+  pub journal : bays.handed_out after JOURNAL ≡ bays.handed_out before JOURNAL
+
+-- What `ReadsBay` says, and no byte of the journal was handed out.
 pub record OnlyReads {B : Type 0} (bays : Bays B) (before after : B) (Failed : Type 0) : Type 0 where
   pub kept : KeepsBay bays before after Failed
   pub seen : bays.files after ≡ bays.files before

@@ -1,6 +1,7 @@
 pub mod Files
 pub mod Images
 pub mod Settled
+pub mod Handed
 pub mod Kept
 pub mod Since
 pub mod Memory

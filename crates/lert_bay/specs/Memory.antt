@@ -1,5 +1,5 @@
 -- What a bay in memory is seen as, and the meanings that it gives to the members of `Bay`.
-use Rattle.std.specs.Prelude.{◌≡◌, ℕ, ◌+◌, ◌-◌, ◌<◌, ◌≤◌, min, Result, OnOk, OnErr, List, [], ◌∷◌, ◌++◌, length, slice_index_or, slice_set, Some, None}
+use Rattle.std.specs.Prelude.{◌≡◌, ℕ, ◌+◌, ◌-◌, ◌<◌, ◌≤◌, min, Result, OnOk, OnErr, List, [], ◌∷◌, ◌++◌, length, slice_index, slice_index_or, slice_set, Some, None}
 use Rattle.std.specs.Prelude.{option_map, IsSomeAnd}
 use Rattle.std.proofs.Common.{◌⊎◌, inl, inr, ap, arith}
 use Rattle.lert_bay.specs.Files.{Files}
@@ -50,14 +50,19 @@ ticked plan = record { fail = option_map (λ number. number - 1) plan.fail; stop
 abbrev pub calm : Plan
 calm = record { fail = None; stop = None }
 
--- a bay: its files now, its files at the moment of each call so far, the calls that are to fail, how many failed, and
--- its mark
+-- a bay: its files now, its files at the moment of each call so far, the calls that are to fail, how many failed, its
+-- mark, and how many bytes reads have handed out of each file
 pub record Disk : Type 0 where
   pub files : List FileState
   pub past : List (List FileState)
   pub plan : Plan
   pub faults : ℕ
   pub mark : ℕ
+  pub handed : List ℕ
+
+-- how many bytes reads have handed out of a file
+abbrev pub handed_of : List ℕ → ℕ → ℕ
+handed_of counts file = slice_index counts file
 
 -- what a crash at this moment may leave, or at one of those from a time on
 abbrev pub LeftSince : Disk → ℕ → Files → Type 0

@@ -4,6 +4,7 @@ ghost use Rattle.std.specs.Prelude.{◌≡◌, ℕ, ◌+◌, ◌<◌, ◌≤◌,
 ghost use Rattle.lert_io.specs.Fault.{HasCause};
 ghost use Rattle.lert_bay.specs.Files.{Files, IfTold, Turns, Changes, Holds, Torn, LeftByFailure, CopiesFrom};
 ghost use Rattle.lert_bay.specs.Images.{KeepsImages, Follow, Settles, Elapses};
+ghost use Rattle.lert_bay.specs.Handed.{HandsOut};
 
 use lert_io::{Failed, Faulty};
 
@@ -31,6 +32,10 @@ pub trait Bay: Faulty {
     /// The images that a crash at some moment since a time might have left, in a call or between two.
     ghost left_since: { Self → ℕ → Files → Type 0 };
 
+    /// How many bytes reads have handed out of each file, where the bay tells its files; else a number that
+    /// says nothing more. It stays at 2^64 - 1 once it is there.
+    ghost handed_out: { Self → ℕ → ℕ };
+
     /// The length of a file in bytes. It changes no file, whatever it answers.
     fn len(&mut self, file: u8) -> Result<u64, Failed>
         requires { file < 3 }
@@ -38,6 +43,7 @@ pub trait Bay: Faulty {
         ensures seen { files self.new ≡ files self.old }
         ensures images { KeepsImages (leaves self.old) (leaves self.new) }
         ensures time { Elapses (moment self.old) (moment self.new) (left_since self.old) (left_since self.new) (leaves self.new) }
+        ensures handed { handed_out self.new ≡ handed_out self.old }
         ensures cause { HasCause (Self.faults self.old) (Self.faults self.new) result }
         ensures mark { Self.mark self.new ≡ Self.mark self.old };
 
@@ -51,6 +57,7 @@ pub trait Bay: Faulty {
         ensures seen { files self.new ≡ files self.old }
         ensures images { KeepsImages (leaves self.old) (leaves self.new) }
         ensures time { Elapses (moment self.old) (moment self.new) (left_since self.old) (left_since self.new) (leaves self.new) }
+        ensures handed { HandsOut file (files self.old) (handed_out self.old) (handed_out self.new) result }
         ensures cause { HasCause (Self.faults self.old) (Self.faults self.new) result }
         ensures mark { Self.mark self.new ≡ Self.mark self.old };
 
@@ -65,6 +72,7 @@ pub trait Bay: Faulty {
         ensures failed { OnErr result (Turns (Changes (LeftByFailure at (length bytes.now)) file) (files self.old) (files self.new)) }
         ensures images { Follow (Changes (Torn at (length bytes.now)) file) (leaves self.old) (leaves self.new) }
         ensures time { Elapses (moment self.old) (moment self.new) (left_since self.old) (left_since self.new) (leaves self.new) }
+        ensures handed { handed_out self.new ≡ handed_out self.old }
         ensures cause { HasCause (Self.faults self.old) (Self.faults self.new) result }
         ensures mark { Self.mark self.new ≡ Self.mark self.old };
 
@@ -76,6 +84,7 @@ pub trait Bay: Faulty {
         ensures durable { IfTold (files self.old) (λ seen. OnOk result (Settles file (seen file) (leaves self.old) (leaves self.new))) }
         ensures failed { OnErr result (KeepsImages (leaves self.old) (leaves self.new)) }
         ensures time { Elapses (moment self.old) (moment self.new) (left_since self.old) (left_since self.new) (leaves self.new) }
+        ensures handed { handed_out self.new ≡ handed_out self.old }
         ensures cause { HasCause (Self.faults self.old) (Self.faults self.new) result }
         ensures mark { Self.mark self.new ≡ Self.mark self.old };
 

@@ -22,6 +22,7 @@ pub struct MemBay {
     plan: Plan,
     faults: u64,
     mark: u64,
+    handed: [u64; 3],
 }
 
 impl Model for MemBay {
@@ -30,15 +31,15 @@ impl Model for MemBay {
 
     ghost Value = { Disk };
 
-    ghost view = { λ b. record { files = b.files; past = b.past; plan = b.plan; faults = b.faults; mark = b.mark } };
+    ghost view = { λ b. record { files = b.files; past = b.past; plan = b.plan; faults = b.faults; mark = b.mark; handed = b.handed } };
 
-    ghost invariant = { λ b. length b.files ≡ 3 };
+    ghost invariant = { λ b. (length b.files ≡ 3) × (length b.handed ≡ 3) };
 }
 
 impl MemBay {
-    ghost use Rattle.lert_bay.specs.Memory.{untouched, durable, calm, Strikes, ticked, file_of, seen_of, MayLeaveAll, Rewrites};
+    ghost use Rattle.lert_bay.specs.Memory.{untouched, durable, calm, Strikes, ticked, file_of, seen_of, handed_of, MayLeaveAll, Rewrites};
 
-    /// Three empty files with nothing pending, and no call that is to fail.
+    /// Three empty files with nothing pending, of which no byte was read, and no call that is to fail.
     pub fn new(alloc: Global) -> Result<MemBay, OutOfMemory>
         ensures { IfOk result (λ bay. bay ≡ record {
           files = untouched ∷ untouched ∷ untouched ∷ [];
@@ -46,6 +47,7 @@ impl MemBay {
           plan = calm;
           faults = 0;
           mark = 0;
+          handed = 0 ∷ 0 ∷ 0 ∷ [];
         }) }
     {
         Ok(MemBay {
@@ -59,6 +61,7 @@ impl MemBay {
             plan: Plan::calm(),
             faults: 0,
             mark: 0,
+            handed: [0; 3],
         })
     }
 
@@ -86,6 +89,7 @@ impl MemBay {
             plan: self.plan,
             faults: self.faults,
             mark: self.mark,
+            handed: self.handed,
         })
     }
 
@@ -114,6 +118,14 @@ impl MemBay {
         self.files[file as usize].bytes()
     }
 
+    /// How many bytes of a file reads have handed out. The number stays at 2^64 - 1 once it is there.
+    pub fn bytes_read(&self, file: u8) -> u64
+        requires { file < 3 }
+        ensures { result ≡ handed_of self.now.handed file }
+    {
+        self.handed[file as usize]
+    }
+
     /// Replaces a file by these bytes, synced. It counts as no call of the bay. A refusal leaves the bay as
     /// it was.
     pub fn load(&mut self, file: u8, bytes: &[u8]) -> Result<(), OutOfMemory>
@@ -133,7 +145,8 @@ impl MemBay {
     /// What a crash at this moment may leave, one of its images, as a bay with nothing pending and no call
     /// that is to fail. It takes back the writes since the last sync, the last one first. The picks 0 to 3
     /// take back all of each, nothing, the second half and the first half, and leave the least length, the
-    /// greatest, the greatest and the one between. A greater pick gives each write a fate of its own.
+    /// greatest, the greatest and the one between. A greater pick gives each write a fate of its own. The counts
+    /// of faults and of bytes read go on.
     pub fn crashed(mut self, pick: u64) -> Result<MemBay, OutOfMemory>
         ensures image { IfOk result (λ bay. MayLeaveAll self.files (seen_of bay.files)) }
         ensures lost { pick ≡ 0 → IfOk result (λ bay. (number : ℕ) → seen_of bay.files number ≡ (file_of self.files number).synced) }
@@ -145,6 +158,7 @@ impl MemBay {
           plan = calm;
           faults = self.faults;
           mark = self.mark;
+          handed = self.handed;
         }) }
     {
         for file in &mut self.files {
@@ -193,6 +207,16 @@ impl MemBay {
         Failed
     }
 
+    // Counts bytes of a file that a read hands out.
+    fn count_read(&mut self, file: u8, count: usize)
+        requires { file < 3 }
+        ensures within { file < length self.old.handed }
+        ensures never_falls { handed_of self.old.handed file ≤ handed_of self.new.handed file }
+        ensures counted { self.new ≡ record self.old { handed = slice_set self.old.handed file (min (handed_of self.old.handed file + count) 18446744073709551615) } }
+    {
+        self.handed[file as usize] = self.handed[file as usize].saturating_add(count as u64);
+    }
+
     // Writes the first `landing` of these bytes into a file, and notes that all may have been written.
     fn write_part(
         &mut self,
@@ -221,7 +245,8 @@ impl Bay for MemBay {
     ghost use Rattle.std.specs.Prelude.{Some, length};
     ghost use Rattle.lert_bay.specs.Files.{IfTold, Turns, Changes, Torn, LeftByFailure, CopiesFrom};
     ghost use Rattle.lert_bay.specs.Images.{KeepsImages, Follow, Settles};
-    ghost use Rattle.lert_bay.specs.Memory.{IsCounted, Strikes, TakesTime, seen_of, MayLeaveAll, LeftSince, as_read, only_now, since_earlier};
+    ghost use Rattle.lert_bay.specs.Handed.{HandsOut};
+    ghost use Rattle.lert_bay.specs.Memory.{IsCounted, Strikes, TakesTime, seen_of, handed_of, MayLeaveAll, LeftSince, as_read, only_now, since_earlier};
     ghost use Rattle.std.proofs.Common.{inl};
 
     ghost files = { λ b. Some (seen_of b.files) };
@@ -231,6 +256,8 @@ impl Bay for MemBay {
     ghost moment = { λ b. length b.past };
 
     ghost left_since = { LeftSince };
+
+    ghost handed_out = { λ b. handed_of b.handed };
 
     ghost as_read = { as_read };
 
@@ -249,6 +276,7 @@ impl Bay for MemBay {
         ensures seen { Some (seen_of self.new.files) ≡ Some (seen_of self.old.files) }
         ensures images { KeepsImages (MayLeaveAll self.old.files) (MayLeaveAll self.new.files) }
         ensures time { TakesTime self.old self.new }
+        ensures handed { handed_of self.new.handed ≡ handed_of self.old.handed }
         ensures cause { HasCause self.old.faults self.new.faults result }
     {
         self.begin()?;
@@ -265,10 +293,13 @@ impl Bay for MemBay {
         ensures seen { Some (seen_of self.new.files) ≡ Some (seen_of self.old.files) }
         ensures images { KeepsImages (MayLeaveAll self.old.files) (MayLeaveAll self.new.files) }
         ensures time { TakesTime self.old self.new }
+        ensures handed { HandsOut file (Some (seen_of self.old.files)) (handed_of self.old.handed) (handed_of self.new.handed) result }
         ensures cause { HasCause self.old.faults self.new.faults result }
     {
         self.begin()?;
-        Ok(self.files[file as usize].read(at, into))
+        let count = self.files[file as usize].read(at, into);
+        self.count_read(file, count);
+        Ok(count)
     }
 
     /// Fails where the plan says so, and else only where no memory was found.
@@ -281,6 +312,7 @@ impl Bay for MemBay {
         ensures failed { OnErr result (Turns (Changes (LeftByFailure at (length bytes.now)) file) (Some (seen_of self.old.files)) (Some (seen_of self.new.files))) }
         ensures images { Follow (Changes (Torn at (length bytes.now)) file) (MayLeaveAll self.old.files) (MayLeaveAll self.new.files) }
         ensures time { TakesTime self.old self.new }
+        ensures handed { handed_of self.new.handed ≡ handed_of self.old.handed }
         ensures cause { HasCause self.old.faults self.new.faults result }
     {
         if self.begin().is_err() {
@@ -302,6 +334,7 @@ impl Bay for MemBay {
         ensures durable { IfTold (Some (seen_of self.old.files)) (λ seen. OnOk result (Settles file (seen file) (MayLeaveAll self.old.files) (MayLeaveAll self.new.files))) }
         ensures failed { OnErr result (KeepsImages (MayLeaveAll self.old.files) (MayLeaveAll self.new.files)) }
         ensures time { TakesTime self.old self.new }
+        ensures handed { handed_of self.new.handed ≡ handed_of self.old.handed }
         ensures cause { HasCause self.old.faults self.new.faults result }
     {
         self.begin()?;

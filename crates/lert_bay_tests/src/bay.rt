@@ -1,6 +1,6 @@
 //! What a crash leaves by each pick, what a failed call leaves, and each call once through its trait.
 
-ghost use Rattle.std.specs.Prelude.{◌≡◌, ◌+◌, ◌<◌, ◌^◌, List, ℕ, length};
+ghost use Rattle.std.specs.Prelude.{◌≡◌, ◌+◌, ◌<◌, ◌≤◌, ◌^◌, List, ℕ, length};
 ghost use Rattle.lert_bay.specs.Files.{Files, IfTold, Holds};
 
 use lert_bay::{Bay, FRAMES, JOURNAL, LOG, MemBay};
@@ -149,4 +149,54 @@ fn reads_back<B: Bay>(rt: &impl Abort, bay: &mut B) -> Result<(), Failed> {
 fn a_gap_reads_as_zero_bytes(rt: HostRuntime) {
     let mut bay = MemBay::new(rt.alloc()).expect(&rt, "memory");
     reads_back(&rt, &mut bay).expect(&rt, "no fault");
+}
+
+// What a read answers, and how many bytes of each file reads have handed out behind it.
+type Counted = (Option<usize>, [u64; 3]);
+
+fn read(bay: &mut MemBay, file: u8, at: u64, asked: usize) -> Counted
+    requires file { file < 3 }
+    requires asked { asked ≤ 4 }
+{
+    let mut into = [0; 4];
+    let answer = bay.read_at(file, at, &mut into[..asked]).ok();
+    let counts = [
+        bay.bytes_read(JOURNAL),
+        bay.bytes_read(LOG),
+        bay.bytes_read(FRAMES),
+    ];
+    (answer, counts)
+}
+
+// Reads in turn, of a journal of ten bytes and a log of three. The sixth fails.
+fn reads(rt: &impl Abort, alloc: Global) -> [Counted; 8] {
+    let mut bay = MemBay::new(alloc).expect(rt, "memory");
+    bay.load(JOURNAL, b"0123456789").expect(rt, "memory");
+    bay.load(LOG, b"abc").expect(rt, "memory");
+    bay.fail_at(6);
+    [
+        read(&mut bay, JOURNAL, 0, 4),
+        read(&mut bay, JOURNAL, 2, 3),
+        read(&mut bay, JOURNAL, 8, 4),
+        read(&mut bay, JOURNAL, 10, 4),
+        read(&mut bay, JOURNAL, 3, 0),
+        read(&mut bay, JOURNAL, 0, 4),
+        read(&mut bay, LOG, 1, 4),
+        read(&mut bay, FRAMES, 0, 4),
+    ]
+}
+
+#[test]
+fn a_read_counts_the_bytes_that_it_hands_out(rt: HostRuntime) {
+    let want: [Counted; 8] = [
+        (Some(4), [4, 0, 0]),
+        (Some(3), [7, 0, 0]),
+        (Some(2), [9, 0, 0]),
+        (Some(0), [9, 0, 0]),
+        (Some(0), [9, 0, 0]),
+        (None, [9, 0, 0]),
+        (Some(2), [9, 2, 0]),
+        (Some(0), [9, 2, 0]),
+    ];
+    assert_eq!(rt; reads(&rt, rt.alloc()), want);
 }

@@ -26,9 +26,11 @@ use Rattle.lert_spec.specs.Look.{look, closing}
 use Rattle.lert_cone.specs.Framed.{last_flush, flushed}
 use Rattle.lert_cone.specs.InStep.{IsInStep}
 use Rattle.lert_cone.specs.Logged.{IsLogOf, frames_of}
+use Rattle.lert_cone.specs.Marks.{NamesRecord, last_mark, unmarked}
 use Rattle.lert_cone.specs.Replay.{IsLastOf, IsOnWay}
 use Rattle.lert_cone.specs.Sound.{IsSound, HoldFrames, HoldsDirectory}
 use Rattle.lert_cone.proofs.FlushLaws.{last_flush_logged}
+use Rattle.lert_cone.proofs.MarkLaws.{marked_none}
 use Rattle.lert_cone.proofs.StepLaws.{journal_since, log_since, frames_since}
 
 -- ---- frames
@@ -155,6 +157,7 @@ module _ (leaves : Files → Type 0) (seen : Files) (s : Numbers) (cone : ℕ) (
     gate = log_end;
     most = most_record s;
     named = length reports;
+    marks = unmarked s;
   })
   in_step = record {
     logged = records;
@@ -166,6 +169,8 @@ module _ (leaves : Files → Type 0) (seen : Files) (s : Numbers) (cone : ℕ) (
     journal_settled = journal_settled;
     log_settled = log_settled;
     reports_are = last.reports_are ∙ listed;
+    begins = subst (λ (rs : List LogRecord). NamesRecord s history (last_n0 rs) (last_mark rs)) (sym same) sound.begins;
+    marked = marked_none history (unmarked s) refl;
   }
 
   -- no key is read yet
@@ -173,6 +178,7 @@ module _ (leaves : Files → Type 0) (seen : Files) (s : Numbers) (cone : ℕ) (
     gate = log_end;
     most = most_record s;
     named = length reports;
+    marks = unmarked s;
   }) n0
   adopted =
       let none : n0 ≡ max n0 (length {A = ℕ} []) = omega arith in
@@ -184,5 +190,6 @@ module _ (leaves : Files → Type 0) (seen : Files) (s : Numbers) (cone : ℕ) (
           gate = log_end;
           most = most_record s;
           named = length reports;
+          marks = unmarked s;
         })) none in_step;
       }

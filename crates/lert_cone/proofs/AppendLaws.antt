@@ -14,17 +14,19 @@ use Rattle.lert_gatelog.specs.Kept.{InEach, KeepsOthers, KeepsBefore, IsWhollySe
 use Rattle.lert_journal.specs.Journal.{HasPackets, HasPacketsOrOneMore}
 use Rattle.lert_journal.specs.Payload.{payload_of, IsJournaled}
 use Rattle.lert_rows.specs.Rows.{HoldsBins}
-use Rattle.lert_reports.specs.Log.{HasLog}
+use Rattle.lert_reports.specs.Log.{HasLog, last_n0}
 use Rattle.lert_spec.specs.declared.numbers.Numbers.{Numbers}
 use Rattle.lert_spec.specs.Edges.{capacity}
 use Rattle.lert_cone.specs.Framed.{last_flush}
 use Rattle.lert_cone.specs.History.{most_payload, end_of}
 use Rattle.lert_cone.specs.InStep.{IsInStep, IsPartway}
+use Rattle.lert_cone.specs.Marks.{NamesRecord, last_mark}
 use Rattle.lert_cone.specs.Record.{LogPlace}
 use Rattle.lert_cone.specs.Sound.{IsJournal, IsSoundAs, IsSoundOver, but_last}
 use Rattle.lert_cone.specs.Stands.{IsWhole}
 use Rattle.lert_cone.specs.Tally.{Tallied, IsCounted}
 use Rattle.lert_cone.proofs.EndStep.{partway_all, late_all}
+use Rattle.lert_cone.proofs.MarkLaws.{marked_more, names_more}
 use Rattle.lert_cone.proofs.SoundLaws.{events_more, counted_more, end_more}
 use Rattle.lert_cone.proofs.StepLaws.{log_since, frames_since, sound_of, sound_as}
 
@@ -38,7 +40,7 @@ whole_of leaves seen history t gate log counted up read keys gate_is =
     let sound : (image : Files) → leaves image → IsSoundAs t.listing.settings t.listing.cone t.listing.closed history image =
     λ image may. sound_as t.listing.settings t.listing.cone history t.listing.events t.rows t.listing.closed up.logged log.gate counted.valid counted.rows
     (partway_all t.listing.settings history t.listing.events keys (late_all history t.listing.events keys))
-    (λ _. keys) up.log_of keys image (up.journal image may) (up.log_there image may) (up.frames image may) in
+    (λ _. keys) up.log_of up.begins keys image (up.journal image may) (up.log_there image may) (up.frames image may) in
     record {
       files = record { kept = record { as_read = sound seen read; images = sound }; journal = up.journal_settled; log = up.log_settled };
       gate_is = gate_is;
@@ -126,18 +128,22 @@ module _ (leaves since : Files → Type 0) (seen : Files) (t : Tallied) (log : L
       let whole_packet = partway_packet t.listing.settings history packet t.listing.events whole.keys in
       record { rest = packet.keys ++ whole_packet.rest; is = whole_packet.is; late = whole_packet.late }
 
+  -- the records say of the longer list what they said
+  begins_more : NamesRecord t.listing.settings (history ++ packet ∷ []) (last_n0 up.logged) (last_mark up.logged)
+  begins_more = names_more history (packet ∷ []) t.listing.settings (last_n0 up.logged) (last_mark up.logged) up.begins
+
   -- in each image of each moment
   pub sound_appending : InEach since 0 (HasPacketsOrOneMore (most_payload t.listing.settings) 32 history gate packet) → (image : Files) → since image →
       IsSoundOver t.listing.settings t.listing.cone history (Some packet) image
   sound_appending each image may = elim (each image may) [
     | inl same ↦ inl (sound_of t.listing.settings t.listing.cone history t.listing.events t.rows t.listing.closed up.logged log.gate counted.valid counted.rows
-        (partway_all t.listing.settings history t.listing.events whole.keys (late_all history t.listing.events whole.keys)) (λ _. whole.keys) up.log_of image (journal_same image may same)
+        (partway_all t.listing.settings history t.listing.events whole.keys (late_all history t.listing.events whole.keys)) (λ _. whole.keys) up.log_of up.begins image (journal_same image may same)
         (log_then image may) (frames_then image may))
     | inr more ↦ inr (
       packet,
       refl,
       sound_of t.listing.settings t.listing.cone (history ++ packet ∷ []) t.listing.events t.rows t.listing.closed up.logged log.gate counted.valid counted.rows
-          partway_none (λ ended. absurd (false≢true (sym still ∙ ended))) up.log_of image (journal_more (next_gate gate (payload_of packet)) refl image may more) (log_then image may)
+          partway_none (λ ended. absurd (false≢true (sym still ∙ ended))) up.log_of begins_more image (journal_more (next_gate gate (payload_of packet)) refl image may more) (log_then image may)
           (frames_then image may),
     )
   ]
@@ -158,6 +164,8 @@ module _ (leaves since : Files → Type 0) (seen : Files) (t : Tallied) (log : L
     journal_settled = journal_settled;
     log_settled = log_settled;
     reports_are = up.reports_are;
+    begins = begins_more;
+    marked = marked_more history (packet ∷ []) log.marks up.marked;
   }
 
 -- a call that answered Ok

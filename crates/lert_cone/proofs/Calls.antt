@@ -1,7 +1,7 @@
 -- Calls of a bay in turn, over the states that it has between them.
 use Rattle.std.proofs.Common.{◌≡◌, ◌≢◌, ℕ, ◌≤◌, Some}
-use Rattle.lert_bay.specs.Kept.{Bays, OnlyReads}
-use Rattle.lert_bay.proofs.KeptLaws.{IsLawful}
+use Rattle.lert_bay.specs.Kept.{Bays, OnlyReads, ReadsBay}
+use Rattle.lert_bay.proofs.KeptLaws.{IsLawful, reads}
 use Rattle.lert_bay.specs.Files.{Files, IfTold, Turns}
 use Rattle.lert_bay.specs.Images.{Lasts}
 use Rattle.lert_gatelog.specs.Kept.{KeepsOthers, IsWhollySettled, OthersStay}
@@ -35,8 +35,11 @@ module _ {B : Type 0} (bays : Bays B) (lawful : IsLawful bays) where
       (bays.left_since after)
       turns keeps time (now_since before after time.later)
 
+  pub alone_reading : (file : ℕ) (before after : B) (Failed : Type 0) → ReadsBay bays before after Failed → LeavesAlone bays file before after
+  alone_reading file before after Failed read = leaves_read bays file before after Failed read (now_since before after read.kept.time.later)
+
   pub alone_read : (file : ℕ) (before after : B) (Failed : Type 0) → OnlyReads bays before after Failed → LeavesAlone bays file before after
-  alone_read file before after Failed read = leaves_read bays file before after Failed read (now_since before after read.kept.time.later)
+  alone_read file before after Failed read = alone_reading file before after Failed (reads bays before after Failed read)
 
   pub settled_alone : (file : ℕ) (before after : B) → LeavesAlone bays file before after → (old : Files) → bays.files before ≡ Some old →
       IsWhollySettled (bays.leaves before) old file →

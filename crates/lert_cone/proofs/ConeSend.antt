@@ -20,6 +20,10 @@ use Rattle.lert_levels.specs.contracts.levels.Levels.TheInside as levels
 use Rattle.lert_cone.specs.contracts.tally.Tally as Tally
 use Rattle.lert_cone.specs.contracts.tally.Tally.TheInside as tally
 use Rattle.lert_cone.specs.contracts.room.ConeRoom as Room
+use Rattle.lert_cone.specs.contracts.marks.Marks as Marks
+use Rattle.lert_cone.specs.contracts.marks.Marks.TheInside as marks
+use Rattle.lert_cone.specs.contracts.report_log.ReportLog as Log
+use Rattle.lert_cone.specs.contracts.report_log.ReportLog.TheInside as log
 use Rattle.lert_cone.specs.contracts.cone.Cone as Cone
 use Rattle.lert_cone.specs.contracts.cone.Cone.TheInside as cone
 
@@ -37,6 +41,21 @@ ahead_field = view_send _ _ _ _ _ ahead_inside
 
 writing_field : IsSend (Writing.the_field).row
 writing_field = search (sendable, crosses) depth 60 fits 20000
+
+marks_inside : IsSend marks.the_row
+marks_inside = recorded_send _ _ _ (marks.the_type).to_one (struct_send (shape marks.the_type) (
+  search (sendable, crosses) depth 20,
+  (search (sendable, crosses) depth 20, (search sendable, (search sendable, tt))),
+))
+
+marks_field : IsSend (Marks.the_field).row
+marks_field = view_send _ _ _ _ _ marks_inside
+
+log_inside : IsSend log.the_row
+log_inside = recorded_send _ _ _ (log.the_type).to_one (struct_send (shape log.the_type) (search (sendable, crosses) depth 20, (search sendable, (marks_field, tt))))
+
+log_field : IsSend (Log.the_field).row
+log_field = view_send _ _ _ _ _ log_inside
 
 module _ (T C : RattleType) (k : table.Ghosts T.Denot C.Denot) where
   cursor_send : IsSend C → IsSend (Cursor.the_row T C)
@@ -111,7 +130,7 @@ module _ (B T C : RattleType) (g : bay.Ghosts B.Denot) (h : faulty.Ghosts B.Deno
         (
           search (sendable, crosses) depth 20,
           (
-            search (sendable, crosses) depth 20,
+            log_field,
             (
               search (sendable, crosses) depth 20,
               (

@@ -11,19 +11,21 @@ use Rattle.lert_gatelog.specs.Kept.{InEach, KeepsOthers, KeepsBefore, IsWhollySe
 use Rattle.lert_rows.specs.declared.bin_at.BinAt.{BinAt}
 use Rattle.lert_rows.specs.Rows.{HoldsBins, directory_text}
 use Rattle.lert_reports.specs.declared.log.LogKind.{LogKind}
-use Rattle.lert_reports.specs.Log.{HasLog, listed_in, most_record}
+use Rattle.lert_reports.specs.Log.{HasLog, last_n0, listed_in, most_record}
 use Rattle.lert_reports.specs.LogText.{LogRecord, log_payload_of}
 use Rattle.lert_spec.specs.declared.numbers.Numbers.{Numbers}
 use Rattle.lert_spec.specs.Look.{closing}
 use Rattle.lert_cone.specs.InStep.{IsInStep, IsPartway}
 use Rattle.lert_cone.specs.Listing.{Listing, reports_of}
 use Rattle.lert_cone.specs.Logged.{IsLogOf, next_record}
+use Rattle.lert_cone.specs.Marks.{AreMarked, MayName, NamesRecord, last_mark, oldest_mark}
 use Rattle.lert_cone.specs.Record.{LogPlace, payload_at}
 use Rattle.lert_cone.specs.Sound.{IsJournal, IsSound, but_last}
 use Rattle.lert_cone.specs.Tally.{Tallied, IsCounted}
 use Rattle.lert_cone.proofs.KeyStep.{next_payload, journal_beside, frames_beside, log_beside, log_behind}
 use Rattle.lert_cone.proofs.LogLaws.{LogsNext, log_at_close}
 use Rattle.lert_cone.proofs.FlushLaws.{last_flush_grows}
+use Rattle.lert_cone.proofs.MarkLaws.{may_name, names_pushed, oldest_names}
 use Rattle.lert_cone.proofs.StepLaws.{sound_of}
 
 -- all keys are taken
@@ -46,6 +48,10 @@ pub record IsEnding (leaves : Files → Type 0) (seen : Files) (history : List P
   pub reports_are : a.due.reports ≡ reports_of a.listing
   pub all : t.listing.events ≡ events_of history
   pub late : length (events_of (but_last history)) ≤ length t.listing.events
+  pub begins : NamesRecord t.listing.settings history (last_n0 logged) (last_mark logged)
+  pub marked : AreMarked history log.marks
+  pub same : log.marks.settings ≡ t.listing.settings
+  pub passed : log.marks.passed ≡ length t.listing.events
 
 module _ (leaves : Files → Type 0) (seen : Files) (history : List Packet) (t a : Tallied) (log : LogPlace) (logged : List LogRecord)
     (before : IsCounted t) (ending : IsEnding leaves seen history t a log logged) (few : length a.due.reports ≤ t.listing.settings.room) where
@@ -53,11 +59,25 @@ module _ (leaves : Files → Type 0) (seen : Files) (history : List Packet) (t a
   closed_reports = ending.reports_are ∙ ap reports_of ending.listing_is
 
   abbrev last : LogRecord
-  last = next_record LogKind.Closing (length t.listing.events) t.rows logged a.due.reports
+  last = next_record LogKind.Closing (length t.listing.events) (oldest_mark log.marks) t.rows logged a.due.reports
 
-  next : LogsNext t.listing.settings t.listing.cone t.listing.events t.rows true logged (next_record LogKind.Closing (length t.listing.events) t.rows logged a.due.reports)
+  -- it names the journal's record that holds the first key of level 0
+  names : NamesRecord t.listing.settings history (length t.listing.events) (oldest_mark log.marks)
+  names = oldest_names t.listing.settings before.valid history log.marks (length t.listing.events) ending.same ending.passed ending.marked
+
+  may : MayName t.listing.settings (length t.listing.events) (oldest_mark log.marks)
+  may =
+      let journal = ending.journal seen ending.read in
+      may_name t.listing.settings before.valid t.listing.cone (length t.listing.events) history (oldest_mark log.marks) journal.journaled journal.within names
+
+  named_then : NamesRecord t.listing.settings history (last_n0 (logged ++ last ∷ [])) (last_mark (logged ++ last ∷ []))
+  named_then = names_pushed t.listing.settings history logged last names
+
+  next : LogsNext t.listing.settings t.listing.cone t.listing.events t.rows true logged
+      (next_record LogKind.Closing (length t.listing.events) (oldest_mark log.marks) t.rows logged a.due.reports)
   next =
-      log_at_close t.listing.settings before.valid t.listing.cone t.listing.events t.rows logged a.due.reports before.fits before.keys before.own before.rows before.are closed_reports few
+      log_at_close t.listing.settings before.valid t.listing.cone t.listing.events
+      (oldest_mark log.marks) t.rows logged a.due.reports may before.fits before.keys before.own before.rows before.are closed_reports few
       ending.log_of
 
   partway : IsPartway t.listing.settings history t.listing.events []
@@ -65,7 +85,7 @@ module _ (leaves : Files → Type 0) (seen : Files) (history : List Packet) (t a
 
   module _ (since : Files → Type 0) (payload : List ℕ) (payload_is : payload ≡ payload_at log LogKind.Closing (length a.listing.events) (directory_text a.rows) a.due.reports)
       (others : KeepsOthers leaves since seen 1) (earlier : KeepsBefore leaves since seen 1 log.gate) where
-    payload_here : payload ≡ log_payload_of (next_record LogKind.Closing (length t.listing.events) t.rows logged a.due.reports)
+    payload_here : payload ≡ log_payload_of (next_record LogKind.Closing (length t.listing.events) (oldest_mark log.marks) t.rows logged a.due.reports)
     payload_here =
         payload_is
         ∙ ap (λ n. payload_at log LogKind.Closing n (directory_text a.rows) a.due.reports) (ap (λ (l : Listing). length l.events) ending.listing_is)
@@ -89,9 +109,9 @@ module _ (leaves : Files → Type 0) (seen : Files) (history : List Packet) (t a
         elim (log_beside leaves since seen t.listing.settings t.listing.cone history logged last log.gate payload ending.read ending.journal ending.journal_settled ending.log_there next.is.rules
         payload_here others earlier each image may) [
           | inl without ↦ sound_of t.listing.settings t.listing.cone history t.listing.events t.rows false logged log.gate before.valid before.rows partway
-              (λ never. absurd (false≢true never)) ending.log_of image (journal_then image may) without (frames_then image may)
+              (λ never. absurd (false≢true never)) ending.log_of ending.begins image (journal_then image may) without (frames_then image may)
           | inr with_it ↦ sound_of t.listing.settings t.listing.cone history t.listing.events t.rows true (logged ++ last ∷ []) (next_gate log.gate payload) before.valid before.rows partway
-              (λ _. ending.all) next.is image (journal_then image may) with_it (frames_then image may)
+              (λ _. ending.all) next.is named_then image (journal_then image may) with_it (frames_then image may)
         ]
 
     -- and after it
@@ -101,10 +121,11 @@ module _ (leaves : Files → Type 0) (seen : Files) (history : List Packet) (t a
         (subst (λ (rows : List (List BinAt)). P t.listing.settings t.listing.cone t.listing.events rows true) (sym ending.rows_are) holds)
 
     pub up_closed : (after : Files → Type 0) (seen_after : Files) (log_after : LogPlace) → ((image : Files) → after image → since image) → log_after.named ≡ length a.due.reports →
+        log_after.marks ≡ log.marks →
         InEach after 1 (λ bytes. IsGated (most_record t.listing.settings) bytes 8 (map log_payload_of logged ++ payload ∷ []) log_after.gate) → IsWhollySettled after seen_after 0 →
         IsWhollySettled after seen_after 1 →
         IsInStep after seen_after history a.listing a.rows a.due.reports log_after
-    up_closed after seen_after log_after now named_is stands journal_settled log_settled = record {
+    up_closed after seen_after log_after now named_is marks_are stands journal_settled log_settled = record {
       logged = logged ++ last ∷ [];
       log_of = of_listing (λ s cone events rows closed. IsLogOf s cone events rows closed (logged ++ last ∷ [])) next.is;
       named_is = named_is ∙ ap length (closed_reports ∙ sym next.is.reports_are);
@@ -117,6 +138,8 @@ module _ (leaves : Files → Type 0) (seen : Files) (history : List Packet) (t a
       journal_settled = journal_settled;
       log_settled = log_settled;
       reports_are = ending.reports_are;
+      begins = of_listing (λ s cone events rows closed. NamesRecord s history (last_n0 (logged ++ last ∷ [])) (last_mark (logged ++ last ∷ []))) named_then;
+      marked = subst (AreMarked history) (sym marks_are) ending.marked;
     }
 
 -- ---- where a bay tells its files
@@ -136,8 +159,9 @@ pub ending_of : (leaves leaves_after : Files → Type 0) (seen : Files) (history
     a.listing ≡ record t.listing { closed = true } → a.rows ≡ t.rows → ((image : Files) → leaves_after image → leaves image) → leaves_after seen →
     a.due.reports ≡ reports_of a.listing →
     t.listing.events ≡ events_of history →
+    log.marks.settings ≡ t.listing.settings → log.marks.passed ≡ length t.listing.events →
     IsEnding leaves_after seen history t a log up.logged
-ending_of leaves leaves_after seen history t a log still up listing_is rows_are back read reports_are all = record {
+ending_of leaves leaves_after seen history t a log still up listing_is rows_are back read reports_are all same passed = record {
   log_of = subst (λ closed. IsLogOf t.listing.settings t.listing.cone t.listing.events t.rows closed up.logged) still up.log_of;
   named_is = up.named_is;
   listing_is = listing_is;
@@ -150,4 +174,8 @@ ending_of leaves leaves_after seen history t a log still up listing_is rows_are 
   reports_are = reports_are;
   all = all;
   late = late_all history t.listing.events all;
+  begins = up.begins;
+  marked = up.marked;
+  same = same;
+  passed = passed;
 }

@@ -78,6 +78,8 @@ module _ {B : Type 0} (bays : Bays B) (lawful : IsLawful bays) (old : Workplace 
         named = omega (arith, can.can_log.logging.named, did.grows);
         near = omega (arith, can.can_log.logging.near, ap (λ (l : Listing). length l.events) is);
         roomy = can.can_log.logging.roomy;
+        same = can.can_log.logging.same ∙ sym settings_are;
+        passed = can.can_log.logging.passed ∙ ap (λ (l : Listing). length l.events) (sym is);
       };
       log_shut = shut_alone bays lawful 1 old.log.gate old.bay bay (alone_read bays lawful 1 old.bay bay _ did.reads) can.can_log.log_shut;
     }
@@ -87,6 +89,7 @@ module _ {B : Type 0} (bays : Bays B) (lawful : IsLawful bays) (old : Workplace 
     ending seen told history all up =
         ending_of (bays.leaves old.bay) (bays.leaves bay) seen history old.counts counts old.log can.still up is did.rows (λ image may. (did.reads.images image).0 may)
         (lawful.as_read bay seen (did.reads.seen ∙ told)) (did.held seen told (held seen told history up)).reports all
+        can.can_log.logging.same can.can_log.logging.passed
 
     all_there : (history : List Packet) (logged : List LogRecord) (seen : Files) → IsEnding (bays.leaves bay) seen history old.counts counts old.log logged →
         InEach (bays.leaves bay) 1 (λ bytes. IsGated old.log.most bytes 8 (map log_payload_of logged) old.log.gate)
@@ -161,7 +164,7 @@ module _ {B : Type 0} (bays : Bays B) (lawful : IsLawful bays) (old : Workplace 
           up_closed (bays.leaves bay) seen history old.counts counts old.log up.logged can.counted ends (few_here few (Ok tt) bay_after log_after appends) (bays.left_since bay_after
           (bays.moment bay)) payload refl
           (appends.others seen told_then) (appends.before seen told_then) (bays.leaves bay_after) after log_after (now_since bays lawful bay bay_after appends.kept.time.later)
-          (ap (λ (l : LogPlace). l.named) appends.moved) stands
+          (ap (λ (l : LogPlace). l.named) appends.moved) (ap (λ (l : LogPlace). l.marks) appends.moved) stands
           (settled_alone bays lawful 0 bay bay_after (beside few (Ok tt) bay_after log_after appends) seen told_then ends.journal_settled after told_after)
           (appends.settled after told_after);
       each_moment = sound_end few (Ok tt) bay_after log_after appends;

@@ -1,5 +1,5 @@
 -- The definitions, computed on the files that three keys 7 leave.
-use Rattle.std.proofs.Common.{◌≡◌, ℕ, zero, suc, ◌+◌, ◌-◌, ◌^◌, ◌<◌, ◌≤◌, All, List, [], ◌∷◌, map, take, refl, sym, arith}
+use Rattle.std.proofs.Common.{◌≡◌, ℕ, zero, suc, ◌+◌, ◌-◌, ◌^◌, ◌<◌, ◌≤◌, All, List, [], ◌∷◌, drop, map, take, refl, sym, arith}
 use Rattle.std.specs.Prelude.{slice_index_or}
 use Rattle.std.proofs.lemmas.List.Elements.{All-nil, All-cons}
 use Rattle.lert_base.specs.Packet.{Packet}
@@ -9,7 +9,9 @@ use Rattle.lert_spec.specs.declared.numbers.Numbers.{Numbers}
 use Rattle.lert_spec.specs.Mix.{mix, cone_of}
 use Rattle.lert_cone.specs.Framed.{last_flush}
 use Rattle.lert_base.specs.Packet.{events_of}
+use Rattle.lert_cone.specs.declared.marks.Mark.{Mark}
 use Rattle.lert_cone.specs.History.{most_payload, end_of}
+use Rattle.lert_cone.specs.Marks.{HoldsPosition, first_mark, oldest_mark}
 use Rattle.lert_cone.specs.Sound.{IsSoundClosed, HoldFrames}
 use Rattle.lert_reports.specs.declared.log.LogKind.{LogKind}
 use Rattle.lert_reports.specs.Log.{HasLog, before_of, last_directory, listed_in}
@@ -17,6 +19,7 @@ use Rattle.lert_reports.specs.LogRules.{AreFrames, KeepsRules}
 use Rattle.lert_reports.specs.LogText.{LogRecord, bin_count}
 use Rattle.lert_reports.proofs.LogLaws.{records_none, records_more}
 use Rattle.lert_spec.specs.Bins.{bins}
+use Rattle.lert_spec.specs.Edges.{edge}
 use Rattle.lert_spec.specs.Look.{closing}
 
 abbrev small : Numbers
@@ -144,6 +147,10 @@ listed : listed_in (ending ∷ []) ≡ closing small (events_of (sevens ∷ []))
 unfolding mix
 listed = refl
 
+-- it names the record that holds position 1
+first_holds : HoldsPosition (sevens ∷ []) first_mark 1
+first_holds = record { done = []; packet = sevens; rest = []; is = refl; gate_is = refl; first_is = refl; from = omega arith; to = omega arith }
+
 -- and the files are sound for them, and closed
 sound : IsSoundClosed small 0 (sevens ∷ []) files
 sound = record {
@@ -166,6 +173,7 @@ sound = record {
     frames = record { each = no_bins };
     reports_are = listed;
     closed_behind = λ _. refl;
+    begins = record { none = λ none. absurd (omega (arith, none)); some = λ _. first_holds };
   };
   closed_is = refl;
   n0_is = refl;
@@ -174,3 +182,73 @@ sound = record {
 -- the flushes of these settings stand at the positions 12, 16, 20, ..
 flushes : map (last_flush small) (11 ∷ 12 ∷ 15 ∷ 16 ∷ 35 ∷ []) ≡ 0 ∷ 12 ∷ 12 ∷ 16 ∷ 32 ∷ []
 flushes = refl
+
+-- ---- which record of the journal a record of the log names
+
+-- eight packets of 3, 1, 5, 9, 2, 7, 6 and 4 keys: their records begin at 32, 69, 90, 143, 228, 257, 326 and 387, with the
+-- positions 1, 4, 5, 10, 19, 21, 28 and 34
+abbrev packet_of : List ℕ → Packet
+packet_of keys = record { by = 0; trace = 0; keys = keys }
+
+abbrev eight : List Packet
+eight =
+    packet_of (1 ∷ 2 ∷ 3 ∷ [])
+    ∷ packet_of (4 ∷ [])
+    ∷ packet_of (5 ∷ 6 ∷ 7 ∷ 8 ∷ 9 ∷ [])
+    ∷ packet_of (10 ∷ 11 ∷ 12 ∷ 13 ∷ 14 ∷ 15 ∷ 16 ∷ 17 ∷ 18 ∷ [])
+    ∷ packet_of (19 ∷ 20 ∷ [])
+    ∷ packet_of (21 ∷ 22 ∷ 23 ∷ 24 ∷ 25 ∷ 26 ∷ 27 ∷ [])
+    ∷ packet_of (28 ∷ 29 ∷ 30 ∷ 31 ∷ 32 ∷ 33 ∷ [])
+    ∷ packet_of (34 ∷ 35 ∷ 36 ∷ 37 ∷ [])
+    ∷ []
+
+-- their flushes and their end, and level 0's edges there
+edges_of_eight : map (edge small 0) (12 ∷ 16 ∷ 20 ∷ 24 ∷ 28 ∷ 32 ∷ 36 ∷ 37 ∷ []) ≡ 4 ∷ 8 ∷ 12 ∷ 16 ∷ 20 ∷ 24 ∷ 28 ∷ 28 ∷ []
+edges_of_eight = refl
+
+holds_5 : HoldsPosition eight (record { gate = 90; first = 5 }) 5
+holds_5 = record { done = take 2 eight; packet = packet_of (5 ∷ 6 ∷ 7 ∷ 8 ∷ 9 ∷ []); rest = drop 3 eight; is = refl; gate_is = refl; first_is = refl; from = omega arith; to = omega arith }
+
+holds_9 : HoldsPosition eight (record { gate = 90; first = 5 }) 9
+holds_9 = record { done = take 2 eight; packet = packet_of (5 ∷ 6 ∷ 7 ∷ 8 ∷ 9 ∷ []); rest = drop 3 eight; is = refl; gate_is = refl; first_is = refl; from = omega arith; to = omega arith }
+
+holds_17 : HoldsPosition eight (record { gate = 143; first = 10 }) 17
+holds_17 = record {
+  done = take 3 eight;
+  packet = packet_of (10 ∷ 11 ∷ 12 ∷ 13 ∷ 14 ∷ 15 ∷ 16 ∷ 17 ∷ 18 ∷ []);
+  rest = drop 4 eight;
+  is = refl;
+  gate_is = refl;
+  first_is = refl;
+  from = omega arith;
+  to = omega arith;
+}
+
+holds_29 : HoldsPosition eight (record { gate = 326; first = 28 }) 29
+holds_29 = record {
+  done = take 6 eight;
+  packet = packet_of (28 ∷ 29 ∷ 30 ∷ 31 ∷ 32 ∷ 33 ∷ []);
+  rest = drop 7 eight;
+  is = refl;
+  gate_is = refl;
+  first_is = refl;
+  from = omega arith;
+  to = omega arith;
+}
+
+-- the marks of the bins that begin at 33, 29, 25 and 21, and at 37 in front of these: level 0 begins behind 28 at both places
+abbrev late : List Mark
+late = record { gate = 326; first = 28 } ∷ record { gate = 326; first = 28 } ∷ record { gate = 257; first = 21 } ∷ record { gate = 257; first = 21 } ∷ []
+
+oldest_at_a_flush : oldest_mark (record { settings = small; marks = late; passed = 36 }) ≡ record { gate = 326; first = 28 }
+unfolding oldest_mark
+oldest_at_a_flush = refl
+
+oldest_at_the_end : oldest_mark (record { settings = small; marks = record { gate = 387; first = 34 } ∷ late; passed = 37 }) ≡ record { gate = 326; first = 28 }
+unfolding oldest_mark
+oldest_at_the_end = refl
+
+-- at a flush at 32 the newest bin begins at 29, and level 0 at 25
+oldest_before : oldest_mark (record { settings = small; marks = drop 1 late; passed = 32 }) ≡ record { gate = 257; first = 21 }
+unfolding oldest_mark
+oldest_before = refl

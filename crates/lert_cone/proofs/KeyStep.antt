@@ -17,7 +17,7 @@ use Rattle.lert_levels.specs.Flushed.{InNamed}
 use Rattle.lert_rows.specs.Landing.{KeepsRest}
 use Rattle.lert_rows.specs.Rows.{IsAt, AreRows, HoldsBins, directory_text}
 use Rattle.lert_reports.specs.declared.log.LogKind.{LogKind}
-use Rattle.lert_reports.specs.Log.{HasLog, AreRecords, listed_in, most_record}
+use Rattle.lert_reports.specs.Log.{HasLog, AreRecords, last_n0, listed_in, most_record}
 use Rattle.lert_reports.specs.LogText.{LogRecord, log_payload, log_payload_of}
 use Rattle.lert_spec.specs.declared.numbers.Numbers.{Numbers}
 use Rattle.lert_spec.specs.declared.report.Report.{Report}
@@ -30,11 +30,13 @@ use Rattle.lert_cone.specs.Framed.{last_flush}
 use Rattle.lert_cone.specs.InStep.{IsInStep, IsPartway}
 use Rattle.lert_cone.specs.Listing.{Listing, reports_of}
 use Rattle.lert_cone.specs.Logged.{IsLogOf, next_record}
+use Rattle.lert_cone.specs.Marks.{AreMarked, Marked, MayName, NamesRecord, last_mark, oldest_mark}
 use Rattle.lert_cone.specs.Record.{LogPlace, payload_at}
 use Rattle.lert_cone.specs.Sound.{IsJournal, IsSound}
 use Rattle.lert_cone.specs.Tally.{Tallied, IsCounted, IsHeld}
 use Rattle.lert_cone.proofs.LogLaws.{LogsNext, log_between, log_at_flush, payload_is}
 use Rattle.lert_cone.proofs.FlushLaws.{last_flush_grows}
+use Rattle.lert_cone.proofs.MarkLaws.{may_name, names_pushed, oldest_names}
 use Rattle.lert_cone.proofs.RecordLaws.{payload_is_at}
 use Rattle.lert_cone.proofs.Calls.{alone_rest, now_since, settled_alone}
 use Rattle.lert_cone.proofs.StepLaws.{journal_since, log_since, frames_since, sound_of, with_or_without, with_record, header_since}
@@ -52,10 +54,11 @@ partway_more s history events key partway = record {
 
 -- the payload that is appended is that of the next record
 pub next_payload : (log : LogPlace) (kind : LogKind) (n0 : ℕ) (rows : List (List BinAt)) (logged : List LogRecord) (reports : List Report) → log.named ≡ length (listed_in logged) →
-    payload_at log kind n0 (directory_text rows) reports ≡ log_payload_of (next_record kind n0 rows logged reports)
+    payload_at log kind n0 (directory_text rows) reports ≡ log_payload_of (next_record kind n0 (oldest_mark log.marks) rows logged reports)
 next_payload log kind n0 rows logged reports named_is =
     sym (payload_is_at log kind n0 (directory_text rows) reports)
-    ∙ (ap (λ n. log_payload kind n0 32 1 (directory_text rows) (drop n reports)) named_is ∙ payload_is kind n0 rows logged reports)
+    ∙ (ap (λ n. log_payload kind n0 (oldest_mark log.marks).gate (oldest_mark log.marks).first (directory_text rows) (drop n reports)) named_is
+    ∙ payload_is kind n0 (oldest_mark log.marks) rows logged reports)
 
 -- ---- while calls leave the files alone that memory goes together with
 
@@ -77,7 +80,7 @@ module _ (leaves since : Files → Type 0) (seen : Files) (history : List Packet
       IsSound t.listing.settings t.listing.cone history image
   sound_here still partway image may =
       sound_of t.listing.settings t.listing.cone history t.listing.events t.rows t.listing.closed up.logged log.gate counted.valid counted.rows partway
-      (λ ended. absurd (false≢true (sym still ∙ ended))) up.log_of image (journal_here image may) (log_here image may) (frames_here image may)
+      (λ ended. absurd (false≢true (sym still ∙ ended))) up.log_of up.begins image (journal_here image may) (log_here image may) (frames_here image may)
 
 -- ---- a record more
 
@@ -121,6 +124,10 @@ pub record IsTaken (leaves : Files → Type 0) (seen : Files) (history : List Pa
   pub frames_before : InEach leaves 2 (HoldsBins t.listing.settings t.listing.events t.rows)
   pub frames : InEach leaves 2 (HoldsBins a.listing.settings a.listing.events a.rows)
   pub reports_are : a.due.reports ≡ reports_of a.listing
+  pub begins : NamesRecord t.listing.settings history (last_n0 logged) (last_mark logged)
+  pub marked : AreMarked history log.marks
+  pub same : log.marks.settings ≡ t.listing.settings
+  pub passed : log.marks.passed ≡ suc (length t.listing.events)
 
 module _ (leaves : Files → Type 0) (seen : Files) (history : List Packet) (t a : Tallied) (log : LogPlace) (logged : List LogRecord) (key : ℕ)
     (still : t.listing.closed ≡ false) (before : IsCounted t) (counted : IsCounted a) (taken : IsTaken leaves seen history t a log logged key) where
@@ -165,6 +172,8 @@ module _ (leaves : Files → Type 0) (seen : Files) (history : List Packet) (t a
         journal_settled = taken.journal_settled;
         log_settled = taken.log_settled;
         reports_are = taken.reports_are;
+        begins = of_listing (λ s cone events closed. NamesRecord s history (last_n0 logged) (last_mark logged)) taken.begins;
+        marked = taken.marked;
       }
 
   -- a flush, and its record
@@ -182,7 +191,19 @@ module _ (leaves : Files → Type 0) (seen : Files) (history : List Packet) (t a
         (t.listing.events ++ key ∷ []))) still
 
     abbrev pub one : LogRecord
-    one = next_record LogKind.Flush (suc (length t.listing.events)) a.rows logged a.due.reports
+    one = next_record LogKind.Flush (suc (length t.listing.events)) (oldest_mark log.marks) a.rows logged a.due.reports
+
+    -- it names the journal's record that holds the first key of level 0
+    names : NamesRecord t.listing.settings history (suc (length t.listing.events)) (oldest_mark log.marks)
+    names = oldest_names t.listing.settings before.valid history log.marks (suc (length t.listing.events)) taken.same taken.passed taken.marked
+
+    may : MayName t.listing.settings (suc (length t.listing.events)) (oldest_mark log.marks)
+    may =
+        let journal = taken.journal seen taken.read in
+        may_name t.listing.settings before.valid t.listing.cone (suc (length t.listing.events)) history (oldest_mark log.marks) journal.journaled journal.within names
+
+    named_then : NamesRecord t.listing.settings history (last_n0 (logged ++ one ∷ [])) (last_mark (logged ++ one ∷ []))
+    named_then = names_pushed t.listing.settings history logged one names
 
     rows_are : AreRows t.listing.settings a.rows
     rows_are = to_listing (λ s cone events closed. AreRows s a.rows) counted.are
@@ -191,9 +212,9 @@ module _ (leaves : Files → Type 0) (seen : Files) (history : List Packet) (t a
     rows_at = subst (λ n. IsAt t.listing.settings n a.rows) long (to_listing (λ s cone events closed. IsAt s (length events) a.rows) counted.rows)
 
     pub next : LogsNext t.listing.settings t.listing.cone (t.listing.events ++ key ∷ []) a.rows false logged
-        (next_record LogKind.Flush (suc (length t.listing.events)) a.rows logged a.due.reports)
+        (next_record LogKind.Flush (suc (length t.listing.events)) (oldest_mark log.marks) a.rows logged a.due.reports)
     next =
-        log_at_flush t.listing.settings before.valid t.listing.cone t.listing.events key t.rows a.rows logged a.due.reports
+        log_at_flush t.listing.settings before.valid t.listing.cone t.listing.events key (oldest_mark log.marks) t.rows a.rows logged a.due.reports may
         (omega (arith, long, to_listing (λ s cone events closed. length events ≤ capacity s) counted.fits)) moves_here
         (to_listing (λ s cone events closed. AreKeys events) counted.keys)
         (to_listing (λ s cone events closed. AreOfCone s cone events) counted.own)
@@ -201,7 +222,7 @@ module _ (leaves : Files → Type 0) (seen : Files) (history : List Packet) (t a
 
     module _ (since : Files → Type 0) (payload : List ℕ) (payload_is : payload ≡ payload_at log LogKind.Flush (length a.listing.events) (directory_text a.rows) a.due.reports)
         (others : KeepsOthers leaves since seen 1) (earlier : KeepsBefore leaves since seen 1 log.gate) where
-      payload_here : payload ≡ log_payload_of (next_record LogKind.Flush (suc (length t.listing.events)) a.rows logged a.due.reports)
+      payload_here : payload ≡ log_payload_of (next_record LogKind.Flush (suc (length t.listing.events)) (oldest_mark log.marks) a.rows logged a.due.reports)
       payload_here = payload_is ∙ ap (λ n. payload_at log LogKind.Flush n (directory_text a.rows) a.due.reports) n_is ∙ next_payload log LogKind.Flush (suc
           (length t.listing.events)) a.rows logged a.due.reports taken.named_is
 
@@ -223,18 +244,19 @@ module _ (leaves : Files → Type 0) (seen : Files) (history : List Packet) (t a
           each image may) [
             | inl without ↦ sound_of s cone history t.listing.events t.rows false logged log.gate before.valid before.rows
                 (partway_less t.listing.settings history t.listing.events (key ∷ []) partway)
-                (λ never. absurd (false≢true never)) taken.log_of image journal without (beside t.listing.events t.rows before.valid before.are taken.frames_before image may)
+                (λ never. absurd (false≢true never)) taken.log_of taken.begins image journal without (beside t.listing.events t.rows before.valid before.are taken.frames_before image may)
             | inr with_it ↦ sound_of s cone history (t.listing.events ++ key ∷ []) a.rows false (logged ++ one ∷ []) (next_gate log.gate payload) before.valid
                 (subst (λ n. IsAt t.listing.settings n a.rows) (sym long) rows_at) (partway_more t.listing.settings history t.listing.events key partway)
-                (λ never. absurd (false≢true never)) next.is image journal with_it (beside (t.listing.events ++ key ∷ []) a.rows before.valid rows_are frames_new image may)
+                (λ never. absurd (false≢true never)) next.is named_then image journal with_it (beside (t.listing.events ++ key ∷ []) a.rows before.valid rows_are frames_new image may)
           ]
 
       -- and after it
       pub up_flushed : (after : Files → Type 0) (seen_after : Files) (log_after : LogPlace) → ((image : Files) → after image → since image) → log_after.named ≡ length a.due.reports →
+          log_after.marks ≡ log.marks →
           InEach after 1 (λ bytes. IsGated (most_record t.listing.settings) bytes 8 (map log_payload_of logged ++ payload ∷ []) log_after.gate) → IsWhollySettled after seen_after 0 →
           IsWhollySettled after seen_after 1 →
           IsInStep after seen_after history a.listing a.rows a.due.reports log_after
-      up_flushed after seen_after log_after now named_is stands journal_settled log_settled =
+      up_flushed after seen_after log_after now named_is marks_are stands journal_settled log_settled =
           let s = t.listing.settings in
           let cone = t.listing.cone in
           let last : last_flush s (length (t.listing.events ++ key ∷ [])) ≡ length (t.listing.events ++ key ∷ []) =
@@ -258,6 +280,8 @@ module _ (leaves : Files → Type 0) (seen : Files) (history : List Packet) (t a
             journal_settled = journal_settled;
             log_settled = log_settled;
             reports_are = taken.reports_are;
+            begins = of_listing (λ s cone events closed. NamesRecord s history (last_n0 (logged ++ one ∷ [])) (last_mark (logged ++ one ∷ []))) named_then;
+            marked = subst (AreMarked history) (sym marks_are) taken.marked;
           }
 
 -- ---- where a bay tells its files
@@ -292,8 +316,9 @@ module _ {B : Type 0} (bays : Bays B) (lawful : IsLawful bays) (bay bay_after : 
   pub taken_of : (a : Tallied) (key : ℕ) → a.listing ≡ record t.listing { events = t.listing.events ++ key ∷ [] } → (after : Files) → bays.files bay_after ≡ Some after →
       bays.leaves bay_after after →
       InEach (bays.leaves bay_after) 2 (HoldsBins a.listing.settings a.listing.events a.rows) → a.due.reports ≡ reports_of a.listing →
-      IsTaken (bays.leaves bay_after) after history t a log up.logged key
-  taken_of a key listing_is after told_after read_after frames reports = record {
+      (marks : Marked) → AreMarked history marks → marks.settings ≡ t.listing.settings → marks.passed ≡ suc (length t.listing.events) →
+      IsTaken (bays.leaves bay_after) after history t a (record log { marks = marks }) up.logged key
+  taken_of a key listing_is after told_after read_after frames reports marks marked same passed = record {
     log_of = subst (λ closed. IsLogOf t.listing.settings t.listing.cone t.listing.events t.rows closed up.logged) still up.log_of;
     named_is = up.named_is;
     listing_is = listing_is;
@@ -312,6 +337,10 @@ module _ {B : Type 0} (bays : Bays B) (lawful : IsLawful bays) (bay bay_after : 
         frames_kept image (now_since bays lawful bay bay_after time.later image may);
     frames = frames;
     reports_are = reports;
+    begins = up.begins;
+    marked = marked;
+    same = same;
+    passed = passed;
   }
 
 -- ---- keys in turn
@@ -323,7 +352,7 @@ pub sound_now : (leaves : Files → Type 0) (seen : Files) (history : List Packe
 sound_now leaves seen history t log more counted still up partway image may =
     sound_of t.listing.settings t.listing.cone history t.listing.events t.rows t.listing.closed up.logged log.gate counted.valid counted.rows
     (partway_less t.listing.settings history t.listing.events more partway)
-    (λ ended. absurd (false≢true (sym still ∙ ended))) up.log_of image (up.journal image may) (up.log_there image may) (up.frames image may)
+    (λ ended. absurd (false≢true (sym still ∙ ended))) up.log_of up.begins image (up.journal image may) (up.log_there image may) (up.frames image may)
 
 -- in each image of each moment of a key behind others: either it was left before, or since the key began
 pub sound_behind : (listing first : Listing) (history : List Packet) (image : Files) → listing.settings ≡ first.settings → listing.cone ≡ first.cone →

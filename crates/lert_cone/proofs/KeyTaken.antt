@@ -13,6 +13,7 @@ use Rattle.lert_reports.specs.LogText.{log_payload_of}
 use Rattle.lert_spec.specs.declared.numbers.Numbers.{Numbers}
 use Rattle.lert_spec.specs.Edges.{edge}
 use Rattle.lert_base.specs.Packet.{Packet}
+use Rattle.lert_cone.specs.declared.marks.Mark.{Mark}
 use Rattle.lert_cone.specs.declared.tally.TakeFault.{TakeFault}
 use Rattle.lert_cone.specs.declared.tally.TakeFault.TheVariants.{Failed}
 use Rattle.lert_cone.specs.Appends.{AppendsRecord}
@@ -20,42 +21,44 @@ use Rattle.lert_cone.specs.Counts.{CountsKey}
 use Rattle.lert_cone.specs.Framed.{HoldsSome, last_flush}
 use Rattle.lert_cone.specs.InStep.{IsLogging, IsPartway}
 use Rattle.lert_cone.specs.Listing.{Listing}
+use Rattle.lert_cone.specs.Marks.{AreMarked, HasPassed, Marked}
 use Rattle.lert_cone.specs.Record.{LogPlace, payload_at}
 use Rattle.lert_cone.specs.Sound.{IsSound}
-use Rattle.lert_cone.specs.Takes.{Workplace, CanLog, CanTake, AreInStep, TakesKeys}
+use Rattle.lert_cone.specs.Takes.{Workplace, CanLog, CanTake, AreInStep, AreNext, TakesKeys}
 use Rattle.lert_cone.specs.Tally.{Tallied, IsHeld}
 use Rattle.lert_bay.proofs.KeptLaws.{IsLawful, keeps_as, keeps_on}
 use Rattle.lert_cone.proofs.Calls.{now_since, alone_on, alone_rest, alone_others, settled_alone, shut_alone}
 use Rattle.lert_cone.proofs.FlushLaws.{flush_passed}
 use Rattle.lert_cone.proofs.KeyStep.{IsTaken, held_of, sound_rest, taken_of, up_between, sound_append, up_flushed}
+use Rattle.lert_cone.proofs.MarkLaws.{record_part}
 use Rattle.lert_cone.proofs.RecordLaws.{record_fits, logging_more}
 use Rattle.lert_cone.proofs.SoundLaws.{turns_back}
 use Rattle.lert_cone.proofs.TakeLaws.{handed_on}
 use Rattle.lert_cone.specs.Wrote.{LeavesAlone}
 use Rattle.std.specs.Result.{IsErrAnd}
 
-module _ {B : Type 0} (bays : Bays B) (lawful : IsLawful bays) (old : Workplace B) (key : ℕ) (can : CanTake bays (key ∷ []) old) (bay : B) (counts : Tallied) where
+module _ {B : Type 0} (bays : Bays B) (lawful : IsLawful bays) (mark : Mark) (old : Workplace B) (key : ℕ) (can : CanTake bays (key ∷ []) old) (bay : B) (counts : Tallied) where
   -- whatever comes of it, the frames of before stand at each moment
   module _ (result : Result (Unit {0}) TakeFault) (did : CountsKey bays key old.bay bay old.counts counts result) where
-    sound_key : IfTold (bays.files old.bay) (λ seen. (history : List Packet) → IsPartway old.counts.listing.settings history old.counts.listing.events (key ∷ []) →
-        AreInStep bays old seen history →
+    sound_key : IfTold (bays.files old.bay) (λ seen. (history : List Packet) → AreNext history mark old (key ∷ []) →
+        IsPartway old.counts.listing.settings history old.counts.listing.events (key ∷ []) → AreInStep bays old seen history →
         (image : Files) → bays.left_since bay (bays.moment old.bay) image → IsSound old.counts.listing.settings old.counts.listing.cone history image)
-    sound_key seen told history partway up image may =
+    sound_key seen told history next partway up image may =
         sound_rest bays lawful old.bay bay history old.counts old.log did.rest did.kept.time can.counted can.still seen told up (key ∷ []) partway image may
 
     held : (seen : Files) → bays.files old.bay ≡ Some seen → (history : List Packet) → AreInStep bays old seen history → IsHeld old.counts seen
     held seen told history up = held_of (bays.leaves old.bay) seen history old.counts old.log (lawful.as_read old.bay seen told) up
 
   refused_by : (fault : TakeFault) → CountsKey bays key old.bay bay old.counts counts (Err fault) →
-      TakesKeys bays (key ∷ []) old (record { bay = bay; counts = counts; log = old.log; room = old.room }) (Err fault)
+      TakesKeys bays mark (key ∷ []) old (record { bay = bay; counts = counts; log = old.log; room = old.room }) (Err fault)
   refused_by fault did = record {
     listing = did.listing;
     taken = tt;
     counted = tt;
     can_log = tt;
-    in_step = λ seen told history up. tt;
+    in_step = λ seen told history next up. tt;
     each_moment = sound_key (Err fault) did;
-    sound = λ seen told history up. did.sound seen told (held (Err fault) did seen told history up);
+    sound = λ seen told history next up. did.sound seen told (held (Err fault) did seen told history up);
     framed = λ seen told some. tt;
     whole = did.whole;
     unflushed = λ passed. did.unflushed (flush_passed old.counts.listing.settings (length old.counts.listing.events) passed);
@@ -69,13 +72,16 @@ module _ {B : Type 0} (bays : Bays B) (lawful : IsLawful bays) (old : Workplace 
 
   -- the key isn't counted
   pub key_refused : (result : Result (Unit {0}) TakeFault) (fault : TakeFault) → result ≡ Err fault → CountsKey bays key old.bay bay old.counts counts result →
-      (given : Result (Unit {0}) TakeFault) → IsErrAnd given (λ g. g ≡ fault) → TakesKeys bays (key ∷ []) old (record { bay = bay; counts = counts; log = old.log; room = old.room }) given
+      (given : Result (Unit {0}) TakeFault) → IsErrAnd given (λ g. g ≡ fault) → TakesKeys bays mark (key ∷ []) old (record { bay = bay; counts = counts; log = old.log; room = old.room }) given
   key_refused result fault is did given given_is =
-      subst (λ (r : Result (Unit {0}) TakeFault). TakesKeys bays (key ∷ []) old (record { bay = bay; counts = counts; log = old.log; room = old.room }) r) (handed_on given fault given_is)
+      subst (λ (r : Result (Unit {0}) TakeFault). TakesKeys bays mark (key ∷ []) old (record { bay = bay; counts = counts; log = old.log; room = old.room }) r) (handed_on given fault given_is)
       (refused_by fault (subst (λ (r : Result (Unit {0}) TakeFault). CountsKey bays key old.bay bay old.counts counts r) is did))
 
-  -- the key is counted
-  module _ (did : CountsKey bays key old.bay bay old.counts counts (Ok tt)) where
+  -- the key is counted, and passed
+  module _ (did : CountsKey bays key old.bay bay old.counts counts (Ok tt)) (marks : Marked) (over : HasPassed (length counts.listing.events) mark old.log.marks marks) where
+    abbrev log_then : LogPlace
+    log_then = record old.log { marks = marks }
+
     is : counts.listing ≡ record old.counts.listing { events = old.counts.listing.events ++ key ∷ [] }
     is = did.listing ∙ ap (λ (keys : List ℕ). record { settings = old.counts.listing.settings; cone = old.counts.listing.cone; events = keys; closed = old.counts.listing.closed }) did.taken
 
@@ -85,24 +91,37 @@ module _ {B : Type 0} (bays : Bays B) (lawful : IsLawful bays) (old : Workplace 
     long : length counts.listing.events ≡ length old.counts.listing.events + 1
     long = ap (λ (l : Listing). length l.events) is ∙ length-append old.counts.listing.events (key ∷ [])
 
-    taken : (seen : Files) → bays.files old.bay ≡ Some seen → (history : List Packet) (up : AreInStep bays old seen history) → (after : Files) → bays.files bay ≡ Some after →
-        IsTaken (bays.leaves bay) after history old.counts counts old.log up.logged key
-    taken seen told history up after told_after =
+    -- it is of the record at the mark
+    marked : (history : List Packet) → AreNext history mark old (key ∷ []) → AreMarked history old.log.marks → AreMarked history marks
+    marked history next = over.marks history
+        (record_part history mark (length old.counts.listing.events) (length old.counts.listing.events + length (key ∷ [])) old.log.marks.passed (length counts.listing.events)
+        (omega (arith, can.can_log.logging.passed)) (omega (arith, long)) next)
+
+    same : marks.settings ≡ old.counts.listing.settings
+    same = over.settings ∙ can.can_log.logging.same
+
+    taken : (seen : Files) → bays.files old.bay ≡ Some seen → (history : List Packet) → AreNext history mark old (key ∷ []) → (up : AreInStep bays old seen history) → (after : Files) →
+        bays.files bay ≡ Some after →
+        IsTaken (bays.leaves bay) after history old.counts counts (record old.log { marks = marks }) up.logged key
+    taken seen told history next up after told_after =
         let holds = held (Ok tt) did seen told history up in
         taken_of bays lawful old.bay bay history old.counts old.log did.rest did.kept.time can.counted can.still seen told up counts key is after told_after
         (lawful.as_read bay after told_after)
         (did.images seen told holds up.frames after told_after) (did.held seen told holds after told_after).reports
+        marks (marked history next up.marked) same (over.passed ∙ omega (arith, long))
 
-    logging_kept : IsLogging counts old.log old.room
+    logging_kept : IsLogging counts (record old.log { marks = marks }) old.room
     logging_kept = record {
       most = can.can_log.logging.most ∙ ap most_record (sym settings_are);
       named = omega (arith, can.can_log.logging.named, did.grows);
       near = omega (arith, can.can_log.logging.near, long);
       roomy = can.can_log.logging.roomy;
+      same = same ∙ sym settings_are;
+      passed = over.passed;
     }
 
     -- where it stands then the log's next record may be appended
-    pub can_log_then : CanLog bays (record { bay = bay; counts = counts; log = old.log; room = old.room })
+    pub can_log_then : CanLog bays (record { bay = bay; counts = counts; log = record old.log { marks = marks }; room = old.room })
     can_log_then = record {
       logging = logging_kept;
       log_shut = shut_alone bays lawful 1 old.log.gate old.bay bay
@@ -111,7 +130,7 @@ module _ {B : Type 0} (bays : Bays B) (lawful : IsLawful bays) (old : Workplace 
 
     -- between two flushes
     pub key_between : edge counts.listing.settings 0 (length counts.listing.events) ≡ edge counts.listing.settings 0 (length counts.listing.events - 1) →
-        TakesKeys bays (key ∷ []) old (record { bay = bay; counts = counts; log = old.log; room = old.room }) (Ok tt)
+        TakesKeys bays mark (key ∷ []) old (record { bay = bay; counts = counts; log = record old.log { marks = marks }; room = old.room }) (Ok tt)
     key_between stays_now =
         let stays : edge old.counts.listing.settings 0 (length counts.listing.events) ≡ edge old.counts.listing.settings 0 (length counts.listing.events - 1) =
         subst (λ (s : Numbers). edge s 0 (length counts.listing.events) ≡ edge s 0 (length counts.listing.events - 1)) settings_are stays_now in
@@ -122,10 +141,11 @@ module _ {B : Type 0} (bays : Bays B) (lawful : IsLawful bays) (old : Workplace 
           taken = did.taken;
           counted = did.counted;
           can_log = can_log_then;
-          in_step = λ seen told history up after told_after.
-              up_between (bays.leaves bay) after history old.counts counts old.log up.logged key can.still can.counted did.counted (taken seen told history up after told_after) stays rows_are;
+          in_step = λ seen told history next up after told_after.
+              up_between (bays.leaves bay) after history old.counts counts log_then up.logged key can.still can.counted did.counted (taken seen told history next up after told_after) stays
+              rows_are;
           each_moment = sound_key (Ok tt) did;
-          sound = λ seen told history up. did.sound seen told (held (Ok tt) did seen told history up);
+          sound = λ seen told history next up. did.sound seen told (held (Ok tt) did seen told history up);
           framed = did.framed;
           whole = did.whole;
           unflushed = λ passed. did.unflushed (flush_passed old.counts.listing.settings (length old.counts.listing.events) passed);
@@ -141,7 +161,7 @@ module _ {B : Type 0} (bays : Bays B) (lawful : IsLawful bays) (old : Workplace 
     module _ (moves_now : edge counts.listing.settings 0 (length counts.listing.events) ≢ edge counts.listing.settings 0 (length counts.listing.events - 1))
         (few : length counts.due.reports ≤ counts.listing.settings.room)
         {E : Type 0} (wrote : Result (Unit {0}) E) (bay_after : B) (log_after : LogPlace)
-        (appends : AppendsRecord bays LogKind.Flush (length counts.listing.events) (directory_text counts.rows) counts.due.reports bay bay_after old.log log_after wrote) where
+        (appends : AppendsRecord bays LogKind.Flush (length counts.listing.events) (directory_text counts.rows) counts.due.reports bay bay_after log_then log_after wrote) where
       moves : edge old.counts.listing.settings 0 (length counts.listing.events) ≢ edge old.counts.listing.settings 0 (length counts.listing.events - 1)
       moves = subst (λ (s : Numbers). edge s 0 (length counts.listing.events) ≢ edge s 0 (length counts.listing.events - 1)) settings_are moves_now
 
@@ -155,7 +175,7 @@ module _ {B : Type 0} (bays : Bays B) (lawful : IsLawful bays) (old : Workplace 
           ∙ ap (edge old.counts.listing.settings 0) (sym before))
 
       abbrev payload : List ℕ
-      payload = payload_at old.log LogKind.Flush (length counts.listing.events) (directory_text counts.rows) counts.due.reports
+      payload = payload_at log_then LogKind.Flush (length counts.listing.events) (directory_text counts.rows) counts.due.reports
 
       journal_then : LeavesAlone bays 0 old.bay bay_after
       journal_then =
@@ -164,12 +184,12 @@ module _ {B : Type 0} (bays : Bays B) (lawful : IsLawful bays) (old : Workplace 
           (alone_others bays lawful 1 0 (λ same. absurd (omega (arith, same))) bay bay_after appends.seen appends.others appends.kept.time)
 
       -- in each image of each moment
-      sound_flush : IfTold (bays.files old.bay) (λ seen. (history : List Packet) → IsPartway old.counts.listing.settings history old.counts.listing.events (key ∷ []) →
-          AreInStep bays old seen history →
+      sound_flush : IfTold (bays.files old.bay) (λ seen. (history : List Packet) → AreNext history mark old (key ∷ []) →
+          IsPartway old.counts.listing.settings history old.counts.listing.events (key ∷ []) → AreInStep bays old seen history →
           (image : Files) → bays.left_since bay_after (bays.moment old.bay) image → IsSound old.counts.listing.settings old.counts.listing.cone history image)
-      sound_flush seen told history partway up image may =
+      sound_flush seen told history next partway up image may =
           let mid = did.rest.seen.told seen told in
-          let taken_then = taken seen told history up mid.0 mid.1 in
+          let taken_then = taken seen told history next up mid.0 mid.1 in
           let all : InEach (bays.leaves bay) 1 (λ bytes. IsGated old.log.most bytes 8 (map log_payload_of up.logged) old.log.gate) =
           λ earlier left. subst (λ (m : ℕ). IsGated m (earlier 1) 8 (map log_payload_of up.logged) old.log.gate) (sym can.can_log.logging.most)
           (taken_then.log_there earlier left).records_stand in
@@ -177,8 +197,8 @@ module _ {B : Type 0} (bays : Bays B) (lawful : IsLawful bays) (old : Workplace 
           λ earlier left. subst (λ (m : ℕ). IsWithOrWithout m 8 (map log_payload_of up.logged) old.log.gate payload (earlier 1)) can.can_log.logging.most
           (appends.each_moment mid.0 mid.1 8 (map log_payload_of up.logged) all earlier left) in
           elim (appends.kept.time.known (bays.moment old.bay) image did.kept.time.later may) [
-            | inl past ↦ sound_key (Ok tt) did seen told history partway up image past
-            | inr here ↦ sound_append (bays.leaves bay) mid.0 history old.counts counts old.log up.logged key can.still can.counted did.counted taken_then moves few_here
+            | inl past ↦ sound_key (Ok tt) did seen told history next partway up image past
+            | inr here ↦ sound_append (bays.leaves bay) mid.0 history old.counts counts log_then up.logged key can.still can.counted did.counted taken_then moves few_here
                 (bays.left_since bay_after (bays.moment bay)) payload refl (appends.others mid.0 mid.1) (appends.before mid.0 mid.1) each partway image here
           ]
 
@@ -186,14 +206,14 @@ module _ {B : Type 0} (bays : Bays B) (lawful : IsLawful bays) (old : Workplace 
     pub record_failed : edge counts.listing.settings 0 (length counts.listing.events) ≢ edge counts.listing.settings 0 (length counts.listing.events - 1) →
         length counts.due.reports ≤ counts.listing.settings.room →
         {E : Type 0} (failed : E) (bay_after : B) (log_after : LogPlace) (room : ℕ) →
-        AppendsRecord bays LogKind.Flush (length counts.listing.events) (directory_text counts.rows) counts.due.reports bay bay_after old.log log_after (Err failed) →
-        (given : Result (Unit {0}) TakeFault) → IsErrAnd given (λ fault. fault ≡ Failed) → TakesKeys bays (key ∷ []) old (record {
+        AppendsRecord bays LogKind.Flush (length counts.listing.events) (directory_text counts.rows) counts.due.reports bay bay_after log_then log_after (Err failed) →
+        (given : Result (Unit {0}) TakeFault) → IsErrAnd given (λ fault. fault ≡ Failed) → TakesKeys bays mark (key ∷ []) old (record {
           bay = bay_after;
           counts = counts;
           log = log_after;
           room = room;
         }) given
-    record_failed moves_now few failed bay_after log_after room appends given given_is = subst (λ (r : Result (Unit {0}) TakeFault). TakesKeys bays (key ∷ []) old (record {
+    record_failed moves_now few failed bay_after log_after room appends given given_is = subst (λ (r : Result (Unit {0}) TakeFault). TakesKeys bays mark (key ∷ []) old (record {
       bay = bay_after;
       counts = counts;
       log = log_after;
@@ -203,9 +223,9 @@ module _ {B : Type 0} (bays : Bays B) (lawful : IsLawful bays) (old : Workplace 
       taken = tt;
       counted = tt;
       can_log = tt;
-      in_step = λ seen told history up. tt;
+      in_step = λ seen told history next up. tt;
       each_moment = sound_flush moves_now few (Err failed) bay_after log_after appends;
-      sound = λ seen told history up file at same. (let never : ⊥ = cc in never);
+      sound = λ seen told history next up file at same. (let never : ⊥ = cc in never);
       framed = λ seen told some. tt;
       whole = λ seen told some at same. (let never : ⊥ = cc in never);
       unflushed = λ passed. absurd (never_passed moves_now few (Err failed) bay_after log_after appends passed);
@@ -221,8 +241,8 @@ module _ {B : Type 0} (bays : Bays B) (lawful : IsLawful bays) (old : Workplace 
     pub key_flushed : edge counts.listing.settings 0 (length counts.listing.events) ≢ edge counts.listing.settings 0 (length counts.listing.events - 1) →
         length counts.due.reports ≤ counts.listing.settings.room →
         {E : Type 0} (bay_after : B) (log_after : LogPlace) (room : ℕ) → room ≡ old.room →
-        AppendsRecord {E = E} bays LogKind.Flush (length counts.listing.events) (directory_text counts.rows) counts.due.reports bay bay_after old.log log_after (Ok tt) →
-        TakesKeys bays (key ∷ []) old (record { bay = bay_after; counts = counts; log = log_after; room = room }) (Ok tt)
+        AppendsRecord {E = E} bays LogKind.Flush (length counts.listing.events) (directory_text counts.rows) counts.due.reports bay bay_after log_then log_after (Ok tt) →
+        TakesKeys bays mark (key ∷ []) old (record { bay = bay_after; counts = counts; log = log_after; room = room }) (Ok tt)
     key_flushed moves_now few bay_after log_after room room_is appends = record {
       listing = did.listing;
       taken = did.taken;
@@ -230,32 +250,34 @@ module _ {B : Type 0} (bays : Bays B) (lawful : IsLawful bays) (old : Workplace 
       can_log = record {
         logging = logging_more old.counts counts old.log log_after old.room room key (directory_text counts.rows) counts.due.reports can.counted.valid can.can_log.logging is
             (ap (λ (l : LogPlace). l.most) appends.moved) (ap (λ (l : LogPlace). l.named) appends.moved) (ap (λ (l : LogPlace). l.gate) appends.moved ∙ appends.long)
-            (record_fits counts.listing.settings counts.rows old.log (directory_text counts.rows) counts.due.reports counts.due.reports did.counted.are
+            (record_fits counts.listing.settings counts.rows log_then (directory_text counts.rows) counts.due.reports counts.due.reports did.counted.are
             (can.can_log.logging.most ∙ ap most_record (sym settings_are)) refl refl few)
-            room_is;
+            room_is
+            (ap (λ (l : LogPlace). l.marks.settings) appends.moved ∙ same ∙ sym settings_are) (ap (λ (l : LogPlace). l.marks.passed) appends.moved ∙ over.passed);
         log_shut = λ after told_after.
             let back = turns_back (OthersStay 1) (bays.files bay) (bays.files bay_after) appends.seen after told_after in
             record { settled = appends.settled after told_after; closed = appends.closed back.0 back.1 };
       };
-      in_step = λ seen told history up after told_after.
+      in_step = λ seen told history next up after told_after.
           let mid = did.rest.seen.told seen told in
-          let taken_then = taken seen told history up mid.0 mid.1 in
+          let taken_then = taken seen told history next up mid.0 mid.1 in
           let all : InEach (bays.leaves bay) 1 (λ bytes. IsGated old.log.most bytes 8 (map log_payload_of up.logged) old.log.gate) =
           λ earlier left. subst (λ (m : ℕ). IsGated m (earlier 1) 8 (map log_payload_of up.logged) old.log.gate) (sym can.can_log.logging.most)
           (taken_then.log_there earlier left).records_stand in
-          let pay = payload_at old.log LogKind.Flush (length counts.listing.events) (directory_text counts.rows) counts.due.reports in
+          let pay = payload_at log_then LogKind.Flush (length counts.listing.events) (directory_text counts.rows) counts.due.reports in
           let stands : InEach (bays.leaves bay_after) 1 (λ bytes. IsGated (most_record old.counts.listing.settings) bytes 8 (map log_payload_of up.logged ++ pay ∷ []) log_after.gate) =
           λ later left. subst (λ (m : ℕ). IsGated m (later 1) 8 (map log_payload_of up.logged ++ pay ∷ []) log_after.gate) can.can_log.logging.most
           (appends.appended mid.0 mid.1 8 (map log_payload_of up.logged) all later left) in
-          up_flushed (bays.leaves bay) mid.0 history old.counts counts old.log up.logged key can.still can.counted did.counted taken_then
+          up_flushed (bays.leaves bay) mid.0 history old.counts counts log_then up.logged key can.still can.counted did.counted taken_then
           (moves moves_now few (Ok tt) bay_after log_after appends) (few_here moves_now few (Ok tt) bay_after log_after appends)
           (bays.left_since bay_after (bays.moment bay)) pay refl (appends.others mid.0 mid.1) (appends.before mid.0 mid.1) (bays.leaves bay_after) after log_after
-          (now_since bays lawful bay bay_after appends.kept.time.later) (ap (λ (l : LogPlace). l.named) appends.moved) stands
+          (now_since bays lawful bay bay_after appends.kept.time.later) (ap (λ (l : LogPlace). l.named) appends.moved)
+          (ap (λ (l : LogPlace). l.marks) appends.moved) stands
           (settled_alone bays lawful 0 bay bay_after (alone_others bays lawful 1 0 (λ same. absurd (omega (arith, same))) bay bay_after appends.seen appends.others appends.kept.time)
           mid.0 mid.1 taken_then.journal_settled after told_after)
           (appends.settled after told_after);
       each_moment = sound_flush moves_now few (Ok tt) bay_after log_after appends;
-      sound = λ seen told history up. did.sound seen told (held (Ok tt) did seen told history up);
+      sound = λ seen told history next up. did.sound seen told (held (Ok tt) did seen told history up);
       framed = λ seen told some after told_after.
           let was = turns_back (OthersStay 1) (bays.files bay) (bays.files bay_after) appends.seen after told_after in
           subst (λ (bytes : List ℕ). HoldsSome counts.listing.settings (length counts.listing.events) counts.rows bytes) (sym (was.2 2 (λ same. absurd (omega (arith, same)))))

@@ -4,26 +4,31 @@ use Rattle.std.proofs.Common.{subst, arith, length-append, length-take}
 use Rattle.std.proofs.Common.{length-drop, append_assoc}
 use Rattle.std.proofs.lemmas.List.{take_all, take-append-drop}
 use Rattle.std.proofs.lemmas.List.Elements.{All-drop}
+use Rattle.lert_base.specs.Packet.{Packet}
 use Rattle.lert_bay.specs.Files.{Files, IfTold}
 use Rattle.lert_rows.specs.declared.bin_at.BinAt.{BinAt}
 use Rattle.lert_reports.specs.Log.{most_record}
 use Rattle.lert_spec.specs.declared.numbers.Numbers.{Numbers}
 use Rattle.lert_spec.specs.Edges.{capacity}
 use Rattle.lert_spec.specs.Mix.{cone_of}
+use Rattle.lert_cone.specs.declared.marks.Mark.{Mark}
 use Rattle.lert_cone.specs.declared.tally.TakeFault.{TakeFault}
 use Rattle.lert_bay.specs.Kept.{Bays}
 use Rattle.lert_cone.specs.Due.{Dues}
 use Rattle.lert_cone.specs.Framed.{HoldsSome, last_flush}
 use Rattle.lert_cone.specs.Listing.{Listing}
+use Rattle.lert_cone.specs.Marks.{AreMarked, AreOfRecord, HasPassed, Marked}
+use Rattle.lert_cone.specs.Record.{LogPlace}
 use Rattle.lert_cone.specs.Replay.{IsOnWay}
-use Rattle.lert_cone.specs.Takes.{Workplace, CanLog, CanTake, CanReplay, TakesKeys, ReplaysKeys}
+use Rattle.lert_cone.specs.Takes.{Workplace, AreNext, CanLog, CanTake, CanReplay, TakesKeys, ReplaysKeys}
 use Rattle.lert_cone.specs.Tally.{Tallied, IsRecounted}
 use Rattle.lert_bay.proofs.KeptLaws.{IsLawful, keeps_none}
 use Rattle.lert_cone.proofs.Calls.{alone_none}
 use Rattle.lert_cone.proofs.KeysTaken.{map_ok}
 use Rattle.lert_cone.proofs.KeyStep.{sound_behind}
+use Rattle.lert_cone.proofs.MarkLaws.{record_part}
 use Rattle.lert_cone.proofs.RecountLaws.{recounted_behind}
-use Rattle.lert_cone.proofs.ReplayLaws.{sound_recounted}
+use Rattle.lert_cone.proofs.ReplayLaws.{on_way_marked, sound_recounted}
 use Rattle.lert_cone.proofs.ReplayStep.{way_counted, way_in_step, way_partway, way_taken, enough_counted, told_once}
 use Rattle.lert_cone.proofs.SomeLaws.{some_counted}
 use Rattle.lert_cone.proofs.TakeLaws.{on_ok}
@@ -33,10 +38,14 @@ never_true true never = absurd (never refl)
 never_true false never = refl
 
 -- `counts` is what the cone counted once the first keys are counted again, and nothing else changed
-module _ {B : Type 0} (bays : Bays B) (lawful : IsLawful bays) (old : Workplace B) (n0 count : ℕ) (keys : List ℕ) (can : CanReplay bays n0 keys old) (counts : Tallied)
+module _ {B : Type 0} (bays : Bays B) (lawful : IsLawful bays) (mark : Mark) (old : Workplace B) (n0 count : ℕ) (keys : List ℕ) (can : CanReplay bays n0 keys old) (counts : Tallied)
     (count_is : count ≡ min (n0 - length old.counts.listing.events) (length keys))
     (listing_is : counts.listing ≡ record old.counts.listing { events = old.counts.listing.events ++ take count keys })
-    (rows_are : counts.rows ≡ old.counts.rows) (due_is : counts.due ≡ old.counts.due) (recounted : IsRecounted counts n0) where
+    (rows_are : counts.rows ≡ old.counts.rows) (due_is : counts.due ≡ old.counts.due) (recounted : IsRecounted counts n0)
+    (marks : Marked) (over : HasPassed (length counts.listing.events) mark old.log.marks marks) where
+  abbrev log_then : LogPlace
+  log_then = record old.log { marks = marks }
+
   settings_are : counts.listing.settings ≡ old.counts.listing.settings
   settings_are = ap (λ (l : Listing). l.settings) listing_is
 
@@ -46,19 +55,44 @@ module _ {B : Type 0} (bays : Bays B) (lawful : IsLawful bays) (old : Workplace 
   early : count ≤ n0 - length old.counts.listing.events
   early = omega (arith, count_is)
 
-  can_log_then : CanLog bays (record { bay = old.bay; counts = counts; log = old.log; room = old.room })
+  can_log_then : CanLog bays (record { bay = old.bay; counts = counts; log = record old.log { marks = marks }; room = old.room })
   can_log_then = record {
     logging = record {
       most = can.can_log.logging.most ∙ ap most_record (sym settings_are);
       named = omega (arith, can.can_log.logging.named, ap (λ (d : Dues). length d.reports) due_is);
       near = omega (arith, can.can_log.logging.near, counted);
       roomy = can.can_log.logging.roomy;
+      same = over.settings ∙ can.can_log.logging.same ∙ sym settings_are;
+      passed = over.passed;
     };
     log_shut = can.can_log.log_shut;
   }
 
+  -- the keys that were counted are of the record, and those that are left
+  marked : (history : List Packet) → AreNext history mark old keys → AreMarked history old.log.marks → AreMarked history marks
+  marked history next = over.marks history
+      (record_part history mark (length old.counts.listing.events) (length old.counts.listing.events + length keys) old.log.marks.passed (length counts.listing.events)
+      (omega (arith, can.can_log.logging.passed)) (omega (arith, counted, length-take count keys)) next)
+
+  next_ahead : (history : List Packet) → AreNext history mark old keys →
+      AreOfRecord history mark (length counts.listing.events) (length counts.listing.events + length (drop count keys))
+  next_ahead history next =
+      record_part history mark (length old.counts.listing.events) (length old.counts.listing.events + length keys) (length counts.listing.events)
+      (length counts.listing.events + length (drop count keys)) (omega (arith, counted)) (omega (arith, counted, length-take count keys, length-drop count keys)) next
+
+  turned : (seen : Files) (history : List Packet) → AreNext history mark old keys →
+      IsOnWay (bays.leaves old.bay) seen history old.counts.listing old.counts.rows old.counts.due.reports old.log n0 →
+      IsOnWay (bays.leaves old.bay) seen history old.counts.listing old.counts.rows old.counts.due.reports (record old.log { marks = marks }) n0
+  turned seen history next on_way =
+      on_way_marked (bays.leaves old.bay) seen history old.counts.listing old.counts.rows old.counts.due.reports old.log n0 on_way marks (marked history next on_way.in_step.marked)
+
   -- all keys are counted again
-  pub all_again : length (drop count keys) ≡ 0 → ReplaysKeys bays n0 keys old (record { bay = old.bay; counts = counts; log = old.log; room = old.room }) (Ok tt)
+  pub all_again : length (drop count keys) ≡ 0 → ReplaysKeys bays n0 mark keys old (record {
+    bay = old.bay;
+    counts = counts;
+    log = record old.log { marks = marks };
+    room = old.room;
+  }) (Ok tt)
   all_again none =
       let whole : take count keys ≡ keys = take_all count keys (omega (arith, none, length-drop count keys)) in
       let events_are : counts.listing.events ≡ old.counts.listing.events ++ take count keys = ap (λ (l : Listing). l.events) listing_is in
@@ -68,12 +102,12 @@ module _ {B : Type 0} (bays : Bays B) (lawful : IsLawful bays) (old : Workplace 
         taken = events_are ∙ ap (λ ks. old.counts.listing.events ++ ks) whole;
         recounted = recounted;
         can_log = can_log_then;
-        on_way = λ seen told history rest is on_way after told_after.
-            subst (λ (files : Files). IsOnWay (bays.leaves old.bay) files history counts.listing counts.rows counts.due.reports old.log n0)
+        on_way = λ seen told history rest is next on_way after told_after.
+            subst (λ (files : Files). IsOnWay (bays.leaves old.bay) files history counts.listing counts.rows counts.due.reports log_then n0)
             (told_once (bays.files old.bay) seen after told told_after)
-            (way_counted (bays.leaves old.bay) seen history old.counts counts old.log n0 count keys rest on_way is early listing_is rows_are due_is);
-        sound = λ seen told history rest is on_way file at same. (let never : ⊥ = cc in never);
-        each_moment = λ seen told history rest is on_way image may.
+            (way_counted (bays.leaves old.bay) seen history old.counts counts log_then n0 count keys rest (turned seen history next on_way) is early listing_is rows_are due_is);
+        sound = λ seen told history rest is next on_way file at same. (let never : ⊥ = cc in never);
+        each_moment = λ seen told history rest is next on_way image may.
             sound_recounted (bays.leaves old.bay) seen history old.counts old.log n0 can.recounted on_way (keys ++ rest) is image (lawful.only_now old.bay image may);
         unflushed = λ passed. refl;
         framed = λ seen told some after told_after.
@@ -98,7 +132,7 @@ module _ {B : Type 0} (bays : Bays B) (lawful : IsLawful bays) (old : Workplace 
     enough : n0 ≤ length counts.listing.events
     enough = enough_counted old.counts counts n0 count keys count_is some listing_is
 
-    pub can_take_ahead : CanTake bays (drop count keys) (record { bay = old.bay; counts = counts; log = old.log; room = old.room })
+    pub can_take_ahead : CanTake bays (drop count keys) (record { bay = old.bay; counts = counts; log = record old.log { marks = marks }; room = old.room })
     can_take_ahead = record {
       still = never_true counts.listing.closed (λ closed. absurd (omega (
         arith,
@@ -118,13 +152,13 @@ module _ {B : Type 0} (bays : Bays B) (lawful : IsLawful bays) (old : Workplace 
       can_log = can_log_then;
     }
 
-    pub others_ahead : (new : Workplace B) (result : Result (Unit {0}) TakeFault) → TakesKeys bays (drop count keys) (record {
+    pub others_ahead : (new : Workplace B) (result : Result (Unit {0}) TakeFault) → TakesKeys bays mark (drop count keys) (record {
       bay = old.bay;
       counts = counts;
-      log = old.log;
+      log = record old.log { marks = marks };
       room = old.room;
     }) new result →
-        ReplaysKeys bays n0 keys old new result
+        ReplaysKeys bays n0 mark keys old new result
     others_ahead new result did =
         let up_to : max n0 (length old.counts.listing.events) ≡ length counts.listing.events = omega (arith, count_is, counted, enough, length-take count keys) in
         let then_most : (ks : List ℕ) → ks ≡ counts.listing.events ++ drop count keys → length ks ≡ max n0 (length ks) =
@@ -139,21 +173,24 @@ module _ {B : Type 0} (bays : Bays B) (lawful : IsLawful bays) (old : Workplace 
               (λ now (took : new.counts.listing.events ≡ counts.listing.events ++ drop count keys). recounted_behind new.counts n0 now
               (omega (arith, enough, ap (length {A = ℕ}) took, length-append counts.listing.events (drop count keys))));
           can_log = did.can_log;
-          on_way = λ seen told history rest is on_way.
-              let step = way_in_step (bays.leaves old.bay) seen history old.counts counts old.log n0 count keys rest on_way is early listing_is rows_are due_is enough in
+          on_way = λ seen told history rest is next on_way.
+              let step = way_in_step (bays.leaves old.bay) seen history old.counts counts log_then n0 count keys rest (turned seen history next on_way) is early listing_is rows_are due_is enough in
               on_ok _ _ (IfTold (bays.files new.bay) (λ after. IsOnWay (bays.leaves new.bay) after history new.counts.listing new.counts.rows new.counts.due.reports new.log n0)) result
-              (did.in_step seen told history step) did.taken
+              (did.in_step seen told history (next_ahead history next) step) did.taken
               (λ up (took : new.counts.listing.events ≡ counts.listing.events ++ drop count keys) after told_after.
-              way_taken (bays.leaves old.bay) seen history old.counts counts old.log n0 count keys rest on_way is early listing_is rows_are due_is enough (bays.leaves new.bay) after new.counts
+              way_taken (bays.leaves old.bay) seen history old.counts counts log_then n0 count keys rest (turned seen history next on_way) is early listing_is rows_are due_is enough
+              (bays.leaves new.bay) after new.counts
               new.log
               (did.listing ∙ ap (λ (ks : List ℕ). record { settings = counts.listing.settings; cone = counts.listing.cone; events = ks; closed = counts.listing.closed }) took)
               (up after told_after));
-          sound = λ seen told history rest is on_way.
-              did.sound seen told history (way_in_step (bays.leaves old.bay) seen history old.counts counts old.log n0 count keys rest on_way is early listing_is rows_are due_is enough);
-          each_moment = λ seen told history rest is on_way image may.
-              let step = way_in_step (bays.leaves old.bay) seen history old.counts counts old.log n0 count keys rest on_way is early listing_is rows_are due_is enough in
-              let partway = way_partway (bays.leaves old.bay) seen history old.counts counts old.log n0 count keys rest on_way is early listing_is rows_are due_is enough in
-              sound_behind counts.listing old.counts.listing history image settings_are (ap (λ (l : Listing). l.cone) listing_is) (did.each_moment seen told history partway step image may);
+          sound = λ seen told history rest is next on_way.
+              did.sound seen told history (next_ahead history next)
+              (way_in_step (bays.leaves old.bay) seen history old.counts counts log_then n0 count keys rest (turned seen history next on_way) is early listing_is rows_are due_is enough);
+          each_moment = λ seen told history rest is next on_way image may.
+              let step = way_in_step (bays.leaves old.bay) seen history old.counts counts log_then n0 count keys rest (turned seen history next on_way) is early listing_is rows_are due_is enough in
+              let partway = way_partway (bays.leaves old.bay) seen history old.counts counts log_then n0 count keys rest (turned seen history next on_way) is early listing_is rows_are due_is enough in
+              sound_behind counts.listing old.counts.listing history image settings_are (ap (λ (l : Listing). l.cone) listing_is) (did.each_moment seen told history
+              (next_ahead history next) partway step image may);
           unflushed = λ passed.
               let same : length counts.listing.events + length (drop count keys) ≡ length old.counts.listing.events + length keys =
               omega (arith, count_is, counted, length-take count keys, length-drop count keys) in

@@ -11,16 +11,18 @@ use Rattle.lert_bay.specs.Files.{Files}
 use Rattle.lert_spec.specs.declared.numbers.Numbers.{Numbers}
 use Rattle.lert_spec.specs.Edges.{capacity}
 use Rattle.lert_spec.specs.Mix.{cone_of}
+use Rattle.lert_cone.specs.declared.marks.Mark.{Mark}
 use Rattle.lert_cone.specs.declared.tally.TakeFault.{TakeFault}
 use Rattle.lert_bay.specs.Kept.{Bays}
 use Rattle.lert_cone.specs.Framed.{HoldsSome, last_flush}
 use Rattle.lert_cone.specs.InStep.{IsPartway}
 use Rattle.lert_cone.specs.Listing.{Listing}
-use Rattle.lert_cone.specs.Takes.{Workplace, CanTake, AreInStep, TakesKeys}
+use Rattle.lert_cone.specs.Takes.{Workplace, CanTake, AreInStep, AreNext, TakesKeys}
 use Rattle.lert_bay.proofs.KeptLaws.{IsLawful, keeps_none, keeps_on}
 use Rattle.lert_cone.proofs.Calls.{alone_none, alone_on}
 use Rattle.lert_cone.proofs.KeyStep.{sound_now, sound_behind}
 use Rattle.lert_cone.proofs.FlushLaws.{last_flush_grows}
+use Rattle.lert_cone.proofs.MarkLaws.{record_part}
 use Rattle.lert_cone.proofs.TakeLaws.{handed_on}
 
 -- what follows from an answer of Ok
@@ -53,18 +55,18 @@ partway_back s history events front back partway = record {
 front_passed : (s : Numbers) (n : ℕ) (front back : List ℕ) → last_flush s (n + length (front ++ back)) ≤ n → last_flush s (n + length front) ≤ n
 front_passed s n front back passed = omega (arith, passed, last_flush_grows s (n + length front) (n + length (front ++ back)) (omega (arith, length-append front back)))
 
-module _ {B : Type 0} (bays : Bays B) (lawful : IsLawful bays) where
+module _ {B : Type 0} (bays : Bays B) (lawful : IsLawful bays) (mark : Mark) where
   -- no key
-  pub takes_none : (at : Workplace B) (keys : List ℕ) → CanTake bays keys at → TakesKeys bays [] at at (Ok tt)
+  pub takes_none : (at : Workplace B) (keys : List ℕ) → CanTake bays keys at → TakesKeys bays mark [] at at (Ok tt)
   takes_none at keys can = record {
     listing = refl;
     taken = sym (append-nil at.counts.listing.events);
     counted = can.counted;
     can_log = can.can_log;
-    in_step = λ seen told history up after told_after. subst (λ (files : Files). AreInStep bays at files history) (same_Some seen after (sym told ∙ told_after)) up;
-    each_moment = λ seen told history partway up image may.
+    in_step = λ seen told history next up after told_after. subst (λ (files : Files). AreInStep bays at files history) (same_Some seen after (sym told ∙ told_after)) up;
+    each_moment = λ seen told history next partway up image may.
         sound_now (bays.leaves at.bay) seen history at.counts at.log [] can.counted can.still up partway image (lawful.only_now at.bay image may);
-    sound = λ seen told history up file at same. (let never : ⊥ = cc in never);
+    sound = λ seen told history next up file at same. (let never : ⊥ = cc in never);
     framed = λ seen told some after told_after.
         subst (λ (files : Files). HoldsSome at.counts.listing.settings (length at.counts.listing.events) at.counts.rows (files 2)) (same_Some seen after (sym told ∙ told_after)) some;
     whole = λ seen told some at same. (let never : ⊥ = cc in never);
@@ -77,8 +79,15 @@ module _ {B : Type 0} (bays : Bays B) (lawful : IsLawful bays) where
     };
   }
 
+  -- the first of some keys are of the record, too
+  next_front : (at : Workplace B) (front back : List ℕ) (history : List Packet) → AreNext history mark at (front ++ back) → AreNext history mark at front
+  next_front at front back history next =
+      record_part history mark (length at.counts.listing.events) (length at.counts.listing.events + length (front ++ back)) (length at.counts.listing.events)
+      (length at.counts.listing.events + length front) (omega arith) (omega (arith, length-append front back)) next
+
   -- some, and then others
-  module _ (old mid new : Workplace B) (front back : List ℕ) (result : Result (Unit {0}) TakeFault) (first : TakesKeys bays front old mid (Ok tt)) (second : TakesKeys bays back mid new result)
+  module _ (old mid new : Workplace B) (front back : List ℕ) (result : Result (Unit {0}) TakeFault) (first : TakesKeys bays mark front old mid (Ok tt))
+      (second : TakesKeys bays mark back mid new result)
     where
       mid_is : mid.counts.listing ≡ record old.counts.listing { events = old.counts.listing.events ++ front }
       mid_is = first.listing ∙ ap (λ (keys : List ℕ). record { settings = old.counts.listing.settings; cone = old.counts.listing.cone; events = keys; closed = old.counts.listing.closed })
@@ -94,29 +103,35 @@ module _ {B : Type 0} (bays : Bays B) (lawful : IsLawful bays) where
           subst (λ (s : Numbers). last_flush s (length mid.counts.listing.events + length back) ≤ length mid.counts.listing.events) (sym (ap (λ (l : Listing). l.settings) mid_is))
           (omega (arith, passed, mid_long, ap (last_flush old.counts.listing.settings) same))
 
-      pub takes_more : TakesKeys bays (front ++ back) old new result
+      next_back : (history : List Packet) → AreNext history mark old (front ++ back) → AreNext history mark mid back
+      next_back history next =
+          record_part history mark (length old.counts.listing.events) (length old.counts.listing.events + length (front ++ back)) (length mid.counts.listing.events)
+          (length mid.counts.listing.events + length back) (omega (arith, mid_long)) (omega (arith, mid_long, length-append front back)) next
+
+      pub takes_more : TakesKeys bays mark (front ++ back) old new result
       takes_more = record {
         listing = second.listing ∙ ap (λ (l : Listing). record { settings = l.settings; cone = l.cone; events = new.counts.listing.events; closed = l.closed }) first.listing;
         taken = map_ok result (λ (took : new.counts.listing.events ≡ mid.counts.listing.events ++ back).
             took ∙ ap (λ (keys : List ℕ). keys ++ back) first.taken ∙ append_assoc old.counts.listing.events front back) second.taken;
         counted = second.counted;
         can_log = second.can_log;
-        in_step = λ seen told history up.
+        in_step = λ seen told history next up.
             let came = first.keeps.journal.seen.told seen told in
-            second.in_step came.0 came.1 history (first.in_step seen told history up came.0 came.1);
-        each_moment = λ seen told history partway up image may.
+            second.in_step came.0 came.1 history (next_back history next) (first.in_step seen told history (next_front old front back history next) up came.0 came.1);
+        each_moment = λ seen told history next partway up image may.
             let came = first.keeps.journal.seen.told seen told in
-            let here_up = first.in_step seen told history up came.0 came.1 in
+            let here_up = first.in_step seen told history (next_front old front back history next) up came.0 came.1 in
             let behind = subst (λ (l : Listing). IsPartway l.settings history l.events back) (sym mid_is)
             (partway_back old.counts.listing.settings history old.counts.listing.events front back partway) in
             elim (second.keeps.journal.time.known (bays.moment old.bay) image first.keeps.journal.time.later may) [
-              | inl past ↦ first.each_moment seen told history (partway_front old.counts.listing.settings history old.counts.listing.events front back partway) up image past
+              | inl past ↦ first.each_moment seen told history (next_front old front back history next)
+                  (partway_front old.counts.listing.settings history old.counts.listing.events front back partway) up image past
               | inr here ↦ sound_behind mid.counts.listing old.counts.listing history image (ap (λ (l : Listing). l.settings) first.listing) (ap (λ (l : Listing). l.cone) first.listing)
-                  (second.each_moment came.0 came.1 history behind here_up image here)
+                  (second.each_moment came.0 came.1 history (next_back history next) behind here_up image here)
             ];
-        sound = λ seen told history up.
+        sound = λ seen told history next up.
             let came = first.keeps.journal.seen.told seen told in
-            second.sound came.0 came.1 history (first.in_step seen told history up came.0 came.1);
+            second.sound came.0 came.1 history (next_back history next) (first.in_step seen told history (next_front old front back history next) up came.0 came.1);
         framed = λ seen told some.
             let came = first.keeps.journal.seen.told seen told in
             second.framed came.0 came.1 (first.framed seen told some came.0 came.1);
@@ -133,16 +148,16 @@ module _ {B : Type 0} (bays : Bays B) (lawful : IsLawful bays) where
       }
 
   -- where a key isn't taken no other is
-  takes_fewer : (old new : Workplace B) (front back : List ℕ) (fault : TakeFault) → TakesKeys bays front old new (Err fault) → TakesKeys bays (front ++ back) old new (Err fault)
+  takes_fewer : (old new : Workplace B) (front back : List ℕ) (fault : TakeFault) → TakesKeys bays mark front old new (Err fault) → TakesKeys bays mark (front ++ back) old new (Err fault)
   takes_fewer old new front back fault did = record {
     listing = did.listing;
     taken = tt;
     counted = tt;
     can_log = tt;
-    in_step = λ seen told history up. tt;
-    each_moment = λ seen told history partway up image may.
-        did.each_moment seen told history (partway_front old.counts.listing.settings history old.counts.listing.events front back partway) up image may;
-    sound = did.sound;
+    in_step = λ seen told history next up. tt;
+    each_moment = λ seen told history next partway up image may.
+        did.each_moment seen told history (next_front old front back history next) (partway_front old.counts.listing.settings history old.counts.listing.events front back partway) up image may;
+    sound = λ seen told history next up. did.sound seen told history (next_front old front back history next) up;
     framed = λ seen told some. tt;
     whole = did.whole;
     unflushed = λ passed. did.unflushed (front_passed old.counts.listing.settings (length old.counts.listing.events) front back passed);
@@ -151,7 +166,7 @@ module _ {B : Type 0} (bays : Bays B) (lawful : IsLawful bays) where
 
   -- ---- a list of keys, up to a place
 
-  module _ (old mid : Workplace B) (keys : List ℕ) (i : ℕ) (first : TakesKeys bays (take i keys) old mid (Ok tt)) where
+  module _ (old mid : Workplace B) (keys : List ℕ) (i : ℕ) (first : TakesKeys bays mark (take i keys) old mid (Ok tt)) where
     pub next_can : CanTake bays keys old → i < length keys → CanTake bays (get_or keys i 0 ∷ []) mid
     next_can can within =
         let is = first.listing ∙ ap (λ (ks : List ℕ). record { settings = old.counts.listing.settings; cone = old.counts.listing.cone; events = ks; closed = old.counts.listing.closed })
@@ -167,20 +182,20 @@ module _ {B : Type 0} (bays : Bays B) (lawful : IsLawful bays) where
           can_log = first.can_log;
         }
 
-    pub next_takes : (new : Workplace B) → i < length keys → TakesKeys bays (get_or keys i 0 ∷ []) mid new (Ok tt) → TakesKeys bays (take (i + 1) keys) old new (Ok tt)
+    pub next_takes : (new : Workplace B) → i < length keys → TakesKeys bays mark (get_or keys i 0 ∷ []) mid new (Ok tt) → TakesKeys bays mark (take (i + 1) keys) old new (Ok tt)
     next_takes new within second =
-        subst (λ (front : List ℕ). TakesKeys bays front old new (Ok tt)) (sym (take_more keys i 0 within)) (takes_more old mid new (take i keys) (get_or keys i 0 ∷ []) (Ok tt) first second)
+        subst (λ (front : List ℕ). TakesKeys bays mark front old new (Ok tt)) (sym (take_more keys i 0 within)) (takes_more old mid new (take i keys) (get_or keys i 0 ∷ []) (Ok tt) first second)
 
     pub next_refused : (new : Workplace B) → i < length keys → (result : Result (Unit {0}) TakeFault) (fault : TakeFault) → result ≡ Err fault →
-        TakesKeys bays (get_or keys i 0 ∷ []) mid new result →
-        (given : Result (Unit {0}) TakeFault) → IsErrAnd given (λ g. g ≡ fault) → TakesKeys bays keys old new given
+        TakesKeys bays mark (get_or keys i 0 ∷ []) mid new result →
+        (given : Result (Unit {0}) TakeFault) → IsErrAnd given (λ g. g ≡ fault) → TakesKeys bays mark keys old new given
     next_refused new within result fault is second given given_is =
-        let failed : TakesKeys bays (get_or keys i 0 ∷ []) mid new (Err fault) = subst (λ (r : Result (Unit {0}) TakeFault). TakesKeys bays (get_or keys i 0 ∷ []) mid new r) is second in
+        let failed : TakesKeys bays mark (get_or keys i 0 ∷ []) mid new (Err fault) = subst (λ (r : Result (Unit {0}) TakeFault). TakesKeys bays mark (get_or keys i 0 ∷ []) mid new r) is second in
         let split : (take i keys ++ get_or keys i 0 ∷ []) ++ drop (i + 1) keys ≡ keys = ap (λ front. front ++ drop (i + 1) keys) (sym (take_more keys i 0 within))
         ∙ take-append-drop (i + 1) keys in
-        subst (λ (r : Result (Unit {0}) TakeFault). TakesKeys bays keys old new r) (handed_on given fault given_is)
-        (subst (λ (all : List ℕ). TakesKeys bays all old new (Err fault)) split
+        subst (λ (r : Result (Unit {0}) TakeFault). TakesKeys bays mark keys old new r) (handed_on given fault given_is)
+        (subst (λ (all : List ℕ). TakesKeys bays mark all old new (Err fault)) split
         (takes_fewer old new (take i keys ++ get_or keys i 0 ∷ []) (drop (i + 1) keys) fault (takes_more old mid new (take i keys) (get_or keys i 0 ∷ []) (Err fault) first failed)))
 
-    pub all_taken : length keys ≤ i → TakesKeys bays keys old mid (Ok tt)
-    all_taken over = subst (λ (all : List ℕ). TakesKeys bays all old mid (Ok tt)) (take_all i keys over) first
+    pub all_taken : length keys ≤ i → TakesKeys bays mark keys old mid (Ok tt)
+    all_taken over = subst (λ (all : List ℕ). TakesKeys bays mark all old mid (Ok tt)) (take_all i keys over) first

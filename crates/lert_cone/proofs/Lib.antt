@@ -2,6 +2,7 @@ pub mod Admits
 pub mod AdmitsPacket
 pub mod AdoptLaws
 pub mod AppendLaws
+pub mod BinLaws
 pub mod BreaksOff
 pub mod Calls
 pub mod DueLaws
@@ -22,8 +23,10 @@ pub mod KeysReplayed
 pub mod KeysTaken
 pub mod LogLaws
 pub mod MadeReports
+pub mod MarkLaws
 pub mod NextFlush
 pub mod PacketTaken
+pub mod ReadCosts
 pub mod RecordLaws
 pub mod ReplayLaws
 pub mod ReplayCalls

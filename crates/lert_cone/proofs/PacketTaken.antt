@@ -1,6 +1,6 @@
 -- A packet through the calls that it makes: it isn't appended, or it is, and its keys are taken.
 use Rattle.std.specs.Prelude.{IsErr}
-use Rattle.std.proofs.Common.{◌≡◌, ℕ, ◌+◌, ◌^◌, ◌<◌, ◌≤◌, List, [], ◌∷◌, ◌++◌, All, length, Result, Ok, Err, OnOk, OnErr, Some, refl, ap, subst, inl}
+use Rattle.std.proofs.Common.{◌≡◌, ℕ, ◌+◌, ◌^◌, ◌<◌, ◌≤◌, List, [], ◌∷◌, ◌++◌, All, length, Result, Ok, Err, OnOk, OnErr, Some, refl, ap, ◌∙◌, subst, inl}
 use Rattle.std.proofs.Common.{inr, arith}
 use Rattle.std.specs.Result.{IsErrAnd}
 use Rattle.lert_base.specs.Packet.{Packet, events_of}
@@ -10,17 +10,20 @@ use Rattle.lert_gatelog.specs.Kept.{InEach, KeepsOthers, KeepsBefore, IsWhollySe
 use Rattle.lert_journal.specs.Journal.{HasPackets, HasPacketsOrOneMore}
 use Rattle.lert_journal.specs.Payload.{payload_of}
 use Rattle.lert_spec.specs.Edges.{capacity}
+use Rattle.lert_cone.specs.declared.marks.Mark.{Mark}
 use Rattle.lert_cone.specs.declared.tally.TakeFault.{TakeFault}
 use Rattle.lert_cone.specs.declared.tally.TakeFault.TheVariants.{Failed}
 use Rattle.lert_bay.specs.Kept.{Bays, KeepsBay}
 use Rattle.lert_cone.specs.History.{most_payload}
 use Rattle.lert_cone.specs.InStep.{IsInStep}
+use Rattle.lert_cone.specs.Marks.{AreOfRecord}
 use Rattle.lert_cone.specs.Sound.{IsSoundOver}
 use Rattle.lert_cone.specs.Takes.{Workplace, CanTake, CanTakePacket, IsWholeAt, TakesKeys, TakesPacket}
 use Rattle.lert_cone.specs.Wrote.{IsShutIfTold, LeavesAlone}
 use Rattle.lert_bay.proofs.KeptLaws.{IsLawful, keeps_on}
 use Rattle.lert_cone.proofs.Calls.{now_since, alone_others, settled_alone, shut_alone}
 use Rattle.lert_cone.proofs.KeysTaken.{ok_holds}
+use Rattle.lert_cone.proofs.MarkLaws.{last_holds}
 use Rattle.lert_cone.proofs.SoundLaws.{turns_back}
 use Rattle.lert_cone.proofs.AppendLaws.{sound_appending, up_appended, records_there, each_there, partway_packet, appended_there}
 use Rattle.lert_cone.proofs.FaultLaws.{any_turn, turns_on}
@@ -98,7 +101,7 @@ module _ {B : Type 0} (bays : Bays B) (lawful : IsLawful bays) (old : Workplace 
     shows = λ seen told file at same. absurd (let never : ⊥ = cc in never);
     seen = any_turn (OthersStay journal.file) (bays.files old.bay) (bays.files bay) appends.seen;
     now = now (Err failed) appends;
-    kept = record { time = appends.kept.time; never_falls = appends.kept.never_falls; failed = λ _. appends.kept.failed refl; mark = appends.kept.mark };
+    kept = record { time = appends.kept.time; never_falls = appends.kept.never_falls; failed = λ _. appends.kept.failed refl; mark = appends.kept.mark; journal = appends.kept.journal };
   }
 
   -- it isn't appended
@@ -129,6 +132,8 @@ module _ {B : Type 0} (bays : Bays B) (lawful : IsLawful bays) (old : Workplace 
           named = can.can_log.logging.named;
           near = can.can_log.logging.near;
           roomy = omega (arith, room_is, can.can_log.logging.roomy);
+          same = can.can_log.logging.same;
+          passed = can.can_log.logging.passed;
         };
         log_shut = shut_alone bays lawful 1 old.log.gate old.bay bay (log_alone (Ok tt) appends) can.can_log.log_shut;
       };
@@ -156,14 +161,21 @@ module _ {B : Type 0} (bays : Bays B) (lawful : IsLawful bays) (old : Workplace 
         (subst (λ (f : ℕ). IsWhollySettled (bays.leaves bay) mid f) can.file (appends.settled mid told_mid))
         (settled_alone bays lawful 1 old.bay bay (log_alone (Ok tt) appends) seen told whole.in_step.log_settled mid told_mid)
 
-    pub packet_taken : (room : ℕ) (new : Workplace B) (result : Result (Unit {0}) TakeFault) → TakesKeys bays packet.keys (record {
-      bay = bay;
-      counts = old.counts;
-      log = old.log;
-      room = room;
-    }) new result →
+    -- its keys are those of the record that begins at the gate
+    next_then : (mark : Mark) → mark.gate ≡ journal.gate → mark.first ≡ length old.counts.listing.events + 1 → (seen : Files) (history : List Packet) → IsWholeAt bays old journal seen history →
+        AreOfRecord (history ++ packet ∷ []) mark (length old.counts.listing.events) (length old.counts.listing.events + length packet.keys)
+    next_then mark gate_is first_is seen history whole =
+        last_holds history packet mark (length old.counts.listing.events) (gate_is ∙ whole.gate_is) (ap (length {A = ℕ}) whole.keys) first_is
+
+    pub packet_taken : (mark : Mark) → mark.gate ≡ journal.gate → mark.first ≡ length old.counts.listing.events + 1 → (room : ℕ) (new : Workplace B) (result : Result (Unit {0}) TakeFault) →
+        TakesKeys bays mark packet.keys (record {
+          bay = bay;
+          counts = old.counts;
+          log = old.log;
+          room = room;
+        }) new result →
         TakesPacket bays packet old new journal journal_after result
-    packet_taken room new result did = record {
+    packet_taken mark gate_is first_is room new result did = record {
       listing = did.listing;
       taken = did.taken;
       counted = did.counted;
@@ -174,7 +186,7 @@ module _ {B : Type 0} (bays : Bays B) (lawful : IsLawful bays) (old : Workplace 
       shut = ok_holds result (shut_alone bays lawful 0 journal_after.gate bay new.bay did.keeps.journal shut_then);
       in_step = λ seen told history whole.
           let mid = appends.seen.told seen told in
-          did.in_step mid.0 mid.1 (history ++ packet ∷ []) (up_then seen told history whole mid.0 mid.1);
+          did.in_step mid.0 mid.1 (history ++ packet ∷ []) (next_then mark gate_is first_is seen history whole) (up_then seen told history whole mid.0 mid.1);
       each_moment = λ seen told history whole image may.
           let mid = appends.seen.told seen told in
           elim (did.keeps.journal.time.known (bays.moment old.bay) image appends.kept.time.later may) [
@@ -182,13 +194,14 @@ module _ {B : Type 0} (bays : Bays B) (lawful : IsLawful bays) (old : Workplace 
             | inr here ↦ inr (
               packet,
               refl,
-              did.each_moment mid.0 mid.1 (history ++ packet ∷ []) (partway_packet old.counts.listing.settings history packet old.counts.listing.events whole.keys)
+              did.each_moment mid.0 mid.1 (history ++ packet ∷ []) (next_then mark gate_is first_is seen history whole)
+                  (partway_packet old.counts.listing.settings history packet old.counts.listing.events whole.keys)
                   (up_then seen told history whole mid.0 mid.1) image here,
             )
           ];
       sound = λ seen told history whole.
           let mid = appends.seen.told seen told in
-          did.sound mid.0 mid.1 (history ++ packet ∷ []) (up_then seen told history whole mid.0 mid.1);
+          did.sound mid.0 mid.1 (history ++ packet ∷ []) (next_then mark gate_is first_is seen history whole) (up_then seen told history whole mid.0 mid.1);
       shows = did.keeps.shows;
       seen = turns_on (OthersStay journal.file) (λ before after. after 0 ≡ before 0) (bays.files old.bay) (bays.files bay) (bays.files new.bay) appends.seen did.keeps.journal.seen;
       now = λ image may. lawful.since_earlier new.bay (bays.moment old.bay) (bays.moment bay) image appends.kept.time.later (did.keeps.journal.now image may);

@@ -1,67 +1,57 @@
 -- The text of a record, as it is appended.
 use Rattle.std.proofs.Common.{◌≡◌, ℕ, ◌+◌, ◌-◌, ◌*◌, ◌≤◌, List, [], ◌∷◌, ◌++◌, length, take, drop, get_or, All, Result, Err, refl, sym, ap, subst, ◌∙◌}
 use Rattle.std.proofs.Common.{arith, length-drop, length-append}
-use Rattle.std.specs.Prelude.{flat_map}
 use Rattle.std.proofs.lemmas.List.{take_all, get_or_default}
 use Rattle.std.proofs.lemmas.Nat.{mul-le}
-use Rattle.byteorder.specs.Endian.{little_bytes}
 use Rattle.lert_gatelog.specs.Gated.{appendix, IsAppendix}
 use Rattle.lert_gatelog.proofs.GatedLaws.{length_appendix}
 use Rattle.lert_rows.specs.declared.bin_at.BinAt.{BinAt}
 use Rattle.lert_rows.specs.Rows.{AreRows, row_of, directory_text}
 use Rattle.lert_rows.proofs.MoveLaws.{directory_short}
 use Rattle.lert_reports.specs.declared.log.LogKind.{LogKind}
-use Rattle.lert_reports.specs.LogText.{log_payload, kind_number, report_bytes}
+use Rattle.lert_reports.specs.LogText.{log_payload}
+use Rattle.lert_reports.proofs.LogLaws.{log_payload_length}
 use Rattle.lert_reports.specs.Log.{most_record}
 use Rattle.lert_spec.specs.declared.numbers.Numbers.{Numbers}
 use Rattle.lert_spec.specs.Limits.{IsValid}
 use Rattle.lert_spec.specs.declared.report.Report.{Report}
 use Rattle.std.specs.Result.{IsErrAnd}
+use Rattle.lert_cone.specs.declared.marks.Mark.{Mark}
 use Rattle.lert_cone.specs.Appends.{AppendsRecord}
 use Rattle.lert_bay.specs.Kept.{Bays}
 use Rattle.lert_cone.specs.InStep.{IsLogging}
 use Rattle.lert_cone.specs.Listing.{Listing}
+use Rattle.lert_cone.specs.Marks.{oldest_mark}
 use Rattle.lert_cone.specs.Tally.{Tallied}
 use Rattle.lert_cone.specs.Record.{LogPlace, payload_at, payload_len}
 use Rattle.lert_cone.proofs.TakeLaws.{handed_on}
 
-pub payload_is_at : (log : LogPlace) (kind : LogKind) (n0 : ℕ) (directory : List ℕ) (reports : List Report) → log_payload kind n0 32 1 directory
-    (drop log.named reports) ≡ payload_at log kind n0 directory reports
+pub payload_is_at : (log : LogPlace) (kind : LogKind) (n0 : ℕ) (directory : List ℕ) (reports : List Report) → log_payload kind n0
+    (oldest_mark log.marks).gate (oldest_mark log.marks).first directory (drop log.named reports) ≡ payload_at log kind n0 directory reports
 unfolding payload_at
 payload_is_at log kind n0 directory reports = refl
 
 -- ---- how long it is
 
-length_reports : (reports : List Report) → length (flat_map report_bytes reports) ≡ 16 * length reports
-length_reports [] = refl
-length_reports (report ∷ reports) =
-    omega (arith, length-append (report_bytes report) (flat_map report_bytes reports), length_reports reports)
-
-length_payload : (kind : LogKind) (n0 : ℕ) (directory : List ℕ) (new : List Report) → length (log_payload kind n0 32 1 directory new) ≡ 29 + length directory + 16 * length new
-length_payload kind n0 directory new =
-    let head = (kind_number kind ∷ []) ++ little_bytes 8 n0 ++ little_bytes 8 32 ++ little_bytes 8 1 in
-    let count = little_bytes 4 (length new) in
-    omega (
-      arith,
-      length-append (head ++ directory ++ count) (flat_map report_bytes new),
-      length-append (head ++ directory) count,
-      length-append head directory,
-      length_reports new,
-    )
-
 pub payload_long : (log : LogPlace) (kind : LogKind) (n0 : ℕ) (directory : List ℕ) (reports : List Report) →
     length (payload_at log kind n0 directory reports) ≡ payload_len log directory reports
-payload_long log kind n0 directory reports = ap length (sym (payload_is_at log kind n0 directory reports)) ∙ length_payload kind n0 directory (drop log.named reports)
+payload_long log kind n0 directory reports = ap length (sym (payload_is_at log kind n0 directory reports))
+    ∙ log_payload_length kind n0 (oldest_mark log.marks).gate (oldest_mark log.marks).first directory (drop log.named reports)
 
 -- ---- a text that was written, of the reports behind the named ones
 
-module _ (log : LogPlace) (kind : LogKind) (n0 : ℕ) (directory : List ℕ) (reports : List Report) (len : ℕ) (into : List ℕ)
-    (text : take len into ≡ appendix (log_payload kind n0 32 1 directory (take (length reports - log.named) (drop log.named reports)))) where
+module _ (log : LogPlace) (kind : LogKind) (n0 : ℕ) (directory : List ℕ) (reports : List Report) (mark : Mark) (mark_is : mark ≡ oldest_mark log.marks) (len : ℕ)
+    (into : List ℕ)
+    (text : take len into ≡ appendix (log_payload kind n0 mark.gate mark.first directory (take (length reports - log.named) (drop log.named reports)))) where
   new_is : take (length reports - log.named) (drop log.named reports) ≡ drop log.named reports
   new_is = take_all (length reports - log.named) (drop log.named reports) (omega (arith, length-drop log.named reports))
 
   pub text_at : take len into ≡ appendix (payload_at log kind n0 directory reports)
-  text_at = text ∙ (ap (λ new. appendix (log_payload kind n0 32 1 directory new)) new_is ∙ ap appendix (payload_is_at log kind n0 directory reports))
+  text_at =
+      text
+      ∙ (ap (λ new. appendix (log_payload kind n0 mark.gate mark.first directory new)) new_is
+      ∙ (ap (λ (m : Mark). appendix (log_payload kind n0 m.gate m.first directory (drop log.named reports))) mark_is
+      ∙ ap appendix (payload_is_at log kind n0 directory reports)))
 
   pub text_long : length (take len into) ≡ 5 + length (payload_at log kind n0 directory reports)
   text_long = ap length text_at ∙ length_appendix (payload_at log kind n0 directory reports)
@@ -104,12 +94,14 @@ pub logging_more : (t a : Tallied) (log log_after : LogPlace) (room room_after :
     a.listing ≡ record t.listing { events = t.listing.events ++ key ∷ [] } →
     log_after.most ≡ log.most → log_after.named ≡ length a.due.reports → log_after.gate ≡ log.gate + 5 + payload_len log directory reports →
     payload_len log directory reports ≤ log.most →
-    room_after ≡ room → IsLogging a log_after room_after
-logging_more t a log log_after room room_after key directory reports valid logging is most_is named_is gate_is fits room_is = record {
+    room_after ≡ room → log_after.marks.settings ≡ a.listing.settings → log_after.marks.passed ≡ length a.listing.events → IsLogging a log_after room_after
+logging_more t a log log_after room room_after key directory reports valid logging is most_is named_is gate_is fits room_is same passed = record {
   most = most_is ∙ logging.most ∙ ap (λ (l : Listing). most_record l.settings) (sym is);
   named = omega (arith, named_is);
   near = omega (arith, gate_is, fits, logging.near, logging.most, most_few t.listing.settings valid, ap (λ (l : Listing). length l.events) is, length-append t.listing.events (key ∷ []));
   roomy = omega (arith, most_is, room_is, logging.roomy);
+  same = same;
+  passed = passed;
 }
 
 -- ---- an append

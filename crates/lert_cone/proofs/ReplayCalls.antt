@@ -4,13 +4,14 @@ use Rattle.std.specs.List.{length_refill}
 use Rattle.lert_base.specs.Packet.{Packet, events_of}
 use Rattle.lert_bay.specs.Files.{Files, IfTold}
 use Rattle.lert_bay.specs.Images.{Lasts}
-use Rattle.lert_bay.specs.Kept.{Bays}
-use Rattle.lert_bay.proofs.KeptLaws.{IsLawful}
+use Rattle.lert_bay.specs.Kept.{Bays, CallsBay, KeepsBay}
+use Rattle.lert_bay.proofs.KeptLaws.{IsLawful, calls, calls_as, calls_on}
 use Rattle.lert_gatelog.specs.Gated.{IsClosed, Log, next_gate}
 use Rattle.lert_gatelog.specs.Kept.{IsWhollySettled}
 use Rattle.lert_journal.specs.Journal.{HoldsPacket}
 use Rattle.lert_reports.specs.declared.log_point.LogPoint.{LogPoint}
 use Rattle.lert_spec.specs.declared.numbers.Numbers.{Numbers}
+use Rattle.lert_cone.specs.declared.marks.Mark.{Mark}
 use Rattle.lert_cone.specs.declared.state.ConeState.{ConeState}
 use Rattle.lert_cone.specs.declared.state.ConeState.TheVariants.{Replaying}
 use Rattle.lert_cone.specs.declared.tally.TakeFault.{TakeFault}
@@ -26,11 +27,24 @@ use Rattle.lert_cone.specs.Stands.{Standing}
 use Rattle.lert_cone.specs.Takes.{Workplace, ReplaysKeys}
 use Rattle.lert_cone.specs.Tally.{Tallied, IsRecounted}
 use Rattle.lert_cone.specs.Wrote.{LeavesAlone}
-use Rattle.lert_cone.proofs.Calls.{now_since, alone_on, alone_read}
+use Rattle.lert_cone.proofs.Calls.{now_since, alone_on, alone_reading}
 use Rattle.lert_cone.proofs.GateLaws.{ends_there, keys_past, keys_next}
+use Rattle.lert_cone.proofs.MarkLaws.{next_holds}
 use Rattle.lert_cone.proofs.ReplayLaws.{journal_on_way, on_way_read, sound_recounted}
 use Rattle.lert_cone.proofs.ReplayStands.{next_there, read_settled, shut_there}
 use Rattle.lert_cone.proofs.ReplayStep.{told_once}
+
+-- bays, seen by these members
+abbrev pub bays_of : {B : Type 0} → (B → ℕ) → (B → ℕ) → (B → Option Files) → (B → Files → Type 0) → (B → ℕ) → (B → ℕ → Files → Type 0) → (B → ℕ → ℕ) → Bays B
+bays_of faults mark files leaves moment left_since handed_out = record {
+  faults = faults;
+  mark = mark;
+  files = files;
+  leaves = leaves;
+  moment = moment;
+  left_since = left_since;
+  handed_out = handed_out;
+}
 
 -- what a cone is seen as
 abbrev pub seen_as : {B : Type 0} → B → B → Tallied → ℕ → ConeState → Option Packet → ℕ → LogPlace → LogPoint → Standing B
@@ -111,11 +125,17 @@ module _ {B : Type 0} (bays : Bays B) (lawful : IsLawful bays) where
     pub read_unwritten : IsUnwritten bays bay bay_read
     read_unwritten = record { seen = read.reads.seen; images = read.reads.images; moments = read.reads.moments }
 
+    -- and calls behind that hand out no byte of the journal
+    pub calls_behind : (after : B) (First Other : Type 0) → (Other → First) → KeepsBay bays bay_read after First → CallsBay bays bay after Other
+    calls_behind after First Other turned keeps =
+        calls_on bays lawful bay bay_read after Failed Other read.reads.kept
+        (calls_as bays lawful bay_read after First Other turned (calls bays bay_read after First keeps))
+
     -- and calls behind that leave a file alone
     pub alone_behind : (file : ℕ) (after : B) → LeavesAlone bays file bay_read after → LeavesAlone bays file bay after
     alone_behind file after left =
         alone_on bays lawful file bay bay_read after
-        (alone_read bays lawful file bay bay_read _ read.reads) left
+        (alone_reading bays lawful file bay bay_read _ read.reads) left
 
     -- no flush comes with its keys
     pub keys_unwritten : (s : Numbers) (n n0 : ℕ) (packet : Packet) (keys : List ℕ) (new : B) → keys ≡ packet.keys → last_flush s (n + length packet.keys) ≤ max n0 n →
@@ -188,10 +208,11 @@ module _ {B : Type 0} (bays : Bays B) (lawful : IsLawful bays) where
 
         pub keys_stay : (packet : Packet) → HoldsPacket t.listing.settings t.listing.cone (most_payload t.listing.settings) (seen 0) gate packet → (keys : List ℕ) →
             keys ≡ packet.keys →
-            (buffer : ℕ) (new : Workplace B) (result : Result (Unit {0}) TakeFault) →
-            ReplaysKeys bays last.n0 keys (record { bay = bay_read; counts = t; log = log; room = buffer }) new result →
+            (mark : Mark) → mark.gate ≡ gate → mark.first ≡ length t.listing.events + 1 → (buffer : ℕ) (new : Workplace B) (result : Result (Unit {0}) TakeFault) →
+            ReplaysKeys bays last.n0 mark keys (record { bay = bay_read; counts = t; log = log; room = buffer }) new result →
             StaysSound bays t.listing.settings t.listing.cone history bay new.bay
-        keys_stay packet holds keys keys_are buffer new result did =
+        keys_stay packet holds keys keys_are mark gate_is first_is buffer new result did =
             with_keys packet holds keys keys_are (λ told_read next is on_read.
             stays_on t.listing.settings t.listing.cone history bay bay_read new.bay read.reads.kept.time.later did.keeps.journal.time read_stays
-            (stays_by t.listing.settings t.listing.cone history bay_read new.bay did.keeps.journal.time.later (did.each_moment seen told_read history (events_of next.rest) is on_read)))
+            (stays_by t.listing.settings t.listing.cone history bay_read new.bay did.keeps.journal.time.later (did.each_moment seen told_read history (events_of next.rest) is
+            (next_holds history done t.listing.events gate packet keys mark past next keys_are gate_is first_is) on_read)))

@@ -16,6 +16,7 @@ use Rattle.lert_spec.specs.Limits.{IsValid}
 use Rattle.lert_cone.specs.Framed.{last_flush}
 use Rattle.lert_cone.specs.InStep.{IsInStep, IsPartway}
 use Rattle.lert_cone.specs.Listing.{Listing}
+use Rattle.lert_cone.specs.Marks.{AreMarked, Marked}
 use Rattle.lert_cone.specs.Record.{LogPlace}
 use Rattle.lert_cone.specs.Replay.{IsOnWay, IsPast, IsNext, MayFollow, ReplayLeavesAt}
 use Rattle.lert_cone.specs.Sound.{IsJournal, IsSound, but_last}
@@ -76,6 +77,31 @@ module _ (leaves : Files → Type 0) (seen : Files) (history : List Packet) (lis
           journal_settled = record { within = step.journal_settled.within; same = λ image may. step.journal_settled.same image (fewer image may) };
           log_settled = record { within = step.log_settled.within; same = λ image may. step.log_settled.same image (fewer image may) };
           reports_are = step.reports_are;
+          begins = step.begins;
+          marked = step.marked;
+        };
+      }
+
+  -- and so with other marks of the history's records
+  pub on_way_marked : (marks : Marked) → AreMarked history marks → IsOnWay leaves seen history listing rows reports (record log { marks = marks }) n0
+  on_way_marked marks marked =
+      let step = on_way.in_step in
+      record {
+        n0_most = on_way.n0_most;
+        n0_least = on_way.n0_least;
+        closed_behind = on_way.closed_behind;
+        in_step = record {
+          logged = step.logged;
+          log_of = step.log_of;
+          named_is = step.named_is;
+          journal = step.journal;
+          log_there = step.log_there;
+          frames = step.frames;
+          journal_settled = step.journal_settled;
+          log_settled = step.log_settled;
+          reports_are = step.reports_are;
+          begins = step.begins;
+          marked = marked;
         };
       }
 
@@ -108,7 +134,7 @@ module _ (leaves : Files → Type 0) (seen : Files) (history : List Packet) (lis
       let whole : listing.closed ≡ true → take (max n0 (length listing.events)) (events_of history) ≡ events_of history =
       λ ended. take_all (max n0 (length listing.events)) (events_of history) (omega (arith, on_way.closed_behind ended)) in
       sound_of s listing.cone history (take (max n0 (length listing.events)) (events_of history)) rows listing.closed on_way.in_step.logged log.gate valid (subst (λ n. IsAt s n rows)
-      (sym long) at) partway whole on_way.in_step.log_of image
+      (sym long) at) partway whole on_way.in_step.log_of on_way.in_step.begins image
       (on_way.in_step.journal image may) (on_way.in_step.log_there image may) (on_way.in_step.frames image may)
 
   -- where files and memory go together after more keys, by calls that may have written, the cone is on its way

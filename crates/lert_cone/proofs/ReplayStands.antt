@@ -28,6 +28,7 @@ use Rattle.lert_cone.specs.declared.tally.TakeFault.{TakeFault}
 use Rattle.lert_cone.specs.declared.tally.TakeFault.TheVariants.{Failed as TakeFailed, Unsound as TakeUnsound}
 use Rattle.lert_cone.specs.History.{most_payload}
 use Rattle.lert_cone.specs.Listing.{Listing}
+use Rattle.lert_cone.specs.Marks.{unmarked}
 use Rattle.lert_cone.specs.Record.{LogPlace}
 use Rattle.lert_cone.specs.Replay.{IsOnWay, IsPast, IsNext, ReplayLeavesAt}
 use Rattle.lert_cone.specs.Replays.{Replays, IsThere, WhyRefused, LeavesBehind, of_take_fault, of_log_fault}
@@ -160,10 +161,10 @@ module _ {B : Type 0} (files : B → Option Files) (leaves : B → Files → Typ
   pub adopted_cone : (mark : B → ℕ) (bay made : B) (s : Numbers) (cone : ℕ) (tally : Tallied) (journal : Log) (log : LogPlace) (last : LogPoint) (room keys_room : ℕ) → IsValid s
       → tally.listing ≡ record { settings = s; cone = cone; events = []; closed = last.closed } → IsRecounted tally last.n0 → journal ≡ record {
         file = 0;
-        gate = last.offset;
+        gate = 32;
         most = most_payload s;
-      } → last.offset ≡ 32 → last.log_end ≤ 2 ^ 62
-      → log ≡ record { gate = last.log_end; most = most_record s; named = length tally.due.reports } → room ≡ room_of s → keys_room ≡ 4 * s.packet → made ≡ bay
+      } → last.log_end ≤ 2 ^ 62
+      → log ≡ record { gate = last.log_end; most = most_record s; named = length tally.due.reports; marks = unmarked s } → room ≡ room_of s → keys_room ≡ 4 * s.packet → made ≡ bay
       → IfTold (files bay) (λ seen. IsWhollySettled (leaves bay) seen 0) → IsShutIfTold (files bay) (leaves bay) 1 last.log_end
       → IsCone files leaves faults mark (record {
         bay = bay;
@@ -178,7 +179,7 @@ module _ {B : Type 0} (files : B → Option Files) (leaves : B → Files → Typ
         log = log;
         last = last;
       }) tally journal room keys_room
-  adopted_cone mark bay made s cone tally journal log last room keys_room valid is recounted journal_is offset_is reach log_is room_is keys_room_is made_is settled shut =
+  adopted_cone mark bay made s cone tally journal log last room keys_room valid is recounted journal_is reach log_is room_is keys_room_is made_is settled shut =
       replaying_cone mark
       (record {
         bay = bay;
@@ -201,13 +202,15 @@ module _ {B : Type 0} (files : B → Option Files) (leaves : B → Files → Typ
         counted = ap (λ (l : Listing). length l.events) is;
         recounted = recounted;
         closed = ap (λ (l : Listing). l.closed) is;
-        near = omega (arith, ap (λ (j : Log). j.gate) journal_is, offset_is);
+        near = omega (arith, ap (λ (j : Log). j.gate) journal_is);
         journal_settled = settled;
         logging = record {
           most = ap (λ (l : LogPlace). l.most) log_is ∙ ap (λ (l : Listing). most_record l.settings) (sym is);
           named = omega (arith, ap (λ (l : LogPlace). l.named) log_is);
           near = omega (arith, ap (λ (l : LogPlace). l.gate) log_is, reach);
           roomy = omega (arith, ap (λ (l : LogPlace). l.most) log_is, room_is);
+          same = ap (λ (l : LogPlace). l.marks.settings) log_is ∙ ap (λ (l : Listing). l.settings) (sym is);
+          passed = ap (λ (l : LogPlace). l.marks.passed) log_is ∙ ap (λ (l : Listing). length l.events) (sym is);
         };
         log_shut = subst (λ gate. IsShutIfTold (files bay) (leaves bay) 1 gate) (sym (ap (λ (l : LogPlace). l.gate) log_is)) shut;
       })
@@ -343,11 +346,13 @@ module _ {B : Type 0} (files : B → Option Files) (leaves : B → Files → Typ
         gate = last.log_end;
         most = most_record s;
         named = length reports;
+        marks = unmarked s;
       }
       → files bay ≡ Some seen → IsOnWay (leaves bay) seen history (record { settings = s; cone = cone; events = []; closed = last.closed }) rows reports (record {
         gate = last.log_end;
         most = most_record s;
         named = length reports;
+        marks = unmarked s;
       }) last.n0
       → Replays files leaves (record {
         bay = bay;

@@ -6,7 +6,7 @@ use Rattle.lert_bay.specs.Files.{Files, IfTold, Turns, Torn}
 use Rattle.lert_bay.specs.Images.{Lasts}
 use Rattle.lert_bay.specs.Settled.{part, IsSettled}
 use Rattle.lert_bay.proofs.Lasting.{lasts_none, lasts_on}
-use Rattle.lert_bay.specs.Kept.{Bays, OnlyReads}
+use Rattle.lert_bay.specs.Kept.{Bays, ReadsBay}
 use Rattle.lert_gatelog.specs.Kept.{KeepsOthers, IsWhollySettled, OthersStay}
 use Rattle.lert_gatelog.proofs.GatedLaws.{byte_of_part, part_within, closed_behind}
 use Rattle.lert_rows.specs.Landing.{KeepsRest}
@@ -96,7 +96,7 @@ leaves_others log file other before after leaves_before leaves_after first last 
 }
 
 -- reads leave all files alone
-pub leaves_read : {B : Type 0} (bays : Bays B) (file : ℕ) (before after : B) (Failed : Type 0) → OnlyReads bays before after Failed →
+pub leaves_read : {B : Type 0} (bays : Bays B) (file : ℕ) (before after : B) (Failed : Type 0) → ReadsBay bays before after Failed →
     ((image : Files) → bays.leaves after image → bays.left_since after (bays.moment before) image) → LeavesAlone bays file before after
 leaves_read bays file before after Failed read now = record {
   seen = record { told = λ old is. (old, read.seen ∙ is, refl); untold = λ none. read.seen ∙ none };

@@ -6,20 +6,22 @@ use Rattle.lert_bay.specs.declared.bay.TheConstants.{JOURNAL, LOG, FRAMES}
 use Rattle.lert_gatelog.specs.Kept.{InEach, IsWhollySettled}
 use Rattle.lert_rows.specs.declared.bin_at.BinAt.{BinAt}
 use Rattle.lert_rows.specs.Rows.{HoldsBins}
-use Rattle.lert_reports.specs.Log.{HasLog, listed_in, most_record}
+use Rattle.lert_reports.specs.Log.{HasLog, last_n0, listed_in, most_record}
 use Rattle.lert_reports.specs.LogText.{LogRecord}
 use Rattle.lert_spec.specs.declared.numbers.Numbers.{Numbers}
 use Rattle.lert_spec.specs.declared.report.Report.{Report}
 use Rattle.lert_cone.specs.Framed.{last_flush}
 use Rattle.lert_cone.specs.Listing.{Listing, reports_of}
 use Rattle.lert_cone.specs.Logged.{IsLogOf}
+use Rattle.lert_cone.specs.Marks.{AreMarked, NamesRecord, last_mark}
 use Rattle.lert_cone.specs.Record.{LogPlace}
 use Rattle.lert_cone.specs.Sound.{IsJournal, but_last}
 use Rattle.lert_cone.specs.Tally.{Tallied}
 
 -- In every image the journal has these packets, the log has the records of the keys so far, and the frames that the rows
 -- name hold their bins. The journal and the log are settled from their first byte to their last. The records name as
--- many reports as the log's place says, and memory has the reports of the keys so far.
+-- many reports as the log's place says, and memory has the reports of the keys so far. The last record says where the journal's
+-- record begins that holds the first key of level 0 at its place, and memory has the same of the newest bins.
 pub record IsInStep (leaves : Files → Type 0) (seen : Files) (history : List Packet) (listing : Listing) (rows : List (List BinAt)) (reports : List Report) (log : LogPlace) : Type 0 where
   pub logged : List LogRecord
   pub log_of : IsLogOf listing.settings listing.cone listing.events rows listing.closed logged
@@ -30,6 +32,8 @@ pub record IsInStep (leaves : Files → Type 0) (seen : Files) (history : List P
   pub journal_settled : IsWhollySettled leaves seen JOURNAL
   pub log_settled : IsWhollySettled leaves seen LOG
   pub reports_are : reports ≡ reports_of listing
+  pub begins : NamesRecord listing.settings history (last_n0 logged) (last_mark logged)
+  pub marked : AreMarked history log.marks
 
 -- these keys and then these begin those of the packets, and no flush of an earlier packet than the last one is left
 pub record IsPartway (s : Numbers) (history : List Packet) (events more : List ℕ) : Type 0 where
@@ -38,12 +42,14 @@ pub record IsPartway (s : Numbers) (history : List Packet) (events more : List �
   pub late : last_flush s (length (events_of (but_last history))) ≤ last_flush s (length events)
 
 -- what is so of a cone's log before its next record: the records name none but the cone's reports, a key takes a bounded
--- number of bytes of the log, and the buffer has room for a record
+-- number of bytes of the log, and the buffer has room for a record. The marks are of these settings, after all keys
 pub record IsLogging (tally : Tallied) (log : LogPlace) (room : ℕ) : Type 0 where
   pub most : log.most ≡ most_record tally.listing.settings
   pub named : log.named ≤ length tally.due.reports
   pub near : log.gate ≤ 2 ^ 62 + 134217728 * length tally.listing.events
   pub roomy : log.most + 5 ≤ room
+  pub same : log.marks.settings ≡ tally.listing.settings
+  pub passed : log.marks.passed ≡ length tally.listing.events
 
 -- the files as they are made: in every image the journal has no packet and the log no record, and both are settled
 pub record AreNew (s : Numbers) (cone : ℕ) (leaves : Files → Type 0) (seen : Files) : Type 0 where

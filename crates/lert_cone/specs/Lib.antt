@@ -7,6 +7,7 @@ pub mod InStep
 pub mod Listing
 pub mod Locked
 pub mod Logged
+pub mod Marks
 pub mod Reads
 pub mod Record
 pub mod Replay

@@ -12,6 +12,7 @@ use Rattle.lert_spec.specs.Limits.{IsValid}
 use Rattle.lert_spec.specs.Mix.{cone_of}
 use Rattle.lert_reports.specs.declared.log_point.LogPoint.{LogPoint}
 use Rattle.lert_cone.specs.History.{most_payload}
+use Rattle.lert_cone.specs.Marks.{MayName}
 
 -- the bytes of the greatest text that is appended, a packet's or a log record's: its length, its payload and the next gate
 abbrev pub room_of : Numbers → ℕ
@@ -39,9 +40,8 @@ pub record IsRestored (s : Numbers) (cone n0 : ℕ) (young : Young) (levels : On
   pub keys_are : keys ≡ record { keys = []; room = 4 * s.packet }
   pub roomy : room ≡ room_of s
 
--- what a log may say from which a cone goes on: a place that a cone can have, and the journal from its first packet on
+-- what a log may say from which a cone goes on: a place that a cone can have, and a record of the journal that keeps the rules
 pub record IsPointOf (s : Numbers) (last : LogPoint) : Type 0 where
   pub within : last.n0 ≤ capacity s
-  pub offset_is : last.offset ≡ 32
-  pub first_is : last.first ≡ 1
+  pub names : MayName s last.n0 (record { gate = last.offset; first = last.first })
   pub reach : last.log_end ≤ 2 ^ 62

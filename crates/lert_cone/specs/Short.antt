@@ -7,7 +7,7 @@ use Rattle.lert_spec.proofs.LimitLaws.{capacity_to}
 use Rattle.lert_cone.specs.Stands.{Standing, StandsFor}
 
 -- packets with keys are no more than these keys
-few : (history : List Packet) → All (λ packet. 0 < length packet.keys) history → length history ≤ length (events_of history)
+pub few : (history : List Packet) → All (λ packet. 0 < length packet.keys) history → length history ≤ length (events_of history)
 few [] some = omega arith
 few (packet ∷ history) some =
     omega (arith, All-head (λ p. 0 < length p.keys) packet history some, few history (All-tail (λ p. 0 < length p.keys) packet history some), length-append packet.keys (events_of history))

@@ -19,6 +19,7 @@ use Rattle.lert_spec.specs.Edges.{capacity}
 use Rattle.lert_spec.specs.Look.{look, closing}
 use Rattle.lert_cone.specs.Framed.{last_flush}
 use Rattle.lert_cone.specs.History.{most_payload, end_of}
+use Rattle.lert_cone.specs.Marks.{NamesRecord, last_mark}
 
 -- ---- the journal
 
@@ -59,7 +60,8 @@ pub record HoldsDirectory (s : Numbers) (events : List ℕ) (directory : List (L
 -- the rules. The last of them was written after n0 events, 0 where there is none. These are no more than those of the list,
 -- and no flush position lies between them and the last packet. The frames that it names hold the bins of the first n0
 -- events, and the reports of all records are those that the definition makes of these, or, behind a closing record, which
--- stands behind all events, those at the end.
+-- stands behind all events, those at the end. The last record says where the journal's record begins that holds the first key
+-- of level 0 after n0 events.
 pub record IsSound (s : Numbers) (cone : ℕ) (history : List Packet) (files : Files) : Type 0 where
   pub journal : IsJournal s cone history (files JOURNAL)
   pub logged : List LogRecord
@@ -70,6 +72,7 @@ pub record IsSound (s : Numbers) (cone : ℕ) (history : List Packet) (files : F
   pub frames : HoldsDirectory s (take (last_n0 logged) (events_of history)) (last_directory s logged) (files FRAMES)
   pub reports_are : listed_in logged ≡ (if is_closed logged then closing s (events_of history) else look s (take (last_n0 logged) (events_of history)))
   pub closed_behind : is_closed logged ≡ true → last_n0 logged ≡ length (events_of history)
+  pub begins : NamesRecord s history (last_n0 logged) (last_mark logged)
 
 -- sound, and its last record is a closing one or not: a closing one stands behind all events, and where there is none the
 -- last one stands at the last flush position

@@ -5,8 +5,8 @@
 //! that the definition makes of the keys, so they are in time.
 //!
 //! `Tally` counts the keys over level 0 and the levels on the bay, and `Due` takes the totals of a flush as reports.
-//! `ReportLog` writes the records of the log: one behind each flush, and one at the end. The command that runs a trace
-//! through all cones stands on this crate.
+//! `ReportLog` writes the records of the log: one behind each flush, and one at the end. `Marks` keeps which record of the
+//! journal each is to name. The command that runs a trace through all cones stands on this crate.
 #![tactic(auto)]
 
 mod acked;
@@ -14,6 +14,7 @@ mod cone;
 mod due;
 mod headers;
 mod keys;
+mod marks;
 mod packets;
 mod refusal;
 mod report_log;

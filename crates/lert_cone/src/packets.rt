@@ -3,8 +3,10 @@
 ghost use Rattle.std.specs.Prelude.{◌≡◌, ◌⊎◌, ℕ, ◌+◌, ◌*◌, ◌<◌, ◌≤◌, ◌^◌, length, true, false, IfOk, IsErrOf, IsFalse, IsTrue, MatchOption};
 ghost use Rattle.lert_base.specs.Entries.{packet_of};
 ghost use Rattle.lert_bay.specs.Files.{Files, IfTold};
+ghost use Rattle.lert_bay.specs.Handed.{ReadsUpTo};
 ghost use Rattle.lert_bay.specs.declared.bay.TheConstants.{JOURNAL};
 ghost use Rattle.lert_gatelog.specs.Gated.{IsClosed, next_gate};
+ghost use Rattle.lert_journal.specs.Cost.{entry_cost};
 ghost use Rattle.lert_journal.specs.Journal.{HoldsPacket};
 ghost use Rattle.lert_journal.specs.Payload.{IsJournaled, payload_of};
 ghost use Rattle.lert_spec.specs.Edges.{capacity};
@@ -57,6 +59,9 @@ pub fn read_packet<B: Bay, T: CountTable>(
         (journal.old.gate < journal.new.gate) × (journal.new.gate ≤ journal.old.gate + 13 + 32 * tally.now.listing.settings.packet)) }
     ensures waits { IfOk result (λ found. IsFalse found → (journal.new ≡ journal.old) × (entry.new ≡ entry.old)) }
     ensures keeps { OnlyReadsJournal B.Bay bay.old bay.new journal.old journal.new entry.old.keys.room entry.new.keys.room (IsErrOf result LogFault.Failed) }
+
+    // No byte of a record is read twice.
+    ensures handed { ReadsUpTo JOURNAL (entry_cost (most_payload tally.now.listing.settings) (packet_of entry.new) result) (B.handed_out bay.old) (B.handed_out bay.new) }
 {
     let settings = tally.settings();
     let n = tally.len();

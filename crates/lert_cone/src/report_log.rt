@@ -5,21 +5,26 @@ ghost use Rattle.lert_bay.specs.Files.{IfTold};
 ghost use Rattle.lert_bay.specs.declared.bay.TheConstants.{LOG};
 ghost use Rattle.lert_gatelog.specs.Gated.{IsClosed};
 ghost use Rattle.lert_gatelog.specs.Kept.{InEach};
+ghost use Rattle.lert_spec.specs.Edges.{capacity};
 ghost use Rattle.lert_cone.specs.Appends.{AppendsRecord};
+ghost use Rattle.lert_cone.specs.Marks.{unmarked, HasPassed};
 ghost use Rattle.lert_cone.specs.Record.{payload_len};
 
-use lert_base::Report;
+use crate::marks::{Mark, Marks};
+use lert_base::{Report, Settings};
 use lert_bay::{Bay, LOG};
 use lert_gatelog::GateLog;
 use lert_io::Failed;
-use lert_reports::{FIRST, LogKind, OFFSET, write_log};
+use lert_reports::{LogKind, write_log};
 use std::marker::Model;
 
-/// A log at its closed gate, and how many reports its records name. Seen as that, with the greatest length of a payload.
+/// A log at its closed gate, how many reports its records name, and the marks of the journal's records that the next one may
+/// name. Seen as that, with the greatest length of a payload.
 #[derive(Drop)]
 pub struct ReportLog {
     log: GateLog,
     named: usize,
+    marks: Marks,
 }
 
 impl Model for ReportLog {
@@ -29,27 +34,32 @@ impl Model for ReportLog {
 
     ghost Value = { LogPlace };
 
-    ghost view = { λ l. record { gate = l.log.gate; most = l.log.most; named = l.named } };
+    ghost view = { λ l. record { gate = l.log.gate; most = l.log.most; named = l.named; marks = l.marks } };
 
     ghost invariant = { λ l. l.log.file ≡ LOG };
 }
 
 impl ReportLog {
-    /// The log at its first gate: no record names a report yet.
-    pub fn new(log: GateLog) -> ReportLog
+    /// The log of a cone of these settings at its first gate: no record names a report yet, and no key is passed.
+    pub fn new(log: GateLog, settings: &Settings) -> ReportLog
         requires { log.file ≡ LOG }
-        ensures { result ≡ record { gate = log.gate; most = log.most; named = 0 } }
+        ensures { result ≡ record { gate = log.gate; most = log.most; named = 0; marks = unmarked settings.now } }
     {
-        ReportLog { log, named: 0 }
+        ReportLog {
+            log,
+            named: 0,
+            marks: Marks::new(settings),
+        }
     }
 
-    /// The log at a closed gate, whose records name so many reports. Nothing is read.
-    pub fn at(gate: u64, most: u32, named: usize) -> ReportLog
-        ensures { result ≡ record { gate = gate; most = most; named = named } }
+    /// The log at a closed gate, whose records name so many reports. No key is passed. Nothing is read.
+    pub fn at(settings: &Settings, gate: u64, most: u32, named: usize) -> ReportLog
+        ensures { result ≡ record { gate = gate; most = most; named = named; marks = unmarked settings.now } }
     {
         ReportLog {
             log: GateLog::at_gate(LOG, gate, most),
             named,
+            marks: Marks::new(settings),
         }
     }
 
@@ -60,8 +70,18 @@ impl ReportLog {
         self.log.gate()
     }
 
-    /// Appends a record behind `n0` events: it names the frames of the directory, and the reports behind those that earlier
-    /// records name. `buffer` holds five bytes more than the greatest payload; any bytes are in it afterwards. After
+    /// Passes the keys up to position `last`, which are those of the journal's record at `mark`.
+    pub fn pass(&mut self, last: u64, mark: Mark)
+        requires forward { self.old.marks.passed ≤ last }
+        requires within { last ≤ capacity self.old.marks.settings }
+        ensures rest { self.new ≡ record self.old { marks = self.new.marks } }
+        ensures passed { HasPassed last mark self.old.marks self.new.marks }
+    {
+        self.marks.pass(last, mark);
+    }
+
+    /// Appends a record behind `n0` events: it names the journal's record that holds the first key of level 0, the frames of the
+    /// directory, and the reports behind those that earlier records name. `buffer` holds five bytes more than the greatest payload; any bytes are in it afterwards. After
     /// `Failed` the log stands where it stood. Four calls of the bay, two of them syncs. Takes no memory.
     pub fn append<B: Bay>(
         &mut self,
@@ -82,7 +102,8 @@ impl ReportLog {
         // Its clause bounds the payload's length.
         let _ = self.log.gate();
         let new = &reports[self.named..];
-        let len = write_log(kind, n0, OFFSET, FIRST, directory, new, buffer);
+        let mark = self.marks.oldest();
+        let len = write_log(kind, n0, mark.gate, mark.first, directory, new, buffer);
         self.log.append(bay, &buffer[..len])?;
         // Behind the append: one that failed names these reports again.
         self.named = reports.len();

@@ -33,6 +33,8 @@ impl Bay for GarbledBay {
 
     ghost left_since = { λ _ t image. ⊥ };
 
+    ghost handed_out = { λ _ _. 0 };
+
     ghost as_read = { λ bay seen told. none-some seen told };
 
     ghost since_now = { λ bay image never. never };

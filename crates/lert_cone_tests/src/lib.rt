@@ -1,4 +1,5 @@
-//! Tests of one cone over its files: the bytes that it leaves, when keys are reported, how it fills, and what failed calls leave.
+//! Tests of one cone over its files: the bytes that it leaves, which record of the journal its log names, when keys are reported,
+//! how it fills, and what failed calls leave.
 //!
 //! No crate stands on this one.
 #![tactic(auto)]
@@ -11,5 +12,7 @@ mod faults;
 mod files;
 #[cfg(test)]
 mod garbled;
+#[cfg(test)]
+mod records;
 #[cfg(test)]
 mod reports;

@@ -14,4 +14,4 @@ AreDealt remaining seed events sources = AreBytesOf remaining sources (map trace
 
 -- a bay in memory as it is made
 abbrev pub new_bay : Disk
-new_bay = record { files = untouched ∷ untouched ∷ untouched ∷ []; past = []; plan = calm; faults = 0; mark = 0 }
+new_bay = record { files = untouched ∷ untouched ∷ untouched ∷ []; past = []; plan = calm; faults = 0; mark = 0; handed = 0 ∷ 0 ∷ 0 ∷ [] }

@@ -11,15 +11,14 @@ use Rattle.lert_rows.specs.Named.{AreFramesAt, IsDirectory}
 use Rattle.lert_rows.specs.Ranges.{Range, ranges}
 use Rattle.lert_rows.proofs.PlacedLaws.{directory_of_frames, ranges_counted}
 use Rattle.lert_rows.proofs.RangeLaws.{cuts_none, edge_within}
-use Rattle.lert_reports.specs.Log.{before_of, is_closed, last_directory, last_n0, AreRecords}
+use Rattle.lert_reports.specs.Log.{before_of, is_closed, last_directory, last_first, last_n0, last_offset, AreRecords}
 use Rattle.lert_reports.specs.LogRules.{AreFrames, KeepsRules}
 use Rattle.lert_reports.specs.LogText.{LogRecord, directory_bytes}
-use Rattle.lert_reports.proofs.LogLaws.{last_directory-push, last_n0-push}
+use Rattle.lert_reports.proofs.LogLaws.{last_directory-push, last_first-push, last_n0-push, last_offset-push}
 use Rattle.lert_files.specs.declared.fault.ReopenFault.{ReopenFault}
 use Rattle.lert_reports.specs.declared.log_point.LogPoint.{LogPoint}
-use Rattle.lert_files.specs.Read.{last_first, last_offset, IsPoint, IsReadOf}
+use Rattle.lert_files.specs.Read.{IsPoint, IsReadOf}
 use Rattle.lert_files.proofs.RecordsLaws.{walk}
-use Rattle.lert_files.proofs.StepLaws.{last_first-push, last_offset-push}
 
 -- ---- where the journal is to be read from
 

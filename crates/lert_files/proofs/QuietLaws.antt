@@ -4,8 +4,9 @@ use Rattle.std.specs.Prelude.{OnOk, OnErr}
 use Rattle.lert_bay.specs.declared.bay.TheConstants.{JOURNAL, LOG, FRAMES}
 use Rattle.lert_bay.specs.Files.{Files, IfTold}
 use Rattle.lert_bay.specs.Images.{Elapses, KeepsImages, Settles}
-use Rattle.lert_bay.specs.Kept.{Bays, OnlyReads}
-use Rattle.lert_bay.proofs.KeptLaws.{IsLawful, keeps_as, keeps_call, keeps_on}
+use Rattle.lert_bay.specs.Handed.{ReadsUpTo}
+use Rattle.lert_bay.specs.Kept.{Bays, OnlyReads, ReadsBay}
+use Rattle.lert_bay.proofs.KeptLaws.{IsLawful, apart_from_log, calls_as, calls_call, calls_on, only_reads_of, reads}
 use Rattle.lert_io.specs.Fault.{HasRisen}
 use Rattle.lert_files.specs.Opened.{IsAsRead, WritesNothing}
 
@@ -26,6 +27,13 @@ all_durable (Ok done) seen first second third last journal log frames = λ image
     record { journal = journal.durable image (log.was image before); log = log.durable image before; frames = frames.durable image may }
 all_durable (Err fault) seen first second third last journal log frames = tt
 
+-- ---- a read of the log
+
+-- it hands out no byte of the journal
+pub log_reads : {B : Type 0} (bays : Bays B) (file most : ℕ) (before after : B) (Failed : Type 0) → file ≡ LOG → ReadsBay bays before after Failed →
+    ReadsUpTo file most (bays.handed_out before) (bays.handed_out after) → OnlyReads bays before after Failed
+log_reads bays file most before after Failed file_is one handed = only_reads_of bays before after Failed file most (λ same. apart_from_log (same ∙ file_is)) one handed
+
 -- ---- several calls
 
 module _ {B : Type 0} (bays : Bays B) (lawful : IsLawful bays) where
@@ -36,7 +44,7 @@ module _ {B : Type 0} (bays : Bays B) (lawful : IsLawful bays) where
       bays.faults before ≤ bays.faults after → (Failed → HasRisen (bays.faults before) (bays.faults after)) → bays.mark after ≡ bays.mark before →
       WritesNothing bays before after Failed
   quiet_sync result file before after Failed same settles stays elapsed never_falls failed mark = record {
-    kept = keeps_call bays lawful before after Failed elapsed never_falls failed mark;
+    kept = calls_call bays lawful before after Failed elapsed never_falls failed mark;
     seen = same;
     images = λ seen told image may. fewer_images result file (seen file) (bays.leaves before) (bays.leaves after) (settles seen told) stays image may;
     moments = λ seen told image since. elim (elapsed.known (bays.moment before) image (omega arith) since) [
@@ -46,18 +54,21 @@ module _ {B : Type 0} (bays : Bays B) (lawful : IsLawful bays) where
   }
 
   -- calls that read alone
-  pub quiet_reads : (before after : B) (Failed : Type 0) → OnlyReads bays before after Failed → WritesNothing bays before after Failed
-  quiet_reads before after Failed one = record {
+  pub quiet_reading : (before after : B) (Failed : Type 0) → ReadsBay bays before after Failed → WritesNothing bays before after Failed
+  quiet_reading before after Failed one = record {
     kept = one.kept;
     seen = one.seen;
     images = λ seen told image may. (one.images image).0 may;
     moments = λ seen told image since. one.moments image since;
   }
 
+  pub quiet_reads : (before after : B) (Failed : Type 0) → OnlyReads bays before after Failed → WritesNothing bays before after Failed
+  quiet_reads before after Failed one = quiet_reading before after Failed (reads bays before after Failed one)
+
   -- the same calls, seen as failed in other words
   pub quiet_as : (before after : B) (First Failed : Type 0) → (Failed → First) → WritesNothing bays before after First → WritesNothing bays before after Failed
   quiet_as before after First Failed turned one = record {
-    kept = keeps_as bays lawful before after First Failed turned one.kept;
+    kept = calls_as bays lawful before after First Failed turned one.kept;
     seen = one.seen;
     images = one.images;
     moments = one.moments;
@@ -67,7 +78,7 @@ module _ {B : Type 0} (bays : Bays B) (lawful : IsLawful bays) where
   pub quiet_on : (before between after : B) (First Failed : Type 0) → WritesNothing bays before between First → WritesNothing bays between after Failed →
       WritesNothing bays before after Failed
   quiet_on before between after First Failed one two = record {
-    kept = keeps_on bays lawful before between after First Failed one.kept two.kept;
+    kept = calls_on bays lawful before between after First Failed one.kept two.kept;
     seen = two.seen ∙ one.seen;
     images = λ seen told image may. one.images seen told image (two.images seen (one.seen ∙ told) image may);
     moments = λ seen told image since. elim (two.kept.time.known (bays.moment before) image one.kept.time.later since) [

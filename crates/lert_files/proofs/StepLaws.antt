@@ -10,7 +10,6 @@ use Rattle.std.proofs.lemmas.List.{append-nil, take_at}
 use Rattle.std.proofs.lemmas.List.Concat.{flat_map-cons}
 use Rattle.std.proofs.lemmas.List.Folds.{Any-from_list_any, list_any_at}
 use Rattle.std.proofs.lemmas.List.Quantifiers.{all_pairs_push}
-use Rattle.std.proofs.lemmas.List.Sums.{fold_push}
 use Rattle.std.proofs.lemmas.Map.Made.{IsDistinct-from_AllPairs}
 use Rattle.std.proofs.lemmas.Map.Steps.{length-le_from_distinct_below}
 use Rattle.byteorder.specs.Endian.{little_bytes}
@@ -28,9 +27,10 @@ use Rattle.lert_reports.specs.declared.log.LogKind.{LogKind}
 use Rattle.lert_reports.specs.Log.{is_closed, is_closing, is_flush, flushes_in, last_at, last_n0, listed_in, most_record, log_header, before_of, AreRecords, HasLog, HasLogUpTo}
 use Rattle.lert_reports.specs.LogRules.{AreFrames, KeepsRules}
 use Rattle.lert_reports.specs.LogText.{LogRecord, directory_bytes, log_payload_of, report_bytes}
-use Rattle.lert_reports.proofs.LogLaws.{flushes_in-push, is_closed-push, last_directory-push, last_n0-push, listed_in-push, payloads-push, records_more, records_none}
+use Rattle.lert_reports.proofs.LogLaws.{flushes_in-push, is_closed-push, last_directory-push, last_first-push, last_n0-push}
+use Rattle.lert_reports.proofs.LogLaws.{last_offset-push, listed_in-push, payloads-push, records_more, records_none}
 use Rattle.lert_files.specs.declared.log_record.Progress.{Progress}
-use Rattle.lert_files.specs.Read.{last_first, last_offset, most_directory, steps, HasRead}
+use Rattle.lert_files.specs.Read.{most_directory, steps, HasRead}
 use Rattle.lert_files.specs.Repeated.{reports_from, AreNewThere}
 use Rattle.lert_files.proofs.RecordsLaws.{together}
 use Rattle.lert_files.proofs.RepeatLaws.{listed_more}
@@ -95,12 +95,6 @@ directory_there one payload n is n_is =
     ∙ (ap (take n) (append_assoc directory count reports) ∙ take_at directory (count ++ reports) n (sym n_is))
 
 -- ---- one record more
-
-pub last_offset-push : (records : List LogRecord) (one : LogRecord) → last_offset (records ++ one ∷ []) ≡ one.offset
-last_offset-push records one = fold_push (λ (earlier : ℕ) (record_ : LogRecord). record_.offset) 32 records one
-
-pub last_first-push : (records : List LogRecord) (one : LogRecord) → last_first (records ++ one ∷ []) ≡ one.first
-last_first-push records one = fold_push (λ (earlier : ℕ) (record_ : LogRecord). record_.first) 1 records one
 
 -- what is said behind a record that was read
 pub record IsAfter (progress next : Progress) (reports : List Report) (one : LogRecord) : Type 0 where

@@ -3,7 +3,7 @@ use Rattle.std.specs.Prelude.{◌≡◌, ℕ, List, Some, None}
 use Rattle.lert_base.specs.declared.kept.Kept.{Kept}
 use Rattle.lert_bay.specs.declared.bay.TheConstants.{JOURNAL, LOG, FRAMES}
 use Rattle.lert_bay.specs.Files.{Files, IfTold}
-use Rattle.lert_bay.specs.Kept.{Bays, KeepsBay}
+use Rattle.lert_bay.specs.Kept.{Bays, CallsBay}
 use Rattle.lert_rows.specs.declared.bin_at.BinAt.{BinAt}
 use Rattle.lert_rows.specs.declared.fault.FlushFault.{FlushFault}
 use Rattle.lert_rows.specs.declared.fault.FlushFault.TheVariants.{Failed as CheckFailed, Malformed as CheckMalformed}
@@ -57,7 +57,7 @@ pub record IsAsRead (seen image : Files) : Type 0 where
 -- Calls that write nothing: the files read as before. Where they are told, each image of each moment was one before, though
 -- there may be fewer afterwards, since a sync leaves fewer.
 pub record WritesNothing {B : Type 0} (bays : Bays B) (before after : B) (Failed : Type 0) : Type 0 where
-  pub kept : KeepsBay bays before after Failed
+  pub kept : CallsBay bays before after Failed
   pub seen : bays.files after ≡ bays.files before
   pub images : IfTold (bays.files before) (λ _. (image : Files) → bays.leaves after image → bays.leaves before image)
   pub moments : IfTold (bays.files before) (λ _. (image : Files) → bays.left_since after (bays.moment before) image → bays.leaves before image)

@@ -1,5 +1,5 @@
 -- What was read of a log, in the words of its records.
-use Rattle.std.specs.Prelude.{◌≡◌, ◌≢◌, ℕ, ◌+◌, ◌*◌, ◌^◌, ◌≤◌, Bool, true, cond, All, List, fold, slice_index}
+use Rattle.std.specs.Prelude.{◌≡◌, ◌≢◌, ℕ, ◌+◌, ◌*◌, ◌^◌, ◌≤◌, Bool, true, cond, All, List, slice_index}
 use Rattle.std.specs.List.{AllPairs}
 use Rattle.std.proofs.Common.{◌⊎◌}
 use Rattle.lert_gatelog.specs.Gated.{BreaksAt}
@@ -8,16 +8,8 @@ use Rattle.lert_spec.specs.declared.numbers.Numbers.{Numbers}
 use Rattle.lert_spec.specs.declared.report.Report.{Report}
 use Rattle.lert_spec.specs.Edges.{edge, capacity}
 use Rattle.lert_spec.specs.Mix.{cone_of}
-use Rattle.lert_reports.specs.Log.{AreRecords, before_of, is_closed, last_directory, last_n0, listed_in}
+use Rattle.lert_reports.specs.Log.{AreRecords, before_of, is_closed, last_directory, last_first, last_n0, last_offset, listed_in}
 use Rattle.lert_reports.specs.LogText.{LogRecord, directory_bytes}
-
--- from which place on the last record wants the journal to be read, behind its header where there is no record
-abbrev pub last_offset : List LogRecord → ℕ
-last_offset records = fold (λ earlier record_. record_.offset) 32 records
-
--- and from which position on, the first where there is no record
-abbrev pub last_first : List LogRecord → ℕ
-last_first records = fold (λ earlier record_. record_.first) 1 records
 
 -- this was read of records that keep the rules: the reports of all of them, and what the last one says
 pub record IsReadOf (s : Numbers) (cone n0 offset first : ℕ) (closed : Bool) (reports : List Report) (directory : List ℕ) (records : List LogRecord) : Type 0 where

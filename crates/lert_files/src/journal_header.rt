@@ -4,7 +4,8 @@ ghost use Rattle.std.specs.Prelude.{◌≡◌, ◌≢◌, ◌⊎◌, ℕ, ◌≤
 ghost use Rattle.lert_base.specs.declared.kept.Kept.{Kept as KeptOf};
 ghost use Rattle.lert_bay.specs.declared.bay.TheConstants.{JOURNAL};
 ghost use Rattle.lert_bay.specs.Files.{IfTold};
-ghost use Rattle.lert_bay.specs.Kept.{OnlyReads};
+ghost use Rattle.lert_bay.specs.Handed.{ReadsUpTo};
+ghost use Rattle.lert_bay.specs.Kept.{ReadsBay};
 ghost use Rattle.lert_files.specs.Headed.{BeginningLeaves, IsHeaded, HasOther, IsHeaderFault, IsOfHeader};
 
 use crate::fault::ReopenFault;
@@ -33,7 +34,8 @@ pub fn read_journal_header<B: Bay>(
 
     // Told or not, it is the bay or the journal that is refused.
     ensures fault { IfErr result (λ fault. (fault ≡ ReopenFault.Failed) ⊎ IsOfHeader fault) }
-    ensures only_reads { OnlyReads B.Bay bay.old bay.new (IsErrOf result ReopenFault.Failed) }
+    ensures only_reads { ReadsBay B.Bay bay.old bay.new (IsErrOf result ReopenFault.Failed) }
+    ensures handed { ReadsUpTo JOURNAL 32 (B.handed_out bay.old) (B.handed_out bay.new) }
 {
     // Its clause says that the numbers are valid.
     let _ = settings.numbers();

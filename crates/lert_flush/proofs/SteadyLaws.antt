@@ -140,7 +140,7 @@ module _ {B : Type 0} (bays : Bays B) (lawful : IsLawful bays) where
   -- reads of which one is said to have failed
   pub reads_failed : (before after : B) (First Failed : Type 0) → (Failed → HasRisen (bays.faults before) (bays.faults after)) → OnlyReads bays before after First → OnlyReads bays before after Failed
   reads_failed before after First Failed risen read = record {
-    kept = record { time = read.kept.time; never_falls = read.kept.never_falls; failed = risen; mark = read.kept.mark };
+    kept = record { time = read.kept.time; never_falls = read.kept.never_falls; failed = risen; mark = read.kept.mark; journal = read.kept.journal };
     seen = read.seen;
     images = read.images;
     moments = read.moments;

@@ -153,11 +153,13 @@ impl<B: Bay> Pieces<B> for FrameReader {
 
     ghost in_order = { λ r bay pieces told. frame_in_order (B.files bay) r pieces told };
 
-    ghost keeps_same = { λ bay. reads_none (record { faults = B.faults; mark = B.mark; files = B.files; leaves = B.leaves; moment = B.moment; left_since = B.left_since })
+    ghost keeps_same = { λ bay. reads_none
+        (record { faults = B.faults; mark = B.mark; files = B.files; leaves = B.leaves; moment = B.moment; left_since = B.left_since; handed_out = B.handed_out })
         (record { as_read = B.as_read; since_now = B.since_now; only_now = B.only_now; since_earlier = B.since_earlier })
         bay ⊥ (λ none. none) };
 
-    ghost keeps_on = { λ a b c one two. reads_on (record { faults = B.faults; mark = B.mark; files = B.files; leaves = B.leaves; moment = B.moment; left_since = B.left_since })
+    ghost keeps_on = { λ a b c one two. reads_on
+        (record { faults = B.faults; mark = B.mark; files = B.files; leaves = B.leaves; moment = B.moment; left_since = B.left_since; handed_out = B.handed_out })
         (record { as_read = B.as_read; since_now = B.since_now; only_now = B.only_now; since_earlier = B.since_earlier })
         a b c ⊥ ⊥ one two };
 

@@ -3,3 +3,4 @@ pub mod GatedLaws
 pub mod Appending
 pub mod Looking
 pub mod Deciding
+pub mod Costs

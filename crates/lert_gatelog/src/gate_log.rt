@@ -2,7 +2,9 @@
 
 ghost use Rattle.std.specs.Prelude.{◌≡◌, ◌≢◌, ℕ, ◌+◌, ◌<◌, ◌≤◌, ◌^◌, List, [], ◌∷◌, ◌++◌, Some, None, Ok, length, take, IfOk, IfSome, IfNone, MatchOption, OnOk, OnErr, IsErr, IsErrOf};
 ghost use Rattle.lert_bay.specs.Files.{IfTold, Turns, Changes, CopiesFrom};
-ghost use Rattle.lert_bay.specs.Kept.{KeepsBay, OnlyReads};
+ghost use Rattle.lert_bay.specs.Handed.{ReadsUpTo};
+ghost use Rattle.lert_bay.specs.Kept.{KeepsBay, ReadsBay};
+ghost use Rattle.lert_gatelog.specs.Cost.{read_cost};
 ghost use Rattle.lert_gatelog.specs.Looked.{Looked};
 ghost use Rattle.lert_gatelog.specs.Gated.{body, appendix, next_gate, IsOpen, IsClosed, BreaksAt, IsGated, IsAppendix, IsAnnounced};
 ghost use Rattle.lert_gatelog.specs.Kept.{InEach, KeepsOthers, KeepsBefore, IsWhollySettled, IsWithOrWithout, OthersStay, IsAppended};
@@ -141,7 +143,10 @@ impl GateLog {
         ensures counted { IfOk result (λ found. IfSome found (λ count. (0 < count) × (count ≤ self.old.most))) }
         ensures moved { IfOk result (λ found. MatchOption found (self.new ≡ self.old) (λ count. self.new ≡ record self.old { gate = self.old.gate + 5 + count })) }
         ensures stayed { OnErr result (self.new ≡ self.old) }
-        ensures only_reads { OnlyReads B.Bay bay.old bay.new (IsErrOf result LogFault.Failed) }
+        ensures only_reads { ReadsBay B.Bay bay.old bay.new (IsErrOf result LogFault.Failed) }
+
+        // No byte of a record is read twice.
+        ensures handed { ReadsUpTo self.old.file (read_cost self.old.most result) (B.handed_out bay.old) (B.handed_out bay.new) }
     {
         let end = bay.len(self.file)?;
         let Some(count) = self.look(bay, end)? else {
@@ -160,7 +165,8 @@ impl GateLog {
         requires end { IfTold (B.files bay.old) (λ seen. end ≡ length (seen self.now.file)) }
         ensures looked { IfTold (B.files bay.old) (λ seen. Looked self.now.most (seen self.now.file) self.now.gate result) }
         ensures counted { IfOk result (λ found. IfSome found (λ count. (0 < count) × (count ≤ self.now.most))) }
-        ensures only_reads { OnlyReads B.Bay bay.old bay.new (IsErrOf result LogFault.Failed) }
+        ensures only_reads { ReadsBay B.Bay bay.old bay.new (IsErrOf result LogFault.Failed) }
+        ensures handed { ReadsUpTo self.now.file 5 (B.handed_out bay.old) (B.handed_out bay.new) }
     {
         let mut head = [0; 5];
         let read = bay.read_at(self.file, self.gate, &mut head)?;

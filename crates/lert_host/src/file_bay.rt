@@ -87,6 +87,8 @@ impl Bay for FileBay {
 
     ghost left_since = { λ _ t image. ⊥ };
 
+    ghost handed_out = { λ _ file. 0 };
+
     ghost as_read = { λ bay seen told. none-some seen told };
 
     ghost since_now = { λ bay image never. never };

@@ -5,3 +5,4 @@ pub mod PayloadLaws
 pub mod PayloadWhole
 pub mod OneAnswer
 pub mod BeginningLaws
+pub mod Costs

@@ -1,3 +1,4 @@
 pub mod Header
 pub mod Journal
 pub mod Payload
+pub mod Cost

@@ -5,10 +5,12 @@ ghost use Rattle.byteorder.specs.Endian.{little_bytes};
 ghost use Rattle.lert_base.specs.Entries.{packet_of};
 ghost use Rattle.lert_base.specs.Packet.{Packet};
 ghost use Rattle.lert_bay.specs.Files.{IfTold, Turns};
-ghost use Rattle.lert_bay.specs.Kept.{KeepsBay, OnlyReads};
+ghost use Rattle.lert_bay.specs.Handed.{ReadsUpTo};
+ghost use Rattle.lert_bay.specs.Kept.{KeepsBay, ReadsBay};
 ghost use Rattle.lert_gatelog.specs.Gated.{appendix, next_gate, IsOpen, IsClosed};
 ghost use Rattle.lert_gatelog.specs.Kept.{InEach, KeepsOthers, KeepsBefore, IsWhollySettled, OthersStay};
 ghost use Rattle.lert_journal.specs.Payload.{payload_of, IsJournaled};
+ghost use Rattle.lert_journal.specs.Cost.{entry_cost};
 ghost use Rattle.lert_journal.specs.Journal.{HasPackets, HasPacketsOrOneMore, HoldsPacket, LeavesAt};
 
 use crate::payload::{fill, place_left};
@@ -101,7 +103,10 @@ pub fn read_entry<B: Bay>(
     ensures waits { IfOk result (λ found. IsFalse found → (log.new ≡ log.old) × (entry.new ≡ entry.old)) }
     ensures stayed { OnErr result ((log.new ≡ log.old) × (entry.new ≡ entry.old)) }
     ensures room { entry.new.keys.room ≡ entry.old.keys.room }
-    ensures only_reads { OnlyReads B.Bay bay.old bay.new (IsErrOf result LogFault.Failed) }
+    ensures only_reads { ReadsBay B.Bay bay.old bay.new (IsErrOf result LogFault.Failed) }
+
+    // No byte of a record is read twice.
+    ensures handed { ReadsUpTo log.old.file (entry_cost log.old.most (packet_of entry.new) result) (B.handed_out bay.old) (B.handed_out bay.new) }
 {
     let gate = log.gate();
     let mut ahead = *log;

@@ -2,8 +2,8 @@
 use Rattle.std.proofs.Common.{ℕ, ◌≡◌, ◌≤◌, Bool, Option, Result, Ok, Err, length, ap, sym, ◌∙◌, subst}
 use Rattle.std.specs.Prelude.{IfOk, MatchResult, if◌then◌else◌}
 use Rattle.lert_bay.specs.Files.{Files}
-use Rattle.lert_bay.specs.Kept.{Bays, KeepsBay}
-use Rattle.lert_bay.proofs.KeptLaws.{IsLawful, keeps_on}
+use Rattle.lert_bay.specs.Kept.{Bays, CallsBay}
+use Rattle.lert_bay.proofs.KeptLaws.{IsLawful, calls_on}
 use Rattle.lert_cone.specs.declared.state.ConeState.TheVariants.{Finished, Running}
 use Rattle.lert_cone.specs.Stands.{IsSameCone, Standing}
 use Rattle.lert_spec.specs.declared.numbers.Numbers.{Numbers}
@@ -17,18 +17,18 @@ use Rattle.lert_recover.proofs.ReplayingLaws.{journal_on, journal_same}
 -- whatever the answer, the journal reads as before, and what is kept of the bay
 pub record SaysOfBay {B E : Type 0} (bays : Bays B) (bay_in : E → B) (fault_in : E → ReopenFault) (bay : B) (result : Result (Standing B) E) : Type 0 where
   pub reads : MatchResult result (λ now. IsJournalSame (bays.files bay) (bays.files now.bay)) (λ refused. IsJournalSame (bays.files bay) (bays.files (bay_in refused)))
-  pub kept : MatchResult result (λ now. KeepsBay bays bay now.bay ⊥) (λ refused. KeepsBay bays bay (bay_in refused) (fault_in refused ≡ Failed))
+  pub kept : MatchResult result (λ now. CallsBay bays bay now.bay ⊥) (λ refused. CallsBay bays bay (bay_in refused) (fault_in refused ≡ Failed))
 
 module _ {B E : Type 0} (bays : Bays B) (lawful : IsLawful bays) (bay_in : E → B) (before bay : B) (First : Type 0) where
   pub bay_before : (fault_in : E → ReopenFault) → WritesNothing bays before bay First → (result : Result (Standing B) E) →
       SaysOfBay bays bay_in fault_in bay result → SaysOfBay bays bay_in fault_in before result
   bay_before fault_in quiet (Ok now) says = record {
     reads = journal_on (bays.files before) (bays.files bay) (bays.files now.bay) (journal_same (bays.files before) (bays.files bay) quiet.seen) says.reads;
-    kept = keeps_on bays lawful before bay now.bay First ⊥ quiet.kept says.kept;
+    kept = calls_on bays lawful before bay now.bay First ⊥ quiet.kept says.kept;
   }
   bay_before fault_in quiet (Err refused) says = record {
     reads = journal_on (bays.files before) (bays.files bay) (bays.files (bay_in refused)) (journal_same (bays.files before) (bays.files bay) quiet.seen) says.reads;
-    kept = keeps_on bays lawful before bay (bay_in refused) First (fault_in refused ≡ Failed) quiet.kept says.kept;
+    kept = calls_on bays lawful before bay (bay_in refused) First (fault_in refused ≡ Failed) quiet.kept says.kept;
   }
 
   -- where nothing was written before, and nothing is

@@ -3,7 +3,7 @@ use Rattle.std.proofs.Common.{◌≡◌, ℕ, Some, Result, Ok, Err, List, arith
 use Rattle.std.specs.Prelude.{MatchResult}
 use Rattle.lert_base.specs.Packet.{Packet}
 use Rattle.lert_bay.specs.Files.{Files}
-use Rattle.lert_bay.specs.Kept.{Bays, KeepsBay, OnlyReads}
+use Rattle.lert_bay.specs.Kept.{Bays, CallsBay, ReadsBay}
 use Rattle.lert_bay.proofs.KeptLaws.{IsLawful}
 use Rattle.lert_cone.specs.Sound.{IsSound, StaysSound}
 use Rattle.lert_cone.specs.Stands.{IsSameCone, Standing}
@@ -39,16 +39,16 @@ module _ {B : Type 0} (bays : Bays B) (lawful : IsLawful bays) (history : List P
         stays_by bays lawful s cone history before after quiet.kept.time.later (λ image since. each image (quiet.moments seen told image since))
 
     -- calls behind that read alone
-    pub stays_read : (before between after : B) (First Failed : Type 0) → KeepsBay bays before between First → StaysSound bays s cone history before between →
-        OnlyReads bays between after Failed → StaysSound bays s cone history before after
+    pub stays_read : (before between after : B) (First Failed : Type 0) → CallsBay bays before between First → StaysSound bays s cone history before between →
+        ReadsBay bays between after Failed → StaysSound bays s cone history before after
     stays_read before between after First Failed kept stays reads =
         stays_on bays lawful s cone history before between after kept.time.later reads.kept.time stays
         (stays_by bays lawful s cone history between after reads.kept.time.later
         (λ image since. stays.each_moment image (now_since bays lawful before between kept.time.later image (reads.moments image since))))
 
   -- one packet more is replayed
-  pub stays_replayed : (start old : Standing B) (after : B) (First Second : Type 0) → IsSameCone start old → KeepsBay bays start.bay old.bay First →
-      KeepsBay bays old.bay after Second → StaysSound bays start.listing.settings start.listing.cone history start.bay old.bay →
+  pub stays_replayed : (start old : Standing B) (after : B) (First Second : Type 0) → IsSameCone start old → CallsBay bays start.bay old.bay First →
+      CallsBay bays old.bay after Second → StaysSound bays start.listing.settings start.listing.cone history start.bay old.bay →
       StaysSound bays old.listing.settings old.listing.cone history old.bay after →
       StaysSound bays start.listing.settings start.listing.cone history start.bay after
   stays_replayed start old after First Second same kept step one two =
@@ -59,7 +59,7 @@ module _ {B : Type 0} (bays : Bays B) (lawful : IsLawful bays) (history : List P
   pub stays_made : {E : Type 0} (bay_in : E → B) (Failed : E → Type 0) (s : Numbers) (cone : ℕ) (start : Standing B) (before : B) → start.listing.settings ≡ s →
       start.listing.cone ≡ cone → WritesNothing bays before start.bay ⊥ → (seen : Files) → bays.files before ≡ Some seen →
       AreSound (bays.leaves before) s cone history → (result : Result (Standing B) E) →
-      MatchResult result (λ now. KeepsBay bays start.bay now.bay ⊥) (λ refused. KeepsBay bays start.bay (bay_in refused) (Failed refused)) →
+      MatchResult result (λ now. CallsBay bays start.bay now.bay ⊥) (λ refused. CallsBay bays start.bay (bay_in refused) (Failed refused)) →
       (AreSound (bays.leaves start.bay) start.listing.settings start.listing.cone history → MatchResult result
       (λ now. StaysSound bays start.listing.settings start.listing.cone history start.bay now.bay)
       (λ refused. StaysSound bays start.listing.settings start.listing.cone history start.bay (bay_in refused))) →
@@ -69,14 +69,14 @@ module _ {B : Type 0} (bays : Bays B) (lawful : IsLawful bays) (history : List P
       made : AreSound (bays.leaves start.bay) start.listing.settings start.listing.cone history
       made = λ image may. sound_as s start.listing.settings cone start.listing.cone history image settings_are cone_is (each image (quiet.images seen told image may))
 
-      joined : (after : B) (Any : Type 0) → KeepsBay bays start.bay after Any → StaysSound bays start.listing.settings start.listing.cone history start.bay after →
+      joined : (after : B) (Any : Type 0) → CallsBay bays start.bay after Any → StaysSound bays start.listing.settings start.listing.cone history start.bay after →
           StaysSound bays s cone history before after
       joined after Any kept stays =
           stays_on bays lawful s cone history before start.bay after quiet.kept.time.later kept.time (stays_quiet s cone before start.bay ⊥ quiet seen told each)
           (stays_as bays s start.listing.settings cone start.listing.cone history start.bay after settings_are cone_is stays)
 
       behind : (result : Result (Standing B) E) →
-          MatchResult result (λ now. KeepsBay bays start.bay now.bay ⊥) (λ refused. KeepsBay bays start.bay (bay_in refused) (Failed refused)) →
+          MatchResult result (λ now. CallsBay bays start.bay now.bay ⊥) (λ refused. CallsBay bays start.bay (bay_in refused) (Failed refused)) →
           MatchResult result
           (λ now. StaysSound bays start.listing.settings start.listing.cone history start.bay now.bay)
           (λ refused. StaysSound bays start.listing.settings start.listing.cone history start.bay (bay_in refused)) →

@@ -3,7 +3,7 @@ use Rattle.std.proofs.Common.{ℕ, ◌≡◌, ◌+◌, ◌≤◌, Bool, Some, Op
 use Rattle.lert_base.specs.Packet.{Packet}
 use Rattle.lert_bay.specs.declared.bay.TheConstants.{JOURNAL, FRAMES}
 use Rattle.lert_bay.specs.Files.{Files, IfTold}
-use Rattle.lert_bay.specs.Kept.{Bays, KeepsBay}
+use Rattle.lert_bay.specs.Kept.{Bays, CallsBay}
 use Rattle.lert_reports.specs.declared.log_point.LogPoint.{LogPoint}
 use Rattle.lert_cone.specs.Framed.{HoldsSome, last_flush}
 use Rattle.lert_cone.specs.History.{most_payload}
@@ -136,7 +136,7 @@ sound_on start old told h same sound seen is =
     (subst (λ (cone : ℕ). IsSound old.listing.settings cone h seen) same.cone (sound seen is))
 
 -- calls that leave the files as they were
-pub quiet_of : {B : Type 0} (bays : Bays B) (before after : B) (Failed : Type 0) → KeepsBay bays before after Failed → IsUnwritten bays before after →
+pub quiet_of : {B : Type 0} (bays : Bays B) (before after : B) (Failed : Type 0) → CallsBay bays before after Failed → IsUnwritten bays before after →
     WritesNothing bays before after Failed
 quiet_of bays before after Failed kept unwritten = record {
   kept = kept;

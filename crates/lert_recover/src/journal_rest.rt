@@ -3,7 +3,7 @@
 ghost use Rattle.std.specs.Prelude.{◌≡◌, ◌⊎◌, ℕ, ◌+◌, ◌*◌, ◌<◌, ◌≤◌, ◌^◌, List, length, IfOk, IsErr, MatchOption};
 ghost use Rattle.lert_bay.specs.declared.bay.TheConstants.{JOURNAL};
 ghost use Rattle.lert_bay.specs.Files.{IfTold};
-ghost use Rattle.lert_bay.specs.Kept.{OnlyReads};
+ghost use Rattle.lert_bay.specs.Kept.{ReadsBay};
 ghost use Rattle.lert_cone.specs.History.{most_payload};
 ghost use Rattle.lert_gatelog.specs.Gated.{IsOpen, IsClosed, next_gate};
 ghost use Rattle.lert_io.specs.Fault.{HasRisen};
@@ -52,7 +52,7 @@ pub fn find_left<B: Bay>(
     ensures told { IfTold (B.files bay.old) (λ seen. IfOk result (λ found. MatchOption found
         (JournalEnds settings.now cone last.now.n0 last.now.closed (seen JOURNAL) events gate)
         (λ at. JournalLeavesAt settings.now cone last.now.n0 last.now.closed (seen JOURNAL) events gate at))) }
-    ensures only_reads { OnlyReads B.Bay bay.old bay.new (IsErr result) }
+    ensures only_reads { ReadsBay B.Bay bay.old bay.new (IsErr result) }
 {
     let mut buffer = [0; PAYLOAD_ROOM];
     // Its clause says that the numbers are valid.
@@ -82,7 +82,7 @@ pub fn why_stopped<B: Bay>(
     requires near { stop.now.gate ≤ 32 + 65536 * stop.now.events }
     ensures told { IfTold (B.files bay.old) (λ seen. IsWhy settings.now cone last.now.n0 last.now.closed (seen JOURNAL) stop.now.events stop.now.gate stop.now.fault result) }
     ensures failed { result ≡ ReopenFault.Failed → (stop.now.fault ≡ ReplayFault.Failed) ⊎ HasRisen (B.faults bay.old) (B.faults bay.new) }
-    ensures only_reads { OnlyReads B.Bay bay.old bay.new ⊥ }
+    ensures only_reads { ReadsBay B.Bay bay.old bay.new ⊥ }
 {
     match stop.fault {
         ReplayFault::Failed => ReopenFault::Failed,
@@ -120,7 +120,7 @@ fn find_here<B: Bay>(
     ensures forward { IfOk result (GoesOn settings.now events log.old.gate log.new.gate) }
     ensures file { log.new.file ≡ log.old.file }
     ensures most { log.new.most ≡ log.old.most }
-    ensures only_reads { OnlyReads B.Bay bay.old bay.new (IsErr result) }
+    ensures only_reads { ReadsBay B.Bay bay.old bay.new (IsErr result) }
 {
     let gate = log.gate();
     match log.next(bay, buffer) {

@@ -5,7 +5,7 @@ ghost use Rattle.lert_base.specs.declared.kept.Kept.{Kept as KeptOf};
 ghost use Rattle.lert_base.specs.Packet.{Packet, events_of};
 ghost use Rattle.lert_bay.specs.declared.bay.TheConstants.{JOURNAL, LOG, FRAMES};
 ghost use Rattle.lert_bay.specs.Files.{Files, IfTold};
-ghost use Rattle.lert_bay.specs.Kept.{KeepsBay};
+ghost use Rattle.lert_bay.specs.Kept.{CallsBay};
 ghost use Rattle.lert_cone.specs.Framed.{HoldsSome};
 ghost use Rattle.lert_cone.specs.Replays.{Replays};
 ghost use Rattle.lert_cone.specs.Room.{IsRoom};
@@ -31,7 +31,6 @@ use lert_base::{CountTable, Settings};
 use lert_bay::Bay;
 use lert_cone::{Cone, ConeRoom, ConeState, LogPoint};
 use lert_files::{ReopenFault, read_files};
-use lert_reports::{FIRST, OFFSET};
 
 /// A cone that wasn't reopened. Its journal reads as before, and files that were sound for a list are sound for it.
 #[derive(Drop)]
@@ -116,7 +115,7 @@ pub fn reopen<B: Bay, T: CountTable>(
         × (now.state ≡ if now.listing.closed then ConeState.Finished else ConeState.Running)) }
     ensures made { IfOk result (λ now. (B.files now.made ≡ B.files bay) × (B.faults bay ≤ B.faults now.made) × (B.mark now.made ≡ B.mark bay)) }
     ensures reads { MatchResult result (λ now. IsJournalSame (B.files bay) (B.files now.bay)) (λ refused. IsJournalSame (B.files bay) (B.files refused.bay)) }
-    ensures kept { MatchResult result (λ now. KeepsBay B.Bay bay now.bay ⊥) (λ refused. KeepsBay B.Bay bay refused.bay (refused.fault ≡ ReopenFault.Failed)) }
+    ensures kept { MatchResult result (λ now. CallsBay B.Bay bay now.bay ⊥) (λ refused. CallsBay B.Bay bay refused.bay (refused.fault ≡ ReopenFault.Failed)) }
 {
     reopen_in_order(room, cone, bay)
 }
@@ -149,7 +148,7 @@ fn reopen_in_order<B: Bay, T: CountTable>(
         × (now.state ≡ if now.listing.closed then ConeState.Finished else ConeState.Running)) }
     ensures made { IfOk result (λ now. (B.files now.made ≡ B.files bay) × (B.faults bay ≤ B.faults now.made) × (B.mark now.made ≡ B.mark bay)) }
     ensures reads { MatchResult result (λ now. IsJournalSame (B.files bay) (B.files now.bay)) (λ refused. IsJournalSame (B.files bay) (B.files refused.bay)) }
-    ensures kept { MatchResult result (λ now. KeepsBay B.Bay bay now.bay ⊥) (λ refused. KeepsBay B.Bay bay refused.bay (refused.fault ≡ ReopenFault.Failed)) }
+    ensures kept { MatchResult result (λ now. CallsBay B.Bay bay now.bay ⊥) (λ refused. CallsBay B.Bay bay refused.bay (refused.fault ≡ ReopenFault.Failed)) }
 {
     match read_files(
         &mut bay,
@@ -160,16 +159,10 @@ fn reopen_in_order<B: Bay, T: CountTable>(
         &mut room.buffer,
     ) {
         Ok(end) => {
-            // Each record that a cone writes says so too.
-            let last = LogPoint {
-                offset: OFFSET,
-                first: FIRST,
-                ..end
-            };
             let settings = room.settings;
             // The journal last: levels and reports stand for its first n0 events.
-            let begun = Cone::adopt(room, cone, bay, last);
-            replay_journal(&settings, cone, &last, begun)
+            let begun = Cone::adopt(room, cone, bay, end);
+            replay_journal(&settings, cone, &end, begun)
         }
         Err(fault) => Err(ReopenRefused { fault, bay }),
     }
@@ -199,7 +192,7 @@ fn replay_journal<B: Bay, T: CountTable>(
     ensures state { IfOk result (λ now. (now.listing.closed ≡ cone.listing.closed) × (now.state ≡ if cone.last.closed then ConeState.Finished else ConeState.Running)) }
     ensures same_cone { IfOk result (λ now. IsSameCone cone now) }
     ensures reads { MatchResult result (λ now. IsJournalSame (B.files cone.bay) (B.files now.bay)) (λ refused. IsJournalSame (B.files cone.bay) (B.files refused.bay)) }
-    ensures kept { MatchResult result (λ now. KeepsBay B.Bay cone.bay now.bay ⊥) (λ refused. KeepsBay B.Bay cone.bay refused.bay (refused.fault ≡ ReopenFault.Failed)) }
+    ensures kept { MatchResult result (λ now. CallsBay B.Bay cone.bay now.bay ⊥) (λ refused. CallsBay B.Bay cone.bay refused.bay (refused.fault ≡ ReopenFault.Failed)) }
     ensures stays_sound { IfTold (B.files cone.bay) (λ _. IfErr result (λ refused. (h : List Packet) → Replays B.files B.leaves cone h [] →
         IfTold (B.files refused.bay) (IsSound cone.listing.settings cone.listing.cone h))) }
     ensures each_moment { IfTold (B.files cone.bay) (λ _. (h : List Packet) → Replays B.files B.leaves cone h [] →

@@ -4,7 +4,7 @@ ghost use Rattle.std.specs.Prelude.{◌≡◌, ℕ, ◌+◌, ◌*◌, ◌≤◌,
 ghost use Rattle.lert_base.specs.Packet.{Packet};
 ghost use Rattle.lert_bay.specs.declared.bay.TheConstants.{JOURNAL, LOG, FRAMES};
 ghost use Rattle.lert_bay.specs.Files.{Files, IfTold, Turns};
-ghost use Rattle.lert_bay.specs.Kept.{KeepsBay};
+ghost use Rattle.lert_bay.specs.Kept.{CallsBay};
 ghost use Rattle.lert_cone.specs.Framed.{HoldsSome};
 ghost use Rattle.lert_cone.specs.Replay.{ReplayLeavesAt};
 ghost use Rattle.lert_cone.specs.Replays.{Replays};
@@ -78,7 +78,7 @@ pub fn replay_all<B: Bay, T: CountTable>(cone: &mut Cone<B, T>) -> Result<u64, S
     ensures same_cone { IsSameCone cone.old cone.new }
     ensures near { IfErr result (λ stop. (stop.gate ≤ 32 + 65536 * stop.events) × (stop.events ≤ capacity cone.old.listing.settings)) }
     ensures journal { IsJournalSame (B.files cone.old.bay) (B.files cone.new.bay) }
-    ensures kept { KeepsBay B.Bay cone.old.bay cone.new.bay (IsErrAnd result (λ stop. stop.fault ≡ ReplayFault.Failed)) }
+    ensures kept { CallsBay B.Bay cone.old.bay cone.new.bay (IsErrAnd result (λ stop. stop.fault ≡ ReplayFault.Failed)) }
 {
     let mut gate = JOURNAL_GATE;
     'packets: loop {

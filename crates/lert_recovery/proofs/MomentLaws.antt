@@ -4,7 +4,7 @@ use Rattle.std.proofs.lemmas.List.{length-map}
 use Rattle.std.proofs.lemmas.Option.{slice_get_within}
 use Rattle.lert_base.specs.Packet.{Packet}
 use Rattle.lert_bay.specs.Files.{IfTold}
-use Rattle.lert_bay.specs.Kept.{Bays, KeepsBay}
+use Rattle.lert_bay.specs.Kept.{Bays, CallsBay}
 use Rattle.lert_bay.proofs.KeptLaws.{IsLawful}
 use Rattle.lert_bay.proofs.Lasting.{lasts_none, lasts_on}
 use Rattle.lert_cone.specs.Sound.{StaysSound}
@@ -21,7 +21,7 @@ use Rattle.lert_ingest.proofs.EachLaws.{each_more, each_same, each_seam}
 use Rattle.lert_recovery.specs.Moments.{AreReturnedSound, AreSoundThroughout, IsSoundThroughout}
 
 -- a bay over which a cone was opened, or wasn't
-pub throughout_by : {B : Type 0} (bays : Bays B) (s : Numbers) (cone : ℕ) (bay back : B) (Failed : Type 0) → KeepsBay bays bay back Failed →
+pub throughout_by : {B : Type 0} (bays : Bays B) (s : Numbers) (cone : ℕ) (bay back : B) (Failed : Type 0) → CallsBay bays bay back Failed →
     IsJournalSame (bays.files bay) (bays.files back) →
     IfTold (bays.files bay) (λ _. (history : List Packet) → AreSound (bays.leaves bay) s cone history → StaysSound bays s cone history bay back) →
     IsSoundThroughout bays s cone bay back

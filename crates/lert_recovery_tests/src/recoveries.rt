@@ -198,11 +198,12 @@ fn the_last_records_name_the_frames_of_the_bins(rt: HostRuntime) {
     let text = "cone 0 events 32 reports 0 closed\ntotal events 32 reports 0\n";
     let left = left_by_run(&rt, trace.as_slice(), 0, Status::Done, text).expect(&rt, "memory");
     // The record of the flush at 32 and the closing one: both stand behind 32 keys, where level 1 has its bins in its frames 2
-    // and 3, and level 2 has one in its frame 0. The gates of both are open, and the one behind them is closed.
+    // and 3, and level 2 has one in its frame 0. Level 0 begins at position 25, the first of the fourth packet, whose gate stands
+    // at 32 + 3 * 77 = 263. The gates of both are open, and the one behind them is closed.
     let records = [
-        1, 34, 0, 0, 0, 1, 32, 0, 0, 0, 0, 0, 0, 0, 32, 0, 0, 0, 0, 0, 0, 0, 1, 0, 0, 0, 0, 0, 0,
-        0, 2, 2, 3, 1, 0, 0, 0, 0, 0, 1, 34, 0, 0, 0, 2, 32, 0, 0, 0, 0, 0, 0, 0, 32, 0, 0, 0, 0,
-        0, 0, 0, 1, 0, 0, 0, 0, 0, 0, 0, 2, 2, 3, 1, 0, 0, 0, 0, 0, 0,
+        1, 34, 0, 0, 0, 1, 32, 0, 0, 0, 0, 0, 0, 0, 7, 1, 0, 0, 0, 0, 0, 0, 25, 0, 0, 0, 0, 0, 0,
+        0, 2, 2, 3, 1, 0, 0, 0, 0, 0, 1, 34, 0, 0, 0, 2, 32, 0, 0, 0, 0, 0, 0, 0, 7, 1, 0, 0, 0, 0,
+        0, 0, 25, 0, 0, 0, 0, 0, 0, 0, 2, 2, 3, 1, 0, 0, 0, 0, 0, 0,
     ];
     assert!(rt; left.log.ends_with(&records));
 }
@@ -214,30 +215,130 @@ fn files_of_other_settings_are_refused(rt: HostRuntime) {
     check_refused(&rt, numbers, &files, Status::OtherSettings { cone: 0 }).expect(&rt, "memory");
 }
 
-#[test]
-fn a_changed_byte_is_named_by_its_file_and_place(rt: HostRuntime) {
-    // The first byte of the journal and of the log; the packet's worker, its first key's length field, and
-    // the kind of the closing record.
-    for (file, at, byte, place) in [
-        (JOURNAL, 0, 0, 0),
-        (JOURNAL, 37, 64, 37),
-        (JOURNAL, 33, 31, 33),
-        (LOG, 0, 0, 0),
-        (LOG, 13, 3, 13),
-    ] {
-        let mut files = sevens(&rt, 0).expect(&rt, "memory");
-        let bytes = match file {
-            JOURNAL => files.journal.as_mut_slice(),
-            _ => files.log.as_mut_slice(),
-        };
-        change(&rt, bytes, at, byte);
-        let status = Status::Malformed {
-            cone: 0,
-            file,
-            at: place,
-        };
-        check_refused(&rt, SMALL, &files, status).expect(&rt, "memory");
+// One change of a file: a byte at a place, or an end before its own.
+#[derive(Clone, Copy)]
+enum Damage {
+    Byte(usize, u8),
+    Cut(usize),
+}
+
+fn left_at(file: u8, at: u64) -> Status {
+    Status::Malformed { cone: 0, file, at }
+}
+
+fn apply(
+    rt: &(impl Abort + AllocGlobal + Threads + Wait + Sync),
+    bytes: &mut Vec<u8>,
+    damage: Damage,
+) {
+    match damage {
+        Damage::Byte(at, byte) => change(rt, bytes.as_mut_slice(), at, byte),
+        Damage::Cut(len) => {
+            assert!(rt; len < bytes.len());
+            bytes.truncate(len);
+        }
     }
+}
+
+// Changes what a run over the keys 7, 7, 7 left in a file, and wants this refusal of its recovery, and the files as they were.
+fn check_changed(
+    rt: &(impl Abort + AllocGlobal + Threads + Wait + Sync),
+    what: &str,
+    file: u8,
+    damage: Damage,
+    status: Status,
+) -> Result<(), OutOfMemory> {
+    let mut files = sevens(rt, 0)?;
+    match file {
+        JOURNAL => apply(rt, &mut files.journal, damage),
+        _ => apply(rt, &mut files.log, damage),
+    }
+    let ended = recover_files(rt, rt.alloc(), &recover_form(SMALL), &files)?;
+    assert!(rt; ended.ended_with(status), "{what}");
+    assert!(rt; ended.wrote(""), "{what}");
+    assert!(rt; ended.files.are(&files), "{what}");
+    Ok(())
+}
+
+// The journal is a header of 32 bytes and one packet, whose length stands at 33, its worker at 37 and its trace at 41, and a closed
+// gate at 69. The log is a header of 8 bytes and a closing record, whose length stands at 9, its kind at 13, the number of events at 14
+// and the position of its one report at 52, and a closed gate at 60.
+#[test]
+fn a_changed_file_is_named_with_the_first_place_at_which_it_leaves_its_format(rt: HostRuntime) {
+    let rows: [(&str, u8, Damage, Status); 16] = [
+        (
+            "first letter",
+            JOURNAL,
+            Damage::Byte(0, 0),
+            left_at(JOURNAL, 0),
+        ),
+        (
+            "another base",
+            JOURNAL,
+            Damage::Byte(16, 5),
+            Status::OtherSettings { cone: 0 },
+        ),
+        (
+            "half a key",
+            JOURNAL,
+            Damage::Byte(33, 31),
+            left_at(JOURNAL, 33),
+        ),
+        (
+            "a byte more",
+            JOURNAL,
+            Damage::Byte(33, 33),
+            left_at(JOURNAL, 33),
+        ),
+        (
+            "worker above 63",
+            JOURNAL,
+            Damage::Byte(37, 64),
+            left_at(JOURNAL, 37),
+        ),
+        (
+            "trace above 1,023",
+            JOURNAL,
+            Damage::Byte(42, 4),
+            left_at(JOURNAL, 41),
+        ),
+        ("cut header", JOURNAL, Damage::Cut(20), left_at(JOURNAL, 20)),
+        ("cut gate", JOURNAL, Damage::Cut(69), left_at(JOURNAL, 69)),
+        ("first letter", LOG, Damage::Byte(0, 0), left_at(LOG, 0)),
+        ("no first gate", LOG, Damage::Cut(8), left_at(LOG, 8)),
+        ("length 0", LOG, Damage::Byte(9, 0), left_at(LOG, 9)),
+        ("kind 3", LOG, Damage::Byte(13, 3), left_at(LOG, 13)),
+        (
+            "events of the next flush",
+            LOG,
+            Damage::Byte(14, 12),
+            left_at(LOG, 14),
+        ),
+        (
+            "report behind the events",
+            LOG,
+            Damage::Byte(14, 2),
+            left_at(LOG, 52),
+        ),
+        (
+            "more events than keys",
+            LOG,
+            Damage::Byte(14, 4),
+            left_at(JOURNAL, 69),
+        ),
+        ("cut gate", LOG, Damage::Cut(60), left_at(LOG, 60)),
+    ];
+    for (what, file, damage, status) in rows {
+        check_changed(&rt, what, file, damage, status).expect(&rt, "memory");
+    }
+}
+
+#[test]
+fn a_log_whose_closing_record_has_a_closed_gate_is_recovered_open(rt: HostRuntime) {
+    let mut files = sevens(&rt, 0).expect(&rt, "memory");
+    change(&rt, files.log.as_mut_slice(), 8, 0);
+    let text = "cone 0 events 3 reports 1 open\n7 3\ntotal events 3 reports 1\n";
+    check(&rt, SMALL, &files, Status::Done, text).expect(&rt, "memory");
 }
 
 #[test]

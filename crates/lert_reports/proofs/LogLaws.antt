@@ -13,7 +13,7 @@ use Rattle.lert_spec.specs.declared.report.Report.{Report}
 use Rattle.lert_reports.specs.declared.log.LogKind.{LogKind}
 use Rattle.lert_reports.specs.LogRules.{KeepsRules}
 use Rattle.lert_reports.specs.LogText.{LogRecord, kind_number, directory_bytes, report_bytes, log_payload, log_payload_of}
-use Rattle.lert_reports.specs.Log.{is_flush, is_closing, listed_in, last_n0, is_closed, last_directory, last_at, flushes_in, before_of, AreRecords}
+use Rattle.lert_reports.specs.Log.{is_flush, is_closing, listed_in, last_n0, is_closed, last_directory, last_offset, last_first, last_at, flushes_in, before_of, AreRecords}
 
 -- ---- lists by their last element
 
@@ -64,6 +64,12 @@ is_closed-push records one = fold_push (λ (earlier : Bool) (record_ : LogRecord
 
 pub last_directory-push : (s : Numbers) (records : List LogRecord) (one : LogRecord) → last_directory s (records ++ one ∷ []) ≡ one.directory
 last_directory-push s records one = fold_push (λ (earlier : List (List ℕ)) (record_ : LogRecord). record_.directory) (last_directory s []) records one
+
+pub last_offset-push : (records : List LogRecord) (one : LogRecord) → last_offset (records ++ one ∷ []) ≡ one.offset
+last_offset-push records one = fold_push (λ (earlier : ℕ) (record_ : LogRecord). record_.offset) 32 records one
+
+pub last_first-push : (records : List LogRecord) (one : LogRecord) → last_first (records ++ one ∷ []) ≡ one.first
+last_first-push records one = fold_push (λ (earlier : ℕ) (record_ : LogRecord). record_.first) 1 records one
 
 pub flushes_in-push : (records : List LogRecord) (one : LogRecord) → flushes_in (records ++ one ∷ []) ≡ flushes_in records + cond (is_flush one.kind) 1 0
 flushes_in-push records one = sum_by_push (λ (record_ : LogRecord). cond {A = ℕ} (is_flush record_.kind) 1 0) records one

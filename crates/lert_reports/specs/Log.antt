@@ -48,6 +48,14 @@ is_closed records = fold (λ earlier record_. is_closing record_.kind) false rec
 abbrev pub last_directory : Numbers → List LogRecord → List (List ℕ)
 last_directory s records = fold (λ earlier record_. record_.directory) (replicate s.levels []) records
 
+-- from which place on the last record wants the journal to be read, behind its header where there is no record
+abbrev pub last_offset : List LogRecord → ℕ
+last_offset records = fold (λ earlier record_. record_.offset) 32 records
+
+-- and from which position on, the first where there is no record
+abbrev pub last_first : List LogRecord → ℕ
+last_first records = fold (λ earlier record_. record_.first) 1 records
+
 -- the position of the last report, 0 where there is none
 abbrev pub last_at : List Report → ℕ
 last_at reports = fold (λ earlier report. report.at) 0 reports

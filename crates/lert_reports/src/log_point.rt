@@ -2,8 +2,8 @@
 
 ghost use Rattle.std.specs.Prelude.{◌≡◌, false};
 
-/// Where a log without a record says that the journal is to be read from, and each record that a cone writes: at its first
-/// packet, whose first key has the first position.
+/// Where a log without a record says that the journal is to be read from: at its first packet, whose first key has the first
+/// position.
 pub const OFFSET: u64 = 32;
 
 /// The position of that key.

@@ -3,7 +3,7 @@
 ghost use Rattle.std.specs.Prelude.{◌≡◌, ◌≢◌, ◌⊎◌, ℕ, ◌+◌, ◌<◌, ◌≤◌, ◌^◌, if◌then◌else◌, max, List, [], ◌∷◌, ◌++◌, length, All, None, Err, IfErr, IfNone, IfOk, IfSome, IsErrOf, OnErr, OnOk};
 ghost use Rattle.lert_base.specs.Packet.{Packet, events_of};
 ghost use Rattle.lert_bay.specs.Files.{Files, IfTold};
-ghost use Rattle.lert_bay.specs.Kept.{KeepsBay};
+ghost use Rattle.lert_bay.specs.Kept.{CallsBay};
 ghost use Rattle.lert_bay.specs.Settled.{IsSettled};
 ghost use Rattle.lert_bay.specs.declared.bay.TheConstants.{JOURNAL, LOG, FRAMES};
 ghost use Rattle.lert_gatelog.specs.Kept.{IsWhollySettled};
@@ -11,6 +11,8 @@ ghost use Rattle.lert_levels.specs.Flushed.{InNamed};
 ghost use Rattle.lert_reports.specs.Log.{HasLog, most_record};
 ghost use Rattle.lert_reports.specs.LogText.{LogRecord};
 ghost use Rattle.lert_cone.specs.Framed.{HoldsSome};
+ghost use Rattle.lert_cone.specs.Marks.{unmarked};
+ghost use Rattle.lert_cone.specs.Reads.{replay_cost};
 ghost use Rattle.lert_cone.specs.Replay.{IsLastOf};
 ghost use Rattle.lert_cone.specs.Replays.{BringsNoFlush, HasEnded, HasTaken, IsUnwritten, LeavesBehind, GoesOn, Replays, WhyRefused, broken_after};
 ghost use Rattle.lert_cone.specs.Room.{IsPointOf, IsRestored};
@@ -22,6 +24,7 @@ ghost use Rattle.lert_cone.specs.Wrote.{IsShutIfTold, LeavesAlone};
 use crate::cone::{Cone, broken_by};
 use crate::headers::greatest_payload;
 use crate::keys::{keys_of, replay_keys};
+use crate::marks::Mark;
 use crate::packets::read_packet;
 use crate::refusal::ReplayFault;
 use crate::report_log::ReportLog;
@@ -31,13 +34,13 @@ use crate::tally::Tally;
 use lert_base::CountTable;
 use lert_bay::{Bay, JOURNAL};
 use lert_gatelog::GateLog;
-use lert_reports::{LogPoint, greatest_record};
+use lert_reports::{LogPoint, OFFSET, greatest_record};
 use std::snapshot::Snapshot;
 
 impl<B: Bay, T: CountTable> Cone<B, T> {
     /// A cone over the files of a stopped run, from whose log the room has the levels and the reports. It has no key yet: it is
-    /// to be given the records of its journal one by one, from `last.offset` on, by `replay`, and then `ready`. Makes no call
-    /// of the bay and takes no memory.
+    /// to be given the records of its journal one by one, from the first one on, whatever record `last` names, by `replay`, and
+    /// then `ready`. Makes no call of the bay and takes no memory.
     pub fn adopt(room: ConeRoom<T>, cone: u32, bay: B, last: LogPoint) -> Cone<B, T>
         requires named { cone < 2 ^ room.settings.cone_bits }
         requires point { IsPointOf room.settings last }
@@ -58,7 +61,7 @@ impl<B: Bay, T: CountTable> Cone<B, T> {
           state = ConeState.Replaying;
           over = None;
           gate = 32;
-          log = record { gate = last.log_end; most = most_record room.settings; named = length room.store.reports };
+          log = record { gate = last.log_end; most = most_record room.settings; named = length room.store.reports; marks = unmarked room.settings };
           last = last;
         } }
 
@@ -76,8 +79,13 @@ impl<B: Bay, T: CountTable> Cone<B, T> {
             entry,
             buffer,
         } = room;
-        let journal = GateLog::at_gate(JOURNAL, last.offset, greatest_payload(&settings));
-        let log = ReportLog::at(last.log_end, greatest_record(&settings), store.len());
+        let journal = GateLog::at_gate(JOURNAL, OFFSET, greatest_payload(&settings));
+        let log = ReportLog::at(
+            &settings,
+            last.log_end,
+            greatest_record(&settings),
+            store.len(),
+        );
         let tally = Tally::adopted(&settings, cone, zero, levels, store, last.closed);
         Cone {
             made: Snapshot::of(&bay),
@@ -138,10 +146,14 @@ impl<B: Bay, T: CountTable> Cone<B, T> {
             IfTold (B.files self.new.bay) (λ seen. Shows self.new.listing.settings self.new.rows self.new.reports (seen FRAMES) file at) }
         ensures same_cone { IsSameCone self.old self.new }
         ensures journal { LeavesAlone B.Bay JOURNAL self.old.bay self.new.bay }
-        ensures kept { KeepsBay B.Bay self.old.bay self.new.bay (IsErrOf result ReplayFault.Failed) }
+        ensures kept { CallsBay B.Bay self.old.bay self.new.bay (IsErrOf result ReplayFault.Failed) }
+
+        // It reads the record once, and a flush reads no byte of the journal.
+        ensures handed { B.handed_out self.new.bay JOURNAL ≤ B.handed_out self.old.bay JOURNAL + replay_cost self.old.listing.settings gate result }
     {
         let most = greatest_payload(self.tally.settings());
         self.journal = GateLog::at_gate(JOURNAL, gate, most);
+        let first = self.tally.len() + 1;
         match read_packet(
             &mut self.journal,
             &mut self.bay,
@@ -156,6 +168,7 @@ impl<B: Bay, T: CountTable> Cone<B, T> {
                     &mut self.log,
                     &mut self.bay,
                     self.last.n0,
+                    Mark { gate, first },
                     keys_of(&self.entry),
                     &mut self.buffer,
                 ) {

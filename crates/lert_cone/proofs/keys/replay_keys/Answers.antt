@@ -1,15 +1,28 @@
-use Rattle.std.proofs.Common.{◌≡◌, ◌∙◌, ℕ, ◌-◌, ◌<◌, ◌++◌, List, All, length, drop, min, ap, sym, subst, arith, rules}
+use Rattle.std.proofs.Common.{◌≡◌, ◌∙◌, ℕ, ◌-◌, ◌<◌, ◌≤◌, ◌++◌, List, All, length, drop, min, Ok, ap, sym, subst, arith, rules, length-append}
 use Rattle.std.proofs.lemmas.List.Elements.{All-take}
 use Rattle.lert_spec.specs.Mix.{cone_of}
 use Rattle.lert_bay.specs.Kept.{Bays}
-use Rattle.lert_cone.specs.Takes.{CanTake, TakesKeys}
+use Rattle.lert_spec.specs.declared.numbers.Numbers.{Numbers}
+use Rattle.lert_spec.specs.Edges.{capacity}
+use Rattle.lert_cone.specs.Listing.{Listing}
+use Rattle.lert_cone.specs.Marks.{HasPassed}
+use Rattle.lert_cone.specs.Record.{LogPlace}
+use Rattle.lert_cone.specs.Takes.{CanTake, ReplaysKeys, TakesKeys}
 use Rattle.lert_bay.proofs.KeptLaws.{IsLawful}
 use Rattle.lert_cone.proofs.KeysReplayed.{all_again, can_take_ahead, others_ahead}
 use Rattle.lert_cone.proofs.keys.replay_keys.Given as given
 use Rattle.lert_cone.proofs.keys.replay_keys.Goals as goal
 
 abbrev bays : (g : given.Over) → Bays g.row.B.Denot
-bays g = record { faults = g.B.Faulty.faults; mark = g.B.Faulty.mark; files = g.B.Bay.files; leaves = g.B.Bay.leaves; moment = g.B.Bay.moment; left_since = g.B.Bay.left_since }
+bays g = record {
+  faults = g.B.Faulty.faults;
+  mark = g.B.Faulty.mark;
+  files = g.B.Bay.files;
+  leaves = g.B.Bay.leaves;
+  moment = g.B.Bay.moment;
+  left_since = g.B.Bay.left_since;
+  handed_out = g.B.Bay.handed_out;
+}
 
 lawful : (g : given.Over) → IsLawful (bays g)
 lawful g = record { as_read = g.met.B.Bay.as_read; since_now = g.met.B.Bay.since_now; only_now = g.met.B.Bay.only_now; since_earlier = g.met.B.Bay.since_earlier }
@@ -27,6 +40,21 @@ count_again-requires-clause-within g c = λ some.
 pub count_again-requires-clause-recounted : goal.count_again-requires-clause-recounted
 count_again-requires-clause-recounted g c = c.requires.recounted
 
+pub pass-requires-clause-forward : goal.pass-requires-clause-forward
+pass-requires-clause-forward g c =
+    omega (
+      arith,
+      c.requires.can_log.logging.passed,
+      c.len-2.ensures,
+      ap (λ (l : Listing). length l.events) c.count_again.ensures.listing,
+      length-append c.args.tally.now.listing.events c.split_at.result.0.now,
+    )
+
+pub pass-requires-clause-within : goal.pass-requires-clause-within
+pass-requires-clause-within g c =
+    let settings_are = c.requires.can_log.logging.same ∙ sym (ap (λ (l : Listing). l.settings) c.count_again.ensures.listing) in
+    subst (λ (s : Numbers). c.len-2.result ≤ capacity s) (sym settings_are) (omega (arith, c.len-2.ensures, c.count_again.ensures.recounted.fits))
+
 pub returns-then-is_empty : goal.returns-then-is_empty
 returns-then-is_empty g c =
     let count_is : c.min-count.result ≡ min (c.args.n0 - length c.args.tally.now.listing.events) (length c.args.keys.now) = omega arith in
@@ -36,11 +64,17 @@ returns-then-is_empty g c =
       events = c.args.tally.now.listing.events ++ keys;
       closed = c.args.tally.now.listing.closed;
     }) c.split_at.ensures.front in
+    let over : HasPassed (length c.count_again.new.tally.listing.events) c.args.mark c.args.log.now.marks c.pass.new.self.marks =
+    subst (λ n. HasPassed n c.args.mark c.args.log.now.marks c.pass.new.self.marks) c.len-2.ensures c.pass.ensures.passed in
     let none : length c.split_at.result.1.now ≡ 0 = search rules in
-    all_again (bays g) (lawful g)
+    subst (λ (l : LogPlace). ReplaysKeys (bays g) c.args.n0 c.args.mark c.args.keys.now
+    (record { bay = c.args.bay.now; counts = c.args.tally.now; log = c.args.log.now; room = length c.args.buffer.now })
+    (record { bay = c.args.bay.now; counts = c.count_again.new.tally; log = l; room = length c.args.buffer.now }) (Ok tt)) (sym c.pass.ensures.rest)
+    (all_again (bays g) (lawful g) c.args.mark
     (record { bay = c.args.bay.now; counts = c.args.tally.now; log = c.args.log.now; room = length c.args.buffer.now })
     c.args.n0 c.min-count.result c.args.keys.now c.requires c.count_again.new.tally count_is listing_is c.count_again.ensures.rows c.count_again.ensures.due c.count_again.ensures.recounted
-    (ap (length {A = ℕ}) (sym c.split_at.ensures.back) ∙ none)
+    c.pass.new.self.marks over
+    (ap (length {A = ℕ}) (sym c.split_at.ensures.back) ∙ none))
 
 pub take_keys-requires : goal.take_keys-requires
 take_keys-requires g c =
@@ -51,14 +85,18 @@ take_keys-requires g c =
       events = c.args.tally.now.listing.events ++ keys;
       closed = c.args.tally.now.listing.closed;
     }) c.split_at.ensures.front in
+    let over : HasPassed (length c.count_again.new.tally.listing.events) c.args.mark c.args.log.now.marks c.pass.new.self.marks =
+    subst (λ n. HasPassed n c.args.mark c.args.log.now.marks c.pass.new.self.marks) c.len-2.ensures c.pass.ensures.passed in
     let some : 0 < length c.split_at.result.1.now = search rules in
     let some_left : 0 < length (drop c.min-count.result c.args.keys.now) = omega (arith, some, ap (length {A = ℕ}) c.split_at.ensures.back) in
-    subst (λ (keys : List ℕ). CanTake (bays g) keys (record { bay = c.args.bay.now; counts = c.count_again.new.tally; log = c.args.log.now; room = length c.args.buffer.now }))
+    subst (λ (keys : List ℕ). CanTake (bays g) keys (record { bay = c.args.bay.now; counts = c.count_again.new.tally; log = c.pass.new.self; room = length c.args.buffer.now }))
     (sym c.split_at.ensures.back)
-    (can_take_ahead (bays g) (lawful g)
+    (subst (λ (l : LogPlace). CanTake (bays g) (drop c.min-count.result c.args.keys.now)
+    (record { bay = c.args.bay.now; counts = c.count_again.new.tally; log = l; room = length c.args.buffer.now })) (sym c.pass.ensures.rest)
+    (can_take_ahead (bays g) (lawful g) c.args.mark
     (record { bay = c.args.bay.now; counts = c.args.tally.now; log = c.args.log.now; room = length c.args.buffer.now })
     c.args.n0 c.min-count.result c.args.keys.now c.requires c.count_again.new.tally count_is listing_is c.count_again.ensures.rows c.count_again.ensures.due c.count_again.ensures.recounted
-    some_left)
+    c.pass.new.self.marks over some_left))
 
 pub returns : goal.returns
 returns g c =
@@ -69,13 +107,19 @@ returns g c =
       events = c.args.tally.now.listing.events ++ keys;
       closed = c.args.tally.now.listing.closed;
     }) c.split_at.ensures.front in
+    let over : HasPassed (length c.count_again.new.tally.listing.events) c.args.mark c.args.log.now.marks c.pass.new.self.marks =
+    subst (λ n. HasPassed n c.args.mark c.args.log.now.marks c.pass.new.self.marks) c.len-2.ensures c.pass.ensures.passed in
     let some : 0 < length c.split_at.result.1.now = search rules in
     let some_left : 0 < length (drop c.min-count.result c.args.keys.now) = omega (arith, some, ap (length {A = ℕ}) c.split_at.ensures.back) in
-    others_ahead (bays g) (lawful g)
+    others_ahead (bays g) (lawful g) c.args.mark
     (record { bay = c.args.bay.now; counts = c.args.tally.now; log = c.args.log.now; room = length c.args.buffer.now })
     c.args.n0 c.min-count.result c.args.keys.now c.requires c.count_again.new.tally count_is listing_is c.count_again.ensures.rows c.count_again.ensures.due c.count_again.ensures.recounted
-    some_left
+    c.pass.new.self.marks over some_left
     (record { bay = c.take_keys.new.bay; counts = c.take_keys.new.tally; log = c.take_keys.new.log; room = length c.take_keys.new.buffer }) c.take_keys.result
-    (subst (λ (keys : List ℕ). TakesKeys (bays g) keys (record { bay = c.args.bay.now; counts = c.count_again.new.tally; log = c.args.log.now; room = length c.args.buffer.now })
+    (subst (λ (l : LogPlace). TakesKeys (bays g) c.args.mark (drop c.min-count.result c.args.keys.now)
+    (record { bay = c.args.bay.now; counts = c.count_again.new.tally; log = l; room = length c.args.buffer.now })
+    (record { bay = c.take_keys.new.bay; counts = c.take_keys.new.tally; log = c.take_keys.new.log; room = length c.take_keys.new.buffer }) c.take_keys.result) c.pass.ensures.rest
+    (subst (λ (keys : List ℕ). TakesKeys (bays g) c.args.mark keys
+    (record { bay = c.args.bay.now; counts = c.count_again.new.tally; log = c.pass.new.self; room = length c.args.buffer.now })
     (record { bay = c.take_keys.new.bay; counts = c.take_keys.new.tally; log = c.take_keys.new.log; room = length c.take_keys.new.buffer }) c.take_keys.result) c.split_at.ensures.back
-    c.take_keys.ensures)
+    c.take_keys.ensures))

@@ -1,4 +1,13 @@
-use Rattle.std.proofs.Common.{ℕ, [], ◌∷◌, length, ap, arith, rules, length-append}
+use Rattle.std.proofs.Common.{ℕ, [], ◌∷◌, length, ap, arith, rules, length-append, subst, sym, ◌∙◌, ◌≤◌, Ok, Err}
+use Rattle.lert_rows.specs.Rows.{directory_text}
+use Rattle.lert_reports.specs.declared.log.LogKind.{LogKind}
+use Rattle.lert_spec.specs.declared.numbers.Numbers.{Numbers}
+use Rattle.lert_spec.specs.Edges.{capacity}
+use Rattle.lert_cone.specs.Appends.{AppendsRecord}
+use Rattle.lert_cone.specs.Listing.{Listing}
+use Rattle.lert_cone.specs.Marks.{HasPassed}
+use Rattle.lert_cone.specs.Record.{LogPlace}
+use Rattle.lert_cone.specs.Takes.{CanLog, TakesKeys}
 use Rattle.lert_cone.proofs.KeyTaken.{key_refused, key_between, can_log_then, record_failed, key_flushed}
 use Rattle.lert_bay.specs.Kept.{Bays}
 use Rattle.lert_bay.proofs.KeptLaws.{IsLawful}
@@ -6,7 +15,15 @@ use Rattle.lert_cone.proofs.keys.take_key.Given as given
 use Rattle.lert_cone.proofs.keys.take_key.Goals as goal
 
 abbrev bays : (g : given.Over) → Bays g.row.B.Denot
-bays g = record { faults = g.B.Faulty.faults; mark = g.B.Faulty.mark; files = g.B.Bay.files; leaves = g.B.Bay.leaves; moment = g.B.Bay.moment; left_since = g.B.Bay.left_since }
+bays g = record {
+  faults = g.B.Faulty.faults;
+  mark = g.B.Faulty.mark;
+  files = g.B.Bay.files;
+  leaves = g.B.Bay.leaves;
+  moment = g.B.Bay.moment;
+  left_since = g.B.Bay.left_since;
+  handed_out = g.B.Bay.handed_out;
+}
 
 lawful : (g : given.Over) → IsLawful (bays g)
 lawful g = record { as_read = g.met.B.Bay.as_read; since_now = g.met.B.Bay.since_now; only_now = g.met.B.Bay.only_now; since_earlier = g.met.B.Bay.since_earlier }
@@ -24,7 +41,7 @@ pub take-requires-clause-counted : goal.take-requires-clause-counted
 take-requires-clause-counted g c = c.requires.counted
 
 pub returns-in_err-take : goal.returns-in_err-take
-returns-in_err-take g c = key_refused (bays g) (lawful g)
+returns-in_err-take g c = key_refused (bays g) (lawful g) c.args.mark
     (record { bay = c.args.bay.now; counts = c.args.tally.now; log = c.args.log.now; room = length c.args.buffer.now })
     c.args.key c.requires c.take.new.bay c.take.new.self c.take.result c.in_err-take.field-0.0 c.in_err-take.was c.take.ensures
     c.from_residual.result c.from_residual.ensures.1
@@ -35,28 +52,63 @@ is_flushed-requires-clause-some g c = omega (arith, ap (length {A = ℕ}) c.in_o
 pub is_flushed-requires-clause-fits : goal.is_flushed-requires-clause-fits
 is_flushed-requires-clause-fits g c = c.in_ok-take.ensures.counted.fits
 
+pub pass-requires-clause-forward : goal.pass-requires-clause-forward
+pass-requires-clause-forward g c =
+    omega (
+      arith,
+      c.requires.can_log.logging.passed,
+      c.len.ensures,
+      ap (length {A = ℕ}) c.in_ok-take.ensures.taken,
+      length-append c.args.tally.now.listing.events (c.args.key ∷ []),
+    )
+
+pub pass-requires-clause-within : goal.pass-requires-clause-within
+pass-requires-clause-within g c =
+    let settings_are = c.requires.can_log.logging.same ∙ sym (ap (λ (l : Listing). l.settings) c.in_ok-take.ensures.listing) in
+    subst (λ (s : Numbers). c.len.result ≤ capacity s) (sym settings_are) (omega (arith, c.len.ensures, c.in_ok-take.ensures.counted.fits))
+
 pub returns-then-not-is_flushed : goal.returns-then-not-is_flushed
-returns-then-not-is_flushed g c = key_between (bays g) (lawful g)
+returns-then-not-is_flushed g c =
+    let over : HasPassed (length c.take.new.self.listing.events) c.args.mark c.args.log.now.marks c.pass.new.self.marks =
+    subst (λ n. HasPassed n c.args.mark c.args.log.now.marks c.pass.new.self.marks) c.len.ensures c.pass.ensures.passed in
+    subst (λ (l : LogPlace). TakesKeys (bays g) c.args.mark (c.args.key ∷ [])
     (record { bay = c.args.bay.now; counts = c.args.tally.now; log = c.args.log.now; room = length c.args.buffer.now })
-    c.args.key c.requires c.take.new.bay c.take.new.self c.in_ok-take.ensures (c.is_flushed.ensures.still (search rules))
+    (record { bay = c.take.new.bay; counts = c.take.new.self; log = l; room = length c.args.buffer.now }) (Ok tt)) (sym c.pass.ensures.rest)
+    (key_between (bays g) (lawful g) c.args.mark
+    (record { bay = c.args.bay.now; counts = c.args.tally.now; log = c.args.log.now; room = length c.args.buffer.now })
+    c.args.key c.requires c.take.new.bay c.take.new.self c.in_ok-take.ensures c.pass.new.self.marks over (c.is_flushed.ensures.still (search rules)))
 
 pub write_record-requires-clause-counted : goal.write_record-requires-clause-counted
 write_record-requires-clause-counted g c = c.in_ok-take.ensures.counted
 
 pub write_record-requires-clause-can_log : goal.write_record-requires-clause-can_log
-write_record-requires-clause-can_log g c = can_log_then (bays g) (lawful g)
+write_record-requires-clause-can_log g c =
+    let over : HasPassed (length c.take.new.self.listing.events) c.args.mark c.args.log.now.marks c.pass.new.self.marks =
+    subst (λ n. HasPassed n c.args.mark c.args.log.now.marks c.pass.new.self.marks) c.len.ensures c.pass.ensures.passed in
+    subst (λ (l : LogPlace). CanLog (bays g) (record { bay = c.take.new.bay; counts = c.take.new.self; log = l; room = length c.args.buffer.now })) (sym c.pass.ensures.rest)
+    (can_log_then (bays g) (lawful g) c.args.mark
     (record { bay = c.args.bay.now; counts = c.args.tally.now; log = c.args.log.now; room = length c.args.buffer.now })
-    c.args.key c.requires c.take.new.bay c.take.new.self c.in_ok-take.ensures
+    c.args.key c.requires c.take.new.bay c.take.new.self c.in_ok-take.ensures c.pass.new.self.marks over)
 
 pub returns-in_err-write_record : goal.returns-in_err-write_record
-returns-in_err-write_record g c = record_failed (bays g) (lawful g)
+returns-in_err-write_record g c =
+    let over : HasPassed (length c.take.new.self.listing.events) c.args.mark c.args.log.now.marks c.pass.new.self.marks =
+    subst (λ n. HasPassed n c.args.mark c.args.log.now.marks c.pass.new.self.marks) c.len.ensures c.pass.ensures.passed in
+    record_failed (bays g) (lawful g) c.args.mark
     (record { bay = c.args.bay.now; counts = c.args.tally.now; log = c.args.log.now; room = length c.args.buffer.now })
-    c.args.key c.requires c.take.new.bay c.take.new.self c.in_ok-take.ensures (c.is_flushed.ensures.flushed (search rules)) c.write_record.ensures.few
+    c.args.key c.requires c.take.new.bay c.take.new.self c.in_ok-take.ensures c.pass.new.self.marks over (c.is_flushed.ensures.flushed (search rules)) c.write_record.ensures.few
     c.in_err-write_record.field-0.0 c.write_record.new.bay c.write_record.new.log (length c.write_record.new.buffer)
-    (rw c.in_err-write_record.was at c.write_record.ensures.appends) c.from_residual-in_err-write_record.result c.from_residual-in_err-write_record.ensures.1
+    (subst (λ (l : LogPlace). AppendsRecord (bays g) LogKind.Flush (length c.take.new.self.listing.events) (directory_text c.take.new.self.rows) c.take.new.self.due.reports
+    c.take.new.bay c.write_record.new.bay l c.write_record.new.log (Err c.in_err-write_record.field-0.0)) c.pass.ensures.rest
+    (rw c.in_err-write_record.was at c.write_record.ensures.appends)) c.from_residual-in_err-write_record.result c.from_residual-in_err-write_record.ensures.1
 
 pub returns : goal.returns
-returns g c = key_flushed (bays g) (lawful g)
+returns g c =
+    let over : HasPassed (length c.take.new.self.listing.events) c.args.mark c.args.log.now.marks c.pass.new.self.marks =
+    subst (λ n. HasPassed n c.args.mark c.args.log.now.marks c.pass.new.self.marks) c.len.ensures c.pass.ensures.passed in
+    key_flushed (bays g) (lawful g) c.args.mark
     (record { bay = c.args.bay.now; counts = c.args.tally.now; log = c.args.log.now; room = length c.args.buffer.now })
-    c.args.key c.requires c.take.new.bay c.take.new.self c.in_ok-take.ensures (c.is_flushed.ensures.flushed (search rules)) c.write_record.ensures.few
-    c.write_record.new.bay c.write_record.new.log (length c.write_record.new.buffer) c.write_record.auto.buffer (rw c.in_ok-write_record.was at c.write_record.ensures.appends)
+    c.args.key c.requires c.take.new.bay c.take.new.self c.in_ok-take.ensures c.pass.new.self.marks over (c.is_flushed.ensures.flushed (search rules)) c.write_record.ensures.few
+    c.write_record.new.bay c.write_record.new.log (length c.write_record.new.buffer) c.write_record.auto.buffer (subst (λ (l : LogPlace). AppendsRecord (bays g) LogKind.Flush
+    (length c.take.new.self.listing.events) (directory_text c.take.new.self.rows) c.take.new.self.due.reports
+    c.take.new.bay c.write_record.new.bay l c.write_record.new.log (Ok tt)) c.pass.ensures.rest (rw c.in_ok-write_record.was at c.write_record.ensures.appends))

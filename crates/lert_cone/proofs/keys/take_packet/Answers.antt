@@ -1,4 +1,4 @@
-use Rattle.std.proofs.Common.{◌^◌, ◌<◌, ℕ, List, All, length, subst, sym, arith}
+use Rattle.std.proofs.Common.{◌+◌, ◌^◌, ◌<◌, ℕ, List, All, length, ap, subst, sym, arith}
 use Rattle.lert_base.specs.Entries.{packet_of}
 use Rattle.lert_gatelog.specs.Gated.{IsClosed}
 use Rattle.lert_bay.specs.Kept.{Bays}
@@ -9,7 +9,15 @@ use Rattle.lert_cone.proofs.keys.take_packet.Given as given
 use Rattle.lert_cone.proofs.keys.take_packet.Goals as goal
 
 abbrev bays : (g : given.Over) → Bays g.row.B.Denot
-bays g = record { faults = g.B.Faulty.faults; mark = g.B.Faulty.mark; files = g.B.Bay.files; leaves = g.B.Bay.leaves; moment = g.B.Bay.moment; left_since = g.B.Bay.left_since }
+bays g = record {
+  faults = g.B.Faulty.faults;
+  mark = g.B.Faulty.mark;
+  files = g.B.Bay.files;
+  leaves = g.B.Bay.leaves;
+  moment = g.B.Bay.moment;
+  left_since = g.B.Bay.left_since;
+  handed_out = g.B.Bay.handed_out;
+}
 
 lawful : (g : given.Over) → IsLawful (bays g)
 lawful g = record { as_read = g.met.B.Bay.as_read; since_now = g.met.B.Bay.since_now; only_now = g.met.B.Bay.only_now; since_earlier = g.met.B.Bay.since_earlier }
@@ -93,7 +101,9 @@ returns g c =
     (packet_of c.args.entry.now) c.args.journal.now c.append_entry.new.log c.requires
     (subst (λ (keys : List ℕ). All (λ key. key < 2 ^ 64) keys) c.keys_of-keys.ensures.value c.keys_of-keys.ensures.fit) c.append_entry.new.bay (appends_ok (bays g)
     (packet_of c.args.entry.now) c.args.bay.now c.append_entry.new.bay c.args.journal.now c.append_entry.new.log c.append_entry.result c.in_ok-append_entry.was appends)
+    (record { gate = c.gate.result; first = c.len.result + 1 }) c.gate.ensures.value (ap (λ n. n + 1) c.len.ensures)
     (length c.append_entry.new.buffer) (record { bay = c.take_keys.new.bay; counts = c.take_keys.new.tally; log = c.take_keys.new.log; room = length c.take_keys.new.buffer }) c.take_keys.result
-    (subst (λ (keys : List ℕ). TakesKeys (bays g) keys (record { bay = c.append_entry.new.bay; counts = c.args.tally.now; log = c.args.log.now; room = length c.append_entry.new.buffer })
+    (subst (λ (keys : List ℕ). TakesKeys (bays g) (record { gate = c.gate.result; first = c.len.result + 1 }) keys
+    (record { bay = c.append_entry.new.bay; counts = c.args.tally.now; log = c.args.log.now; room = length c.append_entry.new.buffer })
     (record { bay = c.take_keys.new.bay; counts = c.take_keys.new.tally; log = c.take_keys.new.log; room = length c.take_keys.new.buffer }) c.take_keys.result) c.keys_of-keys.ensures.value
     c.take_keys.ensures)

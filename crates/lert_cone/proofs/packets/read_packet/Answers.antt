@@ -1,14 +1,17 @@
-use Rattle.std.proofs.Common.{◌≡◌, ◌∙◌, ℕ, ◌+◌, ◌<◌, ◌^◌, All, List, ap, arith, inl, inr, length, rules, subst, sym}
+use Rattle.std.proofs.Common.{◌≡◌, ◌∙◌, ℕ, ◌+◌, ◌<◌, ◌^◌, All, Bool, List, Ok, true, false, ap, arith, inl, inr, length, rules, subst, sym}
+use Rattle.std.proofs.lemmas.Result.{err_from_is_err_and}
 use Rattle.lert_base.specs.Entries.{packet_of}
 use Rattle.lert_base.specs.Packet.{Packet}
 use Rattle.lert_bay.specs.Files.{Files}
-use Rattle.lert_gatelog.specs.Gated.{IsOpen}
+use Rattle.lert_gatelog.specs.Gated.{IsOpen, Log}
+use Rattle.lert_journal.specs.Cost.{entry_cost}
 use Rattle.lert_journal.specs.Journal.{HoldsPacket}
 use Rattle.lert_journal.specs.Payload.{IsJournaled, payload_of}
 use Rattle.lert_spec.specs.declared.numbers.Numbers.{Numbers}
 use Rattle.lert_spec.specs.Edges.{capacity}
 use Rattle.lert_cone.specs.History.{most_payload}
 use Rattle.lert_cone.specs.Replay.{Past_the_end, Too_many}
+use Rattle.lert_cone.proofs.ReadCosts.{ended_cost, found_cost, journal_up_to, same_cost}
 use Rattle.lert_cone.proofs.packets.read_packet.Goals as goal
 
 -- what was read is a packet that stands in the journal
@@ -44,3 +47,38 @@ returns-in-None-packet_left-clause-found g c = λ seen told _.
     let fits = subst (λ (keys : List ℕ). All (λ key. key < 2 ^ 64) keys) c.keys_of.ensures.value c.keys_of.ensures.fit in
     held_at c.args.tally.now.listing.settings c.args.tally.now.listing.cone c.args.journal.now.most c.args.journal.now.file c.args.journal.now.gate seen
     (packet_of c.read_entry.new.entry) c.requires.file c.requires.most (c.in_ok-is_packet.ensures.found seen told (search rules)) (search rules) fits
+
+-- ---- how many bytes were handed out
+
+pub returns-in_err-is_packet-clause-handed : goal.returns-in_err-is_packet-clause-handed
+returns-in_err-is_packet-clause-handed g c =
+    let p = err_from_is_err_and c.from_residual.result c.from_residual.ensures.1 in
+    rw (p.1, p.2) (journal_up_to c.args.journal.now.file _ _ _ _ c.requires.file
+    (same_cost c.args.journal.now.most (most_payload c.args.tally.now.listing.settings) (packet_of c.read_entry.new.entry) _ c.requires.most) c.in_err-is_packet.ensures.handed)
+
+pub returns-in-Some-clause-handed : goal.returns-in-Some-clause-handed
+returns-in-Some-clause-handed g c =
+    let none : c.in_ok-is_packet.is_packet ≡ false = search rules in
+    let cost = ended_cost c.args.journal.now.most (packet_of c.read_entry.new.entry) c.in_ok-is_packet.is_packet none in
+    journal_up_to c.args.journal.now.file _ _ _ _ c.requires.file (omega (arith, cost)) c.in_ok-is_packet.ensures.handed
+
+pub returns-in-None-clause-handed : goal.returns-in-None-clause-handed
+returns-in-None-clause-handed g c =
+    let none : c.in_ok-is_packet.is_packet ≡ false = search rules in
+    let cost = ended_cost c.args.journal.now.most (packet_of c.read_entry.new.entry) c.in_ok-is_packet.is_packet none in
+    journal_up_to c.args.journal.now.file _ _ _ _ c.requires.file (omega (arith, cost)) c.in_ok-is_packet.ensures.handed
+
+pub returns-in-Some-packet_left-clause-handed : goal.returns-in-Some-packet_left-clause-handed
+returns-in-Some-packet_left-clause-handed g c =
+    let found : c.in_ok-is_packet.is_packet ≡ true = search rules in
+    let cost = found_cost c.args.journal.now.most (packet_of c.read_entry.new.entry) c.in_ok-is_packet.is_packet found in
+    let gate_is = ap (λ (log : Log). log.gate) (c.in_ok-is_packet.ensures.moved found) in
+    let short = (c.in_ok-is_packet.ensures.forward found).1 in
+    let packets = ap (λ (s : Numbers). s.packet) c.settings-settings.ensures in
+    journal_up_to c.args.journal.now.file _ _ _ _ c.requires.file (omega (arith, cost, gate_is, short, packets)) c.in_ok-is_packet.ensures.handed
+
+pub returns-in-None-packet_left-clause-handed : goal.returns-in-None-packet_left-clause-handed
+returns-in-None-packet_left-clause-handed g c =
+    let found : c.in_ok-is_packet.is_packet ≡ true = search rules in
+    let cost = found_cost c.args.journal.now.most (packet_of c.read_entry.new.entry) c.in_ok-is_packet.is_packet found in
+    journal_up_to c.args.journal.now.file _ _ _ _ c.requires.file (omega (arith, cost)) c.in_ok-is_packet.ensures.handed

@@ -6,16 +6,24 @@ use Rattle.lert_rows.specs.Rows.{IsAt, AreRows}
 use Rattle.lert_spec.specs.declared.numbers.Numbers.{Numbers}
 use Rattle.lert_bay.specs.declared.bay.TheConstants.{FRAMES}
 use Rattle.lert_bay.specs.Kept.{Bays}
-use Rattle.lert_bay.proofs.KeptLaws.{IsLawful, reads_as}
+use Rattle.lert_bay.proofs.KeptLaws.{IsLawful, reading_as, reads_as}
 use Rattle.lert_files.specs.Opened.{By_call}
 use Rattle.lert_files.proofs.GateLaws.{err_is, not_err, same_fault}
 use Rattle.lert_files.proofs.OpenedLaws.{check_failed, check_refused, header_refused, log_refused, opened_of}
-use Rattle.lert_files.proofs.QuietLaws.{quiet_as, quiet_on, quiet_reads}
+use Rattle.lert_files.proofs.QuietLaws.{quiet_as, quiet_on, quiet_reading, quiet_reads}
 use Rattle.lert_files.proofs.files.read_in_order.Given as given
 use Rattle.lert_files.proofs.files.read_in_order.Goals as goal
 
 abbrev bays : (g : given.Over) → Bays g.row.B.Denot
-bays g = record { faults = g.B.Faulty.faults; mark = g.B.Faulty.mark; files = g.B.Bay.files; leaves = g.B.Bay.leaves; moment = g.B.Bay.moment; left_since = g.B.Bay.left_since }
+bays g = record {
+  faults = g.B.Faulty.faults;
+  mark = g.B.Faulty.mark;
+  files = g.B.Bay.files;
+  leaves = g.B.Bay.leaves;
+  moment = g.B.Bay.moment;
+  left_since = g.B.Bay.left_since;
+  handed_out = g.B.Bay.handed_out;
+}
 
 lawful : (g : given.Over) → IsLawful (bays g)
 lawful g = record { as_read = g.met.B.Bay.as_read; since_now = g.met.B.Bay.since_now; only_now = g.met.B.Bay.only_now; since_earlier = g.met.B.Bay.since_earlier }
@@ -53,8 +61,8 @@ returns-in_err-read_journal_header g c =
       durable = λ seen told. tt;
       same = (refl, refl);
       quiet = quiet_on (bays g) (lawful g) c.args.bay.now c.sync_files.new.bay c.read_journal_header.new.bay _ _ synced.quiet
-          (quiet_reads (bays g) (lawful g) c.sync_files.new.bay c.read_journal_header.new.bay _
-          (reads_as (bays g) (lawful g) c.sync_files.new.bay c.read_journal_header.new.bay _ _ (λ is. same_fault _ _ is) header.only_reads));
+          (quiet_reading (bays g) (lawful g) c.sync_files.new.bay c.read_journal_header.new.bay _
+          (reading_as (bays g) (lawful g) c.sync_files.new.bay c.read_journal_header.new.bay _ _ (λ is. same_fault _ _ is) header.only_reads));
     })
 
 pub returns-in_err-end : goal.returns-in_err-end
@@ -78,7 +86,7 @@ returns-in_err-end g c =
       same = (refl, log.same);
       quiet = quiet_on (bays g) (lawful g) c.args.bay.now c.read_journal_header.new.bay c.read_whole_log.new.bay _ _
           (quiet_on (bays g) (lawful g) c.args.bay.now c.sync_files.new.bay c.read_journal_header.new.bay _ _ synced.quiet
-          (quiet_reads (bays g) (lawful g) c.sync_files.new.bay c.read_journal_header.new.bay _ header.only_reads))
+          (quiet_reading (bays g) (lawful g) c.sync_files.new.bay c.read_journal_header.new.bay _ header.only_reads))
           (quiet_reads (bays g) (lawful g) c.read_journal_header.new.bay c.read_whole_log.new.bay _
           (reads_as (bays g) (lawful g) c.read_journal_header.new.bay c.read_whole_log.new.bay _ _ (λ is. same_fault _ _ is) log.only_reads));
     })
@@ -112,7 +120,7 @@ returns-in_err-check g c =
       quiet = quiet_on (bays g) (lawful g) c.args.bay.now c.read_whole_log.new.bay c.check.new.bay _ _
           (quiet_on (bays g) (lawful g) c.args.bay.now c.read_journal_header.new.bay c.read_whole_log.new.bay _ _
           (quiet_on (bays g) (lawful g) c.args.bay.now c.sync_files.new.bay c.read_journal_header.new.bay _ _ synced.quiet
-          (quiet_reads (bays g) (lawful g) c.sync_files.new.bay c.read_journal_header.new.bay _ header.only_reads))
+          (quiet_reading (bays g) (lawful g) c.sync_files.new.bay c.read_journal_header.new.bay _ header.only_reads))
           (quiet_reads (bays g) (lawful g) c.read_journal_header.new.bay c.read_whole_log.new.bay _ log.only_reads))
           (quiet_reads (bays g) (lawful g) c.read_whole_log.new.bay c.check.new.bay _
           (reads_as (bays g) (lawful g) c.read_whole_log.new.bay c.check.new.bay _ _ (λ is. ap Err (check_failed _ (sym p.2 ∙ err_is _ _ is))) check.only_reads));
@@ -154,7 +162,7 @@ returns g c =
       quiet = quiet_on (bays g) (lawful g) c.args.bay.now c.read_whole_log.new.bay c.check.new.bay _ _
           (quiet_on (bays g) (lawful g) c.args.bay.now c.read_journal_header.new.bay c.read_whole_log.new.bay _ _
           (quiet_on (bays g) (lawful g) c.args.bay.now c.sync_files.new.bay c.read_journal_header.new.bay _ _ synced.quiet
-          (quiet_reads (bays g) (lawful g) c.sync_files.new.bay c.read_journal_header.new.bay _ header.only_reads))
+          (quiet_reading (bays g) (lawful g) c.sync_files.new.bay c.read_journal_header.new.bay _ header.only_reads))
           (quiet_reads (bays g) (lawful g) c.read_journal_header.new.bay c.read_whole_log.new.bay _ log.only_reads))
           (quiet_reads (bays g) (lawful g) c.read_whole_log.new.bay c.check.new.bay _
           (reads_as (bays g) (lawful g) c.read_whole_log.new.bay c.check.new.bay _ _ (λ is. absurd (not_err _ _ is)) check.only_reads));

@@ -1,16 +1,25 @@
-use Rattle.std.proofs.Common.{◌≡◌, Some, min, length, refl, ◌∙◌, arith, subst, inl, inr}
+use Rattle.std.proofs.Common.{◌≡◌, Some, Ok, min, length, refl, ◌∙◌, arith, subst, inl, inr}
 use Rattle.std.proofs.lemmas.Result.{err_from_is_err_and, IfErr-weaker}
 use Rattle.lert_bay.specs.declared.bay.TheConstants.{JOURNAL}
 use Rattle.lert_bay.specs.Files.{Files}
 use Rattle.lert_spec.specs.Limits.{IsValid}
 use Rattle.lert_bay.specs.Kept.{Bays}
-use Rattle.lert_bay.proofs.KeptLaws.{IsLawful, reads_call, reads_on}
+use Rattle.lert_bay.proofs.HandedLaws.{up_to_on, up_to_room, up_to_same}
+use Rattle.lert_bay.proofs.KeptLaws.{IsLawful, reading_call, reading_on}
 use Rattle.lert_files.proofs.HeadLaws.{told, headed_back, left_back, other_back, read_front}
 use Rattle.lert_files.proofs.journal_header.read_journal_header.Given as given
 use Rattle.lert_files.proofs.journal_header.read_journal_header.Goals as goal
 
 abbrev bays : (g : given.Over) → Bays g.row.B.Denot
-bays g = record { faults = g.B.Faulty.faults; mark = g.B.Faulty.mark; files = g.B.Bay.files; leaves = g.B.Bay.leaves; moment = g.B.Bay.moment; left_since = g.B.Bay.left_since }
+bays g = record {
+  faults = g.B.Faulty.faults;
+  mark = g.B.Faulty.mark;
+  files = g.B.Bay.files;
+  leaves = g.B.Bay.leaves;
+  moment = g.B.Bay.moment;
+  left_since = g.B.Bay.left_since;
+  handed_out = g.B.Bay.handed_out;
+}
 
 lawful : (g : given.Over) → IsLawful (bays g)
 lawful g = record { as_read = g.met.B.Bay.as_read; since_now = g.met.B.Bay.since_now; only_now = g.met.B.Bay.only_now; since_earlier = g.met.B.Bay.since_earlier }
@@ -26,7 +35,8 @@ returns-in_err-end g c =
       refuses = λ seen is at left. inl refl;
       differs = λ seen is kept has. inl refl;
       fault = inl refl;
-      only_reads = reads_call (bays g) (lawful g) start c.len.new.self _ len.time len.cause.never_falls (λ is. len.cause.failed refl) len.mark len.seen len.images;
+      only_reads = reading_call (bays g) (lawful g) start c.len.new.self _ len.time len.cause.never_falls (λ is. len.cause.failed refl) len.mark len.seen len.images;
+      handed = up_to_same JOURNAL 32 (g.B.Bay.handed_out start) (g.B.Bay.handed_out c.len.new.self) len.handed;
     })
 
 pub returns-in_err-count : goal.returns-in_err-count
@@ -41,9 +51,12 @@ returns-in_err-count g c =
       refuses = λ seen is at left. inl refl;
       differs = λ seen is kept has. inl refl;
       fault = inl refl;
-      only_reads = reads_on (bays g) (lawful g) start c.len.new.self c.read_at.new.self ⊥ _
-          (reads_call (bays g) (lawful g) start c.len.new.self ⊥ len.time len.cause.never_falls (λ is. absurd is) len.mark len.seen len.images)
-          (reads_call (bays g) (lawful g) c.len.new.self c.read_at.new.self _ read.time read.cause.never_falls (λ is. read.cause.failed refl) read.mark read.seen read.images);
+      only_reads = reading_on (bays g) (lawful g) start c.len.new.self c.read_at.new.self ⊥ _
+          (reading_call (bays g) (lawful g) start c.len.new.self ⊥ len.time len.cause.never_falls (λ is. absurd is) len.mark len.seen len.images)
+          (reading_call (bays g) (lawful g) c.len.new.self c.read_at.new.self _ read.time read.cause.never_falls (λ is. read.cause.failed refl) read.mark read.seen read.images);
+      handed = up_to_on JOURNAL 0 32 32 (g.B.Bay.handed_out start) (g.B.Bay.handed_out c.len.new.self) (g.B.Bay.handed_out c.read_at.new.self) (omega arith)
+          (up_to_same JOURNAL 0 (g.B.Bay.handed_out start) (g.B.Bay.handed_out c.len.new.self) len.handed)
+          (up_to_same JOURNAL 32 (g.B.Bay.handed_out c.len.new.self) (g.B.Bay.handed_out c.read_at.new.self) read.handed.failed);
     })
 
 pub returns : goal.returns
@@ -66,8 +79,12 @@ returns g c =
       refuses = λ seen is at left. left_back s cone limits c.ranges.cone.fits (seen JOURNAL) result (said seen is) at left;
       differs = λ seen is kept has. other_back s cone limits c.ranges.cone.fits (seen JOURNAL) result (said seen is) kept has;
       fault = IfErr-weaker result _ _ (λ fault of. inr of) c.check_header.ensures.fault;
-      only_reads = reads_on (bays g) (lawful g) start c.len.new.self c.read_at.new.self ⊥ _
-          (reads_call (bays g) (lawful g) start c.len.new.self ⊥ len.time len.cause.never_falls (λ is. absurd is) len.mark len.seen len.images)
-          (reads_call (bays g) (lawful g) c.len.new.self c.read_at.new.self _ read.time read.cause.never_falls (λ is. absurd (c.check_header.ensures.decided is)) read.mark
+      only_reads = reading_on (bays g) (lawful g) start c.len.new.self c.read_at.new.self ⊥ _
+          (reading_call (bays g) (lawful g) start c.len.new.self ⊥ len.time len.cause.never_falls (λ is. absurd is) len.mark len.seen len.images)
+          (reading_call (bays g) (lawful g) c.len.new.self c.read_at.new.self _ read.time read.cause.never_falls (λ is. absurd (c.check_header.ensures.decided is)) read.mark
           read.seen read.images);
+      handed = up_to_on JOURNAL 0 32 32 (g.B.Bay.handed_out start) (g.B.Bay.handed_out c.len.new.self) (g.B.Bay.handed_out c.read_at.new.self) (omega arith)
+          (up_to_same JOURNAL 0 (g.B.Bay.handed_out start) (g.B.Bay.handed_out c.len.new.self) len.handed)
+          (up_to_room JOURNAL 32 (g.B.Bay.files c.len.new.self) (g.B.Bay.handed_out c.len.new.self) (g.B.Bay.handed_out c.read_at.new.self) (Ok c.in_ok-count.count)
+          read.handed (omega (arith, read.within, c.read_at.auto.into)));
     }

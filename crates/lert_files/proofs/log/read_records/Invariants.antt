@@ -10,7 +10,15 @@ use Rattle.lert_files.specs.Read.{steps, HasRead}
 use Rattle.lert_files.proofs.log.read_records.Given as goal
 
 abbrev pub bays : (g : goal.Over) → Bays g.row.B.Denot
-bays g = record { faults = g.B.Faulty.faults; mark = g.B.Faulty.mark; files = g.B.Bay.files; leaves = g.B.Bay.leaves; moment = g.B.Bay.moment; left_since = g.B.Bay.left_since }
+bays g = record {
+  faults = g.B.Faulty.faults;
+  mark = g.B.Faulty.mark;
+  files = g.B.Bay.files;
+  leaves = g.B.Bay.leaves;
+  moment = g.B.Bay.moment;
+  left_since = g.B.Bay.left_since;
+  handed_out = g.B.Bay.handed_out;
+}
 
 -- what was read so far is that of some records, which stand up to this gate where the file is told
 abbrev pub invariant-records : goal.invariant-records

@@ -1,11 +1,28 @@
-use Rattle.std.proofs.Common.{◌≡◌, min, length, ap, sym, ◌∙◌, arith}
-use Rattle.lert_bay.specs.declared.bay.TheConstants.{LOG}
+use Rattle.std.proofs.Common.{◌≡◌, min, length, refl, ap, sym, ◌∙◌, arith}
+use Rattle.lert_bay.specs.declared.bay.TheConstants.{JOURNAL, LOG}
+use Rattle.lert_bay.specs.Kept.{Bays}
+use Rattle.lert_bay.proofs.KeptLaws.{IsLawful, apart_from_log, reads_call}
 use Rattle.lert_reports.specs.Log.{log_header}
 use Rattle.lert_spec.specs.Trace.{agreed}
 use Rattle.lert_files.proofs.AgreedLaws.{agreed_front, agreed_all}
-use Rattle.lert_files.proofs.GateLaws.{same_place}
+use Rattle.lert_files.proofs.GateLaws.{malformed_or_failed, not_err, same_place}
 use Rattle.lert_files.proofs.HeadLaws.{read_front}
+use Rattle.lert_files.proofs.log_header.read_log_header.Given as given
 use Rattle.lert_files.proofs.log_header.read_log_header.Goals as goal
+
+abbrev bays : (g : given.Over) → Bays g.row.B.Denot
+bays g = record {
+  faults = g.B.Faulty.faults;
+  mark = g.B.Faulty.mark;
+  files = g.B.Bay.files;
+  leaves = g.B.Bay.leaves;
+  moment = g.B.Bay.moment;
+  left_since = g.B.Bay.left_since;
+  handed_out = g.B.Bay.handed_out;
+}
+
+lawful : (g : given.Over) → IsLawful (bays g)
+lawful g = record { as_read = g.met.B.Bay.as_read; since_now = g.met.B.Bay.since_now; only_now = g.met.B.Bay.only_now; since_earlier = g.met.B.Bay.since_earlier }
 
 pub returns-then-same-lt-LOG_HEADER_LEN-clause-left : goal.returns-then-same-lt-LOG_HEADER_LEN-clause-left
 returns-then-same-lt-LOG_HEADER_LEN-clause-left g c seen told file at is =
@@ -23,3 +40,22 @@ returns-clause-headed g c seen told =
     let front = read_front 8 c.in_ok-count.count c.read_at.new.into (seen LOG) count_is copied.copied in
     let same = c.agreed-same.ensures ∙ (ap (agreed log_header) front ∙ agreed_front log_header (seen LOG) 8 (omega arith)) in
     agreed_all log_header (seen LOG) (omega (arith, same, c.if-same-lt-LOG_HEADER_LEN.false))
+
+-- the log is read, and no other file
+pub returns-in_err-count-clause-only_reads : goal.returns-in_err-count-clause-only_reads
+returns-in_err-count-clause-only_reads g c =
+    let read = c.in_err-count.ensures in
+    reads_call (bays g) (lawful g) c.args.bay.now c.read_at.new.self _ read.time read.cause.never_falls (λ is. read.cause.failed refl) read.mark read.seen read.images
+    (read.handed.others JOURNAL apart_from_log)
+
+pub returns-then-same-lt-LOG_HEADER_LEN-clause-only_reads : goal.returns-then-same-lt-LOG_HEADER_LEN-clause-only_reads
+returns-then-same-lt-LOG_HEADER_LEN-clause-only_reads g c =
+    let read = c.in_ok-count.ensures in
+    reads_call (bays g) (lawful g) c.args.bay.now c.read_at.new.self _ read.time read.cause.never_falls (λ is. absurd (malformed_or_failed _ _ is)) read.mark read.seen read.images
+    (read.handed.others JOURNAL apart_from_log)
+
+pub returns-clause-only_reads : goal.returns-clause-only_reads
+returns-clause-only_reads g c =
+    let read = c.in_ok-count.ensures in
+    reads_call (bays g) (lawful g) c.args.bay.now c.read_at.new.self _ read.time read.cause.never_falls (λ is. absurd (not_err _ _ is)) read.mark read.seen read.images
+    (read.handed.others JOURNAL apart_from_log)

@@ -5,11 +5,20 @@ use Rattle.lert_bay.specs.Kept.{Bays}
 use Rattle.lert_bay.proofs.KeptLaws.{IsLawful, reads_as}
 use Rattle.lert_files.specs.Read.{GateLeavesAt}
 use Rattle.lert_files.proofs.GateLaws.{failed_or_malformed, gate_left, malformed_or_failed, not_err, same_place}
+use Rattle.lert_files.proofs.QuietLaws.{log_reads}
 use Rattle.lert_files.proofs.payload.read_payload.Given as given
 use Rattle.lert_files.proofs.payload.read_payload.Goals as goal
 
 abbrev bays : (g : given.Over) → Bays g.row.B.Denot
-bays g = record { faults = g.B.Faulty.faults; mark = g.B.Faulty.mark; files = g.B.Bay.files; leaves = g.B.Bay.leaves; moment = g.B.Bay.moment; left_since = g.B.Bay.left_since }
+bays g = record {
+  faults = g.B.Faulty.faults;
+  mark = g.B.Faulty.mark;
+  files = g.B.Bay.files;
+  leaves = g.B.Bay.leaves;
+  moment = g.B.Bay.moment;
+  left_since = g.B.Bay.left_since;
+  handed_out = g.B.Bay.handed_out;
+}
 
 lawful : (g : given.Over) → IsLawful (bays g)
 lawful g = record { as_read = g.met.B.Bay.as_read; since_now = g.met.B.Bay.since_now; only_now = g.met.B.Bay.only_now; since_earlier = g.met.B.Bay.since_earlier }
@@ -25,7 +34,8 @@ returns-in-Ok-None g c =
       counted = tt;
       moved = rw c.in-Ok-None.field-0-is at next.moved;
       fault = tt;
-      only_reads = reads_as (bays g) (lawful g) c.args.bay.now c.next.new.bay _ _ (λ is. absurd (not_err _ _ is)) next.only_reads;
+      only_reads = reads_as (bays g) (lawful g) c.args.bay.now c.next.new.bay _ _ (λ is. absurd (not_err _ _ is))
+          (log_reads (bays g) c.args.log.now.file _ c.args.bay.now c.next.new.bay _ c.requires.file next.only_reads next.handed);
     }
 
 pub returns-then-closed : goal.returns-then-closed
@@ -42,7 +52,8 @@ returns-then-closed g c =
       counted = tt;
       moved = tt;
       fault = inr (c.gate-gate.result, refl);
-      only_reads = reads_as (bays g) (lawful g) c.args.bay.now c.next.new.bay _ _ (λ is. absurd (malformed_or_failed _ _ is)) next.only_reads;
+      only_reads = reads_as (bays g) (lawful g) c.args.bay.now c.next.new.bay _ _ (λ is. absurd (malformed_or_failed _ _ is))
+          (log_reads (bays g) c.args.log.now.file _ c.args.bay.now c.next.new.bay _ c.requires.file next.only_reads next.handed);
     }
 
 pub returns-else-closed : goal.returns-else-closed
@@ -58,7 +69,8 @@ returns-else-closed g c =
       counted = rw c.in-Ok-Some.field-0-is at next.counted;
       moved = rw c.in-Ok-Some.field-0-is at next.moved;
       fault = tt;
-      only_reads = reads_as (bays g) (lawful g) c.args.bay.now c.next.new.bay _ _ (λ is. absurd (not_err _ _ is)) next.only_reads;
+      only_reads = reads_as (bays g) (lawful g) c.args.bay.now c.next.new.bay _ _ (λ is. absurd (not_err _ _ is))
+          (log_reads (bays g) c.args.log.now.file _ c.args.bay.now c.next.new.bay _ c.requires.file next.only_reads next.handed);
     }
 
 pub returns-in-Err-Failed : goal.returns-in-Err-Failed
@@ -72,7 +84,8 @@ returns-in-Err-Failed g c =
       counted = tt;
       moved = tt;
       fault = inl refl;
-      only_reads = reads_as (bays g) (lawful g) c.args.bay.now c.next.new.bay _ _ (λ is. ap Err c.in-Err-Failed.field-0-is) next.only_reads;
+      only_reads = reads_as (bays g) (lawful g) c.args.bay.now c.next.new.bay _ _ (λ is. ap Err c.in-Err-Failed.field-0-is)
+          (log_reads (bays g) c.args.log.now.file _ c.args.bay.now c.next.new.bay _ c.requires.file next.only_reads next.handed);
     }
 
 pub returns-in-Err-Malformed : goal.returns-in-Err-Malformed
@@ -95,5 +108,6 @@ returns-in-Err-Malformed g c =
       counted = tt;
       moved = tt;
       fault = inr (c.left_behind.result, refl);
-      only_reads = reads_as (bays g) (lawful g) c.args.bay.now c.next.new.bay _ _ (λ is. absurd (malformed_or_failed _ _ is)) next.only_reads;
+      only_reads = reads_as (bays g) (lawful g) c.args.bay.now c.next.new.bay _ _ (λ is. absurd (malformed_or_failed _ _ is))
+          (log_reads (bays g) c.args.log.now.file _ c.args.bay.now c.next.new.bay _ c.requires.file next.only_reads next.handed);
     }

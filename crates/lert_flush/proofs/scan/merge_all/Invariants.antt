@@ -6,7 +6,15 @@ use Rattle.lert_flush.proofs.GatheringLaws.{IsGathering}
 use Rattle.lert_flush.proofs.scan.merge_all.Given as goal
 
 abbrev pub bays : (g : goal.Over) → Bays g.row.B.Denot
-bays g = record { faults = g.B.Faulty.faults; mark = g.B.Faulty.mark; files = g.B.Bay.files; leaves = g.B.Bay.leaves; moment = g.B.Bay.moment; left_since = g.B.Bay.left_since }
+bays g = record {
+  faults = g.B.Faulty.faults;
+  mark = g.B.Faulty.mark;
+  files = g.B.Bay.files;
+  leaves = g.B.Bay.leaves;
+  moment = g.B.Bay.moment;
+  left_since = g.B.Bay.left_since;
+  handed_out = g.B.Bay.handed_out;
+}
 
 -- what the totals took so far, and nothing was changed
 abbrev pub invariant-loop-next : goal.invariant-loop-next

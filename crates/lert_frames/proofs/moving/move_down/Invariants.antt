@@ -19,7 +19,15 @@ pub record IsMoved {B : Type 0} (bays : Bays B) (from to count moved : ℕ) (bef
       IsOut to (part (seen FRAMES) from (from + moved)) (later FRAMES) outlet))
 
 abbrev pub bays : (g : goal.Over) → Bays g.row.B.Denot
-bays g = record { faults = g.B.Faulty.faults; mark = g.B.Faulty.mark; files = g.B.Bay.files; leaves = g.B.Bay.leaves; moment = g.B.Bay.moment; left_since = g.B.Bay.left_since }
+bays g = record {
+  faults = g.B.Faulty.faults;
+  mark = g.B.Faulty.mark;
+  files = g.B.Bay.files;
+  leaves = g.B.Bay.leaves;
+  moment = g.B.Bay.moment;
+  left_since = g.B.Bay.left_since;
+  handed_out = g.B.Bay.handed_out;
+}
 
 abbrev pub invariant-loop-moved : goal.invariant-loop-moved
 invariant-loop-moved g l = IsMoved (bays g) l.from l.to l.count l.moved l.initial.bay l.bay l.outlet

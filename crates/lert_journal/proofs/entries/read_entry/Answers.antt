@@ -3,10 +3,12 @@ use Rattle.std.proofs.Common.{◌≡◌, ℕ, ◌+◌, Err, length, take, refl, 
 use Rattle.std.proofs.lemmas.Result.{err_from_is_err_and}
 use Rattle.std.proofs.lemmas.List.{length-take-le}
 use Rattle.lert_base.specs.Entries.{packet_of}
+use Rattle.lert_bay.proofs.HandedLaws.{up_to_more}
 use Rattle.lert_gatelog.specs.declared.fault.LogFault.TheVariants.{Malformed}
 use Rattle.lert_gatelog.specs.Gated.{IsOpen}
 use Rattle.lert_gatelog.proofs.Deciding.{open_or_closed, one_payload}
 use Rattle.lert_journal.specs.Payload.{payload_of, packet_in, IsJournaled}
+use Rattle.lert_journal.proofs.Costs.{fault_cost}
 use Rattle.lert_journal.proofs.OneAnswer.{packet_or_left, closed_or_left, left_by_payload, one_place_left, same_fault, same_place, fails, fails_there}
 use Rattle.lert_journal.proofs.PayloadBack.{packet_back}
 use Rattle.lert_journal.proofs.PayloadWhole.{whole_packet}
@@ -112,3 +114,28 @@ returns-clause-refuses g c seen told at left_at =
     let stands = rw c.in-Some.is at (c.in_ok-count.ensures.opened seen told) in
     left_by_payload c.args.settings.now c.args.cone c.args.log.now.most (seen c.args.log.now.file) c.args.log.now.gate at (take c.in-Some.count c.next.new.into) stands left_at
     (sym c.in_default-place_left.ensures.place)
+
+-- ---- how many bytes were handed out
+
+pub returns-in_err-count-clause-handed : goal.returns-in_err-count-clause-handed
+returns-in_err-count-clause-handed g c =
+    let p = err_from_is_err_and c.from_residual.result c.from_residual.ensures.1 in
+    rw (p.1, p.2) (up_to_more c.args.log.now.file _ _ _ _ (fault_cost c.args.log.now.most (packet_of c.args.entry.now) _) c.in_err-count.ensures.handed)
+
+pub returns-in_default-clause-handed : goal.returns-in_default-clause-handed
+returns-in_default-clause-handed g c = rw c.in_default.is at c.in_ok-count.ensures.handed
+
+pub returns-in-Some-place_left-clause-handed : goal.returns-in-Some-place_left-clause-handed
+returns-in-Some-place_left-clause-handed g c =
+    let counted = rw c.in-Some.is at c.in_ok-count.ensures.counted in
+    up_to_more c.args.log.now.file (5 + c.in-Some.count) (5 + c.args.log.now.most) _ _ (omega (arith, counted.1)) (rw c.in-Some.is at c.in_ok-count.ensures.handed)
+
+pub returns-clause-handed : goal.returns-clause-handed
+returns-clause-handed g c =
+    let whole = whole_packet c.args.settings.now c.args.cone (take c.in-Some.count c.next.new.into) (sym c.in_default-place_left.ensures.place) in
+    let text : payload_of (packet_of c.fill.new.entry) ≡ take c.in-Some.count c.next.new.into = ap payload_of c.fill.ensures.packet ∙ c.fill.ensures.text whole.0 in
+    let counted = rw c.in-Some.is at c.in_ok-count.ensures.counted in
+    let long : length (take c.in-Some.count c.next.new.into) ≡ c.in-Some.count = length-take-le c.in-Some.count c.next.new.into
+    (omega (arith, counted.1, c.requires.room, c.next.auto.into)) in
+    let same : length (payload_of (packet_of c.fill.new.entry)) ≡ c.in-Some.count = ap length text ∙ long in
+    up_to_more c.args.log.now.file (5 + c.in-Some.count) _ _ _ (omega (arith, same)) (rw c.in-Some.is at c.in_ok-count.ensures.handed)

@@ -6,7 +6,15 @@ use Rattle.lert_levels.specs.Sources.{of_bin, placed_at, AllOf, IsSecure}
 use Rattle.lert_levels.proofs.secure.secure_row.Given as goal
 
 abbrev pub bays : (g : goal.Over) → Bays g.row.B.Denot
-bays g = record { faults = g.B.Faulty.faults; mark = g.B.Faulty.mark; files = g.B.Bay.files; leaves = g.B.Bay.leaves; moment = g.B.Bay.moment; left_since = g.B.Bay.left_since }
+bays g = record {
+  faults = g.B.Faulty.faults;
+  mark = g.B.Faulty.mark;
+  files = g.B.Bay.files;
+  leaves = g.B.Bay.leaves;
+  moment = g.B.Bay.moment;
+  left_since = g.B.Bay.left_since;
+  handed_out = g.B.Bay.handed_out;
+}
 
 -- the frames so far are secure, and nothing was changed
 abbrev pub invariant-loop-bin : goal.invariant-loop-bin

@@ -3,7 +3,7 @@ use Rattle.std.proofs.lemmas.Bool.{true≢false}
 use Rattle.std.proofs.lemmas.List.{length-take-le}
 use Rattle.lert_bay.specs.declared.bay.TheConstants.{JOURNAL}
 use Rattle.lert_bay.specs.Kept.{Bays}
-use Rattle.lert_bay.proofs.KeptLaws.{IsLawful, reads_as}
+use Rattle.lert_bay.proofs.KeptLaws.{IsLawful, reading_as}
 use Rattle.lert_gatelog.specs.Gated.{BreaksAt, IsClosed, IsOpen, Log, next_gate}
 use Rattle.lert_cone.specs.History.{most_payload}
 use Rattle.lert_recover.specs.Rest.{GoesOn, IsFound}
@@ -12,7 +12,15 @@ use Rattle.lert_recover.proofs.journal_rest.find_here.Given as given
 use Rattle.lert_recover.proofs.journal_rest.find_here.Goals as goal
 
 abbrev bays : (g : given.Over) → Bays g.row.B.Denot
-bays g = record { faults = g.B.Faulty.faults; mark = g.B.Faulty.mark; files = g.B.Bay.files; leaves = g.B.Bay.leaves; moment = g.B.Bay.moment; left_since = g.B.Bay.left_since }
+bays g = record {
+  faults = g.B.Faulty.faults;
+  mark = g.B.Faulty.mark;
+  files = g.B.Bay.files;
+  leaves = g.B.Bay.leaves;
+  moment = g.B.Bay.moment;
+  left_since = g.B.Bay.left_since;
+  handed_out = g.B.Bay.handed_out;
+}
 
 lawful : (g : given.Over) → IsLawful (bays g)
 lawful g = record { as_read = g.met.B.Bay.as_read; since_now = g.met.B.Bay.since_now; only_now = g.met.B.Bay.only_now; since_earlier = g.met.B.Bay.since_earlier }
@@ -48,7 +56,7 @@ returns-in-Ok-None g c =
           (c.end_here.ensures.forward c.args.settings.now c.next.new.self.gate);
       file = ap (λ (log : Log). log.file) moved;
       most = ap (λ (log : Log). log.most) moved;
-      only_reads = reads_as (bays g) (lawful g) c.args.bay.now c.next.new.bay _ _ (λ is. absurd (true≢false (sym is))) next.only_reads;
+      only_reads = reading_as (bays g) (lawful g) c.args.bay.now c.next.new.bay _ _ (λ is. absurd (true≢false (sym is))) next.only_reads;
     }
 
 pub returns-in-Ok-Some : goal.returns-in-Ok-Some
@@ -75,7 +83,7 @@ returns-in-Ok-Some g c =
           (subst (λ (gate : ℕ). GoesOn s c.args.events gate (next_gate gate payload) c.packet_here.result) gate_is c.packet_here.ensures.forward);
       file = ap (λ (log : Log). log.file) moved;
       most = ap (λ (log : Log). log.most) moved;
-      only_reads = reads_as (bays g) (lawful g) c.args.bay.now c.next.new.bay _ _ (λ is. absurd (true≢false (sym is))) next.only_reads;
+      only_reads = reading_as (bays g) (lawful g) c.args.bay.now c.next.new.bay _ _ (λ is. absurd (true≢false (sym is))) next.only_reads;
     }
 
 pub returns-in-Err-Malformed : goal.returns-in-Err-Malformed
@@ -91,7 +99,7 @@ returns-in-Err-Malformed g c =
       forward = tt;
       file = ap (λ (log : Log). log.file) next.stayed;
       most = ap (λ (log : Log). log.most) next.stayed;
-      only_reads = reads_as (bays g) (lawful g) c.args.bay.now c.next.new.bay _ _ (λ is. absurd (true≢false (sym is))) next.only_reads;
+      only_reads = reading_as (bays g) (lawful g) c.args.bay.now c.next.new.bay _ _ (λ is. absurd (true≢false (sym is))) next.only_reads;
     }
 
 pub returns-in-Err-Failed : goal.returns-in-Err-Failed
@@ -102,5 +110,5 @@ returns-in-Err-Failed g c =
       forward = tt;
       file = ap (λ (log : Log). log.file) next.stayed;
       most = ap (λ (log : Log). log.most) next.stayed;
-      only_reads = reads_as (bays g) (lawful g) c.args.bay.now c.next.new.bay _ _ (λ is. ap Err c.in-Err-Failed.field-0-is) next.only_reads;
+      only_reads = reading_as (bays g) (lawful g) c.args.bay.now c.next.new.bay _ _ (λ is. ap Err c.in-Err-Failed.field-0-is) next.only_reads;
     }

@@ -1,7 +1,7 @@
 use Rattle.std.proofs.Common.{◌∙◌, arith}
 use Rattle.std.proofs.lemmas.Result.{err_from_is_err_and}
 use Rattle.lert_bay.specs.declared.bay.TheConstants.{JOURNAL}
-use Rattle.lert_bay.proofs.KeptLaws.{IsLawful, reads_as, reads_on}
+use Rattle.lert_bay.proofs.KeptLaws.{IsLawful, reading_as, reading_on}
 use Rattle.lert_recover.proofs.ReplayedLaws.{here}
 use Rattle.lert_recover.proofs.RestLaws.{ends_packet, onward_packet}
 use Rattle.lert_recover.proofs.journal_rest.find_left.Given as given
@@ -31,8 +31,8 @@ records-preserved g c =
           let stands = rw c.in-Packet.is at (found.told seen (now.only_reads.seen ∙ told)) in
           now.ends seen told (ends_packet s c.args.cone last.n0 last.closed c.records.count (seen JOURNAL) c.records.log.gate c.find_here.new.log.gate c.in-Packet.keys stands
           ends);
-      only_reads = reads_on (bays g) (lawful g) c.args.bay.now c.records.bay c.find_here.new.bay ⊥ ⊥ now.only_reads
-          (reads_as (bays g) (lawful g) c.records.bay c.find_here.new.bay _ ⊥ (λ never. absurd never) found.only_reads);
+      only_reads = reading_on (bays g) (lawful g) c.args.bay.now c.records.bay c.find_here.new.bay ⊥ ⊥ now.only_reads
+          (reading_as (bays g) (lawful g) c.records.bay c.find_here.new.bay _ ⊥ (λ never. absurd never) found.only_reads);
     }
 
 pub returns-in-Left-clause-told : goal.returns-in-Left-clause-told
@@ -47,12 +47,12 @@ returns-in-Left-clause-told g c seen told =
 pub returns-in_err-keys-clause-only_reads : goal.returns-in_err-keys-clause-only_reads
 returns-in_err-keys-clause-only_reads g c =
     let p = err_from_is_err_and c.from_residual.result c.from_residual.ensures.1 in
-    rw p.1 (reads_on (bays g) (lawful g) c.args.bay.now c.records.bay c.find_here.new.bay ⊥ _ c.records.invariant.only_reads c.in_err-keys.ensures.only_reads)
+    rw p.1 (reading_on (bays g) (lawful g) c.args.bay.now c.records.bay c.find_here.new.bay ⊥ _ c.records.invariant.only_reads c.in_err-keys.ensures.only_reads)
 
 pub returns-in-End-clause-only_reads : goal.returns-in-End-clause-only_reads
 returns-in-End-clause-only_reads g c =
-    reads_on (bays g) (lawful g) c.args.bay.now c.records.bay c.find_here.new.bay ⊥ _ c.records.invariant.only_reads c.in_ok-keys.ensures.only_reads
+    reading_on (bays g) (lawful g) c.args.bay.now c.records.bay c.find_here.new.bay ⊥ _ c.records.invariant.only_reads c.in_ok-keys.ensures.only_reads
 
 pub returns-in-Left-clause-only_reads : goal.returns-in-Left-clause-only_reads
 returns-in-Left-clause-only_reads g c =
-    reads_on (bays g) (lawful g) c.args.bay.now c.records.bay c.find_here.new.bay ⊥ _ c.records.invariant.only_reads c.in_ok-keys.ensures.only_reads
+    reading_on (bays g) (lawful g) c.args.bay.now c.records.bay c.find_here.new.bay ⊥ _ c.records.invariant.only_reads c.in_ok-keys.ensures.only_reads

@@ -2,13 +2,21 @@ use Rattle.std.proofs.Common.{◌≡◌, ◌+◌, ◌-◌, ◌*◌, ◌≤◌, �
 use Rattle.lert_bay.specs.declared.bay.TheConstants.{JOURNAL}
 use Rattle.lert_bay.specs.Files.{Files}
 use Rattle.lert_cone.specs.History.{most_payload}
-use Rattle.lert_bay.specs.Kept.{Bays, OnlyReads}
+use Rattle.lert_bay.specs.Kept.{Bays, ReadsBay}
 use Rattle.lert_spec.specs.Edges.{capacity}
 use Rattle.lert_recover.specs.Replayed.{JournalEnds, JournalLeavesAt}
 use Rattle.lert_recover.proofs.journal_rest.find_left.Given as goal
 
 abbrev pub bays : (g : goal.Over) → Bays g.row.B.Denot
-bays g = record { faults = g.B.Faulty.faults; mark = g.B.Faulty.mark; files = g.B.Bay.files; leaves = g.B.Bay.leaves; moment = g.B.Bay.moment; left_since = g.B.Bay.left_since }
+bays g = record {
+  faults = g.B.Faulty.faults;
+  mark = g.B.Faulty.mark;
+  files = g.B.Bay.files;
+  leaves = g.B.Bay.leaves;
+  moment = g.B.Bay.moment;
+  left_since = g.B.Bay.left_since;
+  handed_out = g.B.Bay.handed_out;
+}
 
 -- what is so from here on is so from the first gate on
 abbrev pub invariant-records : goal.invariant-records
@@ -21,7 +29,7 @@ invariant-records g l = record {
       JournalLeavesAt l.settings l.cone l.last.n0 l.last.closed (seen JOURNAL) l.events l.gate at;
   ends : (seen : Files) → g.B.Bay.files l.fn.bay ≡ Some seen → JournalEnds l.settings l.cone l.last.n0 l.last.closed (seen JOURNAL) l.count l.log.gate →
       JournalEnds l.settings l.cone l.last.n0 l.last.closed (seen JOURNAL) l.events l.gate;
-  only_reads : OnlyReads (bays g) l.fn.bay l.bay ⊥;
+  only_reads : ReadsBay (bays g) l.fn.bay l.bay ⊥;
 }
 
 -- each packet has a key

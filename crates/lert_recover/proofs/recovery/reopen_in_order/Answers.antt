@@ -7,7 +7,7 @@ use Rattle.lert_base.specs.Packet.{Packet, events_of}
 use Rattle.lert_bay.specs.declared.bay.TheConstants.{JOURNAL, FRAMES}
 use Rattle.lert_bay.specs.Files.{Files}
 use Rattle.lert_bay.specs.Kept.{Bays}
-use Rattle.lert_bay.proofs.KeptLaws.{IsLawful, keeps_as}
+use Rattle.lert_bay.proofs.KeptLaws.{IsLawful, calls_as}
 use Rattle.lert_gatelog.specs.Gated.{IsClosed}
 use Rattle.lert_cone.specs.declared.state.ConeState.TheVariants.{Finished, Running}
 use Rattle.lert_cone.specs.Framed.{HoldsSome}
@@ -33,7 +33,15 @@ use Rattle.lert_recover.proofs.recovery.reopen_in_order.Given as given
 use Rattle.lert_recover.proofs.recovery.reopen_in_order.Goals as goal
 
 abbrev bays : (g : given.Over) → Bays g.row.B.Denot
-bays g = record { faults = g.B.Faulty.faults; mark = g.B.Faulty.mark; files = g.B.Bay.files; leaves = g.B.Bay.leaves; moment = g.B.Bay.moment; left_since = g.B.Bay.left_since }
+bays g = record {
+  faults = g.B.Faulty.faults;
+  mark = g.B.Faulty.mark;
+  files = g.B.Bay.files;
+  leaves = g.B.Bay.leaves;
+  moment = g.B.Bay.moment;
+  left_since = g.B.Bay.left_since;
+  handed_out = g.B.Bay.handed_out;
+}
 
 lawful : (g : given.Over) → IsLawful (bays g)
 lawful g = record { as_read = g.met.B.Bay.as_read; since_now = g.met.B.Bay.since_now; only_now = g.met.B.Bay.only_now; since_earlier = g.met.B.Bay.since_earlier }
@@ -54,7 +62,13 @@ pub adopt-begun-requires-clause-named : goal.adopt-begun-requires-clause-named
 adopt-begun-requires-clause-named g c = c.requires.named
 
 pub adopt-begun-requires-clause-point : goal.adopt-begun-requires-clause-point
-adopt-begun-requires-clause-point g c = record { within = c.in-Ok.ensures.point.within; offset_is = refl; first_is = refl; reach = c.in-Ok.ensures.reach }
+adopt-begun-requires-clause-point g c =
+    let read = c.in-Ok.ensures.point in
+    record {
+      within = read.within;
+      names = record { offset_from = read.offset_from; offset_to = read.offset_to; first_from = read.first_from; first_to = read.first_to };
+      reach = c.in-Ok.ensures.reach;
+    }
 
 pub adopt-begun-requires-clause-room : goal.adopt-begun-requires-clause-room
 adopt-begun-requires-clause-room g c =
@@ -118,7 +132,7 @@ returns-in-Err g c =
       own = tt;
       made = tt;
       reads = journal_same (g.B.Bay.files c.args.bay) (g.B.Bay.files c.read_files.new.bay) read.quiet.seen;
-      kept = keeps_as (bays g) (lawful g) c.args.bay c.read_files.new.bay _ _ (λ is. ap Err is) read.quiet.kept;
+      kept = calls_as (bays g) (lawful g) c.args.bay c.read_files.new.bay _ _ (λ is. ap Err is) read.quiet.kept;
       stays_sound = λ seen told h sound now is. subst (IsSound c.args.room.settings c.args.cone h) (same_Some seen now (sym (read.quiet.seen ∙ told) ∙ is)) sound;
       each_moment = λ seen told h each. stays_quiet (bays g) (lawful g) h c.args.room.settings c.args.cone c.args.bay c.read_files.new.bay _ read.quiet seen told each;
       unflushed = λ seen told nothing. quiet_as (bays g) (lawful g) c.args.bay c.read_files.new.bay _ ⊥ (λ never. absurd never) read.quiet;

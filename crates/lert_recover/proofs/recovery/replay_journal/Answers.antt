@@ -1,8 +1,8 @@
 use Rattle.std.proofs.Common.{◌≡◌, ◌≤◌, ℕ, List, length, ap, sym, ◌∙◌, subst, arith, inl, inr}
 use Rattle.std.specs.Prelude.{if◌then◌else◌}
 use Rattle.lert_bay.specs.declared.bay.TheConstants.{JOURNAL}
-use Rattle.lert_bay.specs.Kept.{Bays, KeepsBay, OnlyReads}
-use Rattle.lert_bay.proofs.KeptLaws.{IsLawful, keeps_as, keeps_on}
+use Rattle.lert_bay.specs.Kept.{Bays, CallsBay, ReadsBay}
+use Rattle.lert_bay.proofs.KeptLaws.{IsLawful, calls_as, calls_on}
 use Rattle.lert_io.proofs.Rising.{risen_since, risen_then}
 use Rattle.lert_io.specs.Fault.{HasRisen}
 use Rattle.lert_spec.specs.declared.numbers.Numbers.{Numbers}
@@ -14,7 +14,7 @@ use Rattle.lert_cone.specs.Stands.{Standing}
 use Rattle.lert_cone.proofs.SoundLaws.{turns_back}
 use Rattle.lert_gatelog.specs.Gated.{IsClosed}
 use Rattle.lert_files.specs.Opened.{WritesNothing}
-use Rattle.lert_files.proofs.QuietLaws.{quiet_on, quiet_reads}
+use Rattle.lert_files.proofs.QuietLaws.{quiet_on, quiet_reading}
 use Rattle.lert_recover.specs.Replayed.{HasReplayed, IsJournalSame}
 use Rattle.lert_recover.specs.Reopened.{IsWhy}
 use Rattle.lert_recover.proofs.ReplayingLaws.{journal_on, journal_same, same_on}
@@ -24,7 +24,15 @@ use Rattle.lert_recover.proofs.recovery.replay_journal.Given as given
 use Rattle.lert_recover.proofs.recovery.replay_journal.Goals as goal
 
 abbrev bays : (g : given.Over) → Bays g.row.B.Denot
-bays g = record { faults = g.B.Faulty.faults; mark = g.B.Faulty.mark; files = g.B.Bay.files; leaves = g.B.Bay.leaves; moment = g.B.Bay.moment; left_since = g.B.Bay.left_since }
+bays g = record {
+  faults = g.B.Faulty.faults;
+  mark = g.B.Faulty.mark;
+  files = g.B.Bay.files;
+  leaves = g.B.Bay.leaves;
+  moment = g.B.Bay.moment;
+  left_since = g.B.Bay.left_since;
+  handed_out = g.B.Bay.handed_out;
+}
 
 lawful : (g : given.Over) → IsLawful (bays g)
 lawful g = record { as_read = g.met.B.Bay.as_read; since_now = g.met.B.Bay.since_now; only_now = g.met.B.Bay.only_now; since_earlier = g.met.B.Bay.since_earlier }
@@ -92,8 +100,8 @@ returns-in-Ok g c =
             last = ap (λ (k : Standing g.row.B.Denot). k.last) value;
           });
       reads = subst (λ (bay : g.row.B.Denot). IsJournalSame (files start.bay) (files bay)) (sym bay_is) all.journal;
-      kept = subst (λ (bay : g.row.B.Denot). KeepsBay (bays g) start.bay bay ⊥) (sym bay_is)
-          (keeps_as (bays g) (lawful g) start.bay c.replay_all.new.cone.bay _ ⊥ (λ never. absurd never) all.kept);
+      kept = subst (λ (bay : g.row.B.Denot). CallsBay (bays g) start.bay bay ⊥) (sym bay_is)
+          (calls_as (bays g) (lawful g) start.bay c.replay_all.new.cone.bay _ ⊥ (λ never. absurd never) all.kept);
       stays_sound = λ seen told. tt;
       each_moment = λ seen told h begun each. subst (λ (bay : g.row.B.Denot). StaysSound (bays g) start.listing.settings start.listing.cone h start.bay bay) (sym bay_is)
           (all.each_moment seen told h begun each);
@@ -110,8 +118,8 @@ returns-in-Err g c =
     let last = c.why_stopped-fault.new.bay in
     let why = c.why_stopped-fault.ensures in
     let end = c.replay_all.new.cone in
-    let behind : OnlyReads (bays g) end.bay last ⊥ = subst (λ (bay : g.row.B.Denot). OnlyReads (bays g) bay last ⊥) bay_is why.only_reads in
-    let both : KeepsBay (bays g) start.bay last ⊥ = keeps_on (bays g) (lawful g) start.bay end.bay last _ ⊥ all.kept behind.kept in
+    let behind : ReadsBay (bays g) end.bay last ⊥ = subst (λ (bay : g.row.B.Denot). ReadsBay (bays g) bay last ⊥) bay_is why.only_reads in
+    let both : CallsBay (bays g) start.bay last ⊥ = calls_on (bays g) (lawful g) start.bay end.bay last _ ⊥ all.kept behind.kept in
     record {
       told = λ seen told some.
           let files = g.B.Bay.files in
@@ -156,5 +164,5 @@ returns-in-Err g c =
       each_moment = λ seen told h begun each. stays_read (bays g) (lawful g) h start.listing.settings start.listing.cone start.bay end.bay last _ ⊥ all.kept
           (all.each_moment seen told h begun each) behind;
       unflushed = λ seen told nothing. quiet_on (bays g) (lawful g) start.bay end.bay last ⊥ ⊥ (all.unflushed seen told nothing)
-          (quiet_reads (bays g) (lawful g) end.bay last ⊥ behind);
+          (quiet_reading (bays g) (lawful g) end.bay last ⊥ behind);
     }

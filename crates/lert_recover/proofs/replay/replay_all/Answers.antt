@@ -1,7 +1,7 @@
 use Rattle.std.proofs.Common.{◌≡◌, ◌+◌, ◌-◌, ◌<◌, ◌≤◌, [], ◌∷◌, ◌++◌, length, refl, ap, sym, ◌∙◌, subst, arith, length-append, Err, List, ℕ}
 use Rattle.lert_bay.specs.declared.bay.TheConstants.{JOURNAL}
-use Rattle.lert_bay.specs.Kept.{KeepsBay}
-use Rattle.lert_bay.proofs.KeptLaws.{IsLawful, keeps_as, keeps_none, keeps_on, reads_none}
+use Rattle.lert_bay.specs.Kept.{CallsBay}
+use Rattle.lert_bay.proofs.KeptLaws.{IsLawful, calls_as, calls_none, calls_on, reading_none}
 use Rattle.lert_spec.specs.declared.numbers.Numbers.{Numbers}
 use Rattle.lert_spec.specs.Edges.{capacity}
 use Rattle.lert_spec.proofs.LimitLaws.{capacity_to}
@@ -9,7 +9,7 @@ use Rattle.lert_reports.specs.declared.log_point.LogPoint.{LogPoint}
 use Rattle.lert_cone.specs.declared.refusal.ReplayFault.TheVariants.{Unsound}
 use Rattle.lert_cone.specs.Replays.{Replays, WhyRefused}
 use Rattle.lert_cone.specs.Stands.{Standing}
-use Rattle.lert_files.proofs.QuietLaws.{quiet_on, quiet_reads}
+use Rattle.lert_files.proofs.QuietLaws.{quiet_on, quiet_reading}
 use Rattle.lert_recover.specs.Replayed.{HasReplayed}
 use Rattle.lert_recover.proofs.ReplayingLaws.{framed_none, journal_none, journal_on, left_on, quiet_of, read_none, read_on, same_none, same_on, shut_on, sound_on, still_on}
 use Rattle.lert_recover.proofs.MomentLaws.{stays_none, stays_replayed}
@@ -40,8 +40,8 @@ packets-init g c =
       framed = λ seen told some there told_there. framed_none (g.B.Bay.files start.bay) start.listing.settings start.last.n0 start.rows start.listing.events begun.1 seen there
           told told_there some;
       journal = journal_none (g.B.Bay.files start.bay);
-      kept = keeps_none (bays g) (lawful g) start.bay ⊥ (λ never. never);
-      unwritten = λ seen told nothing. quiet_reads (bays g) (lawful g) start.bay start.bay ⊥ (reads_none (bays g) (lawful g) start.bay ⊥ (λ never. never));
+      kept = calls_none (bays g) (lawful g) start.bay ⊥ (λ never. never);
+      unwritten = λ seen told nothing. quiet_reading (bays g) (lawful g) start.bay start.bay ⊥ (reading_none (bays g) (lawful g) start.bay ⊥ (λ never. never));
     }
 
 pub replay-requires : goal.replay-requires
@@ -72,8 +72,8 @@ packets-preserved g c =
     let old = c.packets.cone in
     let new = c.replay.new.self in
     let now = c.packets.invariant in
-    let step : KeepsBay (bays g) old.bay new.bay ⊥ =
-    keeps_as (bays g) (lawful g) old.bay new.bay _ ⊥ (λ never. absurd never) c.replay.ensures.kept in
+    let step : CallsBay (bays g) old.bay new.bay ⊥ =
+    calls_as (bays g) (lawful g) old.bay new.bay _ ⊥ (λ never. absurd never) c.replay.ensures.kept in
     let took = rw c.in-Ok-Some.field-0-is at c.in-Ok-Some.ensures.taken in
     let next = rw c.in-Ok-Some.field-0-is at c.in-Ok-Some.ensures.forward in
     let keys = took.packet.keys in
@@ -105,7 +105,7 @@ packets-preserved g c =
           let there = now.journal.told seen told in
           c.in-Ok-Some.ensures.framed there.0 there.1 (now.framed seen told some there.0 there.1);
       journal = journal_on (files start.bay) (files old.bay) (files new.bay) now.journal c.replay.ensures.journal.seen;
-      kept = keeps_on (bays g) (lawful g) start.bay old.bay new.bay ⊥ ⊥ now.kept step;
+      kept = calls_on (bays g) (lawful g) start.bay old.bay new.bay ⊥ ⊥ now.kept step;
       unwritten = λ seen told nothing.
           let there = now.journal.told seen told in
           quiet_on (bays g) (lawful g) start.bay old.bay new.bay ⊥ ⊥ (now.unwritten seen told nothing)
@@ -120,8 +120,8 @@ returns-in-Ok-None g c =
     let old = c.packets.cone in
     let new = c.replay.new.self in
     let now = c.packets.invariant in
-    let step : KeepsBay (bays g) old.bay new.bay ⊥ =
-    keeps_as (bays g) (lawful g) old.bay new.bay _ ⊥ (λ never. absurd never) c.replay.ensures.kept in
+    let step : CallsBay (bays g) old.bay new.bay ⊥ =
+    calls_as (bays g) (lawful g) old.bay new.bay _ ⊥ (λ never. absurd never) c.replay.ensures.kept in
     let gate = c.packets.gate in
     let ended = rw c.in-Ok-None.field-0-is at c.in-Ok-None.ensures.ended in
     let events_are = ap (λ (k : Standing g.row.B.Denot). k.listing.events) ended.is in
@@ -160,7 +160,7 @@ returns-in-Ok-None g c =
           quiet_on (bays g) (lawful g) start.bay old.bay new.bay ⊥ ⊥ (now.unwritten seen told nothing)
           (quiet_of (bays g) old.bay new.bay ⊥ step
           (c.replay.ensures.unflushed there.0 there.1 (still_on files start old new seen told now.same now.journal c.packets.gate (now.read seen told) nothing)));
-      kept = keeps_on (bays g) (lawful g) start.bay old.bay new.bay ⊥ ⊥ now.kept step;
+      kept = calls_on (bays g) (lawful g) start.bay old.bay new.bay ⊥ ⊥ now.kept step;
     }
 
 pub returns-in-Err : goal.returns-in-Err
@@ -170,8 +170,8 @@ returns-in-Err g c =
     let old = c.packets.cone in
     let new = c.replay.new.self in
     let now = c.packets.invariant in
-    let step : KeepsBay (bays g) old.bay new.bay ⊥ =
-    keeps_as (bays g) (lawful g) old.bay new.bay _ ⊥ (λ never. absurd never) c.replay.ensures.kept in
+    let step : CallsBay (bays g) old.bay new.bay ⊥ =
+    calls_as (bays g) (lawful g) old.bay new.bay _ ⊥ (λ never. absurd never) c.replay.ensures.kept in
     let count = c.events-events.ensures.count ∙ now.counted in
     record {
       told = λ seen told. (
@@ -213,6 +213,6 @@ returns-in-Err g c =
           quiet_on (bays g) (lawful g) start.bay old.bay new.bay ⊥ ⊥ (now.unwritten seen told nothing)
           (quiet_of (bays g) old.bay new.bay ⊥ step
           (c.replay.ensures.unflushed there.0 there.1 (still_on files start old new seen told now.same now.journal c.packets.gate (now.read seen told) nothing)));
-      kept = keeps_on (bays g) (lawful g) start.bay old.bay new.bay ⊥ _ now.kept
-          (keeps_as (bays g) (lawful g) old.bay new.bay _ _ (λ is. c.in-Err.is ∙ ap Err is) c.replay.ensures.kept);
+      kept = calls_on (bays g) (lawful g) start.bay old.bay new.bay ⊥ _ now.kept
+          (calls_as (bays g) (lawful g) old.bay new.bay _ _ (λ is. c.in-Err.is ∙ ap Err is) c.replay.ensures.kept);
     }

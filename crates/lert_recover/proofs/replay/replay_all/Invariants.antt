@@ -2,7 +2,7 @@ use Rattle.std.proofs.Common.{◌≡◌, ◌+◌, ◌-◌, ◌*◌, ◌≤◌, m
 use Rattle.lert_base.specs.Packet.{Packet}
 use Rattle.lert_bay.specs.declared.bay.TheConstants.{JOURNAL, FRAMES}
 use Rattle.lert_bay.specs.Files.{Files}
-use Rattle.lert_bay.specs.Kept.{Bays, KeepsBay}
+use Rattle.lert_bay.specs.Kept.{Bays, CallsBay}
 use Rattle.lert_cone.specs.declared.state.ConeState.TheVariants.{Replaying}
 use Rattle.lert_cone.specs.Framed.{HoldsSome}
 use Rattle.lert_cone.specs.Replays.{Replays}
@@ -15,7 +15,15 @@ use Rattle.lert_recover.specs.Replayed.{FlushesNothing, HasReplayed, IsJournalSa
 use Rattle.lert_recover.proofs.replay.replay_all.Given as goal
 
 abbrev pub bays : (g : goal.Over) → Bays g.row.B.Denot
-bays g = record { faults = g.B.Faulty.faults; mark = g.B.Faulty.mark; files = g.B.Bay.files; leaves = g.B.Bay.leaves; moment = g.B.Bay.moment; left_since = g.B.Bay.left_since }
+bays g = record {
+  faults = g.B.Faulty.faults;
+  mark = g.B.Faulty.mark;
+  files = g.B.Bay.files;
+  leaves = g.B.Bay.leaves;
+  moment = g.B.Bay.moment;
+  left_since = g.B.Bay.left_since;
+  handed_out = g.B.Bay.handed_out;
+}
 
 -- the packets up to this gate were replayed
 abbrev pub invariant-packets : goal.invariant-packets
@@ -37,7 +45,7 @@ invariant-packets g l = record {
   framed : (seen : Files) → g.B.Bay.files l.fn.cone.bay ≡ Some seen → HoldsSome l.fn.cone.listing.settings l.fn.cone.last.n0 l.fn.cone.rows (seen FRAMES) →
       (there : Files) → g.B.Bay.files l.cone.bay ≡ Some there → HoldsSome l.cone.listing.settings (max l.cone.last.n0 (length l.cone.listing.events)) l.cone.rows (there FRAMES);
   journal : IsJournalSame (g.B.Bay.files l.fn.cone.bay) (g.B.Bay.files l.cone.bay);
-  kept : KeepsBay (bays g) l.fn.cone.bay l.cone.bay ⊥;
+  kept : CallsBay (bays g) l.fn.cone.bay l.cone.bay ⊥;
   unwritten : (seen : Files) → g.B.Bay.files l.fn.cone.bay ≡ Some seen → FlushesNothing l.fn.cone.listing.settings l.fn.cone.last.n0 (seen JOURNAL) →
       WritesNothing (bays g) l.fn.cone.bay l.cone.bay ⊥;
 }

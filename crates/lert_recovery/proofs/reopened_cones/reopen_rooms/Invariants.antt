@@ -9,7 +9,15 @@ use Rattle.lert_recovery.specs.Recovered.{AreJournalsSame, AreOpenOver, AreSound
 use Rattle.lert_recovery.proofs.reopened_cones.reopen_rooms.Given as goal
 
 abbrev pub bays : (g : goal.Over) → Bays g.row.B.Denot
-bays g = record { faults = g.B.Faulty.faults; mark = g.B.Faulty.mark; files = g.B.Bay.files; leaves = g.B.Bay.leaves; moment = g.B.Bay.moment; left_since = g.B.Bay.left_since }
+bays g = record {
+  faults = g.B.Faulty.faults;
+  mark = g.B.Faulty.mark;
+  files = g.B.Bay.files;
+  leaves = g.B.Bay.leaves;
+  moment = g.B.Bay.moment;
+  left_since = g.B.Bay.left_since;
+  handed_out = g.B.Bay.handed_out;
+}
 
 -- a cone over each bay so far
 abbrev pub invariant-loop-number : goal.invariant-loop-number

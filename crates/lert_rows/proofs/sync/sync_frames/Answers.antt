@@ -1,3 +1,5 @@
+use Rattle.std.proofs.Common.{ℕ, ap}
+use Rattle.lert_bay.specs.declared.bay.TheConstants.{JOURNAL}
 use Rattle.lert_bay.specs.Kept.{Bays}
 use Rattle.lert_bay.proofs.KeptLaws.{IsLawful, keeps_call}
 use Rattle.lert_rows.specs.Landing.{Anywhere}
@@ -6,7 +8,15 @@ use Rattle.lert_rows.proofs.sync.sync_frames.Given as given
 use Rattle.lert_rows.proofs.sync.sync_frames.Goals as goal
 
 abbrev bays : (g : given.Over) → Bays g.row.B.Denot
-bays g = record { faults = g.B.Faulty.faults; mark = g.B.Faulty.mark; files = g.B.Bay.files; leaves = g.B.Bay.leaves; moment = g.B.Bay.moment; left_since = g.B.Bay.left_since }
+bays g = record {
+  faults = g.B.Faulty.faults;
+  mark = g.B.Faulty.mark;
+  files = g.B.Bay.files;
+  leaves = g.B.Bay.leaves;
+  moment = g.B.Bay.moment;
+  left_since = g.B.Bay.left_since;
+  handed_out = g.B.Bay.handed_out;
+}
 
 lawful : (g : given.Over) → IsLawful (bays g)
 lawful g = record { as_read = g.met.B.Bay.as_read; since_now = g.met.B.Bay.since_now; only_now = g.met.B.Bay.only_now; since_earlier = g.met.B.Bay.since_earlier }
@@ -24,3 +34,4 @@ returns-clause-durable g c =
 pub returns-clause-kept : goal.returns-clause-kept
 returns-clause-kept g c =
     keeps_call (bays g) (lawful g) c.args.bay.now c.sync.new.self _ c.sync.ensures.time c.sync.ensures.cause.never_falls c.sync.ensures.cause.failed c.sync.ensures.mark
+    (ap (λ (handed : ℕ → ℕ). handed JOURNAL) c.sync.ensures.handed)

@@ -25,6 +25,7 @@ bays_in g = record {
   leaves = g.P.Bay.Bay.leaves;
   moment = g.P.Bay.Bay.moment;
   left_since = g.P.Bay.Bay.left_since;
+  handed_out = g.P.Bay.Bay.handed_out;
 }
 
 pub run_line-requires-clause-dir : goal.run_line-requires-clause-dir

@@ -1,9 +1,9 @@
-use Rattle.std.proofs.Common.{◌≡◌, ◌∙◌, ℕ, ◌*◌, ◌++◌, ◌∷◌, [], All, List, length, take, drop, max, Err, IsTrue, IsFalse, refl, sym, ap, subst, arith}
+use Rattle.std.proofs.Common.{◌≡◌, ◌∙◌, ℕ, ◌+◌, ◌*◌, ◌++◌, ◌∷◌, [], All, List, length, take, drop, max, Err, IsFalse, refl, sym, ap, subst, arith}
 use Rattle.lert_base.specs.Entries.{packet_of}
 use Rattle.lert_base.specs.Packet.{events_of}
 use Rattle.lert_bay.specs.Files.{Files}
 use Rattle.lert_bay.specs.Kept.{Bays}
-use Rattle.lert_bay.proofs.KeptLaws.{IsLawful, keeps_as, keeps_on}
+use Rattle.lert_bay.proofs.KeptLaws.{IsLawful, calls_as}
 use Rattle.lert_gatelog.specs.Gated.{IsClosed, Log}
 use Rattle.lert_journal.specs.Payload.{payload_of}
 use Rattle.lert_spec.specs.Mix.{cone_of}
@@ -21,8 +21,10 @@ use Rattle.lert_cone.specs.Room.{room_of}
 use Rattle.lert_cone.specs.Stands.{Standing, is_broken, over_of}
 use Rattle.lert_cone.specs.Wrote.{Anything}
 use Rattle.lert_cone.proofs.GateLaws.{past_more}
+use Rattle.lert_cone.proofs.MarkLaws.{next_holds}
 use Rattle.lert_cone.proofs.ReplayLaws.{never_on_way}
-use Rattle.lert_cone.proofs.ReplayCalls.{alone_behind, ended_at, ended_replays, held_at, keys_stay, keys_unwritten, length_more, lent_again, listing_more, moved_on, read_stays}
+use Rattle.lert_cone.proofs.ReadCosts.{broken_read, ended_read, refused_read, taken_read}
+use Rattle.lert_cone.proofs.ReplayCalls.{alone_behind, bays_of, calls_behind, ended_at, ended_replays, held_at, keys_stay, keys_unwritten, length_more, lent_again, listing_more, moved_on, read_stays}
 use Rattle.lert_cone.proofs.ReplayCalls.{read_unwritten, refilled, refilled_twice, seen_as, with_keys}
 use Rattle.lert_cone.proofs.ReplayStands.{leaves_listing, near_then, never_unsound, failed_keys, failed_record, unsound_keys, only_by_bay, only_failed, read_settled, read_shut, refused_keys}
 use Rattle.lert_cone.proofs.ReplayStands.{refused_record, replaying_cone, settled_then}
@@ -34,7 +36,7 @@ use Rattle.lert_cone.proofs.cone.Cone.replay.Given as given
 use Rattle.lert_cone.proofs.cone.Cone.replay.Goals as goal
 
 abbrev bays : (g : given.Over) → Bays g.row.B.Denot
-bays g = record { faults = g.B.Faulty.faults; mark = g.B.Faulty.mark; files = g.B.Bay.files; leaves = g.B.Bay.leaves; moment = g.B.Bay.moment; left_since = g.B.Bay.left_since }
+bays g = bays_of g.B.Faulty.faults g.B.Faulty.mark g.B.Bay.files g.B.Bay.leaves g.B.Bay.moment g.B.Bay.left_since g.B.Bay.handed_out
 
 lawful : (g : given.Over) → IsLawful (bays g)
 lawful g = record { as_read = g.met.B.Bay.as_read; since_now = g.met.B.Bay.since_now; only_now = g.met.B.Bay.only_now; since_earlier = g.met.B.Bay.since_earlier }
@@ -43,12 +45,11 @@ pub replay_keys-requires : goal.replay_keys-requires
 replay_keys-requires g c =
     let replaying : c.self.inside.state ≡ Replaying = subst (λ (v : Standing g.row.B.Denot). v.state ≡ Replaying) (sym c.self.view_is) c.requires.replaying in
     let was = c.self.invariant.replaying replaying in
-    let yes : IsTrue c.in-Ok-true.field-0 = c.in-Ok-true.field-0-test in
     let len_is : c.self.inside.buffer.len ≡ length c.self.inside.buffer.items = omega (arith, c.self.inside.buffer.ok) in
     let room : length c.deref_mut-in-Ok-true.result.now ≡ length c.self.inside.buffer.items =
     ap (length {A = ℕ}) c.deref_mut-in-Ok-true.ensures.value ∙ (refilled c.self.inside.buffer.len c.self.inside.buffer.items c.read_packet.new.buffer len_is) in
-    let journaled = c.in-Ok-true.ensures.journaled yes in
-    let follows = c.in-Ok-true.ensures.follows yes in
+    let journaled = c.in-Ok-true.ensures.journaled c.in-Ok-true.field-0-test in
+    let follows = c.in-Ok-true.ensures.follows c.in-Ok-true.field-0-test in
     record {
       own = subst (λ (keys : List ℕ). All (λ key. cone_of c.self.inside.tally.listing.settings key ≡ c.self.inside.tally.listing.cone) keys) (sym c.keys_of.ensures.value) journaled.of_cone;
       fits = omega (arith, follows.within, ap (length {A = ℕ}) c.keys_of.ensures.value);
@@ -86,46 +87,44 @@ invariant_of-self g c =
 
 pub returns-in-Err-replay_keys-clause-refused : goal.returns-in-Err-replay_keys-clause-refused
 returns-in-Err-replay_keys-clause-refused g c =
-    let yes : IsTrue c.in-Ok-true.field-0 = c.in-Ok-true.field-0-test in
     let cone = seen_as c.self.inside.bay c.self.inside.made.value c.self.inside.tally c.self.inside.events c.self.inside.state (over_of c.self.inside.over) c.self.inside.journal.gate
     c.self.inside.log c.self.inside.last in
-    rw (← c.self.view_is) (λ seen told.
-    subst (λ (fault : ReplayFault). WhyRefused cone (seen 0) c.args.gate fault) (sym c.from.ensures)
+    rw (← c.self.view_is) (λ seen told. subst (λ (fault : ReplayFault). WhyRefused cone (seen 0) c.args.gate fault) (sym c.from.ensures)
     (refused_keys cone (seen 0) c.args.gate c.in-Err-replay_keys.fault (record {
       packet = (packet_of c.read_packet.new.entry);
-      stands = (held_at c.at_gate-self-inside.ensures (c.in-Ok-true.ensures.found seen told yes));
-      follows = c.in-Ok-true.ensures.follows yes;
+      stands = (held_at c.at_gate-self-inside.ensures (c.in-Ok-true.ensures.found seen told c.in-Ok-true.field-0-test));
+      follows = c.in-Ok-true.ensures.follows c.in-Ok-true.field-0-test;
     })))
 
 pub returns-in-Err-replay_keys-clause-replays : goal.returns-in-Err-replay_keys-clause-replays
 returns-in-Err-replay_keys-clause-replays g c =
-    rw (← c.self.view_is) (λ seen told h done way gate_same.
-    subst (λ (fault : ReplayFault). fault ≡ Failed) (sym c.from.ensures)
+    rw (← c.self.view_is) (λ seen told h done way gate_same. subst (λ (fault : ReplayFault). fault ≡ Failed) (sym c.from.ensures)
     (only_by_bay c.in-Err-replay_keys.fault (λ file at same.
     with_keys (bays g) (lawful g) c.self.inside.bay c.read_packet.new.bay _ _ _ _ _ c.read_packet.ensures.keeps c.self.inside.tally c.self.inside.log c.self.inside.last
     seen told h done c.args.gate (way.on_way seen told) (subst (λ g. IsPast h done c.self.inside.tally.listing.events g) (sym gate_same) way.past)
     (packet_of c.read_packet.new.entry) (held_at c.at_gate-self-inside.ensures (c.in-Ok-true.ensures.found seen told c.in-Ok-true.field-0-test)) c.keys_of.result.now c.keys_of.ensures.value
-    (λ told_read next is on_read. c.replay_keys.ensures.sound seen told_read h (events_of next.rest) is on_read file at (c.in-Err-replay_keys.is ∙ ap Err same)))))
+    (λ told_read next is on_read. c.replay_keys.ensures.sound seen told_read h (events_of next.rest) is
+    (next_holds h done c.self.inside.tally.listing.events c.args.gate (packet_of c.read_packet.new.entry) c.keys_of.result.now _
+    (subst (λ g. IsPast h done c.self.inside.tally.listing.events g) (sym gate_same) way.past) next c.keys_of.ensures.value refl (ap (λ n. n + 1) c.len-first.ensures)) on_read file at
+    (c.in-Err-replay_keys.is ∙ ap Err same)))))
 
 pub returns-in-Err-replay_keys-clause-journal : goal.returns-in-Err-replay_keys-clause-journal
 returns-in-Err-replay_keys-clause-journal g c = rw (← c.self.view_is)
-    (alone_behind (bays g) (lawful g) c.self.inside.bay c.read_packet.new.bay _ _ _ _ _ c.read_packet.ensures.keeps 0 c.replay_keys.new.bay
-    c.replay_keys.ensures.keeps.journal)
+    (alone_behind (bays g) (lawful g) c.self.inside.bay c.read_packet.new.bay _ _ _ _ _ c.read_packet.ensures.keeps 0 c.replay_keys.new.bay c.replay_keys.ensures.keeps.journal)
 
 -- the packet is taken
 pub invariant_of-self-in-Ok-true : goal.invariant_of-self-in-Ok-true
 invariant_of-self-in-Ok-true g c =
     let replaying : c.self.inside.state ≡ Replaying = subst (λ (v : Standing g.row.B.Denot). v.state ≡ Replaying) (sym c.self.view_is) c.requires.replaying in
     let was = c.self.invariant.replaying replaying in
-    let yes : IsTrue c.in-Ok-true.field-0 = c.in-Ok-true.field-0-test in
     let len_is : c.self.inside.buffer.len ≡ length c.self.inside.buffer.items = omega (arith, c.self.inside.buffer.ok) in
     let listing_is = listing_more c.self.inside.tally.listing c.replay_keys.new.tally.listing c.read_packet.new.entry.keys.keys c.keys_of.result.now
     c.replay_keys.ensures.listing c.in_default.ensures.taken c.keys_of.ensures.value in
-    let moved = moved_on (payload_of (packet_of c.read_packet.new.entry)) (c.in-Ok-true.ensures.moved yes) c.at_gate-self-inside.ensures in
+    let moved = moved_on (payload_of (packet_of c.read_packet.new.entry)) (c.in-Ok-true.ensures.moved c.in-Ok-true.field-0-test) c.at_gate-self-inside.ensures in
     let events_is = length_more c.self.inside.tally.listing c.replay_keys.new.tally.listing c.read_packet.new.entry.keys.keys c.self.inside.events c.len-self-inside.result
     listing_is was.counted c.len-self-inside.ensures in
     let settings_are : c.replay_keys.new.tally.listing.settings ≡ c.self.inside.tally.listing.settings = ap (λ (l : Listing). l.settings) listing_is in
-    let journaled = c.in-Ok-true.ensures.journaled yes in
+    let journaled = c.in-Ok-true.ensures.journaled c.in-Ok-true.field-0-test in
     let long = lent_again c.self.inside.buffer.len c.self.inside.buffer.items c.read_packet.new.buffer c.replay_keys.new.buffer _ len_is c.deref_mut-in-Ok-true.ensures.value
     c.replay_keys.auto.buffer in
     replaying_cone g.B.Bay.files g.B.Bay.leaves g.B.Faulty.faults g.B.Faulty.mark _ _ _ _ _ replaying (c.read_packet.ensures.keeps.file ∙ ap (λ (j : Log). j.file) c.at_gate-self-inside.ensures)
@@ -138,8 +137,7 @@ invariant_of-self-in-Ok-true g c =
     (turns_on Anything (λ old new. new 0 ≡ old 0) (g.B.Bay.files c.self.inside.made.value) (g.B.Bay.files c.read_packet.new.bay) (g.B.Bay.files c.replay_keys.new.bay)
     (turns_on Anything Anything (g.B.Bay.files c.self.inside.made.value) (g.B.Bay.files c.self.inside.bay) (g.B.Bay.files c.read_packet.new.bay) c.self.invariant.tells
     (turns_as (g.B.Bay.files c.self.inside.bay) (g.B.Bay.files c.read_packet.new.bay) c.read_packet.ensures.keeps.reads.seen)) c.replay_keys.ensures.keeps.journal.seen)
-    (c.replay_keys.ensures.keeps.kept.mark ∙ c.read_packet.ensures.keeps.reads.kept.mark ∙ c.self.invariant.marked)
-    (record {
+    (c.replay_keys.ensures.keeps.kept.mark ∙ c.read_packet.ensures.keeps.reads.kept.mark ∙ c.self.invariant.marked) (record {
       none_over = was.none_over;
       counted = sym c.len-self-inside.ensures;
       recounted = c.in_default.ensures.recounted;
@@ -157,17 +155,16 @@ pub returns-in_default-clause-taken : goal.returns-in_default-clause-taken
 returns-in_default-clause-taken g c =
     let replaying : c.self.inside.state ≡ Replaying = subst (λ (v : Standing g.row.B.Denot). v.state ≡ Replaying) (sym c.self.view_is) c.requires.replaying in
     let was = c.self.invariant.replaying replaying in
-    let yes : IsTrue c.in-Ok-true.field-0 = c.in-Ok-true.field-0-test in
     let listing_is = listing_more c.self.inside.tally.listing c.replay_keys.new.tally.listing c.read_packet.new.entry.keys.keys c.keys_of.result.now
     c.replay_keys.ensures.listing c.in_default.ensures.taken c.keys_of.ensures.value in
-    let moved = moved_on (payload_of (packet_of c.read_packet.new.entry)) (c.in-Ok-true.ensures.moved yes) c.at_gate-self-inside.ensures in
+    let moved = moved_on (payload_of (packet_of c.read_packet.new.entry)) (c.in-Ok-true.ensures.moved c.in-Ok-true.field-0-test) c.at_gate-self-inside.ensures in
     let events_is = length_more c.self.inside.tally.listing c.replay_keys.new.tally.listing c.read_packet.new.entry.keys.keys c.self.inside.events c.len-self-inside.result
     listing_is was.counted c.len-self-inside.ensures in
     rw (← c.self.view_is) (record {
       packet = (packet_of c.read_packet.new.entry);
-      stands = λ seen told. (held_at c.at_gate-self-inside.ensures (c.in-Ok-true.ensures.found seen told yes));
-      journaled = c.in-Ok-true.ensures.journaled yes;
-      follows = c.in-Ok-true.ensures.follows yes;
+      stands = λ seen told. (held_at c.at_gate-self-inside.ensures (c.in-Ok-true.ensures.found seen told c.in-Ok-true.field-0-test));
+      journaled = c.in-Ok-true.ensures.journaled c.in-Ok-true.field-0-test;
+      follows = c.in-Ok-true.ensures.follows c.in-Ok-true.field-0-test;
       next_is = c.gate.ensures.value ∙ moved;
       is = λ i. record {
         bay = c.replay_keys.new.bay;
@@ -186,15 +183,14 @@ returns-in_default-clause-taken g c =
 
 pub returns-in_default-clause-replays : goal.returns-in_default-clause-replays
 returns-in_default-clause-replays g c =
-    let yes : IsTrue c.in-Ok-true.field-0 = c.in-Ok-true.field-0-test in
     let listing_is = listing_more c.self.inside.tally.listing c.replay_keys.new.tally.listing c.read_packet.new.entry.keys.keys c.keys_of.result.now
     c.replay_keys.ensures.listing c.in_default.ensures.taken c.keys_of.ensures.value in
-    let moved = moved_on (payload_of (packet_of c.read_packet.new.entry)) (c.in-Ok-true.ensures.moved yes) c.at_gate-self-inside.ensures in
+    let moved = moved_on (payload_of (packet_of c.read_packet.new.entry)) (c.in-Ok-true.ensures.moved c.in-Ok-true.field-0-test) c.at_gate-self-inside.ensures in
     rw (← c.self.view_is) (λ seen told h done way gate_same.
     let past : IsPast h done c.self.inside.tally.listing.events c.args.gate = subst (λ g. IsPast h done c.self.inside.tally.listing.events g) (sym gate_same) way.past in
     with_keys (bays g) (lawful g) c.self.inside.bay c.read_packet.new.bay _ _ _ _ _ c.read_packet.ensures.keeps c.self.inside.tally c.self.inside.log c.self.inside.last
     seen told h done c.args.gate (way.on_way seen told) past
-    (packet_of c.read_packet.new.entry) (held_at c.at_gate-self-inside.ensures (c.in-Ok-true.ensures.found seen told yes)) c.keys_of.result.now c.keys_of.ensures.value
+    (packet_of c.read_packet.new.entry) (held_at c.at_gate-self-inside.ensures (c.in-Ok-true.ensures.found seen told c.in-Ok-true.field-0-test)) c.keys_of.result.now c.keys_of.ensures.value
     (λ told_read next is on_read. (
       (packet_of c.read_packet.new.entry),
       record {
@@ -202,14 +198,15 @@ returns-in_default-clause-replays g c =
         past = subst (λ (l : Listing). IsPast h (done ++ (packet_of c.read_packet.new.entry) ∷ []) l.events c.read_packet.new.journal.gate) (sym listing_is)
             (subst (λ g. IsPast h (done ++ (packet_of c.read_packet.new.entry) ∷ []) (c.self.inside.tally.listing.events ++ c.read_packet.new.entry.keys.keys) g) (sym moved)
             (past_more h done c.self.inside.tally.listing.events c.args.gate (packet_of c.read_packet.new.entry) past next));
-        on_way = c.in_default.ensures.on_way seen told_read h (events_of next.rest) is on_read;
+        on_way = c.in_default.ensures.on_way seen told_read h (events_of next.rest) is
+            (next_holds h done c.self.inside.tally.listing.events c.args.gate (packet_of c.read_packet.new.entry) c.keys_of.result.now _ past next c.keys_of.ensures.value refl
+            (ap (λ n. n + 1) c.len-first.ensures)) on_read;
       },
     )))
 
 pub returns-in_default-clause-journal : goal.returns-in_default-clause-journal
 returns-in_default-clause-journal g c = rw (← c.self.view_is)
-    (alone_behind (bays g) (lawful g) c.self.inside.bay c.read_packet.new.bay _ _ _ _ _ c.read_packet.ensures.keeps 0 c.replay_keys.new.bay
-    c.replay_keys.ensures.keeps.journal)
+    (alone_behind (bays g) (lawful g) c.self.inside.bay c.read_packet.new.bay _ _ _ _ _ c.read_packet.ensures.keeps 0 c.replay_keys.new.bay c.replay_keys.ensures.keeps.journal)
 
 -- a closed gate
 pub invariant_of-self-in-Ok-false : goal.invariant_of-self-in-Ok-false
@@ -227,8 +224,7 @@ invariant_of-self-in-Ok-false g c =
     (omega (arith, c.self.invariant.never_falls, c.read_packet.ensures.keeps.reads.kept.never_falls))
     (turns_on Anything Anything (g.B.Bay.files c.self.inside.made.value) (g.B.Bay.files c.self.inside.bay) (g.B.Bay.files c.read_packet.new.bay) c.self.invariant.tells
     (turns_as (g.B.Bay.files c.self.inside.bay) (g.B.Bay.files c.read_packet.new.bay) c.read_packet.ensures.keeps.reads.seen))
-    (c.read_packet.ensures.keeps.reads.kept.mark ∙ c.self.invariant.marked)
-    (record {
+    (c.read_packet.ensures.keeps.reads.kept.mark ∙ c.self.invariant.marked) (record {
       none_over = was.none_over;
       counted = was.counted;
       recounted = was.recounted;
@@ -267,8 +263,7 @@ pub returns-in-Err-clause-refused : goal.returns-in-Err-clause-refused
 returns-in-Err-clause-refused g c =
     let cone = seen_as c.self.inside.bay c.self.inside.made.value c.self.inside.tally c.self.inside.events c.self.inside.state (over_of c.self.inside.over) c.self.inside.journal.gate
     c.self.inside.log c.self.inside.last in
-    rw (← c.self.view_is) (λ seen told.
-    subst (λ (fault : ReplayFault). WhyRefused cone (seen 0) c.args.gate fault) (sym c.from-fault.ensures)
+    rw (← c.self.view_is) (λ seen told. subst (λ (fault : ReplayFault). WhyRefused cone (seen 0) c.args.gate fault) (sym c.from-fault.ensures)
     (refused_record cone (seen 0) c.args.gate c.in-Err.fault (λ at same.
     subst (λ (j : Log). ReplayLeavesAt c.self.inside.tally.listing.settings c.self.inside.tally.listing.cone c.self.inside.last.n0 c.self.inside.last.closed
     (length c.self.inside.tally.listing.events) (seen 0) j.gate at) c.at_gate-self-inside.ensures (c.in-Err.ensures.malformed seen told at (ap Err same)))))
@@ -306,8 +301,7 @@ returns-in-Err-replay_keys-clause-whole g c = rw (← c.self.view_is) (λ seen t
     c.replay_keys.ensures.whole seen (c.read_packet.ensures.keeps.reads.seen ∙ told) some at (c.in-Err-replay_keys.is ∙ ap Err fault_is))
 
 pub returns-in-Err-clause-whole : goal.returns-in-Err-clause-whole
-returns-in-Err-clause-whole g c = λ seen told some at same.
-    (let answer : c.from-fault.result ≡ Unsound 2 at = cc in
+returns-in-Err-clause-whole g c = λ seen told some at same. (let answer : c.from-fault.result ≡ Unsound 2 at = cc in
     never_unsound c.in-Err.fault 2 at (sym c.from-fault.ensures ∙ answer))
 
 pub returns-in_default-clause-framed : goal.returns-in_default-clause-framed
@@ -323,15 +317,13 @@ pub returns-in-Err-replay_keys-clause-stays_sound : goal.returns-in-Err-replay_k
 returns-in-Err-replay_keys-clause-stays_sound g c =
     rw (← c.self.view_is) (λ seen told h done way gate_same.
     keys_stay (bays g) (lawful g) c.self.inside.bay c.read_packet.new.bay _ _ _ _ _ c.read_packet.ensures.keeps c.self.inside.tally c.self.inside.log c.self.inside.last
-    seen told h done c.args.gate (way.on_way seen told) (subst (λ g. IsPast h done c.self.inside.tally.listing.events g) (sym gate_same) way.past)
-    (c.self.invariant.replaying way.state_is).recounted
+    seen told h done c.args.gate (way.on_way seen told) (subst (λ g. IsPast h done c.self.inside.tally.listing.events g) (sym gate_same) way.past) (c.self.invariant.replaying way.state_is).recounted
     (packet_of c.read_packet.new.entry) (held_at c.at_gate-self-inside.ensures (c.in-Ok-true.ensures.found seen told c.in-Ok-true.field-0-test))
-    c.keys_of.result.now c.keys_of.ensures.value _ _ _ c.replay_keys.ensures)
+    c.keys_of.result.now c.keys_of.ensures.value _ refl (ap (λ n. n + 1) c.len-first.ensures) _ _ _ c.replay_keys.ensures)
 
 pub returns-in-Err-replay_keys-clause-unflushed : goal.returns-in-Err-replay_keys-clause-unflushed
 returns-in-Err-replay_keys-clause-unflushed g c =
-    rw (← c.self.view_is) (λ seen told none.
-    keys_unwritten (bays g) (lawful g) c.self.inside.bay c.read_packet.new.bay _ _ _ _ _ c.read_packet.ensures.keeps c.self.inside.tally.listing.settings
+    rw (← c.self.view_is) (λ seen told none. keys_unwritten (bays g) (lawful g) c.self.inside.bay c.read_packet.new.bay _ _ _ _ _ c.read_packet.ensures.keeps c.self.inside.tally.listing.settings
     (length c.self.inside.tally.listing.events) c.self.inside.last.n0 (packet_of c.read_packet.new.entry) c.keys_of.result.now _ c.keys_of.ensures.value
     (none (packet_of c.read_packet.new.entry) (held_at c.at_gate-self-inside.ensures (c.in-Ok-true.ensures.found seen told c.in-Ok-true.field-0-test))) c.replay_keys.ensures.unflushed)
 
@@ -339,15 +331,13 @@ pub returns-in_default-clause-stays_sound : goal.returns-in_default-clause-stays
 returns-in_default-clause-stays_sound g c =
     rw (← c.self.view_is) (λ seen told h done way gate_same.
     keys_stay (bays g) (lawful g) c.self.inside.bay c.read_packet.new.bay _ _ _ _ _ c.read_packet.ensures.keeps c.self.inside.tally c.self.inside.log c.self.inside.last
-    seen told h done c.args.gate (way.on_way seen told) (subst (λ g. IsPast h done c.self.inside.tally.listing.events g) (sym gate_same) way.past)
-    (c.self.invariant.replaying way.state_is).recounted
+    seen told h done c.args.gate (way.on_way seen told) (subst (λ g. IsPast h done c.self.inside.tally.listing.events g) (sym gate_same) way.past) (c.self.invariant.replaying way.state_is).recounted
     (packet_of c.read_packet.new.entry) (held_at c.at_gate-self-inside.ensures (c.in-Ok-true.ensures.found seen told c.in-Ok-true.field-0-test))
-    c.keys_of.result.now c.keys_of.ensures.value _ _ _ c.replay_keys.ensures)
+    c.keys_of.result.now c.keys_of.ensures.value _ refl (ap (λ n. n + 1) c.len-first.ensures) _ _ _ c.replay_keys.ensures)
 
 pub returns-in_default-clause-unflushed : goal.returns-in_default-clause-unflushed
 returns-in_default-clause-unflushed g c =
-    rw (← c.self.view_is) (λ seen told none.
-    keys_unwritten (bays g) (lawful g) c.self.inside.bay c.read_packet.new.bay _ _ _ _ _ c.read_packet.ensures.keeps c.self.inside.tally.listing.settings
+    rw (← c.self.view_is) (λ seen told none. keys_unwritten (bays g) (lawful g) c.self.inside.bay c.read_packet.new.bay _ _ _ _ _ c.read_packet.ensures.keeps c.self.inside.tally.listing.settings
     (length c.self.inside.tally.listing.events) c.self.inside.last.n0 (packet_of c.read_packet.new.entry) c.keys_of.result.now _ c.keys_of.ensures.value
     (none (packet_of c.read_packet.new.entry) (held_at c.at_gate-self-inside.ensures (c.in-Ok-true.ensures.found seen told c.in-Ok-true.field-0-test))) c.replay_keys.ensures.unflushed)
 
@@ -355,44 +345,57 @@ pub returns-in-Ok-false-clause-stays_sound : goal.returns-in-Ok-false-clause-sta
 returns-in-Ok-false-clause-stays_sound g c =
     rw (← c.self.view_is) (λ seen told h done way gate_same.
     read_stays (bays g) (lawful g) c.self.inside.bay c.read_packet.new.bay _ _ _ _ _ c.read_packet.ensures.keeps c.self.inside.tally c.self.inside.log c.self.inside.last
-    seen told h done c.args.gate (way.on_way seen told) (subst (λ g. IsPast h done c.self.inside.tally.listing.events g) (sym gate_same) way.past)
-    (c.self.invariant.replaying way.state_is).recounted)
+    seen told h done c.args.gate (way.on_way seen told) (subst (λ g. IsPast h done c.self.inside.tally.listing.events g) (sym gate_same) way.past) (c.self.invariant.replaying way.state_is).recounted)
 
 pub returns-in-Ok-false-clause-unflushed : goal.returns-in-Ok-false-clause-unflushed
-returns-in-Ok-false-clause-unflushed g c = rw (← c.self.view_is) (λ seen told none. read_unwritten (bays g) (lawful g) c.self.inside.bay c.read_packet.new.bay _ _ _ _ _
-    c.read_packet.ensures.keeps)
+returns-in-Ok-false-clause-unflushed g c = rw (← c.self.view_is) (λ seen told none. read_unwritten (bays g) (lawful g) c.self.inside.bay c.read_packet.new.bay _ _ _ _ _ c.read_packet.ensures.keeps)
 
 pub returns-in-Err-clause-stays_sound : goal.returns-in-Err-clause-stays_sound
 returns-in-Err-clause-stays_sound g c =
     rw (← c.self.view_is) (λ seen told h done way gate_same.
     read_stays (bays g) (lawful g) c.self.inside.bay c.read_packet.new.bay _ _ _ _ _ c.read_packet.ensures.keeps c.self.inside.tally c.self.inside.log c.self.inside.last
-    seen told h done c.args.gate (way.on_way seen told) (subst (λ g. IsPast h done c.self.inside.tally.listing.events g) (sym gate_same) way.past)
-    (c.self.invariant.replaying way.state_is).recounted)
+    seen told h done c.args.gate (way.on_way seen told) (subst (λ g. IsPast h done c.self.inside.tally.listing.events g) (sym gate_same) way.past) (c.self.invariant.replaying way.state_is).recounted)
 
 pub returns-in-Err-clause-unflushed : goal.returns-in-Err-clause-unflushed
 returns-in-Err-clause-unflushed g c = rw (← c.self.view_is) (λ seen told none. read_unwritten (bays g) (lawful g) c.self.inside.bay c.read_packet.new.bay _ _ _ _ _ c.read_packet.ensures.keeps)
 
--- what it keeps of the bay
+-- what it keeps of the bay, and how many bytes of the journal it reads
 pub returns-in-Err-replay_keys-clause-kept : goal.returns-in-Err-replay_keys-clause-kept
 returns-in-Err-replay_keys-clause-kept g c = rw (← c.self.view_is)
-    (keeps_on (bays g) (lawful g) c.self.inside.bay c.read_packet.new.bay c.replay_keys.new.bay _ _ c.read_packet.ensures.keeps.reads.kept
-    (keeps_as (bays g) (lawful g) c.read_packet.new.bay c.replay_keys.new.bay _ _ (λ same.
+    (calls_behind (bays g) (lawful g) c.self.inside.bay c.read_packet.new.bay _ _ _ _ _ c.read_packet.ensures.keeps c.replay_keys.new.bay _ _ (λ same.
     let answer : c.from.result ≡ Failed = cc in
-    c.in-Err-replay_keys.is ∙ ap Err (failed_keys c.in-Err-replay_keys.fault (sym c.from.ensures ∙ answer)))
-    c.replay_keys.ensures.keeps.kept))
+    c.in-Err-replay_keys.is ∙ ap Err (failed_keys c.in-Err-replay_keys.fault (sym c.from.ensures ∙ answer))) c.replay_keys.ensures.keeps.kept)
 
 pub returns-in_default-clause-kept : goal.returns-in_default-clause-kept
 returns-in_default-clause-kept g c = rw (← c.self.view_is)
-    (keeps_on (bays g) (lawful g) c.self.inside.bay c.read_packet.new.bay c.replay_keys.new.bay _ _ c.read_packet.ensures.keeps.reads.kept
-    (keeps_as (bays g) (lawful g) c.read_packet.new.bay c.replay_keys.new.bay _ _ (λ same. absurd (let never : ⊥ = cc in never)) c.replay_keys.ensures.keeps.kept))
+    (calls_behind (bays g) (lawful g) c.self.inside.bay c.read_packet.new.bay _ _ _ _ _ c.read_packet.ensures.keeps c.replay_keys.new.bay _ _
+    (λ same. absurd (let never : ⊥ = cc in never)) c.replay_keys.ensures.keeps.kept)
 
 pub returns-in-Ok-false-clause-kept : goal.returns-in-Ok-false-clause-kept
 returns-in-Ok-false-clause-kept g c = rw (← c.self.view_is)
-    (keeps_as (bays g) (lawful g) c.self.inside.bay c.read_packet.new.bay _ _ (λ same. absurd (let never : ⊥ = cc in never)) c.read_packet.ensures.keeps.reads.kept)
+    (calls_as (bays g) (lawful g) c.self.inside.bay c.read_packet.new.bay _ _ (λ same. absurd (let never : ⊥ = cc in never)) c.read_packet.ensures.keeps.reads.kept)
 
 pub returns-in-Err-clause-kept : goal.returns-in-Err-clause-kept
-returns-in-Err-clause-kept g c = rw (← c.self.view_is)
-    (keeps_as (bays g) (lawful g) c.self.inside.bay c.read_packet.new.bay _ _ (λ same.
+returns-in-Err-clause-kept g c = rw (← c.self.view_is) (calls_as (bays g) (lawful g) c.self.inside.bay c.read_packet.new.bay _ _ (λ same.
     let answer : c.from-fault.result ≡ Failed = cc in
-    c.in-Err.is ∙ ap Err (failed_record c.in-Err.fault (sym c.from-fault.ensures ∙ answer)))
-    c.read_packet.ensures.keeps.reads.kept)
+    c.in-Err.is ∙ ap Err (failed_record c.in-Err.fault (sym c.from-fault.ensures ∙ answer))) c.read_packet.ensures.keeps.reads.kept)
+
+pub returns-in-Err-replay_keys-clause-handed : goal.returns-in-Err-replay_keys-clause-handed
+returns-in-Err-replay_keys-clause-handed g c = rw (← c.self.view_is)
+    (broken_read c.self.inside.tally.listing.settings (packet_of c.read_packet.new.entry) _ _ (g.B.Bay.handed_out c.replay_keys.new.bay) c.replay_keys.ensures.keeps.kept.journal
+    c.in-Ok-true.field-0 _ _ c.in-Ok-true.ensures.handed c.in-Ok-true.field-0-test (ap (λ (j : Log). j.gate) (c.in-Ok-true.ensures.moved c.in-Ok-true.field-0-test))
+    (c.in-Ok-true.ensures.forward c.in-Ok-true.field-0-test).1)
+
+pub returns-in_default-clause-handed : goal.returns-in_default-clause-handed
+returns-in_default-clause-handed g c = rw (← c.self.view_is)
+    (taken_read c.self.inside.tally.listing.settings (packet_of c.read_packet.new.entry) _ _ (g.B.Bay.handed_out c.replay_keys.new.bay) c.replay_keys.ensures.keeps.kept.journal
+    c.in-Ok-true.field-0 c.args.gate c.gate.result c.in-Ok-true.ensures.handed c.in-Ok-true.field-0-test
+    (c.gate.ensures.value ∙ moved_on (payload_of (packet_of c.read_packet.new.entry)) (c.in-Ok-true.ensures.moved c.in-Ok-true.field-0-test) c.at_gate-self-inside.ensures))
+
+pub returns-in-Ok-false-clause-handed : goal.returns-in-Ok-false-clause-handed
+returns-in-Ok-false-clause-handed g c = rw (← c.self.view_is) (ended_read c.self.inside.tally.listing.settings (packet_of c.read_packet.new.entry) _ _
+    (g.B.Bay.handed_out c.read_packet.new.bay) refl c.in-Ok-false.field-0 c.in-Ok-false.ensures.handed c.in-Ok-false.field-0-test)
+
+pub returns-in-Err-clause-handed : goal.returns-in-Err-clause-handed
+returns-in-Err-clause-handed g c = rw (← c.self.view_is) (refused_read c.self.inside.tally.listing.settings (packet_of c.read_packet.new.entry) _ _
+    (g.B.Bay.handed_out c.read_packet.new.bay) refl c.in-Err.fault c.in-Err.ensures.handed)

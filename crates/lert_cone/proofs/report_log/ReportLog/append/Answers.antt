@@ -12,12 +12,21 @@ use Rattle.lert_cone.proofs.report_log.ReportLog.append.Given as given
 use Rattle.lert_cone.proofs.report_log.ReportLog.append.Goals as goal
 
 abbrev bays : (g : given.Over) → Bays g.row.B.Denot
-bays g = record { faults = g.B.Faulty.faults; mark = g.B.Faulty.mark; files = g.B.Bay.files; leaves = g.B.Bay.leaves; moment = g.B.Bay.moment; left_since = g.B.Bay.left_since }
+bays g = record {
+  faults = g.B.Faulty.faults;
+  mark = g.B.Faulty.mark;
+  files = g.B.Bay.files;
+  leaves = g.B.Bay.leaves;
+  moment = g.B.Bay.moment;
+  left_since = g.B.Bay.left_since;
+  handed_out = g.B.Bay.handed_out;
+}
 
 pub append-requires-clause-text : goal.append-requires-clause-text
 append-requires-clause-text g c =
-    let log : LogPlace = record { gate = c.self.inside.log.gate; most = c.self.inside.log.most; named = c.self.inside.named } in
-    is_appendix log c.args.kind c.args.n0 c.args.directory.now c.args.reports.now c.write_log-len.result c.write_log-len.new.into c.write_log-len.ensures.text
+    let log : LogPlace = record { gate = c.self.inside.log.gate; most = c.self.inside.log.most; named = c.self.inside.named; marks = c.self.inside.marks } in
+    is_appendix log c.args.kind c.args.n0 c.args.directory.now c.args.reports.now c.oldest-mark.result c.oldest-mark.ensures c.write_log-len.result c.write_log-len.new.into
+    c.write_log-len.ensures.text
     c.self.inside.log.most (subst (λ (v : LogPlace). payload_len v c.args.directory.now c.args.reports.now ≤ v.most) (sym c.self.view_is) c.requires.fits)
 
 pub append-requires-clause-closed : goal.append-requires-clause-closed
@@ -28,16 +37,17 @@ append-requires-clause-closed g c = λ seen told image may.
 pub returns-in_err-append : goal.returns-in_err-append
 returns-in_err-append g c =
     refused_record (bays g) c.args.kind c.args.n0 c.args.directory.now c.args.reports.now c.args.bay.now c.append.new.bay c.args.self.now
-    (record { gate = c.append.new.self.gate; most = c.append.new.self.most; named = c.self.inside.named }) c.from_residual.result c.in_err-append.field-0.0 c.from_residual.ensures.1 (record {
+    (record { gate = c.append.new.self.gate; most = c.append.new.self.most; named = c.self.inside.named; marks = c.self.inside.marks }) c.from_residual.result c.in_err-append.field-0.0
+    c.from_residual.ensures.1 (record {
       moved = tt;
-      stayed = ap (λ (l : Log). record { gate = l.gate; most = l.most; named = c.self.inside.named }) c.in_err-append.ensures.stayed ∙ c.self.view_is;
-      long = (let log : LogPlace = record { gate = c.self.inside.log.gate; most = c.self.inside.log.most; named = c.self.inside.named } in
+      stayed = ap (λ (l : Log). record { gate = l.gate; most = l.most; named = c.self.inside.named; marks = c.self.inside.marks }) c.in_err-append.ensures.stayed ∙ c.self.view_is;
+      long = (let log : LogPlace = record { gate = c.self.inside.log.gate; most = c.self.inside.log.most; named = c.self.inside.named; marks = c.self.inside.marks } in
           subst (λ (v : LogPlace). next_gate v.gate (payload_at v c.args.kind c.args.n0 c.args.directory.now c.args.reports.now) ≡ v.gate + 5
           + payload_len v c.args.directory.now c.args.reports.now)
           c.self.view_is
           (ap (λ n. log.gate + 5 + n) (payload_long log c.args.kind c.args.n0 c.args.directory.now c.args.reports.now)));
       each_moment = λ seen told first payloads all image may.
-          (let log : LogPlace = record { gate = c.self.inside.log.gate; most = c.self.inside.log.most; named = c.self.inside.named } in
+          (let log : LogPlace = record { gate = c.self.inside.log.gate; most = c.self.inside.log.most; named = c.self.inside.named; marks = c.self.inside.marks } in
           let payload = payload_at log c.args.kind c.args.n0 c.args.directory.now c.args.reports.now in
           let all_here : InEach (g.B.Bay.leaves c.args.bay.now) c.self.inside.log.file (λ bytes. IsGated c.self.inside.log.most bytes first payloads c.self.inside.log.gate) =
           λ earlier left. subst (λ (f : ℕ). IsGated log.most (earlier f) first payloads log.gate) (sym c.self.invariant)
@@ -45,7 +55,8 @@ returns-in_err-append g c =
           (sym c.self.view_is) (all earlier left)) in
           subst (λ (v : LogPlace). IsWithOrWithout v.most first payloads v.gate (payload_at v c.args.kind c.args.n0 c.args.directory.now c.args.reports.now) (image 1)) c.self.view_is
           (subst (λ (f : ℕ). IsWithOrWithout log.most first payloads log.gate payload (image f)) c.self.invariant
-          (c.append.ensures.each_moment seen told first payloads payload (text_at log c.args.kind c.args.n0 c.args.directory.now c.args.reports.now c.write_log-len.result c.write_log-len.new.into
+          (c.append.ensures.each_moment seen told first payloads payload
+          (text_at log c.args.kind c.args.n0 c.args.directory.now c.args.reports.now c.oldest-mark.result c.oldest-mark.ensures c.write_log-len.result c.write_log-len.new.into
           c.write_log-len.ensures.text) all_here image may)));
       appended = λ seen told first payloads all. tt;
       closed = λ seen told. tt;
@@ -62,34 +73,41 @@ returns-in_err-append g c =
         never_falls = c.append.ensures.kept.never_falls;
         failed = λ _. c.append.ensures.kept.failed (ap is_err c.in_err-append.was);
         mark = c.append.ensures.kept.mark;
+        journal = c.append.ensures.kept.journal;
       };
     })
 
 pub returns : goal.returns
 returns g c = record {
-  moved = (let log : LogPlace = record { gate = c.self.inside.log.gate; most = c.self.inside.log.most; named = c.self.inside.named } in
+  moved = (let log : LogPlace = record { gate = c.self.inside.log.gate; most = c.self.inside.log.most; named = c.self.inside.named; marks = c.self.inside.marks } in
       let gate_is : c.append.new.self.gate ≡ next_gate log.gate (payload_at log c.args.kind c.args.n0 c.args.directory.now c.args.reports.now) =
       ap (λ (l : Log). l.gate) c.in_ok-append.ensures.moved ∙ omega (
         arith,
-        text_long log c.args.kind c.args.n0 c.args.directory.now c.args.reports.now c.write_log-len.result
+        text_long log c.args.kind c.args.n0 c.args.directory.now c.args.reports.now c.oldest-mark.result c.oldest-mark.ensures c.write_log-len.result
             c.write_log-len.new.into c.write_log-len.ensures.text,
       ) in
       let most_is : c.append.new.self.most ≡ log.most = ap (λ (l : Log). l.most) c.in_ok-append.ensures.moved in
-      subst (λ (v : LogPlace). record { gate = c.append.new.self.gate; most = c.append.new.self.most; named = length c.args.reports.now } ≡ record {
+      subst (λ (v : LogPlace). record {
+        gate = c.append.new.self.gate;
+        most = c.append.new.self.most;
+        named = length c.args.reports.now;
+        marks = c.self.inside.marks;
+      } ≡ record {
         gate = next_gate v.gate
             (payload_at v c.args.kind c.args.n0 c.args.directory.now c.args.reports.now);
         most = v.most;
         named = length c.args.reports.now;
+        marks = v.marks;
       }) c.self.view_is
-      (λ i. record { gate = gate_is i; most = most_is i; named = length c.args.reports.now }));
+      (λ i. record { gate = gate_is i; most = most_is i; named = length c.args.reports.now; marks = c.self.inside.marks }));
   stayed = tt;
-  long = (let log : LogPlace = record { gate = c.self.inside.log.gate; most = c.self.inside.log.most; named = c.self.inside.named } in
+  long = (let log : LogPlace = record { gate = c.self.inside.log.gate; most = c.self.inside.log.most; named = c.self.inside.named; marks = c.self.inside.marks } in
       subst (λ (v : LogPlace). next_gate v.gate (payload_at v c.args.kind c.args.n0 c.args.directory.now c.args.reports.now) ≡ v.gate + 5
       + payload_len v c.args.directory.now c.args.reports.now)
       c.self.view_is
       (ap (λ n. log.gate + 5 + n) (payload_long log c.args.kind c.args.n0 c.args.directory.now c.args.reports.now)));
   each_moment = λ seen told first payloads all image may.
-      (let log : LogPlace = record { gate = c.self.inside.log.gate; most = c.self.inside.log.most; named = c.self.inside.named } in
+      (let log : LogPlace = record { gate = c.self.inside.log.gate; most = c.self.inside.log.most; named = c.self.inside.named; marks = c.self.inside.marks } in
       let payload = payload_at log c.args.kind c.args.n0 c.args.directory.now c.args.reports.now in
       let all_here : InEach (g.B.Bay.leaves c.args.bay.now) c.self.inside.log.file (λ bytes. IsGated c.self.inside.log.most bytes first payloads c.self.inside.log.gate) =
       λ earlier left. subst (λ (f : ℕ). IsGated log.most (earlier f) first payloads log.gate) (sym c.self.invariant)
@@ -97,10 +115,11 @@ returns g c = record {
       (sym c.self.view_is) (all earlier left)) in
       subst (λ (v : LogPlace). IsWithOrWithout v.most first payloads v.gate (payload_at v c.args.kind c.args.n0 c.args.directory.now c.args.reports.now) (image 1)) c.self.view_is
       (subst (λ (f : ℕ). IsWithOrWithout log.most first payloads log.gate payload (image f)) c.self.invariant
-      (c.append.ensures.each_moment seen told first payloads payload (text_at log c.args.kind c.args.n0 c.args.directory.now c.args.reports.now c.write_log-len.result c.write_log-len.new.into
+      (c.append.ensures.each_moment seen told first payloads payload
+      (text_at log c.args.kind c.args.n0 c.args.directory.now c.args.reports.now c.oldest-mark.result c.oldest-mark.ensures c.write_log-len.result c.write_log-len.new.into
       c.write_log-len.ensures.text) all_here image may)));
   appended = λ seen told first payloads all image may.
-      (let log : LogPlace = record { gate = c.self.inside.log.gate; most = c.self.inside.log.most; named = c.self.inside.named } in
+      (let log : LogPlace = record { gate = c.self.inside.log.gate; most = c.self.inside.log.most; named = c.self.inside.named; marks = c.self.inside.marks } in
       let payload = payload_at log c.args.kind c.args.n0 c.args.directory.now c.args.reports.now in
       let all_here : InEach (g.B.Bay.leaves c.args.bay.now) c.self.inside.log.file (λ bytes. IsGated c.self.inside.log.most bytes first payloads c.self.inside.log.gate) =
       λ earlier left. subst (λ (f : ℕ). IsGated log.most (earlier f) first payloads log.gate) (sym c.self.invariant)
@@ -109,7 +128,8 @@ returns g c = record {
       subst (λ (v : LogPlace). IsGated v.most (image 1) first (payloads ++ payload_at v c.args.kind c.args.n0 c.args.directory.now c.args.reports.now ∷ []) c.append.new.self.gate)
       c.self.view_is
       (subst (λ (f : ℕ). IsGated log.most (image f) first (payloads ++ payload ∷ []) c.append.new.self.gate) c.self.invariant
-      (c.in_ok-append.ensures.appended seen told first payloads payload (text_at log c.args.kind c.args.n0 c.args.directory.now c.args.reports.now c.write_log-len.result c.write_log-len.new.into
+      (c.in_ok-append.ensures.appended seen told first payloads payload
+      (text_at log c.args.kind c.args.n0 c.args.directory.now c.args.reports.now c.oldest-mark.result c.oldest-mark.ensures c.write_log-len.result c.write_log-len.new.into
       c.write_log-len.ensures.text) all_here image may)));
   closed = λ seen told. subst (λ (f : ℕ). InEach (g.B.Bay.leaves c.append.new.bay) f (λ bytes. IsClosed bytes c.append.new.self.gate)) c.self.invariant
       (c.in_ok-append.ensures.closed seen told);
@@ -125,5 +145,6 @@ returns g c = record {
     never_falls = c.append.ensures.kept.never_falls;
     failed = λ never. absurd (false≢true never);
     mark = c.append.ensures.kept.mark;
+    journal = c.append.ensures.kept.journal;
   };
 }

@@ -25,7 +25,15 @@ use Rattle.lert_cone.proofs.tally.totals.bring.Given as given
 use Rattle.lert_cone.proofs.tally.totals.bring.Goals as goal
 
 abbrev bays : (g : given.Over) → Bays g.row.B.Denot
-bays g = record { faults = g.B.Faulty.faults; mark = g.B.Faulty.mark; files = g.B.Bay.files; leaves = g.B.Bay.leaves; moment = g.B.Bay.moment; left_since = g.B.Bay.left_since }
+bays g = record {
+  faults = g.B.Faulty.faults;
+  mark = g.B.Faulty.mark;
+  files = g.B.Bay.files;
+  leaves = g.B.Bay.leaves;
+  moment = g.B.Bay.moment;
+  left_since = g.B.Bay.left_since;
+  handed_out = g.B.Bay.handed_out;
+}
 
 lawful : (g : given.Over) → IsLawful (bays g)
 lawful g = record { as_read = g.met.B.Bay.as_read; since_now = g.met.B.Bay.since_now; only_now = g.met.B.Bay.only_now; since_earlier = g.met.B.Bay.since_earlier }
@@ -68,6 +76,7 @@ returns-then-not-flushes-clause-brings g c = record {
     never_falls = omega arith;
     failed = λ same. absurd (let never : ⊥ = cc in never);
     mark = refl;
+    journal = refl;
   };
 }
 
@@ -134,6 +143,7 @@ returns-in-Ok-clause-brings g c = record {
     never_falls = c.flush_into-taken.ensures.kept.never_falls;
     failed = λ same. absurd (let never : ⊥ = cc in never);
     mark = c.flush_into-taken.ensures.kept.mark;
+    journal = c.flush_into-taken.ensures.kept.journal;
   };
 }
 
@@ -167,5 +177,6 @@ returns-in-Err-clause-brings g c = record {
     never_falls = c.flush_into-taken.ensures.kept.never_falls;
     failed = λ same. c.flush_into-taken.ensures.kept.failed (c.in-Err.is ∙ same);
     mark = c.flush_into-taken.ensures.kept.mark;
+    journal = c.flush_into-taken.ensures.kept.journal;
   };
 }

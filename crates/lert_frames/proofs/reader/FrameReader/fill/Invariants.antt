@@ -7,7 +7,15 @@ use Rattle.lert_frames.specs.ToCome.{IsSameFrame, IsSameToCome, IsWithin}
 use Rattle.lert_frames.proofs.reader.FrameReader.fill.Given as goal
 
 abbrev pub bays : (g : goal.Over) → Bays g.row.B.Denot
-bays g = record { faults = g.B.Faulty.faults; mark = g.B.Faulty.mark; files = g.B.Bay.files; leaves = g.B.Bay.leaves; moment = g.B.Bay.moment; left_since = g.B.Bay.left_since }
+bays g = record {
+  faults = g.B.Faulty.faults;
+  mark = g.B.Faulty.mark;
+  files = g.B.Bay.files;
+  leaves = g.B.Bay.leaves;
+  moment = g.B.Bay.moment;
+  left_since = g.B.Bay.left_since;
+  handed_out = g.B.Bay.handed_out;
+}
 
 -- the same is to come, and nothing was changed
 abbrev pub invariant-loop-self : goal.invariant-loop-self

@@ -12,7 +12,15 @@ pub record IsOnWay {B : Type 0} (bays : Bays B) (block : ℕ) (old new : FrameWr
   pub upto : new.number ≤ max old.number block
 
 abbrev pub bays : (g : goal.Over) → Bays g.row.B.Denot
-bays g = record { faults = g.B.Faulty.faults; mark = g.B.Faulty.mark; files = g.B.Bay.files; leaves = g.B.Bay.leaves; moment = g.B.Bay.moment; left_since = g.B.Bay.left_since }
+bays g = record {
+  faults = g.B.Faulty.faults;
+  mark = g.B.Faulty.mark;
+  files = g.B.Bay.files;
+  leaves = g.B.Bay.leaves;
+  moment = g.B.Bay.moment;
+  left_since = g.B.Bay.left_since;
+  handed_out = g.B.Bay.handed_out;
+}
 
 abbrev pub invariant-loop-self : goal.invariant-loop-self
 invariant-loop-self g l = IsOnWay (bays g) l.block l.initial.self l.self l.initial.bay l.bay

@@ -7,7 +7,15 @@ use Rattle.lert_gatelog.proofs.gate_log.GateLog.create.Given as given
 use Rattle.lert_gatelog.proofs.gate_log.GateLog.create.Goals as goal
 
 abbrev bays : (g : given.Over) → Bays g.row.B.Denot
-bays g = record { faults = g.B.Faulty.faults; mark = g.B.Faulty.mark; files = g.B.Bay.files; leaves = g.B.Bay.leaves; moment = g.B.Bay.moment; left_since = g.B.Bay.left_since }
+bays g = record {
+  faults = g.B.Faulty.faults;
+  mark = g.B.Faulty.mark;
+  files = g.B.Bay.files;
+  leaves = g.B.Bay.leaves;
+  moment = g.B.Bay.moment;
+  left_since = g.B.Bay.left_since;
+  handed_out = g.B.Bay.handed_out;
+}
 
 pub returns-in_err-write_durably-clause-others : goal.returns-in_err-write_durably-clause-others
 returns-in_err-write_durably-clause-others g c = others_once (bays g) c.write_durably.ensures

@@ -22,7 +22,15 @@ use Rattle.lert_levels.proofs.levels.Levels.land.Given as given
 use Rattle.lert_levels.proofs.levels.Levels.land.Goals as goal
 
 abbrev bays : (g : given.Over) → Bays g.row.B.Denot
-bays g = record { faults = g.B.Faulty.faults; mark = g.B.Faulty.mark; files = g.B.Bay.files; leaves = g.B.Bay.leaves; moment = g.B.Bay.moment; left_since = g.B.Bay.left_since }
+bays g = record {
+  faults = g.B.Faulty.faults;
+  mark = g.B.Faulty.mark;
+  files = g.B.Bay.files;
+  leaves = g.B.Bay.leaves;
+  moment = g.B.Bay.moment;
+  left_since = g.B.Bay.left_since;
+  handed_out = g.B.Bay.handed_out;
+}
 
 pub land_rows-reading-requires-clause-landings : goal.land_rows-reading-requires-clause-landings
 land_rows-reading-requires-clause-landings g c =

@@ -1,0 +1,50 @@
+use Rattle.std.proofs.Common.{◌≡◌, ℕ, ◌+◌, ◌≤◌, ◌*◌, List, get_or, ap, arith, subst, sym, ◌∙◌}
+use Rattle.std.proofs.Math.ListN.{length-set, set}
+use Rattle.lert_spec.specs.Edges.{capacity, span}
+use Rattle.lert_spec.proofs.LimitLaws.{capacity_to}
+use Rattle.lert_cone.specs.declared.marks.Mark.{Mark}
+use Rattle.lert_cone.specs.Marks.{Marked, bins_begun, first_mark}
+use Rattle.lert_cone.proofs.BinLaws.{begun_more, bin_more, span_few}
+use Rattle.lert_cone.proofs.MarkLaws.{newest_turned, others_turned}
+use Rattle.lert_cone.proofs.marks.Marks.begin.Goals as goal
+
+pub overflow_add-self : goal.overflow_add-self
+overflow_add-self c =
+    let here = subst (λ (v : Marked). bins_begun v.settings v.passed * span v.settings 0 + 1 ≤ capacity v.settings) (sym c.self.view_is) c.requires in
+    omega (
+      arith,
+      here,
+      c.self.invariant.next_is,
+      capacity_to c.self.inside.settings c.self.invariant.valid,
+      span_few c.self.inside.settings c.self.invariant.valid,
+      c.span.ensures.value,
+    )
+
+pub invariant_of-self : goal.invariant_of-self
+invariant_of-self c =
+    let s = c.self.inside.settings in
+    let n = bins_begun s c.self.inside.passed in
+    let here = subst (λ (v : Marked). bins_begun v.settings v.passed * span v.settings 0 + 1 ≤ capacity v.settings) (sym c.self.view_is) c.requires in
+    let more : bins_begun s c.self.inside.next ≡ n + 1 = ap (bins_begun s) c.self.invariant.next_is ∙ begun_more s c.self.invariant.valid n in
+    record {
+      valid = c.self.invariant.valid;
+      within = omega (arith, here, c.self.invariant.next_is);
+      next_is = omega (arith, c.self.invariant.next_is, c.span.ensures.value, ap (λ (x : ℕ). x * span s 0) more, bin_more n (span s 0));
+      counted = length-set c.rotate_right.new.self 0 c.args.mark ∙ (c.rotate_right.ensures.len ∙ c.self.invariant.counted);
+    }
+
+pub returns-clause-settings : goal.returns-clause-settings
+returns-clause-settings c = ap (λ (v : Marked). v.settings) c.self.view_is
+
+pub returns-clause-passed : goal.returns-clause-passed
+returns-clause-passed c =
+    subst (λ (v : Marked). c.self.inside.next ≡ bins_begun v.settings v.passed * span v.settings 0 + 1) c.self.view_is c.self.invariant.next_is
+
+pub returns-clause-newest : goal.returns-clause-newest
+returns-clause-newest c =
+    subst (λ (xs : List Mark). get_or (set xs 0 c.args.mark) 0 first_mark ≡ c.args.mark) (sym c.rotate_right.ensures.after) (newest_turned c.self.inside.marks c.args.mark c.self.invariant.counted)
+
+pub returns-clause-others : goal.returns-clause-others
+returns-clause-others c = λ j few.
+    subst (λ (xs : List Mark). get_or (set xs 0 c.args.mark) (j + 1) first_mark ≡ get_or c.args.self.now.marks j first_mark) (sym c.rotate_right.ensures.after)
+    (others_turned c.self.inside.marks c.args.mark c.self.invariant.counted j few ∙ ap (λ (v : Marked). get_or v.marks j first_mark) c.self.view_is)

@@ -1,0 +1,162 @@
+//! Which record of the journal each record of a log names.
+
+ghost use Rattle.std.specs.Prelude.{◌≡◌};
+
+use crate::cones::{created, end, give, small};
+use lert_base::Settings;
+use lert_bay::{Bay, LOG, MemBay};
+use lert_cone::Cone;
+use lert_plain::PlainTable;
+use std::alloc::Global;
+use std::process::Abort;
+use std::test::Fail;
+
+// After how many keys a record was written, and where the journal's record begins that it names.
+#[derive(Clone, Copy, Debug, PartialEq, Eq)]
+struct Named {
+    n0: u64,
+    offset: u64,
+    first: u64,
+}
+
+// A cone over this bay takes these packets, and ends. Answers the bay that it leaves.
+fn ended<B: Bay>(rt: &impl Abort, alloc: Global, bay: B, packets: &[&[u64]]) -> Result<B, Fail>
+where
+    B: Drop,
+{
+    let settings = small(32)?;
+    let mut cone = created(alloc, &settings, bay)?;
+    let checked = check_ended(rt, alloc, &settings, &mut cone, packets);
+    let bay = cone.into_bay();
+    checked?;
+    Ok(bay)
+}
+
+fn check_ended<B: Bay>(
+    rt: &impl Abort,
+    alloc: Global,
+    settings: &Settings,
+    cone: &mut Cone<B, PlainTable>,
+    packets: &[&[u64]],
+) -> Result<(), Fail>
+    requires eight { settings.now.packet ≡ 8 }
+    requires settings { cone.old.listing.settings ≡ settings.now }
+    requires cone { cone.old.listing.cone ≡ 0 }
+{
+    for packet in packets {
+        let keys = *packet;
+        let len = keys.len();
+        assert!(rt; 0 < len && len <= 32);
+        let answer = give(rt, alloc, settings, cone, keys)?;
+        assert!(rt; answer.is_ok());
+    }
+    assert!(rt; end(cone).is_ok());
+    Ok(())
+}
+
+// A number of eight bytes, the lowest first.
+fn number(bytes: &[u8]) -> u64 {
+    match bytes {
+        [a, b, c, d, e, f, g, h, ..] => u64::from_le_bytes([*a, *b, *c, *d, *e, *f, *g, *h]),
+        _ => 0,
+    }
+}
+
+// What the records of a log name, by its format alone.
+fn named_in(alloc: Global, log: &[u8]) -> Result<Vec<Named>, Fail> {
+    let mut named = Vec::new(alloc);
+    let mut rest = log.get(8..).unwrap_or(&[]);
+    while let [1, a, b, c, d, behind @ ..] = rest {
+        let len = u32::from_le_bytes([*a, *b, *c, *d]) as usize;
+        named.push(Named {
+            n0: number(behind.get(1..).unwrap_or(&[])),
+            offset: number(behind.get(9..).unwrap_or(&[])),
+            first: number(behind.get(17..).unwrap_or(&[])),
+        })?;
+        rest = behind.get(len..).unwrap_or(&[]);
+    }
+    match rest {
+        [0] => Ok(named),
+        _ => Err(Fail::new("the log doesn't end with a closed gate")),
+    }
+}
+
+// The records behind these packets: the log's name these records of the journal.
+fn check_named(
+    rt: &impl Abort,
+    alloc: Global,
+    packets: &[&[u64]],
+    due: &[Named],
+) -> Result<(), Fail> {
+    let bay = ended(rt, alloc, MemBay::new(alloc)?, packets)?;
+    let named = named_in(alloc, bay.bytes(LOG))?;
+    assert_eq!(rt; named.as_slice(), due);
+    Ok(())
+}
+
+// A record of n keys takes 13 + 8n bytes, the first one behind 32. The bins of level 0 have four keys: it begins behind 4 at
+// the flush at 12, behind 8 at 16, and so on, behind 28 at 36 and at the end.
+#[test]
+fn each_record_names_the_journal_record_that_holds_the_first_key_of_level_0(
+    rt: HostRuntime,
+) -> Result<(), Fail> {
+    let packets: [&[u64]; 8] = [
+        &[1, 2, 3],
+        &[4],
+        &[5, 6, 7, 8, 9],
+        &[10, 11, 12, 13, 14, 15, 16, 17, 18],
+        &[19, 20],
+        &[21, 22, 23, 24, 25, 26, 27],
+        &[28, 29, 30, 31, 32, 33],
+        &[34, 35, 36, 37],
+    ];
+    let due = [
+        Named {
+            n0: 12,
+            offset: 90,
+            first: 5,
+        },
+        Named {
+            n0: 16,
+            offset: 90,
+            first: 5,
+        },
+        Named {
+            n0: 20,
+            offset: 143,
+            first: 10,
+        },
+        Named {
+            n0: 24,
+            offset: 143,
+            first: 10,
+        },
+        Named {
+            n0: 28,
+            offset: 257,
+            first: 21,
+        },
+        Named {
+            n0: 32,
+            offset: 257,
+            first: 21,
+        },
+        Named {
+            n0: 36,
+            offset: 326,
+            first: 28,
+        },
+        Named {
+            n0: 37,
+            offset: 326,
+            first: 28,
+        },
+    ];
+    check_named(&rt, rt.alloc(), &packets, &due)?;
+    let none = [Named {
+        n0: 0,
+        offset: 32,
+        first: 1,
+    }];
+    check_named(&rt, rt.alloc(), &[], &none)
+}

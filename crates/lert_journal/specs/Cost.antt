@@ -1,0 +1,14 @@
+-- How many bytes of a journal a read of a packet hands out at most.
+use Rattle.std.specs.Prelude.{ℕ, ◌+◌, Bool, true, false, Result, Ok, Err, length}
+use Rattle.lert_base.specs.Packet.{Packet}
+use Rattle.lert_gatelog.specs.declared.fault.LogFault.{LogFault}
+use Rattle.lert_gatelog.specs.declared.fault.LogFault.TheVariants.{Failed, Malformed}
+use Rattle.lert_journal.specs.Payload.{payload_of}
+
+-- the gate, the length and the payload of the record that gave this packet; gate and length where none came; and as many as the
+-- greatest record has, where it leaves the format
+abbrev pub entry_cost : ℕ → Packet → Result Bool LogFault → ℕ
+entry_cost most packet (Ok true) = 5 + length (payload_of packet)
+entry_cost most packet (Ok false) = 5
+entry_cost most packet (Err Failed) = 5
+entry_cost most packet (Err (Malformed at)) = 5 + most
