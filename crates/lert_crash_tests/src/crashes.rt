@@ -1,15 +1,15 @@
-//! What a stop at any call of a cone's life leaves, and what it is opened again as.
+//! What a stop at any call of a cone's life leaves, what it is opened again as, and what a stop inside that leaves.
 
 ghost use Rattle.std.specs.Prelude.{◌≡◌, ◌*◌, ◌<◌, ◌≤◌, length, IfOk};
 ghost use Rattle.lert_base.specs.Entries.{packet_of};
 ghost use Rattle.lert_journal.specs.Payload.{IsJournaled};
 
 use lert_base::{Entry, KeyList, Numbers, Report, Settings};
-use lert_bay::MemBay;
+use lert_bay::{LOG, MemBay};
 use lert_cone::{Cone, ConeRoom, ConeState};
 use lert_mixer::cone_of;
 use lert_plain::PlainTable;
-use lert_recover::reopen;
+use lert_recover::{ReopenFault, reopen};
 use std::alloc::{AllocError, Global};
 use std::process::Abort;
 use std::test::Fail;
@@ -98,13 +98,14 @@ fn stopped(rt: &impl Abort, alloc: Global, keys: &[u64], call: u64) -> Result<Op
     }))
 }
 
-// Opens what a crash leaves, and goes on to the end.
+// Opens what a crash leaves, and goes on to the end. It has the packets that were taken, and at most so many more.
 fn go_on(
     rt: &impl Abort,
     alloc: Global,
     keys: &[u64],
     image: MemBay,
     taken: usize,
+    more: usize,
     reports: &[Report],
 ) -> Result<(), Fail> {
     let room = ConeRoom::new(alloc, &settings()?)?;
@@ -112,16 +113,17 @@ fn go_on(
         return Err(Fail::new("what a crash leaves is sound"));
     };
     // The cone is lent, so that no later exit has to let it go.
-    check_rest(rt, alloc, &mut cone, keys, taken, reports)
+    check_rest(rt, alloc, &mut cone, keys, taken, more, reports)
 }
 
-// Goes on with a cone to the end, which has the packets that were taken or one more.
+// Goes on with a cone to the end, which has the packets that were taken, and at most so many more.
 fn check_rest(
     rt: &impl Abort,
     alloc: Global,
     cone: &mut Cone<MemBay, PlainTable>,
     keys: &[u64],
     taken: usize,
+    more: usize,
     reports: &[Report],
 ) -> Result<(), Fail>
     requires settings { cone.old.listing.settings ≡ SMALL }
@@ -130,7 +132,7 @@ fn check_rest(
     let packets = cone.events() as usize / PACKET;
     assert_eq!(rt; cone.events() as usize % PACKET, 0);
     assert!(rt; taken <= packets);
-    assert!(rt; packets - taken <= 1);
+    assert!(rt; packets - taken <= more);
     if cone.state() == ConeState::Running {
         assert_eq!(rt; give(rt, alloc, cone, keys, packets)?, keys.len() / PACKET);
         assert!(rt; cone.finish().is_ok());
@@ -174,10 +176,132 @@ fn stop_at_each_call(
                 return Ok(call);
             }
             let image = left.bay.crashed(pick)?;
-            go_on(rt, alloc, keys, image, left.packets, reports)?;
+            go_on(rt, alloc, keys, image, left.packets, 1, reports)?;
         }
     }
     Err(Fail::new("no run met no stop"))
+}
+
+// What a reopening leaves: the bay, and how many packets the cone has, or why there is none.
+#[derive(Drop)]
+struct Reopened {
+    bay: MemBay,
+    packets: Result<usize, ReopenFault>,
+}
+
+fn reopen_bay(alloc: Global, image: MemBay) -> Result<Reopened, Fail> {
+    let room: ConeRoom<PlainTable> = ConeRoom::new(alloc, &settings()?)?;
+    Ok(match reopen(room, 0, image) {
+        Ok(cone) => Reopened {
+            packets: Ok(cone.events() as usize / PACKET),
+            bay: cone.into_bay(),
+        },
+        Err(refused) => Reopened {
+            packets: Err(refused.fault),
+            bay: refused.bay,
+        },
+    })
+}
+
+// Goes on with each image of what a reopening left, which has just these packets.
+fn go_on_with_each(
+    rt: &impl Abort,
+    alloc: Global,
+    keys: &[u64],
+    bay: &MemBay,
+    packets: usize,
+    reports: &[Report],
+) -> Result<(), Fail> {
+    for pick in 0..4 {
+        let image = bay.copied(alloc)?.crashed(pick)?;
+        go_on(rt, alloc, keys, image, packets, 0, reports)?;
+    }
+    Ok(())
+}
+
+// Stops the reopening of an image with these packets at each of its calls, and goes on with what is left. Answers whether it
+// writes a log record, as it does where it makes a flush.
+fn stop_reopening_at_each_call(
+    rt: &impl Abort,
+    alloc: Global,
+    keys: &[u64],
+    image: &MemBay,
+    packets: usize,
+    reports: &[Report],
+) -> Result<bool, Fail> {
+    for call in 1..MOST_CALLS {
+        let mut bay = image.copied(alloc)?;
+        bay.stop_at(call);
+        let left = reopen_bay(alloc, bay)?;
+        go_on_with_each(rt, alloc, keys, &left.bay, packets, reports)?;
+        if left.packets == Ok(packets) {
+            // It syncs the three files before all else.
+            assert!(rt; call > 3);
+            return Ok(image.bytes(LOG).len() < left.bay.bytes(LOG).len());
+        }
+        assert_eq!(rt; left.packets, Err(ReopenFault::Failed), "call {call}");
+    }
+    Err(Fail::new("no reopening met no stop"))
+}
+
+// Stops the reopening of each image of a cone that was stopped, and answers how many of them write a log record.
+fn stop_each_reopening(
+    rt: &impl Abort,
+    alloc: Global,
+    keys: &[u64],
+    left: &Left,
+    reports: &[Report],
+) -> Result<u32, Fail> {
+    let mut flushing = 0u32;
+    for pick in 0..4 {
+        let image = left.bay.copied(alloc)?.crashed(pick)?;
+        let owed = reopen_bay(alloc, image.copied(alloc)?)?.packets;
+        let packets = owed.ok().ok_or("what a crash leaves is sound")?;
+        assert!(rt; left.packets <= packets);
+        assert!(rt; packets - left.packets <= 1);
+        if stop_reopening_at_each_call(rt, alloc, keys, &image, packets, reports)? {
+            flushing = flushing.saturating_add(1);
+        }
+    }
+    Ok(flushing)
+}
+
+// Stops a run over these keys at each of its calls, and each reopening of what it left at each of its own. Answers how many of
+// these write a log record.
+fn stop_twice_at_each_call(
+    rt: &impl Abort,
+    alloc: Global,
+    keys: &[u64],
+    reports: &[Report],
+) -> Result<u32, Fail> {
+    let mut flushing = 0u32;
+    for call in 1..MOST_CALLS {
+        let Some(left) = stopped(rt, alloc, keys, call)? else {
+            continue;
+        };
+        if left.finished {
+            return Ok(flushing);
+        }
+        let more = stop_each_reopening(rt, alloc, keys, &left, reports)?;
+        flushing = flushing.saturating_add(more);
+    }
+    Err(Fail::new("no run met no stop"))
+}
+
+#[test]
+fn a_stop_inside_a_reopening_leaves_what_it_was_to_open(rt: HostRuntime) -> Result<(), Fail> {
+    let rows: [(u64, &[u64], &[Report]); 2] = [
+        (32, &[], &[]),
+        (16, &[1, 2, 13], &[Report { key: 7, at: 16 }]),
+    ];
+    for (last, places, reports) in rows {
+        assert!(rt; last < 1_000);
+        let keys = sevens_at(rt.alloc(), last, places)?;
+        let flushing = stop_twice_at_each_call(&rt, rt.alloc(), &keys, reports)?;
+        // Some of them make a flush that the run didn't come to.
+        assert!(rt; flushing > 0);
+    }
+    Ok(())
 }
 
 #[test]

@@ -1,4 +1,5 @@
-//! Tests of what a stop at any call of a cone's life leaves, and of what it is opened again as. No crate stands on this one.
+//! Tests of what a stop at any call of a cone's life leaves, of what it is opened again as, and of a stop inside that. No crate stands
+//! on this one.
 #![tactic(auto)]
 
 #[cfg(test)]
