@@ -8,11 +8,16 @@
 use lert_host::{FilePlace, TextSink, WordsFault, read_words};
 use lert_text::{LINE, status_line};
 use lert_top::{Status, run};
+use std::fs::File;
 use std::io;
 use std::io::Write;
 use std::process::ExitCode;
+use std::rt::Files;
 
 fn main(rt: HostRuntime) -> ExitCode {
+    // Held to the end, so that no file of a run gets the number of a standard stream that was closed: what is printed would go
+    // into that file.
+    let _streams = [null_device(&rt), null_device(&rt), null_device(&rt)];
     let status = match read_words(&rt, rt.alloc()) {
         Ok(words) => {
             let mut place = FilePlace::new(&rt);
@@ -25,6 +30,11 @@ fn main(rt: HostRuntime) -> ExitCode {
     };
     print_line(&mut rt.stderr(), status);
     ExitCode::from(status.number())
+}
+
+// A file that takes nothing: it is opened for reading alone.
+fn null_device<R: Files<File = File> + AllocGlobal>(rt: &R) -> Option<File> {
+    File::open(rt, "/dev/null").ok()
 }
 
 // Prints the line of a status on standard error. `Done` has none.
