@@ -1,4 +1,4 @@
-"""The changes of the files of cones that tools/damage tries: a table of them, and single bytes.
+"""The changes of the files of cones that tools/damage tries: a table of them, and drawn ones.
 
 It knows nothing of the program: what is due of a change stands in docs/FORMATS.md and the definitions.
 """
@@ -7,7 +7,7 @@ from __future__ import annotations
 
 import random
 from itertools import islice
-from typing import Iterator, NamedTuple
+from typing import Callable, Iterator, NamedTuple
 
 from breaks import COUNT_TOP_AT, TOO_GREAT, frame_changes
 from cones import FLUSH, FRAMES, JOURNAL, LOG, SUFFIXES, Cone
@@ -27,11 +27,13 @@ Changes = dict[str, bytes | None]
 
 
 class Run(NamedTuple):
-    """A run that makes files: so many keys, and the status at its end."""
+    """A run that makes files: so many keys, and the status at its end. Its files come in the table, or in drawn changes
+    alone."""
 
     settings: Settings
     keys: int
     status: int
+    is_in_table: bool = True
 
 
 class Kept(NamedTuple):
@@ -44,13 +46,14 @@ class Kept(NamedTuple):
 class Case(NamedTuple):
     """Files of a run with some of them changed, or None for one that is taken away, opened with the run's settings or
     with others. The line is that which the table says to be due: that of a refusal, or an empty one where nothing
-    changes."""
+    changes. The kind is one of drawn changes."""
 
     name: str
     kept: Kept
     changed: Changes
     line: str | None = None
     others: Settings | None = None
+    kind: str = "the table"
 
     def settings(self) -> Settings:
         return self.others or self.kept.run.settings
@@ -227,19 +230,87 @@ def table(kept: Kept, draw: random.Random) -> Iterator[Case]:
     yield from cuts(kept)
 
 
-def single_bytes(all_kept: list[Kept], draw: random.Random) -> Iterator[Case]:
-    """A bit flipped, or another value, at any place of any file."""
+# --- drawn changes
+
+# Of files: a name for what is done to them, and those that it changes.
+Harm = Callable[[Folder, random.Random], tuple[str, dict[str, bytes]]]
+
+# What a disk may lose at once.
+BLOCKS = (512, 4096)
+RANGES = (1, 8, 64, 512)
+
+
+def some_file(files: Folder, draw: random.Random, least: int = 1) -> tuple[str, bytes]:
+    """A file of so many bytes at least."""
+    name = draw.choice(sorted(name for name, data in files.items() if len(data) >= least))
+    return name, files[name]
+
+
+def one_byte(files: Folder, draw: random.Random) -> tuple[str, dict[str, bytes]]:
+    """A bit flipped, or another value, at any place."""
+    name, data = some_file(files, draw)
+    at = draw.randrange(len(data))
+    value = data[at] ^ (1 << draw.randrange(8) if draw.random() < 0.5 else draw.randrange(1, 256))
+    return f"{name} with {value} at {at}", {name: put(data, at, value)}
+
+
+def a_cut(files: Folder, draw: random.Random) -> tuple[str, dict[str, bytes]]:
+    name, data = some_file(files, draw)
+    length = draw.randrange(len(data))
+    return f"{name} cut at {length}", {name: data[:length]}
+
+
+def a_swap(files: Folder, draw: random.Random) -> tuple[str, dict[str, bytes]]:
+    """Two ranges of a file in each other's place, or two files."""
+    if draw.random() < 0.3:
+        one, other = draw.sample(sorted(files), 2)
+        return f"{one} and {other} swapped", {one: files[other], other: files[one]}
+    name, data = some_file(files, draw, 2)
+    length = min(draw.choice(RANGES), len(data) // 2)
+    low = draw.randint(0, len(data) - 2 * length)
+    high = draw.randint(low + length, len(data) - length)
+    first, second = data[low : low + length], data[high : high + length]
+    changed = data[:low] + second + data[low + length : high] + first + data[high + length :]
+    return f"{name} with the {length} bytes at {low} and at {high} swapped", {name: changed}
+
+
+def a_lost_block(files: Folder, draw: random.Random) -> tuple[str, dict[str, bytes]]:
+    """A block of the disk that reads as zeros."""
+    name, data = some_file(files, draw)
+    size = draw.choice(BLOCKS)
+    at = draw.randrange(0, len(data), size)
+    end = min(at + size, len(data))
+    return f"{name} with zeros from {at} up to {end}", {name: data[:at] + bytes(end - at) + data[end:]}
+
+
+def two_at_once(files: Folder, draw: random.Random) -> tuple[str, dict[str, bytes]]:
+    first, changed = draw.choice(SINGLE)(files, draw)
+    second, more = draw.choice(SINGLE)({**files, **changed}, draw)
+    return f"{first}, then {second}", {**changed, **more}
+
+
+SINGLE: tuple[Harm, ...] = (one_byte, a_cut, a_swap, a_lost_block)
+# Each kind with its share of a hundred.
+HARMS: dict[str, tuple[Harm, int]] = {
+    "a byte": (one_byte, 40),
+    "a cut": (a_cut, 10),
+    "a swap": (a_swap, 15),
+    "a block of zeros": (a_lost_block, 10),
+    "two at once": (two_at_once, 25),
+}
+
+
+def drawn(all_kept: list[Kept], draw: random.Random) -> Iterator[Case]:
+    shares = [share for _harm, share in HARMS.values()]
     while True:
-        kept = draw.choice(all_kept)
-        name = draw.choice(sorted(kept.folder))
-        data = kept.folder[name]
-        at = draw.randrange(len(data))
-        value = data[at] ^ (1 << draw.randrange(8) if draw.random() < 0.5 else draw.randrange(1, 256))
-        yield Case(f"{name} with {value} at {at}", kept, {name: put(data, at, value)})
+        kept, kind = draw.choice(all_kept), draw.choices(list(HARMS), shares)[0]
+        name, changed = HARMS[kind][0](kept.folder, draw)
+        yield Case(name, kept, {**changed}, kind=kind)
 
 
 def cases(all_kept: list[Kept], changes: int, seed: int) -> Iterator[Case]:
     draw = random.Random(seed)
     for kept in all_kept:
-        yield from table(kept, draw)
-    yield from islice(single_bytes(all_kept, draw), changes)
+        if kept.run.is_in_table:
+            yield from table(kept, draw)
+    yield from islice(drawn(all_kept, draw), changes)

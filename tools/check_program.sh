@@ -278,7 +278,7 @@ check_recovery() {
     rm -rf d
     check_recovered
     has python3 || return
-    gives 'recovery of damaged files' 0 '' '' passes "$top/tools/damage" "$program" --changes 500
+    gives 'recovery of damaged files' 0 '' '' passes "$top/tools/damage" "$program" --changes 500 --seconds 20
     gives 'recovery of killed runs' 0 '' '' passes "$top/tools/kill" "$program" --times 5 --keys 200000
 }
 
@@ -315,7 +315,7 @@ check_generated() {
     drilled 1 1000000 >due
     gives 'a drill of a million keys' 0 '' '' cmp due <(lert drill --seed 1 --events 1000000)
     gives 'the same by one worker' 0 '' '' cmp due <(lert drill --events=1000000 --workers=1)
-    gives 'drawn lines' 0 '' '' passes "$top/tools/lines" "$("$top/tools/program")" --lines 300
+    gives 'drawn lines' 0 '' '' passes "$top/tools/lines" "$("$top/tools/program")" --lines 300 --seconds 20
 }
 
 # Leaves out where a cone is full: that is up to the workers.

@@ -11,7 +11,7 @@ import subprocess
 import tempfile
 from functools import lru_cache
 from pathlib import Path
-from typing import Iterable, Iterator, Mapping, NamedTuple, Sequence
+from typing import Callable, Iterable, Iterator, Mapping, NamedTuple, Sequence
 
 from cones import CLOSED, JOURNAL, LOOK, SUFFIXES, Broken, Cone, Report, Unsound
 from formats import TRACE_MAGIC, Header, OtherSettings
@@ -55,6 +55,12 @@ def folder_at(path: Path) -> Folder:
     return {file.name: file.read_bytes() for file in path.iterdir()} if path.exists() else {}
 
 
+def write_folder(path: Path, folder: Folder) -> None:
+    path.mkdir(parents=True)
+    for name, data in folder.items():
+        (path / name).write_bytes(data)
+
+
 def files_in(folder: Folder, cone: int) -> Files:
     """The files of a cone. One that isn't there is empty: the program makes it so."""
     return tuple(folder.get(file_name(cone, file), b"") for file in range(len(SUFFIXES)))
@@ -83,12 +89,21 @@ class Answer(NamedTuple):
 
 
 def asked(
-    program: Path, words: Sequence[str | Path], seconds: float = SECONDS, variables: Mapping[str, str] | None = None
+    program: Path,
+    words: Sequence[str | Path],
+    seconds: float = SECONDS,
+    variables: Mapping[str, str] | None = None,
+    begin: Callable[[], object] | None = None,
 ) -> Answer:
-    """What it answers, in this environment or in ours."""
+    """What it answers, in this environment or in ours. Its process begins with a call, where one is given."""
     try:
         done = subprocess.run(
-            [program, *words], stdin=subprocess.DEVNULL, capture_output=True, timeout=seconds, env=variables
+            [program, *words],
+            stdin=subprocess.DEVNULL,
+            capture_output=True,
+            timeout=seconds,
+            env=variables,
+            preexec_fn=begin,
         )
     except subprocess.TimeoutExpired:
         return Answer(HANGS, "", "")
@@ -197,12 +212,17 @@ def fits(answer: Answer, dues: Iterable[Due]) -> bool:
 
 
 def faults(answer: Answer, before: Folder, after: Folder, settings: Settings) -> Iterator[str]:
-    """What is wrong with an answer over the files before it, and with those behind it. No journal may be changed, and
-    where the files of a cone were sound, they have to be so for the same events, with the same reports."""
+    """What is wrong with an answer over the files before it, and with those behind it."""
     dues = dues_of(before, settings)
     if not fits(answer, dues):
         yield f"answered {answer}; due is {' or '.join(map(str, forms(dues)))}"
-    for cone, (due, behind) in enumerate(zip(dues, dues_of(after, settings))):
+    yield from changes_of(before, after, settings)
+
+
+def changes_of(before: Folder, after: Folder, settings: Settings) -> Iterator[str]:
+    """What is wrong with the files behind a recovery. No journal may be changed, and where the files of a cone were
+    sound, they have to be so for the same events, with the same reports."""
+    for cone, (due, behind) in enumerate(zip(dues_of(before, settings), dues_of(after, settings))):
         if files_in(before, cone)[JOURNAL] != files_in(after, cone)[JOURNAL]:
             yield f"the journal of cone {cone} was changed"
         elif is_sound(due) and behind != due:
