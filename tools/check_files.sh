@@ -164,6 +164,34 @@ check_frames() {
     rm -rf files
 }
 
+# names_place OFFSET FIRST: a log of two flushes over sixteen keys 1, whose second record names this place and position
+# of the journal, two numbers below 256 in octal.
+names_place() {
+    local first='\40\0\0\0\0\0\0\0\1\0\0\0\0\0\0\0' end='\1\0\0\0\0\0\0'
+    printf 'LERTL\1\0\0\1\40\0\0\0\1\14\0\0\0\0\0\0\0'"$first$end" >files/cone-000.log
+    printf '\1\40\0\0\0\1\20\0\0\0\0\0\0\0'"\\$1"'\0\0\0\0\0\0\0'"\\$2"'\0\0\0\0\0\0\0'"$end"'\0' >>files/cone-000.log
+}
+
+# Behind sixteen keys level 0 begins at position 9, with the second packet of eight, at byte 109.
+check_places() {
+    local key='\1\0\0\0\0\0\0\0' nothing='\0\0\0\0\0\0\0\0' slot='\54\313\302\64\374\274\126\0' packet
+    local wrong='sound: cone-000: the log'"'"'s record of 16 events names byte'
+    has python3 || return
+    packet='\1\110\0\0\0'"$nothing$key$key$key$key$key$key$key$key" && mkdir files
+    printf 'LERTJ\1\0\0\21\0\0\0\40\0\0\0\4\0\0\0\10\0\0\0\3\2\2\0\0\0\0\0'"$packet$packet"'\0' \
+        >files/cone-000.journal
+    one_block '\3' '\4' "$slot"'\6\0\0\0\0\0\0\0'"$slot"
+    names_place 155 11
+    gives 'a log that names the journal where level 0 begins' 0 'cone 0 events 16 n0 16 reports 0 open\n' '' sound files
+    names_place 40 1
+    gives 'a log that names the record before' 1 '' \
+        "$wrong 32 and position 1 of the journal, and not 109 and 9\n" sound files
+    names_place 155 1
+    gives 'a log that names another position' 1 '' \
+        "$wrong 109 and position 1 of the journal, and not 109 and 9\n" sound files
+    rm -rf files
+}
+
 # --- tools/measure
 
 # A command that ends with status 3, and below it one with the words of a check of the tests of lert_io.

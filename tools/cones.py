@@ -10,6 +10,7 @@ import re
 from bisect import bisect_right
 from collections import Counter, defaultdict
 from functools import cache, cached_property
+from itertools import accumulate
 from pathlib import Path
 from typing import Callable, Iterator, NamedTuple, Sequence, TypeVar
 
@@ -320,8 +321,7 @@ class Cone:
         return self.looked + (left_over(self.header.threshold, self.events, self.looked) if made == CLOSED else [])
 
     def check(self) -> None:
-        """The files, which keep their formats, are sound for the packets of the journal. Which record of the journal
-        the log's records name is no part of that."""
+        """The files, which keep their formats, are sound for the packets of the journal."""
         n0, events = self.log.n0, len(self.events)
         before_last = events - len(self.packets[-1][1].keys) if self.packets else 0
         if n0 < self.levels.last_flush(before_last):
@@ -336,16 +336,32 @@ class Cone:
         made = self.reports(CLOSED) if self.log.closed else [report for report in self.looked if report.at <= n0]
         if self.log.reports != made:
             raise Unsound(f"the log's reports aren't those of {n0} events")
+        self.check_place(self.log.records[-1:])
 
     def check_places(self) -> None:
-        """Each record of the log names a record of the journal, and the position of its first key."""
-        starts, position = {(HEADER_LEN, 1)}, 1
-        for gate, packet in self.packets:
-            starts.add((gate, position))
-            position += len(packet.keys)
-        for record in self.log.records:
-            if (record.offset, record.first) not in starts:
-                raise Unsound(f"position {record.first} isn't the first of a record at byte {record.offset}")
+        """So does each record of the log, of which soundness asks the last one alone."""
+        self.check_place(self.log.records)
+
+    def check_place(self, records: list[Record]) -> None:
+        """These records of the log name the journal's record that holds the first position of level 0."""
+        for record in records:
+            offset, first = self.begin_of(record.n0)
+            if (record.offset, record.first) != (offset, first):
+                named = f"byte {record.offset} and position {record.first} of the journal"
+                raise Unsound(f"the log's record of {record.n0} events names {named}, and not {offset} and {first}")
+
+    @cached_property
+    def first_positions(self) -> list[int]:
+        """Those of the journal's records, and behind them the next one."""
+        return list(accumulate((len(packet.keys) for _gate, packet in self.packets), initial=1))
+
+    def begin_of(self, n0: int) -> tuple[int, int]:
+        """The journal's record that holds the first position of level 0 behind n0 events: its gate, and the position of
+        its first key. Without an event it is the first one."""
+        if n0 == 0:
+            return HEADER_LEN, 1
+        number = bisect_right(self.first_positions, self.levels.edge(0, n0) + 1) - 1
+        return self.packets[number][0], self.first_positions[number]
 
 
 def in_file(file: int, read: Callable[[bytes], Read], data: bytes) -> Read:

@@ -186,7 +186,11 @@ def pieces_of(data: bytes, block: Block, number: int, width: int) -> list[Piece]
     try:
         for quotient, last in zip(bits_of(block.occupied), block.ends_at(), strict=True):
             tail = (QUOTIENTS * number + quotient) << width
-            pieces += [(tail + x, count) for x, count in run_in(width, slots, first, last + 1)]
+            if first == last < there and not slots[first] >> width:
+                # What most runs are: one remainder, once.
+                pieces.append((tail + slots[first], 1))
+            else:
+                pieces += [(tail + x, count) for x, count in run_in(width, slots, first, last + 1)]
             first = last + 1
     except Left as left:
         raise Left(block.slots_at() + WORD_LEN * left.at if left.at < there else len(data)) from left
