@@ -288,6 +288,54 @@ fn stop_twice_at_each_call(
     Err(Fail::new("no run met no stop"))
 }
 
+// The first call whose failing lets a cone be made: the first one of its first packet.
+fn first_call(rt: &impl Abort, alloc: Global, keys: &[u64]) -> Result<u64, Fail> {
+    for call in 1..MOST_CALLS {
+        if stopped(rt, alloc, keys, call)?.is_some() {
+            return Ok(call);
+        }
+    }
+    Err(Fail::new("no cone is made"))
+}
+
+// How many packets a cone has that is opened over what a crash leaves of a run that stopped at a call.
+fn packets_behind(
+    rt: &impl Abort,
+    alloc: Global,
+    keys: &[u64],
+    call: u64,
+    pick: u64,
+) -> Result<usize, Fail> {
+    let left = stopped(rt, alloc, keys, call)?.ok_or("a cone is made")?;
+    let image = left.bay.crashed(pick)?;
+    let reopened = reopen_bay(alloc, image)?;
+    match reopened.packets {
+        Ok(packets) => Ok(packets),
+        Err(_) => Err(Fail::new("what a crash leaves is sound")),
+    }
+}
+
+#[test]
+fn a_packet_is_there_once_its_gate_is_synced(rt: HostRuntime) -> Result<(), Fail> {
+    let keys = sevens_at(rt.alloc(), 16, &[])?;
+    let first = first_call(&rt, rt.alloc(), &keys)?;
+    // A packet makes a write, a sync, the write of its gate and a sync. The second one is stopped at its gate's write, at the
+    // sync behind it, and behind that; by picks that take back all that isn't synced, and nothing.
+    for (call, pick, packets) in [
+        (6, 0, 1),
+        (6, 1, 1),
+        (7, 0, 1),
+        (7, 1, 2),
+        (8, 0, 2),
+        (8, 1, 2),
+    ] {
+        assert!(rt; first < MOST_CALLS);
+        let found = packets_behind(&rt, rt.alloc(), &keys, first + call, pick)?;
+        assert_eq!(rt; found, packets);
+    }
+    Ok(())
+}
+
 #[test]
 fn a_stop_inside_a_reopening_leaves_what_it_was_to_open(rt: HostRuntime) -> Result<(), Fail> {
     let rows: [(u64, &[u64], &[Report]); 2] = [
