@@ -1,8 +1,9 @@
 -- What sound files and what was read of their log make of a cone that goes through the journal anew.
-use Rattle.std.proofs.Common.{◌≡◌, ℕ, ◌-◌, ◌≤◌, Bool, true, false, cond, List, [], ◌∷◌, length, take, get_or, map, max, All, refl, sym, ap, ◌∙◌, subst, inl, inr}
+use Rattle.std.proofs.Common.{◌≡◌, ℕ, ◌+◌, ◌-◌, ◌^◌, ◌<◌, ◌≤◌, Bool, true, false, cond, List, [], ◌∷◌, ◌++◌, length, take, get_or, map, max, All, Option, Some, refl, sym, ap, ◌∙◌, subst, inl, inr}
 use Rattle.std.proofs.Common.{arith}
 use Rattle.std.specs.Prelude.{slice_index_or}
-use Rattle.std.proofs.lemmas.Bool.{cases_Bool}
+use Rattle.std.proofs.lemmas.Bool.{cases_Bool, cases_eq}
+use Rattle.std.proofs.Math.Nat.{mul-div-le}
 use Rattle.std.proofs.lemmas.List.{get_or-map, length-take-le, take_all}
 use Rattle.std.proofs.lemmas.List.Elements.{All-nil, All-cons}
 use Rattle.lert_base.specs.Packet.{Packet, events_of}
@@ -21,17 +22,22 @@ use Rattle.lert_reports.proofs.LogOnce.{one_log}
 use Rattle.lert_spec.specs.declared.numbers.Numbers.{Numbers}
 use Rattle.lert_spec.specs.declared.report.Report.{Report}
 use Rattle.lert_spec.specs.Bins.{Bin, bins}
+use Rattle.lert_spec.specs.Edges.{offset as offset_of, span, edge}
 use Rattle.lert_spec.specs.Limits.{IsValid}
 use Rattle.lert_spec.specs.Look.{look, closing}
 use Rattle.lert_cone.specs.Framed.{last_flush, flushed}
 use Rattle.lert_cone.specs.InStep.{IsInStep}
 use Rattle.lert_cone.specs.Logged.{IsLogOf, frames_of}
-use Rattle.lert_cone.specs.Marks.{NamesRecord, last_mark, unmarked}
-use Rattle.lert_cone.specs.Replay.{IsLastOf, IsOnWay}
+use Rattle.lert_cone.specs.declared.marks.Mark.{Mark}
+use Rattle.lert_cone.specs.History.{end_of}
+use Rattle.lert_cone.specs.Marks.{HoldsPosition, IsMarkOf, NamesRecord, first_mark, last_mark, marked_from}
+use Rattle.lert_cone.specs.Replay.{IsLastOf, IsOnWay, IsPast}
 use Rattle.lert_cone.specs.Sound.{IsSound, HoldFrames, HoldsDirectory}
+use Rattle.lert_cone.specs.Unread.{unread}
 use Rattle.lert_cone.proofs.FlushLaws.{last_flush_logged}
 use Rattle.lert_cone.proofs.MarkLaws.{marked_none}
 use Rattle.lert_cone.proofs.StepLaws.{journal_since, log_since, frames_since}
+use Rattle.lert_cone.proofs.UnreadLaws.{unread_is}
 
 -- ---- frames
 
@@ -64,15 +70,30 @@ frames_settled leaves seen s events rows valid are holds settled =
     (λ image is. subst (λ (files : Files). HoldsBins s events rows (files 2)) (sym is) holds)
     (λ from to named here. (settled from to named here.within).same)
 
+-- ---- the packets that aren't read
+
+before_record : (history : List Packet) (mark : Mark) (p : ℕ) → HoldsPosition history mark p → IsMarkOf history mark
+before_record history mark p holds = record { done = holds.done; rest = holds.packet ∷ holds.rest; is = holds.is; gate_is = holds.gate_is; first_is = holds.first_is }
+
+before_all : (history : List Packet) (mark : Mark) → mark ≡ first_mark → IsMarkOf history mark
+before_all history mark is = record { done = []; rest = history; is = refl; gate_is = ap (λ (m : Mark). m.gate) is; first_is = ap (λ (m : Mark). m.first) is }
+
+-- a record that a log names begins behind some packets
+pub mark_of : (s : Numbers) (history : List Packet) (n0 : ℕ) (mark : Mark) → NamesRecord s history n0 mark → IsMarkOf history mark
+mark_of s history n0 mark names = elim (cases_eq n0 0) [
+  | inl none ↦ before_all history mark (names.none none)
+  | inr some ↦ before_record history mark (edge s 0 n0 + 1) (names.some (omega (arith, some)))
+]
+
 -- ---- a cone that is adopted
 
 module _ (leaves : Files → Type 0) (seen : Files) (s : Numbers) (cone : ℕ) (history : List Packet) (rows : List (List BinAt)) (reports : List Report) (records : List LogRecord)
-    (log_end n0 : ℕ)
+    (log_end n0 offset first : ℕ)
     (closed : Bool)
-    (valid : IsValid s) (at : IsAt s n0 rows) (are : AreRows s rows) (log : HasLog s cone (seen 1) records log_end) (last : IsLastOf s n0 closed rows reports records)
+    (valid : IsValid s) (at : IsAt s n0 rows) (are : AreRows s rows) (log : HasLog s cone (seen 1) records log_end) (last : IsLastOf s n0 offset first closed rows reports records)
     (journal_settled : IsWhollySettled leaves seen 0) (log_settled : IsWhollySettled leaves seen 1) (named_settled : (from to : ℕ) → InNamed s rows from to → to ≤ length (seen 2) →
     IsSettled leaves seen 2 from to)
-    (sound : IsSound s cone history seen) where
+    (sound : IsSound s cone history seen) (early : first ≤ edge s 0 n0 + 1) where
   -- the records that were read are those for which the files are sound
   same : records ≡ sound.logged
   same = (one_log s cone valid (seen 1) records sound.logged log_end sound.log_end log sound.log).0
@@ -153,11 +174,20 @@ module _ (leaves : Files → Type 0) (seen : Files) (s : Numbers) (cone : ℕ) (
       (ap (last_directory s) (sym same) ∙ last.directory_is)
       (subst (λ n. HoldsDirectory s (take n (events_of history)) (last_directory s sound.logged) (seen 2)) (sym n0_is) sound.frames)
 
+  -- the packets before the record that the last one of the log names
+  pub before : IsMarkOf history (record { gate = offset; first = first })
+  before =
+      let mark_is : record { gate = offset; first = first } ≡ last_mark records = λ i. record { gate = last.offset_is i; first = last.first_is i } in
+      subst (IsMarkOf history) (sym (mark_is ∙ ap last_mark same)) (mark_of s history (last_n0 sound.logged) (last_mark sound.logged) sound.begins)
+
+  no_more : first - 1 ≤ n0
+  no_more = omega (arith, early, mul-div-le (n0 - offset_of s 0) (span s 0))
+
   in_step : IsInStep leaves seen history (record { settings = s; cone = cone; events = take n0 (events_of history); closed = closed }) rows reports (record {
     gate = log_end;
     most = most_record s;
     named = length reports;
-    marks = unmarked s;
+    marks = marked_from s (first - 1);
   })
   in_step = record {
     logged = records;
@@ -170,18 +200,19 @@ module _ (leaves : Files → Type 0) (seen : Files) (s : Numbers) (cone : ℕ) (
     log_settled = log_settled;
     reports_are = last.reports_are ∙ listed;
     begins = subst (λ (rs : List LogRecord). NamesRecord s history (last_n0 rs) (last_mark rs)) (sym same) sound.begins;
-    marked = marked_none history (unmarked s) refl;
+    marked = marked_none history (marked_from s (first - 1)) refl;
+    reach = subst (λ n. first - 1 + 1 ≤ edge s 0 n + 1) (sym long) (omega (arith, early));
   }
 
-  -- no key is read yet
-  pub adopted : IsOnWay leaves seen history (record { settings = s; cone = cone; events = []; closed = closed }) rows reports (record {
+  -- it has the keys of the packets before that record
+  pub adopted : (keys : List ℕ) → length keys ≡ first - 1 → IsOnWay leaves seen history (record { settings = s; cone = cone; events = keys; closed = closed }) rows reports (record {
     gate = log_end;
     most = most_record s;
     named = length reports;
-    marks = unmarked s;
+    marks = marked_from s (first - 1);
   }) n0
-  adopted =
-      let none : n0 ≡ max n0 (length {A = ℕ} []) = omega arith in
+  adopted keys counted =
+      let first_keys : n0 ≡ max n0 (length keys) = omega (arith, counted, no_more) in
       record {
         n0_most = most;
         n0_least = omega (arith, n0_is, sound.n0_least);
@@ -190,6 +221,16 @@ module _ (leaves : Files → Type 0) (seen : Files) (s : Numbers) (cone : ℕ) (
           gate = log_end;
           most = most_record s;
           named = length reports;
-          marks = unmarked s;
-        })) none in_step;
+          marks = marked_from s (first - 1);
+        })) first_keys in_step;
+      }
+
+  pub past : cone < 2 ^ s.cone_bits → (told : Option Files) → told ≡ Some seen → IsPast history before.done (unread s cone (first - 1) told) offset
+  past named told told_is =
+      let counted : first - 1 ≡ length (events_of before.done) = omega (arith, before.first_is) in
+      record {
+        rest = before.rest;
+        is = before.is;
+        keys = ap (λ n. unread s cone n told) counted ∙ unread_is s cone valid named history before.done before.rest seen told sound.journal before.is told_is;
+        gate_is = before.gate_is;
       }

@@ -166,6 +166,7 @@ module _ (leaves since : Files → Type 0) (seen : Files) (t : Tallied) (log : L
     reports_are = up.reports_are;
     begins = begins_more;
     marked = marked_more history (packet ∷ []) log.marks up.marked;
+    reach = up.reach;
   }
 
 -- a call that answered Ok

@@ -17,6 +17,8 @@ use Rattle.lert_levels.specs.contracts.merger.Reading as Reading
 use Rattle.lert_levels.specs.contracts.merger.Writing as Writing
 use Rattle.lert_levels.specs.contracts.levels.Levels as Levels
 use Rattle.lert_levels.specs.contracts.levels.Levels.TheInside as levels
+use Rattle.lert_cone.specs.contracts.unread.Unread as Unread
+use Rattle.lert_cone.specs.contracts.unread.Unread.TheInside as unread
 use Rattle.lert_cone.specs.contracts.tally.Tally as Tally
 use Rattle.lert_cone.specs.contracts.tally.Tally.TheInside as tally
 use Rattle.lert_cone.specs.contracts.room.ConeRoom as Room
@@ -45,7 +47,7 @@ writing_field = search (sendable, crosses) depth 60 fits 20000
 marks_inside : IsSend marks.the_row
 marks_inside = recorded_send _ _ _ (marks.the_type).to_one (struct_send (shape marks.the_type) (
   search (sendable, crosses) depth 20,
-  (search (sendable, crosses) depth 20, (search sendable, (search sendable, tt))),
+  (search (sendable, crosses) depth 20, (search sendable, (search sendable, (search sendable, tt)))),
 ))
 
 marks_field : IsSend (Marks.the_field).row
@@ -88,24 +90,6 @@ module _ (T C : RattleType) (k : table.Ghosts T.Denot C.Denot) where
   levels_send : IsSend C → IsSend (Levels.the_row T C k)
   levels_send c = view_send _ _ _ _ _ (levels_inside c)
 
-  tally_inside : IsSend T → IsSend C → IsSend (tally.the_row T C k)
-  tally_inside t c = recorded_send _ _ _ (tally.the_type T C k).to_one (struct_send (shape (tally.the_type T C k)) (
-    search (sendable, crosses) depth 20,
-    (
-      search sendable,
-      (
-        search (sendable, crosses) depth 20,
-        (
-          levels_send c,
-          (search (sendable, crosses) depth 30, (search (sendable, crosses) depth 20, (search sendable, (search sendable, (search sendable, tt))))),
-        ),
-      ),
-    ),
-  ))
-
-  tally_send : IsSend T → IsSend C → IsSend (Tally.the_row T C k)
-  tally_send t c = view_send _ _ _ _ _ (tally_inside t c)
-
   -- so does the memory of a cone
   pub room_send : IsSend T → IsSend C → IsSend (Room.the_row T C k)
   room_send t c = recorded_send _ _ _ (Room.the_type T C k).to_one (struct_send (shape (Room.the_type T C k)) (
@@ -120,13 +104,40 @@ module _ (T C : RattleType) (k : table.Ghosts T.Denot C.Denot) where
   ))
 
 module _ (B T C : RattleType) (g : bay.Ghosts B.Denot) (h : faulty.Ghosts B.Denot) (k : table.Ghosts T.Denot C.Denot) where
+  unread_inside : IsSend (unread.the_row B g h)
+  unread_inside = recorded_send _ _ _ (unread.the_type B g h).to_one (struct_send (shape (unread.the_type B g h)) (
+    search (sendable, crosses) depth 20,
+    (search sendable, (search sendable, (search crosses, tt))),
+  ))
+
+  unread_send : IsSend (Unread.the_row B g h)
+  unread_send = view_send _ _ _ _ _ unread_inside
+
+  tally_inside : IsSend T → IsSend C → IsSend (tally.the_row B T C g h k)
+  tally_inside t c = recorded_send _ _ _ (tally.the_type B T C g h k).to_one (struct_send (shape (tally.the_type B T C g h k)) (
+    search (sendable, crosses) depth 20,
+    (
+      search sendable,
+      (
+        search (sendable, crosses) depth 20,
+        (
+          levels_send T C k c,
+          (search (sendable, crosses) depth 30, (unread_send, (search (sendable, crosses) depth 20, (search sendable, (search sendable, (search sendable, tt)))))),
+        ),
+      ),
+    ),
+  ))
+
+  tally_send : IsSend T → IsSend C → IsSend (Tally.the_row B T C g h k)
+  tally_send t c = view_send _ _ _ _ _ (tally_inside t c)
+
   cone_inside : IsSend B → IsSend T → IsSend C → IsSend (cone.the_row B T C g h k)
   cone_inside b t c = recorded_send _ _ _ (cone.the_type B T C g h k).to_one (struct_send (shape (cone.the_type B T C g h k)) (
     b,
     (
       search crosses,
       (
-        tally_send T C k t c,
+        tally_send t c,
         (
           search (sendable, crosses) depth 20,
           (

@@ -1,5 +1,5 @@
 -- The end of a cone through the scan and the closing record.
-use Rattle.std.proofs.Common.{◌≡◌, ℕ, ◌-◌, ◌≤◌, Bool, true, false, List, [], ◌∷◌, ◌++◌, length, map, sym, ap, ◌∙◌, subst, inl, inr, arith, append-nil, take, drop}
+use Rattle.std.proofs.Common.{◌≡◌, ℕ, ◌+◌, ◌-◌, ◌≤◌, Bool, true, false, List, [], ◌∷◌, ◌++◌, length, map, sym, ap, ◌∙◌, subst, inl, inr, arith, append-nil, take, drop}
 use Rattle.std.proofs.Common.{length-append}
 use Rattle.std.proofs.lemmas.Bool.{false≢true}
 use Rattle.std.proofs.lemmas.Grind.{flat_map-append}
@@ -14,11 +14,12 @@ use Rattle.lert_reports.specs.declared.log.LogKind.{LogKind}
 use Rattle.lert_reports.specs.Log.{HasLog, last_n0, listed_in, most_record}
 use Rattle.lert_reports.specs.LogText.{LogRecord, log_payload_of}
 use Rattle.lert_spec.specs.declared.numbers.Numbers.{Numbers}
+use Rattle.lert_spec.specs.Edges.{edge}
 use Rattle.lert_spec.specs.Look.{closing}
 use Rattle.lert_cone.specs.InStep.{IsInStep, IsPartway}
 use Rattle.lert_cone.specs.Listing.{Listing, reports_of}
 use Rattle.lert_cone.specs.Logged.{IsLogOf, next_record}
-use Rattle.lert_cone.specs.Marks.{AreMarked, MayName, NamesRecord, last_mark, oldest_mark}
+use Rattle.lert_cone.specs.Marks.{AreMarked, Marked, MayName, NamesRecord, last_mark, oldest_mark}
 use Rattle.lert_cone.specs.Record.{LogPlace, payload_at}
 use Rattle.lert_cone.specs.Sound.{IsJournal, IsSound, but_last}
 use Rattle.lert_cone.specs.Tally.{Tallied, IsCounted}
@@ -52,6 +53,7 @@ pub record IsEnding (leaves : Files → Type 0) (seen : Files) (history : List P
   pub marked : AreMarked history log.marks
   pub same : log.marks.settings ≡ t.listing.settings
   pub passed : log.marks.passed ≡ length t.listing.events
+  pub reach : log.marks.from ≤ edge t.listing.settings 0 (length t.listing.events) + 1
 
 module _ (leaves : Files → Type 0) (seen : Files) (history : List Packet) (t a : Tallied) (log : LogPlace) (logged : List LogRecord)
     (before : IsCounted t) (ending : IsEnding leaves seen history t a log logged) (few : length a.due.reports ≤ t.listing.settings.room) where
@@ -63,7 +65,7 @@ module _ (leaves : Files → Type 0) (seen : Files) (history : List Packet) (t a
 
   -- it names the journal's record that holds the first key of level 0
   names : NamesRecord t.listing.settings history (length t.listing.events) (oldest_mark log.marks)
-  names = oldest_names t.listing.settings before.valid history log.marks (length t.listing.events) ending.same ending.passed ending.marked
+  names = oldest_names t.listing.settings before.valid history log.marks (length t.listing.events) ending.same ending.passed ending.reach ending.marked
 
   may : MayName t.listing.settings (length t.listing.events) (oldest_mark log.marks)
   may =
@@ -140,6 +142,8 @@ module _ (leaves : Files → Type 0) (seen : Files) (history : List Packet) (t a
       reports_are = ending.reports_are;
       begins = of_listing (λ s cone events rows closed. NamesRecord s history (last_n0 (logged ++ last ∷ [])) (last_mark (logged ++ last ∷ []))) named_then;
       marked = subst (AreMarked history) (sym marks_are) ending.marked;
+      reach = of_listing (λ s cone events rows closed. log_after.marks.from ≤ edge s 0 (length events) + 1)
+          (subst (λ (m : Marked). m.from ≤ edge t.listing.settings 0 (length t.listing.events) + 1) (sym marks_are) ending.reach);
     }
 
 -- ---- where a bay tells its files
@@ -178,4 +182,5 @@ ending_of leaves leaves_after seen history t a log still up listing_is rows_are 
   marked = up.marked;
   same = same;
   passed = passed;
+  reach = up.reach;
 }

@@ -1,5 +1,5 @@
 -- The definitions, computed on the files that three keys 7 leave.
-use Rattle.std.proofs.Common.{◌≡◌, ℕ, zero, suc, ◌+◌, ◌-◌, ◌^◌, ◌<◌, ◌≤◌, All, List, [], ◌∷◌, drop, map, take, refl, sym, arith}
+use Rattle.std.proofs.Common.{◌≡◌, ℕ, zero, suc, ◌+◌, ◌-◌, ◌^◌, ◌<◌, ◌≤◌, All, List, [], ◌∷◌, ◌++◌, drop, map, take, Some, None, refl, sym, arith}
 use Rattle.std.specs.Prelude.{slice_index_or}
 use Rattle.std.proofs.lemmas.List.Elements.{All-nil, All-cons}
 use Rattle.lert_base.specs.Packet.{Packet}
@@ -13,6 +13,7 @@ use Rattle.lert_cone.specs.declared.marks.Mark.{Mark}
 use Rattle.lert_cone.specs.History.{most_payload, end_of}
 use Rattle.lert_cone.specs.Marks.{HoldsPosition, first_mark, oldest_mark}
 use Rattle.lert_cone.specs.Sound.{IsSoundClosed, HoldFrames}
+use Rattle.lert_cone.specs.Unread.{unread}
 use Rattle.lert_reports.specs.declared.log.LogKind.{LogKind}
 use Rattle.lert_reports.specs.Log.{HasLog, before_of, last_directory, listed_in}
 use Rattle.lert_reports.specs.LogRules.{AreFrames, KeepsRules}
@@ -21,6 +22,7 @@ use Rattle.lert_reports.proofs.LogLaws.{records_none, records_more}
 use Rattle.lert_spec.specs.Bins.{bins}
 use Rattle.lert_spec.specs.Edges.{edge}
 use Rattle.lert_spec.specs.Look.{closing}
+use Rattle.lert_spec.proofs.MixLaws.{unmixed}
 
 abbrev small : Numbers
 small = record { threshold = 3; bins = 3; ratio = 2; base = 4; levels = 2; cone_bits = 0; room = 32; packet = 8 }
@@ -240,15 +242,47 @@ holds_29 = record {
 abbrev late : List Mark
 late = record { gate = 326; first = 28 } ∷ record { gate = 326; first = 28 } ∷ record { gate = 257; first = 21 } ∷ record { gate = 257; first = 21 } ∷ []
 
-oldest_at_a_flush : oldest_mark (record { settings = small; marks = late; passed = 36 }) ≡ record { gate = 326; first = 28 }
+oldest_at_a_flush : oldest_mark (record { settings = small; marks = late; passed = 36; from = 1 }) ≡ record { gate = 326; first = 28 }
 unfolding oldest_mark
 oldest_at_a_flush = refl
 
-oldest_at_the_end : oldest_mark (record { settings = small; marks = record { gate = 387; first = 34 } ∷ late; passed = 37 }) ≡ record { gate = 326; first = 28 }
+oldest_at_the_end : oldest_mark (record { settings = small; marks = record { gate = 387; first = 34 } ∷ late; passed = 37; from = 1 }) ≡ record { gate = 326; first = 28 }
 unfolding oldest_mark
 oldest_at_the_end = refl
 
 -- at a flush at 32 the newest bin begins at 29, and level 0 at 25
-oldest_before : oldest_mark (record { settings = small; marks = drop 1 late; passed = 32 }) ≡ record { gate = 257; first = 21 }
+oldest_before : oldest_mark (record { settings = small; marks = drop 1 late; passed = 32; from = 1 }) ≡ record { gate = 257; first = 21 }
 unfolding oldest_mark
 oldest_before = refl
+
+-- ---- keys that a reopening doesn't read
+
+-- behind the three keys 7 a packet with the keys 5 and 9, whose record begins at 69
+abbrev two_packets : List ℕ
+two_packets =
+    take 69 journal_bytes
+    ++ 1 ∷ 24 ∷ 0 ∷ 0 ∷ 0
+    ∷ 0 ∷ 0 ∷ 0 ∷ 0 ∷ 0 ∷ 0 ∷ 0 ∷ 0
+    ∷ 5 ∷ 0 ∷ 0 ∷ 0 ∷ 0 ∷ 0 ∷ 0 ∷ 0 ∷ 9 ∷ 0 ∷ 0 ∷ 0 ∷ 0 ∷ 0 ∷ 0 ∷ 0
+    ∷ 0 ∷ []
+
+abbrev two_files : Files
+two_files zero = two_packets
+two_files (suc number) = []
+
+unread_of_one : unread small 0 3 (Some two_files) ≡ 7 ∷ 7 ∷ 7 ∷ []
+unfolding unread mix unmixed
+unread_of_one = refl
+
+unread_of_two : unread small 0 5 (Some two_files) ≡ 7 ∷ 7 ∷ 7 ∷ 5 ∷ 9 ∷ []
+unfolding unread mix unmixed
+unread_of_two = refl
+
+-- where the journal has no more keys, or isn't told, they are keys of the cone all the same
+unread_behind : unread small 0 6 (Some two_files) ≡ 7 ∷ 7 ∷ 7 ∷ 5 ∷ 9 ∷ 0 ∷ []
+unfolding unread mix unmixed
+unread_behind = refl
+
+unread_untold : unread small 0 2 None ≡ 0 ∷ 0 ∷ []
+unfolding unread mix unmixed
+unread_untold = refl

@@ -1,5 +1,5 @@
 -- What stands at the gates of a journal that is read anew: the packets of its history in turn, and nothing else.
-use Rattle.std.proofs.Common.{◌≡◌, ℕ, ◌+◌, ◌<◌, ◌≤◌, ◌^◌, Bool, true, false, List, [], ◌∷◌, ◌++◌, length, take, drop, map, All, refl, sym, ap, ◌∙◌, subst}
+use Rattle.std.proofs.Common.{◌≡◌, ℕ, ◌+◌, ◌<◌, ◌≤◌, ◌^◌, Bool, true, false, List, [], ◌∷◌, ◌++◌, length, take, drop, map, All, sym, ap, ◌∙◌, subst}
 use Rattle.std.proofs.Common.{inl, inr, ◌⊎◌, arith, length-append}
 use Rattle.std.proofs.Common.{append-nil, append_assoc}
 use Rattle.std.proofs.Math.Seq.{get_or-append_seam}
@@ -20,10 +20,6 @@ use Rattle.lert_cone.specs.Sound.{IsJournal, KeysFit}
 use Rattle.lert_cone.proofs.SoundLaws.{events_more, end_more}
 
 -- ---- from packet to packet
-
--- no packet is read yet
-pub past_none : (history : List Packet) → IsPast history [] [] 32
-past_none history = record { rest = history; is = refl; keys = refl; gate_is = refl }
 
 -- one packet more
 pub past_more : (history done : List Packet) (events : List ℕ) (gate : ℕ) (packet : Packet) → IsPast history done events gate → IsNext history done packet →

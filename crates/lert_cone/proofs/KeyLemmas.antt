@@ -88,10 +88,10 @@ module _ (s : Numbers) (cone : ℕ) (bits : s.cone_bits ≤ 64) (named : cone < 
     mix-key_with : mix (key_with s cone tail) ≡ cone * 2 ^ (64 - s.cone_bits) + tail
     mix-key_with = mix-unmixed (cone * 2 ^ (64 - s.cone_bits) + tail) joined_below
 
-    key_with_below : key_with s cone tail < 2 ^ 64
+    pub key_with_below : key_with s cone tail < 2 ^ 64
     key_with_below = unmixed_below (cone * 2 ^ (64 - s.cone_bits) + tail) joined_below
 
-    cone-key_with : cone_of s (key_with s cone tail) ≡ cone
+    pub cone-key_with : cone_of s (key_with s cone tail) ≡ cone
     cone-key_with = ap (λ m. m / 2 ^ (64 - s.cone_bits)) mix-key_with ∙ shr_high cone (64 - s.cone_bits) tail below
 
     tail-key_with : tail_of s (key_with s cone tail) ≡ tail

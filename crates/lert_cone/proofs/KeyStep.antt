@@ -1,5 +1,5 @@
 -- A key and the end through the calls that they make: the files stay sound, and go together with memory again.
-use Rattle.std.proofs.Common.{◌≡◌, ◌≢◌, ℕ, suc, ◌-◌, ◌≤◌, Bool, false, cond, List, [], ◌∷◌, ◌++◌, length, drop, map, Some}
+use Rattle.std.proofs.Common.{◌≡◌, ◌≢◌, ℕ, suc, ◌+◌, ◌-◌, ◌≤◌, Bool, false, cond, List, [], ◌∷◌, ◌++◌, length, drop, map, Some}
 use Rattle.std.proofs.Common.{sym, ap, ◌∙◌, subst, inl, inr, ◌⊎◌, arith}
 use Rattle.std.proofs.Common.{length-append, append_assoc}
 use Rattle.std.proofs.lemmas.Bool.{false≢true, ne_eqb}
@@ -36,7 +36,7 @@ use Rattle.lert_cone.specs.Sound.{IsJournal, IsSound}
 use Rattle.lert_cone.specs.Tally.{Tallied, IsCounted, IsHeld}
 use Rattle.lert_cone.proofs.LogLaws.{LogsNext, log_between, log_at_flush, payload_is}
 use Rattle.lert_cone.proofs.FlushLaws.{last_flush_grows}
-use Rattle.lert_cone.proofs.MarkLaws.{may_name, names_pushed, oldest_names}
+use Rattle.lert_cone.proofs.MarkLaws.{edge_grows, may_name, names_pushed, oldest_names}
 use Rattle.lert_cone.proofs.RecordLaws.{payload_is_at}
 use Rattle.lert_cone.proofs.Calls.{alone_rest, now_since, settled_alone}
 use Rattle.lert_cone.proofs.StepLaws.{journal_since, log_since, frames_since, sound_of, with_or_without, with_record, header_since}
@@ -128,6 +128,7 @@ pub record IsTaken (leaves : Files → Type 0) (seen : Files) (history : List Pa
   pub marked : AreMarked history log.marks
   pub same : log.marks.settings ≡ t.listing.settings
   pub passed : log.marks.passed ≡ suc (length t.listing.events)
+  pub reach : log.marks.from ≤ edge t.listing.settings 0 (suc (length t.listing.events)) + 1
 
 module _ (leaves : Files → Type 0) (seen : Files) (history : List Packet) (t a : Tallied) (log : LogPlace) (logged : List LogRecord) (key : ℕ)
     (still : t.listing.closed ≡ false) (before : IsCounted t) (counted : IsCounted a) (taken : IsTaken leaves seen history t a log logged key) where
@@ -154,6 +155,11 @@ module _ (leaves : Files → Type 0) (seen : Files) (history : List Packet) (t a
   journal_now : InEach leaves 0 (IsJournal a.listing.settings a.listing.cone history)
   journal_now image may = of_listing (λ s cone events closed. IsJournal s cone history (image 0)) (taken.journal image may)
 
+  reach_here : log.marks.from ≤ edge a.listing.settings 0 (length a.listing.events) + 1
+  reach_here =
+      of_listing (λ s cone events closed. log.marks.from ≤ edge s 0 (length events) + 1)
+      (subst (λ n. log.marks.from ≤ edge t.listing.settings 0 n + 1) (sym long) taken.reach)
+
   -- between two flushes
   pub up_between : edge t.listing.settings 0 (length a.listing.events) ≡ edge t.listing.settings 0 (length a.listing.events - 1) → a.rows ≡ t.rows →
       IsInStep leaves seen history a.listing a.rows a.due.reports log
@@ -174,6 +180,7 @@ module _ (leaves : Files → Type 0) (seen : Files) (history : List Packet) (t a
         reports_are = taken.reports_are;
         begins = of_listing (λ s cone events closed. NamesRecord s history (last_n0 logged) (last_mark logged)) taken.begins;
         marked = taken.marked;
+        reach = reach_here;
       }
 
   -- a flush, and its record
@@ -195,7 +202,8 @@ module _ (leaves : Files → Type 0) (seen : Files) (history : List Packet) (t a
 
     -- it names the journal's record that holds the first key of level 0
     names : NamesRecord t.listing.settings history (suc (length t.listing.events)) (oldest_mark log.marks)
-    names = oldest_names t.listing.settings before.valid history log.marks (suc (length t.listing.events)) taken.same taken.passed taken.marked
+    names = oldest_names t.listing.settings before.valid history log.marks (suc (length t.listing.events)) taken.same taken.passed taken.reach
+        taken.marked
 
     may : MayName t.listing.settings (suc (length t.listing.events)) (oldest_mark log.marks)
     may =
@@ -282,6 +290,7 @@ module _ (leaves : Files → Type 0) (seen : Files) (history : List Packet) (t a
             reports_are = taken.reports_are;
             begins = of_listing (λ s cone events closed. NamesRecord s history (last_n0 (logged ++ one ∷ [])) (last_mark (logged ++ one ∷ []))) named_then;
             marked = subst (AreMarked history) (sym marks_are) taken.marked;
+            reach = omega (arith, reach_here, ap (λ (m : Marked). m.from) marks_are);
           }
 
 -- ---- where a bay tells its files
@@ -316,9 +325,9 @@ module _ {B : Type 0} (bays : Bays B) (lawful : IsLawful bays) (bay bay_after : 
   pub taken_of : (a : Tallied) (key : ℕ) → a.listing ≡ record t.listing { events = t.listing.events ++ key ∷ [] } → (after : Files) → bays.files bay_after ≡ Some after →
       bays.leaves bay_after after →
       InEach (bays.leaves bay_after) 2 (HoldsBins a.listing.settings a.listing.events a.rows) → a.due.reports ≡ reports_of a.listing →
-      (marks : Marked) → AreMarked history marks → marks.settings ≡ t.listing.settings → marks.passed ≡ suc (length t.listing.events) →
+      (marks : Marked) → AreMarked history marks → marks.settings ≡ t.listing.settings → marks.passed ≡ suc (length t.listing.events) → marks.from ≡ log.marks.from →
       IsTaken (bays.leaves bay_after) after history t a (record log { marks = marks }) up.logged key
-  taken_of a key listing_is after told_after read_after frames reports marks marked same passed = record {
+  taken_of a key listing_is after told_after read_after frames reports marks marked same passed from_is = record {
     log_of = subst (λ closed. IsLogOf t.listing.settings t.listing.cone t.listing.events t.rows closed up.logged) still up.log_of;
     named_is = up.named_is;
     listing_is = listing_is;
@@ -341,6 +350,7 @@ module _ {B : Type 0} (bays : Bays B) (lawful : IsLawful bays) (bay bay_after : 
     marked = marked;
     same = same;
     passed = passed;
+    reach = omega (arith, from_is, up.reach, edge_grows t.listing.settings counted.valid (length t.listing.events) (suc (length t.listing.events)) (omega arith));
   }
 
 -- ---- keys in turn

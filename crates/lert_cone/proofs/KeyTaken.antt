@@ -108,7 +108,7 @@ module _ {B : Type 0} (bays : Bays B) (lawful : IsLawful bays) (mark : Mark) (ol
         taken_of bays lawful old.bay bay history old.counts old.log did.rest did.kept.time can.counted can.still seen told up counts key is after told_after
         (lawful.as_read bay after told_after)
         (did.images seen told holds up.frames after told_after) (did.held seen told holds after told_after).reports
-        marks (marked history next up.marked) same (over.passed ∙ omega (arith, long))
+        marks (marked history next up.marked) same (over.passed ∙ omega (arith, long)) over.from
 
     logging_kept : IsLogging counts (record old.log { marks = marks }) old.room
     logging_kept = record {

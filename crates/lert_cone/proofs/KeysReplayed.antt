@@ -85,6 +85,7 @@ module _ {B : Type 0} (bays : Bays B) (lawful : IsLawful bays) (mark : Mark) (ol
       IsOnWay (bays.leaves old.bay) seen history old.counts.listing old.counts.rows old.counts.due.reports (record old.log { marks = marks }) n0
   turned seen history next on_way =
       on_way_marked (bays.leaves old.bay) seen history old.counts.listing old.counts.rows old.counts.due.reports old.log n0 on_way marks (marked history next on_way.in_step.marked)
+      over.from
 
   -- all keys are counted again
   pub all_again : length (drop count keys) ≡ 0 → ReplaysKeys bays n0 mark keys old (record {

@@ -1,6 +1,7 @@
 pub mod Admits
 pub mod AdmitsPacket
 pub mod AdoptLaws
+pub mod AdoptStands
 pub mod AppendLaws
 pub mod BinLaws
 pub mod BreaksOff
@@ -42,5 +43,6 @@ pub mod TakeLaws
 pub mod TallyLaws
 pub mod TimeLaws
 pub mod TotalLaws
+pub mod UnreadLaws
 pub mod WroteLaws
 pub mod ConeSend

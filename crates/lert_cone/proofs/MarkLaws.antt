@@ -3,7 +3,7 @@ use Rattle.std.proofs.Common.{◌≡◌, ℕ, zero, suc, ◌+◌, ◌-◌, ◌*�
 use Rattle.std.proofs.Common.{◌∙◌}
 use Rattle.std.proofs.Common.{subst, inl, inr, arith, length-append, length-drop, length-take, append_assoc, get_or-set_other, get_or-set_same}
 use Rattle.std.proofs.Math.ListN.{set}
-use Rattle.std.proofs.Math.Nat.{mul-le-mul_right}
+use Rattle.std.proofs.Math.Nat.{add-mul, mul-le-mul_right}
 use Rattle.std.proofs.lemmas.Bool.{cases_lt, eq-eqb, ne_eqb}
 use Rattle.std.proofs.lemmas.Grind.{flat_map-append}
 use Rattle.std.proofs.lemmas.List.{get_or-append-add, get_or-take}
@@ -15,7 +15,7 @@ use Rattle.lert_reports.proofs.LogLaws.{last_first-push, last_n0-push, last_offs
 use Rattle.lert_spec.specs.declared.numbers.Numbers.{Numbers}
 use Rattle.lert_spec.specs.Edges.{span, edge, capacity}
 use Rattle.lert_spec.specs.Limits.{IsValid}
-use Rattle.lert_spec.proofs.EdgeLaws.{steps}
+use Rattle.lert_spec.proofs.EdgeLaws.{edge_never_falls, steps}
 use Rattle.lert_spec.proofs.LimitLaws.{capacity_to}
 use Rattle.lert_cone.specs.declared.marks.Mark.{Mark}
 use Rattle.lert_cone.specs.History.{end_of}
@@ -50,7 +50,7 @@ module _ (history more : List Packet) where
 
   pub marked_more : (marked : Marked) → AreMarked history marked → AreMarked (history ++ more) marked
   marked_more marked are = record {
-    each = λ k j few low high. holds_more (get_or marked.marks j first_mark) (k * span marked.settings 0 + 1) (are.each k j few low high);
+    each = λ k j known few low high. holds_more (get_or marked.marks j first_mark) (k * span marked.settings 0 + 1) (are.each k j known few low high);
   }
 
 -- one record more, by what it names itself
@@ -62,13 +62,16 @@ names_pushed s history logged one names =
     subst (λ n. NamesRecord s history n (last_mark (logged ++ one ∷ []))) (sym (last_n0-push logged one))
     (subst (λ (m : Mark). NamesRecord s history one.n0 m) (sym mark_is) names)
 
--- ---- before the first key
+-- ---- before the first key that is seen
 
 pub names_none : (s : Numbers) (history : List Packet) → NamesRecord s history 0 first_mark
 names_none s history = record { none = λ _. refl; some = λ some. absurd (omega (arith, some)) }
 
-pub marked_none : (history : List Packet) (marked : Marked) → marked.passed ≡ 0 → AreMarked history marked
-marked_none history marked none = record { each = λ k j few low high. absurd (omega (arith, low, none)) }
+-- no bin that is known has begun
+pub marked_none : (history : List Packet) (marked : Marked) → marked.from ≡ marked.passed + 1 → AreMarked history marked
+marked_none history marked from_is = record {
+  each = λ k j known few low high. absurd (omega (arith, from_is, known, low, add-mul k j (span marked.settings 0)));
+}
 
 -- ---- the keys of a record
 
@@ -138,21 +141,29 @@ module _ (xs : List Mark) (mark : Mark) (long : length xs ≡ 17) where
 
 module _ (s : Numbers) (valid : IsValid s) where
   -- what marks of these settings stand for
-  was : (history : List Packet) (marked : Marked) → marked.settings ≡ s → AreMarked history marked → (k j : ℕ) → j ≤ s.bins → (k + j) * span s 0 < marked.passed →
+  was : (history : List Packet) (marked : Marked) → marked.settings ≡ s → AreMarked history marked → (k j : ℕ) → marked.from ≤ k * span s 0 + 1 → j ≤ s.bins →
+      (k + j) * span s 0 < marked.passed →
       marked.passed ≤ (k + j + 1) * span s 0 →
       HoldsPosition history (get_or marked.marks j first_mark) (k * span s 0 + 1)
-  was history marked settings_are are = subst (λ (t : Numbers). (k j : ℕ) → j ≤ t.bins → (k + j) * span t 0 < marked.passed → marked.passed ≤ (k + j + 1) * span t 0 →
+  was history marked settings_are are = subst (λ (t : Numbers). (k j : ℕ) → marked.from ≤ k * span t 0 + 1 → j ≤ t.bins → (k + j) * span t 0 < marked.passed →
+      marked.passed ≤ (k + j + 1) * span t 0 →
       HoldsPosition history (get_or marked.marks j first_mark) (k * span t 0 + 1)) settings_are are.each
+
+  -- level 0's edge never falls
+  pub edge_grows : (m n : ℕ) → m ≤ n → edge s 0 m ≤ edge s 0 n
+  edge_grows m n later = edge_never_falls s (omega (arith, valid.limits.base_from)) (omega (arith, valid.limits.ratio_from)) 0 m n later
 
   -- ---- a step
 
   module _ (history : List Packet) (old new : Marked) (settings_are : old.settings ≡ s) (are : AreMarked history old) where
     -- a bin begins, whose first key the record at a mark holds
-    module _ (mark : Mark) (new_settings : new.settings ≡ old.settings) (passed : new.passed ≡ bins_begun s old.passed * span s 0 + 1) (newest : get_or new.marks 0 first_mark ≡ mark)
+    module _ (mark : Mark) (new_settings : new.settings ≡ old.settings) (passed : new.passed ≡ bins_begun s old.passed * span s 0 + 1) (from_is : new.from ≡ old.from)
+        (newest : get_or new.marks 0 first_mark ≡ mark)
         (others : (j : ℕ) → j < 16 → get_or new.marks (j + 1) first_mark ≡ get_or old.marks j first_mark)
         (holds : HoldsPosition history mark (bins_begun s old.passed * span s 0 + 1)) where
-      each_begun : (k j : ℕ) → j ≤ s.bins → (k + j) * span s 0 < new.passed → new.passed ≤ (k + j + 1) * span s 0 → HoldsPosition history (get_or new.marks j first_mark) (k * span s 0 + 1)
-      each_begun k zero few low high =
+      each_begun : (k j : ℕ) → new.from ≤ k * span s 0 + 1 → j ≤ s.bins → (k + j) * span s 0 < new.passed → new.passed ≤ (k + j + 1) * span s 0 →
+          HoldsPosition history (get_or new.marks j first_mark) (k * span s 0 + 1)
+      each_begun k zero known few low high =
           let c = bins_begun s old.passed in
           let same : k ≡ c = omega (
             arith,
@@ -161,7 +172,7 @@ module _ (s : Numbers) (valid : IsValid s) where
           ) in
           subst (λ m. HoldsPosition history m (k * span s 0 + 1)) (sym newest)
           (subst (λ n. HoldsPosition history mark (n * span s 0 + 1)) (sym same) holds)
-      each_begun k (suc j) few low high =
+      each_begun k (suc j) known few low high =
           let c = bins_begun s old.passed in
           let place : k + suc j ≡ k + j + 1 = omega arith in
           let same : k + j + 1 ≡ c = omega (
@@ -172,12 +183,12 @@ module _ (s : Numbers) (valid : IsValid s) where
           let whole : (k + j + 1) * span s 0 ≡ c * span s 0 = ap (λ n. n * span s 0) same in
           let next : j + 1 ≡ suc j = omega arith in
           subst (λ m. HoldsPosition history m (k * span s 0 + 1)) (sym (ap (λ n. get_or new.marks n first_mark) (sym next) ∙ others j (omega (arith, few, valid.limits.bins_to))))
-          (was history old settings_are are k j (omega (arith, few)) (omega (arith, whole, bin_more (k + j) (span s 0), begun_from s valid old.passed)) (omega
+          (was history old settings_are are k j (omega (arith, known, from_is)) (omega (arith, few)) (omega (arith, whole, bin_more (k + j) (span s 0), begun_from s valid old.passed)) (omega
           (arith, whole, begun_to s valid old.passed)))
 
       pub marked_begun : AreMarked history new
       marked_begun = record {
-        each = subst (λ (t : Numbers). (k j : ℕ) → j ≤ t.bins → (k + j) * span t 0 < new.passed → new.passed ≤ (k + j + 1) * span t 0 →
+        each = subst (λ (t : Numbers). (k j : ℕ) → new.from ≤ k * span t 0 + 1 → j ≤ t.bins → (k + j) * span t 0 < new.passed → new.passed ≤ (k + j + 1) * span t 0 →
             HoldsPosition history (get_or new.marks j first_mark) (k * span t 0 + 1)) (sym (new_settings ∙ settings_are)) each_begun;
       }
 
@@ -185,11 +196,11 @@ module _ (s : Numbers) (valid : IsValid s) where
   pub marked_on : (history : List Packet) (old : Marked) (last : ℕ) → old.settings ≡ s → old.passed ≤ last → last ≤ bins_begun s old.passed * span s 0 → AreMarked history old →
       AreMarked history (record old { passed = last })
   marked_on history old last settings_are forward within are = record {
-    each = subst (λ (t : Numbers). (k j : ℕ) → j ≤ t.bins → (k + j) * span t 0 < last → last ≤ (k + j + 1) * span t 0 →
-        HoldsPosition history (get_or old.marks j first_mark) (k * span t 0 + 1)) (sym settings_are) (λ k j few low high.
+    each = subst (λ (t : Numbers). (k j : ℕ) → old.from ≤ k * span t 0 + 1 → j ≤ t.bins → (k + j) * span t 0 < last → last ≤ (k + j + 1) * span t 0 →
+        HoldsPosition history (get_or old.marks j first_mark) (k * span t 0 + 1)) (sym settings_are) (λ k j known few low high.
         let less = bins_below (k + j) (bins_begun s old.passed) (span s 0) (omega (arith, low, within)) in
         let upto = mul-le-mul_right {m = k + j + 1} {n = bins_begun s old.passed} (span s 0) (omega (arith, less)) in
-        was history old settings_are are k j few (omega (arith, upto, bin_more (k + j) (span s 0), begun_from s valid old.passed)) (omega (arith, forward, high)));
+        was history old settings_are are k j known few (omega (arith, upto, bin_more (k + j) (span s 0), begun_from s valid old.passed)) (omega (arith, forward, high)));
   }
 
   -- the mark of its first bin
@@ -208,9 +219,10 @@ module _ (s : Numbers) (valid : IsValid s) where
   oldest_none marked none =
       ap (λ t. cond t first_mark (get_or marked.marks (bins_behind marked.settings marked.passed) first_mark)) (eq-eqb marked.passed 0 none)
 
-  -- it names the record that holds the bin's first key
-  pub oldest_names : (history : List Packet) (marked : Marked) (n : ℕ) → marked.settings ≡ s → marked.passed ≡ n → AreMarked history marked → NamesRecord s history n (oldest_mark marked)
-  oldest_names history marked n settings_are passed_is are = record {
+  -- it names the record that holds the bin's first key, where that bin is known
+  pub oldest_names : (history : List Packet) (marked : Marked) (n : ℕ) → marked.settings ≡ s → marked.passed ≡ n → marked.from ≤ edge s 0 n + 1 → AreMarked history marked →
+      NamesRecord s history n (oldest_mark marked)
+  oldest_names history marked n settings_are passed_is reach are = record {
     none = λ none. oldest_none marked (passed_is ∙ none);
     some = λ some.
         let k = steps s 0 n in
@@ -220,8 +232,8 @@ module _ (s : Numbers) (valid : IsValid s) where
         subst (λ m. HoldsPosition history m (edge s 0 n + 1)) (sym (oldest_is marked settings_are (omega (arith, some, passed_is)) ∙ ap (λ x. get_or marked.marks
         (bins_begun s x - steps s 0 x - 1) first_mark) passed_is))
         (subst (λ p. HoldsPosition history (get_or marked.marks j first_mark) (p + 1)) (sym (edge_bins s valid n))
-        (was history marked settings_are are k j (omega (arith, bins_few s valid n)) (omega (arith, passed_is, whole, bin_more (k + j) (span s 0), begun_from s valid n)) (omega
-        (arith, passed_is, whole, begun_to s valid n))));
+        (was history marked settings_are are k j (omega (arith, reach, edge_bins s valid n)) (omega (arith, bins_few s valid n))
+        (omega (arith, passed_is, whole, bin_more (k + j) (span s 0), begun_from s valid n)) (omega (arith, passed_is, whole, begun_to s valid n))));
   }
 
   -- as it is read, by the place of the next bin
@@ -277,22 +289,24 @@ pub record IsPassing (last : ℕ) (mark : Mark) (old now : Marked) : Type 0 wher
   pub settings : now.settings ≡ old.settings
   pub from : old.passed ≤ now.passed
   pub to : now.passed ≤ last
+  pub known : now.from ≡ old.from
   pub marks : (history : List Packet) → AreOfRecord history mark old.passed last → AreMarked history old → AreMarked history now
 
 pub passing_none : (last : ℕ) (mark : Mark) (old : Marked) → old.passed ≤ last → IsPassing last mark old old
-passing_none last mark old forward = record { settings = refl; from = omega arith; to = forward; marks = λ history holds are. are }
+passing_none last mark old forward = record { settings = refl; from = omega arith; to = forward; known = refl; marks = λ history holds are. are }
 
 module _ (last : ℕ) (mark : Mark) (old now : Marked) (valid : IsValid now.settings) (passing : IsPassing last mark old now) where
   -- a bin more
   pub passing_more : (new : Marked) → bins_begun now.settings now.passed * span now.settings 0 + 1 ≤ last → new.settings ≡ now.settings →
-      new.passed ≡ bins_begun now.settings now.passed * span now.settings 0 + 1 → get_or new.marks 0 first_mark ≡ mark →
+      new.passed ≡ bins_begun now.settings now.passed * span now.settings 0 + 1 → new.from ≡ now.from → get_or new.marks 0 first_mark ≡ mark →
       ((j : ℕ) → j < 16 → get_or new.marks (j + 1) first_mark ≡ get_or now.marks j first_mark) → IsPassing last mark old new
-  passing_more new within settings_are passed newest others = record {
+  passing_more new within settings_are passed from_is newest others = record {
     settings = settings_are ∙ passing.settings;
     from = omega (arith, passing.from, passed, begun_to now.settings valid now.passed);
     to = omega (arith, passed, within);
+    known = from_is ∙ passing.known;
     marks = λ history holds are.
-        marked_begun now.settings valid history now new refl (passing.marks history holds are) mark settings_are passed newest others
+        marked_begun now.settings valid history now new refl (passing.marks history holds are) mark settings_are passed from_is newest others
         (holds.each (bins_begun now.settings now.passed * span now.settings 0 + 1) (omega (arith, passing.from, begun_to now.settings valid now.passed)) within);
   }
 
@@ -301,6 +315,7 @@ module _ (last : ℕ) (mark : Mark) (old now : Marked) (valid : IsValid now.sett
   passing_all new within is = record {
     settings = ap (λ (m : Marked). m.settings) is ∙ passing.settings;
     passed = ap (λ (m : Marked). m.passed) is;
+    from = ap (λ (m : Marked). m.from) is ∙ passing.known;
     marks = λ history holds are. subst (AreMarked history) (sym is)
         (marked_on now.settings valid history now last refl passing.to (omega (arith, within)) (passing.marks history holds are));
   }

@@ -154,28 +154,28 @@ module _ (s : Numbers) (valid : IsValid s) (n0 : ℕ) (events : List ℕ) (y : Y
     }
   ]
 
--- before the first key
-module _ (t : Tallied) (n0 : ℕ) (valid : IsValid t.listing.settings) (none : t.listing.events ≡ []) (fits : n0 ≤ capacity t.listing.settings)
+-- before the first key above the edge, where none of level 0's came yet
+module _ (t : Tallied) (n0 : ℕ) (valid : IsValid t.listing.settings) (few : length t.listing.events ≤ edge t.listing.settings 0 n0) (fits : n0 ≤ capacity t.listing.settings)
     (young : t.young ≡ record { settings = t.listing.settings; from = 0; to = 0; bins = [] }) (at : IsAt t.listing.settings n0 t.rows) (are : AreRows t.listing.settings t.rows)
+    (keys : AreKeys t.listing.events) (own : AreOfCone t.listing.settings t.listing.cone t.listing.events)
     (due_settings : t.due.settings ≡ t.listing.settings) (due_cone : t.due.cone ≡ t.listing.cone) where
-  no_key : length t.listing.events ≡ 0
-  no_key = ap length none
+  within : length t.listing.events ≤ n0
+  within = omega (arith, few, mul-div-le (n0 - offset t.listing.settings 0) (span t.listing.settings 0))
 
   begun : IsRising t.listing.settings n0 t.listing.events t.young
   begun = record {
     made = λ _. young;
-    from = λ some. absurd (omega (arith, no_key));
-    to = λ some. absurd (omega (arith, no_key));
-    bins = λ some. absurd (omega (arith, no_key));
+    from = λ some. absurd (omega (arith, few, some));
+    to = λ some. absurd (omega (arith, few, some));
+    bins = λ some. absurd (omega (arith, few, some));
   }
 
   pub recounted_none : IsRecounted t n0
   recounted_none =
-      let keys : AreKeys t.listing.events = subst AreKeys (sym none) tt in
-      let own : AreOfCone t.listing.settings t.listing.cone t.listing.events = subst (AreOfCone t.listing.settings t.listing.cone) (sym none) tt in
+      let short : length t.listing.events ≤ capacity t.listing.settings = omega (arith, within, fits) in
       record {
         valid = valid;
-        fits = omega (arith, no_key);
+        fits = short;
         n0_fits = fits;
         keys = keys;
         own = own;
@@ -184,11 +184,11 @@ module _ (t : Tallied) (n0 : ℕ) (valid : IsValid t.listing.settings) (none : t
         due_cone = due_cone;
         rows = λ _. at;
         young = λ _. begun;
-        behind = λ few.
-            let there : length t.listing.events ≡ n0 = omega (arith, no_key) in
+        behind = λ enough.
+            let there : length t.listing.events ≡ n0 = omega (arith, within, enough) in
             record {
               valid = valid;
-              fits = omega (arith, no_key);
+              fits = short;
               keys = keys;
               own = own;
               from = risen_from t.listing.settings valid n0 t.listing.events t.young begun there;

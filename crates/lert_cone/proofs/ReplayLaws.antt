@@ -79,12 +79,13 @@ module _ (leaves : Files → Type 0) (seen : Files) (history : List Packet) (lis
           reports_are = step.reports_are;
           begins = step.begins;
           marked = step.marked;
+          reach = step.reach;
         };
       }
 
   -- and so with other marks of the history's records
-  pub on_way_marked : (marks : Marked) → AreMarked history marks → IsOnWay leaves seen history listing rows reports (record log { marks = marks }) n0
-  on_way_marked marks marked =
+  pub on_way_marked : (marks : Marked) → AreMarked history marks → marks.from ≡ log.marks.from → IsOnWay leaves seen history listing rows reports (record log { marks = marks }) n0
+  on_way_marked marks marked from_is =
       let step = on_way.in_step in
       record {
         n0_most = on_way.n0_most;
@@ -102,6 +103,7 @@ module _ (leaves : Files → Type 0) (seen : Files) (history : List Packet) (lis
           reports_are = step.reports_are;
           begins = step.begins;
           marked = marked;
+          reach = omega (arith, from_is, step.reach);
         };
       }
 

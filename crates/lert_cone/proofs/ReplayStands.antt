@@ -1,6 +1,6 @@
 -- A cone that is given the packets of its journal again: what is so of it, what the record at a gate makes of it, and which
 -- lists it stands for at the end.
-use Rattle.std.proofs.Common.{◌≡◌, ℕ, ◌+◌, ◌*◌, ◌^◌, ◌<◌, ◌≤◌, Bool, true, false, cond, List, [], length, Option, Some, None, All, refl, sym, ap, ◌∙◌, subst}
+use Rattle.std.proofs.Common.{◌≡◌, ℕ, ◌+◌, ◌*◌, ◌^◌, ◌<◌, ◌≤◌, Bool, true, false, cond, List, length, Option, None, All, refl, sym, ap, ◌∙◌, subst}
 use Rattle.std.proofs.Common.{arith}
 use Rattle.std.proofs.lemmas.Bool.{false≢true}
 use Rattle.lert_base.specs.Packet.{Packet, events_of}
@@ -15,7 +15,6 @@ use Rattle.lert_journal.specs.Journal.{HoldsPacket}
 use Rattle.lert_journal.specs.Payload.{payload_of}
 use Rattle.lert_journal.proofs.PayloadLaws.{length_payload}
 use Rattle.lert_rows.specs.declared.bin_at.BinAt.{BinAt}
-use Rattle.lert_reports.specs.Log.{most_record}
 use Rattle.lert_spec.specs.declared.numbers.Numbers.{Numbers}
 use Rattle.lert_spec.specs.declared.report.Report.{Report}
 use Rattle.lert_spec.specs.Edges.{capacity}
@@ -28,7 +27,6 @@ use Rattle.lert_cone.specs.declared.tally.TakeFault.{TakeFault}
 use Rattle.lert_cone.specs.declared.tally.TakeFault.TheVariants.{Failed as TakeFailed, Unsound as TakeUnsound}
 use Rattle.lert_cone.specs.History.{most_payload}
 use Rattle.lert_cone.specs.Listing.{Listing}
-use Rattle.lert_cone.specs.Marks.{unmarked}
 use Rattle.lert_cone.specs.Record.{LogPlace}
 use Rattle.lert_cone.specs.Replay.{IsOnWay, IsPast, IsNext, ReplayLeavesAt}
 use Rattle.lert_cone.specs.Replays.{Replays, IsThere, WhyRefused, LeavesBehind, of_take_fault, of_log_fault}
@@ -36,12 +34,10 @@ use Rattle.lert_cone.specs.Room.{room_of}
 use Rattle.lert_cone.specs.Stands.{Standing, StandsFor, IsCone, IsReplaying, WasSound, is_broken, is_finished}
 use Rattle.lert_cone.specs.Tally.{Tallied, IsRecounted}
 use Rattle.lert_cone.specs.Wrote.{Anything, IsShutIfTold, LeavesFile}
-use Rattle.lert_cone.proofs.GateLaws.{is_next, past_none}
+use Rattle.lert_cone.proofs.GateLaws.{is_next}
 use Rattle.lert_cone.proofs.ReplayLaws.{journal_on_way, whole_on_way}
-use Rattle.lert_cone.proofs.ReplayStep.{told_once}
 use Rattle.lert_cone.proofs.SoundLaws.{turns_back}
 use Rattle.lert_cone.proofs.WroteLaws.{settled_through, torn_behind}
-use Rattle.lert_cone.proofs.FaultLaws.{turns_as}
 
 -- ---- calls that read alone
 
@@ -156,64 +152,6 @@ module _ {B : Type 0} (files : B → Option Files) (leaves : B → Files → Typ
     log_shut = λ never. absurd (false≢true (sym (ap is_broken never) ∙ ap is_broken state_is));
     replaying = λ _. replaying;
   }
-
-  -- as it is adopted
-  pub adopted_cone : (mark : B → ℕ) (bay made : B) (s : Numbers) (cone : ℕ) (tally : Tallied) (journal : Log) (log : LogPlace) (last : LogPoint) (room keys_room : ℕ) → IsValid s
-      → tally.listing ≡ record { settings = s; cone = cone; events = []; closed = last.closed } → IsRecounted tally last.n0 → journal ≡ record {
-        file = 0;
-        gate = 32;
-        most = most_payload s;
-      } → last.log_end ≤ 2 ^ 62
-      → log ≡ record { gate = last.log_end; most = most_record s; named = length tally.due.reports; marks = unmarked s } → room ≡ room_of s → keys_room ≡ 4 * s.packet → made ≡ bay
-      → IfTold (files bay) (λ seen. IsWhollySettled (leaves bay) seen 0) → IsShutIfTold (files bay) (leaves bay) 1 last.log_end
-      → IsCone files leaves faults mark (record {
-        bay = bay;
-        made = made;
-        listing = tally.listing;
-        rows = tally.rows;
-        reports = tally.due.reports;
-        events = 0;
-        state = Replaying;
-        over = None;
-        gate = journal.gate;
-        log = log;
-        last = last;
-      }) tally journal room keys_room
-  adopted_cone mark bay made s cone tally journal log last room keys_room valid is recounted journal_is reach log_is room_is keys_room_is made_is settled shut =
-      replaying_cone mark
-      (record {
-        bay = bay;
-        made = made;
-        listing = tally.listing;
-        rows = tally.rows;
-        reports = tally.due.reports;
-        events = 0;
-        state = Replaying;
-        over = None;
-        gate = journal.gate;
-        log = log;
-        last = last;
-      }) tally journal room keys_room
-      refl (ap (λ (j : Log). j.file) journal_is) (ap (λ (j : Log). j.most) journal_is ∙ ap (λ (l : Listing). most_payload l.settings) (sym is))
-      (room_is ∙ ap (λ (l : Listing). room_of l.settings) (sym is)) (keys_room_is ∙ ap (λ (l : Listing). 4 * l.settings.packet) (sym is)) (omega arith)
-      (subst (λ (l : Listing). IsValid l.settings) (sym is) valid) (omega (arith, ap faults made_is)) (turns_as (files made) (files bay) (ap files (sym made_is))) (ap mark (sym made_is))
-      (record {
-        none_over = refl;
-        counted = ap (λ (l : Listing). length l.events) is;
-        recounted = recounted;
-        closed = ap (λ (l : Listing). l.closed) is;
-        near = omega (arith, ap (λ (j : Log). j.gate) journal_is);
-        journal_settled = settled;
-        logging = record {
-          most = ap (λ (l : LogPlace). l.most) log_is ∙ ap (λ (l : Listing). most_record l.settings) (sym is);
-          named = omega (arith, ap (λ (l : LogPlace). l.named) log_is);
-          near = omega (arith, ap (λ (l : LogPlace). l.gate) log_is, reach);
-          roomy = omega (arith, ap (λ (l : LogPlace). l.most) log_is, room_is);
-          same = ap (λ (l : LogPlace). l.marks.settings) log_is ∙ ap (λ (l : Listing). l.settings) (sym is);
-          passed = ap (λ (l : LogPlace). l.marks.passed) log_is ∙ ap (λ (l : Listing). length l.events) (sym is);
-        };
-        log_shut = subst (λ gate. IsShutIfTold (files bay) (leaves bay) 1 gate) (sym (ap (λ (l : LogPlace). l.gate) log_is)) shut;
-      })
 
   -- behind its last packet
   pub ready_cone : (mark : B → ℕ) (bay made : B) (tally : Tallied) (events room keys_room : ℕ) (journal journal_after : Log) (log : LogPlace) (last : LogPoint) (over : Option Packet)
@@ -337,47 +275,6 @@ module _ {B : Type 0} (files : B → Option Files) (leaves : B → Files → Typ
         by_bay = λ never. absurd (false≢true (sym whole ∙ ap is_broken never));
         by_read = λ file at never. absurd (false≢true (sym whole ∙ ap is_broken never));
       }
-
-  -- what it is adopted with is on the way
-  pub adopted_replays : (bay made : B) (s : Numbers) (cone gate : ℕ) (tally : Tallied) (log : LogPlace) (last : LogPoint) (rows : List (List BinAt)) (reports : List Report)
-      (history : List Packet)
-      (seen : Files)
-      → tally.listing ≡ record { settings = s; cone = cone; events = []; closed = last.closed } → tally.rows ≡ rows → tally.due.reports ≡ reports → gate ≡ 32 → log ≡ record {
-        gate = last.log_end;
-        most = most_record s;
-        named = length reports;
-        marks = unmarked s;
-      }
-      → files bay ≡ Some seen → IsOnWay (leaves bay) seen history (record { settings = s; cone = cone; events = []; closed = last.closed }) rows reports (record {
-        gate = last.log_end;
-        most = most_record s;
-        named = length reports;
-        marks = unmarked s;
-      }) last.n0
-      → Replays files leaves (record {
-        bay = bay;
-        made = made;
-        listing = tally.listing;
-        rows = tally.rows;
-        reports = tally.due.reports;
-        events = 0;
-        state = Replaying;
-        over = None;
-        gate = gate;
-        log = log;
-        last = last;
-      }) history []
-  adopted_replays bay made s cone gate tally log last rows reports history seen is rows_are reports_are gate_is log_is told on_way = record {
-    state_is = refl;
-    past = subst (λ (l : Listing). IsPast history [] l.events gate) (sym is) (subst (λ g. IsPast history [] [] g) (sym gate_is) (past_none history));
-    on_way = λ after told_after.
-        subst (λ (f : Files). IsOnWay (leaves bay) f history tally.listing tally.rows tally.due.reports log last.n0) (told_once (files bay) seen after told told_after)
-        (subst (λ (l : Listing). IsOnWay (leaves bay) seen history l tally.rows tally.due.reports log last.n0) (sym is)
-        (subst (λ (rs : List (List BinAt)). IsOnWay (leaves bay) seen history (record { settings = s; cone = cone; events = []; closed = last.closed }) rs tally.due.reports log last.n0)
-        (sym rows_are)
-        (subst (λ (rs : List Report). IsOnWay (leaves bay) seen history (record { settings = s; cone = cone; events = []; closed = last.closed }) rows rs log last.n0) (sym reports_are)
-        (subst (λ (l : LogPlace). IsOnWay (leaves bay) seen history (record { settings = s; cone = cone; events = []; closed = last.closed }) rows reports l last.n0) (sym log_is) on_way))));
-  }
 
 -- ---- through the calls of a record's keys
 

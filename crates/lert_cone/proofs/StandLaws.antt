@@ -65,6 +65,7 @@ module _ {B : Type 0} (files : B → Option Files) (leaves : B → Files → Typ
         reports_are = refl;
         begins = names_none s [];
         marked = marked_none [] (unmarked s) refl;
+        reach = omega arith;
       })
 
   new_whole : (bay : B) (s : Numbers) (cone : ℕ) (tally : Tallied) (gate : ℕ) (log : LogPlace) → tally.listing ≡ record { settings = s; cone = cone; events = []; closed = false } →

@@ -10,6 +10,7 @@ use Rattle.lert_reports.specs.Log.{HasLog, last_n0, listed_in, most_record}
 use Rattle.lert_reports.specs.LogText.{LogRecord}
 use Rattle.lert_spec.specs.declared.numbers.Numbers.{Numbers}
 use Rattle.lert_spec.specs.declared.report.Report.{Report}
+use Rattle.lert_spec.specs.Edges.{edge}
 use Rattle.lert_cone.specs.Framed.{last_flush}
 use Rattle.lert_cone.specs.Listing.{Listing, reports_of}
 use Rattle.lert_cone.specs.Logged.{IsLogOf}
@@ -21,7 +22,8 @@ use Rattle.lert_cone.specs.Tally.{Tallied}
 -- In every image the journal has these packets, the log has the records of the keys so far, and the frames that the rows
 -- name hold their bins. The journal and the log are settled from their first byte to their last. The records name as
 -- many reports as the log's place says, and memory has the reports of the keys so far. The last record says where the journal's
--- record begins that holds the first key of level 0 at its place, and memory has the same of the newest bins.
+-- record begins that holds the first key of level 0 at its place, and memory has the same of the newest bins, of each that
+-- begins at level 0's edge or behind it at least.
 pub record IsInStep (leaves : Files → Type 0) (seen : Files) (history : List Packet) (listing : Listing) (rows : List (List BinAt)) (reports : List Report) (log : LogPlace) : Type 0 where
   pub logged : List LogRecord
   pub log_of : IsLogOf listing.settings listing.cone listing.events rows listing.closed logged
@@ -34,6 +36,7 @@ pub record IsInStep (leaves : Files → Type 0) (seen : Files) (history : List P
   pub reports_are : reports ≡ reports_of listing
   pub begins : NamesRecord listing.settings history (last_n0 logged) (last_mark logged)
   pub marked : AreMarked history log.marks
+  pub reach : log.marks.from ≤ edge listing.settings 0 (length listing.events) + 1
 
 -- these keys and then these begin those of the packets, and no flush of an earlier packet than the last one is left
 pub record IsPartway (s : Numbers) (history : List Packet) (events more : List ℕ) : Type 0 where

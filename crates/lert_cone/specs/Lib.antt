@@ -18,4 +18,5 @@ pub mod Sound
 pub mod Stands
 pub mod Takes
 pub mod Tally
+pub mod Unread
 pub mod Wrote

@@ -6,7 +6,7 @@ use Rattle.lert_bay.specs.Files.{Files}
 use Rattle.lert_gatelog.specs.Gated.{IsClosed}
 use Rattle.lert_journal.specs.Journal.{HoldsPacket, LeavesAt}
 use Rattle.lert_rows.specs.declared.bin_at.BinAt.{BinAt}
-use Rattle.lert_reports.specs.Log.{last_n0, last_directory, listed_in, is_closed}
+use Rattle.lert_reports.specs.Log.{last_n0, last_offset, last_first, last_directory, listed_in, is_closed}
 use Rattle.lert_reports.specs.LogText.{LogRecord}
 use Rattle.lert_spec.specs.declared.numbers.Numbers.{Numbers}
 use Rattle.lert_spec.specs.declared.report.Report.{Report}
@@ -19,10 +19,13 @@ use Rattle.lert_cone.specs.Logged.{frames_of}
 use Rattle.lert_cone.specs.Record.{LogPlace}
 use Rattle.lert_cone.specs.Sound.{but_last}
 
--- what the last of some records says, as it is in memory: after how many events it was written, whether it is a closing
--- one, and the frames of the rows; and the reports of all records
-pub record IsLastOf (s : Numbers) (n0 : ℕ) (closed : Bool) (rows : List (List BinAt)) (reports : List Report) (records : List LogRecord) : Type 0 where
+-- what the last of some records says, as it is in memory: after how many events it was written, from which record of the
+-- journal on that is to be read and the position of its first key, whether it is a closing one, and the frames of the rows;
+-- and the reports of all records
+pub record IsLastOf (s : Numbers) (n0 offset first : ℕ) (closed : Bool) (rows : List (List BinAt)) (reports : List Report) (records : List LogRecord) : Type 0 where
   pub n0_is : n0 ≡ last_n0 records
+  pub offset_is : offset ≡ last_offset records
+  pub first_is : first ≡ last_first records
   pub closed_is : closed ≡ is_closed records
   pub directory_is : last_directory s records ≡ frames_of rows
   pub reports_are : reports ≡ listed_in records
@@ -37,7 +40,7 @@ pub record IsOnWay (leaves : Files → Type 0) (seen : Files) (history : List Pa
     pub closed_behind : listing.closed ≡ true → n0 ≡ length (events_of history)
     pub in_step : IsInStep leaves seen history (record listing { events = take (max n0 (length listing.events)) (events_of history) }) rows reports log
 
--- the first packets of a history were read: these are their keys, and the gate behind them is the next one
+-- the first packets of a history were read, or needn't be: these are their keys, and the gate behind them is the next one
 pub record IsPast (history done : List Packet) (events : List ℕ) (gate : ℕ) : Type 0 where
   pub rest : List Packet
   pub is : history ≡ done ++ rest

@@ -25,7 +25,7 @@ use Rattle.lert_cone.specs.Replay.{IsOnWay, IsPast, MayFollow, ReplayLeavesAt}
 use Rattle.lert_cone.specs.Stands.{Standing}
 use Rattle.lert_cone.specs.Wrote.{IsShutIfTold}
 
--- the cone took the first packets of its journal, which is that of a history, and where its bay tells its files, these and
+-- the cone has the keys of the first packets of its journal, which is that of a history, and where its bay tells its files, these and
 -- its memory are on their way through it
 pub record Replays {B : Type 0} (files : B → Option Files) (leaves : B → Files → Type 0) (cone : Standing B) (history done : List Packet) : Type 0 where
   pub state_is : cone.state ≡ Replaying
@@ -100,8 +100,8 @@ WhyRefused cone bytes gate Failed = Unit {0}
 WhyRefused cone bytes gate (Malformed at) = LeavesBehind cone bytes gate at
 WhyRefused cone bytes gate (Unsound file at) = IsThere cone bytes gate
 
--- what becomes of a cone on its way through the journal of a history, of which it took the first packets: it took one more, or
--- all are taken; or a call of its bay failed
+-- what becomes of a cone on its way through the journal of a history, of whose first packets it has the keys: it took one more,
+-- or it has those of all; or a call of its bay failed
 abbrev pub GoesOn : {B : Type 0} → (B → Option Files) → (B → Files → Type 0) → Standing B → List Packet → List Packet → Result (Option ℕ) ReplayFault → Type 0
 GoesOn files leaves new history done (Ok (Some next)) = (packet : Packet) × Replays files leaves new history (done ++ packet ∷ [])
 GoesOn files leaves new history done (Ok None) = (done ≡ history) × Replays files leaves new history done

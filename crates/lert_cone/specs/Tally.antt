@@ -73,8 +73,8 @@ pub record IsRising (s : Numbers) (n0 : ℕ) (events : List ℕ) (young : Young)
   pub to : edge s 0 n0 < length events → young.to ≡ length events
   pub bins : edge s 0 n0 < length events → AreYoung s events (edge s 0 n0) young.bins
 
--- A cone whose keys come again from the first one on, while its rows are those after n0 events already: up to n0 level 0
--- alone follows the keys, and from n0 on all is counted. The settings are valid, and the keys are the cone's own.
+-- A cone whose keys come again, but for those that it doesn't read, while its rows are those after n0 events already: up to n0
+-- level 0 alone follows the keys, and from n0 on all is counted. The settings are valid, and the keys are the cone's own.
 pub record IsRecounted (tally : Tallied) (n0 : ℕ) : Type 0 where
   pub valid : IsValid tally.listing.settings
   pub fits : length tally.listing.events ≤ capacity tally.listing.settings

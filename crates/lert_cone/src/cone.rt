@@ -53,7 +53,7 @@ pub use terms::ConeTerms;
 pub struct Cone<B: Bay, T: CountTable> {
     bay: B,
     made: Snapshot<B>,
-    tally: Tally<T>,
+    tally: Tally<B, T>,
     journal: GateLog,
     log: ReportLog,
     last: LogPoint,
@@ -139,7 +139,7 @@ impl<B: Bay, T: CountTable> Cone<B, T> {
     {
         match begin(&mut bay, &room.settings, cone) {
             Ok((journal, log)) => {
-                let (tally, entry, buffer) = room.into_parts(cone);
+                let (tally, entry, buffer) = room.into_parts(&bay, cone);
                 Ok(Cone {
                     made: Snapshot::of(&bay),
                     bay,

@@ -30,7 +30,7 @@ pub fn keys_of(entry: &Entry) -> &[u64]
 
 /// Takes a packet: appends it to the journal, and then takes its keys, one after another.
 pub fn take_packet<B: Bay, T: CountTable>(
-    tally: &mut Tally<T>,
+    tally: &mut Tally<B, T>,
     log: &mut ReportLog,
     journal: &mut GateLog,
     bay: &mut B,
@@ -53,7 +53,7 @@ pub fn take_packet<B: Bay, T: CountTable>(
 
 // Takes keys of the journal's record at `mark`, one after another.
 fn take_keys<B: Bay, T: CountTable>(
-    tally: &mut Tally<T>,
+    tally: &mut Tally<B, T>,
     log: &mut ReportLog,
     bay: &mut B,
     mark: Mark,
@@ -73,7 +73,7 @@ fn take_keys<B: Bay, T: CountTable>(
 // Takes a key of the journal's record at `mark`. At a flush position a record stands behind the flush, which names what the
 // levels and the reports are then, and where the journal's record begins that holds the first key of level 0.
 fn take_key<B: Bay, T: CountTable>(
-    tally: &mut Tally<T>,
+    tally: &mut Tally<B, T>,
     log: &mut ReportLog,
     bay: &mut B,
     mark: Mark,
@@ -96,7 +96,7 @@ fn take_key<B: Bay, T: CountTable>(
 
 // Appends a record of what the keys, the levels and the reports are now.
 fn write_record<B: Bay, T: CountTable>(
-    tally: &Tally<T>,
+    tally: &Tally<B, T>,
     log: &mut ReportLog,
     bay: &mut B,
     kind: LogKind,
@@ -117,7 +117,7 @@ fn write_record<B: Bay, T: CountTable>(
 /// Takes keys that are read from the journal's record at `mark`: those up to `n0`, the place of the log's last record, are only
 /// counted again, and those behind it are taken.
 pub fn replay_keys<B: Bay, T: CountTable>(
-    tally: &mut Tally<T>,
+    tally: &mut Tally<B, T>,
     log: &mut ReportLog,
     bay: &mut B,
     n0: u64,
@@ -141,7 +141,7 @@ pub fn replay_keys<B: Bay, T: CountTable>(
 }
 
 // Counts keys again, none of which is behind n0.
-fn count_again<T: CountTable>(tally: &mut Tally<T>, n0: u64, keys: &[u64])
+fn count_again<B: Bay, T: CountTable>(tally: &mut Tally<B, T>, n0: u64, keys: &[u64])
     requires own { All (λ key. cone_of tally.old.listing.settings key ≡ tally.old.listing.cone) keys.now }
     requires within { 0 < length keys.now → length tally.old.listing.events + length keys.now ≤ n0 }
     requires recounted { IsRecounted tally.old n0 }
@@ -158,7 +158,7 @@ fn count_again<T: CountTable>(tally: &mut Tally<T>, n0: u64, keys: &[u64])
 
 /// Ends a cone: scans all levels, lists the reports that are left, and appends the closing record.
 pub fn finish<B: Bay, T: CountTable>(
-    tally: &mut Tally<T>,
+    tally: &mut Tally<B, T>,
     log: &mut ReportLog,
     bay: &mut B,
     buffer: &mut [u8],

@@ -21,6 +21,7 @@ mod report_log;
 mod room;
 mod state;
 mod tally;
+mod unread;
 
 pub use acked::Acked;
 pub use cone::{Cone, ConeTerms};

@@ -3,7 +3,7 @@
 ghost use Rattle.std.specs.Prelude.{◌≡◌, ℕ, ◌+◌, ◌*◌, ◌<◌, ◌≤◌, slice_index_or};
 ghost use Rattle.lert_spec.specs.Edges.{span, capacity};
 ghost use Rattle.lert_spec.specs.Limits.{IsValid};
-ghost use Rattle.lert_cone.specs.Marks.{bins_begun, oldest_mark, first_mark, unmarked, HasPassed};
+ghost use Rattle.lert_cone.specs.Marks.{bins_begun, oldest_mark, first_mark, marked_from, HasPassed};
 
 use lert_base::Settings;
 use lert_reports::{FIRST, OFFSET};
@@ -26,7 +26,7 @@ const START: Mark = Mark {
 };
 
 /// For each of the newest bins of level 0's span, one more than a level has, the mark of the record that holds its first key.
-/// A key costs a comparison. No call takes memory.
+/// Of bins that began among keys that were passed unseen it has none. A key costs a comparison. No call takes memory.
 #[derive(Drop)]
 pub struct Marks {
     settings: Settings,
@@ -36,6 +36,8 @@ pub struct Marks {
     passed: u64,
     // The position of the next bin's first key, kept so that no key divides.
     next: u64,
+    // The least position from which on the bins are known.
+    from: u64,
 }
 
 impl Model for Marks {
@@ -43,22 +45,26 @@ impl Model for Marks {
 
     ghost Value = { Marked };
 
-    ghost view = { λ m. record { settings = m.settings; marks = m.marks; passed = m.passed } };
+    ghost view = { λ m. record { settings = m.settings; marks = m.marks; passed = m.passed; from = m.from } };
 
     ghost invariant = { λ m. IsRing m.settings m.marks m.passed m.next };
 }
 
 impl Marks {
-    /// Before the first key.
-    pub fn new(settings: &Settings) -> Marks
-        ensures { result ≡ unmarked settings.now }
+    /// Behind so many keys, which are passed unseen: none of the bins that began among them is known.
+    pub fn new(settings: &Settings, passed: u64) -> Marks
+        requires { passed ≤ capacity settings.now }
+        ensures { result ≡ marked_from settings.now passed }
     {
         let _valid = settings.numbers();
+        let span = settings.span(0);
+        let bins = (passed + span - 1) / span;
         Marks {
             settings: *settings,
             marks: [START; MOST],
-            passed: 0,
-            next: 1,
+            passed,
+            next: bins * span + 1,
+            from: passed + 1,
         }
     }
 
@@ -100,6 +106,7 @@ impl Marks {
         requires { bins_begun self.old.settings self.old.passed * span self.old.settings 0 + 1 ≤ capacity self.old.settings }
         ensures settings { self.new.settings ≡ self.old.settings }
         ensures passed { self.new.passed ≡ bins_begun self.old.settings self.old.passed * span self.old.settings 0 + 1 }
+        ensures from { self.new.from ≡ self.old.from }
         ensures newest { slice_index_or self.new.marks 0 first_mark ≡ mark }
         ensures others { (j : ℕ) → j < 16 → slice_index_or self.new.marks (j + 1) first_mark ≡ slice_index_or self.old.marks j first_mark }
     {

@@ -28,7 +28,7 @@ use lert_reports::LogPoint;
 pub fn read_packet<B: Bay, T: CountTable>(
     journal: &mut GateLog,
     bay: &mut B,
-    tally: &Tally<T>,
+    tally: &Tally<B, T>,
     last: &LogPoint,
     entry: &mut Entry,
     buffer: &mut [u8],

@@ -7,7 +7,7 @@ ghost use Rattle.lert_gatelog.specs.Gated.{IsClosed};
 ghost use Rattle.lert_gatelog.specs.Kept.{InEach};
 ghost use Rattle.lert_spec.specs.Edges.{capacity};
 ghost use Rattle.lert_cone.specs.Appends.{AppendsRecord};
-ghost use Rattle.lert_cone.specs.Marks.{unmarked, HasPassed};
+ghost use Rattle.lert_cone.specs.Marks.{marked_from, unmarked, HasPassed};
 ghost use Rattle.lert_cone.specs.Record.{payload_len};
 
 use crate::marks::{Mark, Marks};
@@ -48,18 +48,19 @@ impl ReportLog {
         ReportLog {
             log,
             named: 0,
-            marks: Marks::new(settings),
+            marks: Marks::new(settings, 0),
         }
     }
 
-    /// The log at a closed gate, whose records name so many reports. No key is passed. Nothing is read.
-    pub fn at(settings: &Settings, gate: u64, most: u32, named: usize) -> ReportLog
-        ensures { result ≡ record { gate = gate; most = most; named = named; marks = unmarked settings.now } }
+    /// The log at a closed gate, whose records name so many reports. So many keys are passed, unseen. Nothing is read.
+    pub fn at(settings: &Settings, gate: u64, most: u32, named: usize, passed: u64) -> ReportLog
+        requires { passed ≤ capacity settings.now }
+        ensures { result ≡ record { gate = gate; most = most; named = named; marks = marked_from settings.now passed } }
     {
         ReportLog {
             log: GateLog::at_gate(LOG, gate, most),
             named,
-            marks: Marks::new(settings),
+            marks: Marks::new(settings, passed),
         }
     }
 

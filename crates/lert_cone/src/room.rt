@@ -8,7 +8,9 @@ ghost use Rattle.lert_spec.specs.Limits.{IsValid};
 
 use crate::headers::greatest_payload;
 use crate::tally::Tally;
+use crate::unread::Unread;
 use lert_base::{CountTable, Entry, KeyList, Settings};
+use lert_bay::Bay;
 use lert_io::OutOfMemory;
 use lert_levels::{Levels, Zero};
 use lert_reports::{ReportStore, greatest_record};
@@ -49,7 +51,7 @@ impl<T: CountTable> ConeRoom<T> {
     }
 
     // The counts and reports of a cone with this number, which has no key yet, the entry, and the buffer.
-    pub(crate) fn into_parts(self, cone: u32) -> (Tally<T>, Entry, Vec<u8>)
+    pub(crate) fn into_parts<B: Bay>(self, bay: &B, cone: u32) -> (Tally<B, T>, Entry, Vec<u8>)
         requires named { cone < 2 ^ self.settings.cone_bits }
         requires room { IsRoom self.settings self.zero self.levels self.store self.entry.keys (length self.buffer.items) }
         ensures listing { result.0.listing ≡ record { settings = self.settings; cone = cone; events = []; closed = false } }
@@ -68,8 +70,9 @@ impl<T: CountTable> ConeRoom<T> {
             entry,
             buffer,
         } = self;
+        let unread = Unread::of(bay, &settings, cone, 0);
         (
-            Tally::new(&settings, cone, zero, levels, store),
+            Tally::new(&settings, cone, zero, levels, store, unread),
             entry,
             buffer,
         )

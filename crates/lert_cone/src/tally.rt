@@ -4,10 +4,13 @@ ghost use Rattle.std.specs.Prelude.{◌≡◌, ◌≢◌, ℕ, ◌-◌, ◌^◌,
 ghost use Rattle.lert_bay.specs.Files.{Files};
 ghost use Rattle.lert_spec.specs.Edges.{edge, capacity};
 ghost use Rattle.lert_spec.specs.Mix.{cone_of};
+ghost use Rattle.lert_spec.proofs.LookLaws.{AreKeys};
+ghost use Rattle.lert_spec.proofs.TailLaws.{AreOfCone};
 ghost use Rattle.lert_rows.specs.Rows.{IsAt, AreRows, directory_text};
 
 use crate::due::Due;
-use flush::flush_behind;
+use crate::unread::Unread;
+use flush::{flush_behind, flush_from};
 use lert_base::{CountTable, Settings};
 use lert_bay::{Bay, FRAMES, LOG};
 use lert_io::{Failed, Seen};
@@ -54,17 +57,19 @@ impl From<Failed> for TakeFault {
 }
 
 /// A cone's keys as counts: those of level 0 in memory, the others in the frames of its bay; and the reports that they
-/// bring. Seen as its keys, level 0, the rows of the older levels, and the reports.
+/// bring. Seen as its keys, level 0, the rows of the older levels, and the reports. The first keys may be ones that weren't
+/// read.
 ///
 /// A key costs a place in level 0. At a flush position it costs a flush.
 #[derive(Drop)]
-pub struct Tally<T: CountTable> {
+pub struct Tally<B: Bay, T: CountTable> {
     settings: Settings,
     cone: u32,
     zero: Zero<T>,
     levels: Levels<T>,
     // None only while a merge gives them its totals.
     due: Option<Due<T>>,
+    unread: Unread<B>,
     taken: Seen<u64>,
     len: u64,
     // The least flush position from that of the last key on, kept so that no key divides.
@@ -72,27 +77,28 @@ pub struct Tally<T: CountTable> {
     closed: bool,
 }
 
-impl<T: CountTable> Model for Tally<T> {
+impl<B: Bay, T: CountTable> Model for Tally<B, T> {
+    ghost use Rattle.std.specs.Prelude.{◌++◌};
     ghost use Rattle.lert_cone.specs.Tally.{Tallied, IsTally, due_in};
 
     ghost Value = { Tallied };
 
     ghost view = { λ t. record {
-      listing = record { settings = t.settings; cone = t.cone; events = t.taken; closed = t.closed };
+      listing = record { settings = t.settings; cone = t.cone; events = t.unread ++ t.taken; closed = t.closed };
       young = t.zero;
       rows = t.levels.rows;
       due = due_in t.due;
     } };
 
     ghost invariant = { λ t. IsTally (record {
-      listing = record { settings = t.settings; cone = t.cone; events = t.taken; closed = t.closed };
+      listing = record { settings = t.settings; cone = t.cone; events = t.unread ++ t.taken; closed = t.closed };
       young = t.zero;
       rows = t.levels.rows;
       due = due_in t.due;
     }) t.levels.settings t.due t.len t.flush };
 }
 
-impl<T: CountTable> Tally<T> {
+impl<B: Bay, T: CountTable> Tally<B, T> {
     ghost use Rattle.lert_cone.specs.Tally.{IsCounted, IsHeld, IsRecounted};
     ghost use Rattle.lert_cone.specs.Counts.{CountsEnd, CountsKey};
 
@@ -103,11 +109,13 @@ impl<T: CountTable> Tally<T> {
         zero: Zero<T>,
         levels: Levels<T>,
         store: ReportStore<T>,
-    ) -> Tally<T>
+        unread: Unread<B>,
+    ) -> Tally<B, T>
         requires named { cone < 2 ^ settings.now.cone_bits }
         requires zero { zero ≡ record { settings = settings.now; from = 0; to = 0; bins = [] } }
         requires levels { levels ≡ record { settings = settings.now; rows = replicate settings.now.levels [] } }
         requires store { store ≡ record { settings = settings.now; reports = [] } }
+        requires unread { unread ≡ [] }
         ensures listing { result.listing ≡ record { settings = settings.now; cone = cone; events = []; closed = false } }
         ensures rows { result.rows ≡ replicate settings.now.levels [] }
         ensures none { result.due.reports ≡ [] }
@@ -115,40 +123,47 @@ impl<T: CountTable> Tally<T> {
         ensures held { (seen : Files) → IsHeld result seen }
     {
         let _valid = settings.numbers();
-        Tally::adopted(settings, cone, zero, levels, store, false)
+        Tally::adopted(settings, cone, zero, levels, store, unread, false)
     }
 
-    /// No key yet, over levels and reports as a log's last record has them. `recount` takes the keys up to that record again.
+    /// The keys that aren't read, none of which level 0 has, over levels and reports as a log's last record has them.
+    /// `recount` takes the keys behind them up to that record again.
     pub fn adopted(
         settings: &Settings,
         cone: u32,
         zero: Zero<T>,
         levels: Levels<T>,
         store: ReportStore<T>,
+        unread: Unread<B>,
         closed: bool,
-    ) -> Tally<T>
+    ) -> Tally<B, T>
         requires named { cone < 2 ^ settings.now.cone_bits }
         requires zero { zero ≡ record { settings = settings.now; from = 0; to = 0; bins = [] } }
         requires levels { levels.settings ≡ settings.now }
         requires are { AreRows settings.now levels.rows }
         requires store { store.settings ≡ settings.now }
         requires own { All (λ report. cone_of settings.now report.key ≡ cone) store.reports }
-        ensures listing { result.listing ≡ record { settings = settings.now; cone = cone; events = []; closed = closed } }
+        requires keys { AreKeys unread }
+        requires keys_own { AreOfCone settings.now cone unread }
+        requires within { length unread ≤ capacity settings.now }
+        ensures listing { result.listing ≡ record { settings = settings.now; cone = cone; events = unread; closed = closed } }
         ensures young { result.young ≡ zero }
         ensures rows { result.rows ≡ levels.rows }
         ensures reports { result.due.reports ≡ store.reports }
-        ensures recounted { (n0 : ℕ) → n0 ≤ capacity settings.now → IsAt settings.now n0 levels.rows → IsRecounted result n0 }
+        ensures recounted { (n0 : ℕ) → n0 ≤ capacity settings.now → IsAt settings.now n0 levels.rows → length unread ≤ edge settings.now 0 n0 → IsRecounted result n0 }
     {
-        let bins = settings.numbers().bins;
+        let _valid = settings.numbers();
+        let len = unread.len();
         Tally {
             settings: *settings,
             cone,
             zero,
             levels,
             due: Some(Due::new(settings, cone, store)),
+            unread,
             taken: Seen::new(),
-            len: 0,
-            flush: bins * settings.span(0),
+            len,
+            flush: flush_from(settings, len),
             closed,
         }
     }
@@ -203,7 +218,7 @@ impl<T: CountTable> Tally<T> {
 
     /// Takes the next key: counts it in level 0, flushes where its position is a flush position, and lists the reports that
     /// are due with it.
-    pub fn take<B: Bay>(&mut self, bay: &mut B, key: u64) -> Result<(), TakeFault>
+    pub fn take(&mut self, bay: &mut B, key: u64) -> Result<(), TakeFault>
         requires still { self.old.listing.closed ≡ false }
         requires own { cone_of self.old.listing.settings key ≡ self.old.listing.cone }
         requires fits { length self.old.listing.events < capacity self.old.listing.settings }
@@ -235,7 +250,7 @@ impl<T: CountTable> Tally<T> {
     }
 
     /// Ends the cone: scans all levels, and lists the reports that are left. It writes nothing.
-    pub fn finish<B: Bay>(&mut self, bay: &mut B) -> Result<(), TakeFault>
+    pub fn finish(&mut self, bay: &mut B) -> Result<(), TakeFault>
         requires still { self.old.listing.closed ≡ false }
         requires counted { IsCounted self.old }
         ensures { CountsEnd B.Bay bay.old bay.new self.old self.new result }

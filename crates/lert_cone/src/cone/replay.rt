@@ -1,6 +1,6 @@
 //! A cone that is given the packets of its journal again.
 
-ghost use Rattle.std.specs.Prelude.{◌≡◌, ◌≢◌, ◌⊎◌, ℕ, ◌+◌, ◌<◌, ◌≤◌, ◌^◌, if◌then◌else◌, max, List, [], ◌∷◌, ◌++◌, length, All, None, Err, IfErr, IfNone, IfOk, IfSome, IsErrOf, OnErr, OnOk};
+ghost use Rattle.std.specs.Prelude.{◌≡◌, ◌≢◌, ◌⊎◌, ℕ, ◌+◌, ◌-◌, ◌<◌, ◌≤◌, ◌^◌, if◌then◌else◌, max, List, [], ◌∷◌, ◌++◌, length, All, None, Err, IfErr, IfNone, IfOk, IfSome, IsErrOf, OnErr, OnOk};
 ghost use Rattle.lert_base.specs.Packet.{Packet, events_of};
 ghost use Rattle.lert_bay.specs.Files.{Files, IfTold};
 ghost use Rattle.lert_bay.specs.Kept.{CallsBay};
@@ -11,7 +11,7 @@ ghost use Rattle.lert_levels.specs.Flushed.{InNamed};
 ghost use Rattle.lert_reports.specs.Log.{HasLog, most_record};
 ghost use Rattle.lert_reports.specs.LogText.{LogRecord};
 ghost use Rattle.lert_cone.specs.Framed.{HoldsSome};
-ghost use Rattle.lert_cone.specs.Marks.{unmarked};
+ghost use Rattle.lert_cone.specs.Marks.{marked_from};
 ghost use Rattle.lert_cone.specs.Reads.{replay_cost};
 ghost use Rattle.lert_cone.specs.Replay.{IsLastOf};
 ghost use Rattle.lert_cone.specs.Replays.{BringsNoFlush, HasEnded, HasTaken, IsUnwritten, LeavesBehind, GoesOn, Replays, WhyRefused, broken_after};
@@ -19,6 +19,7 @@ ghost use Rattle.lert_cone.specs.Room.{IsPointOf, IsRestored};
 ghost use Rattle.lert_cone.specs.Sound.{IsSound, StaysSound};
 ghost use Rattle.lert_cone.specs.Stands.{IsSameCone, StandsFor, WasSound};
 ghost use Rattle.lert_cone.specs.Tally.{Shows};
+ghost use Rattle.lert_cone.specs.Unread.{unread};
 ghost use Rattle.lert_cone.specs.Wrote.{IsShutIfTold, LeavesAlone};
 
 use crate::cone::{Cone, broken_by};
@@ -31,16 +32,17 @@ use crate::report_log::ReportLog;
 use crate::room::ConeRoom;
 use crate::state::ConeState;
 use crate::tally::Tally;
+use crate::unread::Unread;
 use lert_base::CountTable;
 use lert_bay::{Bay, JOURNAL};
 use lert_gatelog::GateLog;
-use lert_reports::{LogPoint, OFFSET, greatest_record};
+use lert_reports::{LogPoint, greatest_record};
 use std::snapshot::Snapshot;
 
 impl<B: Bay, T: CountTable> Cone<B, T> {
-    /// A cone over the files of a stopped run, from whose log the room has the levels and the reports. It has no key yet: it is
-    /// to be given the records of its journal one by one, from the first one on, whatever record `last` names, by `replay`, and
-    /// then `ready`. Makes no call of the bay and takes no memory.
+    /// A cone over the files of a stopped run, from whose log the room has the levels and the reports. It is to be given the
+    /// records of its journal one by one, from the one on that `last` names, by `replay`, and then `ready`. The keys before that
+    /// record it has without reading them: level 0 begins in it. Makes no call of the bay and takes no memory.
     pub fn adopt(room: ConeRoom<T>, cone: u32, bay: B, last: LogPoint) -> Cone<B, T>
         requires named { cone < 2 ^ room.settings.cone_bits }
         requires point { IsPointOf room.settings last }
@@ -54,22 +56,22 @@ impl<B: Bay, T: CountTable> Cone<B, T> {
         ensures made { result ≡ record {
           bay = bay;
           made = bay;
-          listing = record { settings = room.settings; cone = cone; events = []; closed = last.closed };
+          listing = record { settings = room.settings; cone = cone; events = unread room.settings cone (last.first - 1) (B.files bay); closed = last.closed };
           rows = room.levels.rows;
           reports = room.store.reports;
-          events = 0;
+          events = last.first - 1;
           state = ConeState.Replaying;
           over = None;
-          gate = 32;
-          log = record { gate = last.log_end; most = most_record room.settings; named = length room.store.reports; marks = unmarked room.settings };
+          gate = last.offset;
+          log = record { gate = last.log_end; most = most_record room.settings; named = length room.store.reports; marks = marked_from room.settings (last.first - 1) };
           last = last;
         } }
 
         // Where these files are sound for a list, and the point and the room say what their log does, the cone is on its way
-        // through that list's journal.
+        // through that list's journal: it has the keys of the first packets.
         ensures replays { IfTold (B.files bay) (λ seen. (records : List LogRecord) → HasLog room.settings cone (seen LOG) records last.log_end →
-            IsLastOf room.settings last.n0 last.closed room.levels.rows room.store.reports records →
-            (h : List Packet) → IsSound room.settings cone h seen → Replays B.files B.leaves result h []) }
+            IsLastOf room.settings last.n0 last.offset last.first last.closed room.levels.rows room.store.reports records →
+            (h : List Packet) → IsSound room.settings cone h seen → (done : List Packet) × Replays B.files B.leaves result h done) }
     {
         let ConeRoom {
             settings,
@@ -79,14 +81,17 @@ impl<B: Bay, T: CountTable> Cone<B, T> {
             entry,
             buffer,
         } = room;
-        let journal = GateLog::at_gate(JOURNAL, OFFSET, greatest_payload(&settings));
+        let events = last.first - 1;
+        let journal = GateLog::at_gate(JOURNAL, last.offset, greatest_payload(&settings));
         let log = ReportLog::at(
             &settings,
             last.log_end,
             greatest_record(&settings),
             store.len(),
+            events,
         );
-        let tally = Tally::adopted(&settings, cone, zero, levels, store, last.closed);
+        let unread = Unread::of(&bay, &settings, cone, events);
+        let tally = Tally::adopted(&settings, cone, zero, levels, store, unread, last.closed);
         Cone {
             made: Snapshot::of(&bay),
             bay,
@@ -96,7 +101,7 @@ impl<B: Bay, T: CountTable> Cone<B, T> {
             last,
             entry,
             buffer,
-            events: 0,
+            events,
             state: ConeState::Replaying,
             over: None,
         }
@@ -196,7 +201,7 @@ impl<B: Bay, T: CountTable> Cone<B, T> {
         requires shut { IsShutIfTold (B.files self.old.bay) (B.leaves self.old.bay) JOURNAL end }
         ensures value { self.new ≡ record self.old { state = (if self.old.last.closed then ConeState.Finished else ConeState.Running) } }
 
-        // It stands for a list whose keys it has as many of, where it took its packets, if the files were sound for one.
+        // It stands for a list whose keys it has as many of, where it is behind its packets, if the files were sound for one.
         ensures stands_for { (h : List Packet) → All (λ packet. 0 < length packet.keys) h → length (events_of h) ≡ self.old.events →
             (WasSound B.files self.old → IfTold (B.files self.old.bay) (λ _. Replays B.files B.leaves self.old h h)) →
             StandsFor B.files B.leaves B.faults self.new h }

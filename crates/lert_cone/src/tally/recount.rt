@@ -9,10 +9,11 @@ ghost use Rattle.lert_cone.specs.Tally.{IsRecounted};
 use crate::tally::Tally;
 use crate::tally::flush::flush_behind;
 use lert_base::CountTable;
+use lert_bay::Bay;
 use lert_levels::Zero;
 use lert_mixer::tail_of;
 
-impl<T: CountTable> Tally<T> {
+impl<B: Bay, T: CountTable> Tally<B, T> {
     /// Takes keys again at positions up to `n0`, after which the rows and the reports stand: those up to the edge that level 0
     /// has there are only numbered, and those above it are counted in level 0.
     ///

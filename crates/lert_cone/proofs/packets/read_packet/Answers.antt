@@ -1,10 +1,9 @@
-use Rattle.std.proofs.Common.{◌≡◌, ◌∙◌, ℕ, ◌+◌, ◌<◌, ◌^◌, All, Bool, List, Ok, true, false, ap, arith, inl, inr, length, rules, subst, sym}
+use Rattle.std.proofs.Common.{◌≡◌, ◌∙◌, ℕ, ◌+◌, ◌<◌, ◌^◌, All, List, true, false, ap, arith, inl, inr, length, rules, subst, sym}
 use Rattle.std.proofs.lemmas.Result.{err_from_is_err_and}
 use Rattle.lert_base.specs.Entries.{packet_of}
 use Rattle.lert_base.specs.Packet.{Packet}
 use Rattle.lert_bay.specs.Files.{Files}
 use Rattle.lert_gatelog.specs.Gated.{IsOpen, Log}
-use Rattle.lert_journal.specs.Cost.{entry_cost}
 use Rattle.lert_journal.specs.Journal.{HoldsPacket}
 use Rattle.lert_journal.specs.Payload.{IsJournaled, payload_of}
 use Rattle.lert_spec.specs.declared.numbers.Numbers.{Numbers}

@@ -63,7 +63,6 @@ replay_keys-requires g c =
       };
     }
 
--- not all keys are taken
 pub invariant_of-self : goal.invariant_of-self
 invariant_of-self g c =
     let len_is : c.self.inside.buffer.len ≡ length c.self.inside.buffer.items = omega (arith, c.self.inside.buffer.ok) in
@@ -112,7 +111,6 @@ pub returns-in-Err-replay_keys-clause-journal : goal.returns-in-Err-replay_keys-
 returns-in-Err-replay_keys-clause-journal g c = rw (← c.self.view_is)
     (alone_behind (bays g) (lawful g) c.self.inside.bay c.read_packet.new.bay _ _ _ _ _ c.read_packet.ensures.keeps 0 c.replay_keys.new.bay c.replay_keys.ensures.keeps.journal)
 
--- the packet is taken
 pub invariant_of-self-in-Ok-true : goal.invariant_of-self-in-Ok-true
 invariant_of-self-in-Ok-true g c =
     let replaying : c.self.inside.state ≡ Replaying = subst (λ (v : Standing g.row.B.Denot). v.state ≡ Replaying) (sym c.self.view_is) c.requires.replaying in

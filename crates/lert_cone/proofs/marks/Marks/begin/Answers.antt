@@ -40,6 +40,9 @@ pub returns-clause-passed : goal.returns-clause-passed
 returns-clause-passed c =
     subst (λ (v : Marked). c.self.inside.next ≡ bins_begun v.settings v.passed * span v.settings 0 + 1) c.self.view_is c.self.invariant.next_is
 
+pub returns-clause-from : goal.returns-clause-from
+returns-clause-from c = ap (λ (v : Marked). v.from) c.self.view_is
+
 pub returns-clause-newest : goal.returns-clause-newest
 returns-clause-newest c =
     subst (λ (xs : List Mark). get_or (set xs 0 c.args.mark) 0 first_mark ≡ c.args.mark) (sym c.rotate_right.ensures.after) (newest_turned c.self.inside.marks c.args.mark c.self.invariant.counted)

@@ -12,7 +12,7 @@ edge-edge-requires-clause-events c = c.self.invariant.within
 pub returns-then-bins-eq0 : goal.returns-then-bins-eq0
 returns-then-bins-eq0 c =
     let s = c.self.inside.settings in
-    let marked : Marked = record { settings = s; marks = c.self.inside.marks; passed = c.self.inside.passed } in
+    let marked : Marked = record { settings = s; marks = c.self.inside.marks; passed = c.self.inside.passed; from = c.self.inside.from } in
     let bins_are = oldest_read s c.self.invariant.valid marked c.self.inside.next c.edge-edge.result _ refl c.self.invariant.next_is c.edge-edge.ensures
     (ap (λ w. (c.self.inside.next - 1 - c.edge-edge.result) / w) c.span.ensures.value) in
     oldest_at_none s c.self.invariant.valid marked refl (sym bins_are ∙ c.if-bins-eq0.true) ∙ ap oldest_mark c.self.view_is
@@ -20,7 +20,7 @@ returns-then-bins-eq0 c =
 pub returns : goal.returns
 returns c =
     let s = c.self.inside.settings in
-    let marked : Marked = record { settings = s; marks = c.self.inside.marks; passed = c.self.inside.passed } in
+    let marked : Marked = record { settings = s; marks = c.self.inside.marks; passed = c.self.inside.passed; from = c.self.inside.from } in
     let bins = (c.self.inside.next - 1 - c.edge-edge.result) / c.span.result in
     let bins_are : bins ≡ bins_begun s c.self.inside.passed - steps s 0 c.self.inside.passed =
     oldest_read s c.self.invariant.valid marked c.self.inside.next c.edge-edge.result bins refl c.self.invariant.next_is c.edge-edge.ensures

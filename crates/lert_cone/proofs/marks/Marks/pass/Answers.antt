@@ -17,7 +17,7 @@ begin-requires c =
 pub bins-preserved : goal.bins-preserved
 bins-preserved c =
     passing_more c.args.last c.args.mark c.args.self.now c.bins.self c.next_first.ensures.valid c.bins.invariant c.begin.new.self (omega (arith, c.next_first.ensures.place, c.bins-test.true))
-    c.begin.ensures.settings c.begin.ensures.passed c.begin.ensures.newest c.begin.ensures.others
+    c.begin.ensures.settings c.begin.ensures.passed c.begin.ensures.from c.begin.ensures.newest c.begin.ensures.others
 
 pub bins-smaller : goal.bins-smaller
 bins-smaller c =

@@ -1,16 +1,26 @@
-use Rattle.std.proofs.Common.{ap, subst}
+use Rattle.std.proofs.Common.{◌≡◌, ◌≤◌, ◌++◌, ◌∙◌, List, ℕ, append-nil, ap, length, subst, sym}
 use Rattle.lert_spec.specs.Limits.{IsValid}
+use Rattle.lert_spec.proofs.LookLaws.{AreKeys}
+use Rattle.lert_spec.proofs.TailLaws.{AreOfCone}
+use Rattle.lert_spec.specs.Edges.{edge}
 use Rattle.lert_cone.specs.Due.{Dues}
 use Rattle.lert_cone.proofs.RecountLaws.{recounted_none}
 use Rattle.lert_cone.proofs.tally.Tally.adopted.Goals as goal
 
+pub returns-clause-listing : goal.returns-clause-listing
+returns-clause-listing g c =
+    ap (λ (keys : List ℕ). record { settings = c.args.settings.now; cone = c.args.cone; events = keys; closed = c.args.closed })
+    (ap (λ (keys : List ℕ). c.args.unread ++ keys) c.new-2.ensures ∙ append-nil c.args.unread)
+
 pub returns-clause-recounted : goal.returns-clause-recounted
-returns-clause-recounted g c = λ n0 fits at.
-    let valid = subst IsValid c.numbers-bins.ensures.value c.numbers-bins.ensures.valid in
+returns-clause-recounted g c = λ n0 fits at few.
+    let valid = subst IsValid c.numbers-valid.ensures.value c.numbers-valid.ensures.valid in
+    let is : c.args.unread ≡ c.args.unread ++ c.new-2.result = sym (ap (λ (keys : List ℕ). c.args.unread ++ keys) c.new-2.ensures ∙ append-nil c.args.unread) in
     recounted_none (record {
-      listing = record { settings = c.args.settings.now; cone = c.args.cone; events = c.new-2.result; closed = c.args.closed };
+      listing = record { settings = c.args.settings.now; cone = c.args.cone; events = c.args.unread ++ c.new-2.result; closed = c.args.closed };
       young = c.args.zero;
       rows = c.args.levels.rows;
       due = c.new.result;
     })
-    n0 valid c.new-2.ensures fits c.requires.zero at c.requires.are (ap (λ (d : Dues). d.settings) c.new.ensures) (ap (λ (d : Dues). d.cone) c.new.ensures)
+    n0 valid (subst (λ (keys : List ℕ). length keys ≤ edge c.args.settings.now 0 n0) is few) fits c.requires.zero at c.requires.are (subst AreKeys is c.requires.keys)
+    (subst (AreOfCone c.args.settings.now c.args.cone) is c.requires.keys_own) (ap (λ (d : Dues). d.settings) c.new.ensures) (ap (λ (d : Dues). d.cone) c.new.ensures)

@@ -1,4 +1,4 @@
-use Rattle.std.proofs.Common.{◌≡◌, false, Option, ap, sym, ◌∙◌, subst}
+use Rattle.std.proofs.Common.{◌≡◌, ◌++◌, false, Option, ap, sym, ◌∙◌, subst}
 use Rattle.lert_bay.specs.Kept.{Bays}
 use Rattle.lert_bay.proofs.KeptLaws.{IsLawful}
 use Rattle.lert_cone.specs.Due.{Dues, started}
@@ -24,7 +24,7 @@ lawful g = record { as_read = g.met.B.Bay.as_read; since_now = g.met.B.Bay.since
 pub returns-in_err-result : goal.returns-in_err-result
 returns-in_err-result g c =
     let counted : IsCounted (record {
-      listing = record { settings = c.self.inside.settings; cone = c.self.inside.cone; events = c.self.inside.taken; closed = c.self.inside.closed };
+      listing = record { settings = c.self.inside.settings; cone = c.self.inside.cone; events = c.self.inside.unread ++ c.self.inside.taken; closed = c.self.inside.closed };
       young = c.self.inside.zero;
       rows = c.self.inside.levels.rows;
       due = due_in c.self.inside.due;
@@ -33,7 +33,7 @@ returns-in_err-result g c =
     c.begin.ensures.begun ∙ ap (λ (d : Option Dues). started (due_in d) c.self.inside.len) (sym c.in-Some.is ∙ c.take.ensures.value) in
     rw (← c.self.view_is) (not_ended (bays g) (lawful g)
     (record {
-      listing = record { settings = c.self.inside.settings; cone = c.self.inside.cone; events = c.self.inside.taken; closed = c.self.inside.closed };
+      listing = record { settings = c.self.inside.settings; cone = c.self.inside.cone; events = c.self.inside.unread ++ c.self.inside.taken; closed = c.self.inside.closed };
       young = c.self.inside.zero;
       rows = c.self.inside.levels.rows;
       due = due_in c.self.inside.due;
@@ -45,7 +45,7 @@ returns-in_err-result g c =
 pub returns-then-is_full : goal.returns-then-is_full
 returns-then-is_full g c =
     let counted : IsCounted (record {
-      listing = record { settings = c.self.inside.settings; cone = c.self.inside.cone; events = c.self.inside.taken; closed = c.self.inside.closed };
+      listing = record { settings = c.self.inside.settings; cone = c.self.inside.cone; events = c.self.inside.unread ++ c.self.inside.taken; closed = c.self.inside.closed };
       young = c.self.inside.zero;
       rows = c.self.inside.levels.rows;
       due = due_in c.self.inside.due;
@@ -56,7 +56,7 @@ returns-then-is_full g c =
     let scans = rw c.in_ok-result.was at c.scan_into-due.ensures in
     rw (← c.self.view_is) (no_room_left (bays g) (lawful g)
     (record {
-      listing = record { settings = c.self.inside.settings; cone = c.self.inside.cone; events = c.self.inside.taken; closed = c.self.inside.closed };
+      listing = record { settings = c.self.inside.settings; cone = c.self.inside.cone; events = c.self.inside.unread ++ c.self.inside.taken; closed = c.self.inside.closed };
       young = c.self.inside.zero;
       rows = c.self.inside.levels.rows;
       due = due_in c.self.inside.due;
@@ -68,7 +68,7 @@ returns-then-is_full g c =
 pub returns : goal.returns
 returns g c =
     let counted : IsCounted (record {
-      listing = record { settings = c.self.inside.settings; cone = c.self.inside.cone; events = c.self.inside.taken; closed = c.self.inside.closed };
+      listing = record { settings = c.self.inside.settings; cone = c.self.inside.cone; events = c.self.inside.unread ++ c.self.inside.taken; closed = c.self.inside.closed };
       young = c.self.inside.zero;
       rows = c.self.inside.levels.rows;
       due = due_in c.self.inside.due;
@@ -79,7 +79,7 @@ returns g c =
     let scans = rw c.in_ok-result.was at c.scan_into-due.ensures in
     rw (← c.self.view_is) (all_counted (bays g) (lawful g)
     (record {
-      listing = record { settings = c.self.inside.settings; cone = c.self.inside.cone; events = c.self.inside.taken; closed = c.self.inside.closed };
+      listing = record { settings = c.self.inside.settings; cone = c.self.inside.cone; events = c.self.inside.unread ++ c.self.inside.taken; closed = c.self.inside.closed };
       young = c.self.inside.zero;
       rows = c.self.inside.levels.rows;
       due = due_in c.self.inside.due;

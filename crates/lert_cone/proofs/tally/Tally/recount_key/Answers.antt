@@ -1,4 +1,4 @@
-use Rattle.std.proofs.Common.{◌≡◌, ◌∙◌, ℕ, ◌+◌, ◌<◌, List, suc, length, ap, sym, subst, arith, cond, ltb, refl, [], ◌∷◌, length-append}
+use Rattle.std.proofs.Common.{◌≡◌, ◌∙◌, ℕ, ◌+◌, ◌<◌, List, suc, length, ap, sym, subst, arith, cond, ltb, refl, [], ◌∷◌, ◌++◌, append_assoc, length-append}
 use Rattle.lert_spec.specs.declared.numbers.Numbers.{Numbers}
 use Rattle.lert_rows.specs.Young.{IsNextPosition, with_event}
 use Rattle.lert_spec.specs.Edges.{edge}
@@ -11,14 +11,14 @@ use Rattle.lert_cone.proofs.tally.Tally.recount_key.Goals as goal
 pub count_again-requires-clause-position : goal.count_again-requires-clause-position
 count_again-requires-clause-position g c =
     let t : Tallied = record {
-      listing = record { settings = c.self.inside.settings; cone = c.self.inside.cone; events = c.self.inside.taken; closed = c.self.inside.closed };
+      listing = record { settings = c.self.inside.settings; cone = c.self.inside.cone; events = c.self.inside.unread ++ c.self.inside.taken; closed = c.self.inside.closed };
       young = c.self.inside.zero;
       rows = c.self.inside.levels.rows;
       due = due_in c.self.inside.due;
     } in
     let recounted : IsRecounted t c.args.n0 = subst (λ (v : Tallied). IsRecounted v c.args.n0) (sym c.self.view_is) c.requires.recounted in
-    let before : length c.self.inside.taken < c.args.n0 = subst (λ (v : Tallied). length v.listing.events < c.args.n0) (sym c.self.view_is) c.requires.within in
-    let m_is : c.self.inside.len + 1 ≡ suc (length c.self.inside.taken) = omega (arith, c.self.invariant.len_is) in
+    let before : length (c.self.inside.unread ++ c.self.inside.taken) < c.args.n0 = subst (λ (v : Tallied). length v.listing.events < c.args.n0) (sym c.self.view_is) c.requires.within in
+    let m_is : c.self.inside.len + 1 ≡ suc (length (c.self.inside.unread ++ c.self.inside.taken)) = omega (arith, c.self.invariant.len_is) in
     let from_is : c.args.from ≡ edge c.self.inside.settings 0 c.args.n0 =
     subst (λ (v : Tallied). c.args.from ≡ edge v.listing.settings 0 c.args.n0) (sym c.self.view_is) c.requires.from in
     let from_young : c.args.from ≡ edge c.self.inside.zero.settings 0 c.args.n0 = from_is ∙ ap (λ (v : Numbers). edge v 0 c.args.n0) (sym c.self.invariant.young_settings) in
@@ -33,21 +33,28 @@ invariant_of-self g c = record {
       ∙ c.self.invariant.young_settings;
   levels_settings = c.self.invariant.levels_settings;
   there = c.self.invariant.there;
-  len_is = omega (arith, c.self.invariant.len_is, ap length c.push.ensures, length-append c.self.inside.taken (c.args.key ∷ []));
+  len_is = omega (
+    arith,
+    c.self.invariant.len_is,
+    length-append c.self.inside.unread c.self.inside.taken,
+    ap length c.push.ensures,
+    length-append c.self.inside.taken (c.args.key ∷ []),
+    length-append c.self.inside.unread c.push.new.self,
+  );
   flush_is = flush_next c.self.inside.settings c.self.inside.settings refl c.self.invariant.valid c.self.inside.len c.flush_behind-flush.result c.flush_behind-flush.ensures;
 }
 
 pub returns-clause-recounted : goal.returns-clause-recounted
 returns-clause-recounted g c =
     let t : Tallied = record {
-      listing = record { settings = c.self.inside.settings; cone = c.self.inside.cone; events = c.self.inside.taken; closed = c.self.inside.closed };
+      listing = record { settings = c.self.inside.settings; cone = c.self.inside.cone; events = c.self.inside.unread ++ c.self.inside.taken; closed = c.self.inside.closed };
       young = c.self.inside.zero;
       rows = c.self.inside.levels.rows;
       due = due_in c.self.inside.due;
     } in
     let recounted : IsRecounted t c.args.n0 = subst (λ (v : Tallied). IsRecounted v c.args.n0) (sym c.self.view_is) c.requires.recounted in
-    let before : length c.self.inside.taken < c.args.n0 = subst (λ (v : Tallied). length v.listing.events < c.args.n0) (sym c.self.view_is) c.requires.within in
-    let m_is : c.self.inside.len + 1 ≡ suc (length c.self.inside.taken) = omega (arith, c.self.invariant.len_is) in
+    let before : length (c.self.inside.unread ++ c.self.inside.taken) < c.args.n0 = subst (λ (v : Tallied). length v.listing.events < c.args.n0) (sym c.self.view_is) c.requires.within in
+    let m_is : c.self.inside.len + 1 ≡ suc (length (c.self.inside.unread ++ c.self.inside.taken)) = omega (arith, c.self.invariant.len_is) in
     let own : cone_of c.self.inside.settings c.args.key ≡ c.self.inside.cone =
     subst (λ (v : Tallied). cone_of v.listing.settings c.args.key ≡ v.listing.cone) (sym c.self.view_is) c.requires.own in
     let from_is : c.args.from ≡ edge c.self.inside.settings 0 c.args.n0 =
@@ -57,7 +64,7 @@ returns-clause-recounted g c =
     c.count_again.new.zero
     (c.count_again.ensures ∙ ap (λ e. cond (ltb e (c.self.inside.len + 1)) (with_event c.self.inside.zero c.tail_of-tail.result (c.self.inside.len + 1)) c.self.inside.zero) from_young)
     (record {
-      listing = record { settings = c.self.inside.settings; cone = c.self.inside.cone; events = c.push.new.self; closed = c.self.inside.closed };
+      listing = record { settings = c.self.inside.settings; cone = c.self.inside.cone; events = c.self.inside.unread ++ c.push.new.self; closed = c.self.inside.closed };
       young = c.count_again.new.zero;
       rows = c.self.inside.levels.rows;
       due = due_in c.self.inside.due;
@@ -67,4 +74,4 @@ returns-clause-recounted g c =
       young = c.count_again.new.zero;
       rows = c.self.inside.levels.rows;
       due = due_in c.self.inside.due;
-    }) c.push.ensures)
+    }) (ap (λ keys. c.self.inside.unread ++ keys) c.push.ensures ∙ sym (append_assoc c.self.inside.unread c.self.inside.taken (c.args.key ∷ []))))

@@ -1,4 +1,4 @@
-use Rattle.std.proofs.Common.{◌≡◌, ◌+◌, ◌<◌, suc, false, length, sym, ◌∙◌, subst, arith}
+use Rattle.std.proofs.Common.{◌≡◌, ◌+◌, ◌<◌, ◌++◌, ◌∷◌, [], suc, false, length, ap, sym, ◌∙◌, subst, arith, append_assoc}
 use Rattle.lert_spec.specs.Edges.{capacity}
 use Rattle.lert_spec.specs.Mix.{cone_of}
 use Rattle.lert_cone.specs.Due.{started}
@@ -30,29 +30,29 @@ lawful g = record { as_read = g.met.B.Bay.as_read; since_now = g.met.B.Bay.since
 pub add-requires-clause-position : goal.add-requires-clause-position
 add-requires-clause-position g c =
     let counted : IsCounted (record {
-      listing = record { settings = c.self.inside.settings; cone = c.self.inside.cone; events = c.self.inside.taken; closed = c.self.inside.closed };
+      listing = record { settings = c.self.inside.settings; cone = c.self.inside.cone; events = c.self.inside.unread ++ c.self.inside.taken; closed = c.self.inside.closed };
       young = c.self.inside.zero;
       rows = c.self.inside.levels.rows;
       due = due_in c.self.inside.due;
     }) = subst (λ (v : Tallied). IsCounted v) (sym c.self.view_is) c.requires.counted in
-    let fits : length c.self.inside.taken < capacity c.self.inside.settings = subst (λ (v : Tallied). length v.listing.events < capacity v.listing.settings) (sym c.self.view_is) c.requires.fits
+    let fits : length (c.self.inside.unread ++ c.self.inside.taken) < capacity c.self.inside.settings = subst (λ (v : Tallied). length v.listing.events < capacity v.listing.settings) (sym c.self.view_is) c.requires.fits
     in
-    let m_is : c.self.inside.len + 1 ≡ suc (length c.self.inside.taken) = omega (arith, c.self.invariant.len_is) in
+    let m_is : c.self.inside.len + 1 ≡ suc (length (c.self.inside.unread ++ c.self.inside.taken)) = omega (arith, c.self.invariant.len_is) in
     subst (IsNextPosition c.self.inside.zero) (sym m_is)
-    (next_position c.self.inside.settings c.self.invariant.valid c.self.inside.zero c.self.inside.taken c.args.key c.self.invariant.young_settings counted.from counted.to counted.bins.is fits)
+    (next_position c.self.inside.settings c.self.invariant.valid c.self.inside.zero (c.self.inside.unread ++ c.self.inside.taken) c.args.key c.self.invariant.young_settings counted.from counted.to counted.bins.is fits)
 
 pub bring-requires-clause-rows : goal.bring-requires-clause-rows
 bring-requires-clause-rows g c =
     let t : Tallied = record {
-      listing = record { settings = c.self.inside.settings; cone = c.self.inside.cone; events = c.self.inside.taken; closed = c.self.inside.closed };
+      listing = record { settings = c.self.inside.settings; cone = c.self.inside.cone; events = c.self.inside.unread ++ c.self.inside.taken; closed = c.self.inside.closed };
       young = c.self.inside.zero;
       rows = c.self.inside.levels.rows;
       due = due_in c.self.inside.due;
     } in
     let counted : IsCounted t = subst (λ (v : Tallied). IsCounted v) (sym c.self.view_is) c.requires.counted in
-    let fits : length c.self.inside.taken < capacity c.self.inside.settings = subst (λ (v : Tallied). length v.listing.events < capacity v.listing.settings) (sym c.self.view_is) c.requires.fits
+    let fits : length (c.self.inside.unread ++ c.self.inside.taken) < capacity c.self.inside.settings = subst (λ (v : Tallied). length v.listing.events < capacity v.listing.settings) (sym c.self.view_is) c.requires.fits
     in
-    let m_is : c.self.inside.len + 1 ≡ suc (length c.self.inside.taken) = omega (arith, c.self.invariant.len_is) in
+    let m_is : c.self.inside.len + 1 ≡ suc (length (c.self.inside.unread ++ c.self.inside.taken)) = omega (arith, c.self.invariant.len_is) in
     rows_before t c.self.inside.levels.settings c.self.invariant.levels_settings c.self.invariant.valid c.self.invariant.named c.self.invariant.young_settings counted fits c.args.key
     c.tail_of-tail.result (c.self.inside.len + 1) c.tail_of-tail.ensures.value m_is c.add.new.self c.add.ensures
 
@@ -67,19 +67,19 @@ bring-requires-clause-stays g c = next_stays c.self.inside.settings c.self.insid
 pub returns-in_err-bring : goal.returns-in_err-bring
 returns-in_err-bring g c =
     let counted : IsCounted (record {
-      listing = record { settings = c.self.inside.settings; cone = c.self.inside.cone; events = c.self.inside.taken; closed = c.self.inside.closed };
+      listing = record { settings = c.self.inside.settings; cone = c.self.inside.cone; events = c.self.inside.unread ++ c.self.inside.taken; closed = c.self.inside.closed };
       young = c.self.inside.zero;
       rows = c.self.inside.levels.rows;
       due = due_in c.self.inside.due;
     }) = subst (λ (v : Tallied). IsCounted v) (sym c.self.view_is) c.requires.counted in
-    let fits : length c.self.inside.taken < capacity c.self.inside.settings = subst (λ (v : Tallied). length v.listing.events < capacity v.listing.settings) (sym c.self.view_is) c.requires.fits
+    let fits : length (c.self.inside.unread ++ c.self.inside.taken) < capacity c.self.inside.settings = subst (λ (v : Tallied). length v.listing.events < capacity v.listing.settings) (sym c.self.view_is) c.requires.fits
     in
-    let m_is : c.self.inside.len + 1 ≡ suc (length c.self.inside.taken) = omega (arith, c.self.invariant.len_is) in
+    let m_is : c.self.inside.len + 1 ≡ suc (length (c.self.inside.unread ++ c.self.inside.taken)) = omega (arith, c.self.invariant.len_is) in
     let start_is : (due_in c.begin.new.due) ≡ started (due_in c.self.inside.due) (c.self.inside.len + 1) =
     c.begin.ensures.begun in
     rw (← c.self.view_is) (not_counted (bays g) (lawful g)
     (record {
-      listing = record { settings = c.self.inside.settings; cone = c.self.inside.cone; events = c.self.inside.taken; closed = c.self.inside.closed };
+      listing = record { settings = c.self.inside.settings; cone = c.self.inside.cone; events = c.self.inside.unread ++ c.self.inside.taken; closed = c.self.inside.closed };
       young = c.self.inside.zero;
       rows = c.self.inside.levels.rows;
       due = due_in c.self.inside.due;
@@ -92,14 +92,14 @@ returns-in_err-bring g c =
 pub returns-then-is_full : goal.returns-then-is_full
 returns-then-is_full g c =
     let counted : IsCounted (record {
-      listing = record { settings = c.self.inside.settings; cone = c.self.inside.cone; events = c.self.inside.taken; closed = c.self.inside.closed };
+      listing = record { settings = c.self.inside.settings; cone = c.self.inside.cone; events = c.self.inside.unread ++ c.self.inside.taken; closed = c.self.inside.closed };
       young = c.self.inside.zero;
       rows = c.self.inside.levels.rows;
       due = due_in c.self.inside.due;
     }) = subst (λ (v : Tallied). IsCounted v) (sym c.self.view_is) c.requires.counted in
-    let fits : length c.self.inside.taken < capacity c.self.inside.settings = subst (λ (v : Tallied). length v.listing.events < capacity v.listing.settings) (sym c.self.view_is) c.requires.fits
+    let fits : length (c.self.inside.unread ++ c.self.inside.taken) < capacity c.self.inside.settings = subst (λ (v : Tallied). length v.listing.events < capacity v.listing.settings) (sym c.self.view_is) c.requires.fits
     in
-    let m_is : c.self.inside.len + 1 ≡ suc (length c.self.inside.taken) = omega (arith, c.self.invariant.len_is) in
+    let m_is : c.self.inside.len + 1 ≡ suc (length (c.self.inside.unread ++ c.self.inside.taken)) = omega (arith, c.self.invariant.len_is) in
     let start_is : (due_in c.begin.new.due) ≡ started (due_in c.self.inside.due) (c.self.inside.len + 1) =
     c.begin.ensures.begun in
     let own : cone_of c.self.inside.settings c.args.key ≡ c.self.inside.cone =
@@ -108,7 +108,7 @@ returns-then-is_full g c =
     let brings = rw c.in_ok-bring.was at c.bring.ensures.brings in
     rw (← c.self.view_is) (no_room (bays g) (lawful g)
     (record {
-      listing = record { settings = c.self.inside.settings; cone = c.self.inside.cone; events = c.self.inside.taken; closed = c.self.inside.closed };
+      listing = record { settings = c.self.inside.settings; cone = c.self.inside.cone; events = c.self.inside.unread ++ c.self.inside.taken; closed = c.self.inside.closed };
       young = c.self.inside.zero;
       rows = c.self.inside.levels.rows;
       due = due_in c.self.inside.due;
@@ -121,14 +121,14 @@ returns-then-is_full g c =
 pub returns : goal.returns
 returns g c =
     let counted : IsCounted (record {
-      listing = record { settings = c.self.inside.settings; cone = c.self.inside.cone; events = c.self.inside.taken; closed = c.self.inside.closed };
+      listing = record { settings = c.self.inside.settings; cone = c.self.inside.cone; events = c.self.inside.unread ++ c.self.inside.taken; closed = c.self.inside.closed };
       young = c.self.inside.zero;
       rows = c.self.inside.levels.rows;
       due = due_in c.self.inside.due;
     }) = subst (λ (v : Tallied). IsCounted v) (sym c.self.view_is) c.requires.counted in
-    let fits : length c.self.inside.taken < capacity c.self.inside.settings = subst (λ (v : Tallied). length v.listing.events < capacity v.listing.settings) (sym c.self.view_is) c.requires.fits
+    let fits : length (c.self.inside.unread ++ c.self.inside.taken) < capacity c.self.inside.settings = subst (λ (v : Tallied). length v.listing.events < capacity v.listing.settings) (sym c.self.view_is) c.requires.fits
     in
-    let m_is : c.self.inside.len + 1 ≡ suc (length c.self.inside.taken) = omega (arith, c.self.invariant.len_is) in
+    let m_is : c.self.inside.len + 1 ≡ suc (length (c.self.inside.unread ++ c.self.inside.taken)) = omega (arith, c.self.invariant.len_is) in
     let start_is : (due_in c.begin.new.due) ≡ started (due_in c.self.inside.due) (c.self.inside.len + 1) =
     c.begin.ensures.begun in
     let own : cone_of c.self.inside.settings c.args.key ≡ c.self.inside.cone =
@@ -137,7 +137,7 @@ returns g c =
     let brings = rw c.in_ok-bring.was at c.bring.ensures.brings in
     rw (← c.self.view_is) (key_counted (bays g) (lawful g)
     (record {
-      listing = record { settings = c.self.inside.settings; cone = c.self.inside.cone; events = c.self.inside.taken; closed = c.self.inside.closed };
+      listing = record { settings = c.self.inside.settings; cone = c.self.inside.cone; events = c.self.inside.unread ++ c.self.inside.taken; closed = c.self.inside.closed };
       young = c.self.inside.zero;
       rows = c.self.inside.levels.rows;
       due = due_in c.self.inside.due;
@@ -145,4 +145,5 @@ returns g c =
     c.self.inside.levels.settings c.self.invariant.levels_settings c.self.invariant.valid c.self.invariant.named c.self.invariant.young_settings counted fits
     c.args.key c.tail_of-tail.result (c.self.inside.len + 1) c.tail_of-tail.ensures.value m_is c.add.new.self c.add.ensures
     (due_in c.begin.new.due) (due_in c.bring.new.due) start_is c.args.bay.now c.bring.new.bay c.bring.new.zero c.bring.new.levels
-    c.ranges.key.fits own still brings c.push.new.self c.push.ensures (sym c.is_full.ensures.value ∙ c.if-is_full.false))
+    c.ranges.key.fits own still brings (c.self.inside.unread ++ c.push.new.self)
+    (ap (λ keys. c.self.inside.unread ++ keys) c.push.ensures ∙ sym (append_assoc c.self.inside.unread c.self.inside.taken (c.args.key ∷ []))) (sym c.is_full.ensures.value ∙ c.if-is_full.false))

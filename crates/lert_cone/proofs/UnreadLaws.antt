@@ -1,0 +1,129 @@
+-- The keys that a reopening doesn't read: as many keys of the cone as are asked for, and of a journal its first ones.
+use Rattle.std.proofs.Common.{◌≡◌, ℕ, zero, suc, ◌+◌, ◌<◌, ◌≤◌, ◌^◌, List, [], ◌∷◌, ◌++◌, length, map, take, replicate, All, Option, Some, refl, sym, ap, ap₂}
+use Rattle.std.proofs.Common.{◌∙◌, subst, arith, append_assoc, length-append}
+use Rattle.std.proofs.lemmas.List.{length-map, length-replicate, length-take-le, map-append, take-append-le, take_all}
+use Rattle.std.proofs.lemmas.List.Elements.{All-head, All-tail}
+use Rattle.lert_base.specs.Packet.{Packet, events_of}
+use Rattle.lert_bay.specs.Files.{Files}
+use Rattle.lert_bay.specs.Settled.{part}
+use Rattle.lert_gatelog.specs.Gated.{Records, IsOpen, counted_at}
+use Rattle.lert_journal.specs.Payload.{IsJournaled, packet_in, payload_of}
+use Rattle.lert_journal.proofs.PayloadBack.{packet_back}
+use Rattle.lert_spec.specs.declared.numbers.Numbers.{Numbers}
+use Rattle.lert_spec.specs.Limits.{IsValid}
+use Rattle.lert_spec.specs.Mix.{cone_of, tail_of}
+use Rattle.lert_spec.proofs.LookLaws.{AreKeys}
+use Rattle.lert_spec.proofs.MixLaws.{tail_below}
+use Rattle.lert_spec.proofs.TailLaws.{AreOfCone}
+use Rattle.lert_cone.specs.History.{most_payload, end_of}
+use Rattle.lert_cone.specs.Sound.{IsJournal, KeysFit}
+use Rattle.lert_cone.specs.Unread.{journal_of, keys_from, own_key, unread}
+use Rattle.lert_cone.proofs.KeyLemmas.{cone-key_with, key_with-tail, key_with_below}
+
+-- ---- whatever the journal holds
+
+pub length_unread : (s : Numbers) (cone n : ℕ) (told : Option Files) → length (unread s cone n told) ≡ n
+unfolding unread
+length_unread s cone n told =
+    let all = keys_from n (journal_of told) 32 ++ replicate n 0 in
+    let enough : n ≤ length all = omega (arith, length-append (keys_from n (journal_of told) 32) (replicate n 0), length-replicate {A = ℕ} n 0) in
+    length-map (take n all) (own_key s cone) ∙ length-take-le n all enough
+
+pub unread_none : (s : Numbers) (cone : ℕ) (told : Option Files) → unread s cone 0 told ≡ []
+unfolding unread
+unread_none s cone told = refl
+
+module _ (s : Numbers) (cone : ℕ) (valid : IsValid s) (named : cone < 2 ^ s.cone_bits) where
+  bits : s.cone_bits ≤ 64
+  bits = omega (arith, valid.limits.cone_bits_to)
+
+  own_keys : (keys : List ℕ) → AreKeys (map (own_key s cone) keys)
+  own_keys [] = tt
+  own_keys (key ∷ keys) = (key_with_below s cone bits named (tail_of s key) (tail_below s key), own_keys keys)
+
+  own_cone : (keys : List ℕ) → AreOfCone s cone (map (own_key s cone) keys)
+  own_cone [] = tt
+  own_cone (key ∷ keys) = (cone-key_with s cone bits named (tail_of s key) (tail_below s key), own_cone keys)
+
+  pub unread_keys : (n : ℕ) (told : Option Files) → AreKeys (unread s cone n told)
+  unfolding unread
+  unread_keys n told = own_keys (take n (keys_from n (journal_of told) 32 ++ replicate n 0))
+
+  pub unread_own : (n : ℕ) (told : Option Files) → AreOfCone s cone (unread s cone n told)
+  unfolding unread
+  unread_own n told = own_cone (take n (keys_from n (journal_of told) 32 ++ replicate n 0))
+
+  -- ---- of the journal of packets
+
+  -- keys of the cone stay as they are
+  kept : (keys : List ℕ) → All (λ key. key < 2 ^ 64) keys → All (λ key. cone_of s key ≡ cone) keys → map (own_key s cone) keys ≡ keys
+  kept [] fit own = refl
+  kept (key ∷ keys) fit own =
+      ap₂ (λ x xs. x ∷ xs)
+      (key_with-tail s cone bits named key (All-head (λ k. k < 2 ^ 64) key keys fit) (All-head (λ k. cone_of s k ≡ cone) key keys own))
+      (kept keys (All-tail (λ k. k < 2 ^ 64) key keys fit) (All-tail (λ k. cone_of s k ≡ cone) key keys own))
+
+  module _ (rest : List Packet) where
+    all_kept : (done : List Packet) → KeysFit (done ++ rest) → All (IsJournaled s cone) (done ++ rest) → map (own_key s cone) (events_of done) ≡ events_of done
+    all_kept [] fit journaled = refl
+    all_kept (packet ∷ done) fit journaled =
+        map-append (own_key s cone) packet.keys (events_of done)
+        ∙ ap₂ (λ xs ys. xs ++ ys)
+        (kept packet.keys (All-head (λ (p : Packet). All (λ key. key < 2 ^ 64) p.keys) packet (done ++ rest) fit)
+        (All-head (IsJournaled s cone) packet (done ++ rest) journaled).of_cone)
+        (all_kept done (All-tail (λ (p : Packet). All (λ key. key < 2 ^ 64) p.keys) packet (done ++ rest) fit) (All-tail (IsJournaled s cone) packet (done ++ rest) journaled))
+
+    few : (done : List Packet) → All (IsJournaled s cone) (done ++ rest) → length done ≤ length (events_of done)
+    few [] journaled = omega arith
+    few (packet ∷ done) journaled = omega (
+      arith,
+      length-append packet.keys (events_of done),
+      (All-head (IsJournaled s cone) packet (done ++ rest) journaled).some,
+      few done (All-tail (IsJournaled s cone) packet (done ++ rest) journaled),
+    )
+
+    module _ (most : ℕ) (bytes : List ℕ) (end : ℕ) where
+      -- a record's payload is read back as its packet
+      packet_there : (packet : Packet) (gate : ℕ) → IsOpen most bytes gate (payload_of packet) → IsJournaled s cone packet → All (λ key. key < 2 ^ 64) packet.keys →
+          packet_in (part bytes (gate + 5) (gate + 5 + counted_at bytes gate)) ≡ packet
+      packet_there packet gate stands journaled fit =
+          ap (λ n. packet_in (part bytes (gate + 5) (gate + 5 + n))) stands.counted
+          ∙ (ap packet_in stands.there
+          ∙ packet_back packet (omega (arith, journaled.by_most)) (omega (arith, journaled.trace_most)) fit)
+
+      -- as many records as there are packets, or more, begin with their keys
+      begun : (done : List Packet) (n gate : ℕ) → length done ≤ n → Records most bytes gate (map payload_of (done ++ rest)) end → KeysFit (done ++ rest) →
+          All (IsJournaled s cone) (done ++ rest) → (more : List ℕ) × (keys_from n bytes gate ≡ events_of done ++ more)
+      begun [] n gate enough records fit journaled = (keys_from n bytes gate, refl)
+      begun (packet ∷ done) zero gate enough records fit journaled = absurd (omega (arith, enough))
+      begun (packet ∷ done) (suc n) gate enough records fit journaled =
+          let is_keys : All (λ key. key < 2 ^ 64) packet.keys = All-head (λ (p : Packet). All (λ key. key < 2 ^ 64) p.keys) packet (done ++ rest) fit in
+          let first = packet_there packet gate records.0 (All-head (IsJournaled s cone) packet (done ++ rest) journaled) is_keys in
+          let next : gate + 5 + counted_at bytes gate ≡ gate + 5 + length (payload_of packet) = ap (λ n. gate + 5 + n) records.0.counted in
+          let behind = begun done n (gate + 5 + length (payload_of packet)) (omega (arith, enough)) records.1
+          (All-tail (λ (p : Packet). All (λ key. key < 2 ^ 64) p.keys) packet (done ++ rest) fit) (All-tail (IsJournaled s cone) packet (done ++ rest) journaled) in (
+            behind.0,
+            ap₂ (λ (p : Packet) keys. p.keys ++ keys) first (ap (keys_from n bytes) next ∙ behind.1) ∙ sym (append_assoc packet.keys (events_of done) behind.0),
+          )
+
+    taken : (done : List Packet) (keys more : List ℕ) → keys ≡ events_of done ++ more → take (length (events_of done)) (keys ++ replicate (length (events_of done)) 0) ≡ events_of done
+    taken done keys more is =
+        let events : List ℕ = events_of done in
+        let zeros : List ℕ = replicate (length events) 0 in
+        ap (λ ks. take (length events) ks) (ap (λ ks. ks ++ zeros) is ∙ append_assoc events more zeros)
+        ∙ (take-append-le (length events) events (more ++ zeros) (omega arith)
+        ∙ take_all (length events) events (omega arith))
+
+  pub unread_is : (history done rest : List Packet) (seen : Files) (told : Option Files) → IsJournal s cone history (seen 0) → history ≡ done ++ rest → told ≡ Some seen →
+      unread s cone (length (events_of done)) told ≡ events_of done
+  unfolding unread
+  unread_is history done rest seen told journal is told_is =
+      let n = length (events_of done) in
+      let fit : KeysFit (done ++ rest) = subst KeysFit is journal.fit in
+      let journaled : All (IsJournaled s cone) (done ++ rest) = subst (All (IsJournaled s cone)) is journal.journaled in
+      let records : Records (most_payload s) (seen 0) 32 (map payload_of (done ++ rest)) (end_of history) =
+      subst (λ (h : List Packet). Records (most_payload s) (seen 0) 32 (map payload_of h) (end_of history)) is journal.records.records in
+      let there = begun rest (most_payload s) (seen 0) (end_of history) done n 32 (few rest done journaled) records fit journaled in
+      ap (λ (t : Option Files). map (own_key s cone) (take n (keys_from n (journal_of t) 32 ++ replicate n 0))) told_is
+      ∙ (ap (map (own_key s cone)) (taken rest done (keys_from n (seen 0) 32) there.0 there.1)
+      ∙ all_kept rest done fit journaled)
