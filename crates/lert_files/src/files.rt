@@ -1,6 +1,6 @@
 //! What is read of a cone's files before the records of its journal.
 
-ghost use Rattle.std.specs.Prelude.{◌≡◌, ◌⊎◌, ℕ, ◌≤◌, ◌^◌, List, [], Some, None, length, IfOk, IfErr, OnOk, MatchResult, IsErr, IsErrOf, IsErrAnd};
+ghost use Rattle.std.specs.Prelude.{◌≡◌, ◌⊎◌, ℕ, ◌+◌, ◌≤◌, ◌^◌, List, [], Some, None, length, IfOk, IfErr, OnOk, MatchResult, IsErr, IsErrOf, IsErrAnd};
 ghost use Rattle.lert_base.specs.declared.kept.Kept.{Kept as KeptOf};
 ghost use Rattle.lert_bay.specs.declared.bay.TheConstants.{JOURNAL, FRAMES};
 ghost use Rattle.lert_bay.specs.Files.{Files, IfTold};
@@ -27,7 +27,7 @@ use lert_reports::{LogPoint, ReportStore};
 /// record of the log names. The reports of all records come into the store, and the bins of that record into the levels. After
 /// a fault any of these may be in them, and any bytes are in `buffer`.
 ///
-/// Writes nothing and takes no memory. Costs a look-up a report, and reads each frame once.
+/// Writes nothing and takes no memory. Costs a look-up a report, and reads each frame once, and of the journal 32 bytes.
 pub fn read_files<B: Bay, T: CountTable>(
     bay: &mut B,
     settings: &Settings,
@@ -72,6 +72,9 @@ pub fn read_files<B: Bay, T: CountTable>(
         IsErrAnd result (λ fault. (fault ≡ ReopenFault.Failed) ⊎ (fault ≡ ReopenFault.OtherSettings kept))) }
     ensures same { (levels.new.settings ≡ levels.old.settings) × (store.new.settings ≡ store.old.settings) }
     ensures quiet { WritesNothing B.Bay bay.old bay.new (IsErrOf result ReopenFault.Failed) }
+
+    // Of the journal the header is read, and nothing behind it.
+    ensures handed { B.handed_out bay.new JOURNAL ≤ B.handed_out bay.old JOURNAL + 32 }
 {
     // Its clause says that the numbers are valid.
     let _ = settings.numbers();
@@ -105,6 +108,7 @@ fn read_in_order<B: Bay, T: CountTable>(
     ensures durable { IfTold (B.files bay.old) (λ seen. OnOk result ((image : Files) → B.leaves bay.new image → IsAsRead seen image)) }
     ensures same { (levels.new.settings ≡ levels.old.settings) × (store.new.settings ≡ store.old.settings) }
     ensures quiet { WritesNothing B.Bay bay.old bay.new (IsErrOf result ReopenFault.Failed) }
+    ensures handed { B.handed_out bay.new JOURNAL ≤ B.handed_out bay.old JOURNAL + 32 }
 {
     let mut directory = Directory::new();
     // Durable first: a second stop takes nothing back of what is read here.
@@ -121,6 +125,7 @@ fn read_in_order<B: Bay, T: CountTable>(
 fn sync_files<B: Bay>(bay: &mut B) -> Result<(), Failed>
     ensures durable { IfTold (B.files bay.old) (λ seen. OnOk result ((image : Files) → B.leaves bay.new image → IsAsRead seen image)) }
     ensures quiet { WritesNothing B.Bay bay.old bay.new (IsErr result) }
+    ensures handed { B.handed_out bay.new ≡ B.handed_out bay.old }
 {
     bay.sync(JOURNAL)?;
     bay.sync(LOG)?;

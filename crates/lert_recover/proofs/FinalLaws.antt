@@ -1,17 +1,19 @@
 -- A cone is reopened over files that are in their format to their end; else there is one first place, or another header. What
 -- is right of an answer is right the other way round.
-use Rattle.std.proofs.Common.{ℕ, ◌≡◌, ◌<◌, ◌^◌, Bool, Option, Some, Result, Ok, Err, List, length, ap, sym, ◌∙◌, subst, inl, inr, ◌⊎◌}
+use Rattle.std.proofs.Common.{ℕ, ◌≡◌, ◌-◌, ◌<◌, ◌^◌, Bool, Option, Some, Result, Ok, Err, List, length, refl, ap, sym, ◌∙◌, subst, arith, inl, inr, ◌⊎◌}
 use Rattle.std.specs.Prelude.{All, MatchResult, IfErr, IfOk, IsErrAnd}
 use Rattle.std.proofs.lemmas.Option.{same_Some}
 use Rattle.lert_base.specs.declared.kept.Kept.{Kept}
 use Rattle.lert_base.specs.Packet.{Packet, events_of}
 use Rattle.lert_bay.specs.declared.bay.TheConstants.{JOURNAL, LOG}
 use Rattle.lert_bay.specs.Files.{Files}
-use Rattle.lert_cone.specs.History.{most_payload, end_of}
+use Rattle.lert_cone.specs.Marks.{IsMarkOf, last_mark}
 use Rattle.lert_cone.specs.Sound.{IsSound, IsJournal}
-use Rattle.lert_journal.proofs.OneAnswer.{one_history}
+use Rattle.lert_cone.specs.Unread.{unread}
+use Rattle.lert_cone.proofs.UnreadLaws.{length_unread, unread_is}
+use Rattle.lert_gatelog.specs.Gated.{IsClosed}
 use Rattle.lert_rows.specs.declared.bin_at.BinAt.{BinAt}
-use Rattle.lert_reports.specs.Log.{is_closed, last_n0, HasLog}
+use Rattle.lert_reports.specs.Log.{is_closed, last_first, last_n0, last_offset, HasLog}
 use Rattle.lert_reports.specs.LogText.{LogRecord}
 use Rattle.lert_reports.proofs.LogOnce.{one_log}
 use Rattle.lert_spec.specs.declared.numbers.Numbers.{Numbers}
@@ -20,45 +22,75 @@ use Rattle.lert_files.specs.declared.fault.ReopenFault.{ReopenFault}
 use Rattle.lert_files.specs.declared.fault.ReopenFault.TheVariants.{Failed, Malformed, OtherSettings}
 use Rattle.lert_files.specs.Headed.{HasOther}
 use Rattle.lert_files.specs.Opened.{AreOpened}
-use Rattle.lert_recover.specs.Replayed.{AreInFormat, FirstLeaves, Before_records, In_records, JournalEnds, JournalLeavesAt}
-use Rattle.lert_recover.specs.Reopened.{IsReopened, IsReopenRefused, Of_call, Of_place, Of_header, Of_sight, IsUnsoundAt}
+use Rattle.lert_recover.specs.Replayed.{AreInFormat, FirstLeaves, Before_records, In_records, HasReplayed, JournalEnds, JournalLeavesAt}
+use Rattle.lert_recover.specs.Reopened.{IsReadOn, IsReopened, IsReopenRefused, Of_call, Of_place, Of_header, Of_sight, IsUnsoundAt}
 use Rattle.lert_files.proofs.OpenedLaws.{IsOutside, left_or_other, no_other, one_header, one_place, opened_or_left}
-use Rattle.lert_recover.proofs.ReplayedLaws.{ends_from_start, ends_here, ends_or_leaves, journal_of, one_journal_place}
+use Rattle.lert_cone.proofs.AdoptLaws.{mark_of}
+use Rattle.lert_recover.proofs.ReplayedLaws.{all_keys, ends_from_start, ends_here, ends_or_leaves, one_journal_place}
 
-module _ (s : Numbers) (cone : ℕ) (valid : IsValid s) (below : cone < 2 ^ 32) (seen : Files) where
+module _ (s : Numbers) (cone : ℕ) (valid : IsValid s) (named : cone < 2 ^ s.cone_bits) (below : cone < 2 ^ 32) (seen : Files) where
   -- ---- the records of one log
 
   same_records : (records others : List LogRecord) (log_end other_end : ℕ) (rows other_rows : List (List BinAt)) → AreOpened s cone seen records log_end rows →
       AreOpened s cone seen others other_end other_rows → records ≡ others
   same_records records others log_end other_end rows other_rows opened too = (one_log s cone valid (seen LOG) records others log_end other_end opened.log too.log).0
 
-  leaves_of : (records others : List LogRecord) (at : ℕ) → records ≡ others → JournalLeavesAt s cone (last_n0 records) (is_closed records) (seen JOURNAL) 0 32 at →
-      JournalLeavesAt s cone (last_n0 others) (is_closed others) (seen JOURNAL) 0 32 at
-  leaves_of records others at same leaves = subst (λ (rs : List LogRecord). JournalLeavesAt s cone (last_n0 rs) (is_closed rs) (seen JOURNAL) 0 32 at) same leaves
+  -- from the record of the journal on that the last one of a log names
+  abbrev Leaves : List LogRecord → ℕ → Type 0
+  Leaves records at = JournalLeavesAt s cone (last_n0 records) (is_closed records) (seen JOURNAL) (last_first records - 1) (last_offset records) at
+
+  leaves_of : (records others : List LogRecord) (at : ℕ) → records ≡ others → Leaves records at → Leaves others at
+  leaves_of records others at same leaves = subst (λ (rs : List LogRecord). Leaves rs at) same leaves
+
+  -- the keys before that record, as they are had of the files
+  abbrev Unread : List LogRecord → List ℕ
+  Unread records = unread s cone (last_first records - 1) (Some seen)
 
   -- ---- one of the three, and one place
 
-  module _ (closed : Bool) (events : List ℕ) (gate : ℕ) (reopened : IsReopened s cone seen closed events gate) where
-    ends : JournalEnds s cone (last_n0 reopened.records) (is_closed reopened.records) (seen JOURNAL) 0 32
-    ends =
-        ends_from_start s cone (last_n0 reopened.records) (is_closed reopened.records) (seen JOURNAL) gate events reopened.replayed
-        (ends_here s cone (last_n0 reopened.records) (is_closed reopened.records) (seen JOURNAL) gate (length events) reopened.shut reopened.enough)
+  -- keys that were had of a whole journal are its own, where the mark is one of its packets
+  pub read_whole : (events : List ℕ) (gate : ℕ) (history : List Packet) (records : List LogRecord) → IsJournal s cone history (seen JOURNAL) →
+      IsMarkOf history (last_mark records) →
+      HasReplayed s cone (last_n0 records) (is_closed records) (seen JOURNAL) (Unread records) (last_offset records) gate events → IsClosed (seen JOURNAL) gate →
+      events ≡ events_of history
+  read_whole events gate history records journal mark has shut =
+      let count : last_first records - 1 ≡ length (events_of mark.done) = omega (arith, mark.first_is) in
+      let before : Unread records ≡ events_of mark.done =
+      ap (λ n. unread s cone n (Some seen)) count ∙ unread_is s cone valid named history mark.done mark.rest seen (Some seen) journal mark.is refl in
+      all_keys s cone (last_n0 records) (is_closed records) (seen JOURNAL) history journal mark.done mark.rest (Unread records) events (last_offset records) gate mark.is before
+      mark.gate_is has shut
 
-    -- the packets of the journal
-    pub reopened_journal : (h : List Packet) × IsJournal s cone h (seen JOURNAL) × (events ≡ events_of h)
-    reopened_journal = (
-      reopened.replayed.packets,
-      journal_of s cone (last_n0 reopened.records) (is_closed reopened.records) (seen JOURNAL) gate events reopened.opened.headed reopened.shut reopened.replayed,
-      reopened.replayed.events_are,
-    )
+  module _ (closed : Bool) (events : List ℕ) (gate : ℕ) (reopened : IsReopened s cone seen closed events gate) where
+    ends : JournalEnds s cone (last_n0 reopened.records) (is_closed reopened.records) (seen JOURNAL) (last_first reopened.records - 1) (last_offset reopened.records)
+    ends =
+        subst (λ n. JournalEnds s cone (last_n0 reopened.records) (is_closed reopened.records) (seen JOURNAL) n (last_offset reopened.records))
+        (length_unread s cone (last_first reopened.records - 1) (Some seen))
+        (ends_from_start s cone (last_n0 reopened.records) (is_closed reopened.records) (seen JOURNAL) (Unread reopened.records) (last_offset reopened.records) gate events
+        reopened.replayed
+        (ends_here s cone (last_n0 reopened.records) (is_closed reopened.records) (seen JOURNAL) gate (length events) reopened.shut reopened.enough))
+
+    -- the keys of the journal
+    pub reopened_journal : IsReadOn s cone seen events gate
+    reopened_journal = record {
+      headed = reopened.opened.headed;
+      records = reopened.records;
+      log_end = reopened.log_end;
+      log = reopened.opened.log;
+      replayed = reopened.replayed;
+      shut = reopened.shut;
+      enough = reopened.enough;
+    }
+
+    pub reopened_whole : (history : List Packet) (records : List LogRecord) (log_end : ℕ) → IsJournal s cone history (seen JOURNAL) → HasLog s cone (seen LOG) records log_end →
+        IsMarkOf history (last_mark records) → events ≡ events_of history
+    reopened_whole history records log_end journal log mark =
+        let same = (one_log s cone valid (seen LOG) records reopened.records log_end reopened.log_end log reopened.opened.log).0 in
+        read_whole events gate history reopened.records journal (subst (λ (rs : List LogRecord). IsMarkOf history (last_mark rs)) same mark) reopened.replayed reopened.shut
 
     -- are those of a list for which the files are sound
     pub reopened_events : (history : List Packet) → IsSound s cone history seen → events ≡ events_of history
     reopened_events history sound =
-        let own = reopened_journal.1 in
-        let same = one_history s cone (most_payload s) (seen JOURNAL) 32 reopened_journal.0 history (end_of reopened_journal.0) (end_of history)
-        own.journaled sound.journal.journaled own.fit sound.journal.fit own.records sound.journal.records in
-        reopened_journal.2 ∙ ap events_of same.0
+        reopened_whole history sound.logged sound.log_end sound.journal sound.log (mark_of s history (last_n0 sound.logged) (last_mark sound.logged) sound.begins)
 
     pub reopened_closed : (history : List Packet) (sound : IsSound s cone history seen) → closed ≡ is_closed sound.logged
     reopened_closed history sound =
@@ -68,8 +100,8 @@ module _ (s : Numbers) (cone : ℕ) (valid : IsValid s) (below : cone < 2 ^ 32) 
   pub whole_or_left : (file at : ℕ) → AreInFormat s cone seen → FirstLeaves s cone seen file at → ⊥
   whole_or_left file at whole (Before_records leaves) = opened_or_left s cone valid below seen whole.records whole.log_end whole.rows file at whole.opened leaves
   whole_or_left file at whole (In_records records log_end rows opened file_is leaves) =
-      ends_or_leaves s cone (last_n0 whole.records) (is_closed whole.records) (seen JOURNAL) 0 32 at whole.journal
-      (leaves_of records whole.records at (same_records records whole.records log_end whole.log_end rows whole.rows opened whole.opened) leaves)
+      ends_or_leaves s cone (last_n0 whole.records) (is_closed whole.records) (seen JOURNAL) (last_first whole.records - 1) (last_offset whole.records) at
+      whole.journal (leaves_of records whole.records at (same_records records whole.records log_end whole.log_end rows whole.rows opened whole.opened) leaves)
 
   pub reopened_or_left : (closed : Bool) (events : List ℕ) (gate : ℕ) → IsReopened s cone seen closed events gate → (file at : ℕ) → FirstLeaves s cone seen file at → ⊥
   reopened_or_left closed events gate reopened file at leaves =
@@ -93,7 +125,7 @@ module _ (s : Numbers) (cone : ℕ) (valid : IsValid s) (below : cone < 2 ^ 32) 
       absurd (opened_or_left s cone valid below seen records log_end rows other_file other opened too)
   one_first file at other_file other (In_records records log_end rows opened file_is leaves) (In_records others other_end other_rows opened_too other_is too) = (
     file_is ∙ sym other_is,
-    one_journal_place s cone (last_n0 others) (is_closed others) (seen JOURNAL) 0 32 at other
+    one_journal_place s cone (last_n0 others) (is_closed others) (seen JOURNAL) (last_first others - 1) (last_offset others) at other
         (leaves_of records others at (same_records records others log_end other_end rows other_rows opened opened_too) leaves) too,
   )
 
@@ -154,9 +186,15 @@ module _ (s : Numbers) (cone : ℕ) (valid : IsValid s) (below : cone < 2 ^ 32) 
     abbrev pub Told : Result K E → Type 0
     Told result = MatchResult result (λ now. IsReopened s cone seen (closed_in now) (events_in now) (gate_in now)) (λ refused. IsReopenRefused s cone seen (fault_in refused))
 
-    pub journal_told : (result : Result K E) → Told result → IfOk result (λ now. (h : List Packet) × IsJournal s cone h (seen JOURNAL) × (events_in now ≡ events_of h))
+    pub journal_told : (result : Result K E) → Told result → IfOk result (λ now. IsReadOn s cone seen (events_in now) (gate_in now))
     journal_told (Ok now) told = reopened_journal (closed_in now) (events_in now) (gate_in now) told
     journal_told (Err refused) told = tt
+
+    pub whole_told : (result : Result K E) → Told result → (history : List Packet) → IsJournal s cone history (seen JOURNAL) → (records : List LogRecord) (log_end : ℕ) →
+        HasLog s cone (seen LOG) records log_end → IsMarkOf history (last_mark records) → IfOk result (λ now. events_in now ≡ events_of history)
+    whole_told (Ok now) told history journal records log_end log mark =
+        reopened_whole (closed_in now) (events_in now) (gate_in now) told history records log_end journal log mark
+    whole_told (Err refused) told history journal records log_end log mark = tt
 
     -- the cone is closed exactly where the log is
     pub closed_told : (result : Result K E) → Told result →

@@ -1,9 +1,11 @@
 pub mod BayLaws
+pub mod BoundLaws
 pub mod FinalLaws
 pub mod MomentLaws
 pub mod ReopenLaws
 pub mod ReplayedLaws
 pub mod ReplayingLaws
+pub mod RestBytes
 pub mod RestLaws
 pub mod ShownLaws
 pub mod SomeEvents

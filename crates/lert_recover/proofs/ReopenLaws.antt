@@ -1,5 +1,5 @@
 -- What a cone that is made over files has of them, and why one isn't.
-use Rattle.std.proofs.Common.{ℕ, suc, ◌≡◌, ◌≤◌, Bool, Result, Ok, Err, List, [], ◌∷◌, ◌++◌, length, map, take, drop, refl, ap, ap₂, sym, ◌∙◌, subst, arith}
+use Rattle.std.proofs.Common.{ℕ, suc, ◌≡◌, ◌+◌, ◌-◌, ◌≤◌, Bool, Option, Some, Result, Ok, Err, List, [], ◌∷◌, ◌++◌, length, map, take, drop, refl, ap, ap₂, sym, ◌∙◌, subst, arith}
 use Rattle.std.specs.Prelude.{MatchResult, IfErr, IfOk}
 use Rattle.std.proofs.lemmas.List.{append_cancel_left, length-map, length-replicate, length-take-le, take_all, take_at}
 use Rattle.lert_base.specs.declared.kept.Kept.{Kept}
@@ -7,11 +7,15 @@ use Rattle.lert_base.specs.Packet.{Packet, events_of}
 use Rattle.lert_bay.specs.declared.bay.TheConstants.{JOURNAL, LOG, FRAMES}
 use Rattle.lert_bay.specs.Files.{Files}
 use Rattle.lert_bay.specs.Settled.{part, IsSettled}
+use Rattle.lert_cone.specs.History.{most_payload}
 use Rattle.lert_cone.specs.Logged.{frames_of}
 use Rattle.lert_cone.specs.Replay.{IsLastOf}
 use Rattle.lert_cone.specs.Sound.{IsSound}
+use Rattle.lert_cone.specs.Stands.{Standing}
+use Rattle.lert_cone.specs.Unread.{unread}
 use Rattle.lert_cone.specs.Wrote.{IsShut}
 use Rattle.lert_cone.proofs.AdoptLaws.{bins_there}
+use Rattle.lert_cone.proofs.UnreadLaws.{length_unread}
 use Rattle.lert_gatelog.specs.Gated.{IsClosed}
 use Rattle.lert_rows.specs.declared.bin_at.BinAt.{BinAt}
 use Rattle.lert_rows.specs.Loading.{AllStand}
@@ -19,9 +23,10 @@ use Rattle.lert_rows.specs.Named.{IsDirectory}
 use Rattle.lert_rows.specs.Rows.{directory_text, tallied_in, IsAt}
 use Rattle.lert_rows.proofs.CheckLaws.{all_whole}
 use Rattle.lert_levels.proofs.HoldLaws.{rows_stand}
-use Rattle.lert_reports.specs.Log.{is_closed, last_directory, last_n0, AreRecords}
+use Rattle.lert_reports.specs.Log.{is_closed, last_directory, last_first, last_n0, last_offset, AreRecords, HasLog}
 use Rattle.lert_reports.specs.LogText.{LogRecord, directory_bytes}
 use Rattle.lert_reports.proofs.LogLaws.{last_directory-push}
+use Rattle.lert_reports.proofs.LogOnce.{one_log}
 use Rattle.lert_spec.specs.declared.numbers.Numbers.{Numbers}
 use Rattle.lert_spec.specs.declared.report.Report.{Report}
 use Rattle.lert_spec.specs.Limits.{IsValid}
@@ -30,8 +35,9 @@ use Rattle.lert_files.specs.declared.fault.ReopenFault.TheVariants.{Failed, Malf
 use Rattle.lert_files.specs.Headed.{HasOther, IsHeaded}
 use Rattle.lert_files.specs.Opened.{AreLastRows, AreOpened, IsAsRead, LeaveAt}
 use Rattle.lert_files.specs.Read.{IsReadOf}
-use Rattle.lert_recover.specs.Replayed.{Before_records, In_records, HasReplayed, JournalEnds, JournalLeavesAt}
-use Rattle.lert_recover.specs.Reopened.{IsReopened, IsReopenRefused, Of_call, Of_place, Of_header, Of_sight, IsStopped, At_call, At_place, At_sight}
+use Rattle.lert_recover.specs.Replayed.{Before_records, In_records, HasReplayed, ReadsRest}
+use Rattle.lert_recover.specs.Reopened.{IsReopened, IsReopenRefused, Of_call, Of_place, Of_header, Of_sight, IsStopped, At_call, At_place, At_sight, most_read}
+use Rattle.lert_recover.proofs.BoundLaws.{read_bound}
 use Rattle.lert_files.proofs.PointLaws.{directed}
 use Rattle.lert_files.proofs.RecordsLaws.{walk}
 
@@ -87,9 +93,11 @@ module _ (s : Numbers) (cone : ℕ) where
 
   pub last_of : (n0 offset first : ℕ) (closed : Bool) (reports : List Report) (rows : List (List BinAt)) (records : List LogRecord) →
       IsReadOf s cone n0 offset first closed reports (directory_text rows) records → AreLastRows s records rows →
-      IsLastOf s n0 closed rows reports records
+      IsLastOf s n0 offset first closed rows reports records
   last_of n0 offset first closed reports rows records read named = record {
     n0_is = read.n0_is;
+    offset_is = read.offset_is;
+    first_is = read.first_is;
     closed_is = read.closed_is;
     directory_is = frames_named records rows read.rules named;
     reports_are = read.reports_are;
@@ -137,27 +145,16 @@ module _ (s : Numbers) (cone : ℕ) (seen : Files) where
   refused_before (OtherSettings kept) place other = Of_header kept refl (other kept refl)
 
   -- by the journal, behind files that are in their format before its records
-  pub refused_behind : (records : List LogRecord) (log_end : ℕ) (rows : List (List BinAt)) (n0 : ℕ) (closed : Bool) (fault : ReopenFault) →
-      AreOpened s cone seen records log_end rows → n0 ≡ last_n0 records → closed ≡ is_closed records →
-      ((history : List Packet) → IsSound s cone history seen → fault ≡ Failed) → IsStopped s cone n0 closed (seen JOURNAL) fault →
+  pub refused_behind : (records : List LogRecord) (log_end : ℕ) (rows : List (List BinAt)) (fault : ReopenFault) → AreOpened s cone seen records log_end rows →
+      ((history : List Packet) → IsSound s cone history seen → fault ≡ Failed) →
+      IsStopped s cone (last_n0 records) (is_closed records) (seen JOURNAL) (last_first records - 1) (last_offset records) fault →
       IsReopenRefused s cone seen fault
-  refused_behind records log_end rows n0 closed fault opened n0_is closed_is fails (At_call is) = Of_call is
-  refused_behind records log_end rows n0 closed fault opened n0_is closed_is fails (At_place at is leaves) =
-      Of_place 0 at is
-      (In_records records log_end rows opened refl
-      (subst (λ (c : Bool). JournalLeavesAt s cone (last_n0 records) c (seen JOURNAL) 0 32 at) closed_is
-      (subst (λ n. JournalLeavesAt s cone n closed (seen JOURNAL) 0 32 at) n0_is leaves)))
-  refused_behind records log_end rows n0 closed fault opened n0_is closed_is fails (At_sight file at is ends file_is at_is) =
+  refused_behind records log_end rows fault opened fails (At_call is) = Of_call is
+  refused_behind records log_end rows fault opened fails (At_place at is leaves) = Of_place 0 at is (In_records records log_end rows opened refl leaves)
+  refused_behind records log_end rows fault opened fails (At_sight file at is ends file_is at_is) =
       Of_sight file at is
       (record {
-        whole = record {
-          records = records;
-          log_end = log_end;
-          rows = rows;
-          opened = opened;
-          journal = subst (λ (c : Bool). JournalEnds s cone (last_n0 records) c (seen JOURNAL) 0 32) closed_is
-              (subst (λ n. JournalEnds s cone n closed (seen JOURNAL) 0 32) n0_is ends);
-        };
+        whole = record { records = records; log_end = log_end; rows = rows; opened = opened; journal = ends };
         none = λ history sound. failed_or_place file at (sym is ∙ fails history sound);
         file_is = file_is;
         at_is = at_is;
@@ -183,24 +180,60 @@ stands_on A C R S T (Ok now) more stands = λ h some count is. stands h some cou
 stands_on A C R S T (Err refused) more stands = tt
 
 module _ {K E : Type 0} (closed_in : K → Bool) (events_in : K → List ℕ) (gate_in : K → ℕ) (fault_in : E → ReopenFault) where
-  pub reopened_of : (s : Numbers) (cone : ℕ) (seen : Files) (records : List LogRecord) (log_end : ℕ) (rows : List (List BinAt)) (n0 : ℕ) (closed : Bool) →
-      AreOpened s cone seen records log_end rows → n0 ≡ last_n0 records → closed ≡ is_closed records →
-      (result : Result K E) →
-      MatchResult result (λ now. HasReplayed s cone n0 closed (seen JOURNAL) (gate_in now) (events_in now) × IsClosed (seen JOURNAL) (gate_in now))
-      (λ refused. IsStopped s cone n0 closed (seen JOURNAL) (fault_in refused)) →
+  pub reopened_of : (s : Numbers) (cone : ℕ) (seen : Files) (told : Option Files) → told ≡ Some seen → (records : List LogRecord) (log_end : ℕ) (rows : List (List BinAt))
+      (n0 offset first : ℕ) (closed : Bool) (reports : List Report) (directory : List ℕ) →
+      AreOpened s cone seen records log_end rows → IsReadOf s cone n0 offset first closed reports directory records → (result : Result K E) →
+      MatchResult result
+      (λ now. HasReplayed s cone n0 closed (seen JOURNAL) (unread s cone (first - 1) told) offset (gate_in now) (events_in now) × IsClosed (seen JOURNAL) (gate_in now))
+      (λ refused. IsStopped s cone n0 closed (seen JOURNAL) (length (unread s cone (first - 1) told)) offset (fault_in refused)) →
       IfOk result (λ now. n0 ≤ length (events_in now)) → IfOk result (λ now. closed_in now ≡ closed) →
       IfErr result (λ refused. (history : List Packet) → IsSound s cone history seen → fault_in refused ≡ Failed) →
       MatchResult result (λ now. IsReopened s cone seen (closed_in now) (events_in now) (gate_in now)) (λ refused. IsReopenRefused s cone seen (fault_in refused))
-  reopened_of s cone seen records log_end rows n0 closed opened n0_is closed_is (Ok now) told enough same fails = record {
+  reopened_of s cone seen told told_is records log_end rows n0 offset first closed reports directory opened read (Ok now) was enough same fails = record {
     records = records;
     log_end = log_end;
     rows = rows;
     opened = opened;
-    closed_is = same ∙ closed_is;
-    replayed = subst (λ (c : Bool). HasReplayed s cone (last_n0 records) c (seen JOURNAL) (gate_in now) (events_in now)) closed_is
-        (subst (λ (n : ℕ). HasReplayed s cone n closed (seen JOURNAL) (gate_in now) (events_in now)) n0_is told.0);
-    shut = told.1;
-    enough = subst (λ (n : ℕ). n ≤ length (events_in now)) n0_is enough;
+    closed_is = same ∙ read.closed_is;
+    replayed =
+        let events = events_in now in
+        let gate = gate_in now in
+        subst (λ (t : Option Files). HasReplayed s cone (last_n0 records) (is_closed records) (seen JOURNAL) (unread s cone (last_first records - 1) t) (last_offset records) gate
+        events) told_is
+        (subst (λ (f : ℕ). HasReplayed s cone (last_n0 records) (is_closed records) (seen JOURNAL) (unread s cone (f - 1) told) (last_offset records) gate events) read.first_is
+        (subst (λ (o : ℕ). HasReplayed s cone (last_n0 records) (is_closed records) (seen JOURNAL) (unread s cone (first - 1) told) o gate events) read.offset_is
+        (subst (λ (c : Bool). HasReplayed s cone (last_n0 records) c (seen JOURNAL) (unread s cone (first - 1) told) offset gate events) read.closed_is
+        (subst (λ (n : ℕ). HasReplayed s cone n closed (seen JOURNAL) (unread s cone (first - 1) told) offset gate events) read.n0_is was.0))));
+    shut = was.1;
+    enough = subst (λ (n : ℕ). n ≤ length (events_in now)) read.n0_is enough;
   }
-  reopened_of s cone seen records log_end rows n0 closed opened n0_is closed_is (Err refused) told enough same fails =
-      refused_behind s cone seen records log_end rows n0 closed (fault_in refused) opened n0_is closed_is fails told
+  reopened_of s cone seen told told_is records log_end rows n0 offset first closed reports directory opened read (Err refused) was enough same fails =
+      let fault = fault_in refused in
+      let count : length (unread s cone (first - 1) told) ≡ last_first records - 1 = length_unread s cone (first - 1) told ∙ ap (λ (f : ℕ). f - 1) read.first_is in
+      refused_behind s cone seen records log_end rows fault opened fails
+      (subst (λ (n : ℕ). IsStopped s cone (last_n0 records) (is_closed records) (seen JOURNAL) n (last_offset records) fault) count
+      (subst (λ (o : ℕ). IsStopped s cone (last_n0 records) (is_closed records) (seen JOURNAL) (length (unread s cone (first - 1) told)) o fault) read.offset_is
+      (subst (λ (c : Bool). IsStopped s cone (last_n0 records) c (seen JOURNAL) (length (unread s cone (first - 1) told)) offset fault) read.closed_is
+      (subst (λ (n : ℕ). IsStopped s cone n closed (seen JOURNAL) (length (unread s cone (first - 1) told)) offset fault) read.n0_is was))))
+
+-- ---- how much of the journal was read
+
+-- behind its header from the record on that the log names
+pub read_before : {B E : Type 0} (handed : B → ℕ) (bay_in : E → B) (s : Numbers) (cone : ℕ) → IsValid s → (seen : Files) (history : List Packet) (sound : IsSound s cone history seen)
+    (records : List LogRecord) (log_end : ℕ) → HasLog s cone (seen LOG) records log_end → (offset : ℕ) → offset ≡ last_offset records → (t : Numbers) → t ≡ s → (before bay : B) →
+    handed bay ≤ handed before + 32 → (result : Result (Standing B) E) →
+    MatchResult result (λ now. ReadsRest t offset history (handed bay) (handed now.bay)) (λ refused. ReadsRest t offset history (handed bay) (handed (bay_in refused))) →
+    MatchResult result (λ now. handed now.bay ≤ handed before + most_read s) (λ refused. handed (bay_in refused) ≤ handed before + most_read s)
+read_before {B = B} {E = E} handed bay_in s cone valid seen history sound records log_end log offset offset_is t settings_are before bay head result rest = behind result rest
+  where
+    named : offset ≡ last_offset sound.logged
+    named = offset_is ∙ ap last_offset (one_log s cone valid (seen LOG) records sound.logged log_end sound.log_end log sound.log).0
+
+    at_most : (later : B) → ReadsRest t offset history (handed bay) (handed later) → handed later ≤ handed before + most_read s
+    at_most later reads = omega (arith, head, reads, named, ap most_payload settings_are, read_bound s valid cone history seen sound)
+
+    behind : (result : Result (Standing B) E) →
+        MatchResult result (λ now. ReadsRest t offset history (handed bay) (handed now.bay)) (λ refused. ReadsRest t offset history (handed bay) (handed (bay_in refused))) →
+        MatchResult result (λ now. handed now.bay ≤ handed before + most_read s) (λ refused. handed (bay_in refused) ≤ handed before + most_read s)
+    behind (Ok now) reads = at_most now.bay reads
+    behind (Err refused) reads = at_most (bay_in refused) reads

@@ -1,23 +1,20 @@
--- What stands in a journal behind its header is one of two: packets up to a closed gate, or packets and a place at which the
--- format is left; and there is one such place.
-use Rattle.std.proofs.Common.{ℕ, ◌≡◌, ◌+◌, ◌<◌, ◌≤◌, ◌^◌, Bool, List, [], ◌∷◌, ◌++◌, length, map, refl, ap, sym, ◌∙◌, subst, arith, inl, inr, ◌⊎◌}
+-- What stands in a journal from a gate on is one of two: packets up to a closed gate, or packets and a place at which the format
+-- is left; and there is one such place.
+use Rattle.std.proofs.Common.{ℕ, ◌≡◌, ◌+◌, ◌≤◌, Bool, List, [], ◌∷◌, ◌++◌, length, map, refl, ap, sym, ◌∙◌, subst, arith, inl, inr, ◌⊎◌}
 use Rattle.std.proofs.Common.{length-append, append-nil, append_assoc}
-use Rattle.std.specs.Prelude.{All}
-use Rattle.std.proofs.lemmas.List.Elements.{All-cons, All-nil}
+use Rattle.std.proofs.lemmas.List.Concat.{flat_map-append}
 use Rattle.lert_base.specs.Packet.{Packet, events_of}
 use Rattle.lert_cone.specs.Framed.{last_flush}
 use Rattle.lert_cone.specs.History.{most_payload, end_of}
 use Rattle.lert_cone.specs.Replay.{MayFollow, ReplayLeavesAt}
-use Rattle.lert_cone.specs.Sound.{IsJournal, KeysFit}
-use Rattle.lert_cone.proofs.GateLaws.{closed_or_leaves, one_packet, one_replay_place, packet_or_leaves}
-use Rattle.lert_cone.proofs.SoundLaws.{end_more, events_more}
+use Rattle.lert_cone.specs.Sound.{IsJournal}
+use Rattle.lert_cone.proofs.GateLaws.{closed_or_leaves, ends_there, is_next, one_packet, one_replay_place, packet_or_leaves}
+use Rattle.lert_cone.proofs.SoundLaws.{counted_more, end_more, events_more}
 use Rattle.lert_gatelog.specs.Gated.{IsClosed, IsOpen, Records, next_gate}
 use Rattle.lert_gatelog.proofs.Deciding.{open_or_closed}
-use Rattle.lert_journal.specs.Journal.{HoldsPacket, HasPackets}
-use Rattle.lert_journal.specs.Payload.{payload_of, IsJournaled}
+use Rattle.lert_journal.specs.Journal.{HoldsPacket}
+use Rattle.lert_journal.specs.Payload.{payload_of}
 use Rattle.lert_spec.specs.declared.numbers.Numbers.{Numbers}
-use Rattle.lert_spec.specs.Edges.{capacity}
-use Rattle.lert_files.specs.Headed.{IsHeaded}
 use Rattle.lert_recover.specs.Replayed.{AreReplayed, FlushesNothing, HasReplayed, JournalEnds, JournalLeavesAt}
 
 module _ (s : Numbers) (cone n0 : ℕ) (closed : Bool) (bytes : List ℕ) where
@@ -135,19 +132,6 @@ module _ (s : Numbers) (cone n0 : ℕ) (closed : Bool) (bytes : List ℕ) where
         (subst (λ m. MayFollow s n0 closed m packet) (sym (counts n first rest)) may),
   )
 
-  pub replayed_none : HasReplayed s cone n0 closed bytes 32 []
-  replayed_none = record { packets = []; stand = refl; events_are = refl }
-
-  pub replayed_more : (gate : ℕ) (events : List ℕ) (packet : Packet) → HasReplayed s cone n0 closed bytes gate events → Holds gate packet →
-      MayFollow s n0 closed (length events) packet →
-      HasReplayed s cone n0 closed bytes (next_gate gate (payload_of packet)) (events ++ packet.keys)
-  replayed_more gate events packet has holds may = record {
-    packets = has.packets ++ packet ∷ [];
-    stand = more has.packets 0 32 gate packet has.stand holds (subst (λ m. MayFollow s n0 closed m packet)
-        (ap length has.events_are ∙ (let same : length (events_of has.packets) ≡ 0 + length (events_of has.packets) = omega arith in same)) may);
-    events_are = ap (λ keys. keys ++ packet.keys) has.events_are ∙ sym (events_more has.packets packet);
-  }
-
   -- the records of these packets, and of one more
   records_behind : (packets : List Packet) (n gate end : ℕ) (packet : Packet) → Stand n gate packets end → IsOpen (most_payload s) bytes end (payload_of packet) →
       Records (most_payload s) bytes gate (map payload_of (packets ++ packet ∷ [])) (next_gate end (payload_of packet))
@@ -156,67 +140,70 @@ module _ (s : Numbers) (cone n0 : ℕ) (closed : Bool) (bytes : List ℕ) where
   records_behind (first ∷ rest) n gate end packet stand opened =
       (stand.0.stands, records_behind rest (n + length first.keys) (next_gate gate (payload_of first)) end packet stand.2 opened)
 
-  -- no flush comes with the next packet of a journal that brings none
-  pub none_flushed : (gate : ℕ) (events : List ℕ) (packet : Packet) → HasReplayed s cone n0 closed bytes gate events → FlushesNothing s n0 bytes →
-      IsOpen (most_payload s) bytes gate (payload_of packet) → last_flush s (length events + length packet.keys) ≤ n0
-  none_flushed gate events packet has nothing opened =
-      let count : length (events_of (has.packets ++ packet ∷ [])) ≡ length events + length packet.keys =
-      ap length (events_more has.packets packet) ∙ (length-append (events_of has.packets) packet.keys ∙ ap (λ xs. length xs + length packet.keys) (sym has.events_are)) in
-      subst (λ n. last_flush s n ≤ n0) count
-      (nothing (has.packets ++ packet ∷ []) (next_gate gate (payload_of packet)) (records_behind has.packets 0 32 gate packet has.stand opened))
+  -- ---- behind the keys that came before
 
-  -- what was replayed is the beginning of the journal
-  pub leaves_from_start : (gate : ℕ) (events : List ℕ) (at : ℕ) → HasReplayed s cone n0 closed bytes gate events → Leaves (length events) gate at → Leaves 0 32 at
-  leaves_from_start gate events at has leaves =
-      leaves_behind has.packets 0 32 gate at has.stand
-      (subst (λ m. Leaves m gate at) (ap length has.events_are ∙ (let same : length (events_of has.packets) ≡ 0 + length (events_of has.packets) = omega arith in same)) leaves)
+  module _ (before : List ℕ) (first : ℕ) where
+    abbrev Has : ℕ → List ℕ → Type 0
+    Has gate events = HasReplayed s cone n0 closed bytes before first gate events
 
-  pub ends_from_start : (gate : ℕ) (events : List ℕ) → HasReplayed s cone n0 closed bytes gate events → JournalEnds s cone n0 closed bytes (length events) gate →
-      JournalEnds s cone n0 closed bytes 0 32
-  ends_from_start gate events has ends =
-      ends_behind has.packets 0 32 gate has.stand
-      (subst (λ m. JournalEnds s cone n0 closed bytes m gate) (ap length has.events_are ∙ (let same : length (events_of has.packets) ≡ 0 + length (events_of has.packets) =
-      omega arith in same)) ends)
+    pub replayed_none : Has first before
+    replayed_none = record { packets = []; stand = refl; events_are = sym (append-nil before) }
+
+    -- how many keys they are
+    pub count_of : (gate : ℕ) (events : List ℕ) (has : Has gate events) → length events ≡ length before + length (events_of has.packets)
+    count_of gate events has = ap length has.events_are ∙ length-append before (events_of has.packets)
+
+    pub replayed_more : (gate : ℕ) (events : List ℕ) (packet : Packet) → Has gate events → Holds gate packet → MayFollow s n0 closed (length events) packet →
+        Has (next_gate gate (payload_of packet)) (events ++ packet.keys)
+    replayed_more gate events packet has holds may = record {
+      packets = has.packets ++ packet ∷ [];
+      stand = more has.packets (length before) first gate packet has.stand holds (subst (λ m. MayFollow s n0 closed m packet) (count_of gate events has) may);
+      events_are = ap (λ keys. keys ++ packet.keys) has.events_are
+          ∙ (append_assoc before (events_of has.packets) packet.keys ∙ ap (λ keys. before ++ keys) (sym (events_more has.packets packet)));
+    }
+
+    -- no flush comes with the next packet of a journal that brings none
+    pub none_flushed : (gate : ℕ) (events : List ℕ) (packet : Packet) → Has gate events → FlushesNothing s n0 bytes (length before) first →
+        IsOpen (most_payload s) bytes gate (payload_of packet) → last_flush s (length events + length packet.keys) ≤ n0
+    none_flushed gate events packet has nothing opened =
+        let count : length before + length (events_of (has.packets ++ packet ∷ [])) ≡ length events + length packet.keys =
+        omega (arith, count_of gate events has, counted_more has.packets packet) in
+        subst (λ n. last_flush s n ≤ n0) count
+        (nothing (has.packets ++ packet ∷ []) (next_gate gate (payload_of packet)) (records_behind has.packets (length before) first gate packet has.stand opened))
+
+    -- what is so behind what was replayed is so from the first gate on
+    pub leaves_from_start : (gate : ℕ) (events : List ℕ) (at : ℕ) → Has gate events → Leaves (length events) gate at → Leaves (length before) first at
+    leaves_from_start gate events at has leaves =
+        leaves_behind has.packets (length before) first gate at has.stand (subst (λ m. Leaves m gate at) (count_of gate events has) leaves)
+
+    pub ends_from_start : (gate : ℕ) (events : List ℕ) → Has gate events → JournalEnds s cone n0 closed bytes (length events) gate →
+        JournalEnds s cone n0 closed bytes (length before) first
+    ends_from_start gate events has ends =
+        ends_behind has.packets (length before) first gate has.stand (subst (λ m. JournalEnds s cone n0 closed bytes m gate) (count_of gate events has) ends)
 
   pub ends_here : (gate : ℕ) (n : ℕ) → IsClosed bytes gate → n0 ≤ n → JournalEnds s cone n0 closed bytes n gate
   ends_here gate n shut enough = record { packets = []; end = gate; stand = refl; shut = shut; enough = omega (arith, enough) }
 
-  -- ---- the packets are those of the journal
+  -- ---- the packets are those of a whole journal
 
-  records_of : (packets : List Packet) (n gate end : ℕ) → Stand n gate packets end → Records (most_payload s) bytes gate (map payload_of packets) end
-  records_of [] n gate end stand = stand
-  records_of (packet ∷ rest) n gate end stand = (stand.0.stands, records_of rest (n + length packet.keys) (next_gate gate (payload_of packet)) end stand.2)
+  module _ (history : List Packet) (journal : IsJournal s cone history bytes) where
+    -- each is the next one behind those before it
+    follows : (packets front rest : List Packet) (n gate end : ℕ) → history ≡ front ++ rest → gate ≡ end_of front → Stand n gate packets end → IsClosed bytes end →
+        front ++ packets ≡ history
+    follows [] front rest n gate end is start stand shut =
+        append-nil front
+        ∙ ends_there s cone bytes history front (events_of front) end journal (record { rest = rest; is = is; keys = refl; gate_is = stand ∙ start }) shut
+    follows (packet ∷ others) front rest n gate end is start stand shut =
+        let next = is_next s cone bytes history front (events_of front) gate journal (record { rest = rest; is = is; keys = refl; gate_is = start }) packet stand.0 in
+        sym (append_assoc front (packet ∷ []) others)
+        ∙ follows others (front ++ packet ∷ []) next.rest (n + length packet.keys) (next_gate gate (payload_of packet)) end
+        (next.is ∙ sym (append_assoc front (packet ∷ []) next.rest)) (ap (λ g. next_gate g (payload_of packet)) start ∙ end_more front packet) stand.2 shut
 
-  journaled_of : (packets : List Packet) (n gate end : ℕ) → Stand n gate packets end → All (IsJournaled s cone) packets
-  journaled_of [] n gate end stand = All-nil (IsJournaled s cone)
-  journaled_of (packet ∷ rest) n gate end stand = All-cons (IsJournaled s cone) packet rest stand.0.journaled
-      (journaled_of rest (n + length packet.keys) (next_gate gate (payload_of packet)) end stand.2)
-
-  fit_of : (packets : List Packet) (n gate end : ℕ) → Stand n gate packets end → KeysFit packets
-  fit_of [] n gate end stand = All-nil (λ (packet : Packet). All (λ key. key < 2 ^ 64) packet.keys)
-  fit_of (packet ∷ rest) n gate end stand = All-cons (λ (p : Packet). All (λ key. key < 2 ^ 64) p.keys) packet rest stand.0.fits
-      (fit_of rest (n + length packet.keys) (next_gate gate (payload_of packet)) end stand.2)
-
-  within_of : (packets : List Packet) (n gate end : ℕ) → n ≤ capacity s → Stand n gate packets end → n + length (events_of packets) ≤ capacity s
-  within_of [] n gate end start stand = omega (arith, start)
-  within_of (packet ∷ rest) n gate end start stand =
-      omega (arith, counts n packet rest, within_of rest (n + length packet.keys) (next_gate gate (payload_of packet)) end stand.1.within stand.2)
-
-  end_is : (front packets : List Packet) (n gate end : ℕ) → gate ≡ end_of front → Stand n gate packets end → end ≡ end_of (front ++ packets)
-  end_is front [] n gate end start stand = stand ∙ start ∙ ap end_of (sym (append-nil front))
-  end_is front (packet ∷ rest) n gate end start stand =
-      end_is (front ++ packet ∷ []) rest (n + length packet.keys) (next_gate gate (payload_of packet)) end
-      (ap (λ g. next_gate g (payload_of packet)) start ∙ end_more front packet) stand.2
-      ∙ ap end_of (append_assoc front (packet ∷ []) rest)
-
-  pub journal_of : (gate : ℕ) (events : List ℕ) → IsHeaded s cone bytes → IsClosed bytes gate → (has : HasReplayed s cone n0 closed bytes gate events) →
-      IsJournal s cone has.packets bytes
-  journal_of gate events headed shut has =
-      let end = end_is [] has.packets 0 32 gate refl has.stand in
-      record {
-        headed = headed.headed;
-        records = subst (λ e. HasPackets (most_payload s) bytes 32 has.packets e) end (record { records = records_of has.packets 0 32 gate has.stand; closed = shut });
-        journaled = journaled_of has.packets 0 32 gate has.stand;
-        fit = fit_of has.packets 0 32 gate has.stand;
-        within = omega (arith, within_of has.packets 0 32 gate (omega arith) has.stand);
-      }
+    -- and the keys are all of it, where those before are the ones of the packets before
+    pub all_keys : (done rest : List Packet) (before events : List ℕ) (first gate : ℕ) → history ≡ done ++ rest → before ≡ events_of done → first ≡ end_of done →
+        HasReplayed s cone n0 closed bytes before first gate events → IsClosed bytes gate → events ≡ events_of history
+    all_keys done rest before events first gate is before_is first_is has shut =
+        has.events_are
+        ∙ (ap (λ keys. keys ++ events_of has.packets) before_is
+        ∙ (sym (flat_map-append (λ (p : Packet). p.keys) done has.packets)
+        ∙ ap events_of (follows has.packets done rest (length before) first gate is first_is has.stand shut)))

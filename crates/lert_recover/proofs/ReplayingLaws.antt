@@ -1,5 +1,5 @@
 -- A cone that replays one packet more, or stops.
-use Rattle.std.proofs.Common.{ℕ, ◌≡◌, ◌+◌, ◌≤◌, Bool, Some, Option, List, [], ◌++◌, length, max, refl, ap, sym, ◌∙◌, subst, arith}
+use Rattle.std.proofs.Common.{ℕ, ◌≡◌, ◌+◌, ◌≤◌, Some, Option, List, ◌++◌, length, max, refl, ap, sym, ◌∙◌, subst, arith}
 use Rattle.lert_base.specs.Packet.{Packet}
 use Rattle.lert_bay.specs.declared.bay.TheConstants.{JOURNAL, FRAMES}
 use Rattle.lert_bay.specs.Files.{Files, IfTold}
@@ -38,13 +38,10 @@ journal_on first middle last one two = record {
 }
 
 -- before the first packet
-pub read_none : (s : Numbers) (cone n0 : ℕ) (closed : Bool) (bytes events : List ℕ) → events ≡ [] → HasReplayed s cone n0 closed bytes 32 events
-read_none s cone n0 closed bytes events none = record { packets = []; stand = refl; events_are = none }
-
-pub framed_none : (files : Option Files) (s : Numbers) (n0 : ℕ) (rows : List (List BinAt)) (events : List ℕ) → events ≡ [] → (seen there : Files) → files ≡ Some seen →
+pub framed_none : (files : Option Files) (s : Numbers) (n0 : ℕ) (rows : List (List BinAt)) (events : List ℕ) → length events ≤ n0 → (seen there : Files) → files ≡ Some seen →
     files ≡ Some there → HoldsSome s n0 rows (seen FRAMES) → HoldsSome s (max n0 (length events)) rows (there FRAMES)
-framed_none files s n0 rows events none seen there told told_there some =
-    let n_is : n0 ≡ max n0 (length events) = omega (arith, ap (length {A = ℕ}) none) in
+framed_none files s n0 rows events few seen there told told_there some =
+    let n_is : n0 ≡ max n0 (length events) = omega (arith, few) in
     let same : seen ≡ there = one_told seen there (sym told ∙ told_there) in
     subst (λ (n : ℕ). HoldsSome s n rows (there FRAMES)) n_is (subst (λ (f : Files). HoldsSome s n0 rows (f FRAMES)) same some)
   where
@@ -63,9 +60,9 @@ module _ {B : Type 0} (files : B → Option Files) (start old new : Standing B) 
     last = two.last ∙ one.last;
   }
 
-  module _ (seen : Files) (told : files start.bay ≡ Some seen) (same : IsSameCone start old) (journal : IsJournalSame (files start.bay) (files old.bay)) (gate : ℕ) where
+  module _ (seen : Files) (told : files start.bay ≡ Some seen) (same : IsSameCone start old) (journal : IsJournalSame (files start.bay) (files old.bay)) (first gate : ℕ) where
     abbrev Read : ℕ → List ℕ → Type 0
-    Read end events = HasReplayed start.listing.settings start.listing.cone start.last.n0 start.last.closed (seen JOURNAL) end events
+    Read end events = HasReplayed start.listing.settings start.listing.cone start.last.n0 start.last.closed (seen JOURNAL) start.listing.events first end events
 
     -- what a call took
     abbrev pub Takes : Files → ℕ → Type 0
@@ -92,7 +89,7 @@ module _ {B : Type 0} (files : B → Option Files) (start old new : Standing B) 
         (subst (λ (t : Numbers). MayFollow t old.last.n0 old.last.closed (length old.listing.events) packet) same.settings took.2) in
         subst (Read next) (sym (ap (λ (l : Listing). l.events) took.4))
         (subst (λ (g : ℕ). Read g (old.listing.events ++ packet.keys)) (sym took.3)
-        (replayed_more s start.listing.cone start.last.n0 start.last.closed (seen JOURNAL) gate old.listing.events packet has own may))
+        (replayed_more s start.listing.cone start.last.n0 start.last.closed (seen JOURNAL) start.listing.events first gate old.listing.events packet has own may))
 
     -- where a call found the format left
     pub left_on : (at n : ℕ) → n ≡ length old.listing.events → ((now : Files) → files old.bay ≡ Some now →
@@ -116,7 +113,8 @@ module _ {B : Type 0} (files : B → Option Files) (start old new : Standing B) 
         subst (λ (bytes : List ℕ). IsClosed bytes gate) there.2 (shut there.0 there.1)
 
     -- and where no flush comes with what stands at the gate
-    pub still_on : Read gate old.listing.events → FlushesNothing start.listing.settings start.last.n0 (seen JOURNAL) → BringsNoFlush old ((journal.told seen told).0 JOURNAL) gate
+    pub still_on : Read gate old.listing.events → FlushesNothing start.listing.settings start.last.n0 (seen JOURNAL) (length start.listing.events) first →
+        BringsNoFlush old ((journal.told seen told).0 JOURNAL) gate
     still_on has nothing packet holds =
         let there = journal.told seen told in
         let s = start.listing.settings in
@@ -124,7 +122,7 @@ module _ {B : Type 0} (files : B → Option Files) (start old new : Standing B) 
         let opened : IsOpen (most_payload s) (seen JOURNAL) gate (payload_of packet) =
         subst (λ (bytes : List ℕ). IsOpen (most_payload s) bytes gate (payload_of packet)) there.2
         (subst (λ (t : Numbers). IsOpen (most_payload t) (there.0 JOURNAL) gate (payload_of packet)) same.settings holds.stands) in
-        let none = none_flushed s start.listing.cone start.last.n0 start.last.closed (seen JOURNAL) gate old.listing.events packet has nothing opened in
+        let none = none_flushed s start.listing.cone start.last.n0 start.last.closed (seen JOURNAL) start.listing.events first gate old.listing.events packet has nothing opened in
         subst (λ (t : Numbers). last_flush t (n + length packet.keys) ≤ max old.last.n0 n) (sym same.settings)
         (omega (arith, none, ap (λ (last : LogPoint). last.n0) same.last))
 

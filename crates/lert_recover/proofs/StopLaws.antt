@@ -18,18 +18,19 @@ use Rattle.lert_recover.specs.Reopened.{IsStopped, IsWhy, At_call, At_place, At_
 use Rattle.lert_recover.proofs.ReplayedLaws.{ends_from_start, here, leaves_from_start}
 
 -- a replay that stopped at a gate behind what it had replayed
-module _ (s : Numbers) (cone n0 : ℕ) (closed : Bool) (bytes : List ℕ) (gate n : ℕ) (events : List ℕ) (has : HasReplayed s cone n0 closed bytes gate events)
-    (n_is : n ≡ length events) where
-  start_leaves : (at : ℕ) → JournalLeavesAt s cone n0 closed bytes n gate at → JournalLeavesAt s cone n0 closed bytes 0 32 at
-  start_leaves at leaves = leaves_from_start s cone n0 closed bytes gate events at has (subst (λ (m : ℕ). JournalLeavesAt s cone n0 closed bytes m gate at) n_is leaves)
+module _ (s : Numbers) (cone n0 : ℕ) (closed : Bool) (bytes before : List ℕ) (first gate n : ℕ) (events : List ℕ)
+    (has : HasReplayed s cone n0 closed bytes before first gate events) (n_is : n ≡ length events) where
+  start_leaves : (at : ℕ) → JournalLeavesAt s cone n0 closed bytes n gate at → JournalLeavesAt s cone n0 closed bytes (length before) first at
+  start_leaves at leaves =
+      leaves_from_start s cone n0 closed bytes before first gate events at has (subst (λ (m : ℕ). JournalLeavesAt s cone n0 closed bytes m gate at) n_is leaves)
 
-  start_ends : JournalEnds s cone n0 closed bytes n gate → JournalEnds s cone n0 closed bytes 0 32
-  start_ends ends = ends_from_start s cone n0 closed bytes gate events has (subst (λ (m : ℕ). JournalEnds s cone n0 closed bytes m gate) n_is ends)
+  start_ends : JournalEnds s cone n0 closed bytes n gate → JournalEnds s cone n0 closed bytes (length before) first
+  start_ends ends = ends_from_start s cone n0 closed bytes before first gate events has (subst (λ (m : ℕ). JournalEnds s cone n0 closed bytes m gate) n_is ends)
 
   pub stopped_of : (fault : ReopenFault) (replay : ReplayFault) → IsWhy s cone n0 closed bytes n gate replay fault →
       ((at : ℕ) → replay ≡ ReplayMalformed at → ReplayLeavesAt s cone n0 closed n bytes gate at) →
       ((file at : ℕ) → replay ≡ ReplayUnsound file at → (file ≡ LOG) × (at ≡ 0)) →
-      IsStopped s cone n0 closed bytes fault
+      IsStopped s cone n0 closed bytes (length before) first fault
   stopped_of fault ReplayFailed why left shown = At_call why
   stopped_of fault (ReplayMalformed at) why left shown = At_place at why (start_leaves at (here s cone n0 closed bytes n gate at (left at refl)))
   stopped_of fault (ReplayUnsound file at) (inl failed) left shown = At_call failed

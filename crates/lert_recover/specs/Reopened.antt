@@ -1,5 +1,5 @@
 -- What a cone that is reopened says of its files, and why one isn't.
-use Rattle.std.specs.Prelude.{◌≡◌, ℕ, ◌≤◌, Bool, List, length}
+use Rattle.std.specs.Prelude.{◌≡◌, ℕ, ◌+◌, ◌-◌, ◌*◌, ◌≤◌, Bool, List, Some, length}
 use Rattle.std.proofs.Common.{◌⊎◌}
 use Rattle.lert_base.specs.declared.kept.Kept.{Kept}
 use Rattle.lert_base.specs.Packet.{Packet}
@@ -8,25 +8,37 @@ use Rattle.lert_bay.specs.Files.{Files}
 use Rattle.lert_cone.specs.declared.refusal.ReplayFault.{ReplayFault}
 use Rattle.lert_cone.specs.declared.refusal.ReplayFault.TheVariants.{Failed as ReplayFailed, Malformed as ReplayMalformed, Unsound as ReplayUnsound}
 use Rattle.lert_cone.specs.Sound.{IsSound}
+use Rattle.lert_cone.specs.Unread.{unread}
 use Rattle.lert_gatelog.specs.Gated.{IsClosed}
 use Rattle.lert_rows.specs.declared.bin_at.BinAt.{BinAt}
 use Rattle.lert_files.specs.declared.fault.ReopenFault.{ReopenFault}
 use Rattle.lert_files.specs.declared.fault.ReopenFault.TheVariants.{Failed, Malformed, OtherSettings}
-use Rattle.lert_files.specs.Headed.{HasOther}
+use Rattle.lert_files.specs.Headed.{HasOther, IsHeaded}
 use Rattle.lert_files.specs.Opened.{AreOpened}
 use Rattle.lert_recover.specs.Replayed.{AreInFormat, FirstLeaves, HasReplayed, JournalEnds, JournalLeavesAt}
-use Rattle.lert_reports.specs.Log.{is_closed, last_n0}
+use Rattle.lert_reports.specs.Log.{is_closed, last_first, last_n0, last_offset, HasLog}
 use Rattle.lert_reports.specs.LogText.{LogRecord}
 use Rattle.lert_spec.specs.declared.numbers.Numbers.{Numbers}
 
--- all of the files is in its format, and these are the keys of the journal's packets, up to its closed gate
+-- All of the files is in its format, but for what stands before the record of the journal that the log's last one names. These are
+-- the keys that aren't read, and behind them those of the packets from that record on, up to the closed gate.
 pub record IsReopened (s : Numbers) (cone : ℕ) (seen : Files) (closed : Bool) (events : List ℕ) (gate : ℕ) : Type 0 where
   pub records : List LogRecord
   pub log_end : ℕ
   pub rows : List (List BinAt)
   pub opened : AreOpened s cone seen records log_end rows
   pub closed_is : closed ≡ is_closed records
-  pub replayed : HasReplayed s cone (last_n0 records) (is_closed records) (seen JOURNAL) gate events
+  pub replayed : HasReplayed s cone (last_n0 records) (is_closed records) (seen JOURNAL) (unread s cone (last_first records - 1) (Some seen)) (last_offset records) gate events
+  pub shut : IsClosed (seen JOURNAL) gate
+  pub enough : last_n0 records ≤ length events
+
+-- of that the journal alone: it has the cone's header, and these are the keys that a reopening has of it
+pub record IsReadOn (s : Numbers) (cone : ℕ) (seen : Files) (events : List ℕ) (gate : ℕ) : Type 0 where
+  pub headed : IsHeaded s cone (seen JOURNAL)
+  pub records : List LogRecord
+  pub log_end : ℕ
+  pub log : HasLog s cone (seen LOG) records log_end
+  pub replayed : HasReplayed s cone (last_n0 records) (is_closed records) (seen JOURNAL) (unread s cone (last_first records - 1) (Some seen)) (last_offset records) gate events
   pub shut : IsClosed (seen JOURNAL) gate
   pub enough : last_n0 records ≤ length events
 
@@ -48,11 +60,11 @@ pub data IsReopenRefused (s : Numbers) (cone : ℕ) (seen : Files) (fault : Reop
 
 -- ---- the journal alone
 
--- why a replay stopped
-pub data IsStopped (s : Numbers) (cone n0 : ℕ) (closed : Bool) (bytes : List ℕ) (fault : ReopenFault) : Type 0 where
-  At_call : fault ≡ Failed → IsStopped s cone n0 closed bytes fault
-  At_place : (at : ℕ) → fault ≡ Malformed JOURNAL at → JournalLeavesAt s cone n0 closed bytes 0 32 at → IsStopped s cone n0 closed bytes fault
-  At_sight : (file at : ℕ) → fault ≡ Malformed file at → JournalEnds s cone n0 closed bytes 0 32 → file ≡ LOG → at ≡ 0 → IsStopped s cone n0 closed bytes fault
+-- why a replay stopped that began at a gate, behind n events
+pub data IsStopped (s : Numbers) (cone n0 : ℕ) (closed : Bool) (bytes : List ℕ) (n gate : ℕ) (fault : ReopenFault) : Type 0 where
+  At_call : fault ≡ Failed → IsStopped s cone n0 closed bytes n gate fault
+  At_place : (at : ℕ) → fault ≡ Malformed JOURNAL at → JournalLeavesAt s cone n0 closed bytes n gate at → IsStopped s cone n0 closed bytes n gate fault
+  At_sight : (file at : ℕ) → fault ≡ Malformed file at → JournalEnds s cone n0 closed bytes n gate → file ≡ LOG → at ≡ 0 → IsStopped s cone n0 closed bytes n gate fault
 
 -- what a fault of a replay is that stopped at a gate, behind n events: that the files are sound for no list is told
 -- only where the rest of the journal is in its format
@@ -63,3 +75,10 @@ IsWhy s cone n0 closed bytes n gate (ReplayUnsound file at) fault =
     (fault ≡ Failed)
     ⊎ (((fault ≡ Malformed file at) × JournalEnds s cone n0 closed bytes n gate)
     ⊎ ((place : ℕ) × (fault ≡ Malformed JOURNAL place) × JournalLeavesAt s cone n0 closed bytes n gate place))
+
+-- ---- how much of it is read
+
+-- How many bytes of a journal a reopening reads at most, where the files are sound for a list. A key takes at most 21 bytes; these are
+-- those of the keys in all bins of level 0, and in eight packets more, and 64 for the header and what is looked at besides.
+abbrev pub most_read : Numbers → ℕ
+most_read s = 21 * (s.bins * s.base + 8 * s.packet) + 64

@@ -1,17 +1,19 @@
 -- The packets of a journal as they are replayed, and where the files of a cone first leave their format.
-use Rattle.std.specs.Prelude.{◌≡◌, ℕ, ◌+◌, ◌≤◌, Bool, List, [], ◌∷◌, length, map, Option}
+use Rattle.std.specs.Prelude.{◌≡◌, ℕ, ◌+◌, ◌-◌, ◌≤◌, Bool, List, [], ◌∷◌, ◌++◌, length, map, Option}
 use Rattle.lert_base.specs.Packet.{Packet, events_of}
 use Rattle.lert_bay.specs.declared.bay.TheConstants.{JOURNAL}
 use Rattle.lert_bay.specs.Files.{Files, Turns}
 use Rattle.lert_cone.specs.Framed.{last_flush}
-use Rattle.lert_cone.specs.History.{most_payload}
+use Rattle.lert_cone.specs.History.{most_payload, end_of}
 use Rattle.lert_cone.specs.Replay.{MayFollow, ReplayLeavesAt}
+use Rattle.lert_cone.specs.Replays.{Replays}
+use Rattle.lert_cone.specs.Stands.{Standing}
 use Rattle.lert_gatelog.specs.Gated.{IsClosed, Records, next_gate}
 use Rattle.lert_journal.specs.Journal.{HoldsPacket}
 use Rattle.lert_journal.specs.Payload.{payload_of}
 use Rattle.lert_rows.specs.declared.bin_at.BinAt.{BinAt}
 use Rattle.lert_files.specs.Opened.{AreOpened, LeaveAt}
-use Rattle.lert_reports.specs.Log.{is_closed, last_n0}
+use Rattle.lert_reports.specs.Log.{is_closed, last_first, last_n0, last_offset}
 use Rattle.lert_reports.specs.LogText.{LogRecord}
 use Rattle.lert_spec.specs.declared.numbers.Numbers.{Numbers}
 
@@ -39,18 +41,20 @@ pub record JournalEnds (s : Numbers) (cone n0 : ℕ) (closed : Bool) (bytes : Li
   pub shut : IsClosed bytes end
   pub enough : n0 ≤ n + length (events_of packets)
 
--- packets that begin a journal so stand up to a gate, and these are their keys
-pub record HasReplayed (s : Numbers) (cone n0 : ℕ) (closed : Bool) (bytes : List ℕ) (gate : ℕ) (events : List ℕ) : Type 0 where
+-- behind these keys some packets so stand from the gate `first` on up to another one, and with theirs the keys are `events`
+pub record HasReplayed (s : Numbers) (cone n0 : ℕ) (closed : Bool) (bytes before : List ℕ) (first gate : ℕ) (events : List ℕ) : Type 0 where
   pub packets : List Packet
-  pub stand : AreReplayed s cone n0 closed bytes 0 32 packets gate
-  pub events_are : events ≡ events_of packets
+  pub stand : AreReplayed s cone n0 closed bytes (length before) first packets gate
+  pub events_are : events ≡ before ++ events_of packets
 
 -- The files of a cone first leave their format at this place, in the order in which they are read: before the records of the
--- journal, or, behind what is in its format, at one of these.
+-- journal, or, behind what is in its format, at one of these. The journal is read from the record on that the log's last one
+-- names, behind the positions before that; what stands before it is no part of the format here.
 pub data FirstLeaves (s : Numbers) (cone : ℕ) (seen : Files) (file at : ℕ) : Type 0 where
   Before_records : LeaveAt s cone seen file at → FirstLeaves s cone seen file at
   In_records : (records : List LogRecord) (log_end : ℕ) (rows : List (List BinAt)) → AreOpened s cone seen records log_end rows → file ≡ JOURNAL →
-      JournalLeavesAt s cone (last_n0 records) (is_closed records) (seen JOURNAL) 0 32 at → FirstLeaves s cone seen file at
+      JournalLeavesAt s cone (last_n0 records) (is_closed records) (seen JOURNAL) (last_first records - 1) (last_offset records) at →
+      FirstLeaves s cone seen file at
 
 -- they are in it to their end
 pub record AreInFormat (s : Numbers) (cone : ℕ) (seen : Files) : Type 0 where
@@ -58,15 +62,24 @@ pub record AreInFormat (s : Numbers) (cone : ℕ) (seen : Files) : Type 0 where
   pub log_end : ℕ
   pub rows : List (List BinAt)
   pub opened : AreOpened s cone seen records log_end rows
-  pub journal : JournalEnds s cone (last_n0 records) (is_closed records) (seen JOURNAL) 0 32
+  pub journal : JournalEnds s cone (last_n0 records) (is_closed records) (seen JOURNAL) (last_first records - 1) (last_offset records)
 
--- However many packets are read from the start of a journal, no flush position above n0 lies among their keys.
-abbrev pub FlushesNothing : Numbers → ℕ → List ℕ → Type 0
-FlushesNothing s n0 bytes = (packets : List Packet) (end : ℕ) → Records (most_payload s) bytes 32 (map payload_of packets) end →
-    last_flush s (length (events_of packets)) ≤ n0
+-- However many packets are read from a gate of a journal on, behind n keys, no flush position above n0 lies among the keys.
+abbrev pub FlushesNothing : Numbers → ℕ → List ℕ → ℕ → ℕ → Type 0
+FlushesNothing s n0 bytes n gate = (packets : List Packet) (end : ℕ) → Records (most_payload s) bytes gate (map payload_of packets) end →
+    last_flush s (n + length (events_of packets)) ≤ n0
 
 -- ---- while packets are replayed
+
+-- a cone is on its way through the packets of a list, wherever on it
+abbrev pub ReplaysSome : {B : Type 0} → (B → Option Files) → (B → Files → Type 0) → Standing B → List Packet → Type 0
+ReplaysSome files leaves cone history = (done : List Packet) × Replays files leaves cone history done
 
 -- the journal reads as before
 abbrev pub IsJournalSame : Option Files → Option Files → Type 0
 IsJournalSame before after = Turns (λ old new. new JOURNAL ≡ old JOURNAL) before after
+
+-- how many bytes of it reads have handed out before and after: from the gate `first` on up to the end of a list's journal, and as many as its
+-- greatest record has
+abbrev pub ReadsRest : Numbers → ℕ → List Packet → ℕ → ℕ → Type 0
+ReadsRest s first history before after = after + first ≤ before + end_of history + 5 + most_payload s

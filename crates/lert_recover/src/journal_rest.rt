@@ -48,7 +48,7 @@ pub fn find_left<B: Bay>(
 ) -> Result<Option<u64>, Failed>
     requires place { last.now.n0 ≤ capacity settings.now }
     requires within { events ≤ capacity settings.now }
-    requires near { gate ≤ 32 + 65536 * events }
+    requires near { gate ≤ 2 ^ 46 + 65536 * events }
     ensures told { IfTold (B.files bay.old) (λ seen. IfOk result (λ found. MatchOption found
         (JournalEnds settings.now cone last.now.n0 last.now.closed (seen JOURNAL) events gate)
         (λ at. JournalLeavesAt settings.now cone last.now.n0 last.now.closed (seen JOURNAL) events gate at))) }
@@ -79,10 +79,11 @@ pub fn why_stopped<B: Bay>(
 ) -> ReopenFault
     requires place { last.now.n0 ≤ capacity settings.now }
     requires within { stop.now.events ≤ capacity settings.now }
-    requires near { stop.now.gate ≤ 32 + 65536 * stop.now.events }
+    requires near { stop.now.gate ≤ 2 ^ 46 + 65536 * stop.now.events }
     ensures told { IfTold (B.files bay.old) (λ seen. IsWhy settings.now cone last.now.n0 last.now.closed (seen JOURNAL) stop.now.events stop.now.gate stop.now.fault result) }
     ensures failed { result ≡ ReopenFault.Failed → (stop.now.fault ≡ ReplayFault.Failed) ⊎ HasRisen (B.faults bay.old) (B.faults bay.new) }
     ensures only_reads { ReadsBay B.Bay bay.old bay.new ⊥ }
+    ensures unread { stop.now.fault ≡ ReplayFault.Failed → B.handed_out bay.new ≡ B.handed_out bay.old }
 {
     match stop.fault {
         ReplayFault::Failed => ReopenFault::Failed,

@@ -1,13 +1,13 @@
 //! A cone over the files of a stopped run.
 
-ghost use Rattle.std.specs.Prelude.{◌≡◌, ◌⊎◌, ℕ, ◌<◌, ◌≤◌, ◌^◌, ◌++◌, [], List, All, length, if◌then◌else◌, MatchResult, IfOk, IfErr, IsErrAnd};
+ghost use Rattle.std.specs.Prelude.{◌≡◌, ◌⊎◌, ℕ, ◌+◌, ◌-◌, ◌<◌, ◌≤◌, ◌^◌, ◌++◌, List, All, length, if◌then◌else◌, MatchResult, IfOk, IfErr, IsErrAnd};
 ghost use Rattle.lert_base.specs.declared.kept.Kept.{Kept as KeptOf};
 ghost use Rattle.lert_base.specs.Packet.{Packet, events_of};
 ghost use Rattle.lert_bay.specs.declared.bay.TheConstants.{JOURNAL, LOG, FRAMES};
 ghost use Rattle.lert_bay.specs.Files.{Files, IfTold};
 ghost use Rattle.lert_bay.specs.Kept.{CallsBay};
 ghost use Rattle.lert_cone.specs.Framed.{HoldsSome};
-ghost use Rattle.lert_cone.specs.Replays.{Replays};
+ghost use Rattle.lert_cone.specs.Marks.{IsMarkOf, last_mark};
 ghost use Rattle.lert_cone.specs.Room.{IsRoom};
 ghost use Rattle.lert_cone.specs.Sound.{IsSound, IsJournal, StaysSound};
 ghost use Rattle.lert_cone.specs.Stands.{IsSameCone, StandsFor, WasSound};
@@ -15,9 +15,9 @@ ghost use Rattle.lert_gatelog.specs.Gated.{IsClosed};
 ghost use Rattle.lert_files.specs.Headed.{HasOther};
 ghost use Rattle.lert_files.specs.Opened.{WritesNothing};
 ghost use Rattle.lert_recover.specs.Moments.{AreSound};
-ghost use Rattle.lert_recover.specs.Reopened.{IsReopened, IsReopenRefused, IsStopped, IsUnsoundAt};
-ghost use Rattle.lert_recover.specs.Replayed.{FirstLeaves, FlushesNothing, HasReplayed, IsJournalSame};
-ghost use Rattle.lert_reports.specs.Log.{is_closed, last_n0, HasLog};
+ghost use Rattle.lert_recover.specs.Reopened.{IsReadOn, IsReopened, IsReopenRefused, IsStopped, IsUnsoundAt, most_read};
+ghost use Rattle.lert_recover.specs.Replayed.{FirstLeaves, FlushesNothing, HasReplayed, IsJournalSame, ReadsRest, ReplaysSome};
+ghost use Rattle.lert_reports.specs.Log.{is_closed, last_first, last_n0, last_offset, HasLog};
 ghost use Rattle.lert_reports.specs.LogText.{LogRecord};
 ghost use Rattle.lert_recover.specs.Shown.{reports_for};
 ghost use Rattle.lert_spec.specs.declared.report.Report.{Report};
@@ -40,13 +40,14 @@ pub struct ReopenRefused<B: Bay> {
 }
 
 /// Makes a cone over the files of a stopped run, which stands for the packets of their journal: makes the files durable, reads
-/// the journal's header, the whole log, the frames that its last record names, and then replays the journal's packets. Where the
-/// log's last record isn't a closing one, the cone goes on taking packets, and may write the frames and the log of a flush that
-/// the run didn't come to.
+/// the journal's header, the whole log, the frames that its last record names, and then replays the journal's packets from the
+/// record on that the log's last one names. Where that isn't a closing one, the cone goes on taking packets, and may write the
+/// frames and the log of a flush that the run didn't come to.
 ///
-/// A refusal hands the bay back, and lets the room go. Reads all of the journal and the log once, each named frame once, and what
-/// a flush reads. Takes no memory. Where the store shows while the journal is replayed that the files are sound for no list, the
-/// rest of the journal is read too, and the first place at which it leaves its format comes before that.
+/// A refusal hands the bay back, and lets the room go. Reads the whole log once, each named frame once, what a flush reads, and of
+/// the journal the header and the records from the named one on, once; the records before it aren't read, and damage there isn't
+/// found. Takes no memory. Where the store shows while the journal is replayed that the files are sound for no list, the rest of
+/// the journal is read too, and the first place at which it leaves its format comes before that.
 pub fn reopen<B: Bay, T: CountTable>(
     room: ConeRoom<T>,
     cone: u32,
@@ -74,8 +75,18 @@ pub fn reopen<B: Bay, T: CountTable>(
         IfTold (B.files bay) (λ seen. (other : List Packet) → IsSound room.settings cone other seen → IsSound room.settings cone h seen) →
         StandsFor B.files B.leaves B.faults now h) }
 
-    // Where the files are told, its keys are those of the journal, whatever the log says.
-    ensures journal { IfTold (B.files bay) (λ seen. IfOk result (λ now. (h : List Packet) × IsJournal room.settings cone h (seen JOURNAL) × (now.listing.events ≡ events_of h))) }
+    // Where the files are told, its keys are those of the journal's packets from the record on that the log's last one names, behind
+    // the keys that aren't read. Where that is a record of the whole journal, they are all keys of the journal.
+    ensures journal { IfTold (B.files bay) (λ seen. IfOk result (λ now. IsReadOn room.settings cone seen now.listing.events now.gate)) }
+    ensures journal_whole { IfTold (B.files bay) (λ seen. (h : List Packet) → IsJournal room.settings cone h (seen JOURNAL) →
+        (records : List LogRecord) (log_end : ℕ) → HasLog room.settings cone (seen LOG) records log_end → IsMarkOf h (last_mark records) →
+        IfOk result (λ now. now.listing.events ≡ events_of h)) }
+
+    // Of sound files it reads no more of the journal than some bytes for each key of level 0, whatever it answers and however long
+    // the journal is.
+    ensures bounded { IfTold (B.files bay) (λ seen. (h : List Packet) → IsSound room.settings cone h seen → MatchResult result
+        (λ now. B.handed_out now.bay JOURNAL ≤ B.handed_out bay JOURNAL + most_read room.settings)
+        (λ refused. B.handed_out refused.bay JOURNAL ≤ B.handed_out bay JOURNAL + most_read room.settings)) }
 
     // A place is the first one at which they leave their format. Files that leave it nowhere and are sound for no list are refused
     // for their log alone, at its start, where one report more would be due than the store takes.
@@ -104,10 +115,11 @@ pub fn reopen<B: Bay, T: CountTable>(
         (λ now. StaysSound B.Bay room.settings cone h bay now.bay)
         (λ refused. StaysSound B.Bay room.settings cone h bay refused.bay)) }
 
-    // Where no flush position above the log's last record lies among the keys of the journal, nothing is written, whatever it
-    // answers: the files are as they were, byte for byte.
+    // Where no flush position above the log's last record lies among the keys from the named record on, nothing is written, whatever
+    // it answers: the files are as they were, byte for byte.
     ensures unflushed { IfTold (B.files bay) (λ seen.
-        ((records : List LogRecord) (log_end : ℕ) → HasLog room.settings cone (seen LOG) records log_end → FlushesNothing room.settings (last_n0 records) (seen JOURNAL)) →
+        ((records : List LogRecord) (log_end : ℕ) → HasLog room.settings cone (seen LOG) records log_end →
+        FlushesNothing room.settings (last_n0 records) (seen JOURNAL) (last_first records - 1) (last_offset records)) →
         MatchResult result (λ now. WritesNothing B.Bay bay now.bay ⊥) (λ refused. WritesNothing B.Bay bay refused.bay ⊥)) }
 
     // Told or not, what it is.
@@ -133,6 +145,9 @@ fn reopen_in_order<B: Bay, T: CountTable>(
         (λ refused. IsReopenRefused room.settings cone seen refused.fault)) }
     ensures fails { IfTold (B.files bay) (λ seen. IfErr result (λ refused. (h : List Packet) → IsSound room.settings cone h seen →
         refused.fault ≡ ReopenFault.Failed)) }
+    ensures bounded { IfTold (B.files bay) (λ seen. (h : List Packet) → IsSound room.settings cone h seen → MatchResult result
+        (λ now. B.handed_out now.bay JOURNAL ≤ B.handed_out bay JOURNAL + most_read room.settings)
+        (λ refused. B.handed_out refused.bay JOURNAL ≤ B.handed_out bay JOURNAL + most_read room.settings)) }
     ensures stands { IfOk result (λ now. (h : List Packet) → All (λ packet. 0 < length packet.keys) h → length (events_of h) ≡ now.events →
         IfTold (B.files bay) (λ seen. (other : List Packet) → IsSound room.settings cone other seen → IsSound room.settings cone h seen) →
         StandsFor B.files B.leaves B.faults now h) }
@@ -142,7 +157,8 @@ fn reopen_in_order<B: Bay, T: CountTable>(
         (λ now. StaysSound B.Bay room.settings cone h bay now.bay)
         (λ refused. StaysSound B.Bay room.settings cone h bay refused.bay)) }
     ensures unflushed { IfTold (B.files bay) (λ seen.
-        ((records : List LogRecord) (log_end : ℕ) → HasLog room.settings cone (seen LOG) records log_end → FlushesNothing room.settings (last_n0 records) (seen JOURNAL)) →
+        ((records : List LogRecord) (log_end : ℕ) → HasLog room.settings cone (seen LOG) records log_end →
+        FlushesNothing room.settings (last_n0 records) (seen JOURNAL) (last_first records - 1) (last_offset records)) →
         MatchResult result (λ now. WritesNothing B.Bay bay now.bay ⊥) (λ refused. WritesNothing B.Bay bay refused.bay ⊥)) }
     ensures own { IfOk result (λ now. (now.listing.settings ≡ room.settings) × (now.listing.cone ≡ cone) × (now.events ≡ length now.listing.events)
         × (now.state ≡ if now.listing.closed then ConeState.Finished else ConeState.Running)) }
@@ -160,7 +176,8 @@ fn reopen_in_order<B: Bay, T: CountTable>(
     ) {
         Ok(end) => {
             let settings = room.settings;
-            // The journal last: levels and reports stand for its first n0 events.
+            // The journal last: levels and reports stand for its first n0 events, and level 0 is counted again from the record on that
+            // holds its first one.
             let begun = Cone::adopt(room, cone, bay, end);
             replay_journal(&settings, cone, &end, begun)
         }
@@ -168,7 +185,7 @@ fn reopen_in_order<B: Bay, T: CountTable>(
     }
 }
 
-// Replays the journal of a cone with these settings, this number and what its log says, which has no packet yet.
+// Replays the journal of a cone with these settings, this number and what its log says, which has none of its packets yet.
 fn replay_journal<B: Bay, T: CountTable>(
     settings: &Settings,
     number: u32,
@@ -179,30 +196,36 @@ fn replay_journal<B: Bay, T: CountTable>(
     requires place { last.now.n0 ≤ capacity settings.now }
     requires replaying { cone.state ≡ ConeState.Replaying }
     requires valid { IsValid cone.listing.settings }
-    requires begun { (cone.gate ≡ 32) × (cone.listing.events ≡ []) × (cone.events ≡ 0) }
+    requires begun { (cone.gate ≡ last.now.offset) × (cone.events ≡ length cone.listing.events) }
+    requires few { cone.events ≤ last.now.n0 }
+    requires near { last.now.offset ≤ 2 ^ 46 }
     ensures told { IfTold (B.files cone.bay) (λ seen. HoldsSome cone.listing.settings cone.last.n0 cone.rows (seen FRAMES) → MatchResult result
-        (λ now. HasReplayed cone.listing.settings cone.listing.cone cone.last.n0 cone.last.closed (seen JOURNAL) now.gate now.listing.events × IsClosed (seen JOURNAL) now.gate)
-        (λ refused. IsStopped cone.listing.settings cone.listing.cone cone.last.n0 cone.last.closed (seen JOURNAL) refused.fault)) }
-    ensures fails { IfTold (B.files cone.bay) (λ _. IfErr result (λ refused. (h : List Packet) → Replays B.files B.leaves cone h [] →
+        (λ now. HasReplayed cone.listing.settings cone.listing.cone cone.last.n0 cone.last.closed (seen JOURNAL) cone.listing.events last.now.offset
+        now.gate now.listing.events × IsClosed (seen JOURNAL) now.gate)
+        (λ refused. IsStopped cone.listing.settings cone.listing.cone cone.last.n0 cone.last.closed (seen JOURNAL) (length cone.listing.events) last.now.offset refused.fault)) }
+    ensures fails { IfTold (B.files cone.bay) (λ _. IfErr result (λ refused. (h : List Packet) → ReplaysSome B.files B.leaves cone h →
         refused.fault ≡ ReopenFault.Failed)) }
     ensures stands { IfOk result (λ now. (h : List Packet) → All (λ packet. 0 < length packet.keys) h → length (events_of h) ≡ now.events →
-        (WasSound B.files cone → IfTold (B.files cone.bay) (λ _. Replays B.files B.leaves cone h [])) → StandsFor B.files B.leaves B.faults now h) }
+        (WasSound B.files cone → IfTold (B.files cone.bay) (λ _. ReplaysSome B.files B.leaves cone h)) → StandsFor B.files B.leaves B.faults now h) }
     ensures passed { IfOk result (λ now. cone.last.n0 ≤ length now.listing.events) }
     ensures counted { IfOk result (λ now. now.events ≡ length now.listing.events) }
     ensures state { IfOk result (λ now. (now.listing.closed ≡ cone.listing.closed) × (now.state ≡ if cone.last.closed then ConeState.Finished else ConeState.Running)) }
     ensures same_cone { IfOk result (λ now. IsSameCone cone now) }
     ensures reads { MatchResult result (λ now. IsJournalSame (B.files cone.bay) (B.files now.bay)) (λ refused. IsJournalSame (B.files cone.bay) (B.files refused.bay)) }
     ensures kept { MatchResult result (λ now. CallsBay B.Bay cone.bay now.bay ⊥) (λ refused. CallsBay B.Bay cone.bay refused.bay (refused.fault ≡ ReopenFault.Failed)) }
-    ensures stays_sound { IfTold (B.files cone.bay) (λ _. IfErr result (λ refused. (h : List Packet) → Replays B.files B.leaves cone h [] →
+    ensures stays_sound { IfTold (B.files cone.bay) (λ _. IfErr result (λ refused. (h : List Packet) → ReplaysSome B.files B.leaves cone h →
         IfTold (B.files refused.bay) (IsSound cone.listing.settings cone.listing.cone h))) }
-    ensures each_moment { IfTold (B.files cone.bay) (λ _. (h : List Packet) → Replays B.files B.leaves cone h [] →
+    ensures each_moment { IfTold (B.files cone.bay) (λ _. (h : List Packet) → ReplaysSome B.files B.leaves cone h →
         AreSound (B.leaves cone.bay) cone.listing.settings cone.listing.cone h → MatchResult result
         (λ now. StaysSound B.Bay cone.listing.settings cone.listing.cone h cone.bay now.bay)
         (λ refused. StaysSound B.Bay cone.listing.settings cone.listing.cone h cone.bay refused.bay)) }
-    ensures unflushed { IfTold (B.files cone.bay) (λ seen. FlushesNothing cone.listing.settings cone.last.n0 (seen JOURNAL) →
+    ensures unflushed { IfTold (B.files cone.bay) (λ seen. FlushesNothing cone.listing.settings cone.last.n0 (seen JOURNAL) (length cone.listing.events) last.now.offset →
         MatchResult result (λ now. WritesNothing B.Bay cone.bay now.bay ⊥) (λ refused. WritesNothing B.Bay cone.bay refused.bay ⊥)) }
+    ensures rest { IfTold (B.files cone.bay) (λ _. (h : List Packet) → ReplaysSome B.files B.leaves cone h → MatchResult result
+        (λ now. ReadsRest cone.listing.settings last.now.offset h (B.handed_out cone.bay JOURNAL) (B.handed_out now.bay JOURNAL))
+        (λ refused. ReadsRest cone.listing.settings last.now.offset h (B.handed_out cone.bay JOURNAL) (B.handed_out refused.bay JOURNAL))) }
 {
-    match replay_all(&mut cone) {
+    match replay_all(&mut cone, last.offset) {
         Ok(end) => {
             // Ready only at the journal's closed gate, where the next packet goes.
             cone.ready(end);

@@ -1,6 +1,6 @@
 //! The packets of a journal, replayed one after the other.
 
-ghost use Rattle.std.specs.Prelude.{◌≡◌, ℕ, ◌+◌, ◌*◌, ◌≤◌, [], List, length, MatchResult, OnOk, IfOk, IfErr, IsErrAnd};
+ghost use Rattle.std.specs.Prelude.{◌≡◌, ℕ, ◌+◌, ◌*◌, ◌≤◌, ◌^◌, List, length, MatchResult, OnOk, IfOk, IfErr, IsErrAnd};
 ghost use Rattle.lert_base.specs.Packet.{Packet};
 ghost use Rattle.lert_bay.specs.declared.bay.TheConstants.{JOURNAL, LOG, FRAMES};
 ghost use Rattle.lert_bay.specs.Files.{Files, IfTold, Turns};
@@ -14,16 +14,13 @@ ghost use Rattle.lert_cone.specs.Wrote.{IsShutIfTold};
 ghost use Rattle.lert_files.specs.Opened.{WritesNothing};
 ghost use Rattle.lert_gatelog.specs.Gated.{IsClosed};
 ghost use Rattle.lert_recover.specs.Moments.{AreSound};
-ghost use Rattle.lert_recover.specs.Replayed.{FlushesNothing, HasReplayed, IsJournalSame};
+ghost use Rattle.lert_recover.specs.Replayed.{FlushesNothing, HasReplayed, IsJournalSame, ReadsRest, ReplaysSome};
 ghost use Rattle.lert_spec.specs.Edges.{capacity};
 ghost use Rattle.lert_spec.specs.Limits.{IsValid};
 
 use lert_base::CountTable;
 use lert_bay::Bay;
 use lert_cone::{Cone, ConeState, ReplayFault};
-
-// Where the first record of a journal stands.
-const JOURNAL_GATE: u64 = 32;
 
 /// Where a replay stopped: at a gate, behind so many keys, and why.
 #[derive(Clone, Copy)]
@@ -33,18 +30,20 @@ pub struct Stop {
     pub events: u64,
 }
 
-/// Replays the packets of the journal of a cone that has none yet, up to a closed gate, which is the answer.
-pub fn replay_all<B: Bay, T: CountTable>(cone: &mut Cone<B, T>) -> Result<u64, Stop>
+/// Replays the packets of a cone's journal from this gate on, at which the cone waits, up to a closed gate, which is the answer.
+pub fn replay_all<B: Bay, T: CountTable>(cone: &mut Cone<B, T>, first: u64) -> Result<u64, Stop>
     requires replaying { cone.old.state ≡ ConeState.Replaying }
     requires valid { IsValid cone.old.listing.settings }
-    requires begun { (cone.old.gate ≡ 32) × (cone.old.listing.events ≡ []) × (cone.old.events ≡ 0) }
+    requires begun { (cone.old.gate ≡ first) × (cone.old.events ≡ length cone.old.listing.events) }
+    requires few { (cone.old.events ≤ cone.old.last.n0) × (cone.old.last.n0 ≤ capacity cone.old.listing.settings) }
+    requires near { first ≤ 2 ^ 46 }
 
     // Where the files are told, these are the packets that stand there, up to a closed gate or to where it stopped.
     ensures told { IfTold (B.files cone.old.bay) (λ seen. MatchResult result
-        (λ end. HasReplayed cone.old.listing.settings cone.old.listing.cone cone.old.last.n0 cone.old.last.closed (seen JOURNAL) end cone.new.listing.events
-        × IsClosed (seen JOURNAL) end)
+        (λ end. HasReplayed cone.old.listing.settings cone.old.listing.cone cone.old.last.n0 cone.old.last.closed (seen JOURNAL) cone.old.listing.events first
+        end cone.new.listing.events × IsClosed (seen JOURNAL) end)
         (λ stop. (events : List ℕ)
-        × HasReplayed cone.old.listing.settings cone.old.listing.cone cone.old.last.n0 cone.old.last.closed (seen JOURNAL) stop.gate events
+        × HasReplayed cone.old.listing.settings cone.old.listing.cone cone.old.last.n0 cone.old.last.closed (seen JOURNAL) cone.old.listing.events first stop.gate events
         × (stop.events ≡ length events)
         × ((at : ℕ) → stop.fault ≡ ReplayFault.Malformed at →
         ReplayLeavesAt cone.old.listing.settings cone.old.listing.cone cone.old.last.n0 cone.old.last.closed stop.events (seen JOURNAL) stop.gate at))) }
@@ -55,18 +54,22 @@ pub fn replay_all<B: Bay, T: CountTable>(cone: &mut Cone<B, T>) -> Result<u64, S
         IfErr result (λ stop. (file at : ℕ) → stop.fault ≡ ReplayFault.Unsound file at → (file ≡ LOG) × (at ≡ 0))) }
 
     // A cone on its way through the packets of a list is then behind all of them.
-    ensures replays { IfTold (B.files cone.old.bay) (λ _. (h : List Packet) → Replays B.files B.leaves cone.old h [] →
+    ensures replays { IfTold (B.files cone.old.bay) (λ _. (h : List Packet) → ReplaysSome B.files B.leaves cone.old h →
         MatchResult result (λ _. Replays B.files B.leaves cone.new h h) (λ stop. stop.fault ≡ ReplayFault.Failed)) }
 
     // Whatever it answers, the files that it leaves are sound for that list, and every image of each moment is, where every image
     // was before; and they are as they were where no flush comes.
-    ensures stays_sound { IfTold (B.files cone.old.bay) (λ _. (h : List Packet) → Replays B.files B.leaves cone.old h [] →
+    ensures stays_sound { IfTold (B.files cone.old.bay) (λ _. (h : List Packet) → ReplaysSome B.files B.leaves cone.old h →
         IfTold (B.files cone.new.bay) (IsSound cone.old.listing.settings cone.old.listing.cone h)) }
-    ensures each_moment { IfTold (B.files cone.old.bay) (λ _. (h : List Packet) → Replays B.files B.leaves cone.old h [] →
+    ensures each_moment { IfTold (B.files cone.old.bay) (λ _. (h : List Packet) → ReplaysSome B.files B.leaves cone.old h →
         AreSound (B.leaves cone.old.bay) cone.old.listing.settings cone.old.listing.cone h →
         StaysSound B.Bay cone.old.listing.settings cone.old.listing.cone h cone.old.bay cone.new.bay) }
-    ensures unflushed { IfTold (B.files cone.old.bay) (λ seen. FlushesNothing cone.old.listing.settings cone.old.last.n0 (seen JOURNAL) →
+    ensures unflushed { IfTold (B.files cone.old.bay) (λ seen. FlushesNothing cone.old.listing.settings cone.old.last.n0 (seen JOURNAL) (length cone.old.listing.events) first →
         WritesNothing B.Bay cone.old.bay cone.new.bay ⊥) }
+
+    // On that way it reads each record once.
+    ensures reads { IfTold (B.files cone.old.bay) (λ _. (h : List Packet) → ReplaysSome B.files B.leaves cone.old h →
+        ReadsRest cone.old.listing.settings first h (B.handed_out cone.old.bay JOURNAL) (B.handed_out cone.new.bay JOURNAL)) }
 
     // Told or not, it has at least the keys that the log speaks of, and waits at the gate.
     ensures passed { OnOk result (cone.old.last.n0 ≤ length cone.new.listing.events) }
@@ -76,11 +79,11 @@ pub fn replay_all<B: Bay, T: CountTable>(cone: &mut Cone<B, T>) -> Result<u64, S
     ensures counted { OnOk result (cone.new.events ≡ length cone.new.listing.events) }
     ensures closed { OnOk result (cone.new.listing.closed ≡ cone.old.listing.closed) }
     ensures same_cone { IsSameCone cone.old cone.new }
-    ensures near { IfErr result (λ stop. (stop.gate ≤ 32 + 65536 * stop.events) × (stop.events ≤ capacity cone.old.listing.settings)) }
+    ensures near { IfErr result (λ stop. (stop.gate ≤ 2 ^ 46 + 65536 * stop.events) × (stop.events ≤ capacity cone.old.listing.settings)) }
     ensures journal { IsJournalSame (B.files cone.old.bay) (B.files cone.new.bay) }
     ensures kept { CallsBay B.Bay cone.old.bay cone.new.bay (IsErrAnd result (λ stop. stop.fault ≡ ReplayFault.Failed)) }
 {
-    let mut gate = JOURNAL_GATE;
+    let mut gate = first;
     'packets: loop {
         let events = cone.events();
         match cone.replay(gate) {

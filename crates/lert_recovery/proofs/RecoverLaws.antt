@@ -1,26 +1,30 @@
 -- Cones that are opened over bays one by one, what is printed of them, and which status a recovery ends with.
-use Rattle.std.proofs.Common.{◌≡◌, ◌⊎◌, ℕ, ◌^◌, Bool, true, false, List, ◌∷◌, ◌++◌, length, map, Option, Some, slice_get, refl, ap, sym, ◌∙◌, subst, inl, inr}
-use Rattle.std.proofs.Common.{arith}
+use Rattle.std.proofs.Common.{◌≡◌, ◌⊎◌, ℕ, ◌-◌, ◌^◌, Bool, true, false, List, ◌∷◌, ◌++◌, length, map, Option, Some, slice_get, refl, ap, sym, ◌∙◌, subst, inl, inr}
+use Rattle.std.proofs.Common.{arith, length-append}
 use Rattle.std.proofs.lemmas.List.{length-map}
 use Rattle.std.proofs.lemmas.Option.{slice_get_within, same_Some}
 use Rattle.lert_base.specs.declared.kept.Kept.{Kept}
 use Rattle.lert_base.specs.Packet.{Packet, events_of}
 use Rattle.lert_bay.specs.Files.{Files, IfTold}
 use Rattle.lert_cone.specs.Listing.{reports_of}
+use Rattle.lert_cone.specs.Marks.{IsMarkOf, last_mark}
 use Rattle.lert_cone.specs.Sound.{IsJournal, IsSound, IsSoundAs}
 use Rattle.lert_cone.specs.Stands.{Standing, StandsFor, is_broken, is_finished}
+use Rattle.lert_cone.specs.Unread.{unread}
+use Rattle.lert_cone.proofs.UnreadLaws.{length_unread}
 use Rattle.lert_io.specs.Fault.{HasRisen}
 use Rattle.lert_files.specs.declared.fault.ReopenFault.{ReopenFault}
 use Rattle.lert_files.specs.declared.fault.ReopenFault.TheVariants as fault
 use Rattle.lert_files.specs.Headed.{HasOther}
-use Rattle.lert_recover.specs.Reopened.{IsUnsoundAt}
-use Rattle.lert_recover.specs.Replayed.{FirstLeaves}
-use Rattle.lert_reports.specs.Log.{is_closed}
+use Rattle.lert_recover.specs.Reopened.{IsReadOn, IsUnsoundAt}
+use Rattle.lert_recover.specs.Replayed.{AreReplayed, FirstLeaves}
+use Rattle.lert_reports.specs.Log.{is_closed, last_first, last_n0, last_offset, HasLog}
+use Rattle.lert_reports.specs.LogText.{LogRecord}
 use Rattle.lert_spec.specs.declared.numbers.Numbers.{Numbers}
 use Rattle.lert_ingest.specs.Bays.{AreLater, AreUntouched, IfHeld, bays_of}
 use Rattle.lert_cones.specs.Print.{state_of}
 use Rattle.lert_cones.specs.Print.{ArePrintable, printed_as}
-use Rattle.lert_recovery.specs.Recovered.{AreOpenOver, AreRecovered, IsOpenOver, IsRecovered, IsUnopened, LowerAreFormed, printed_for, reopen_status}
+use Rattle.lert_recovery.specs.Recovered.{AreCounted, AreOpenOver, AreRecovered, IsOpenOver, IsRecovered, IsUnopened, LowerAreFormed, printed_for, reopen_status}
 use Rattle.lert_ingest.proofs.BayLaws.{bay_at, bay_is, slice_get-seam, slice_get-some}
 use Rattle.lert_cones.proofs.EndLaws.{printed_at}
 
@@ -39,6 +43,28 @@ end_is : (closed : Bool) → is_finished (state_of closed) ≡ closed
 end_is true = refl
 end_is false = refl
 
+-- how many keys were had of a journal
+counted_on : (s : Numbers) (cone : ℕ) (seen : Files) (events : List ℕ) (gate count : ℕ) → count ≡ length events → IsReadOn s cone seen events gate → AreCounted s cone seen count
+counted_on s cone seen events gate count count_is read =
+    let records = read.records in
+    let has = read.replayed in
+    let before = last_first records - 1 in
+    let n_is = length_unread s cone before (Some seen) in
+    let keys_are = ap (λ (xs : List ℕ). length xs) has.events_are ∙ length-append (unread s cone before (Some seen)) (events_of has.packets) in
+    record {
+      records = records;
+      log_end = read.log_end;
+      log = read.log;
+      ends = record {
+        packets = has.packets;
+        end = gate;
+        stand = subst (λ (n : ℕ). AreReplayed s cone (last_n0 records) (is_closed records) (seen 0) n (last_offset records) has.packets gate) n_is has.stand;
+        shut = read.shut;
+        enough = omega (arith, read.enough, keys_are, n_is);
+      };
+      count = omega (arith, count_is, keys_are, n_is);
+    }
+
 -- what a cone that isn't reopened says of its files
 pub record WasRefused {B : Type 0} (files : B → Option Files) (s : Numbers) (cone : ℕ) (bay : B) (refusal : ReopenFault) : Type 0 where
   pub malformed : IfTold (files bay) (λ seen. (file at : ℕ) → refusal ≡ fault.Malformed file at → FirstLeaves s cone seen file at ⊎ IsUnsoundAt s cone seen file at)
@@ -54,12 +80,14 @@ module _ {B : Type 0} (files : B → Option Files) (leaves : B → Files → Typ
   pub open_over : (s : Numbers) (number : ℕ) (bay : B) (cone : Standing B) →
       IfTold (files bay) (λ seen. (history : List Packet) (sound : IsSound s number history seen) →
       StandsFor files leaves faults cone history × (cone.state ≡ state_of (is_closed sound.logged))) →
-      IfTold (files bay) (λ seen. (history : List Packet) × IsJournal s number history (seen 0) × (cone.listing.events ≡ events_of history)) →
+      IfTold (files bay) (λ seen. IsReadOn s number seen cone.listing.events cone.gate) →
+      IfTold (files bay) (λ seen. (history : List Packet) → IsJournal s number history (seen 0) → (records : List LogRecord) (log_end : ℕ) →
+      HasLog s number (seen 1) records log_end → IsMarkOf history (last_mark records) → cone.listing.events ≡ events_of history) →
       IfTold (files bay) (λ seen. (file at : ℕ) → FirstLeaves s number seen file at → ⊥) →
       IfTold (files bay) (λ seen. (kept : Kept) → HasOther s number (seen 0) kept → ⊥) →
       cone.listing.settings ≡ s → cone.listing.cone ≡ number → cone.events ≡ length cone.listing.events → cone.state ≡ state_of cone.listing.closed →
       files cone.made ≡ files bay → IsOpenOver files leaves faults s number bay cone
-  open_over s number bay cone opens journal formed own settings named counted state made = record {
+  open_over s number bay cone opens journal whole formed own settings named counted state made = record {
     settings_are = settings;
     number_is = named;
     state_is = state;
@@ -76,6 +104,7 @@ module _ {B : Type 0} (files : B → Option Files) (leaves : B → Files → Typ
           same_end cone.listing.closed (is_closed sound.logged) (sym state ∙ all.1),
         );
     journal = journal;
+    whole = λ seen told history named. whole seen told history named.journal named.records named.log_end named.log named.mark;
     formed = formed;
     own = own;
   }
@@ -185,8 +214,10 @@ module _ {B : Type 0} (files : B → Option Files) (leaves : B → Files → Typ
           );
       journal = λ bay there seen told.
           let opened = open_are at cone found bay there in
-          let here = opened.journal seen told in
-          (here.0, here.1, opened.counted ∙ ap (λ (xs : List ℕ). length xs) here.2);
+          counted_on s at seen cone.listing.events cone.gate cone.events opened.counted (opened.journal seen told);
+      whole = λ bay there seen told history named.
+          let opened = open_are at cone found bay there in
+          opened.counted ∙ ap (λ (xs : List ℕ). length xs) (opened.whole seen told history named);
     }
 
     pub open_recovered : length bays ≡ 2 ^ s.cone_bits → AreRecovered files s bays (bays_of cones) (map printed_as cones)

@@ -1,8 +1,9 @@
 -- What a recovery says of the bays that it opened, and of the text that it wrote.
-use Rattle.std.specs.Prelude.{◌≡◌, ◌≢◌, ◌⊎◌, ℕ, Bool, ◌^◌, ◌<◌, List, ◌++◌, length, Option, Some, slice_get, ⊤, if◌then◌else◌}
+use Rattle.std.specs.Prelude.{◌≡◌, ◌≢◌, ◌⊎◌, ℕ, ◌+◌, ◌-◌, Bool, ◌^◌, ◌<◌, List, ◌++◌, length, Option, Some, slice_get, ⊤, if◌then◌else◌}
 use Rattle.lert_base.specs.declared.kept.Kept.{Kept}
 use Rattle.lert_base.specs.Packet.{Packet, events_of}
 use Rattle.lert_bay.specs.Files.{Files, IfTold}
+use Rattle.lert_cone.specs.Marks.{IsMarkOf, last_mark}
 use Rattle.lert_cone.specs.Sound.{IsJournal, IsSound, IsSoundAs}
 use Rattle.lert_cone.specs.Stands.{Standing, StandsFor, WasSound}
 use Rattle.lert_io.specs.Fault.{HasRisen, IsFaultless}
@@ -10,9 +11,10 @@ use Rattle.lert_io.specs.Reading as reading
 use Rattle.lert_files.specs.declared.fault.ReopenFault.{ReopenFault}
 use Rattle.lert_files.specs.declared.fault.ReopenFault.TheVariants as fault
 use Rattle.lert_files.specs.Headed.{HasOther}
-use Rattle.lert_recover.specs.Reopened.{IsUnsoundAt}
-use Rattle.lert_recover.specs.Replayed.{FirstLeaves, IsJournalSame}
-use Rattle.lert_reports.specs.Log.{is_closed}
+use Rattle.lert_recover.specs.Reopened.{IsReadOn, IsUnsoundAt}
+use Rattle.lert_recover.specs.Replayed.{FirstLeaves, IsJournalSame, JournalEnds}
+use Rattle.lert_reports.specs.Log.{is_closed, last_first, last_n0, last_offset, HasLog}
+use Rattle.lert_reports.specs.LogText.{LogRecord}
 use Rattle.lert_spec.specs.declared.numbers.Numbers.{Numbers}
 use Rattle.lert_spec.specs.Lines.{Printed, lines}
 use Rattle.lert_spec.specs.Look.{closing, look}
@@ -34,12 +36,31 @@ printed_for s history closed = record {
   closed = closed;
 }
 
--- of a cone was printed what its files are sound for, and they are so as they were put back. Of files that are told and in their
--- format, but sound for no list, the events are those of the journal
+-- so many events are counted of files: those before the record of the journal that the log's last one names, by what that says,
+-- and those of the packets that stand from there on up to a closed gate
+pub record AreCounted (s : Numbers) (cone : ℕ) (seen : Files) (events : ℕ) : Type 0 where
+  pub records : List LogRecord
+  pub log_end : ℕ
+  pub log : HasLog s cone (seen 1) records log_end
+  pub ends : JournalEnds s cone (last_n0 records) (is_closed records) (seen 0) (last_first records - 1) (last_offset records)
+  pub count : events ≡ last_first records - 1 + length (events_of ends.packets)
+
+-- the journal is that of a list, and the record that the log's last one names is one of the list's
+pub record IsNamed (s : Numbers) (cone : ℕ) (seen : Files) (history : List Packet) : Type 0 where
+  pub journal : IsJournal s cone history (seen 0)
+  pub records : List LogRecord
+  pub log_end : ℕ
+  pub log : HasLog s cone (seen 1) records log_end
+  pub mark : IsMarkOf history (last_mark records)
+
+-- Of a cone was printed what its files are sound for, and they are so as they were put back. Of files that are told and in their
+-- format, but sound for no list, the events are those that are counted of them, and those of the whole journal, where the log names a
+-- record of it
 pub record IsRecovered {B : Type 0} (files : B → Option Files) (s : Numbers) (bays later : List B) (cone : ℕ) (one : Printed) : Type 0 where
   pub sound : IfHeld files bays cone (λ seen. (history : List Packet) (sound : IsSound s cone history seen) →
       (one ≡ printed_for s history (is_closed sound.logged)) × IfHeld files later cone (IsSoundAs s cone (is_closed sound.logged) history))
-  pub journal : IfHeld files bays cone (λ seen. (history : List Packet) × IsJournal s cone history (seen 0) × (one.events ≡ length (events_of history)))
+  pub journal : IfHeld files bays cone (λ seen. AreCounted s cone seen one.events)
+  pub whole : IfHeld files bays cone (λ seen. (history : List Packet) → IsNamed s cone seen history → one.events ≡ length (events_of history))
 
 -- that was printed of all of them
 pub record AreRecovered {B : Type 0} (files : B → Option Files) (s : Numbers) (bays later : List B) (cones : List Printed) : Type 0 where
@@ -54,7 +75,8 @@ pub record IsOpenOver {B : Type 0} (files : B → Option Files) (leaves : B → 
   pub counted : cone.events ≡ length cone.listing.events
   pub sound : IfTold (files bay) (λ seen. (history : List Packet) (sound : IsSound s number history seen) →
       StandsFor files leaves faults cone history × WasSound files cone × (cone.listing.closed ≡ is_closed sound.logged))
-  pub journal : IfTold (files bay) (λ seen. (history : List Packet) × IsJournal s number history (seen 0) × (cone.listing.events ≡ events_of history))
+  pub journal : IfTold (files bay) (λ seen. IsReadOn s number seen cone.listing.events cone.gate)
+  pub whole : IfTold (files bay) (λ seen. (history : List Packet) → IsNamed s number seen history → cone.listing.events ≡ events_of history)
   pub formed : IfTold (files bay) (λ seen. (file at : ℕ) → FirstLeaves s number seen file at → ⊥)
   pub own : IfTold (files bay) (λ seen. (kept : Kept) → HasOther s number (seen 0) kept → ⊥)
 

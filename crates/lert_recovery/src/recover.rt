@@ -22,8 +22,9 @@ use std::collections::VecDeque;
 
 /// Opens what runs with these settings left of all cones in a directory, and prints it. It opens the bays, takes the memory of
 /// all cones, reopens these in ascending order, up to the first that is refused, prints, and puts the bays back, whatever the
-/// status. It finishes no cone, changes no journal, and leaves files sound that were so. Nothing is written to the sink before
-/// all cones are open.
+/// status. It finishes no cone, changes no journal, and leaves files sound that were so. Of a journal it reads the header and the
+/// records from the one on that the cone's log names; damage before that isn't found. Nothing is written to the sink before all
+/// cones are open.
 pub fn recover_to<P: Place, K: Sink>(
     alloc: Global,
     settings: &Settings,

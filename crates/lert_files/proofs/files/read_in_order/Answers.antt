@@ -1,10 +1,10 @@
-use Rattle.std.proofs.Common.{Err, refl, ap, sym, ◌∙◌, subst}
+use Rattle.std.proofs.Common.{ℕ, Err, refl, ap, sym, ◌∙◌, subst, arith}
 use Rattle.std.proofs.lemmas.Result.{err_from_is_err_and}
 use Rattle.lert_rows.specs.Checked.{EachStands}
 use Rattle.lert_levels.specs.OnDisk.{OnDisk}
 use Rattle.lert_rows.specs.Rows.{IsAt, AreRows}
 use Rattle.lert_spec.specs.declared.numbers.Numbers.{Numbers}
-use Rattle.lert_bay.specs.declared.bay.TheConstants.{FRAMES}
+use Rattle.lert_bay.specs.declared.bay.TheConstants.{JOURNAL, FRAMES}
 use Rattle.lert_bay.specs.Kept.{Bays}
 use Rattle.lert_bay.proofs.KeptLaws.{IsLawful, reading_as, reads_as}
 use Rattle.lert_files.specs.Opened.{By_call}
@@ -43,6 +43,7 @@ returns-in_err-sync_files g c =
       durable = λ seen told. tt;
       same = (refl, refl);
       quiet = quiet_as (bays g) (lawful g) c.args.bay.now c.sync_files.new.bay _ _ (λ is. refl) synced.quiet;
+      handed = omega (arith, ap (λ (out : ℕ → ℕ). out JOURNAL) synced.handed);
     })
 
 pub returns-in_err-read_journal_header : goal.returns-in_err-read_journal_header
@@ -63,6 +64,7 @@ returns-in_err-read_journal_header g c =
       quiet = quiet_on (bays g) (lawful g) c.args.bay.now c.sync_files.new.bay c.read_journal_header.new.bay _ _ synced.quiet
           (quiet_reading (bays g) (lawful g) c.sync_files.new.bay c.read_journal_header.new.bay _
           (reading_as (bays g) (lawful g) c.sync_files.new.bay c.read_journal_header.new.bay _ _ (λ is. same_fault _ _ is) header.only_reads));
+      handed = omega (arith, ap (λ (out : ℕ → ℕ). out JOURNAL) synced.handed, header.handed.at_most);
     })
 
 pub returns-in_err-end : goal.returns-in_err-end
@@ -89,6 +91,7 @@ returns-in_err-end g c =
           (quiet_reading (bays g) (lawful g) c.sync_files.new.bay c.read_journal_header.new.bay _ header.only_reads))
           (quiet_reads (bays g) (lawful g) c.read_journal_header.new.bay c.read_whole_log.new.bay _
           (reads_as (bays g) (lawful g) c.read_journal_header.new.bay c.read_whole_log.new.bay _ _ (λ is. same_fault _ _ is) log.only_reads));
+      handed = omega (arith, ap (λ (out : ℕ → ℕ). out JOURNAL) synced.handed, header.handed.at_most, log.only_reads.kept.journal);
     })
 
 pub returns-in_err-check : goal.returns-in_err-check
@@ -124,6 +127,7 @@ returns-in_err-check g c =
           (quiet_reads (bays g) (lawful g) c.read_journal_header.new.bay c.read_whole_log.new.bay _ log.only_reads))
           (quiet_reads (bays g) (lawful g) c.read_whole_log.new.bay c.check.new.bay _
           (reads_as (bays g) (lawful g) c.read_whole_log.new.bay c.check.new.bay _ _ (λ is. ap Err (check_failed _ (sym p.2 ∙ err_is _ _ is))) check.only_reads));
+      handed = omega (arith, ap (λ (out : ℕ → ℕ). out JOURNAL) synced.handed, header.handed.at_most, log.only_reads.kept.journal, check.only_reads.kept.journal);
     })
 
 pub returns : goal.returns
@@ -166,4 +170,5 @@ returns g c =
           (quiet_reads (bays g) (lawful g) c.read_journal_header.new.bay c.read_whole_log.new.bay _ log.only_reads))
           (quiet_reads (bays g) (lawful g) c.read_whole_log.new.bay c.check.new.bay _
           (reads_as (bays g) (lawful g) c.read_whole_log.new.bay c.check.new.bay _ _ (λ is. absurd (not_err _ _ is)) check.only_reads));
+      handed = omega (arith, ap (λ (out : ℕ → ℕ). out JOURNAL) synced.handed, header.handed.at_most, log.only_reads.kept.journal, check.only_reads.kept.journal);
     }

@@ -52,3 +52,11 @@ returns-clause-quiet g c = quiet_on (bays g) (lawful g) c.args.bay.now c.sync-2.
     (quiet_sync (bays g) (lawful g) c.sync-3.result FRAMES c.sync-2.new.self c.sync-3.new.self _ c.sync-3.ensures.seen c.sync-3.ensures.durable c.sync-3.ensures.failed
     c.sync-3.ensures.time c.sync-3.ensures.cause.never_falls
     (λ is. c.sync-3.ensures.cause.failed is) c.sync-3.ensures.mark)
+
+-- ---- no byte is handed out
+
+pub returns-in_err-sync-2-clause-handed : goal.returns-in_err-sync-2-clause-handed
+returns-in_err-sync-2-clause-handed g c = c.sync-2.ensures.handed ∙ c.sync.ensures.handed
+
+pub returns-clause-handed : goal.returns-clause-handed
+returns-clause-handed g c = c.sync-3.ensures.handed ∙ (c.sync-2.ensures.handed ∙ c.sync.ensures.handed)

@@ -1,7 +1,7 @@
 use denote.Exit.{no}
 use denote.Param.Send.{arg_send, param_send}
 use Rattle.lert_cone.proofs.ConeSend.{cone_send}
-use Rattle.std.proofs.Common.{◌≡◌, ◌∙◌, ◌+◌, ◌<◌, List, ap, sym, subst, refl, arith, length, rules}
+use Rattle.std.proofs.Common.{◌≡◌, ◌∙◌, ◌+◌, ◌<◌, List, ap, sym, subst, refl, arith, length, length-drop, rules}
 use Rattle.std.proofs.lemmas.List.{with_items_is}
 use Rattle.std.proofs.lemmas.Bool.{false≢true}
 use Rattle.lert_cone.specs.Locked.{is_stopped}
@@ -48,6 +48,29 @@ dismiss_all-pass-requires-clause-done g c =
     c.take_traces-back.ensures.taken) (ready_passes c.args.fleet c.args.settings.now c.args.workers c.in-Err-give_traces.given c.args.traces.items c.give_traces.new.crew
     (ready_now c.args.fleet c.args.settings.now c.args.workers c.in-Err-give_traces.given c.args.traces.items c.line_up-crew.result.items c.deref_mut.result.now
     c.give_traces.new.crew c.deref_mut.ensures.value c.line_up-crew.ensures.in_line c.in-Err-give_traces.ensures.some_given)))
+
+pub dismiss_all-pass-requires-clause-some : goal.dismiss_all-pass-requires-clause-some
+dismiss_all-pass-requires-clause-some g c =
+    let taken = subst (λ xs. WereTaken c.in-Err-give_traces.given xs c.take_traces-back.new.crew c.take_traces-back.result.items)
+    (c.deref_mut-in-Err-give_traces.ensures.value ∙ (front_is c.give_traces.new.crew _ c.line_up-crew.result.len (c.give_traces.auto.crew ∙ c.deref_mut.ensures.len)))
+    c.take_traces-back.ensures.taken in
+    let number = taken.number ∙ (c.in-Err-give_traces.ensures.some_given.number
+    ∙ (ap (λ xs. length xs) c.deref_mut.ensures.value ∙ (c.line_up-crew.ensures.number ∙ c.in-Ok.ensures.number))) in
+    some_front c.take_traces-back.new.crew _ c.line_up-crew.result.len (c.take_traces-back.auto.crew ∙ c.deref_mut-in-Err-give_traces.ensures.len)
+    (let least = c.requires.least in omega (arith, number, least))
+
+pub pour-requires : goal.pour-requires
+pour-requires g c =
+    let given = c.in-Err-give_traces.given in
+    let rest = ap (λ xs. length xs) c.in-Err-give_traces.ensures.rest ∙ length-drop given c.args.traces.items in
+    omega (
+      arith,
+      c.take_traces-back.ensures.taken.taken,
+      rest,
+      c.in-Err-give_traces.ensures.refused,
+      c.take_traces-back.ensures.capacity,
+      c.requires.room,
+    )
 
 pub close-requires-in-Err-give_traces-clause-whole : goal.close-requires-in-Err-give_traces-clause-whole
 close-requires-in-Err-give_traces-clause-whole g c =

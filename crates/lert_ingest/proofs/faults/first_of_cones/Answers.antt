@@ -1,6 +1,6 @@
-use Rattle.std.proofs.Common.{arith}
+use Rattle.std.proofs.Common.{◌≡◌, ◌∙◌, length, ap, arith}
 use Rattle.std.proofs.lemmas.Option.{slice_get_within}
-use Rattle.lert_ingest.specs.Faults.{fault_at}
+use Rattle.lert_ingest.specs.Faults.{earliest, fault_at}
 use Rattle.lert_ingest.proofs.FaultOrder.{earliest_more, fault_there, seen_more}
 use Rattle.lert_ingest.proofs.faults.first_of_cones.Goals as goal
 
@@ -16,3 +16,8 @@ loop-cone-preserved g c = record {
 pub returns-clause-seen : goal.returns-clause-seen
 returns-clause-seen g c = λ place standing is. c.loop-cone.invariant.seen place standing
     (let w = slice_get_within c.args.cones.now place standing is in let a = c.loop-cone-test.false in omega (arith, w, a)) is
+
+pub returns-clause-first : goal.returns-clause-first
+returns-clause-first g c =
+    let all : c.loop-cone.cone ≡ length c.args.cones.now = omega (arith, c.loop-cone-test.false, c.loop-cone.auto.cone-end) in
+    c.loop-cone.invariant.first_is ∙ ap (earliest (fault_at c.args.cones.now)) all

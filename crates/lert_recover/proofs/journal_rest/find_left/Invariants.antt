@@ -1,4 +1,4 @@
-use Rattle.std.proofs.Common.{◌≡◌, ◌+◌, ◌-◌, ◌*◌, ◌≤◌, ℕ, Some}
+use Rattle.std.proofs.Common.{◌≡◌, ◌+◌, ◌-◌, ◌*◌, ◌^◌, ◌≤◌, ℕ, Some}
 use Rattle.lert_bay.specs.declared.bay.TheConstants.{JOURNAL}
 use Rattle.lert_bay.specs.Files.{Files}
 use Rattle.lert_cone.specs.History.{most_payload}
@@ -24,7 +24,7 @@ invariant-records g l = record {
   file : l.log.file ≡ JOURNAL;
   most : l.log.most ≡ most_payload l.settings;
   within : l.count ≤ capacity l.settings;
-  near : l.log.gate ≤ 32 + 65536 * l.count;
+  near : l.log.gate ≤ 2 ^ 46 + 65536 * l.count;
   onward : (seen : Files) → g.B.Bay.files l.fn.bay ≡ Some seen → (at : ℕ) → JournalLeavesAt l.settings l.cone l.last.n0 l.last.closed (seen JOURNAL) l.count l.log.gate at →
       JournalLeavesAt l.settings l.cone l.last.n0 l.last.closed (seen JOURNAL) l.events l.gate at;
   ends : (seen : Files) → g.B.Bay.files l.fn.bay ≡ Some seen → JournalEnds l.settings l.cone l.last.n0 l.last.closed (seen JOURNAL) l.count l.log.gate →

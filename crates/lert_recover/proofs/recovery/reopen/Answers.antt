@@ -5,44 +5,50 @@ use Rattle.std.specs.Prelude.{if◌then◌else◌}
 use Rattle.lert_files.specs.declared.fault.ReopenFault.TheVariants.{Failed}
 use Rattle.lert_reports.specs.Log.{is_closed}
 use Rattle.lert_recover.specs.declared.recovery.ReopenRefused.{ReopenRefused}
-use Rattle.lert_recover.proofs.FinalLaws.{closed_told, differs_told, journal_told, malformed_told, other_told, refuses_told, sound_told}
+use Rattle.lert_recover.proofs.FinalLaws.{closed_told, differs_told, journal_told, malformed_told, other_told, refuses_told, sound_told, whole_told}
 use Rattle.lert_recover.proofs.ReopenLaws.{ok_on}
 use Rattle.lert_recover.proofs.ShownLaws.{reports_told, shown_told}
 use Rattle.lert_recover.proofs.recovery.reopen.Goals as goal
 
 pub returns-clause-journal : goal.returns-clause-journal
 returns-clause-journal g c seen told =
-    journal_told c.args.room.settings c.args.cone c.requires.room.valid c.ranges.cone.fits seen
+    journal_told c.args.room.settings c.args.cone c.requires.room.valid c.requires.named c.ranges.cone.fits seen
     (λ (now : Standing g.row.B.Denot). now.listing.closed) (λ (now : Standing g.row.B.Denot). now.listing.events) (λ (now : Standing g.row.B.Denot). now.gate)
     (λ (refused : ReopenRefused g.row.B.Denot). refused.fault) c.reopen_in_order.result (c.reopen_in_order.ensures.told seen told)
 
+pub returns-clause-journal_whole : goal.returns-clause-journal_whole
+returns-clause-journal_whole g c seen told h journal records log_end log mark =
+    whole_told c.args.room.settings c.args.cone c.requires.room.valid c.requires.named c.ranges.cone.fits seen
+    (λ (now : Standing g.row.B.Denot). now.listing.closed) (λ (now : Standing g.row.B.Denot). now.listing.events) (λ (now : Standing g.row.B.Denot). now.gate)
+    (λ (refused : ReopenRefused g.row.B.Denot). refused.fault) c.reopen_in_order.result (c.reopen_in_order.ensures.told seen told) h journal records log_end log mark
+
 pub returns-clause-closed : goal.returns-clause-closed
 returns-clause-closed g c seen told =
-    closed_told c.args.room.settings c.args.cone c.requires.room.valid c.ranges.cone.fits seen
+    closed_told c.args.room.settings c.args.cone c.requires.room.valid c.requires.named c.ranges.cone.fits seen
     (λ (now : Standing g.row.B.Denot). now.listing.closed) (λ (now : Standing g.row.B.Denot). now.listing.events) (λ (now : Standing g.row.B.Denot). now.gate)
     (λ (refused : ReopenRefused g.row.B.Denot). refused.fault) c.reopen_in_order.result (c.reopen_in_order.ensures.told seen told)
 
 pub returns-clause-malformed : goal.returns-clause-malformed
 returns-clause-malformed g c seen told =
-    malformed_told c.args.room.settings c.args.cone c.requires.room.valid c.ranges.cone.fits seen
+    malformed_told c.args.room.settings c.args.cone c.requires.room.valid c.requires.named c.ranges.cone.fits seen
     (λ (now : Standing g.row.B.Denot). now.listing.closed) (λ (now : Standing g.row.B.Denot). now.listing.events) (λ (now : Standing g.row.B.Denot). now.gate)
     (λ (refused : ReopenRefused g.row.B.Denot). refused.fault) c.reopen_in_order.result (c.reopen_in_order.ensures.told seen told)
 
 pub returns-clause-other : goal.returns-clause-other
 returns-clause-other g c seen told =
-    other_told c.args.room.settings c.args.cone c.requires.room.valid c.ranges.cone.fits seen
+    other_told c.args.room.settings c.args.cone c.requires.room.valid c.requires.named c.ranges.cone.fits seen
     (λ (now : Standing g.row.B.Denot). now.listing.closed) (λ (now : Standing g.row.B.Denot). now.listing.events) (λ (now : Standing g.row.B.Denot). now.gate)
     (λ (refused : ReopenRefused g.row.B.Denot). refused.fault) c.reopen_in_order.result (c.reopen_in_order.ensures.told seen told)
 
 pub returns-clause-refuses : goal.returns-clause-refuses
 returns-clause-refuses g c seen told =
-    refuses_told c.args.room.settings c.args.cone c.requires.room.valid c.ranges.cone.fits seen
+    refuses_told c.args.room.settings c.args.cone c.requires.room.valid c.requires.named c.ranges.cone.fits seen
     (λ (now : Standing g.row.B.Denot). now.listing.closed) (λ (now : Standing g.row.B.Denot). now.listing.events) (λ (now : Standing g.row.B.Denot). now.gate)
     (λ (refused : ReopenRefused g.row.B.Denot). refused.fault) c.reopen_in_order.result (c.reopen_in_order.ensures.told seen told)
 
 pub returns-clause-differs : goal.returns-clause-differs
 returns-clause-differs g c seen told =
-    differs_told c.args.room.settings c.args.cone c.requires.room.valid c.ranges.cone.fits seen
+    differs_told c.args.room.settings c.args.cone c.requires.room.valid c.requires.named c.ranges.cone.fits seen
     (λ (now : Standing g.row.B.Denot). now.listing.closed) (λ (now : Standing g.row.B.Denot). now.listing.events) (λ (now : Standing g.row.B.Denot). now.gate)
     (λ (refused : ReopenRefused g.row.B.Denot). refused.fault) c.reopen_in_order.result (c.reopen_in_order.ensures.told seen told)
 
@@ -52,7 +58,7 @@ returns-clause-sound_opens g c seen told h sound =
     let finished = λ (now : Standing g.row.B.Denot). now.state ≡ if now.listing.closed then Finished else Running in
     let own = λ (now : Standing g.row.B.Denot). (now.listing.settings ≡ c.args.room.settings) × (now.listing.cone ≡ c.args.cone) × (now.events ≡ length now.listing.events) ×
     (now.state ≡ if now.listing.closed then Finished else Running) in
-    sound_told c.args.room.settings c.args.cone c.requires.room.valid c.ranges.cone.fits seen
+    sound_told c.args.room.settings c.args.cone c.requires.room.valid c.requires.named c.ranges.cone.fits seen
     (λ (now : Standing g.row.B.Denot). now.listing.closed) (λ (now : Standing g.row.B.Denot). now.listing.events) (λ (now : Standing g.row.B.Denot). now.gate)
     (λ (refused : ReopenRefused g.row.B.Denot). refused.fault)
     (g.B.Bay.files c.args.bay) told (λ (now : Standing g.row.B.Denot). now.events)

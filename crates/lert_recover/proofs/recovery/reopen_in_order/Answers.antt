@@ -1,4 +1,4 @@
-use Rattle.std.proofs.Common.{◌≡◌, ℕ, ◌<◌, ◌≤◌, Some, Err, List, [], length, refl, ap, sym, ◌∙◌, subst, arith}
+use Rattle.std.proofs.Common.{◌≡◌, ℕ, ◌+◌, ◌-◌, ◌<◌, ◌≤◌, Some, Err, List, length, ap, sym, ◌∙◌, subst, arith}
 use Rattle.std.specs.List.{length_refill}
 use Rattle.std.proofs.lemmas.Option.{same_Some}
 use Rattle.std.proofs.lemmas.Result.{IfErr-weaker}
@@ -11,23 +11,26 @@ use Rattle.lert_bay.proofs.KeptLaws.{IsLawful, calls_as}
 use Rattle.lert_gatelog.specs.Gated.{IsClosed}
 use Rattle.lert_cone.specs.declared.state.ConeState.TheVariants.{Finished, Running}
 use Rattle.lert_cone.specs.Framed.{HoldsSome}
-use Rattle.lert_cone.specs.Replays.{Replays}
 use Rattle.lert_cone.specs.Sound.{IsSound}
 use Rattle.lert_cone.specs.Stands.{Standing, StandsFor, WasSound}
+use Rattle.lert_cone.proofs.TotalLaws.{edge_within}
+use Rattle.lert_cone.proofs.UnreadLaws.{length_unread}
 use Rattle.lert_files.specs.declared.fault.ReopenFault.TheVariants.{Failed}
 use Rattle.lert_recover.specs.declared.recovery.ReopenRefused.{ReopenRefused}
 use Rattle.lert_files.specs.Opened.{WritesNothing}
 use Rattle.lert_files.proofs.QuietLaws.{quiet_as}
-use Rattle.lert_recover.specs.Replayed.{FlushesNothing, HasReplayed}
+use Rattle.lert_recover.specs.Replayed.{FlushesNothing, HasReplayed, ReplaysSome}
 use Rattle.lert_recover.specs.Reopened.{IsStopped}
 use Rattle.lert_levels.specs.OnDisk.{OnDisk}
+use Rattle.lert_reports.specs.Log.{last_first, last_n0}
+use Rattle.lert_rows.specs.Rows.{directory_text}
 use Rattle.lert_reports.specs.Stored.{Stored}
 use Rattle.lert_spec.specs.declared.numbers.Numbers.{Numbers}
 use Rattle.lert_spec.specs.Limits.{IsValid}
 use Rattle.lert_recover.proofs.BayLaws.{bay_before, made_of, own_of, quiet_before}
 use Rattle.lert_recover.proofs.MomentLaws.{stays_made, stays_quiet}
 use Rattle.lert_recover.proofs.ReplayingLaws.{journal_same}
-use Rattle.lert_recover.proofs.ReopenLaws.{fails_on, frames_settled, journal_settled, last_of, log_shut, ok_on, refused_before, reopened_of, sound_opened, stands_on}
+use Rattle.lert_recover.proofs.ReopenLaws.{fails_on, frames_settled, journal_settled, last_of, log_shut, ok_on, read_before, refused_before, reopened_of, sound_opened, stands_on}
 use Rattle.lert_recover.proofs.SomeEvents.{some_events}
 use Rattle.lert_recover.proofs.recovery.reopen_in_order.Given as given
 use Rattle.lert_recover.proofs.recovery.reopen_in_order.Goals as goal
@@ -107,12 +110,19 @@ pub replay_journal-requires : goal.replay_journal-requires
 replay_journal-requires g c =
     let made = c.adopt-begun.ensures.made in
     let settings_are = ap (λ (k : Standing g.row.B.Denot). k.listing.settings) made in
+    let end = c.in-Ok.end in
+    let point = c.in-Ok.ensures.point in
+    let events_are = ap (λ (k : Standing g.row.B.Denot). k.events) made in
+    let count = ap (λ (k : Standing g.row.B.Denot). length k.listing.events) made
+    ∙ length_unread c.args.room.settings c.args.cone (end.first - 1) (g.B.Bay.files c.read_files.new.bay) in
     record {
       own = (settings_are, ap (λ (k : Standing g.row.B.Denot). k.listing.cone) made, ap (λ (k : Standing g.row.B.Denot). k.last) made);
       place = c.in-Ok.ensures.point.within;
       replaying = ap (λ (k : Standing g.row.B.Denot). k.state) made;
       valid = subst IsValid (sym settings_are) c.requires.room.valid;
-      begun = (ap (λ (k : Standing g.row.B.Denot). k.gate) made, ap (λ (k : Standing g.row.B.Denot). k.listing.events) made, ap (λ (k : Standing g.row.B.Denot). k.events) made);
+      begun = (ap (λ (k : Standing g.row.B.Denot). k.gate) made, events_are ∙ sym count);
+      few = omega (arith, events_are, point.first_from, point.first_to, edge_within c.args.room.settings 0 end.n0);
+      near = point.offset_to;
     }
 
 -- ---- files that aren't read
@@ -136,6 +146,7 @@ returns-in-Err g c =
       stays_sound = λ seen told h sound now is. subst (IsSound c.args.room.settings c.args.cone h) (same_Some seen now (sym (read.quiet.seen ∙ told) ∙ is)) sound;
       each_moment = λ seen told h each. stays_quiet (bays g) (lawful g) h c.args.room.settings c.args.cone c.args.bay c.read_files.new.bay _ read.quiet seen told each;
       unflushed = λ seen told nothing. quiet_as (bays g) (lawful g) c.args.bay c.read_files.new.bay _ ⊥ (λ never. absurd never) read.quiet;
+      bounded = λ seen told h sound. omega (arith, c.read_files.ensures.handed);
     }
 
 -- ---- the journal behind the others
@@ -162,7 +173,7 @@ returns-in-Ok g c =
     let bay_in = λ (refused : ReopenRefused g.row.B.Denot). refused.bay in
     let says = bay_before (bays g) (lawful g) bay_in c.args.bay start.bay ⊥ (λ (refused : ReopenRefused g.row.B.Denot). refused.fault) before result
     (record { reads = replayed.reads; kept = replayed.kept }) in
-    let begun : (seen : Files) → files c.args.bay ≡ Some seen → (h : List Packet) → IsSound s c.args.cone h seen → Replays files leaves start h [] =
+    let begun : (seen : Files) → files c.args.bay ≡ Some seen → (h : List Packet) → IsSound s c.args.cone h seen → ReplaysSome files leaves start h =
     λ seen told.
     let opened = c.in-Ok.ensures.opened seen told in
     let end = c.in-Ok.end in
@@ -170,7 +181,7 @@ returns-in-Ok g c =
     (last_of s c.args.cone end.n0 end.offset end.first end.closed c.read_files.new.store.reports c.read_files.new.levels.rows opened.0 opened.1 opened.2.named) in
     let there : (seen : Files) → files c.args.bay ≡ Some seen → files start.bay ≡ Some seen = λ seen told. ap files bay_is ∙ (read.quiet.seen ∙ told) in
     let fails = λ (seen : Files) (told : files c.args.bay ≡ Some seen).
-    fails_on (λ h. Replays files leaves start h []) (λ h. IsSound s c.args.cone h seen)
+    fails_on (λ h. ReplaysSome files leaves start h) (λ h. IsSound s c.args.cone h seen)
     (λ (refused : ReopenRefused g.row.B.Denot). refused.fault ≡ Failed)
     c.replay_journal.result (begun seen told) (c.replay_journal.ensures.fails seen (there seen told)) in
     record {
@@ -182,9 +193,10 @@ returns-in-Ok g c =
           let result = c.replay_journal.result in
           let journal = subst (λ (k : Standing g.row.B.Denot). (now : Files) → files k.bay ≡ Some now → HoldsSome k.listing.settings k.last.n0 k.rows (now FRAMES) →
           MatchResult result
-          (λ (cone : Standing g.row.B.Denot). HasReplayed k.listing.settings k.listing.cone k.last.n0 k.last.closed (now JOURNAL) cone.gate cone.listing.events × IsClosed
-          (now JOURNAL) cone.gate)
-          (λ (refused : ReopenRefused g.row.B.Denot). IsStopped k.listing.settings k.listing.cone k.last.n0 k.last.closed (now JOURNAL) refused.fault))
+          (λ (cone : Standing g.row.B.Denot). HasReplayed k.listing.settings k.listing.cone k.last.n0 k.last.closed (now JOURNAL) k.listing.events c.in-Ok.end.offset cone.gate
+          cone.listing.events × IsClosed (now JOURNAL) cone.gate)
+          (λ (refused : ReopenRefused g.row.B.Denot). IsStopped k.listing.settings k.listing.cone k.last.n0 k.last.closed (now JOURNAL) (length k.listing.events) c.in-Ok.end.offset
+          refused.fault))
           c.adopt-begun.ensures.made c.replay_journal.ensures.told in
           let passed = subst (λ (k : Standing g.row.B.Denot). IfOk result (λ (cone : Standing g.row.B.Denot). k.last.n0 ≤ length cone.listing.events)) c.adopt-begun.ensures.made
           c.replay_journal.ensures.passed in
@@ -196,7 +208,8 @@ returns-in-Ok g c =
           reopened_of (λ (cone : Standing g.row.B.Denot). cone.listing.closed) (λ (cone : Standing g.row.B.Denot). cone.listing.events)
           (λ (cone : Standing g.row.B.Denot). cone.gate)
           (λ (refused : ReopenRefused g.row.B.Denot). refused.fault)
-          s c.args.cone seen opened.0 c.in-Ok.end.log_end c.read_files.new.levels.rows c.in-Ok.end.n0 c.in-Ok.end.closed opened.2 opened.1.n0_is opened.1.closed_is result
+          s c.args.cone seen (files c.read_files.new.bay) after opened.0 c.in-Ok.end.log_end c.read_files.new.levels.rows c.in-Ok.end.n0 c.in-Ok.end.offset c.in-Ok.end.first
+          c.in-Ok.end.closed c.read_files.new.store.reports (directory_text c.read_files.new.levels.rows) opened.2 opened.1 result
           (journal seen after (some_events s c.requires.room.valid c.in-Ok.end.n0 c.in-Ok.ensures.point.within c.read_files.new.levels.rows c.in-Ok.ensures.at (seen FRAMES)
           (c.in-Ok.ensures.stand seen told))) passed closed (fails seen told);
       fails = fails;
@@ -208,7 +221,7 @@ returns-in-Ok g c =
           let start = c.adopt-begun.result in
           let end = c.in-Ok.end in
           let on_way : (h : List Packet) → ((seen : Files) → files c.args.bay ≡ Some seen → (other : List Packet) → IsSound s cone other seen → IsSound s cone h seen) →
-          WasSound files start → (seen : Files) → files start.bay ≡ Some seen → Replays files leaves start h [] =
+          WasSound files start → (seen : Files) → files start.bay ≡ Some seen → ReplaysSome files leaves start h =
           λ h same was seen told.
           let after = sym (ap (λ (k : Standing g.row.B.Denot). files k.bay) c.adopt-begun.ensures.made) ∙ told in
           let before = sym c.read_files.ensures.quiet.seen ∙ after in
@@ -219,7 +232,7 @@ returns-in-Ok g c =
           (last_of s cone end.n0 end.offset end.first end.closed c.read_files.new.store.reports c.read_files.new.levels.rows opened.0 opened.1 opened.2.named)
           h (same seen before first.0 own) in
           stands_on (λ h. All (λ (packet : Packet). 0 < length packet.keys) h) (λ h (now : Standing g.row.B.Denot). length (events_of h) ≡ now.events)
-          (λ h. WasSound files start → (seen : Files) → files start.bay ≡ Some seen → Replays files leaves start h [])
+          (λ h. WasSound files start → (seen : Files) → files start.bay ≡ Some seen → ReplaysSome files leaves start h)
           (λ h. (seen : Files) → files c.args.bay ≡ Some seen → (other : List Packet) → IsSound s cone other seen → IsSound s cone h seen)
           (λ (now : Standing g.row.B.Denot) h. StandsFor files leaves g.B.Faulty.faults now h) c.replay_journal.result on_way c.replay_journal.ensures.stands;
       own = own_of start s cone (ap (λ (k : Standing g.row.B.Denot). k.listing.settings) made) (ap (λ (k : Standing g.row.B.Denot). k.listing.cone) made)
@@ -242,9 +255,23 @@ returns-in-Ok g c =
           (replayed.each_moment seen (there seen told) h (begun seen told h (each seen ((lawful g).as_read c.args.bay seen told))));
       unflushed = λ seen told nothing.
           let opened = c.in-Ok.ensures.opened seen told in
+          let end = c.in-Ok.end in
           let n0_is = ap (λ (k : Standing g.row.B.Denot). k.last.n0) made ∙ opened.1.n0_is in
-          let none : FlushesNothing start.listing.settings start.last.n0 (seen JOURNAL) =
-          subst (λ (t : Numbers). FlushesNothing t start.last.n0 (seen JOURNAL)) (sym (ap (λ (k : Standing g.row.B.Denot). k.listing.settings) made))
-          (subst (λ (n : ℕ). FlushesNothing s n (seen JOURNAL)) (sym n0_is) (nothing opened.0 c.in-Ok.end.log_end opened.2.log)) in
+          let count_is = ap (λ (k : Standing g.row.B.Denot). length k.listing.events) made
+          ∙ (length_unread s cone (end.first - 1) (files c.read_files.new.bay) ∙ ap (λ (n : ℕ). n - 1) opened.1.first_is) in
+          let none : FlushesNothing start.listing.settings start.last.n0 (seen JOURNAL) (length start.listing.events) end.offset =
+          subst (λ (t : Numbers). FlushesNothing t start.last.n0 (seen JOURNAL) (length start.listing.events) end.offset)
+          (sym (ap (λ (k : Standing g.row.B.Denot). k.listing.settings) made))
+          (subst (λ (n : ℕ). FlushesNothing s n (seen JOURNAL) (length start.listing.events) end.offset) (sym n0_is)
+          (subst (λ (n : ℕ). FlushesNothing s (last_n0 opened.0) (seen JOURNAL) n end.offset) (sym count_is)
+          (subst (λ (gate : ℕ). FlushesNothing s (last_n0 opened.0) (seen JOURNAL) (last_first opened.0 - 1) gate) (sym opened.1.offset_is)
+          (nothing opened.0 end.log_end opened.2.log)))) in
           quiet_before (bays g) (lawful g) bay_in c.args.bay start.bay ⊥ before result (replayed.unflushed seen (there seen told) none);
+      bounded = λ seen told h sound.
+          let handed = g.B.Bay.handed_out in
+          let opened = c.in-Ok.ensures.opened seen told in
+          read_before (λ (bay : g.row.B.Denot). handed bay JOURNAL) bay_in s cone c.requires.room.valid seen h sound opened.0 c.in-Ok.end.log_end opened.2.log c.in-Ok.end.offset
+          opened.1.offset_is start.listing.settings (ap (λ (k : Standing g.row.B.Denot). k.listing.settings) made) c.args.bay start.bay
+          (subst (λ (bay : g.row.B.Denot). handed bay JOURNAL ≤ handed c.args.bay JOURNAL + 32) (sym bay_is) read.handed) result
+          (replayed.rest seen (there seen told) h (begun seen told h sound));
     }

@@ -15,7 +15,7 @@ use Rattle.lert_cone.proofs.SoundLaws.{turns_back}
 use Rattle.lert_gatelog.specs.Gated.{IsClosed}
 use Rattle.lert_files.specs.Opened.{WritesNothing}
 use Rattle.lert_files.proofs.QuietLaws.{quiet_on, quiet_reading}
-use Rattle.lert_recover.specs.Replayed.{HasReplayed, IsJournalSame}
+use Rattle.lert_recover.specs.Replayed.{HasReplayed, IsJournalSame, ReadsRest}
 use Rattle.lert_recover.specs.Reopened.{IsWhy}
 use Rattle.lert_recover.proofs.ReplayingLaws.{journal_on, journal_same, same_on}
 use Rattle.lert_recover.proofs.MomentLaws.{stays_read}
@@ -36,6 +36,20 @@ bays g = record {
 
 lawful : (g : given.Over) → IsLawful (bays g)
 lawful g = record { as_read = g.met.B.Bay.as_read; since_now = g.met.B.Bay.since_now; only_now = g.met.B.Bay.only_now; since_earlier = g.met.B.Bay.since_earlier }
+
+pub replay_all-requires : goal.replay_all-requires
+replay_all-requires g c =
+    let n0_is = ap (λ (last : LogPoint). last.n0) c.requires.own.2 in
+    record {
+      replaying = c.requires.replaying;
+      valid = c.requires.valid;
+      begun = c.requires.begun;
+      few = (
+        omega (arith, c.requires.few, n0_is),
+        subst (λ (s : Numbers). c.args.cone.last.n0 ≤ capacity s) (sym c.requires.own.0) (omega (arith, c.requires.place, n0_is)),
+      );
+      near = c.requires.near;
+    }
 
 pub ready-requires : goal.ready-requires
 ready-requires g c =
@@ -59,6 +73,7 @@ why_stopped-fault-requires g c =
 pub returns-in-Ok : goal.returns-in-Ok
 returns-in-Ok g c =
     let files = g.B.Bay.files in
+    let handed = g.B.Bay.handed_out in
     let start = c.args.cone in
     let now = c.ready.new.self in
     let all = c.in-Ok.ensures in
@@ -71,10 +86,10 @@ returns-in-Ok g c =
           let read = c.in-Ok.ensures.told seen told in
           let events_are = ap (λ (k : Standing g.row.B.Denot). k.listing.events) c.ready.ensures.value in
           let gate_is = ap (λ (k : Standing g.row.B.Denot). k.gate) c.ready.ensures.value ∙ c.in-Ok.ensures.gate in (
-            subst (λ (events : List ℕ). HasReplayed start.listing.settings start.listing.cone start.last.n0 start.last.closed (seen JOURNAL) c.ready.new.self.gate events)
-                (sym events_are)
+            subst (λ (events : List ℕ). HasReplayed start.listing.settings start.listing.cone start.last.n0 start.last.closed (seen JOURNAL) start.listing.events
+                c.args.last.now.offset c.ready.new.self.gate events) (sym events_are)
                 (subst (λ (gate : ℕ). HasReplayed start.listing.settings start.listing.cone start.last.n0 start.last.closed
-                (seen JOURNAL) gate c.replay_all.new.cone.listing.events) (sym gate_is) read.0),
+                (seen JOURNAL) start.listing.events c.args.last.now.offset gate c.replay_all.new.cone.listing.events) (sym gate_is) read.0),
             subst (λ (gate : ℕ). IsClosed (seen JOURNAL) gate) (sym gate_is) read.1,
           );
       fails = λ seen told. tt;
@@ -106,6 +121,9 @@ returns-in-Ok g c =
       each_moment = λ seen told h begun each. subst (λ (bay : g.row.B.Denot). StaysSound (bays g) start.listing.settings start.listing.cone h start.bay bay) (sym bay_is)
           (all.each_moment seen told h begun each);
       unflushed = λ seen told nothing. subst (λ (bay : g.row.B.Denot). WritesNothing (bays g) start.bay bay ⊥) (sym bay_is) (all.unflushed seen told nothing);
+      rest = λ seen told h begun.
+          subst (λ (bay : g.row.B.Denot). ReadsRest start.listing.settings c.args.last.now.offset h (handed start.bay JOURNAL) (handed bay JOURNAL)) (sym bay_is)
+          (c.replay_all.ensures.reads seen told h begun);
     }
 
 pub returns-in-Err : goal.returns-in-Err
@@ -136,8 +154,8 @@ returns-in-Err g c =
           (subst (λ (last : LogPoint). IsWhy c.args.settings.now c.args.number last.n0 last.closed (seen JOURNAL) stop.events stop.gate stop.fault fault) (sym c.requires.own.2)
           (subst (λ (bytes : List ℕ). IsWhy c.args.settings.now c.args.number c.args.last.now.n0 c.args.last.now.closed bytes stop.events stop.gate stop.fault fault) there.2
           found))) in
-          stopped_of start.listing.settings start.listing.cone start.last.n0 start.last.closed (seen JOURNAL) stop.gate stop.events stopped.0 stopped.1 stopped.2 fault
-          stop.fault why stopped.3
+          stopped_of start.listing.settings start.listing.cone start.last.n0 start.last.closed (seen JOURNAL) start.listing.events c.args.last.now.offset stop.gate stop.events
+          stopped.0 stopped.1 stopped.2 fault stop.fault why stopped.3
           (λ file at is. c.in-Err.ensures.full seen told some file at is);
       fails = λ seen told h begun.
           let there = c.replay_all.ensures.journal.told seen told in
@@ -165,4 +183,9 @@ returns-in-Err g c =
           (all.each_moment seen told h begun each) behind;
       unflushed = λ seen told nothing. quiet_on (bays g) (lawful g) start.bay end.bay last ⊥ ⊥ (all.unflushed seen told nothing)
           (quiet_reading (bays g) (lawful g) end.bay last ⊥ behind);
+      rest = λ seen told h begun.
+          let handed = g.B.Bay.handed_out in
+          let unread = ap (λ (out : ℕ → ℕ). out JOURNAL) (why.unread (all.replays seen told h begun)) in
+          let same = ap (λ (bay : g.row.B.Denot). handed bay JOURNAL) bay_is in
+          omega (arith, c.replay_all.ensures.reads seen told h begun, unread, same);
     }

@@ -7,11 +7,14 @@ use Rattle.lert_spec.specs.Edges.{capacity}
 use Rattle.lert_spec.proofs.LimitLaws.{capacity_to}
 use Rattle.lert_reports.specs.declared.log_point.LogPoint.{LogPoint}
 use Rattle.lert_cone.specs.declared.refusal.ReplayFault.TheVariants.{Unsound}
+use Rattle.lert_cone.specs.History.{most_payload}
 use Rattle.lert_cone.specs.Replays.{Replays, WhyRefused}
 use Rattle.lert_cone.specs.Stands.{Standing}
 use Rattle.lert_files.proofs.QuietLaws.{quiet_on, quiet_reading}
 use Rattle.lert_recover.specs.Replayed.{HasReplayed}
-use Rattle.lert_recover.proofs.ReplayingLaws.{framed_none, journal_none, journal_on, left_on, quiet_of, read_none, read_on, same_none, same_on, shut_on, sound_on, still_on}
+use Rattle.lert_recover.proofs.ReplayingLaws.{framed_none, journal_none, journal_on, left_on, quiet_of, read_on, same_none, same_on, shut_on, sound_on, still_on}
+use Rattle.lert_recover.proofs.RestBytes.{past_ahead}
+use Rattle.lert_recover.proofs.ReplayedLaws.{replayed_none}
 use Rattle.lert_recover.proofs.MomentLaws.{stays_none, stays_replayed}
 use Rattle.lert_recover.proofs.StopLaws.{full_alone}
 use Rattle.lert_recover.proofs.replay.replay_all.Given as given
@@ -25,23 +28,24 @@ pub packets-init : goal.packets-init
 packets-init g c =
     let start = c.args.cone.now in
     let begun = c.requires.begun in
-    let none = ap (length {A = ℕ}) begun.1 in
+    let few = c.requires.few in
     record {
       state = c.requires.replaying;
       same = same_none start;
       closed = refl;
       gate_is = begun.0;
-      counted = begun.2 ∙ sym none;
-      within = omega (arith, none);
-      near = omega arith;
-      read = λ seen told. read_none start.listing.settings start.listing.cone start.last.n0 start.last.closed (seen JOURNAL) start.listing.events begun.1;
-      sound = λ seen told h replays. ([], replays);
+      counted = begun.1;
+      within = omega (arith, begun.1, few.0, few.1);
+      near = omega (arith, c.requires.near);
+      read = λ seen told. replayed_none start.listing.settings start.listing.cone start.last.n0 start.last.closed (seen JOURNAL) start.listing.events c.args.first;
+      sound = λ seen told h replays. replays;
       throughout = λ seen told h begun each. stays_none (bays g) (lawful g) h start.listing.settings start.listing.cone start.bay each;
-      framed = λ seen told some there told_there. framed_none (g.B.Bay.files start.bay) start.listing.settings start.last.n0 start.rows start.listing.events begun.1 seen there
-          told told_there some;
+      framed = λ seen told some there told_there. framed_none (g.B.Bay.files start.bay) start.listing.settings start.last.n0 start.rows start.listing.events
+          (omega (arith, begun.1, few.0)) seen there told told_there some;
       journal = journal_none (g.B.Bay.files start.bay);
       kept = calls_none (bays g) (lawful g) start.bay ⊥ (λ never. never);
       unwritten = λ seen told nothing. quiet_reading (bays g) (lawful g) start.bay start.bay ⊥ (reading_none (bays g) (lawful g) start.bay ⊥ (λ never. never));
+      handed = omega arith;
     }
 
 pub replay-requires : goal.replay-requires
@@ -76,6 +80,7 @@ packets-preserved g c =
     calls_as (bays g) (lawful g) old.bay new.bay _ ⊥ (λ never. absurd never) c.replay.ensures.kept in
     let took = rw c.in-Ok-Some.field-0-is at c.in-Ok-Some.ensures.taken in
     let next = rw c.in-Ok-Some.field-0-is at c.in-Ok-Some.ensures.forward in
+    let cost = rw c.in-Ok-Some.field-0-is at c.in-Ok-Some.ensures.handed in
     let keys = took.packet.keys in
     let count : length new.listing.events ≡ length old.listing.events + length keys = ap (λ (k : Standing g.row.B.Denot). length k.listing.events) took.is ∙ length-append
     old.listing.events keys in
@@ -89,7 +94,7 @@ packets-preserved g c =
       counted = omega (arith, ap (λ (k : Standing g.row.B.Denot). k.events) took.is, now.counted, count);
       within = omega (arith, within, count);
       near = omega (arith, now.near, next.1, took.journaled.some, count);
-      read = λ seen told. read_on files start old new seen told now.same now.journal c.packets.gate c.in-Ok-Some.next (now.read seen told)
+      read = λ seen told. read_on files start old new seen told now.same now.journal c.args.first c.packets.gate c.in-Ok-Some.next (now.read seen told)
           (λ there told_there. (took.packet, took.stands there told_there, took.follows, took.next_is, ap (λ (k : Standing g.row.B.Denot). k.listing) took.is));
       sound = λ seen told h begun.
           let done = now.sound seen told h begun in
@@ -110,7 +115,8 @@ packets-preserved g c =
           let there = now.journal.told seen told in
           quiet_on (bays g) (lawful g) start.bay old.bay new.bay ⊥ ⊥ (now.unwritten seen told nothing)
           (quiet_of (bays g) old.bay new.bay ⊥ step
-          (c.replay.ensures.unflushed there.0 there.1 (still_on files start old new seen told now.same now.journal c.packets.gate (now.read seen told) nothing)));
+          (c.replay.ensures.unflushed there.0 there.1 (still_on files start old new seen told now.same now.journal c.args.first c.packets.gate (now.read seen told) nothing)));
+      handed = omega (arith, now.handed, cost, next.0);
     }
 
 pub returns-in-Ok-None : goal.returns-in-Ok-None
@@ -127,11 +133,16 @@ returns-in-Ok-None g c =
     let events_are = ap (λ (k : Standing g.row.B.Denot). k.listing.events) ended.is in
     record {
       told = λ seen told. (
-        subst (λ (events : List ℕ). HasReplayed start.listing.settings start.listing.cone start.last.n0 start.last.closed (seen JOURNAL) gate events) (sym events_are)
+        subst (λ (events : List ℕ). HasReplayed start.listing.settings start.listing.cone start.last.n0 start.last.closed (seen JOURNAL) start.listing.events c.args.first
+            gate events) (sym events_are)
             (now.read seen told),
-        shut_on files start old new seen told now.same now.journal gate ended.stands,
+        shut_on files start old new seen told now.same now.journal c.args.first gate ended.stands,
       );
       full = λ seen told some. tt;
+      reads = λ seen told h begun.
+          let cost = rw c.in-Ok-None.field-0-is at c.in-Ok-None.ensures.handed in
+          let done = now.sound seen told h begun in
+          omega (arith, now.handed, cost, now.gate_is, past_ahead h done.0 old.listing.events old.gate done.1.past);
       replays = λ seen told h begun.
           let done = now.sound seen told h begun in
           let there = now.journal.told seen told in
@@ -159,7 +170,7 @@ returns-in-Ok-None g c =
           let there = now.journal.told seen told in
           quiet_on (bays g) (lawful g) start.bay old.bay new.bay ⊥ ⊥ (now.unwritten seen told nothing)
           (quiet_of (bays g) old.bay new.bay ⊥ step
-          (c.replay.ensures.unflushed there.0 there.1 (still_on files start old new seen told now.same now.journal c.packets.gate (now.read seen told) nothing)));
+          (c.replay.ensures.unflushed there.0 there.1 (still_on files start old new seen told now.same now.journal c.args.first c.packets.gate (now.read seen told) nothing)));
       kept = calls_on (bays g) (lawful g) start.bay old.bay new.bay ⊥ ⊥ now.kept step;
     }
 
@@ -178,7 +189,7 @@ returns-in-Err g c =
         old.listing.events,
         now.read seen told,
         count,
-        λ at is. left_on files start old new seen told now.same now.journal c.packets.gate at c.events-events.result count
+        λ at is. left_on files start old new seen told now.same now.journal c.args.first c.packets.gate at c.events-events.result count
             (λ there told_there. subst (WhyRefused old (there JOURNAL) c.packets.gate) is (c.in-Err.ensures.refused there told_there)),
       );
       full = λ seen told some file at is.
@@ -190,6 +201,10 @@ returns-in-Err g c =
           let done = now.sound seen told h begun in
           let there = now.journal.told seen told in
           c.in-Err.ensures.replays there.0 there.1 h done.0 done.1 (sym now.gate_is);
+      reads = λ seen told h begun.
+          let done = now.sound seen told h begun in
+          let most = ap most_payload now.same.settings in
+          omega (arith, now.handed, c.in-Err.ensures.handed, now.gate_is, most, past_ahead h done.0 old.listing.events old.gate done.1.past);
       passed = tt;
       replaying = tt;
       gate = tt;
@@ -212,7 +227,7 @@ returns-in-Err g c =
           let there = now.journal.told seen told in
           quiet_on (bays g) (lawful g) start.bay old.bay new.bay ⊥ ⊥ (now.unwritten seen told nothing)
           (quiet_of (bays g) old.bay new.bay ⊥ step
-          (c.replay.ensures.unflushed there.0 there.1 (still_on files start old new seen told now.same now.journal c.packets.gate (now.read seen told) nothing)));
+          (c.replay.ensures.unflushed there.0 there.1 (still_on files start old new seen told now.same now.journal c.args.first c.packets.gate (now.read seen told) nothing)));
       kept = calls_on (bays g) (lawful g) start.bay old.bay new.bay ⊥ _ now.kept
           (calls_as (bays g) (lawful g) old.bay new.bay _ _ (λ is. c.in-Err.is ∙ ap Err is) c.replay.ensures.kept);
     }

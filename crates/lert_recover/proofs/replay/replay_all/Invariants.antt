@@ -1,17 +1,16 @@
-use Rattle.std.proofs.Common.{◌≡◌, ◌+◌, ◌-◌, ◌*◌, ◌≤◌, max, Some, List, [], length}
+use Rattle.std.proofs.Common.{◌≡◌, ◌+◌, ◌-◌, ◌*◌, ◌^◌, ◌≤◌, max, Some, List, length}
 use Rattle.lert_base.specs.Packet.{Packet}
 use Rattle.lert_bay.specs.declared.bay.TheConstants.{JOURNAL, FRAMES}
 use Rattle.lert_bay.specs.Files.{Files}
 use Rattle.lert_bay.specs.Kept.{Bays, CallsBay}
 use Rattle.lert_cone.specs.declared.state.ConeState.TheVariants.{Replaying}
 use Rattle.lert_cone.specs.Framed.{HoldsSome}
-use Rattle.lert_cone.specs.Replays.{Replays}
 use Rattle.lert_cone.specs.Sound.{StaysSound}
 use Rattle.lert_cone.specs.Stands.{IsSameCone}
 use Rattle.lert_files.specs.Opened.{WritesNothing}
 use Rattle.lert_spec.specs.Edges.{capacity}
 use Rattle.lert_recover.specs.Moments.{AreSound}
-use Rattle.lert_recover.specs.Replayed.{FlushesNothing, HasReplayed, IsJournalSame}
+use Rattle.lert_recover.specs.Replayed.{FlushesNothing, HasReplayed, IsJournalSame, ReplaysSome}
 use Rattle.lert_recover.proofs.replay.replay_all.Given as goal
 
 abbrev pub bays : (g : goal.Over) → Bays g.row.B.Denot
@@ -34,20 +33,21 @@ invariant-packets g l = record {
   gate_is : l.cone.gate ≡ l.gate;
   counted : l.cone.events ≡ length l.cone.listing.events;
   within : length l.cone.listing.events ≤ capacity l.fn.cone.listing.settings;
-  near : l.gate ≤ 32 + 65536 * length l.cone.listing.events;
+  near : l.gate ≤ 2 ^ 46 + 65536 * length l.cone.listing.events;
   read : (seen : Files) → g.B.Bay.files l.fn.cone.bay ≡ Some seen → HasReplayed l.fn.cone.listing.settings l.fn.cone.listing.cone l.fn.cone.last.n0 l.fn.cone.last.closed
-      (seen JOURNAL) l.gate l.cone.listing.events;
-  sound : (seen : Files) → g.B.Bay.files l.fn.cone.bay ≡ Some seen → (h : List Packet) → Replays g.B.Bay.files g.B.Bay.leaves l.fn.cone h [] →
-      (done : List Packet) × Replays g.B.Bay.files g.B.Bay.leaves l.cone h done;
-  throughout : (seen : Files) → g.B.Bay.files l.fn.cone.bay ≡ Some seen → (h : List Packet) → Replays g.B.Bay.files g.B.Bay.leaves l.fn.cone h [] →
+      (seen JOURNAL) l.fn.cone.listing.events l.fn.first l.gate l.cone.listing.events;
+  sound : (seen : Files) → g.B.Bay.files l.fn.cone.bay ≡ Some seen → (h : List Packet) → ReplaysSome g.B.Bay.files g.B.Bay.leaves l.fn.cone h →
+      ReplaysSome g.B.Bay.files g.B.Bay.leaves l.cone h;
+  throughout : (seen : Files) → g.B.Bay.files l.fn.cone.bay ≡ Some seen → (h : List Packet) → ReplaysSome g.B.Bay.files g.B.Bay.leaves l.fn.cone h →
       AreSound (g.B.Bay.leaves l.fn.cone.bay) l.fn.cone.listing.settings l.fn.cone.listing.cone h →
       StaysSound (bays g) l.fn.cone.listing.settings l.fn.cone.listing.cone h l.fn.cone.bay l.cone.bay;
   framed : (seen : Files) → g.B.Bay.files l.fn.cone.bay ≡ Some seen → HoldsSome l.fn.cone.listing.settings l.fn.cone.last.n0 l.fn.cone.rows (seen FRAMES) →
       (there : Files) → g.B.Bay.files l.cone.bay ≡ Some there → HoldsSome l.cone.listing.settings (max l.cone.last.n0 (length l.cone.listing.events)) l.cone.rows (there FRAMES);
   journal : IsJournalSame (g.B.Bay.files l.fn.cone.bay) (g.B.Bay.files l.cone.bay);
   kept : CallsBay (bays g) l.fn.cone.bay l.cone.bay ⊥;
-  unwritten : (seen : Files) → g.B.Bay.files l.fn.cone.bay ≡ Some seen → FlushesNothing l.fn.cone.listing.settings l.fn.cone.last.n0 (seen JOURNAL) →
-      WritesNothing (bays g) l.fn.cone.bay l.cone.bay ⊥;
+  unwritten : (seen : Files) → g.B.Bay.files l.fn.cone.bay ≡ Some seen → FlushesNothing l.fn.cone.listing.settings l.fn.cone.last.n0 (seen JOURNAL)
+      (length l.fn.cone.listing.events) l.fn.first → WritesNothing (bays g) l.fn.cone.bay l.cone.bay ⊥;
+  handed : g.B.Bay.handed_out l.cone.bay JOURNAL + l.fn.first ≤ g.B.Bay.handed_out l.fn.cone.bay JOURNAL + l.gate;
 }
 
 -- each packet has a key

@@ -170,7 +170,7 @@ loop-number-preserved g c =
     let own = c.in-Ok.ensures.own in
     let opened : IsOpenOver g.B.Bay.files g.B.Bay.leaves g.B.Faulty.faults room.settings c.loop-number.number bay cone =
     open_over g.B.Bay.files g.B.Bay.leaves g.B.Faulty.faults g.B.Faulty.mark room.settings c.loop-number.number bay cone c.in-Ok.ensures.sound_opens c.in-Ok.ensures.journal
-    c.in-Ok.ensures.refuses c.in-Ok.ensures.differs own.0 own.1 own.2 own.3 c.in-Ok.ensures.made.0 in
+    c.in-Ok.ensures.journal_whole c.in-Ok.ensures.refuses c.in-Ok.ensures.differs own.0 own.1 own.2 own.3 c.in-Ok.ensures.made.0 in
     let opened_here = subst (λ (n : Numbers). IsOpenOver g.B.Bay.files g.B.Bay.leaves g.B.Faulty.faults n (length cones) bay cone) popped.1.0
     (subst (λ (n : ℕ). IsOpenOver g.B.Bay.files g.B.Bay.leaves g.B.Faulty.faults room.settings n bay cone) (sym here.number) opened) in
     record {
