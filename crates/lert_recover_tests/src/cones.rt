@@ -132,6 +132,20 @@ fn a_flush_that_the_run_did_not_come_to(rt: HostRuntime) {
 }
 
 #[test]
+fn a_log_that_names_no_record_of_the_journal(rt: HostRuntime) {
+    let alloc = rt.alloc();
+    let first = reopened(&rt, alloc, bay(&rt, alloc, &[&TWELVE, &BEGUN, &[]]));
+    // Byte 33 is no open gate and 141 a closed one, before which the log's twelve keys are missing. There the journal ends.
+    for (offset, at) in [(33, 33), (141, 141), (142, 142), (200, 142)] {
+        let mut other = FLUSHED;
+        other[22] = offset;
+        let files = bay(&rt, alloc, &[&TWELVE, &other, first.bay.bytes(FRAMES)]);
+        let found = reopened(&rt, alloc, files);
+        assert_eq!(rt; found.answer, is_left(JOURNAL, at), "byte {offset}");
+    }
+}
+
+#[test]
 fn a_call_that_fails_is_told(rt: HostRuntime) {
     for call in 1..9 {
         let mut failing = bay(&rt, rt.alloc(), &[&THREE, &CLOSED, &[]]);

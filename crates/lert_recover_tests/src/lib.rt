@@ -1,4 +1,5 @@
-//! Tests of reopening: whole logs and headers of journals, and the files of stopped runs, on worked examples and on broken bytes.
+//! Tests of reopening: whole logs and headers of journals, and the files of stopped runs, on worked examples and on broken bytes,
+//! and how much of a journal it reads.
 //!
 //! No crate stands on this one.
 #![tactic(auto)]
@@ -9,5 +10,7 @@ mod cones;
 mod journal_headers;
 #[cfg(test)]
 mod logs;
+#[cfg(test)]
+mod newest;
 #[cfg(test)]
 mod settings;
