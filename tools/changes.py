@@ -10,7 +10,7 @@ from itertools import islice
 from typing import Callable, Iterator, NamedTuple
 
 from breaks import COUNT_TOP_AT, TOO_GREAT, frame_changes
-from cones import FLUSH, FRAMES, JOURNAL, LOG, SUFFIXES, Cone
+from cones import FLUSH, FRAMES, JOURNAL, LOG, MOST_OFFSET, SUFFIXES, Cone
 from formats import HEADER_LEN, OPEN
 from recovery import Folder, Settings, file_name, files_in
 from slots import COUNT_AT, frame_len
@@ -19,8 +19,9 @@ CUTS = 50
 # Of the version in journal and log.
 VERSION_AT = 5
 GARBAGE_LEN = 200
-# From a gate to its payload.
+# From a gate to its payload, and from that of a log's record to the place in the journal that it names.
 PAYLOAD_BEHIND_GATE = 5
+OFFSET_BEHIND_GATE = PAYLOAD_BEHIND_GATE + 9
 
 
 Changes = dict[str, bytes | None]
@@ -154,13 +155,13 @@ class Break(NamedTuple):
 
 def in_order(kept: Kept, cone: int) -> Iterator[Case]:
     """Many broken places, of which the first in the order of reading decides: the header, the log, the frames, levels
-    ascending and bins oldest first, a packet of the journal, and the cones behind this one."""
+    ascending and bins oldest first, the first packet of the journal that is read, and the cones behind this one."""
     read = cone_in(kept, cone)
     named = [(level, frame) for level, row in enumerate(read.log.directory, 1) for frame in row]
     breaks = [Break(file, VERSION_AT, VERSION_AT) for file in (JOURNAL, LOG)]
     places = [read.levels.frame_place(level, frame) for level, frame in named]
     breaks += [Break(FRAMES, place + COUNT_TOP_AT, place + COUNT_AT) for place in places]
-    payload = read.packets[0][0] + PAYLOAD_BEHIND_GATE
+    payload = read.log.begins()[0] + PAYLOAD_BEHIND_GATE
     breaks.append(Break(JOURNAL, payload, payload))
     behind = [file_name(later, JOURNAL) for later in kept.run.settings.cones() if later > cone]
     for number, (file, _changed, left) in enumerate(breaks):
@@ -184,6 +185,37 @@ def frames_changed(kept: Kept, cone: int) -> Iterator[Case]:
                 line = "" if change.left is None else malformed(cone, FRAMES, change.left)
                 case = f"{name} with {change.name} at {change.at}"
                 yield Case(case, kept, {name: put(data, change.at, *change.values)}, line)
+
+
+def unread(kept: Kept, cone: int, draw: random.Random) -> Iterator[Case]:
+    """Other bytes in place of the records before the one that the log's last record names, which aren't read."""
+    name = file_name(cone, JOURNAL)
+    data = kept.folder[name]
+    gate, first = cone_in(kept, cone).log.begins()
+    count = gate - HEADER_LEN
+    for word, others in (("zeros", bytes(count)), ("ones", bytes([OPEN]) * count), ("others", draw.randbytes(count))):
+        changed = put(data, HEADER_LEN, *others)
+        yield Case(f"{name} with {word} before byte {gate} and position {first}", kept, {name: changed}, "")
+
+
+def misnamed(kept: Kept, cone: int) -> Iterator[Case]:
+    """The log's last record names another place of the journal, or another position there. Where a closed gate stands
+    at that place, or nothing at all, events are missing."""
+    read = cone_in(kept, cone)
+    name, journal = file_name(cone, LOG), file_name(cone, JOURNAL)
+    data, length = kept.folder[name], len(kept.folder[journal])
+    place = read.log.records[-1].gate + OFFSET_BEHIND_GATE
+    gate, first = read.log.begins()
+    # The lowest byte of a length is a multiple of 8, and so no open gate.
+    for named, left in ((gate + 1, gate + 1), (length - 1, length - 1), (length, length), (MOST_OFFSET, length)):
+        changed = put(data, place, *named.to_bytes(8, "little"))
+        yield Case(f"{name} that names byte {named}", kept, {name: changed}, malformed(cone, JOURNAL, left))
+    # Without the events before that record's.
+    line = malformed(cone, JOURNAL, length - 1) if read.count - (first - 1) < read.log.n0 else None
+    changed = put(data, place + 8, *(1).to_bytes(8, "little"))
+    yield Case(f"{name} that names position 1 at byte {gate}", kept, {name: changed}, line if first > 1 else "")
+    changed = put(data, place, *HEADER_LEN.to_bytes(8, "little"), *(1).to_bytes(8, "little"))
+    yield Case(f"{name} that names the first record", kept, {name: changed}, None if first > 1 else "")
 
 
 def gate_behind(read: Cone, events: int) -> int:
@@ -226,6 +258,8 @@ def table(kept: Kept, draw: random.Random) -> Iterator[Case]:
         yield from behind_closing(kept, cone)
         yield from in_order(kept, cone)
         yield from frames_changed(kept, cone)
+        yield from unread(kept, cone, draw)
+        yield from misnamed(kept, cone)
         yield from stops(kept, cone)
     yield from cuts(kept)
 

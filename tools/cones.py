@@ -251,6 +251,10 @@ class Log:
             reports.append(self.reports[-1])
         return reports
 
+    def begins(self) -> tuple[int, int]:
+        """The journal's record that the last one names: its gate, and the position of its first key."""
+        return (self.records[-1].offset, self.records[-1].first) if self.records else (HEADER_LEN, 1)
+
 
 def cones_in(folder: Path) -> list[Path]:
     """The cones of a directory, by their files without suffix, where at least one of the three is there."""
@@ -271,7 +275,8 @@ def files_of(cone: Path) -> list[bytes]:
 
 class Cone:
     """The files of a cone, read in the order in which they are opened again: the header of the journal, the log, the
-    frames that its last record names, and the packets of the journal."""
+    frames that its last record names, and the packets of the journal. The count is that of the events up to the last
+    packet, which are more than those read where the first packets aren't."""
 
     def __init__(self, files: Sequence[bytes], due: Header | None = None) -> None:
         """The three files in their order, and the header that is due in the journal, where it is known."""
@@ -281,12 +286,17 @@ class Cone:
         self.log = Log(header, self.levels)
         self.packets: list[tuple[int, Packet]] = []
         self.events: list[int] = []
+        self.count = 0
         self.frames: list[tuple[int, int, list[Piece]]] = []
 
     def read(self) -> None:
+        """Reads all of them."""
+        self.read_before_packets()
+        in_file(JOURNAL, self.read_journal, self.files[JOURNAL])
+
+    def read_before_packets(self) -> None:
         in_file(LOG, self.log.read, self.files[LOG])
         in_file(FRAMES, self.read_frames, self.files[FRAMES])
-        in_file(JOURNAL, self.read_journal, self.files[JOURNAL])
 
     def shape(self, level: int) -> Shape:
         """That of a level's frames."""
@@ -298,19 +308,21 @@ class Cone:
                 place = self.levels.frame_place(level, frame)
                 self.frames.append((low, high, pieces_at(data, place, self.shape(level), high - low)))
 
-    def read_journal(self, data: bytes) -> None:
+    def read_journal(self, data: bytes, gate: int = HEADER_LEN, first: int = 1) -> None:
+        """Takes the packets from a gate on, of which the first one begins with the key at this position."""
         capacity, n0 = self.levels.capacity(self.header), self.log.n0
-        end = HEADER_LEN
-        for gate, packet in packets(data):
-            events = len(self.events) + len(packet.keys)
-            if self.log.closed and events > n0:
+        self.count = first - 1
+        end = gate
+        for gate, packet in packets(data, gate):
+            self.count += len(packet.keys)
+            if self.log.closed and self.count > n0:
                 raise Left(gate)
-            if events > capacity:
+            if self.count > capacity:
                 raise Left(gate + 1)
             self.packets.append((gate, packet))
             self.events += packet.keys
-            end = gate + 13 + 8 * len(packet.keys)
-        if len(self.events) < n0:
+            end = packet.behind(gate)
+        if self.count < n0:
             raise Left(end)
 
     @cached_property

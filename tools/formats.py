@@ -57,6 +57,10 @@ class Packet(NamedTuple):
     trace: int
     keys: tuple[int, ...]
 
+    def behind(self, gate: int) -> int:
+        """The gate behind its record."""
+        return gate + 13 + 8 * len(self.keys)
+
 
 def mixed(key: int) -> int:
     key = (key ^ (key >> 33)) * 0xFF51AFD7ED558CCD & WORD
@@ -162,10 +166,10 @@ def packet_of(header: Header, at: int, payload: bytes) -> Packet:
     return Packet(by, trace, keys)
 
 
-def packets(data: bytes) -> Iterator[tuple[int, Packet]]:
-    """The packets of a journal, each with the place of its gate."""
+def packets(data: bytes, first: int = HEADER_LEN) -> Iterator[tuple[int, Packet]]:
+    """The packets of a journal from a gate on, each with the place of its gate."""
     header = header_of(data)
-    for at, payload in payloads(data, HEADER_LEN, 8 + 32 * header.packet):
+    for at, payload in payloads(data, first, 8 + 32 * header.packet):
         yield at - 1, packet_of(header, at, payload)
 
 

@@ -13,8 +13,8 @@ from functools import lru_cache
 from pathlib import Path
 from typing import Callable, Iterable, Iterator, Mapping, NamedTuple, Sequence
 
-from cones import CLOSED, JOURNAL, LOOK, SUFFIXES, Broken, Cone, Report, Unsound
-from formats import TRACE_MAGIC, Header, OtherSettings
+from cones import CLOSED, JOURNAL, LOG, LOOK, SUFFIXES, Broken, Cone, Report, Unsound, in_file
+from formats import HEADER_LEN, TRACE_MAGIC, Header, Left, OtherSettings, Packet, packets
 
 DONE, CAPACITY_FULL, MALFORMED, OTHER_SETTINGS = 0, 8, 9, 10
 # In place of the status of a program that doesn't end.
@@ -140,11 +140,35 @@ def refused(cone: int, broken: Broken) -> Refused:
     return Refused(MALFORMED, f"lert: cone {cone} file {broken.file} malformed at {broken.at}\n")
 
 
+class Reopened(Cone):
+    """A cone as a recovery reads it: its packets are those from the record on that the log's last record names."""
+
+    def read(self) -> None:
+        self.read_before_packets()
+        in_file(JOURNAL, lambda data: self.read_journal(data, *self.log.begins()), self.files[JOURNAL])
+
+    def take_older(self, data: bytes) -> None:
+        """Takes the packets before them from a journal that has these."""
+        named, _first = self.log.begins()
+        end = HEADER_LEN
+        older: list[tuple[int, Packet]] = []
+        for gate, packet in packets(data[:named] + bytes(1)):
+            older.append((gate, packet))
+            end = packet.behind(gate)
+        if end != named:
+            raise Unsound(f"the log's last record names byte {named} of the journal, where no record begins")
+        self.packets = older + self.packets
+        self.events = [key for _gate, packet in older for key in packet.keys] + self.events
+
+
 @lru_cache(maxsize=64)
-def due_of(files: Files, header: Header) -> Due:
-    """What is due of the cone with these files, where this is the header of its journal."""
+def due_of(files: Files, header: Header, undamaged: bytes = b"") -> Due:
+    """What is due of the cone with these files, where this is the header of its journal.
+
+    The records of the journal before the one that the log's last record names aren't read. So what is due is what would
+    be if they were as in the undamaged journal, where that is given, whatever stands there now."""
     try:
-        cone = Cone(files, header)
+        cone = Reopened(files, header)
         cone.read()
     except Broken as broken:
         return refused(header.cone, broken)
@@ -152,14 +176,17 @@ def due_of(files: Files, header: Header) -> Due:
         return Refused(OTHER_SETTINGS, f"lert: cone {header.cone} has other settings\n")
     closed = cone.log.closed
     try:
+        cone.take_older(undamaged or files[JOURNAL])
         cone.check()
-    except Unsound:
-        return Opened(header.cone, len(cone.events), closed, None)
-    return Opened(header.cone, len(cone.events), closed, tuple(cone.reports(CLOSED if closed else LOOK)))
+    except (Left, Unsound):
+        return Opened(header.cone, cone.count, closed, None)
+    return Opened(header.cone, cone.count, closed, tuple(cone.reports(CLOSED if closed else LOOK)))
 
 
-def dues_of(folder: Folder, settings: Settings) -> list[Due]:
-    return [due_of(files_in(folder, cone), settings.header(cone)) for cone in settings.cones()]
+def dues_of(folder: Folder, settings: Settings, undamaged: Folder | None = None) -> list[Due]:
+    """What is due of each cone, of whose undamaged journals some may be known."""
+    journals = [files_in(undamaged or {}, cone)[JOURNAL] for cone in settings.cones()]
+    return [due_of(files_in(folder, cone), settings.header(cone), journals[cone]) for cone in settings.cones()]
 
 
 def is_sound(due: Due) -> bool:
@@ -211,19 +238,34 @@ def fits(answer: Answer, dues: Iterable[Due]) -> bool:
     return any(form.fits(answer) for form in forms(dues))
 
 
-def faults(answer: Answer, before: Folder, after: Folder, settings: Settings) -> Iterator[str]:
+def faults(
+    answer: Answer, before: Folder, after: Folder, settings: Settings, undamaged: Folder | None = None
+) -> Iterator[str]:
     """What is wrong with an answer over the files before it, and with those behind it."""
-    dues = dues_of(before, settings)
+    dues = dues_of(before, settings, undamaged)
     if not fits(answer, dues):
         yield f"answered {answer}; due is {' or '.join(map(str, forms(dues)))}"
-    yield from changes_of(before, after, settings)
+    yield from changes_of(before, after, settings, undamaged)
 
 
-def changes_of(before: Folder, after: Folder, settings: Settings) -> Iterator[str]:
+def changes_of(before: Folder, after: Folder, settings: Settings, undamaged: Folder | None = None) -> Iterator[str]:
     """What is wrong with the files behind a recovery. No journal may be changed, and where the files of a cone were
     sound, they have to be so for the same events, with the same reports."""
-    for cone, (due, behind) in enumerate(zip(dues_of(before, settings), dues_of(after, settings))):
-        if files_in(before, cone)[JOURNAL] != files_in(after, cone)[JOURNAL]:
+    for cone, due in enumerate(dues_of(before, settings, undamaged)):
+        old, new = files_in(before, cone), files_in(after, cone)
+        if old[JOURNAL] != new[JOURNAL]:
             yield f"the journal of cone {cone} was changed"
-        elif is_sound(due) and behind != due:
-            yield f"the files of cone {cone} were those of {due}, and are those of {behind}"
+        elif is_sound(due):
+            header = settings.header(cone)
+            behind = due_of(new, header, as_read(old, header, files_in(undamaged or {}, cone)[JOURNAL]))
+            if behind != due:
+                yield f"the files of cone {cone} were those of {due}, and are those of {behind}"
+
+
+def as_read(files: Files, header: Header, undamaged: bytes) -> bytes:
+    """The journal of sound files with the records that a recovery reads as they are, and those before them as they are
+    in the undamaged one, where that is given."""
+    cone = Cone(files, header)
+    cone.log.read(files[LOG])
+    gate, _first = cone.log.begins()
+    return (undamaged or files[JOURNAL])[:gate] + files[JOURNAL][gate:]

@@ -1,0 +1,117 @@
+//! What a plain program does to open the journals of a stopped run again: it makes each durable, reads all of its
+//! packets, counts the keys in a hash map, and reports each key at the event that makes it reach the threshold. It
+//! prints the lines of `lert recover`.
+//!
+//! Words: DIR. The threshold and the number of cones stand in the first journal; journals alone are read. It is the
+//! yardstick of `bench/reopen`, and ends at the first fault.
+
+use std::collections::HashMap;
+use std::env;
+use std::fs::File;
+use std::io::{self, BufReader, BufWriter, ErrorKind, Read, Write};
+use std::path::Path;
+
+const JOURNAL_MAGIC: [u8; 8] = *b"LERTJ\x01\0\0";
+const HEADER_LEN: usize = 32;
+const THRESHOLD_AT: usize = 8;
+const CONE_BITS_AT: usize = 27;
+const MOST_CONE_BITS: u8 = 8;
+const BUFFER_LEN: usize = 1 << 16;
+const OPEN: u8 = 1;
+/// Before its keys a payload says who brought them, and their trace.
+const KEYS_AT: usize = 8;
+
+struct Cone {
+    threshold: u64,
+    counts: HashMap<u64, u64>,
+    events: u64,
+    reports: Vec<(u64, u64)>,
+}
+
+impl Cone {
+    fn new(threshold: u64) -> Cone {
+        Cone { threshold, counts: HashMap::new(), events: 0, reports: Vec::new() }
+    }
+
+    fn take(&mut self, key: u64) {
+        self.events += 1;
+        let count = self.counts.entry(key).or_insert(0);
+        *count += 1;
+        if *count == self.threshold {
+            self.reports.push((key, self.events));
+        }
+    }
+
+    /// Takes the keys of all packets, up to the closed gate behind them.
+    fn replay(&mut self, journal: &mut impl Read) -> io::Result<()> {
+        let mut payload = Vec::new();
+        while let [OPEN] = bytes(journal)? {
+            payload.resize(u32::from_le_bytes(bytes(journal)?) as usize, 0);
+            journal.read_exact(&mut payload)?;
+            let keys = payload.get(KEYS_AT..).ok_or_else(|| bad("a packet has no key"))?;
+            for key in keys.chunks_exact(8) {
+                self.take(u64::from_le_bytes(key.try_into().expect("eight bytes")));
+            }
+        }
+        Ok(())
+    }
+}
+
+fn bad(text: &str) -> io::Error {
+    io::Error::new(ErrorKind::InvalidData, text)
+}
+
+fn bytes<const N: usize>(source: &mut impl Read) -> io::Result<[u8; N]> {
+    let mut bytes = [0; N];
+    source.read_exact(&mut bytes)?;
+    Ok(bytes)
+}
+
+/// A journal that is on the disk, behind its header.
+fn open(dir: &Path, number: u32) -> io::Result<([u8; HEADER_LEN], BufReader<File>)> {
+    let file = File::open(dir.join(format!("cone-{number:03}.journal")))?;
+    file.sync_data()?;
+    let mut journal = BufReader::with_capacity(BUFFER_LEN, file);
+    let header: [u8; HEADER_LEN] = bytes(&mut journal)?;
+    if !header.starts_with(&JOURNAL_MAGIC) {
+        return Err(bad("the journal has another header"));
+    }
+    Ok((header, journal))
+}
+
+fn reopen(dir: &Path, number: u32) -> io::Result<Cone> {
+    let (header, mut journal) = open(dir, number)?;
+    let threshold: [u8; 4] = header[THRESHOLD_AT..][..4].try_into().expect("four bytes");
+    let mut cone = Cone::new(u64::from(u32::from_le_bytes(threshold)));
+    cone.replay(&mut journal)?;
+    Ok(cone)
+}
+
+fn print(out: &mut impl Write, cones: &[Cone]) -> io::Result<()> {
+    for (number, cone) in cones.iter().enumerate() {
+        writeln!(out, "cone {number} events {} reports {} open", cone.events, cone.reports.len())?;
+        for (key, at) in &cone.reports {
+            writeln!(out, "{key} {at}")?;
+        }
+    }
+    let events: u64 = cones.iter().map(|cone| cone.events).sum();
+    let reports: usize = cones.iter().map(|cone| cone.reports.len()).sum();
+    writeln!(out, "total events {events} reports {reports}")?;
+    out.flush()
+}
+
+fn main() -> io::Result<()> {
+    let words: Vec<String> = env::args().skip(1).collect();
+    let [dir] = words.as_slice() else {
+        return Err(io::Error::new(ErrorKind::InvalidInput, "the word is DIR"));
+    };
+    let dir = Path::new(dir);
+    let (header, _journal) = open(dir, 0)?;
+    let cone_bits = header[CONE_BITS_AT];
+    if cone_bits > MOST_CONE_BITS {
+        return Err(bad("the journal has too many cone bits"));
+    }
+    let cones: Vec<Cone> = (0..1 << cone_bits).map(|number| reopen(dir, number)).collect::<io::Result<_>>()?;
+    let mut out = BufWriter::with_capacity(BUFFER_LEN, io::stdout().lock());
+    print(&mut out, &cones)
+}
