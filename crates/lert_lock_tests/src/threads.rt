@@ -1,7 +1,7 @@
 //! The lock and the fleet on two threads.
 
 ghost use Rattle.std.specs.Prelude.{◌≡◌, ℕ, length, slice_get, Some, IfOk};
-ghost use Rattle.lert_conelock.specs.Sight.{BelongsTo, Keeps, LockSight};
+ghost use Rattle.lert_conelock.specs.Sight.{BelongsTo, LockSight};
 ghost use Rattle.lert_fleet.specs.Cones.{IsPassOf};
 
 use crate::callers::{fleet_of_two, lock_of_two};
@@ -13,7 +13,6 @@ use lert_conelock::{ConeLock, Pass, Turn};
 use lert_fleet::{Fleet, FleetPass};
 use lert_io::OutOfMemory;
 use std::alloc::Global;
-use std::process::Abort;
 use std::sync::{Arc, Wait};
 use std::thread::{Threads, join_mut};
 
@@ -61,66 +60,42 @@ fn slow_fleet(
     fleet_of_two(alloc, two_slow_ones(alloc, flags)?)
 }
 
-// The second thread tries once it knows that the first one is inside `apply`.
-fn try_while_held(
+// The second thread tries once it knows that the first one is inside `apply`, and then waits for the lock.
+fn try_and_wait<R: Wait>(
+    rt: &R,
     lock: &ConeLock<Slow>,
     pass: &mut Pass<Slow>,
     entry: &Entry,
     flags: &Flags,
-) -> Turn<u64, ()>
+) -> (Turn<u64, ()>, Result<u64, ()>)
     requires belongs { BelongsTo pass.old lock.now }
     requires number { entry.now.by ≡ pass.old.lo }
-    ensures { Keeps pass.old pass.new }
+    ensures belongs { BelongsTo pass.new lock.now }
+    ensures range { (pass.new.lo ≡ pass.old.lo) × (pass.new.hi ≡ pass.old.hi) }
 {
     flags.await_inside();
     let turn = lock.try_act(pass, entry);
     flags.answer();
-    turn
+    (turn, lock.act(rt, pass, entry))
 }
 
-// The reply to the first thread, what the second one's try came to, and how many packets were taken.
-fn try_beside<R: Threads + Wait + Sync>(
-    rt: &R,
-    lock: ConeLock<Slow>,
-    mut first: Pass<Slow>,
-    mut second: Pass<Slow>,
-    meeting: &Meeting,
-) -> (Result<u64, ()>, Turn<u64, ()>, u64)
-    requires belongs { BelongsTo first lock × BelongsTo second lock }
-    requires first { (first.lo ≡ 0) × (first.hi ≡ 1) }
-    requires second { (second.lo ≡ 1) × (second.hi ≡ 2) }
-    requires all { lock.numbers ≡ 2 }
-{
-    let Meeting {
-        flags,
-        mine,
-        theirs,
-    } = meeting;
-    let (reply, turn) = join_mut(
-        rt,
-        &mut || lock.act(rt, &mut first, mine),
-        &mut || try_while_held(&lock, &mut second, theirs, flags),
-    );
-    lock.join(&mut first, second);
-    (reply, turn, lock.close(first).taken)
+// What the threads of a lock were told: the first one's reply, what the second one's try came to, the reply that it waited
+// for, and how many packets were taken.
+#[derive(Clone, Copy)]
+struct AtLock {
+    reply: Result<u64, ()>,
+    turn: Turn<u64, ()>,
+    waited: Result<u64, ()>,
+    taken: u64,
 }
 
-#[test]
-fn a_second_thread_finds_the_lock_held(rt: HostRuntime) {
-    let meeting = new_meeting(rt.alloc()).expect(&rt, "memory");
-    let (lock, first, second) = slow_lock(rt.alloc(), &meeting.flags).expect(&rt, "memory");
-    let told = try_beside(&rt, lock, first, second, &meeting);
-    assert_eq!(rt; told, (Ok(1), Turn::Busy, 1));
-}
-
-// The replies to both threads, of which the second one waits for the first, and how many packets were taken.
 fn act_beside<R: Threads + Wait + Sync>(
     rt: &R,
     lock: ConeLock<Slow>,
     mut first: Pass<Slow>,
     mut second: Pass<Slow>,
     meeting: &Meeting,
-) -> ((Result<u64, ()>, Result<u64, ()>), u64)
+) -> AtLock
     requires belongs { BelongsTo first lock × BelongsTo second lock }
     requires first { (first.lo ≡ 0) × (first.hi ≡ 1) }
     requires second { (second.lo ≡ 1) × (second.hi ≡ 2) }
@@ -131,37 +106,49 @@ fn act_beside<R: Threads + Wait + Sync>(
         mine,
         theirs,
     } = meeting;
-    let replies = join_mut(
+    let (reply, (turn, waited)) = join_mut(
         rt,
         &mut || lock.act(rt, &mut first, mine),
         &mut ||
             requires { BelongsTo second lock × (theirs.now.by ≡ second.lo) }
-        {
-            flags.await_inside();
-            flags.answer();
-            lock.act(rt, &mut second, theirs)
-        },
+        { try_and_wait(rt, &lock, &mut second, theirs, flags) },
     );
     lock.join(&mut first, second);
-    (replies, lock.close(first).taken)
+    AtLock {
+        reply,
+        turn,
+        waited,
+        taken: lock.close(first).taken,
+    }
+}
+
+fn at_lock<R: Threads + Wait + Sync>(rt: &R, alloc: Global) -> Result<AtLock, OutOfMemory> {
+    let meeting = new_meeting(alloc)?;
+    let (lock, first, second) = slow_lock(alloc, &meeting.flags)?;
+    Ok(act_beside(rt, lock, first, second, &meeting))
+}
+
+#[test]
+fn a_second_thread_finds_the_lock_held(rt: HostRuntime) {
+    let told = at_lock(&rt, rt.alloc()).expect(&rt, "memory");
+    assert_eq!(rt; (told.reply, told.turn), (Ok(1), Turn::Busy));
 }
 
 // A lock that woke nobody would leave the second thread asleep.
 #[test]
 fn a_thread_that_waits_for_the_lock_is_woken(rt: HostRuntime) {
-    let meeting = new_meeting(rt.alloc()).expect(&rt, "memory");
-    let (lock, first, second) = slow_lock(rt.alloc(), &meeting.flags).expect(&rt, "memory");
-    let told = act_beside(&rt, lock, first, second, &meeting);
-    assert_eq!(rt; told, ((Ok(1), Ok(2)), 2));
+    let told = at_lock(&rt, rt.alloc()).expect(&rt, "memory");
+    assert_eq!(rt; (told.reply, told.waited, told.taken), (Ok(1), Ok(2), 2));
 }
 
-// The second thread tries both cones once it knows that the first one is inside the first cone.
-fn try_both(
+// The second thread tries both cones once it knows that the first one is inside the first cone, for which it then waits.
+fn try_both_and_wait<R: Wait>(
+    rt: &R,
     fleet: &Fleet<Slow>,
     pass: &mut FleetPass<Slow>,
     entry: &Entry,
     flags: &Flags,
-) -> (Turn<u64, ()>, Turn<u64, ()>)
+) -> ([Turn<u64, ()>; 2], Result<u64, ()>)
     requires cones { length fleet.now ≡ 2 }
     requires belongs { IsPassOf pass.old fleet.now }
     requires number { entry.now.by ≡ pass.old.lo }
@@ -169,56 +156,31 @@ fn try_both(
     ensures range { (pass.new.lo ≡ pass.old.lo) × (pass.new.hi ≡ pass.old.hi) }
 {
     flags.await_inside();
-    let held = fleet.try_admit(pass, 0, entry);
-    let free = fleet.try_admit(pass, 1, entry);
+    let turns = [
+        fleet.try_admit(pass, 0, entry),
+        fleet.try_admit(pass, 1, entry),
+    ];
     flags.answer();
-    (held, free)
+    (turns, fleet.admit(rt, pass, 0, entry))
 }
 
-// The reply to the first thread, what the second one's tries came to, and how many states came back.
-fn try_both_beside<R: Threads + Wait + Sync>(
-    rt: &R,
-    fleet: Fleet<Slow>,
-    mut first: FleetPass<Slow>,
-    mut second: FleetPass<Slow>,
-    meeting: &Meeting,
-) -> (Result<u64, ()>, (Turn<u64, ()>, Turn<u64, ()>), usize)
-    requires cones { length fleet ≡ 2 }
-    requires belongs { IsPassOf first fleet × IsPassOf second fleet }
-    requires first { (first.lo ≡ 0) × (first.hi ≡ 1) }
-    requires second { (second.lo ≡ 1) × (second.hi ≡ 2) }
-    requires all { (cone : ℕ) (lock : LockSight Slow) → slice_get fleet cone ≡ Some lock → lock.numbers ≡ 2 }
-{
-    let Meeting {
-        flags,
-        mine,
-        theirs,
-    } = meeting;
-    let (reply, turns) = join_mut(
-        rt,
-        &mut || fleet.admit(rt, &mut first, 0, mine),
-        &mut || try_both(&fleet, &mut second, theirs, flags),
-    );
-    fleet.join(&mut first, second);
-    (reply, turns, fleet.close(first).len())
+// What the threads of a fleet were told: the first one's reply, what the second one's tries came to, the reply that it
+// waited for, and how many states came back.
+#[derive(Clone, Copy)]
+struct AtFleet {
+    reply: Result<u64, ()>,
+    turns: [Turn<u64, ()>; 2],
+    waited: Result<u64, ()>,
+    states: usize,
 }
 
-#[test]
-fn a_cone_is_free_while_another_is_held(rt: HostRuntime) {
-    let meeting = new_meeting(rt.alloc()).expect(&rt, "memory");
-    let (fleet, first, second) = slow_fleet(rt.alloc(), &meeting.flags).expect(&rt, "memory");
-    let told = try_both_beside(&rt, fleet, first, second, &meeting);
-    assert_eq!(rt; told, (Ok(1), (Turn::Busy, Turn::Done(1)), 2));
-}
-
-// The replies to both threads, of which the second one waits for the first, and how many states came back.
 fn admit_beside<R: Threads + Wait + Sync>(
     rt: &R,
     fleet: Fleet<Slow>,
     mut first: FleetPass<Slow>,
     mut second: FleetPass<Slow>,
     meeting: &Meeting,
-) -> ((Result<u64, ()>, Result<u64, ()>), usize)
+) -> AtFleet
     requires cones { length fleet ≡ 2 }
     requires belongs { IsPassOf first fleet × IsPassOf second fleet }
     requires first { (first.lo ≡ 0) × (first.hi ≡ 1) }
@@ -230,25 +192,37 @@ fn admit_beside<R: Threads + Wait + Sync>(
         mine,
         theirs,
     } = meeting;
-    let replies = join_mut(
+    let (reply, (turns, waited)) = join_mut(
         rt,
         &mut || fleet.admit(rt, &mut first, 0, mine),
         &mut ||
             requires { (length fleet ≡ 2) × IsPassOf second fleet × (theirs.now.by ≡ second.lo) }
-        {
-            flags.await_inside();
-            flags.answer();
-            fleet.admit(rt, &mut second, 0, theirs)
-        },
+        { try_both_and_wait(rt, &fleet, &mut second, theirs, flags) },
     );
     fleet.join(&mut first, second);
-    (replies, fleet.close(first).len())
+    AtFleet {
+        reply,
+        turns,
+        waited,
+        states: fleet.close(first).len(),
+    }
+}
+
+fn at_fleet<R: Threads + Wait + Sync>(rt: &R, alloc: Global) -> Result<AtFleet, OutOfMemory> {
+    let meeting = new_meeting(alloc)?;
+    let (fleet, first, second) = slow_fleet(alloc, &meeting.flags)?;
+    Ok(admit_beside(rt, fleet, first, second, &meeting))
+}
+
+#[test]
+fn a_cone_is_free_while_another_is_held(rt: HostRuntime) {
+    let told = at_fleet(&rt, rt.alloc()).expect(&rt, "memory");
+    let turns = told.turns;
+    assert_eq!(rt; (told.reply, turns), (Ok(1), [Turn::Busy, Turn::Done(1)]));
 }
 
 #[test]
 fn a_thread_that_waits_for_a_cone_is_woken(rt: HostRuntime) {
-    let meeting = new_meeting(rt.alloc()).expect(&rt, "memory");
-    let (fleet, first, second) = slow_fleet(rt.alloc(), &meeting.flags).expect(&rt, "memory");
-    let told = admit_beside(&rt, fleet, first, second, &meeting);
-    assert_eq!(rt; told, ((Ok(1), Ok(2)), 2));
+    let told = at_fleet(&rt, rt.alloc()).expect(&rt, "memory");
+    assert_eq!(rt; (told.reply, told.waited, told.states), (Ok(1), Ok(2), 2));
 }

@@ -2,7 +2,6 @@
 
 use lert_base::{Kept, Numbers, Settings};
 use lert_journal::{HEADER_LEN, header_left, read_header, write_header};
-use std::test::Fail;
 
 const NUMBERS: Numbers = Numbers {
     threshold: 3,
@@ -19,10 +18,8 @@ const TEXT: [u8; HEADER_LEN] =
     *b"LERTJ\x01\0\0\x03\0\0\0\x20\0\0\0\x04\0\0\0\x08\0\0\0\x03\x02\x02\0\0\0\0\0";
 
 #[test]
-fn a_header_is_written_and_read(rt: HostRuntime) -> Result<(), Fail> {
-    let settings = Settings::new(NUMBERS)
-        .ok()
-        .ok_or("the numbers are settings")?;
+fn a_header_is_written_and_read(rt: HostRuntime) {
+    let settings = Settings::new(NUMBERS).expect(&rt, "settings");
     let mut bytes = [255; HEADER_LEN];
     write_header(&settings, 0, &mut bytes);
     assert_eq!(rt; bytes, TEXT);
@@ -31,7 +28,6 @@ fn a_header_is_written_and_read(rt: HostRuntime) -> Result<(), Fail> {
         numbers: NUMBERS,
     };
     assert_eq!(rt; read_header(&TEXT), Some(kept));
-    Ok(())
 }
 
 #[test]

@@ -4,7 +4,7 @@
 use lert_bay::{LOG, MemBay};
 use lert_gatelog::{GateLog, LogFault};
 use std::alloc::Global;
-use std::test::Fail;
+use std::process::Abort;
 
 // The greatest payload of these logs.
 const MOST: u32 = 8;
@@ -29,39 +29,54 @@ fn records(bay: &mut MemBay) -> Result<u32, LogFault> {
 }
 
 // What a crash leaves of a log with one record, where the append of a second one is stopped at a call.
-fn stopped(alloc: Global, call: u64, pick: u64) -> Result<MemBay, Fail> {
-    let mut bay = MemBay::new(alloc)?;
-    let mut log = GateLog::create(&mut bay, LOG, b"head", MOST)?;
-    log.append(&mut bay, &FIRST)?;
+fn stopped(rt: &impl Abort, alloc: Global, call: u64, pick: u64) -> MemBay {
+    let mut bay = MemBay::new(alloc).expect(rt, "memory");
+    let mut log = GateLog::create(&mut bay, LOG, b"head", MOST).expect(rt, "no fault");
+    log.append(&mut bay, &FIRST).expect(rt, "no fault");
     bay.stop_at(call);
     let _ = log.append(&mut bay, &SECOND);
-    Ok(bay.crashed(pick)?)
+    bay.crashed(pick).expect(rt, "memory")
+}
+
+// What is read of a log of two records: three answers, the buffer behind the first one, its first byte behind the second one,
+// and the gate behind all.
+type Told = ([Option<usize>; 3], [u8; 8], u8, u64);
+
+fn read_two(bay: &mut MemBay) -> Result<Told, LogFault> {
+    let mut log = GateLog::at_gate(LOG, 4, MOST);
+    let mut payload = [0; MOST as usize];
+    let first = log.next(bay, &mut payload)?;
+    let behind_first = payload;
+    let second = log.next(bay, &mut payload)?;
+    let behind_second = payload[0];
+    let third = log.next(bay, &mut payload)?;
+    Ok((
+        [first, second, third],
+        behind_first,
+        behind_second,
+        log.gate(),
+    ))
 }
 
 #[test]
-fn a_log_is_written_and_read(rt: HostRuntime) -> Result<(), Fail> {
-    let mut bay = MemBay::new(rt.alloc())?;
-    let mut log = GateLog::create(&mut bay, LOG, b"head", MOST)?;
+fn a_log_is_written_and_read(rt: HostRuntime) {
+    let mut bay = MemBay::new(rt.alloc()).expect(&rt, "memory");
+    let mut log = GateLog::create(&mut bay, LOG, b"head", MOST).expect(&rt, "no fault");
     assert_eq!(rt; bay.bytes(LOG), b"head\0".as_slice());
-    log.append(&mut bay, &FIRST)?;
-    log.append(&mut bay, &SECOND)?;
+    log.append(&mut bay, &FIRST).expect(&rt, "no fault");
+    log.append(&mut bay, &SECOND).expect(&rt, "no fault");
     assert_eq!(rt;
         bay.bytes(LOG),
         b"head\x01\x02\0\0\0ab\x01\x01\0\0\0c\0".as_slice()
     );
-    let mut log = GateLog::at_gate(LOG, 4, MOST);
-    let mut payload = [0; MOST as usize];
-    assert_eq!(rt; log.next(&mut bay, &mut payload), Ok(Some(2)));
-    assert_eq!(rt; payload, *b"ab\0\0\0\0\0\0");
-    assert_eq!(rt; log.next(&mut bay, &mut payload), Ok(Some(1)));
-    assert_eq!(rt; payload[0], b'c');
-    assert_eq!(rt; log.next(&mut bay, &mut payload), Ok(None));
-    assert_eq!(rt; log.gate(), 17);
-    Ok(())
+    assert_eq!(rt;
+        read_two(&mut bay),
+        Ok(([Some(2), Some(1), None], *b"ab\0\0\0\0\0\0", b'c', 17))
+    );
 }
 
 #[test]
-fn a_stop_leaves_the_record_or_not(rt: HostRuntime) -> Result<(), Fail> {
+fn a_stop_leaves_the_record_or_not(rt: HostRuntime) {
     // By call and pick. The gate is one byte, so a pick keeps it or takes it back.
     let left: [(u64, [u32; 4]); 5] = [
         (1, [1, 1, 1, 1]),
@@ -72,7 +87,7 @@ fn a_stop_leaves_the_record_or_not(rt: HostRuntime) -> Result<(), Fail> {
     ];
     for (call, counts) in left {
         for (pick, want) in counts.iter().enumerate() {
-            let mut bay = stopped(rt.alloc(), call, pick as u64)?;
+            let mut bay = stopped(&rt, rt.alloc(), call, pick as u64);
             assert_eq!(rt;
                 records(&mut bay),
                 Ok(*want),
@@ -80,11 +95,10 @@ fn a_stop_leaves_the_record_or_not(rt: HostRuntime) -> Result<(), Fail> {
             );
         }
     }
-    Ok(())
 }
 
 #[test]
-fn a_file_leaves_the_format_at_a_place(rt: HostRuntime) -> Result<(), Fail> {
+fn a_file_leaves_the_format_at_a_place(rt: HostRuntime) {
     let broken: [(&[u8], u64); 6] = [
         (b"hea", 3),
         (b"head", 4),
@@ -94,35 +108,32 @@ fn a_file_leaves_the_format_at_a_place(rt: HostRuntime) -> Result<(), Fail> {
         (b"head\x01\x02\0\0\0a", 10),
     ];
     for (bytes, at) in broken {
-        let mut bay = MemBay::new(rt.alloc())?;
-        bay.load(LOG, bytes)?;
+        let mut bay = MemBay::new(rt.alloc()).expect(&rt, "memory");
+        bay.load(LOG, bytes).expect(&rt, "memory");
         assert_eq!(rt;
             records(&mut bay),
             Err(LogFault::Malformed { at }),
             "at {at}"
         );
     }
-    Ok(())
 }
 
 #[test]
-fn a_header_and_its_gate_are_one_write(rt: HostRuntime) -> Result<(), Fail> {
-    let mut bay = MemBay::new(rt.alloc())?;
+fn a_header_and_its_gate_are_one_write(rt: HostRuntime) {
+    let mut bay = MemBay::new(rt.alloc()).expect(&rt, "memory");
     bay.stop_at(2);
     assert_eq!(rt;
         GateLog::create(&mut bay, LOG, b"head", MOST).is_err(),
         true
     );
     assert_eq!(rt; bay.bytes(LOG), b"head\0".as_slice());
-    Ok(())
 }
 
 #[test]
-fn a_failed_call_is_told(rt: HostRuntime) -> Result<(), Fail> {
-    let mut bay = MemBay::new(rt.alloc())?;
-    bay.load(LOG, b"head\0")?;
+fn a_failed_call_is_told(rt: HostRuntime) {
+    let mut bay = MemBay::new(rt.alloc()).expect(&rt, "memory");
+    bay.load(LOG, b"head\0").expect(&rt, "memory");
     bay.fail_at(2);
     assert_eq!(rt; records(&mut bay), Err(LogFault::Failed));
     assert_eq!(rt; records(&mut bay), Ok(0));
-    Ok(())
 }

@@ -1,14 +1,14 @@
 //! The bytes of a journal of one packet, what a stop at each call of an append leaves of its packets, and each
 //! place at which a record leaves the format.
 
-ghost use Rattle.std.specs.Prelude.{◌≡◌, length, IfOk};
+ghost use Rattle.std.specs.Prelude.{◌≡◌, length};
 
 use lert_base::{Entry, KeyList, Numbers, Settings};
 use lert_bay::{JOURNAL, MemBay};
 use lert_gatelog::{GateLog, LogFault};
 use lert_journal::{HEADER_LEN, append_entry, read_entry, write_header};
 use std::alloc::Global;
-use std::test::Fail;
+use std::process::Abort;
 
 // One cone, with at most 32 keys in a packet.
 const ALONE: Numbers = Numbers {
@@ -39,58 +39,67 @@ const MOST_OF_HALVES: u32 = 40;
 const TEXT: [u8; 70] =
     *b"LERTJ\x01\0\0\x03\0\0\0\x20\0\0\0\x04\0\0\0\x08\0\0\0\x03\x02\x02\0\0\0\0\0\x01\x20\0\0\0\0\0\0\0\0\0\0\0\x07\0\0\0\0\0\0\0\x07\0\0\0\0\0\0\0\x07\0\0\0\0\0\0\0\0";
 
-fn settings_of(numbers: Numbers) -> Result<Settings, Fail>
-    ensures { IfOk result (λ settings. settings ≡ numbers) }
+fn settings_of(rt: &impl Abort, numbers: Numbers) -> Settings
+    ensures { result ≡ numbers }
 {
-    match Settings::new(numbers) {
-        Ok(settings) => Ok(settings),
-        Err(_) => Err(Fail::new("the numbers are no settings")),
-    }
+    Settings::new(numbers).expect(rt, "settings")
 }
 
 // An entry of three keys 7.
-fn sevens(alloc: Global) -> Result<Entry, Fail>
-    ensures { IfOk result (λ entry. length entry.keys.keys ≡ 3) }
+fn sevens(rt: &impl Abort, alloc: Global) -> Entry
+    ensures { length result.keys.keys ≡ 3 }
 {
-    let mut keys = KeyList::with_room(alloc, 3)?;
+    let mut keys = KeyList::with_room(alloc, 3).expect(rt, "memory");
     keys.push(7);
     keys.push(7);
     keys.push(7);
-    Ok(Entry::new(0, 0, keys))
+    Entry::new(0, 0, keys)
 }
 
 // An entry of no keys, to read into.
-fn blank(alloc: Global, room: usize) -> Result<Entry, Fail>
-    ensures { IfOk result (λ entry. entry.keys.room ≡ room) }
+fn blank(rt: &impl Abort, alloc: Global, room: usize) -> Entry
+    ensures { result.keys.room ≡ room }
 {
-    Ok(Entry::new(9, 9, KeyList::with_room(alloc, room)?))
+    Entry::new(9, 9, KeyList::with_room(alloc, room).expect(rt, "memory"))
 }
 
 // What a crash leaves of a journal with one packet, where the append of a second one is stopped at a call.
-fn stopped(alloc: Global, settings: &Settings, call: u64, pick: u64) -> Result<MemBay, Fail> {
+fn stopped(rt: &impl Abort, alloc: Global, settings: &Settings, call: u64, pick: u64) -> MemBay {
     let mut header = [0; HEADER_LEN];
     write_header(settings, 0, &mut header);
-    let mut bay = MemBay::new(alloc)?;
-    let mut log = GateLog::create(&mut bay, JOURNAL, &header, MOST)?;
-    let entry = sevens(alloc)?;
+    let mut bay = MemBay::new(alloc).expect(rt, "memory");
+    let mut log = GateLog::create(&mut bay, JOURNAL, &header, MOST).expect(rt, "no fault");
+    let entry = sevens(rt, alloc);
     let mut buffer = [255; MOST as usize + 5];
-    append_entry(&mut log, &mut bay, &entry, &mut buffer)?;
+    append_entry(&mut log, &mut bay, &entry, &mut buffer).expect(rt, "no fault");
     bay.stop_at(call);
     let _ = append_entry(&mut log, &mut bay, &entry, &mut buffer);
-    Ok(bay.crashed(pick)?)
+    bay.crashed(pick).expect(rt, "memory")
 }
 
 // How many packets a journal with at most two of them has.
-fn packets(alloc: Global, settings: &Settings, bay: &mut MemBay) -> Result<u32, Fail>
+fn packets(
+    rt: &impl Abort,
+    alloc: Global,
+    settings: &Settings,
+    bay: &mut MemBay,
+) -> Result<u32, LogFault>
     requires { settings.now.packet ≡ 8 }
 {
+    let mut entry = blank(rt, alloc, 32);
+    count_packets(settings, bay, &mut entry)
+}
+
+fn count_packets(settings: &Settings, bay: &mut MemBay, entry: &mut Entry) -> Result<u32, LogFault>
+    requires packet { settings.now.packet ≡ 8 }
+    requires room { entry.old.keys.room ≡ 32 }
+{
     let mut log = GateLog::at_gate(JOURNAL, HEADER_LEN as u64, MOST);
-    let mut entry = blank(alloc, 32)?;
     let mut buffer = [0; MOST as usize];
-    if !read_entry(&mut log, bay, settings, 0, &mut entry, &mut buffer)? {
+    if !read_entry(&mut log, bay, settings, 0, entry, &mut buffer)? {
         return Ok(0);
     }
-    if !read_entry(&mut log, bay, settings, 0, &mut entry, &mut buffer)? {
+    if !read_entry(&mut log, bay, settings, 0, entry, &mut buffer)? {
         return Ok(1);
     }
     Ok(2)
@@ -98,52 +107,58 @@ fn packets(alloc: Global, settings: &Settings, bay: &mut MemBay) -> Result<u32, 
 
 // What is answered at the first gate of a journal of cone 0 of two with these bytes behind its header.
 fn first_answer(
+    rt: &impl Abort,
     alloc: Global,
     settings: &Settings,
     bytes: &[u8],
-) -> Result<Result<bool, LogFault>, Fail>
+) -> Result<bool, LogFault>
     requires { settings.now.packet ≡ 1 }
 {
     let mut header = [0; HEADER_LEN];
     write_header(settings, 0, &mut header);
-    let mut text = Vec::from_slice(alloc, &header)?;
-    text.extend_from_slice(bytes)?;
-    let mut bay = MemBay::new(alloc)?;
-    bay.load(JOURNAL, text.as_slice())?;
+    let mut text = Vec::from_slice(alloc, &header).expect(rt, "memory");
+    text.extend_from_slice(bytes).expect(rt, "memory");
+    let mut bay = MemBay::new(alloc).expect(rt, "memory");
+    bay.load(JOURNAL, text.as_slice()).expect(rt, "memory");
     let mut log = GateLog::at_gate(JOURNAL, HEADER_LEN as u64, MOST_OF_HALVES);
-    let mut entry = blank(alloc, 4)?;
+    let mut entry = blank(rt, alloc, 4);
     let mut buffer = [0; MOST_OF_HALVES as usize];
-    Ok(read_entry(&mut log, &mut bay, settings, 0, &mut entry, &mut buffer))
+    read_entry(&mut log, &mut bay, settings, 0, &mut entry, &mut buffer)
 }
 
-#[test]
-fn a_packet_is_written_and_read(rt: HostRuntime) -> Result<(), Fail> {
-    let settings = settings_of(ALONE)?;
-    let mut header = [0; HEADER_LEN];
-    write_header(&settings, 0, &mut header);
-    let mut bay = MemBay::new(rt.alloc())?;
-    let mut log = GateLog::create(&mut bay, JOURNAL, &header, MOST)?;
-    let entry = sevens(rt.alloc())?;
-    let mut buffer = [255; MOST as usize + 5];
-    append_entry(&mut log, &mut bay, &entry, &mut buffer)?;
-    assert_eq!(rt; bay.bytes(JOURNAL), TEXT.as_slice());
-    assert_eq!(rt; log.gate(), 69);
-
+// Asserts that a journal has one packet of three keys 7, and its gate at 69.
+fn assert_sevens(rt: &impl Abort, alloc: Global, settings: &Settings, bay: &mut MemBay)
+    requires { settings.now.packet ≡ 8 }
+{
     let mut log = GateLog::at_gate(JOURNAL, 32, MOST);
-    let mut read = blank(rt.alloc(), 32)?;
-    let answer = read_entry(&mut log, &mut bay, &settings, 0, &mut read, &mut buffer);
-    assert_eq!(rt; answer, Ok(true));
+    let mut read = blank(rt, alloc, 32);
+    let mut buffer = [255; MOST as usize];
+    let answer = read_entry(&mut log, bay, settings, 0, &mut read, &mut buffer);
+    assert_eq!(rt; (answer, log.gate()), (Ok(true), 69));
     assert_eq!(rt; (read.by, read.trace), (0, 0));
     assert_eq!(rt; read.keys.as_slice(), [7, 7, 7].as_slice());
-    assert_eq!(rt; log.gate(), 69);
-    let answer = read_entry(&mut log, &mut bay, &settings, 0, &mut read, &mut buffer);
+    let answer = read_entry(&mut log, bay, settings, 0, &mut read, &mut buffer);
     assert_eq!(rt; answer, Ok(false));
-    Ok(())
 }
 
 #[test]
-fn a_stop_leaves_the_packet_or_not(rt: HostRuntime) -> Result<(), Fail> {
-    let settings = settings_of(ALONE)?;
+fn a_packet_is_written_and_read(rt: HostRuntime) {
+    let settings = settings_of(&rt, ALONE);
+    let mut header = [0; HEADER_LEN];
+    write_header(&settings, 0, &mut header);
+    let mut bay = MemBay::new(rt.alloc()).expect(&rt, "memory");
+    let mut log = GateLog::create(&mut bay, JOURNAL, &header, MOST).expect(&rt, "no fault");
+    let entry = sevens(&rt, rt.alloc());
+    let mut buffer = [255; MOST as usize + 5];
+    append_entry(&mut log, &mut bay, &entry, &mut buffer).expect(&rt, "no fault");
+    assert_eq!(rt; bay.bytes(JOURNAL), TEXT.as_slice());
+    assert_eq!(rt; log.gate(), 69);
+    assert_sevens(&rt, rt.alloc(), &settings, &mut bay);
+}
+
+#[test]
+fn a_stop_leaves_the_packet_or_not(rt: HostRuntime) {
+    let settings = settings_of(&rt, ALONE);
     // By call and pick. Up to the write of the gate, the third call, the packet isn't there, and behind its
     // sync, the fourth, it is. Between the two the gate may be as it was.
     let left: [(u64, [u32; 4]); 5] = [
@@ -155,17 +170,16 @@ fn a_stop_leaves_the_packet_or_not(rt: HostRuntime) -> Result<(), Fail> {
     ];
     for (call, counts) in left {
         for (pick, want) in counts.iter().enumerate() {
-            let mut bay = stopped(rt.alloc(), &settings, call, pick as u64)?;
-            let found = packets(rt.alloc(), &settings, &mut bay)?;
-            assert_eq!(rt; found, *want, "at call {call} by pick {pick}");
+            let mut bay = stopped(&rt, rt.alloc(), &settings, call, pick as u64);
+            let found = packets(&rt, rt.alloc(), &settings, &mut bay);
+            assert_eq!(rt; found, Ok(*want), "at call {call} by pick {pick}");
         }
     }
-    Ok(())
 }
 
 #[test]
-fn a_record_leaves_the_format_at_a_place(rt: HostRuntime) -> Result<(), Fail> {
-    let settings = settings_of(HALVES)?;
+fn a_record_leaves_the_format_at_a_place(rt: HostRuntime) {
+    let settings = settings_of(&rt, HALVES);
     let broken: [(&[u8], u64, &str); 11] = [
         (b"", 32, "no gate"),
         (b"\x01\x10\0", 35, "a cut length"),
@@ -204,8 +218,7 @@ fn a_record_leaves_the_format_at_a_place(rt: HostRuntime) -> Result<(), Fail> {
         ),
     ];
     for (bytes, at, why) in broken {
-        let answer = first_answer(rt.alloc(), &settings, bytes)?;
+        let answer = first_answer(&rt, rt.alloc(), &settings, bytes);
         assert_eq!(rt; answer, Err(LogFault::Malformed { at }), "{why}");
     }
-    Ok(())
 }

@@ -1,43 +1,51 @@
 //! Traces at their limit, at each place at which bytes leave the format, and after a read that failed.
 
+ghost use Rattle.std.specs.Prelude.{◌≤◌, ◌^◌};
+
 use lert_io::{CallList, MemSource, SteadySource};
 use lert_trace::{MOST_KEYS, TraceFault, TraceReader};
-use std::alloc::{AllocError, Global};
-use std::test::Fail;
+use std::alloc::Global;
+use std::process::Abort;
 
 const HEADER: [u8; 8] = [0x4c, 0x45, 0x52, 0x54, 1, 0, 0, 0];
 
 // The bytes of the trace that has the keys 1, 2, .. up to `last`.
-fn trace(alloc: Global, last: u64) -> Result<Vec<u8>, AllocError> {
-    let mut bytes = Vec::from_slice(alloc, &HEADER)?;
+fn trace(rt: &impl Abort, alloc: Global, last: u64) -> Vec<u8> {
+    let mut bytes = Vec::from_slice(alloc, &HEADER).expect(rt, "memory");
     for key in 1..last.saturating_add(1) {
-        bytes.extend_from_slice(&key.to_le_bytes())?;
+        bytes
+            .extend_from_slice(&key.to_le_bytes())
+            .expect(rt, "memory");
     }
-    Ok(bytes)
+    bytes
+}
+
+// What the first four calls of a reader with this limit answer.
+fn four_answers(
+    rt: &impl Abort,
+    alloc: Global,
+    bytes: &[u8],
+    most: u64,
+) -> [Result<Option<u64>, TraceFault>; 4]
+    requires { (1 ≤ most) × (most ≤ 2 ^ 36) }
+{
+    let source = SteadySource::new(alloc, bytes).expect(rt, "memory");
+    let mut reader = TraceReader::new(source, most);
+    [reader.next(), reader.next(), reader.next(), reader.next()]
 }
 
 #[test]
-fn the_limit_is_met_by_one_key_more(rt: HostRuntime) -> Result<(), Fail> {
-    let three = SteadySource::new(rt.alloc(), trace(rt.alloc(), 3)?.as_slice())?;
-    let mut reader = TraceReader::new(three, 2);
-    for want in [
-        Ok(Some(1)),
-        Ok(Some(2)),
-        Err(TraceFault::TooLong),
-        Err(TraceFault::TooLong),
-    ] {
-        assert_eq!(rt; reader.next(), want);
+fn the_limit_is_met_by_one_key_more(rt: HostRuntime) {
+    let rows = [(3, Err(TraceFault::TooLong)), (2, Ok(None))];
+    for (last, end) in rows {
+        let bytes = trace(&rt, rt.alloc(), last);
+        let answers = four_answers(&rt, rt.alloc(), bytes.as_slice(), 2);
+        assert_eq!(rt; answers, [Ok(Some(1)), Ok(Some(2)), end, end]);
     }
-    let two = SteadySource::new(rt.alloc(), trace(rt.alloc(), 2)?.as_slice())?;
-    let mut reader = TraceReader::new(two, 2);
-    for want in [Ok(Some(1)), Ok(Some(2)), Ok(None), Ok(None)] {
-        assert_eq!(rt; reader.next(), want);
-    }
-    Ok(())
 }
 
 #[test]
-fn bytes_that_leave_the_format_are_named_by_their_place(rt: HostRuntime) -> Result<(), Fail> {
+fn bytes_that_leave_the_format_are_named_by_their_place(rt: HostRuntime) {
     let rows: [(&[u8], TraceFault); 6] = [
         (&[], TraceFault::BadHeader { at: 0 }),
         (&[0x4c, 0x45, 0x52], TraceFault::BadHeader { at: 3 }),
@@ -59,31 +67,32 @@ fn bytes_that_leave_the_format_are_named_by_their_place(rt: HostRuntime) -> Resu
         ),
     ];
     for (bytes, fault) in rows {
-        let mut reader = TraceReader::new(SteadySource::new(rt.alloc(), bytes)?, MOST_KEYS);
-        assert_eq!(rt; reader.next(), Err(fault));
-        assert_eq!(rt; reader.next(), Err(fault));
+        let answers = four_answers(&rt, rt.alloc(), bytes, MOST_KEYS);
+        assert_eq!(rt; answers, [Err(fault); 4]);
     }
-    let mut cut = trace(rt.alloc(), 2)?;
+}
+
+#[test]
+fn a_key_that_is_cut_is_named_by_its_place(rt: HostRuntime) {
+    let mut cut = trace(&rt, rt.alloc(), 2);
     cut.truncate(21);
-    let mut reader = TraceReader::new(SteadySource::new(rt.alloc(), cut.as_slice())?, MOST_KEYS);
-    assert_eq!(rt; reader.next(), Ok(Some(1)));
-    assert_eq!(rt; reader.next(), Err(TraceFault::CutKey { at: 16 }));
-    Ok(())
+    let answers = four_answers(&rt, rt.alloc(), cut.as_slice(), MOST_KEYS);
+    let fault = Err(TraceFault::CutKey { at: 16 });
+    assert_eq!(rt; answers, [Ok(Some(1)), fault, fault, fault]);
 }
 
 // 8,008 bytes take two full blocks, and a third call finds the end: a fourth isn't made.
 #[test]
-fn a_thousand_keys_take_three_calls(rt: HostRuntime) -> Result<(), Fail> {
-    let bytes = trace(rt.alloc(), 1_000)?;
+fn a_thousand_keys_take_three_calls(rt: HostRuntime) {
+    let bytes = trace(&rt, rt.alloc(), 1_000);
     for (failing, end) in [(4, Ok(None)), (3, Err(TraceFault::ReadFailed))] {
-        let mut fails = CallList::new(rt.alloc())?;
-        fails.push(failing)?;
-        let source = MemSource::new(rt.alloc(), bytes.as_slice(), &fails)?;
+        let mut fails = CallList::new(rt.alloc()).expect(&rt, "memory");
+        fails.push(failing).expect(&rt, "memory");
+        let source = MemSource::new(rt.alloc(), bytes.as_slice(), &fails).expect(&rt, "memory");
         let mut reader = TraceReader::new(source, MOST_KEYS);
         for key in 1..1_001 {
             assert_eq!(rt; reader.next(), Ok(Some(key)));
         }
         assert_eq!(rt; reader.next(), end);
     }
-    Ok(())
 }
