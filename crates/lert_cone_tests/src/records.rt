@@ -9,7 +9,6 @@ use lert_cone::Cone;
 use lert_plain::PlainTable;
 use std::alloc::Global;
 use std::process::Abort;
-use std::test::Fail;
 
 // After how many keys a record was written, and where the journal's record begins that it names.
 #[derive(Clone, Copy, Debug, PartialEq, Eq)]
@@ -20,16 +19,14 @@ struct Named {
 }
 
 // A cone over this bay takes these packets, and ends. Answers the bay that it leaves.
-fn ended<B: Bay>(rt: &impl Abort, alloc: Global, bay: B, packets: &[&[u64]]) -> Result<B, Fail>
+fn ended<B: Bay>(rt: &impl Abort, alloc: Global, bay: B, packets: &[&[u64]]) -> B
 where
     B: Drop,
 {
-    let settings = small(32)?;
-    let mut cone = created(alloc, &settings, bay)?;
-    let checked = check_ended(rt, alloc, &settings, &mut cone, packets);
-    let bay = cone.into_bay();
-    checked?;
-    Ok(bay)
+    let settings = small(rt, 32);
+    let mut cone = created(rt, alloc, &settings, bay);
+    check_ended(rt, alloc, &settings, &mut cone, packets);
+    cone.into_bay()
 }
 
 fn check_ended<B: Bay>(
@@ -38,7 +35,7 @@ fn check_ended<B: Bay>(
     settings: &Settings,
     cone: &mut Cone<B, PlainTable>,
     packets: &[&[u64]],
-) -> Result<(), Fail>
+)
     requires eight { settings.now.packet ≡ 8 }
     requires settings { cone.old.listing.settings ≡ settings.now }
     requires cone { cone.old.listing.cone ≡ 0 }
@@ -47,11 +44,10 @@ fn check_ended<B: Bay>(
         let keys = *packet;
         let len = keys.len();
         assert!(rt; 0 < len && len <= 32);
-        let answer = give(rt, alloc, settings, cone, keys)?;
+        let answer = give(rt, alloc, settings, cone, keys);
         assert!(rt; answer.is_ok());
     }
     assert!(rt; end(cone).is_ok());
-    Ok(())
 }
 
 // A number of eight bytes, the lowest first.
@@ -62,44 +58,40 @@ fn number(bytes: &[u8]) -> u64 {
     }
 }
 
+// What a record names whose payload is the first of these bytes.
+fn name_in(payload: &[u8]) -> Named {
+    Named {
+        n0: number(payload.get(1..).unwrap_or(&[])),
+        offset: number(payload.get(9..).unwrap_or(&[])),
+        first: number(payload.get(17..).unwrap_or(&[])),
+    }
+}
+
 // What the records of a log name, by its format alone.
-fn named_in(alloc: Global, log: &[u8]) -> Result<Vec<Named>, Fail> {
+fn named_in(rt: &impl Abort, alloc: Global, log: &[u8]) -> Vec<Named> {
     let mut named = Vec::new(alloc);
     let mut rest = log.get(8..).unwrap_or(&[]);
     while let [1, a, b, c, d, behind @ ..] = rest {
         let len = u32::from_le_bytes([*a, *b, *c, *d]) as usize;
-        named.push(Named {
-            n0: number(behind.get(1..).unwrap_or(&[])),
-            offset: number(behind.get(9..).unwrap_or(&[])),
-            first: number(behind.get(17..).unwrap_or(&[])),
-        })?;
+        named.push(name_in(behind)).expect(rt, "memory");
         rest = behind.get(len..).unwrap_or(&[]);
     }
-    match rest {
-        [0] => Ok(named),
-        _ => Err(Fail::new("the log doesn't end with a closed gate")),
-    }
+    assert_eq!(rt; rest, [0].as_slice(), "the log ends with a closed gate");
+    named
 }
 
 // The records behind these packets: the log's name these records of the journal.
-fn check_named(
-    rt: &impl Abort,
-    alloc: Global,
-    packets: &[&[u64]],
-    due: &[Named],
-) -> Result<(), Fail> {
-    let bay = ended(rt, alloc, MemBay::new(alloc)?, packets)?;
-    let named = named_in(alloc, bay.bytes(LOG))?;
+fn check_named(rt: &impl Abort, alloc: Global, packets: &[&[u64]], due: &[Named]) {
+    let bay = MemBay::new(alloc).expect(rt, "memory");
+    let bay = ended(rt, alloc, bay, packets);
+    let named = named_in(rt, alloc, bay.bytes(LOG));
     assert_eq!(rt; named.as_slice(), due);
-    Ok(())
 }
 
 // A record of n keys takes 13 + 8n bytes, the first one behind 32. The bins of level 0 have four keys: it begins behind 4 at
 // the flush at 12, behind 8 at 16, and so on, behind 28 at 36 and at the end.
 #[test]
-fn each_record_names_the_journal_record_that_holds_the_first_key_of_level_0(
-    rt: HostRuntime,
-) -> Result<(), Fail> {
+fn each_record_names_the_journal_record_that_holds_the_first_key_of_level_0(rt: HostRuntime) {
     let packets: [&[u64]; 8] = [
         &[1, 2, 3],
         &[4],
@@ -152,11 +144,11 @@ fn each_record_names_the_journal_record_that_holds_the_first_key_of_level_0(
             first: 28,
         },
     ];
-    check_named(&rt, rt.alloc(), &packets, &due)?;
+    check_named(&rt, rt.alloc(), &packets, &due);
     let none = [Named {
         n0: 0,
         offset: 32,
         first: 1,
     }];
-    check_named(&rt, rt.alloc(), &[], &none)
+    check_named(&rt, rt.alloc(), &[], &none);
 }

@@ -1,7 +1,7 @@
 //! Files that are read again: what a cone has of them, and why one isn't made.
 
 use crate::settings::alone;
-use lert_bay::{FRAMES, JOURNAL, LOG, MemBay};
+use lert_bay::{Bay, FRAMES, JOURNAL, LOG, MemBay};
 use lert_cone::{Cone, ConeRoom, ConeState};
 use lert_plain::PlainTable;
 use lert_recover::{ReopenFault, reopen};
@@ -44,29 +44,25 @@ struct Answer {
     fault: Option<ReopenFault>,
 }
 
-// An answer, and the bay behind it.
-#[derive(Drop)]
-struct Found {
-    answer: Answer,
-    bay: MemBay,
-}
-
-fn reopened(rt: &impl Abort, alloc: Global, bay: MemBay) -> Found {
+// Opens a bay again, and answers what there is to see, and the bay.
+fn reopened<B: Bay>(rt: &impl Abort, alloc: Global, bay: B) -> (Answer, B)
+where
+    B: Drop,
+{
     let settings = alone(rt);
     let room: ConeRoom<PlainTable> = ConeRoom::new(alloc, &settings).expect(rt, "memory");
     match reopen(room, 0, bay) {
-        Ok(cone) => Found {
-            answer: answer_of(&cone),
-            bay: cone.into_bay(),
-        },
-        Err(refused) => Found {
-            answer: is_refused(refused.fault),
-            bay: refused.bay,
-        },
+        Ok(cone) => (answer_of(&cone), cone.into_bay()),
+        Err(refused) => (is_refused(refused.fault), refused.bay),
     }
 }
 
-fn answer_of(cone: &Cone<MemBay, PlainTable>) -> Answer {
+fn answer_over(rt: &impl Abort, alloc: Global, files: &[&[u8]; 3]) -> Answer {
+    let (answer, _bay) = reopened(rt, alloc, bay(rt, alloc, files));
+    answer
+}
+
+fn answer_of<B: Bay>(cone: &Cone<B, PlainTable>) -> Answer {
     is_open(cone.state(), cone.events(), cone.reports().len() as u64)
 }
 
@@ -113,45 +109,51 @@ fn files_make_a_cone_or_leave_their_format(rt: HostRuntime) {
         ([&empty[..32], &CLOSED, &[]], is_left(JOURNAL, 32)),
     ];
     for (files, wanted) in rows {
-        let found = reopened(&rt, rt.alloc(), bay(&rt, rt.alloc(), &files));
-        assert_eq!(rt; found.answer, wanted);
+        assert_eq!(rt; answer_over(&rt, rt.alloc(), &files), wanted);
     }
 }
 
 #[test]
 fn a_flush_that_the_run_did_not_come_to(rt: HostRuntime) {
     let alloc = rt.alloc();
-    let first = reopened(&rt, alloc, bay(&rt, alloc, &[&TWELVE, &BEGUN, &[]]));
-    assert_eq!(rt; first.bay.bytes(LOG), FLUSHED.as_slice());
-    let frames = first.bay.bytes(FRAMES);
+    let (_answer, first) = reopened(&rt, alloc, bay(&rt, alloc, &[&TWELVE, &BEGUN, &[]]));
+    assert_eq!(rt; first.bytes(LOG), FLUSHED.as_slice());
+    let frames = first.bytes(FRAMES);
     let cut = frames.get(..10).expect(&rt, "a frame was written");
-    let again = reopened(&rt, alloc, bay(&rt, alloc, &[&TWELVE, &FLUSHED, frames]));
-    assert_eq!(rt; again.answer, is_open(ConeState::Running, 12, 1));
-    let short = reopened(&rt, alloc, bay(&rt, alloc, &[&TWELVE, &FLUSHED, cut]));
-    assert_eq!(rt; short.answer, is_left(FRAMES, 10));
+    let rows = [
+        (frames, is_open(ConeState::Running, 12, 1)),
+        (cut, is_left(FRAMES, 10)),
+    ];
+    for (frames, wanted) in rows {
+        let answer = answer_over(&rt, alloc, &[&TWELVE, &FLUSHED, frames]);
+        assert_eq!(rt; answer, wanted);
+    }
 }
 
 #[test]
 fn a_log_that_names_no_record_of_the_journal(rt: HostRuntime) {
     let alloc = rt.alloc();
-    let first = reopened(&rt, alloc, bay(&rt, alloc, &[&TWELVE, &BEGUN, &[]]));
+    let (_answer, first) = reopened(&rt, alloc, bay(&rt, alloc, &[&TWELVE, &BEGUN, &[]]));
     // Byte 33 is no open gate and 141 a closed one, before which the log's twelve keys are missing. There the journal ends.
     for (offset, at) in [(33, 33), (141, 141), (142, 142), (200, 142)] {
         let mut other = FLUSHED;
         other[22] = offset;
-        let files = bay(&rt, alloc, &[&TWELVE, &other, first.bay.bytes(FRAMES)]);
-        let found = reopened(&rt, alloc, files);
-        assert_eq!(rt; found.answer, is_left(JOURNAL, at), "byte {offset}");
+        let answer = answer_over(&rt, alloc, &[&TWELVE, &other, first.bytes(FRAMES)]);
+        assert_eq!(rt; answer, is_left(JOURNAL, at), "byte {offset}");
     }
 }
 
 #[test]
 fn a_call_that_fails_is_told(rt: HostRuntime) {
     for call in 1..9 {
-        let mut failing = bay(&rt, rt.alloc(), &[&THREE, &CLOSED, &[]]);
-        failing.fail_at(call);
-        let refused = reopened(&rt, rt.alloc(), failing);
-        assert_eq!(rt; refused.answer, is_refused(ReopenFault::Failed));
-        assert_eq!(rt; refused.bay.bytes(JOURNAL), THREE.as_slice());
+        check_failing(&rt, rt.alloc(), call);
     }
+}
+
+fn check_failing(rt: &impl Abort, alloc: Global, call: u64) {
+    let mut failing = bay(rt, alloc, &[&THREE, &CLOSED, &[]]);
+    failing.fail_at(call);
+    let (answer, refused) = reopened(rt, alloc, failing);
+    assert_eq!(rt; answer, is_refused(ReopenFault::Failed));
+    assert_eq!(rt; refused.bytes(JOURNAL), THREE.as_slice());
 }

@@ -49,6 +49,24 @@ fn read(rt: &impl Abort, alloc: Global, bytes: &[u8]) -> Found {
     }
 }
 
+fn check_whole(
+    rt: &impl Abort,
+    alloc: Global,
+    bytes: &[u8],
+    end: LogPoint,
+    reports: &[Report],
+    directory: &[u8],
+) {
+    let found = read(rt, alloc, bytes);
+    assert_eq!(rt; found.answer, Ok(end));
+    assert_eq!(rt; found.reports.as_slice(), reports);
+    assert_eq!(rt; found.directory.bytes(), directory);
+}
+
+fn answer_to(rt: &impl Abort, alloc: Global, bytes: &[u8]) -> Result<LogPoint, ReopenFault> {
+    read(rt, alloc, bytes).answer
+}
+
 #[test]
 fn whole_logs_are_read(rt: HostRuntime) {
     let seven = Report { key: 7, at: 3 };
@@ -81,10 +99,7 @@ fn whole_logs_are_read(rt: HostRuntime) {
         (&TWO_RECORDS, later, &[first, second], &[1, 0, 0]),
     ];
     for (bytes, end, reports, directory) in logs {
-        let found = read(&rt, rt.alloc(), bytes);
-        assert_eq!(rt; found.answer, Ok(end));
-        assert_eq!(rt; found.reports.as_slice(), reports);
-        assert_eq!(rt; found.directory.bytes(), directory);
+        check_whole(&rt, rt.alloc(), bytes, end, reports, directory);
     }
 }
 
@@ -116,7 +131,7 @@ fn a_log_leaves_its_format_at_a_place(rt: HostRuntime) {
         (&late_alone, 106),
     ];
     for (bytes, at) in broken {
-        let found = read(&rt, rt.alloc(), bytes);
-        assert_eq!(rt; found.answer, Err(ReopenFault::Malformed { file: LOG, at }));
+        let answer = answer_to(&rt, rt.alloc(), bytes);
+        assert_eq!(rt; answer, Err(ReopenFault::Malformed { file: LOG, at }));
     }
 }

@@ -1,18 +1,17 @@
 //! What a reopening reads of a journal: the header, and the records from the one on that the log's last record names.
 
-ghost use Rattle.std.specs.Prelude.{◌≡◌, ◌<◌, IfOk};
+ghost use Rattle.std.specs.Prelude.{◌≡◌, ◌<◌};
 ghost use Rattle.lert_base.specs.Entries.{packet_of};
 ghost use Rattle.lert_journal.specs.Payload.{IsJournaled};
 
 use lert_base::{Entry, KeyList, Numbers, Report, Settings};
-use lert_bay::{JOURNAL, MemBay};
+use lert_bay::{Bay, JOURNAL, MemBay};
 use lert_cone::{Cone, ConeRoom, ConeState};
 use lert_mixer::cone_of;
 use lert_plain::PlainTable;
 use lert_recover::{ReopenFault, reopen};
 use std::alloc::Global;
 use std::process::Abort;
-use std::test::Fail;
 
 const LONG: Numbers = Numbers {
     threshold: 3,
@@ -56,117 +55,141 @@ fn key_at(m: u64) -> u64 {
     }
 }
 
-fn settings() -> Result<Settings, Fail>
-    ensures { IfOk result (λ settings. settings ≡ LONG) }
+fn settings(rt: &impl Abort) -> Settings
+    ensures { result ≡ LONG }
 {
-    let settings = Settings::new(LONG);
-    Ok(settings.ok().ok_or("the numbers are settings")?)
+    Settings::new(LONG).expect(rt, "settings")
 }
 
 // The packet of a key of the only cone.
-fn packet(rt: &impl Abort, alloc: Global, key: u64) -> Result<Entry, Fail>
-    ensures { IfOk result (λ entry. IsJournaled LONG 0 (packet_of entry)) }
+fn packet(rt: &impl Abort, alloc: Global, key: u64) -> Entry
+    ensures { IsJournaled LONG 0 (packet_of result) }
 {
-    let settings = settings()?;
+    let settings = settings(rt);
     assert_eq!(rt; cone_of(&settings, key), 0);
-    let mut list = KeyList::with_room(alloc, 1)?;
+    let mut list = KeyList::with_room(alloc, 1).expect(rt, "memory");
     list.push(key);
-    Ok(Entry::new(0, 0, list))
+    Entry::new(0, 0, list)
 }
 
 // Gives the only cone the keys of these positions, each in a packet of its own.
-fn give(
+fn give<B: Bay>(
     rt: &impl Abort,
     alloc: Global,
-    cone: &mut Cone<MemBay, PlainTable>,
+    cone: &mut Cone<B, PlainTable>,
     first: u64,
     last: u64,
-) -> Result<(), Fail>
+)
     requires settings { cone.old.listing.settings ≡ LONG }
     requires cone { cone.old.listing.cone ≡ 0 }
     requires end { last < 2_000 }
 {
     for m in first..last + 1 {
-        let packet = packet(rt, alloc, key_at(m))?;
+        let packet = packet(rt, alloc, key_at(m));
         assert!(rt; cone.admit(&packet).is_ok());
     }
-    Ok(())
 }
 
-// What a cone leaves that took 1,000 keys and was stopped.
-fn left(rt: &impl Abort, alloc: Global) -> Result<MemBay, Fail> {
-    let room = ConeRoom::new(alloc, &settings()?)?;
-    let Ok(mut cone) = Cone::create(room, 0, MemBay::new(alloc)?) else {
-        return Err(Fail::new("the files are empty"));
-    };
-    give(rt, alloc, &mut cone, 1, 1_000)?;
-    Ok(cone.into_bay())
-}
-
-// What comes of a reopening: the bay, and why no cone was made.
-#[derive(Drop)]
-struct Found {
-    bay: MemBay,
-    fault: Option<ReopenFault>,
-}
-
-// Opens a bay again. A cone that is made has the 1,000 keys, with their report, and goes on to the second one.
-fn reopened(rt: &impl Abort, alloc: Global, bay: MemBay) -> Result<Found, Fail> {
-    let room = ConeRoom::new(alloc, &settings()?)?;
-    match reopen(room, 0, bay) {
+// What a cone over this bay leaves that took 1,000 keys and was stopped.
+fn left<B: Bay>(rt: &impl Abort, alloc: Global, bay: B) -> B
+where
+    B: Drop,
+{
+    let room = ConeRoom::new(alloc, &settings(rt)).expect(rt, "memory");
+    match Cone::create(room, 0, bay) {
         Ok(mut cone) => {
-            // The cone is lent, so that no exit has to let it go.
-            let checked = check_rest(rt, alloc, &mut cone);
-            let bay = cone.into_bay();
-            checked?;
-            Ok(Found { bay, fault: None })
+            give(rt, alloc, &mut cone, 1, 1_000);
+            cone.into_bay()
         }
-        Err(refused) => Ok(Found {
-            bay: refused.bay,
-            fault: Some(refused.fault),
-        }),
+        Err(_) => panic!(rt; "the files are empty"),
     }
 }
 
-fn check_rest(
-    rt: &impl Abort,
-    alloc: Global,
-    cone: &mut Cone<MemBay, PlainTable>,
-) -> Result<(), Fail>
+fn left_in_memory(rt: &impl Abort, alloc: Global) -> MemBay {
+    left(rt, alloc, MemBay::new(alloc).expect(rt, "memory"))
+}
+
+// Opens a bay again: why no cone was made, and the bay. A cone that is made has the 1,000 keys, with their report, and goes on
+// to the second one.
+fn reopened<B: Bay>(rt: &impl Abort, alloc: Global, bay: B) -> (Option<ReopenFault>, B)
+where
+    B: Drop,
+{
+    let room = ConeRoom::new(alloc, &settings(rt)).expect(rt, "memory");
+    match reopen(room, 0, bay) {
+        Ok(mut cone) => {
+            check_rest(rt, alloc, &mut cone);
+            (None, cone.into_bay())
+        }
+        Err(refused) => (Some(refused.fault), refused.bay),
+    }
+}
+
+fn check_rest<B: Bay>(rt: &impl Abort, alloc: Global, cone: &mut Cone<B, PlainTable>)
     requires settings { cone.old.listing.settings ≡ LONG }
     requires cone { cone.old.listing.cone ≡ 0 }
 {
     assert_eq!(rt; cone.state(), ConeState::Running);
     assert_eq!(rt; cone.events(), 1_000);
-    assert_eq!(rt; cone.reports().list(), [FIRST_REPORT].as_slice());
-    give(rt, alloc, cone, 1_001, 1_016)?;
-    assert_eq!(rt;
-        cone.reports().list(),
-        [FIRST_REPORT, SECOND_REPORT].as_slice()
-    );
-    Ok(())
+    check_reports(rt, cone, &[FIRST_REPORT]);
+    give(rt, alloc, cone, 1_001, 1_016);
+    check_reports(rt, cone, &[FIRST_REPORT, SECOND_REPORT]);
+}
+
+fn check_reports<B: Bay>(rt: &impl Abort, cone: &Cone<B, PlainTable>, reports: &[Report]) {
+    assert_eq!(rt; cone.reports().list(), reports);
+}
+
+// What there is to see of a reopening: the journal's length, the bytes of it that were read before and behind, and why no cone
+// was made.
+#[derive(Clone, Copy)]
+struct Seen {
+    len: usize,
+    before: u64,
+    behind: u64,
+    fault: Option<ReopenFault>,
+}
+
+fn stopped_and_reopened(rt: &impl Abort, alloc: Global) -> Seen {
+    let bay = left_in_memory(rt, alloc);
+    let len = bay.bytes(JOURNAL).len();
+    let before = bay.bytes_read(JOURNAL);
+    let (fault, bay) = reopened(rt, alloc, bay);
+    Seen {
+        len,
+        before,
+        behind: bay.bytes_read(JOURNAL),
+        fault,
+    }
 }
 
 #[test]
-fn a_reopening_reads_the_newest_bins_alone(rt: HostRuntime) -> Result<(), Fail> {
-    let bay = left(&rt, rt.alloc())?;
-    assert_eq!(rt; bay.bytes(JOURNAL).len(), JOURNAL_LEN);
-    let before = bay.bytes_read(JOURNAL);
-    let found = reopened(&rt, rt.alloc(), bay)?;
-    assert_eq!(rt; found.fault, None);
+fn a_reopening_reads_the_newest_bins_alone(rt: HostRuntime) {
+    let seen = stopped_and_reopened(&rt, rt.alloc());
+    assert_eq!(rt; seen.len, JOURNAL_LEN);
+    assert_eq!(rt; seen.fault, None);
     // A packet that is admitted reads nothing of it.
-    assert_eq!(rt; found.bay.bytes_read(JOURNAL), before.saturating_add(READ));
-    Ok(())
+    assert_eq!(rt; seen.behind, seen.before.saturating_add(READ));
 }
 
 // A copy of a bay with another byte in the journal.
-fn damaged(alloc: Global, bay: &MemBay, at: usize, byte: u8) -> Result<MemBay, Fail> {
-    let mut journal = bay.bytes(JOURNAL).to_vec(alloc)?;
-    let place = journal.get_mut(at).ok_or("the journal has the place")?;
-    *place = byte;
-    let mut copy = bay.copied(alloc)?;
-    copy.load(JOURNAL, &journal)?;
-    Ok(copy)
+fn damaged(rt: &impl Abort, alloc: Global, bay: &MemBay, at: usize, byte: u8) -> MemBay {
+    let mut journal = bay.bytes(JOURNAL).to_vec(alloc).expect(rt, "memory");
+    *journal.get_mut(at).expect(rt, "the journal has the place") = byte;
+    let mut copy = bay.copied(alloc).expect(rt, "memory");
+    copy.load(JOURNAL, &journal).expect(rt, "memory");
+    copy
+}
+
+// A byte of the journal that is another one, and why no cone is made then.
+type Damage = (usize, u8, Option<ReopenFault>);
+
+fn check_damage(rt: &impl Abort, alloc: Global, bay: &MemBay, rows: &[Damage]) {
+    for row in rows {
+        let (at, byte, wanted) = *row;
+        let (fault, _bay) = reopened(rt, alloc, damaged(rt, alloc, bay, at, byte));
+        assert_eq!(rt; fault, wanted, "at {at}");
+    }
 }
 
 fn left_at(at: usize) -> Option<ReopenFault> {
@@ -177,9 +200,9 @@ fn left_at(at: usize) -> Option<ReopenFault> {
 }
 
 #[test]
-fn damage_before_the_newest_bins_is_not_found(rt: HostRuntime) -> Result<(), Fail> {
-    let bay = left(&rt, rt.alloc())?;
-    let rows: [(usize, u8, Option<ReopenFault>); 7] = [
+fn damage_before_the_newest_bins_is_not_found(rt: HostRuntime) {
+    let bay = left_in_memory(&rt, rt.alloc());
+    let rows: [Damage; 7] = [
         // The first gate is closed, the second record has no byte, and key 10 is another one.
         (32, 0, None),
         (54, 0, None),
@@ -191,10 +214,5 @@ fn damage_before_the_newest_bins_is_not_found(rt: HostRuntime) -> Result<(), Fai
         (NAMED + 2, 255, left_at(NAMED + 1)),
         (NAMED + 5, 64, left_at(NAMED + 5)),
     ];
-    for (at, byte, wanted) in rows {
-        let copy = damaged(rt.alloc(), &bay, at, byte)?;
-        let found = reopened(&rt, rt.alloc(), copy)?;
-        assert_eq!(rt; found.fault, wanted, "at {at}");
-    }
-    Ok(())
+    check_damage(&rt, rt.alloc(), &bay, &rows);
 }
