@@ -110,6 +110,9 @@ module _ {V : Type 0} (items : V → List BinAt) (capacity_of : V → ℕ) (s : 
       ∙ written_back count new rows
       (omega (arith, length-map new items, length-map rows items, named.at.levels, kept.are.levels, ap length lent_is))
 
+  pub restored_named : AreNamed s n text (map items after)
+  restored_named = subst (λ (rs : List V). AreNamed s n text (map items rs)) (sym written_whole) named
+
   pub restored_few : (k : ℕ) (d : V) → k < length after → length (items (get_or after k d)) < 256
   restored_few k d below = omega (arith, rows_few items s new after named.are written_whole k d below, valid.limits.bins_to)
 

@@ -58,3 +58,27 @@ returns-clause-malformed g c seen told at is =
     let rows = map (λ row. row.items) c.args.rows.now in
     let breaks = c.count_bins-counted.ensures.malformed at is in
     begun_breaks s c.args.zero.now.bins rows c.begin_order-order.result.streams.bins breaks.stream at (g.B.Bay.files c.args.bay.now) seen told c.begin_order-order.ensures.begun breaks.at_it
+
+pub begin_order-order-requires-clause-same : goal.begin_order-order-requires-clause-same
+begin_order-order-requires-clause-same g c = c.requires.same
+
+pub begin_order-order-requires-clause-ahead : goal.begin_order-order-requires-clause-ahead
+begin_order-order-requires-clause-ahead g c = c.requires.ahead
+
+pub begin_order-order-requires-clause-few : goal.begin_order-order-requires-clause-few
+begin_order-order-requires-clause-few g c = c.requires.few
+
+pub begin_order-order-requires-clause-rows : goal.begin_order-order-requires-clause-rows
+begin_order-order-requires-clause-rows g c = c.requires.rows
+
+pub count_bins-counted-requires-clause-totals : goal.count_bins-counted-requires-clause-totals
+count_bins-counted-requires-clause-totals g c = c.requires.none_taken
+
+pub returns-clause-room : goal.returns-clause-room
+returns-clause-room g c = c.end_order.ensures.room ∙ c.count_bins-counted.ensures.streams.settings ∙ c.begin_order-order.ensures.settings
+
+pub returns-clause-ahead : goal.returns-clause-ahead
+returns-clause-ahead g c = c.end_order.ensures.ahead ∙ c.count_bins-counted.ensures.ahead ∙ c.begin_order-order.ensures.room
+
+pub returns-clause-only_reads : goal.returns-clause-only_reads
+returns-clause-only_reads g c = c.count_bins-counted.ensures.only_reads

@@ -47,3 +47,21 @@ returns-clause-landed g c =
           stand_all (bays g) c.args.landings.now c.merge_bins.new.landings c.args.bay.now c.merge_bins.new.bay c.end_all.new.bay s c.args.parts.now one.merged.lists seen one.homes are
           one.rest two.rest c.requires.landing one.landing two.stand one.merged.landed told;
     }
+
+pub merge_bins-requires-clause-unread : goal.merge_bins-requires-clause-unread
+merge_bins-requires-clause-unread g c = c.requires.unread
+
+pub merge_bins-requires-clause-parts : goal.merge_bins-requires-clause-parts
+merge_bins-requires-clause-parts g c = c.requires.parts
+
+pub merge_bins-requires-clause-room : goal.merge_bins-requires-clause-room
+merge_bins-requires-clause-room g c = c.requires.room
+
+pub merge_bins-requires-clause-apart : goal.merge_bins-requires-clause-apart
+merge_bins-requires-clause-apart g c = c.requires.apart
+
+pub merge_bins-requires-clause-sure : goal.merge_bins-requires-clause-sure
+merge_bins-requires-clause-sure g c = c.requires.sure
+
+pub merge_bins-requires-clause-totals : goal.merge_bins-requires-clause-totals
+merge_bins-requires-clause-totals g c = c.requires.totals

@@ -1,11 +1,11 @@
-use Rattle.std.proofs.Common.{ℕ, ◌≡◌, ◌+◌, ◌≤◌, ◌∙◌, List, map, take, length, length-take, get_or, sym, subst, arith, Option, []}
+use Rattle.std.proofs.Common.{ℕ, ◌≡◌, ◌+◌, ◌*◌, ◌≤◌, ◌∙◌, List, vec_capacity, map, take, length, length-take, get_or, sym, subst, arith, Option, []}
 use Rattle.std.proofs.lemmas.List.{length-map}
 use Rattle.lert_bay.specs.declared.bay.TheConstants.{FRAMES}
 use Rattle.lert_bay.specs.Kept.{Bays}
 use Rattle.lert_bay.proofs.KeptLaws.{IsLawful}
 use Rattle.lert_frames.specs.Frame.{HoldsFrame}
 use Rattle.lert_landing.specs.Summed.{sums_of}
-use Rattle.lert_spec.specs.Edges.{span}
+use Rattle.lert_spec.specs.Edges.{span, capacity}
 use Rattle.std.specs.Prelude.{sum}
 use Rattle.lert_flush.specs.Merged.{AreParts, picked}
 use Rattle.lert_landing.specs.Landings.{AreLandings, AreApart}
@@ -316,3 +316,60 @@ returns-clause-rest g c =
     let reached = c.requires.reached in
     rest_fewer (bays g) (AreApart landings) (RowsApart s m rows) c.args.bay.now c.land_bins-landed.new.bay
     (apart_landings s m young rows reached c.lay_parts.new.parts.items parts landings are started count) c.land_bins-landed.ensures.rest
+
+pub start_landings-requires-clause-first : goal.start_landings-requires-clause-first
+start_landings-requires-clause-first g c = c.requires.first
+
+pub start_landings-requires-clause-last : goal.start_landings-requires-clause-last
+start_landings-requires-clause-last g c = subst (λ (t : Numbers). c.args.m ≤ capacity t) (sym c.settings-settings.ensures) c.requires.last
+
+pub start_landings-requires-clause-few : goal.start_landings-requires-clause-few
+start_landings-requires-clause-few g c =
+    subst (λ (t : Numbers). length c.args.rows.now ≤ t.levels) (sym c.settings-settings.ensures)
+    (subst (λ n. n ≤ c.args.zero.now.settings.levels) (length-map c.args.rows.now (λ row. row.items)) c.requires.reached.few)
+
+pub start_landings-requires-clause-enough : goal.start_landings-requires-clause-enough
+start_landings-requires-clause-enough g c = c.requires.enough
+
+pub lay_parts-requires-clause-first : goal.lay_parts-requires-clause-first
+lay_parts-requires-clause-first g c = c.requires.first
+
+pub lay_parts-requires-clause-last : goal.lay_parts-requires-clause-last
+lay_parts-requires-clause-last g c = subst (λ (t : Numbers). c.args.m ≤ capacity t) (sym c.settings-settings.ensures) c.requires.last
+
+pub lay_parts-requires-clause-few : goal.lay_parts-requires-clause-few
+lay_parts-requires-clause-few g c =
+    subst (λ (t : Numbers). length c.args.rows.now ≤ t.levels) (sym c.settings-settings.ensures)
+    (subst (λ n. n ≤ c.args.zero.now.settings.levels) (length-map c.args.rows.now (λ row. row.items)) c.requires.reached.few)
+
+pub lay_parts-requires-clause-room : goal.lay_parts-requires-clause-room
+lay_parts-requires-clause-room g c =
+    subst (λ (t : Numbers). (t.levels + 1) * t.bins ≤ vec_capacity c.args.parts.now) (sym c.settings-settings.ensures) c.requires.parts
+
+pub begin_order-order-requires-clause-same : goal.begin_order-order-requires-clause-same
+begin_order-order-requires-clause-same g c = c.requires.same
+
+pub begin_order-order-requires-clause-ahead : goal.begin_order-order-requires-clause-ahead
+begin_order-order-requires-clause-ahead g c = c.requires.ahead
+
+pub begin_order-order-requires-clause-few : goal.begin_order-order-requires-clause-few
+begin_order-order-requires-clause-few g c =
+    subst (λ n. n ≤ c.args.zero.now.settings.levels) (length-map c.args.rows.now (λ row. row.items)) c.requires.reached.few
+
+pub slice_bounds-first-end : goal.slice_bounds-first-end
+slice_bounds-first-end g c = subst (λ n. length c.args.rows.now ≤ n) (sym c.start_landings.ensures.len) c.requires.enough
+
+pub land_bins-landed-requires-clause-totals : goal.land_bins-landed-requires-clause-totals
+land_bins-landed-requires-clause-totals g c = c.requires.none_taken
+
+pub returns-clause-room : goal.returns-clause-room
+returns-clause-room g c = c.end_order.ensures.room ∙ c.land_bins-landed.ensures.streams.settings ∙ c.begin_order-order.ensures.settings
+
+pub returns-clause-ahead : goal.returns-clause-ahead
+returns-clause-ahead g c = c.end_order.ensures.ahead ∙ c.land_bins-landed.ensures.ahead ∙ c.begin_order-order.ensures.room
+
+pub returns-clause-parts : goal.returns-clause-parts
+returns-clause-parts g c = c.lay_parts.ensures.room
+
+pub returns-clause-kept : goal.returns-clause-kept
+returns-clause-kept g c = c.land_bins-landed.ensures.kept

@@ -1,6 +1,9 @@
-use Rattle.std.proofs.Common.{◌<◌, ◌++◌, length, take, drop, sym, subst, vec_capacity}
+use Rattle.std.proofs.Common.{◌≡◌, ◌<◌, ◌≤◌, ◌++◌, ◌∙◌, ap, length, take, drop, sym, subst, vec_capacity}
+use Rattle.std.proofs.lemmas.List.{length-map}
 use Rattle.std.specs.List.{All}
+use Rattle.lert_spec.specs.Edges.{capacity}
 use Rattle.lert_spec.specs.Limits.{IsValid}
+use Rattle.lert_levels.specs.OnDisk.{OnDisk}
 use Rattle.lert_levels.proofs.LevelLaws.{after_few, after_room, after_kept}
 use Rattle.lert_rows.proofs.MoveLaws.{rows_few}
 use Rattle.lert_levels.proofs.levels.Levels.move_on.Goals as goal
@@ -44,3 +47,14 @@ invariant_of-self g c =
       c.self.invariant.1,
       c.self.invariant.2,
     )
+
+pub move_rows-requires-clause-first : goal.move_rows-requires-clause-first
+move_rows-requires-clause-first g c = c.requires.first
+
+pub move_rows-requires-clause-last : goal.move_rows-requires-clause-last
+move_rows-requires-clause-last g c = subst (λ (v : OnDisk). c.args.m ≤ capacity v.settings) (sym c.self.view_is) c.requires.last
+
+pub move_rows-requires-clause-levels : goal.move_rows-requires-clause-levels
+move_rows-requires-clause-levels g c =
+    let levels = subst (λ (v : OnDisk). length v.rows ≡ v.settings.levels) (sym c.self.view_is) c.requires.at.levels in
+    ap length c.deref_mut.ensures.value ∙ sym (length-map c.self.inside.rows.items (λ row. row.items)) ∙ levels
