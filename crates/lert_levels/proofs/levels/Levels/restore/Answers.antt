@@ -58,7 +58,8 @@ named_after g c =
     let after = take c.self.inside.rows.len (c.restore_rows.new.rows ++ drop (length c.restore_rows.new.rows) c.self.inside.rows.items) in
     restored_named (λ row. row.items) (λ row. vec_capacity row) s valid c.self.inside.rows.items c.self.inside.directory.items (vec_capacity c.self.inside.directory) c.self.inside.reader
     c.self.invariant.0
-    c.args.n0 c.args.directory.now c.deref_mut.result.now c.restore_rows.new.rows after c.self.inside.rows.len c.deref_mut.ensures.value c.deref_mut.ensures.len c.restore_rows.ensures.named (λ i. after)
+    c.args.n0 c.args.directory.now c.deref_mut.result.now c.restore_rows.new.rows after c.self.inside.rows.len c.deref_mut.ensures.value c.deref_mut.ensures.len c.restore_rows.ensures.named
+    (λ i. after)
 
 pub returns-clause-settings : goal.returns-clause-settings
 returns-clause-settings g c = ap (λ (v : OnDisk). v.settings) c.self.view_is
