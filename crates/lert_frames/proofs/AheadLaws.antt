@@ -1,5 +1,5 @@
 -- Calls on a window, one behind another.
-use Rattle.std.proofs.Common.{◌≡◌, ℕ, ◌+◌, ◌-◌, ◌*◌, ◌^◌, ◌<◌, ◌≤◌, drop, sym, ap, ◌∙◌, subst, arith}
+use Rattle.std.proofs.Common.{◌≡◌, ℕ, ◌+◌, ◌-◌, ◌*◌, ◌^◌, ◌<◌, ◌≤◌, length, drop, refl, sym, ap, ◌∙◌, subst, arith}
 use Rattle.std.proofs.Math.Nat.{mul-le-mul_right}
 use Rattle.lert_bay.specs.Kept.{Bays}
 use Rattle.lert_frames.specs.declared.decoder.Ahead.{Ahead}
@@ -9,7 +9,7 @@ use Rattle.lert_frames.specs.declared.fields.Head.{Head}
 use Rattle.lert_frames.specs.declared.window.Window.{Window}
 use Rattle.lert_frames.specs.Standing.{IsStanding}
 use Rattle.lert_frames.specs.Steps.{ReadsAhead, Passes, IsFitting, fields_len}
-use Rattle.lert_frames.specs.Window.{place_of, room_of}
+use Rattle.lert_frames.specs.Window.{count_of, place_of, room_of}
 use Rattle.lert_frames.proofs.FieldLaws.{end_of}
 
 module _ {B : Type 0} (bays : Bays B) (before between : B) (same : bays.files between ≡ bays.files before) (old middle new : Window) (first : ReadsAhead bays before old middle) where
@@ -30,6 +30,76 @@ module _ {B : Type 0} (bays : Bays B) (before between : B) (same : bays.files be
     come = λ seen told. second.come seen (same ∙ told) ∙ ap (drop count) (first.come seen told);
     read = λ seen told from near is. second.read seen (same ∙ told) from (omega (arith, near, first.place)) (first.read seen told from (omega (arith, near, end_of old)) is);
   }
+
+-- no call
+pub ahead_none : {B : Type 0} (bays : Bays B) (before : B) (w : Window) → ReadsAhead bays before w w
+ahead_none bays before w = record { place = refl; room = refl; grows = omega arith; later = omega arith; come = λ seen told. refl; read = λ seen told from near is. is }
+
+-- more bytes are at hand
+pub later_of : (old new : Window) → place_of new ≡ place_of old → count_of old ≤ count_of new → old.at ≤ new.at
+later_of old new place grows = omega (arith, end_of old, end_of new, place, grows)
+
+-- a decoder whose windows read ahead
+pub standing_ahead : (d : Decoder) (window ends : Window) (slots : ℕ) → place_of window ≡ place_of d.window → room_of window ≡ room_of d.window → count_of d.window ≤ count_of window →
+    place_of ends ≡ place_of d.ends → room_of ends ≡ room_of d.ends → count_of d.ends ≤ count_of ends → slots ≡ length d.slots.items → IsStanding d.width d.block d.ahead window ends slots
+standing_ahead d window ends slots place room grows ends_place ends_room ends_grow slots_are =
+    let was = d.standing in
+    record {
+      narrow = was.narrow;
+      wide = was.wide;
+      first = was.first;
+      tails = was.tails;
+      order = was.order;
+      least = was.least;
+      from = was.from;
+      near = was.near;
+      hand = omega (arith, was.hand, grows);
+      word = λ some. omega (arith, was.word some, ends_grow);
+      most = was.most;
+      some = was.some;
+      count = was.count;
+      reach = omega (arith, was.reach, place);
+      ends_reach = omega (arith, was.ends_reach, ends_place);
+      window_room = room ∙ was.window_room;
+      ends_room = ends_room ∙ was.ends_room;
+      slots_room = slots_are ∙ was.slots_room;
+    }
+
+-- one without a present block, whose words of run ends may stand anywhere
+pub standing_decoded : (d : Decoder) (window ends : Window) (slots : ℕ) → d.block.some ≡ 0 → place_of window ≡ place_of d.window → room_of window ≡ room_of d.window →
+    place_of ends < 2 ^ 43 → room_of ends ≡ room_of d.ends → slots ≡ length d.slots.items → IsStanding d.width d.block d.ahead window ends slots
+standing_decoded d window ends slots none place room ends_place ends_room slots_are =
+    let was = d.standing in
+    record {
+      narrow = was.narrow;
+      wide = was.wide;
+      first = was.first;
+      tails = was.tails;
+      order = was.order;
+      least = was.least;
+      from = was.from;
+      near = was.near;
+      hand = omega (arith, was.from, none);
+      word = λ some. absurd (omega (arith, was.from, none, some));
+      most = was.most;
+      some = was.some;
+      count = was.count;
+      reach = omega (arith, was.reach, place);
+      ends_reach = omega (arith, ends_place, none);
+      window_room = room ∙ was.window_room;
+      ends_room = ends_room ∙ was.ends_room;
+      slots_room = slots_are ∙ was.slots_room;
+    }
+
+-- its places
+pub window_near : (d : Decoder) → place_of d.window < 2 ^ 43
+window_near d = omega (arith, d.standing.reach)
+
+pub ends_near : (d : Decoder) → place_of d.ends < 2 ^ 43
+ends_near d = omega (arith, d.standing.ends_reach)
+
+pub fields_near : (d : Decoder) (head : Head) (place : ℕ) → 1 ≤ d.ahead.blocks → head.count ≤ d.ahead.most → place ≡ place_of d.window → place + fields_len head < 2 ^ 43
+fields_near d head place some few is = omega (arith, d.standing.reach, some, few, is)
 
 -- a decoder whose next block is begun
 pub standing_begun : (d : Decoder) (head : Head) (block : Present) (ahead : Ahead) (window ends : Window) → d.block.some ≡ 0 → 1 ≤ d.ahead.blocks → head.count < 2 ^ 32 → IsFitting d.ahead.most head →

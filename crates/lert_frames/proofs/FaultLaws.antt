@@ -1,5 +1,5 @@
 -- Answers and their faults.
-use Rattle.std.proofs.Common.{◌≡◌, ℕ}
+use Rattle.std.proofs.Common.{◌≡◌, ℕ, Option, Some, None, Result}
 use Rattle.std.specs.Prelude.{Ok, Err, IsErrOf}
 use Rattle.lert_base.specs.declared.pieces.PieceFault.{PieceFault}
 use Rattle.lert_base.specs.declared.pieces.PieceFault.TheVariants.{Failed, Malformed}
@@ -28,3 +28,15 @@ err_of x y is = cc
 -- a failed call names no place
 pub no_place : (at : ℕ) (fault : PieceFault) → fault ≡ Failed → fault ≡ Malformed at → ⊥
 no_place at fault failed is = cc
+
+pub ok_not_err : {T E : Type 0} (x : T) (fault : E) → ◌≡◌ {A = Result T E} (Ok x) (Err fault) → ⊥
+ok_not_err x fault is = cc
+
+pub err_not_ok : {T E : Type 0} (x : T) (fault : E) → ◌≡◌ {A = Result T E} (Err fault) (Ok x) → ⊥
+err_not_ok x fault is = cc
+
+pub some_not_none : {T E : Type 0} (x : T) → ◌≡◌ {A = Result (Option T) E} (Ok (Some x)) (Ok None) → ⊥
+some_not_none x is = cc
+
+pub same_ok : {T E : Type 0} (x y : T) → ◌≡◌ {A = Result T E} (Ok x) (Ok y) → x ≡ y
+same_ok x y is = cc

@@ -16,6 +16,7 @@ pub mod GrowingLaws
 pub mod KeptPlaceLaws
 pub mod NearLaws
 pub mod NumberLaws
+pub mod OrderLaws
 pub mod OutletLaws
 pub mod PartLaws
 pub mod PassLaws

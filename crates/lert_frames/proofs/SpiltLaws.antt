@@ -6,6 +6,10 @@ use Rattle.std.proofs.lemmas.List.{ext_get_or, get_or_append_left, get_or-append
 use Rattle.std.proofs.lemmas.List.FromFn.{get_or-map-range_with_len, length-map-range_with_len}
 use Rattle.std.proofs.Math.Seq.{take-add}
 use Rattle.byteorder.specs.Endian.{little_bytes}
+use Rattle.lert_frames.specs.declared.long.Long.{Long}
+use Rattle.lert_frames.specs.declared.outlet.Outlet.{Outlet}
+use Rattle.lert_frames.specs.Outlet.{next_place}
+use Rattle.lert_frames.specs.Spilt.{Reaches}
 use Rattle.lert_blocks.specs.Text.{number_of_bits, word_count, words_of, numbers_text}
 
 -- ---- words
@@ -80,3 +84,62 @@ slots_more n k all slots are =
 pub slots_rest : (n : ℕ) (all slots : List ℕ) → slots ≡ drop n all → numbers_text (take n all) ++ numbers_text slots ≡ numbers_text all
 slots_rest n all slots are =
     sym (numbers_text-append (take n all) slots) ∙ ap numbers_text (ap (λ (ns : List ℕ). take n all ++ ns) are ∙ take-append-drop n all)
+
+-- ---- places
+
+-- writes go on
+pub reaches_on : (l : Long) (slots end : ℕ) (e o later_e later_o : Outlet) → e.at ≤ later_e.at → next_place later_e ≡ next_place e → o.at ≤ later_o.at → next_place later_o ≡ next_place o →
+    Reaches l slots end e o → Reaches l slots end later_e later_o
+reaches_on l slots end e o later_e later_o ends_at ends_is at is reach = record {
+  ends_at = omega (arith, reach.ends_at, ends_at);
+  ends_next = ends_is ∙ reach.ends_next;
+  words_fit = omega (arith, reach.words_fit, ends_is);
+  slots_at = omega (arith, reach.slots_at, at);
+  slots_next = is ∙ reach.slots_next;
+  slots_fit = omega (arith, reach.slots_fit, is);
+}
+
+-- so many words more are out, with their slots
+pub reaches_more : (l : Long) (slots end go len left : ℕ) (e o later_e later_o : Outlet) → len ≤ slots → left + 64 * go ≡ len →
+    e.at ≤ later_e.at → next_place later_e ≡ next_place e + 8 * go → o.at ≤ later_o.at → next_place later_o ≡ next_place o + 8 * (64 * go) →
+    Reaches l slots end e o → Reaches (record { begin = l.begin; slots = l.slots; words = l.words + go }) (slots - (len - left)) end later_e later_o
+reaches_more l slots end go len left e o later_e later_o few sum ends_at ends_is at is reach =
+    let gone : len - left ≡ 64 * go = omega (arith, sum) in
+    record {
+      ends_at = omega (arith, reach.ends_at, ends_at);
+      ends_next = omega (arith, ends_is, reach.ends_next);
+      words_fit = omega (arith, reach.words_fit, ends_is, gone, few, sum);
+      slots_at = omega (arith, reach.slots_at, at);
+      slots_next = omega (arith, is, reach.slots_next);
+      slots_fit = omega (arith, reach.slots_fit, is, gone, few, sum);
+    }
+
+-- the places of a long block in their order
+module _ (l : Long) (slots end : ℕ) (e o : Outlet) (reach : Reaches l slots end e o) where
+  pub begin_first : (begin : ℕ) → begin ≤ l.begin → (begin ≤ e.at) × (begin ≤ o.at)
+  begin_first begin low = (omega (arith, reach.ends_at, low), omega (arith, reach.ends_at, reach.ends_next, reach.words_fit, reach.slots_at, low))
+
+  pub ends_last : (high : ℕ) → next_place o ≤ high → next_place e ≤ high
+  ends_last high within = omega (arith, reach.words_fit, reach.slots_next, within)
+
+  -- the words end before the slots begin
+  pub ends_fit : (next_place e ≤ l.slots) × (e.at ≤ l.slots) × (l.begin + 12 ≤ l.slots) × (l.slots ≤ next_place o)
+  ends_fit = (omega (arith, reach.words_fit), omega (arith, reach.words_fit), omega (arith, reach.words_fit, reach.ends_at), omega (arith, reach.slots_at))
+
+  -- what a block still has goes behind them
+  pub words_end : (n : ℕ) → n ≡ word_count slots → next_place e + 8 * n ≤ l.slots
+  words_end n is = omega (arith, reach.words_fit, is)
+
+  pub all_end : (n : ℕ) → n ≡ word_count slots → (high : ℕ) → next_place o + 8 * slots ≤ high → next_place e + 8 * n ≤ high
+  all_end n is high within = omega (arith, reach.words_fit, reach.slots_at, is, within)
+
+  -- and the slots are moved down
+  pub moved_places : (count words : ℕ) → count ≡ 64 * l.words + slots → words ≡ word_count count →
+      (l.begin + 12 + 8 * words ≤ l.slots) × (l.begin + 12 + 8 * words + 8 * count ≤ next_place o + 8 * slots) ×
+      (l.slots + 8 * count ≡ next_place o + 8 * slots) × (l.begin + 12 ≤ next_place o + 8 * slots)
+  moved_places count words count_is words_is = (
+    omega (arith, reach.words_fit, reach.ends_next, count_is, words_is),
+    omega (arith, reach.words_fit, reach.ends_next, reach.slots_next, count_is, words_is),
+    omega (arith, reach.slots_next, count_is),
+    omega (arith, reach.words_fit, reach.ends_next, reach.slots_next),
+  )

@@ -1,6 +1,7 @@
 -- What is to come of a reader, over several steps, and as it hands out pieces.
 use Rattle.std.proofs.Common.{◌≡◌, ℕ, ◌+◌, ◌≤◌, List, [], ◌∷◌, ◌++◌, drop, Option, Some, None, refl, sym, ap, ap₂, ◌∙◌, subst, arith}
-use Rattle.std.specs.Prelude.{MatchOption}
+use Rattle.std.specs.Prelude.{◌↔◌, MatchOption, option_to_list}
+use Rattle.std.proofs.lemmas.List.{append-nil}
 use Rattle.lert_bay.specs.declared.bay.TheConstants.{FRAMES}
 use Rattle.lert_bay.specs.Files.{Files}
 use Rattle.lert_blocks.specs.Frame.{blocks_len}
@@ -56,6 +57,12 @@ told_stays (Some seen) new before after is same =
     ap (λ told. told_of told after) is
     ∙ same_whole (left_of after (seen FRAMES)) (left_of before (seen FRAMES)) (pieces_of after (seen FRAMES)) (pieces_of before (seen FRAMES)) here.left here.pieces
 
+-- a rule is broken where it was
+pub broken_stays : (old new : Option Files) (before after : FrameReader) → new ≡ old → ((seen : Files) → old ≡ Some seen → IsSameToCome before after (seen FRAMES)) →
+    (at : ℕ) → Breaks new after at ↔ Breaks old before at
+broken_stays old new before after is same at =
+    (λ breaks seen told. sym (same seen told).left ∙ breaks seen (is ∙ told), λ breaks seen told. (same seen (sym is ∙ told)).left ∙ breaks seen (sym is ∙ told))
+
 -- nothing is told where it leaves its text
 pub broken_untold : (told : Option Files) (r : FrameReader) (at : ℕ) → Breaks told r at → told_of told r ≡ None
 broken_untold None r at breaks = refl
@@ -76,6 +83,9 @@ module _ (before after : FrameReader) (piece : Option Piece) (hands : HandsOut b
   pub handed_left : (file : List ℕ) → left_of after file ≡ left_of before file
   handed_left file = λ i. known_or (hands.fault i) (verdict (hands.sum i) (hands.place i) (decoder_found (hands.decoder i) file))
 
+  pub handed_broken : (told : Option Files) (at : ℕ) → Breaks told after at ↔ Breaks told before at
+  handed_broken told at = (λ breaks seen is. sym (handed_left (seen FRAMES)) ∙ breaks seen is, λ breaks seen is. handed_left (seen FRAMES) ∙ breaks seen is)
+
   pub handed_untold : (told : Option Files) → told_of told before ≡ None → told_of told after ≡ None
   handed_untold None is = refl
   handed_untold (Some seen) is =
@@ -90,6 +100,11 @@ module _ (before after : FrameReader) (piece : Option Piece) (hands : HandsOut b
         ap (λ decoder. decoder_end decoder file) hands.decoder
         ∙ (is.end ∙ sym (λ i. hands.place i + blocks_len (block_count (hands.settings i) (hands.level i)) (drop (hands.place i) file)));
   }
+
+-- what was given so far
+pub handed_gave : (before after : FrameReader) (piece : Option Piece) → HandsOut before after piece → after.gave ≡ before.gave ++ option_to_list piece
+handed_gave before after None hands = hands.given.2 ∙ sym (append-nil before.gave)
+handed_gave before after (Some p) hands = hands.given.1
 
 -- where no piece is ready, the same is to come
 pub handed_none : (before after : FrameReader) → HandsOut before after None → (file : List ℕ) → IsSameToCome before after file
@@ -146,3 +161,9 @@ sums_within wide decoded Over is = is
 
 pub given_within : (r : FrameReader) → total r.gave ≤ r.wide
 given_within r = omega (arith, total-append r.gave (ready_of r), sums_within r.wide (total (r.gave ++ ready_of r)) r.sum r.reading.sums)
+
+-- at the frame's end they add up to the bin's width
+pub given_all : (before after : FrameReader) → HandsOut before after None → IsOver after → total after.gave ≡ after.wide
+given_all before after hands over =
+    let sums : SumsUp after.wide (total (after.gave ++ ready_of after)) (Left 0) = subst (SumsUp after.wide (total (after.gave ++ ready_of after))) over.sum after.reading.sums in
+    omega (arith, sums, total-append after.gave (ready_of after), ap total hands.given.1)
