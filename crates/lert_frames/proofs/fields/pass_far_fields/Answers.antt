@@ -1,13 +1,15 @@
-use Rattle.std.proofs.Common.{◌≡◌, ◌+◌, ◌-◌, ◌∙◌, Some, length, drop, ap, ap₂, sym, refl, arith, true, false}
+use Rattle.std.proofs.Common.{◌≡◌, ℕ, ◌+◌, ◌*◌, ◌-◌, ◌^◌, ◌<◌, ◌≤◌, ◌∙◌, Some, length, drop, ap, ap₂, sym, subst, refl, arith, true, false}
 use Rattle.std.proofs.lemmas.Result.{err_from_is_err_and}
 use Rattle.lert_bay.specs.declared.bay.TheConstants.{FRAMES}
 use Rattle.lert_bay.specs.Kept.{Bays}
 use Rattle.lert_bay.proofs.KeptLaws.{IsLawful, reads_as}
 use Rattle.lert_blocks.specs.Frame.{ends_agree}
+use Rattle.lert_blocks.specs.Text.{word_count}
+use Rattle.lert_frames.specs.declared.fields.Head.{Head}
 use Rattle.lert_frames.specs.Steps.{fields_len}
 use Rattle.lert_frames.specs.Window.{at_hand, place_of, to_come}
 use Rattle.lert_frames.proofs.FaultLaws.{not_err, not_failed, fault_is, same_place}
-use Rattle.lert_frames.proofs.FieldLaws.{fields_told, come_far, run_ends_short, run_ends_agree, run_ends_differ}
+use Rattle.lert_frames.proofs.FieldLaws.{fields_told, length_hand, come_far, run_ends_short, run_ends_agree, run_ends_differ}
 use Rattle.lert_frames.proofs.NearLaws.{agrees_as, block_words, far_short, far_long, far_words, far_held, far_read}
 use Rattle.lert_frames.proofs.WriteLaws.{same_err}
 use Rattle.lert_frames.proofs.fields.pass_far_fields.Given as given
@@ -26,6 +28,39 @@ bays g = record {
 
 lawful : (g : given.Over) → IsLawful (bays g)
 lawful g = record { as_read = g.met.B.Bay.as_read; since_now = g.met.B.Bay.since_now; only_now = g.met.B.Bay.only_now; since_earlier = g.met.B.Bay.since_earlier }
+
+near_place : (place len : ℕ) → place + len < 2 ^ 43 → place < 2 ^ 43
+near_place place len reach = omega (arith, reach)
+
+words_near : (place held words : ℕ) (head : Head) → place + fields_len head < 2 ^ 43 → held ≡ place + 12 → words ≡ word_count head.count → held + 8 * words < 2 ^ 43
+words_near place held words head reach held_is words_are = omega (arith, reach, held_is, words_are)
+
+pub hold_behind-requires : goal.hold_behind-requires
+hold_behind-requires g c =
+    let w = c.args.window.now in
+    record {
+      some = subst (λ n. 12 ≤ n) (length_hand w) c.requires.fields.long;
+      room = c.requires.room ∙ sym c.requires.ends_room;
+      reach = near_place (place_of w) (fields_len c.args.head) c.requires.reach;
+    }
+
+pub pass_run_ends-requires-clause-room : goal.pass_run_ends-requires-clause-room
+pass_run_ends-requires-clause-room g c = c.hold_behind.ensures.room ∙ c.requires.ends_room
+
+pub pass_run_ends-requires-clause-reach : goal.pass_run_ends-requires-clause-reach
+pass_run_ends-requires-clause-reach g c = words_near (place_of c.args.window.now) _ _ c.args.head c.requires.reach c.hold_behind.ensures.place c.words.ensures
+
+pub left_at_last_word-requires : goal.left_at_last_word-requires
+left_at_last_word-requires g c = c.requires.reach
+
+pub hold_behind-requires-2 : goal.hold_behind-requires-2
+hold_behind-requires-2 g c =
+    let w = c.args.window.now in
+    record {
+      some = subst (λ n. 12 ≤ n) (length_hand w) c.requires.fields.long;
+      room = c.requires.room ∙ sym (c.in_ok-found.ensures.passes.room ∙ (c.hold_behind.ensures.room ∙ c.requires.ends_room));
+      reach = near_place (place_of w) (fields_len c.args.head) c.requires.reach;
+    }
 
 pub returns-in_err-found : goal.returns-in_err-found
 returns-in_err-found g c =

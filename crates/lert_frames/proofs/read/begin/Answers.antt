@@ -1,10 +1,11 @@
-use Rattle.std.proofs.Common.{◌≡◌, ◌∙◌, ◌+◌, ◌-◌, ◌*◌, ◌^◌, ℕ, length, drop, ap₂, subst, arith}
+use Rattle.std.proofs.Common.{◌≡◌, ◌<◌, ◌≤◌, ◌∙◌, ◌+◌, ◌-◌, ◌*◌, ◌/◌, ◌^◌, ℕ, length, drop, ap, ap₂, sym, subst, arith}
 use Rattle.std.proofs.Math.Nat.{pow-le-pow_right}
 use Rattle.std.proofs.Common.{lit<}
-use Rattle.lert_blocks.specs.Frame.{blocks_found}
+use Rattle.lert_blocks.specs.Frame.{blocks_found, blocks_len}
+use Rattle.lert_spec.specs.Edges.{span}
 use Rattle.lert_spec.specs.Limits.{IsValid}
 use Rattle.lert_frames.specs.Decoded.{IsBetween}
-use Rattle.lert_frames.specs.Place.{blocks_bytes, frame_len, tail_limit}
+use Rattle.lert_frames.specs.Place.{block_count, blocks_bytes, frame_len, tail_limit}
 use Rattle.lert_frames.proofs.PlaceLaws.{span_half, tails_are}
 use Rattle.lert_frames.proofs.StandsLaws.{stands_as}
 use Rattle.lert_frames.proofs.read.begin.Goals as goal
@@ -17,6 +18,55 @@ all_tails : (c : goal.After-block_count) → 64 * c.block_count.result * 2 ^ c.w
 all_tails c =
     ap₂ (λ blocks width. 64 * blocks * 2 ^ width) c.block_count.ensures.value c.width-width.ensures.value
     ∙ tails_are c.args.settings.now (valid c) c.args.level c.requires.last
+
+-- the frame's place is within reach
+reach_of : (place blocks span most : ℕ) → place + (20 * blocks + 16 * span + 8 * (span / 32)) < 2 ^ 42 → most ≡ 2 * span → place + 20 * blocks + 9 * most < 2 ^ 43
+reach_of place blocks span most fits is = omega (arith, fits, is)
+
+wide_enough : (width : ℕ) → 24 ≤ width → 8 ≤ width
+wide_enough width least = omega (arith, least)
+
+few_blocks : (blocks : ℕ) → blocks ≤ 2 ^ 26 → blocks < 2 ^ 32
+few_blocks blocks few = omega (arith, few)
+
+pub start-requires-clause-narrow : goal.start-requires-clause-narrow
+start-requires-clause-narrow c = wide_enough _ c.width-width.ensures.least
+
+pub start-requires-clause-wide : goal.start-requires-clause-wide
+start-requires-clause-wide c = c.width-width.ensures.most
+
+pub start-requires-clause-some : goal.start-requires-clause-some
+start-requires-clause-some c = c.block_count.ensures.some
+
+pub start-requires-clause-count : goal.start-requires-clause-count
+start-requires-clause-count c = few_blocks _ c.block_count.ensures.few
+
+pub start-requires-clause-reach : goal.start-requires-clause-reach
+start-requires-clause-reach c =
+    let s = c.args.settings.now in
+    let level = c.args.level in
+    subst (λ blocks. c.frame_place-place.result + 20 * blocks + 9 * (2 * c.span-most.result) < 2 ^ 43) (sym c.block_count.ensures.value)
+    (reach_of c.frame_place-place.result (block_count s level) (span s level) (2 * c.span-most.result) c.frame_place-place.ensures.end (ap (λ n. 2 * n) c.span-most.ensures.value))
+
+pub returns-clause-valid : goal.returns-clause-valid
+returns-clause-valid c = subst IsValid c.numbers-valid.ensures.value c.numbers-valid.ensures.valid
+
+pub returns-clause-place : goal.returns-clause-place
+returns-clause-place c = c.frame_place-place.ensures.value
+
+pub returns-clause-floor : goal.returns-clause-floor
+returns-clause-floor c = c.start.ensures.floor
+
+pub returns-clause-read : goal.returns-clause-read
+returns-clause-read c = c.start.ensures.read
+
+pub returns-clause-from : goal.returns-clause-from
+returns-clause-from c = c.start.ensures.place
+
+pub returns-clause-end : goal.returns-clause-end
+returns-clause-end c file =
+    let place = c.frame_place-place.result in
+    c.start.ensures.end file ∙ ap (λ blocks. place + blocks_len blocks (drop place file)) c.block_count.ensures.value
 
 pub start-requires-clause-tails : goal.start-requires-clause-tails
 start-requires-clause-tails c =

@@ -1,4 +1,9 @@
-use Rattle.lert_bay.specs.declared.bay.TheConstants.{JOURNAL}
+use Rattle.std.proofs.Common.{◌≡◌, ℕ, ◌+◌, ◌-◌, ◌≤◌, ◌∙◌, ◌++◌, List, [], length, take, drop, ap, sym, subst, arith, append-nil, length-append, length-drop}
+use Rattle.std.proofs.lemmas.List.{drop_all, drop_at, take_at, length-take-le}
+use Rattle.std.proofs.lemmas.Result.{IfOk-weaker}
+use borrow.Rule.Slice.PartMut.{put_mid}
+use Rattle.lert_bay.specs.Files.{CopiesFrom}
+use Rattle.lert_bay.specs.declared.bay.TheConstants.{FRAMES, JOURNAL}
 use Rattle.lert_bay.specs.Kept.{Bays}
 use Rattle.lert_bay.proofs.KeptLaws.{IsLawful, apart_from_frames, reads_call}
 use Rattle.lert_frames.proofs.window.read_behind.Given as given
@@ -24,3 +29,39 @@ returns-clause-only_reads g c =
     let read = c.read_at.ensures in
     reads_call (bays g) (lawful g) c.args.bay.now c.read_at.new.self _ read.time read.cause.never_falls read.cause.failed read.mark read.seen read.images
     (read.handed.others JOURNAL apart_from_frames)
+
+here : (from : ℕ) (old : List ℕ) → length (drop from old) ≤ length old - from
+here from old = omega (arith, length-drop from old)
+
+at_most : (from read new len : ℕ) → read ≤ new → from + new ≤ len → from + read ≤ len
+at_most from read new len few within = omega (arith, few, within)
+
+-- ---- the buffer, whose end was read over
+
+module _ (from : ℕ) (old new : List ℕ) (within : from ≤ length old) where
+  front_long : length (take from old) ≡ from
+  front_long = length-take-le from old within
+
+  none_left : drop (length old - from) (drop from old) ≡ []
+  none_left = drop_all (length old - from) (drop from old) (here from old)
+
+  end_is : drop from (put_mid from (length old - from) old new) ≡ new
+  end_is = drop_at (take from old) (new ++ drop (length old - from) (drop from old)) from front_long ∙ (ap (λ (xs : List ℕ). new ++ xs) none_left ∙ append-nil new)
+
+  long : from + length new ≤ length (put_mid from (length old - from) old new)
+  long = omega (arith, length-append (take from old) (new ++ drop (length old - from) (drop from old)), length-append new (drop (length old - from) (drop from old)), front_long)
+
+pub returns-clause-front : goal.returns-clause-front
+returns-clause-front g c =
+    let old = c.args.into.now in
+    take_at (take c.args.from old) (c.read_at.new.into ++ drop (length old - c.args.from) (drop c.args.from old)) c.args.from (front_long c.args.from old c.read_at.new.into c.requires)
+
+pub returns-clause-within : goal.returns-clause-within
+returns-clause-within g c =
+    IfOk-weaker c.read_at.result _ _ (λ read few. at_most c.args.from read (length c.read_at.new.into) _ few (long c.args.from c.args.into.now c.read_at.new.into c.requires)) c.read_at.ensures.within
+
+pub returns-clause-told : goal.returns-clause-told
+returns-clause-told g c seen told =
+    IfOk-weaker c.read_at.result _ _
+    (λ read copies. subst (λ (bytes : List ℕ). CopiesFrom c.args.at read bytes (seen FRAMES)) (sym (end_is c.args.from c.args.into.now c.read_at.new.into c.requires)) copies)
+    (c.read_at.ensures.told seen told)

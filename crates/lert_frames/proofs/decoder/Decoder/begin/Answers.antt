@@ -1,4 +1,4 @@
-use Rattle.std.proofs.Common.{◌+◌, ◌∙◌, ℕ, List, length, ap, sym, refl, subst}
+use Rattle.std.proofs.Common.{◌+◌, ◌*◌, ◌^◌, ◌<◌, ◌∙◌, ℕ, List, length, ap, sym, refl, subst, arith}
 use Rattle.std.proofs.lemmas.Result.{err_from_is_err_and}
 use Rattle.lert_bay.specs.declared.bay.TheConstants.{FRAMES}
 use Rattle.lert_bay.specs.Kept.{Bays}
@@ -6,10 +6,11 @@ use Rattle.lert_bay.proofs.KeptLaws.{IsLawful, reads_as, reads_on}
 use Rattle.lert_blocks.specs.Frame.{words_in}
 use Rattle.lert_blocks.specs.Text.{word_count}
 use Rattle.lert_frames.specs.Steps.{AreWords, fields_len, run_ends_left}
-use Rattle.lert_frames.specs.Window.{at_hand, place_of, to_come}
-use Rattle.lert_frames.proofs.AheadLaws.{ahead_on, passes_on, standing_begun}
+use Rattle.lert_frames.specs.Window.{at_hand, count_of, place_of, to_come}
+use Rattle.lert_frames.proofs.AheadLaws.{ahead_on, passes_on, standing_ahead, standing_begun, standing_decoded, window_near, ends_near, fields_near}
 use Rattle.lert_frames.proofs.FaultLaws.{err_of, not_err}
 use Rattle.lert_frames.proofs.FieldLaws.{fields_told, head_fits}
+use Rattle.lert_frames.proofs.OrderLaws.{here}
 use Rattle.lert_frames.proofs.StepLaws.{next_fits, steps_begun, steps_unbegun}
 use Rattle.lert_frames.proofs.WriteLaws.{same_err}
 use Rattle.lert_frames.proofs.decoder.Decoder.begin.Given as given
@@ -28,6 +29,43 @@ bays g = record {
 
 lawful : (g : given.Over) → IsLawful (bays g)
 lawful g = record { as_read = g.met.B.Bay.as_read; since_now = g.met.B.Bay.since_now; only_now = g.met.B.Bay.only_now; since_earlier = g.met.B.Bay.since_earlier }
+
+next_too : (next : ℕ) → 64 * next < 2 ^ 64 → next + 1 < 2 ^ 64
+next_too next fits = omega (arith, fits)
+
+pub read_head-requires : goal.read_head-requires
+read_head-requires g c = record { room = c.args.self.now.standing.window_room; reach = window_near c.args.self.now }
+
+pub pass_fields-requires : goal.pass_fields-requires
+pass_fields-requires g c =
+    let old = c.args.self.now in
+    let asked = c.in_ok-head.ensures in
+    record {
+      fields = asked.fields;
+      some = asked.fits.some;
+      room = asked.ahead.room ∙ old.standing.window_room;
+      ends_room = old.standing.ends_room;
+      reach = fields_near old c.in_ok-head.head _ c.requires.more asked.fits.within asked.ahead.place;
+    }
+
+pub behind-self-requires : goal.behind-self-requires
+behind-self-requires g c = record { some = c.requires.more; most = c.in_ok-head.ensures.fits.within; next = next_too c.args.self.now.ahead.next (next_fits c.args.self.now c.requires.more) }
+
+pub invariant_of-self : goal.invariant_of-self
+invariant_of-self g c =
+    let old = c.args.self.now in
+    let asked = c.in_err-head.ensures.ahead in
+    record { standing = standing_ahead old c.read_head.new.window old.ends _ asked.place asked.room asked.grows refl refl (here (count_of old.ends)) refl }
+
+pub invariant_of-self-in-Break-branch-2 : goal.invariant_of-self-in-Break-branch-2
+invariant_of-self-in-Break-branch-2 g c =
+    let old = c.args.self.now in
+    let asked = c.in_ok-head.ensures.ahead in
+    let passed = c.in_err-pass_fields.ensures in
+    record {
+      standing = standing_decoded old c.pass_fields.new.window c.pass_fields.new.ends _ c.requires.decoded (passed.ahead.place ∙ asked.place) (passed.ahead.room ∙ asked.room)
+          (passed.ends_within (ends_near old)) passed.ends_room refl;
+    }
 
 pub returns-in_err-head : goal.returns-in_err-head
 returns-in_err-head g c =

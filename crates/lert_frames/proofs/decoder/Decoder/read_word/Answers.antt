@@ -1,13 +1,16 @@
-use Rattle.std.proofs.Common.{◌∙◌, ℕ, List, refl, sym, ap, subst, arith, take}
+use Rattle.std.proofs.Common.{◌∙◌, ℕ, List, refl, sym, ap, subst, arith, length, take}
 use Rattle.std.proofs.lemmas.List.{with_items_is}
+use Rattle.std.proofs.lemmas.Result.{err_from_is_err_and}
 use Rattle.lert_bay.specs.declared.bay.TheConstants.{FRAMES}
 use Rattle.lert_bay.specs.Kept.{Bays}
 use Rattle.lert_bay.proofs.KeptLaws.{IsLawful, reads_as, reads_on}
 use Rattle.lert_frames.specs.Steps.{AreEnds}
 use Rattle.lert_frames.specs.Window.{count_of, to_come}
-use Rattle.lert_frames.proofs.AheadLaws.{ahead_since}
+use Rattle.lert_frames.proofs.AheadLaws.{ahead_none, ahead_since, standing_ahead, window_near, ends_near}
 use Rattle.lert_frames.proofs.FaultLaws.{not_err}
 use Rattle.lert_frames.proofs.SlotLaws.{hand_from, hand_read}
+use Rattle.lert_frames.proofs.OrderLaws.{here}
+use Rattle.lert_frames.proofs.WriteLaws.{same_err}
 use Rattle.lert_frames.proofs.decoder.Decoder.read_word.Given as given
 use Rattle.lert_frames.proofs.decoder.Decoder.read_word.Goals as goal
 
@@ -24,6 +27,70 @@ bays g = record {
 
 lawful : (g : given.Over) → IsLawful (bays g)
 lawful g = record { as_read = g.met.B.Bay.as_read; since_now = g.met.B.Bay.since_now; only_now = g.met.B.Bay.only_now; since_earlier = g.met.B.Bay.since_earlier }
+
+pub read_ends-requires : goal.read_ends-requires
+read_ends-requires g c =
+    let old = c.args.self.now in
+    record { some = c.requires; few = old.standing.some; room = old.standing.ends_room; reach = ends_near old }
+
+pub read_slots-requires : goal.read_slots-requires
+read_slots-requires g c =
+    let old = c.args.self.now in
+    record { words = c.in_ok-ends.ensures.few; into = omega (arith, c.deref_mut.ensures.len, old.standing.slots_room); room = old.standing.window_room; reach = window_near old }
+
+pub invariant_of-self : goal.invariant_of-self
+invariant_of-self g c =
+    let old = c.args.self.now in
+    let word = c.in_err-ends.ensures.ahead in
+    record { standing = standing_ahead old old.window c.read_ends.new.ends _ refl refl (here (count_of old.window)) word.place word.room word.grows refl }
+
+pub invariant_of-self-2 : goal.invariant_of-self-2
+invariant_of-self-2 g c =
+    let old = c.args.self.now in
+    let word = c.in_ok-ends.ensures.ahead in
+    let read = c.read_slots.ensures.ahead in
+    record {
+      standing = standing_ahead old c.read_slots.new.window c.read_ends.new.ends _ read.place read.room read.grows word.place word.room word.grows
+          (ap (λ (xs : List ℕ). length xs) (with_items_is old.slots c.read_slots.new.into (omega (arith, c.read_slots.auto.into, c.deref_mut.ensures.len)))
+          ∙ omega (arith, c.read_slots.auto.into, c.deref_mut.ensures.len));
+    }
+
+pub returns-in_err-ends : goal.returns-in_err-ends
+returns-in_err-ends g c =
+    let p = err_from_is_err_and c.from_residual.result c.from_residual.ensures.1 in
+    let before = c.args.bay.now in
+    let word = c.in_err-ends.ensures in
+    rw (p.1, p.2) (record {
+      width = refl;
+      block = refl;
+      ahead = refl;
+      window = ahead_none (bays g) before c.args.self.now.window;
+      ends = word.ahead;
+      hand = tt;
+      slots = λ seen told. tt;
+      failed = word.failed;
+      only_reads = reads_as (bays g) (lawful g) before c.read_ends.new.bay _ _ (λ is. same_err _ _ is) word.only_reads;
+    })
+
+pub returns-in_err-count : goal.returns-in_err-count
+returns-in_err-count g c =
+    let p = err_from_is_err_and c.from_residual-in_err-count.result c.from_residual-in_err-count.ensures.1 in
+    let before = c.args.bay.now in
+    let between = c.read_ends.new.bay in
+    let after = c.read_slots.new.bay in
+    let word = c.in_ok-ends.ensures in
+    let read = c.in_err-count.ensures in
+    rw (p.1, p.2) (record {
+      width = refl;
+      block = refl;
+      ahead = refl;
+      window = ahead_since (bays g) before between c.args.self.now.window c.read_slots.new.window word.only_reads.seen read.ahead;
+      ends = word.ahead;
+      hand = tt;
+      slots = λ seen told. tt;
+      failed = read.failed;
+      only_reads = reads_on (bays g) (lawful g) before between after _ _ word.only_reads (reads_as (bays g) (lawful g) between after _ _ (λ is. same_err _ _ is) read.only_reads);
+    })
 
 pub returns : goal.returns
 returns g c =

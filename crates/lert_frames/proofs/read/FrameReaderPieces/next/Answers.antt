@@ -1,82 +1,149 @@
-use Rattle.std.proofs.Common.{◌≡◌, ◌∙◌, Option, None, subst}
+use Rattle.std.proofs.Common.{◌≡◌, ◌∙◌, ◌++◌, Option, None, Some, ap, refl, subst}
+use Rattle.std.specs.Prelude.{option_to_list}
 use Rattle.std.proofs.lemmas.Result.{err_from_is_err_and}
 use Rattle.lert_bay.specs.declared.bay.TheConstants.{FRAMES}
+use Rattle.lert_bay.specs.Files.{Files}
+use Rattle.lert_bay.specs.Kept.{Bays}
+use Rattle.lert_bay.proofs.KeptLaws.{IsLawful, reads_none, reads_as}
 use Rattle.lert_frames.specs.InOrder.{gave_given}
+use Rattle.lert_frames.specs.Place.{tail_limit}
 use Rattle.lert_spec.specs.declared.piece.Piece.{Piece}
-use Rattle.lert_frames.specs.ToCome.{told_of, Breaks, HandsOut}
-use Rattle.lert_frames.proofs.ToComeLaws.{same_to_come_on, left_before, told_stays, broken_untold, handed_over, handed_untold, handed_within, handed_none, told_first, told_next, given_within}
+use Rattle.lert_frames.specs.ToCome.{told_of, Breaks, HandsOut, IsSameToCome}
+use Rattle.lert_frames.proofs.FaultLaws.{not_err, ok_not_err, err_not_ok, some_not_none, same_ok}
+use Rattle.lert_frames.proofs.ToComeLaws.{same_to_come_on, left_before, told_stays, broken_stays, broken_untold, handed_broken, handed_gave, handed_over}
+use Rattle.lert_frames.proofs.ToComeLaws.{handed_untold, handed_within, handed_none, told_first, told_next, given_within, given_all}
 use Rattle.lert_frames.proofs.WriteLaws.{same_err}
 use Rattle.lert_frames.proofs.read.FrameReaderPieces.next.Given as given
 use Rattle.lert_frames.proofs.read.FrameReaderPieces.next.Goals as goal
 
-pub returns-in-Some-clause-ascending : goal.returns-in-Some-clause-ascending
-returns-in-Some-clause-ascending g c = gave_given c.give.new.self
+abbrev bays : (g : given.Over) → Bays g.row.B.Denot
+bays g = record {
+  faults = g.B.Faulty.faults;
+  mark = g.B.Faulty.mark;
+  files = g.B.Bay.files;
+  leaves = g.B.Bay.leaves;
+  moment = g.B.Bay.moment;
+  left_since = g.B.Bay.left_since;
+  handed_out = g.B.Bay.handed_out;
+}
 
-pub returns-in-Some-clause-sum : goal.returns-in-Some-clause-sum
-returns-in-Some-clause-sum g c = given_within c.give.new.self
+lawful : (g : given.Over) → IsLawful (bays g)
+lawful g = record { as_read = g.met.B.Bay.as_read; since_now = g.met.B.Bay.since_now; only_now = g.met.B.Bay.only_now; since_earlier = g.met.B.Bay.since_earlier }
 
-pub returns-in-Some-clause-within : goal.returns-in-Some-clause-within
-returns-in-Some-clause-within g c seen told within = handed_within c.args.self.now c.give.new.self _ c.give.ensures (seen FRAMES) within
+-- ---- a piece that was ready
 
-pub returns-in-Some-clause-told : goal.returns-in-Some-clause-told
-returns-in-Some-clause-told g c ps told =
-    told_first (g.B.Bay.files c.args.ctx.now) c.args.self.now c.give.new.self c.in-Some.piece ps
-    (subst (λ (piece : Option Piece). HandsOut c.args.self.now c.give.new.self piece) c.in-Some.is c.give.ensures) told
-
-pub returns-in-Some-clause-untold : goal.returns-in-Some-clause-untold
-returns-in-Some-clause-untold g c = handed_untold c.args.self.now c.give.new.self _ c.give.ensures (g.B.Bay.files c.args.ctx.now)
-
-pub returns-in_err-fill-clause-ascending : goal.returns-in_err-fill-clause-ascending
-returns-in_err-fill-clause-ascending g c = gave_given c.fill.new.self
-
-pub returns-in_err-fill-clause-malformed : goal.returns-in_err-fill-clause-malformed
-returns-in_err-fill-clause-malformed g c =
+pub returns-in-Some : goal.returns-in-Some
+returns-in-Some g c =
+    let bay = c.args.ctx.now in
     let self = c.args.self.now in
+    let after = c.give.new.self in
+    let files = g.B.Bay.files bay in
+    let hands = subst (λ (piece : Option Piece). HandsOut self after piece) c.in-Some.is c.give.ensures in
+    let none = reads_none (bays g) (lawful g) bay ⊥ (λ none. none) in
+    record {
+      told = λ ps told. told_first files self after c.in-Some.piece ps hands told;
+      untold = handed_untold self after _ hands files;
+      given = hands.given.1;
+      refused = tt;
+      ascending = gave_given after;
+      limit = ap tail_limit hands.settings;
+      failed = λ is. absurd (ok_not_err _ _ is);
+      malformed = λ at is. absurd (ok_not_err _ _ is);
+      breaks = handed_broken self after _ hands files;
+      faults = none.kept.never_falls;
+      mark = refl;
+      keeps = none;
+      sum = given_within after;
+      all = λ is. absurd (some_not_none _ is);
+      settings = hands.settings;
+      level = hands.level;
+      place = hands.place;
+      wide = hands.wide;
+      within = λ seen told within. handed_within self after _ hands (seen FRAMES) within;
+      over = λ is. absurd (some_not_none _ is);
+      only_reads = reads_none (bays g) (lawful g) bay _ (λ is. not_err _ _ is);
+    }
+
+-- ---- where none was
+
+pub returns-in_err-fill : goal.returns-in_err-fill
+returns-in_err-fill g c =
+    let before = c.args.ctx.now in
+    let later = c.fill.new.bay in
+    let self = c.args.self.now in
+    let after = c.fill.new.self in
+    let files = g.B.Bay.files before in
     let none : HandsOut self c.give.new.self None = subst (λ (piece : Option Piece). HandsOut self c.give.new.self piece) c.in_default.is c.give.ensures in
+    let e = c.in_err-fill.ensures in
+    let same : (seen : Files) → files ≡ Some seen → IsSameToCome self after (seen FRAMES) =
+    λ seen told. same_to_come_on self c.give.new.self after (seen FRAMES) (handed_none self c.give.new.self none (seen FRAMES)) (e.to_come seen told) in
     let p = err_from_is_err_and c.from_residual.result c.from_residual.ensures.1 in
-    rw (p.1, p.2) (λ at broken.
-    let breaks : Breaks (g.B.Bay.files c.args.ctx.now) self at = λ seen told. left_before self c.give.new.self (seen FRAMES) at (handed_none self c.give.new.self none (seen FRAMES))
-    (c.in_err-fill.ensures.malformed seen told at (same_err _ _ broken)) in
-    (broken_untold (g.B.Bay.files c.args.ctx.now) self at breaks, breaks))
+    rw (p.1, p.2) (record {
+      told = λ ps told. tt;
+      untold = λ untold. told_stays files (g.B.Bay.files later) self after e.only_reads.seen same ∙ untold;
+      given = tt;
+      refused = e.frame.gave ∙ none.given.2;
+      ascending = gave_given after;
+      limit = ap tail_limit (e.frame.settings ∙ none.settings);
+      failed = λ is. e.only_reads.kept.failed (same_err _ _ is);
+      malformed = λ at broken.
+          let breaks : Breaks files self at = λ seen told. left_before self c.give.new.self (seen FRAMES) at (handed_none self c.give.new.self none (seen FRAMES))
+          (e.malformed seen told at (same_err _ _ broken)) in
+          (broken_untold files self at breaks, breaks);
+      breaks = broken_stays files (g.B.Bay.files later) self after e.only_reads.seen same;
+      faults = e.only_reads.kept.never_falls;
+      mark = e.only_reads.kept.mark;
+      keeps = reads_as (bays g) (lawful g) before later _ ⊥ (λ none. absurd none) e.only_reads;
+      sum = tt;
+      all = λ is. absurd (err_not_ok _ _ is);
+      settings = e.frame.settings ∙ none.settings;
+      level = e.frame.level ∙ none.level;
+      place = e.frame.place ∙ none.place;
+      wide = e.frame.wide ∙ none.wide;
+      within = λ seen told within. tt;
+      over = λ is. absurd (err_not_ok _ _ is);
+      only_reads = reads_as (bays g) (lawful g) before later _ _ (λ is. same_err _ _ is) e.only_reads;
+    })
 
--- what was told before is told once more pieces are decoded
-is_told : (g : given.Over) (c : goal.After-give-2 g) → told_of (g.B.Bay.files c.fill.new.bay) c.fill.new.self ≡ told_of (g.B.Bay.files c.args.ctx.now) c.args.self.now
-is_told g c =
+pub returns : goal.returns
+returns g c =
+    let before = c.args.ctx.now in
+    let later = c.fill.new.bay in
     let self = c.args.self.now in
+    let filled = c.fill.new.self in
+    let after = c.give-2.new.self in
+    let piece = c.give-2.result in
+    let hands = c.give-2.ensures in
+    let files = g.B.Bay.files before in
+    let files_later = g.B.Bay.files later in
     let none : HandsOut self c.give.new.self None = subst (λ (piece : Option Piece). HandsOut self c.give.new.self piece) c.in_default.is c.give.ensures in
-    told_stays (g.B.Bay.files c.args.ctx.now) (g.B.Bay.files c.fill.new.bay) self c.fill.new.self c.fill.ensures.only_reads.seen
-    (λ seen told. same_to_come_on self c.give.new.self c.fill.new.self (seen FRAMES) (handed_none self c.give.new.self none (seen FRAMES)) (c.fill.ensures.to_come seen told))
-
-pub returns-in_err-fill-clause-untold : goal.returns-in_err-fill-clause-untold
-returns-in_err-fill-clause-untold g c untold =
-    let self = c.args.self.now in
-    let none : HandsOut self c.give.new.self None = subst (λ (piece : Option Piece). HandsOut self c.give.new.self piece) c.in_default.is c.give.ensures in
-    told_stays (g.B.Bay.files c.args.ctx.now) (g.B.Bay.files c.fill.new.bay) self c.fill.new.self c.fill.ensures.only_reads.seen
-    (λ seen told. same_to_come_on self c.give.new.self c.fill.new.self (seen FRAMES) (handed_none self c.give.new.self none (seen FRAMES)) (c.fill.ensures.to_come seen told))
-    ∙ untold
-
-pub returns-clause-told : goal.returns-clause-told
-returns-clause-told g c ps told =
-    told_next (g.B.Bay.files c.fill.new.bay) c.fill.new.self c.give-2.new.self c.give-2.result ps c.give-2.ensures c.in_ok-fill.ensures.over (is_told g c ∙ told)
-
-pub returns-clause-untold : goal.returns-clause-untold
-returns-clause-untold g c untold =
-    handed_untold c.fill.new.self c.give-2.new.self c.give-2.result c.give-2.ensures (g.B.Bay.files c.fill.new.bay) (is_told g c ∙ untold)
-
-pub returns-clause-ascending : goal.returns-clause-ascending
-returns-clause-ascending g c = gave_given c.give-2.new.self
-
-pub returns-clause-sum : goal.returns-clause-sum
-returns-clause-sum g c = given_within c.give-2.new.self
-
-pub returns-clause-within : goal.returns-clause-within
-returns-clause-within g c seen told within =
-    let self = c.args.self.now in
-    let none : HandsOut self c.give.new.self None = subst (λ (piece : Option Piece). HandsOut self c.give.new.self piece) c.in_default.is c.give.ensures in
-    handed_within c.fill.new.self c.give-2.new.self c.give-2.result c.give-2.ensures (seen FRAMES)
-    (c.in_ok-fill.ensures.within seen told (handed_within self c.give.new.self None none (seen FRAMES) within))
-
-pub returns-clause-over : goal.returns-clause-over
-returns-clause-over g c none =
-    handed_over c.fill.new.self c.give-2.new.self (subst (λ (piece : Option Piece). HandsOut c.fill.new.self c.give-2.new.self piece) (let is : c.give-2.result ≡ None = cc in is) c.give-2.ensures)
-    c.in_ok-fill.ensures.over
+    let e = c.in_ok-fill.ensures in
+    let same : (seen : Files) → files ≡ Some seen → IsSameToCome self filled (seen FRAMES) =
+    λ seen told. same_to_come_on self c.give.new.self filled (seen FRAMES) (handed_none self c.give.new.self none (seen FRAMES)) (e.to_come seen told) in
+    let told_is : told_of files_later filled ≡ told_of files self = told_stays files files_later self filled e.only_reads.seen same in
+    let broken = broken_stays files files_later self filled e.only_reads.seen same in
+    let handed = handed_broken filled after piece hands files_later in
+    let ended : piece ≡ None → HandsOut filled after None = λ is. subst (λ (piece : Option Piece). HandsOut filled after piece) is hands in
+    record {
+      told = λ ps told. told_next files_later filled after piece ps hands e.over (told_is ∙ told);
+      untold = λ untold. handed_untold filled after piece hands files_later (told_is ∙ untold);
+      given = handed_gave filled after piece hands ∙ ap (λ gave. gave ++ option_to_list piece) (e.frame.gave ∙ none.given.2);
+      refused = tt;
+      ascending = gave_given after;
+      limit = ap tail_limit (hands.settings ∙ (e.frame.settings ∙ none.settings));
+      failed = λ is. absurd (ok_not_err _ _ is);
+      malformed = λ at is. absurd (ok_not_err _ _ is);
+      breaks = λ at. (λ breaks. (broken at).0 ((handed at).0 breaks), λ breaks. (handed at).1 ((broken at).1 breaks));
+      faults = e.only_reads.kept.never_falls;
+      mark = e.only_reads.kept.mark;
+      keeps = reads_as (bays g) (lawful g) before later _ ⊥ (λ none. absurd none) e.only_reads;
+      sum = given_within after;
+      all = λ is. let end : piece ≡ None = same_ok _ _ is in given_all filled after (ended end) (handed_over filled after (ended end) e.over);
+      settings = hands.settings ∙ (e.frame.settings ∙ none.settings);
+      level = hands.level ∙ (e.frame.level ∙ none.level);
+      place = hands.place ∙ (e.frame.place ∙ none.place);
+      wide = hands.wide ∙ (e.frame.wide ∙ none.wide);
+      within = λ seen told within. handed_within filled after piece hands (seen FRAMES) (e.within seen told (handed_within self c.give.new.self None none (seen FRAMES) within));
+      over = λ is. let end : piece ≡ None = same_ok _ _ is in handed_over filled after (ended end) e.over;
+      only_reads = reads_as (bays g) (lawful g) before later _ _ (λ is. absurd (not_err _ _ is)) e.only_reads;
+    }

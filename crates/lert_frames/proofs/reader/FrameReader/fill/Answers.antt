@@ -1,7 +1,11 @@
-use Rattle.std.proofs.Common.{◌∙◌}
+use Rattle.std.proofs.Common.{◌∙◌, Some, refl, ap}
 use Rattle.std.proofs.lemmas.Result.{err_from_is_err_and}
 use Rattle.lert_bay.specs.declared.bay.TheConstants.{FRAMES}
 use Rattle.lert_bay.proofs.KeptLaws.{IsLawful, reads_none, reads_on, reads_as}
+use Rattle.lert_frames.specs.Decoded.{decoder_found}
+use Rattle.lert_frames.specs.Reading.{verdict}
+use Rattle.lert_frames.specs.ToCome.{known_or}
+use Rattle.lert_frames.proofs.FaultLaws.{not_failed, place_is}
 use Rattle.lert_frames.proofs.ToComeLaws.{same_frame_on, same_to_come_on, left_before}
 use Rattle.lert_frames.proofs.WriteLaws.{same_err}
 use Rattle.lert_frames.proofs.reader.FrameReader.fill.Given as given
@@ -37,36 +41,60 @@ loop-self-preserved g c =
           (reads_as (bays g) (lawful g) c.loop-self.bay c.advance.new.bay _ ⊥ (λ none. absurd none) e.only_reads);
     }
 
+pub let_go-requires : goal.let_go-requires
+let_go-requires g c = c.requires
+
+pub advance-requires : goal.advance-requires
+advance-requires g c = record { fault = c.loop-self.invariant.fault; few = c.wants_more.ensures.few c.loop-self-test.true; more = c.wants_more.ensures.more c.loop-self-test.true }
+
+pub judge-requires : goal.judge-requires
+judge-requires g c = record { fault = c.loop-self.invariant.fault; given = c.loop-self.invariant.given; enough = c.wants_more.ensures.enough c.loop-self-test.false }
+
+-- ---- a place that was found
+
+pub returns-in-Some : goal.returns-in-Some
+returns-in-Some g c =
+    let self = c.args.self.now in
+    record {
+      frame = record { settings = refl; level = refl; place = refl; wide = refl; gave = refl };
+      to_come = λ seen told. record { left = refl; pieces = λ _. refl };
+      malformed = λ seen told at is.
+          ap (λ fault. known_or fault (verdict self.sum self.place (decoder_found self.decoder (seen FRAMES)))) c.in-Some.is ∙ ap Some (place_is c.in-Some.at at is);
+      over = tt;
+      within = λ seen told within. tt;
+      only_reads = reads_none (bays g) (lawful g) c.args.bay.now _ (λ is. not_failed _ _ refl is);
+    }
+
 -- ---- a step that stops
 
-pub returns-in_err-advance-clause-to_come : goal.returns-in_err-advance-clause-to_come
-returns-in_err-advance-clause-to_come g c seen told =
+pub returns-in_err-advance : goal.returns-in_err-advance
+returns-in_err-advance g c =
     let is = c.loop-self.invariant in
-    same_to_come_on c.args.self.now c.loop-self.self c.advance.new.self (seen FRAMES) (is.to_come seen told) (c.advance.ensures.to_come seen (is.only_reads.seen ∙ told))
-
-pub returns-in_err-advance-clause-malformed : goal.returns-in_err-advance-clause-malformed
-returns-in_err-advance-clause-malformed g c seen told at =
-    let is = c.loop-self.invariant in
+    let self = c.args.self.now in
+    let e = c.in_err-advance.ensures in
     let p = err_from_is_err_and c.from_residual.result c.from_residual.ensures.1 in
-    rw (p.1, p.2) (λ broken. left_before c.args.self.now c.loop-self.self (seen FRAMES) at (is.to_come seen told)
-    (c.in_err-advance.ensures.malformed seen (is.only_reads.seen ∙ told) at (same_err _ _ broken)))
-
-pub returns-in_err-advance-clause-only_reads : goal.returns-in_err-advance-clause-only_reads
-returns-in_err-advance-clause-only_reads g c =
-    let is = c.loop-self.invariant in
-    let p = err_from_is_err_and c.from_residual.result c.from_residual.ensures.1 in
-    rw (p.1, p.2) (reads_on (bays g) (lawful g) c.args.bay.now c.loop-self.bay c.advance.new.bay ⊥ _ is.only_reads
-    (reads_as (bays g) (lawful g) c.loop-self.bay c.advance.new.bay _ _ (same_err _ _) c.in_err-advance.ensures.only_reads))
+    rw (p.1, p.2) (record {
+      frame = same_frame_on self c.loop-self.self c.advance.new.self is.frame e.frame;
+      to_come = λ seen told. same_to_come_on self c.loop-self.self c.advance.new.self (seen FRAMES) (is.to_come seen told) (e.to_come seen (is.only_reads.seen ∙ told));
+      malformed = λ seen told at broken. left_before self c.loop-self.self (seen FRAMES) at (is.to_come seen told) (e.malformed seen (is.only_reads.seen ∙ told) at (same_err _ _ broken));
+      over = tt;
+      within = λ seen told within. tt;
+      only_reads = reads_on (bays g) (lawful g) c.args.bay.now c.loop-self.bay c.advance.new.bay ⊥ _ is.only_reads
+          (reads_as (bays g) (lawful g) c.loop-self.bay c.advance.new.bay _ _ (λ is. same_err _ _ is) e.only_reads);
+    })
 
 -- ---- and at the end
 
-pub returns-clause-to_come : goal.returns-clause-to_come
-returns-clause-to_come g c seen told =
-    same_to_come_on c.args.self.now c.loop-self.self c.judge.new.self (seen FRAMES) (c.loop-self.invariant.to_come seen told) (c.judge.ensures.to_come (seen FRAMES))
-
-pub returns-clause-malformed : goal.returns-clause-malformed
-returns-clause-malformed g c seen told at is =
-    left_before c.args.self.now c.loop-self.self (seen FRAMES) at (c.loop-self.invariant.to_come seen told) (c.judge.ensures.malformed (seen FRAMES) at is)
-
-pub returns-clause-within : goal.returns-clause-within
-returns-clause-within g c seen told within = c.judge.ensures.within (seen FRAMES) (c.loop-self.invariant.within seen told within)
+pub returns : goal.returns
+returns g c =
+    let is = c.loop-self.invariant in
+    let self = c.args.self.now in
+    let judged = c.judge.ensures in
+    record {
+      frame = same_frame_on self c.loop-self.self c.judge.new.self is.frame judged.frame;
+      to_come = λ seen told. same_to_come_on self c.loop-self.self c.judge.new.self (seen FRAMES) (is.to_come seen told) (judged.to_come (seen FRAMES));
+      malformed = λ seen told at broken. left_before self c.loop-self.self (seen FRAMES) at (is.to_come seen told) (judged.malformed (seen FRAMES) at broken);
+      over = judged.over;
+      within = λ seen told within. judged.within (seen FRAMES) (is.within seen told within);
+      only_reads = reads_as (bays g) (lawful g) c.args.bay.now c.loop-self.bay ⊥ _ (λ failed. judged.failed failed) is.only_reads;
+    }

@@ -1,21 +1,57 @@
-use Rattle.std.proofs.Common.{ℕ, ◌++◌, ◌∙◌, take, drop, sym, ap, ap₂, subst, arith}
+use Rattle.std.proofs.Common.{◌≡◌, ℕ, ◌≤◌, ◌++◌, ◌∙◌, take, drop, refl, sym, ap, ap₂, subst, arith}
+use Rattle.std.proofs.lemmas.Result.{err_from_is_err_and}
 use Rattle.lert_bay.specs.declared.bay.TheConstants.{FRAMES}
+use Rattle.lert_bay.specs.Kept.{Bays}
 use Rattle.lert_bay.specs.Settled.{part}
+use Rattle.lert_bay.proofs.KeptLaws.{IsLawful, reads_as}
+use Rattle.lert_frames.specs.declared.window.Window.{Window}
+use Rattle.lert_frames.specs.Window.{count_of, place_of}
 use Rattle.lert_frames.specs.Bytes.{AreBytes}
 use Rattle.lert_frames.proofs.WindowLaws.{hand_kept, filled_come, filled_all, read_more}
-use Rattle.lert_frames.proofs.WriteLaws.{on_err, on_err_from}
+use Rattle.lert_frames.proofs.window.Window.fill.Given as given
 use Rattle.lert_frames.proofs.window.Window.fill.Goals as goal
 
-pub returns-in_err-read-clause-unread : goal.returns-in_err-read-clause-unread
-returns-in_err-read-clause-unread g c =
+abbrev bays : (g : given.Over) → Bays g.row.B.Denot
+bays g = record {
+  faults = g.B.Faulty.faults;
+  mark = g.B.Faulty.mark;
+  files = g.B.Bay.files;
+  leaves = g.B.Bay.leaves;
+  moment = g.B.Bay.moment;
+  left_since = g.B.Bay.left_since;
+  handed_out = g.B.Bay.handed_out;
+}
+
+lawful : (g : given.Over) → IsLawful (bays g)
+lawful g = record { as_read = g.met.B.Bay.as_read; since_now = g.met.B.Bay.since_now; only_now = g.met.B.Bay.only_now; since_earlier = g.met.B.Bay.since_earlier }
+
+-- the place of what is at hand
+module _ (w old : Window) (front : w.from ≡ 0) (count : w.upto ≡ count_of old) (end : w.at ≡ old.at) where
+  place_moved : place_of w ≡ place_of old
+  place_moved = omega (arith, front, count, end)
+
+  count_moved : count_of old ≤ count_of w
+  count_moved = omega (arith, front, count)
+
+pub returns-in_err-read : goal.returns-in_err-read
+returns-in_err-read g c =
     let w = c.move_to_front.new.self in
+    let old = c.args.self.now in
     let moved = c.move_to_front.ensures in
     let same = c.read_behind.ensures.front ∙ ap (take w.upto) c.deref_mut.ensures.value in
-    on_err _ c.from_residual.result (hand_kept w.bytes c.read_behind.new.into w.from w.upto moved.front (omega arith) same ∙ moved.hand, moved.end)
-
-pub returns-in_err-read-clause-failed : goal.returns-in_err-read-clause-failed
-returns-in_err-read-clause-failed g c =
-    on_err_from _ _ c.from_residual.result (returns-in_err-read-clause-unread g c) (λ same file. ap₂ (λ hand at. hand ++ drop at file) same.0 same.1)
+    let hand = hand_kept w.bytes c.read_behind.new.into w.from w.upto moved.front (omega arith) same ∙ moved.hand in
+    let p = err_from_is_err_and c.from_residual.result c.from_residual.ensures.1 in
+    rw p.1 (record {
+      full = λ seen told. tt;
+      told = λ seen told. ap₂ (λ hand at. hand ++ drop at (seen FRAMES)) hand moved.end;
+      failed = λ file. ap₂ (λ hand at. hand ++ drop at file) hand moved.end;
+      unread = (hand, moved.end);
+      read = λ seen told from before known. subst (λ (n : ℕ). AreBytes (part (seen FRAMES) from n)) (sym moved.end) known;
+      place = place_moved w old moved.front moved.count moved.end;
+      grows = count_moved w old moved.front moved.count moved.end;
+      room = moved.room;
+      only_reads = reads_as (bays g) (lawful g) c.args.bay.now c.read_behind.new.bay _ _ (λ _. refl) c.in_err-read.ensures.only_reads;
+    })
 
 pub returns-clause-full : goal.returns-clause-full
 returns-clause-full g c seen told short =

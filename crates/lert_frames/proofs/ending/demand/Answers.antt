@@ -1,0 +1,73 @@
+use Rattle.std.proofs.Common.{◌≡◌, ℕ, ◌<◌, ◌≤◌, ◌∙◌, Bool, false, List, length, inl, inr, sym, ap, subst}
+use Rattle.std.specs.Prelude.{◌↔◌, IsTrue}
+use Rattle.std.proofs.lemmas.Bool.{cases_lt, false≢true}
+use Rattle.std.proofs.lemmas.Result.{err_from_is_err_and}
+use Rattle.lert_bay.specs.Kept.{Bays}
+use Rattle.lert_bay.proofs.KeptLaws.{IsLawful, reads_as, reads_on}
+use Rattle.lert_frames.specs.Window.{count_of}
+use Rattle.lert_frames.proofs.FaultLaws.{fault_is, no_place, not_err}
+use Rattle.lert_frames.proofs.FieldLaws.{length_hand}
+use Rattle.lert_frames.proofs.WriteLaws.{same_err}
+use Rattle.lert_frames.proofs.ending.demand.Given as given
+use Rattle.lert_frames.proofs.ending.demand.Goals as goal
+
+abbrev bays : (g : given.Over) → Bays g.row.B.Denot
+bays g = record {
+  faults = g.B.Faulty.faults;
+  mark = g.B.Faulty.mark;
+  files = g.B.Bay.files;
+  leaves = g.B.Bay.leaves;
+  moment = g.B.Bay.moment;
+  left_since = g.B.Bay.left_since;
+  handed_out = g.B.Bay.handed_out;
+}
+
+lawful : (g : given.Over) → IsLawful (bays g)
+lawful g = record { as_read = g.met.B.Bay.as_read; since_now = g.met.B.Bay.since_now; only_now = g.met.B.Bay.only_now; since_earlier = g.met.B.Bay.since_earlier }
+
+pub returns-in_err-need : goal.returns-in_err-need
+returns-in_err-need g c =
+    let p = err_from_is_err_and c.from_residual.result c.from_residual.ensures.1 in
+    let asked = c.in_err-need.ensures in
+    rw (p.1, p.2) (record {
+      enough = tt;
+      short = λ seen told at is. absurd (no_place at _ asked.failed (fault_is _ _ is));
+      end = λ seen told at is. absurd (no_place at _ asked.failed (fault_is _ _ is));
+      ahead = asked.ahead;
+      only_reads = reads_as (bays g) (lawful g) c.args.bay.now c.need.new.bay _ _ (λ is. same_err _ _ is) asked.only_reads;
+    })
+
+-- what isn't at hand is missing
+missing : (enough : Bool) (count had : ℕ) → enough ≡ false → (IsTrue enough ↔ (count ≤ had)) → had < count
+missing enough count had off means = elim (cases_lt had count) [
+  | inl short ↦ short
+  | inr there ↦ absurd (false≢true (sym off ∙ means.1 there))
+]
+
+pub returns-then-branch : goal.returns-then-branch
+returns-then-branch g c =
+    let asked = c.in_ok-need.ensures in
+    record {
+      enough = asked.enough.0 c.if-branch.true;
+      short = λ seen told at is. absurd (not_err _ _ is);
+      end = λ seen told at is. absurd (not_err _ _ is);
+      ahead = asked.ahead;
+      only_reads = reads_as (bays g) (lawful g) c.args.bay.now c.need.new.bay _ _ (λ is. absurd (not_err _ _ is)) asked.only_reads;
+    }
+
+pub returns : goal.returns
+returns g c =
+    let asked = c.in_ok-need.ensures in
+    let before = c.args.bay.now in
+    let between = c.need.new.bay in
+    let w = c.need.new.window in
+    record {
+      enough = tt;
+      short = λ seen told at is.
+          let all = ap (λ (xs : List ℕ). length xs) (asked.ends seen told c.if-branch.false) in
+          subst (λ n. n < c.args.count) (sym (length_hand w) ∙ all) (missing c.in_ok-need.field-0 c.args.count (count_of w) c.if-branch.false asked.enough);
+      end = λ seen told at is. c.file_end.ensures.told seen (asked.only_reads.seen ∙ told) at (fault_is _ _ is);
+      ahead = asked.ahead;
+      only_reads = reads_on (bays g) (lawful g) before between c.file_end.new.bay _ _ asked.only_reads
+          (reads_as (bays g) (lawful g) between c.file_end.new.bay _ _ (λ is. fault_is _ _ is) c.file_end.ensures.only_reads);
+    }

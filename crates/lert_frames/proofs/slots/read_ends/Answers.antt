@@ -1,0 +1,88 @@
+use Rattle.std.proofs.Common.{ℕ, ◌≡◌, ◌<◌, ◌≤◌, ◌+◌, ◌*◌, ◌/◌, ◌∙◌, ◌++◌, Bool, true, false, List, [], length, drop, min, ap, refl, arith, subst, length-append}
+use Rattle.std.specs.Prelude.{◌↔◌, IsTrue}
+use Rattle.std.proofs.lemmas.List.{drop_all}
+use Rattle.lert_bay.specs.declared.bay.TheConstants.{FRAMES}
+use Rattle.lert_blocks.specs.Text.{word_count}
+use Rattle.lert_frames.specs.Steps.{AreEnds}
+use Rattle.lert_frames.specs.Window.{count_of, to_come}
+use Rattle.std.proofs.lemmas.Result.{err_from_is_err_and}
+use Rattle.lert_bay.specs.Kept.{Bays}
+use Rattle.lert_bay.proofs.KeptLaws.{IsLawful, reads_as}
+use Rattle.lert_frames.proofs.FaultLaws.{not_err}
+use Rattle.lert_frames.proofs.WriteLaws.{same_err}
+use Rattle.lert_frames.proofs.slots.read_ends.Given as given
+use Rattle.lert_frames.proofs.slots.read_ends.Goals as goal
+
+abbrev bays : (g : given.Over) → Bays g.row.B.Denot
+bays g = record {
+  faults = g.B.Faulty.faults;
+  mark = g.B.Faulty.mark;
+  files = g.B.Bay.files;
+  leaves = g.B.Bay.leaves;
+  moment = g.B.Bay.moment;
+  left_since = g.B.Bay.left_since;
+  handed_out = g.B.Bay.handed_out;
+}
+
+lawful : (g : given.Over) → IsLawful (bays g)
+lawful g = record { as_read = g.met.B.Bay.as_read; since_now = g.met.B.Bay.since_now; only_now = g.met.B.Bay.only_now; since_earlier = g.met.B.Bay.since_earlier }
+
+at_hand_too : (had now bytes : ℕ) → had ≤ now → bytes ≡ now → 8 ≤ had → 8 ≤ bytes
+at_hand_too had now bytes grows is some = omega (arith, grows, is, some)
+
+pub returns-in_err-need : goal.returns-in_err-need
+returns-in_err-need g c =
+    let p = err_from_is_err_and c.from_residual.result c.from_residual.ensures.1 in
+    let asked = c.in_err-need.ensures in
+    rw (p.1, p.2) (record {
+      there = λ seen told. tt;
+      hand = tt;
+      few = tt;
+      one = tt;
+      ahead = asked.ahead;
+      failed = asked.failed;
+      only_reads = reads_as (bays g) (lawful g) c.args.bay.now c.need.new.bay _ _ (λ is. same_err _ _ is) asked.only_reads;
+    })
+
+-- where fewer are at hand than were wanted, no others come
+off_of : (enough : Bool) (count had : ℕ) → (IsTrue enough ↔ (count ≤ had)) → had < count → enough ≡ false
+off_of true count had means short = absurd (omega (arith, means.0 refl, short))
+off_of false count had means short = refl
+
+none_more : (xs rest ys : List ℕ) → xs ++ rest ≡ ys → xs ≡ ys → rest ≡ []
+none_more xs rest ys all same = drop_all 0 rest (omega (arith, ap (λ (zs : List ℕ). length zs) all, ap (λ (zs : List ℕ). length zs) same, length-append xs rest))
+
+wanted : (some bytes had words : ℕ) → bytes < 8 * min 2 (word_count some) → bytes ≡ had → words ≡ min ((some + 63) / 64) 2 → had < 8 * words
+wanted some bytes had words few is words_are = omega (arith, few, is, words_are)
+
+pub returns-clause-there : goal.returns-clause-there
+returns-clause-there g c seen told =
+    let asked = c.in_ok-need.ensures in
+    let w = c.need.new.window in
+    let bytes = c.at_hand.result.now in
+    let rest = drop w.at (seen FRAMES) in
+    let all : bytes ++ rest ≡ to_come c.args.ends.now (seen FRAMES) = ap (λ (xs : List ℕ). xs ++ rest) c.at_hand.ensures.value ∙ asked.ahead.come seen told in
+    subst (λ (xs : List ℕ). AreEnds c.args.some xs c.of.result) all
+    (c.of.ensures.there rest (λ few.
+    none_more bytes rest _ all (c.at_hand.ensures.value
+    ∙ asked.ends seen told
+    (off_of c.in_ok-need.field-0 _ (count_of w) asked.enough (wanted c.args.some (length bytes) (count_of w) c.min-words.result few c.at_hand.ensures.count c.min-words.ensures)))))
+
+pub returns-clause-hand : goal.returns-clause-hand
+returns-clause-hand g c = subst (λ n. 8 * c.of.result.words ≤ n) c.at_hand.ensures.count c.of.ensures.hand
+
+pub returns-clause-few : goal.returns-clause-few
+returns-clause-few g c = c.of.ensures.few
+
+pub returns-clause-one : goal.returns-clause-one
+returns-clause-one g c some = c.of.ensures.one (at_hand_too _ _ _ c.in_ok-need.ensures.ahead.grows c.at_hand.ensures.count some)
+
+pub returns-clause-ahead : goal.returns-clause-ahead
+returns-clause-ahead g c = c.in_ok-need.ensures.ahead
+
+pub returns-clause-failed : goal.returns-clause-failed
+returns-clause-failed g c = tt
+
+pub returns-clause-only_reads : goal.returns-clause-only_reads
+returns-clause-only_reads g c =
+    reads_as (bays g) (lawful g) c.args.bay.now c.need.new.bay _ _ (λ is. absurd (not_err _ _ is)) c.in_ok-need.ensures.only_reads
