@@ -1,10 +1,13 @@
-use Rattle.std.proofs.Common.{◌++◌, arith}
+use Rattle.std.proofs.Common.{◌≡◌, ℕ, ◌+◌, ◌*◌, ◌^◌, ◌<◌, ◌≤◌, ◌∙◌, ◌++◌, Result, length, ap, sym, subst, refl, arith}
+use Rattle.std.specs.Prelude.{Ok, Err, OnOk}
+use Rattle.std.proofs.lemmas.Result.{err_from_is_err_and}
 use Rattle.lert_bay.specs.declared.bay.TheConstants.{FRAMES}
 use Rattle.lert_blocks.specs.Text.{numbers_text}
 use Rattle.lert_frames.specs.Outlet.{next_place}
-use Rattle.lert_frames.proofs.CallLaws.{writes_on, told_then}
+use Rattle.lert_frames.proofs.CallLaws.{writes_on, writes_as, told_then}
 use Rattle.lert_bay.specs.Kept.{Bays}
 use Rattle.lert_bay.proofs.KeptLaws.{IsLawful}
+use Rattle.lert_frames.proofs.OrderLaws.{here}
 use Rattle.lert_frames.proofs.closing.write_numbers.Given as given
 use Rattle.lert_frames.proofs.closing.write_numbers.Goals as goal
 
@@ -22,15 +25,54 @@ bays g = record {
 lawful : (g : given.Over) → IsLawful (bays g)
 lawful g = record { as_read = g.met.B.Bay.as_read; since_now = g.met.B.Bay.since_now; only_now = g.met.B.Bay.only_now; since_earlier = g.met.B.Bay.since_earlier }
 
-pub returns-clause-out : goal.returns-clause-out
-returns-clause-out g c seen told later told_later begin text out =
-    let o = c.args.outlet.now in
-    let between = told_then (bays g) o.at (next_place o) _ _ seen (c.in_ok-make_room.ensures.writes o.at (next_place o) (omega arith) (omega arith)).within told in
-    c.flush.ensures.out between.0 between.1 later told_later begin (text ++ numbers_text c.args.numbers.now)
-    (c.put_numbers.ensures.out begin text (between.0 FRAMES) (c.in_ok-make_room.ensures.out seen told between.0 between.1 begin text out))
+-- whatever it answers
+if_ok : {T E : Type 0} (P : Type 0) (result : Result T E) → P → OnOk result P
+if_ok P (Ok _) held = held
+if_ok P (Err _) held = tt
 
-pub returns-clause-writes : goal.returns-clause-writes
-returns-clause-writes g c begin end low high =
-    let made = c.make_room.ensures in
-    writes_on (bays g) (lawful g) begin end _ _ _ _ _ (c.in_ok-make_room.ensures.writes begin end low (omega arith))
-    (record { within = c.flush.ensures.within begin end (omega arith) (omega arith); kept = c.flush.ensures.kept })
+-- the places of the numbers
+low_as : (begin at made put : ℕ) → begin ≤ at → at ≤ made → put ≡ made → begin ≤ put
+low_as begin at made put low later same = omega (arith, low, later, same)
+
+room_before : (next count end : ℕ) → next + count ≤ end → next ≤ end
+room_before next count end within = omega (arith, within)
+
+pub make_room-requires : goal.make_room-requires
+make_room-requires g c = c.requires.size
+
+pub put_numbers-requires : goal.put_numbers-requires
+put_numbers-requires g c =
+    let made = c.in_ok-make_room.ensures in
+    record { room = made.room; reach = subst (λ n. n + 8 * length c.args.numbers.now < 2 ^ 63) (sym made.place) c.requires.reach }
+
+pub returns-in_err-make_room : goal.returns-in_err-make_room
+returns-in_err-make_room g c =
+    let p = err_from_is_err_and c.from_residual.result c.from_residual.ensures.1 in
+    let made = c.in_err-make_room.ensures in
+    rw p.1 (record {
+      out = λ seen told later told_later begin text out. tt;
+      empty = tt;
+      place = tt;
+      size = made.size;
+      writes = λ begin end low high. writes_as (bays g) (lawful g) begin end _ _ _ _ (λ _. refl) (made.writes begin end low (room_before _ _ end high));
+    })
+
+pub returns : goal.returns
+returns g c =
+    let o = c.args.outlet.now in
+    let made = c.in_ok-make_room.ensures in
+    let put = c.put_numbers.ensures in
+    let flushed = c.flush.ensures in
+    let place : next_place c.put_numbers.new.self ≡ next_place o + 8 * length c.args.numbers.now = put.place ∙ ap (λ n. n + 8 * length c.args.numbers.now) made.place in
+    record {
+      out = λ seen told later told_later begin text out.
+          let between = told_then (bays g) o.at (next_place o) _ _ seen (made.writes o.at (next_place o) (here o.at) (here (next_place o))).within told in
+          flushed.out between.0 between.1 later told_later begin (text ++ numbers_text c.args.numbers.now)
+          (put.out begin text (between.0 FRAMES) (made.out seen told between.0 between.1 begin text out));
+      empty = flushed.written;
+      place = if_ok _ c.flush.result (flushed.place ∙ place);
+      size = flushed.size ∙ (put.size ∙ made.size);
+      writes = λ begin end low high.
+          writes_on (bays g) (lawful g) begin end _ _ _ _ _ (made.writes begin end low (room_before _ _ end high))
+          (record { within = flushed.within begin end (low_as begin o.at _ _ low made.at put.at) (subst (λ n. n ≤ end) (sym place) high); kept = flushed.kept });
+    }

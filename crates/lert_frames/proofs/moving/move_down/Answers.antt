@@ -1,4 +1,5 @@
 use Rattle.std.proofs.Common.{◌≡◌, ℕ, ◌+◌, ◌≤◌, ◌∙◌, ◌++◌, List, ap, subst, refl, inr, arith}
+use Rattle.std.proofs.lemmas.Result.{err_from_is_err_and}
 use Rattle.lert_bay.specs.declared.bay.TheConstants.{FRAMES}
 use Rattle.lert_bay.specs.Settled.{part}
 use Rattle.lert_bay.proofs.KeptLaws.{IsLawful}
@@ -14,12 +15,27 @@ use Rattle.lert_frames.proofs.moving.move_down.Goals as goal
 lawful : (g : given.Over) → IsLawful (bays g)
 lawful g = record { as_read = g.met.B.Bay.as_read; since_now = g.met.B.Bay.since_now; only_now = g.met.B.Bay.only_now; since_earlier = g.met.B.Bay.since_earlier }
 
-pub returns-in_err-move_part-clause-writes : goal.returns-in_err-move_part-clause-writes
-returns-in_err-move_part-clause-writes g c begin end low high =
+pub returns-in_err-move_part : goal.returns-in_err-move_part
+returns-in_err-move_part g c =
+    let p = err_from_is_err_and c.from_residual.result c.from_residual.ensures.1 in
     let inv = c.loop-moved.invariant in
-    writes_on (bays g) (lawful g) begin end _ _ _ _ _
-    (writes_wider (bays g) c.args.to (c.args.to + c.loop-moved.moved) begin end _ _ _ low (omega arith) (omega (arith, inv.some, high)) inv.writes)
-    (writes_as (bays g) (lawful g) begin end _ _ _ _ (λ _. refl) (c.in_err-move_part.ensures.writes begin end (omega (arith, inv.place)) (omega (arith, inv.place))))
+    let step = c.in_err-move_part.ensures in
+    rw p.1 (record {
+      moved = λ seen told later told_later within. tt;
+      empty = tt;
+      place = tt;
+      size = step.size ∙ inv.size;
+      writes = λ begin end low high.
+          writes_on (bays g) (lawful g) begin end _ _ _ _ _
+          (writes_wider (bays g) c.args.to (c.args.to + c.loop-moved.moved) begin end _ _ _ low (omega arith) (omega (arith, inv.some, high)) inv.writes)
+          (writes_as (bays g) (lawful g) begin end _ _ _ _ (λ _. refl) (step.writes begin end (omega (arith, inv.place)) (omega (arith, inv.place))));
+    })
+
+pub returns-clause-empty : goal.returns-clause-empty
+returns-clause-empty g c = c.loop-moved.invariant.empty
+
+pub returns-clause-size : goal.returns-clause-size
+returns-clause-size g c = c.loop-moved.invariant.size
 
 pub loop-moved-preserved : goal.loop-moved-preserved
 loop-moved-preserved g c =

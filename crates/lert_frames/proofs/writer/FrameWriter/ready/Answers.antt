@@ -1,5 +1,9 @@
-use Rattle.std.proofs.Common.{arith}
-use Rattle.lert_frames.proofs.ProceedLaws.{proceeds_on, stays_on}
+use Rattle.std.proofs.Common.{◌<◌, ◌≤◌, refl, arith}
+use Rattle.std.proofs.lemmas.Result.{err_from_is_err_and}
+use Rattle.lert_spec.specs.Edges.{quotient_bits}
+use Rattle.lert_spec.proofs.LimitLaws.{quotient_bits_by_zeros}
+use Rattle.lert_frames.specs.declared.writer.FrameWriter.{FrameWriter}
+use Rattle.lert_frames.proofs.ProceedLaws.{proceeds_as, proceeds_on, stays_on}
 use Rattle.lert_frames.proofs.WritingLaws.{block_within}
 use Rattle.lert_frames.proofs.WriteLaws.{on_ok}
 use Rattle.lert_bay.specs.Kept.{Bays}
@@ -21,10 +25,32 @@ bays g = record {
 lawful : (g : given.Over) → IsLawful (bays g)
 lawful g = record { as_read = g.met.B.Bay.as_read; since_now = g.met.B.Bay.since_now; only_now = g.met.B.Bay.only_now; since_earlier = g.met.B.Bay.since_earlier }
 
+-- a remainder is shorter than a word
+narrow : (w : FrameWriter) → w.width < 64
+narrow w =
+    let from : 6 ≤ quotient_bits w.settings w.level = omega (arith, (quotient_bits_by_zeros w.settings w.level w.growing.valid w.growing.last).0) in
+    omega (arith, w.growing.width_is, from)
+
+pub overflow_shr-piece : goal.overflow_shr-piece
+overflow_shr-piece g c = narrow c.args.self.now
+
 pub reach-requires : goal.reach-requires
 reach-requires g c =
     let w = c.args.self.now in
     block_within w.settings w.level w.width c.args.piece w.growing.valid w.growing.last w.growing.width_is c.requires
+
+pub returns-in_err-reach : goal.returns-in_err-reach
+returns-in_err-reach g c =
+    let p = err_from_is_err_and c.from_residual.result c.from_residual.ensures.1 in
+    rw p.1 (record {
+      proceeds = proceeds_as (bays g) (lawful g) c.args.self.now c.reach.new.self _ _ _ _ (λ _. refl) c.in_err-reach.ensures.proceeds;
+      stays = tt;
+      number = tt;
+      room = tt;
+    })
+
+pub returns-clause-room : goal.returns-clause-room
+returns-clause-room g c = c.make_room.ensures.room
 
 pub returns-clause-proceeds : goal.returns-clause-proceeds
 returns-clause-proceeds g c =

@@ -1,0 +1,46 @@
+use Rattle.std.proofs.Common.{◌≡◌, ℕ, ◌+◌, refl, arith}
+use Rattle.std.proofs.lemmas.Result.{err_from_is_err_and}
+use Rattle.lert_bay.specs.Kept.{Bays}
+use Rattle.lert_bay.proofs.KeptLaws.{IsLawful, reads_as}
+use Rattle.lert_frames.proofs.outlet.Outlet.copy.Given as given
+use Rattle.lert_frames.proofs.outlet.Outlet.copy.Goals as goal
+
+abbrev bays : (g : given.Over) → Bays g.row.B.Denot
+bays g = record {
+  faults = g.B.Faulty.faults;
+  mark = g.B.Faulty.mark;
+  files = g.B.Bay.files;
+  leaves = g.B.Bay.leaves;
+  moment = g.B.Bay.moment;
+  left_since = g.B.Bay.left_since;
+  handed_out = g.B.Bay.handed_out;
+}
+
+lawful : (g : given.Over) → IsLawful (bays g)
+lawful g = record { as_read = g.met.B.Bay.as_read; since_now = g.met.B.Bay.since_now; only_now = g.met.B.Bay.only_now; since_earlier = g.met.B.Bay.since_earlier }
+
+place_behind : (at len count : ℕ) → at + (len + count) ≡ at + len + count
+place_behind at len count = omega arith
+
+pub returns-in_err-read_into : goal.returns-in_err-read_into
+returns-in_err-read_into g c =
+    let p = err_from_is_err_and c.from_residual.result c.from_residual.ensures.1 in
+    rw p.1 (record {
+      out = λ seen told within begin text out. tt;
+      place = tt;
+      size = refl;
+      at = refl;
+      only_reads = reads_as (bays g) (lawful g) c.args.bay.now c.read_into.new.bay _ _ (λ _. refl) c.in_err-read_into.ensures.only_reads;
+    })
+
+pub returns-clause-place : goal.returns-clause-place
+returns-clause-place g c = place_behind c.args.self.now.at c.args.self.now.len c.args.count
+
+pub returns-clause-size : goal.returns-clause-size
+returns-clause-size g c = refl
+
+pub returns-clause-at : goal.returns-clause-at
+returns-clause-at g c = refl
+
+pub returns-clause-only_reads : goal.returns-clause-only_reads
+returns-clause-only_reads g c = c.in_ok-read_into.ensures.only_reads
