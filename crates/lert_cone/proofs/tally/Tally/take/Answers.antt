@@ -35,11 +35,12 @@ add-requires-clause-position g c =
       rows = c.self.inside.levels.rows;
       due = due_in c.self.inside.due;
     }) = subst (λ (v : Tallied). IsCounted v) (sym c.self.view_is) c.requires.counted in
-    let fits : length (c.self.inside.unread ++ c.self.inside.taken) < capacity c.self.inside.settings = subst (λ (v : Tallied). length v.listing.events < capacity v.listing.settings) (sym c.self.view_is) c.requires.fits
-    in
+    let fits : length (c.self.inside.unread ++ c.self.inside.taken) < capacity c.self.inside.settings =
+    subst (λ (v : Tallied). length v.listing.events < capacity v.listing.settings) (sym c.self.view_is) c.requires.fits in
     let m_is : c.self.inside.len + 1 ≡ suc (length (c.self.inside.unread ++ c.self.inside.taken)) = omega (arith, c.self.invariant.len_is) in
     subst (IsNextPosition c.self.inside.zero) (sym m_is)
-    (next_position c.self.inside.settings c.self.invariant.valid c.self.inside.zero (c.self.inside.unread ++ c.self.inside.taken) c.args.key c.self.invariant.young_settings counted.from counted.to counted.bins.is fits)
+    (next_position c.self.inside.settings c.self.invariant.valid c.self.inside.zero (c.self.inside.unread ++ c.self.inside.taken)
+    c.args.key c.self.invariant.young_settings counted.from counted.to counted.bins.is fits)
 
 pub bring-requires-clause-rows : goal.bring-requires-clause-rows
 bring-requires-clause-rows g c =
@@ -50,8 +51,8 @@ bring-requires-clause-rows g c =
       due = due_in c.self.inside.due;
     } in
     let counted : IsCounted t = subst (λ (v : Tallied). IsCounted v) (sym c.self.view_is) c.requires.counted in
-    let fits : length (c.self.inside.unread ++ c.self.inside.taken) < capacity c.self.inside.settings = subst (λ (v : Tallied). length v.listing.events < capacity v.listing.settings) (sym c.self.view_is) c.requires.fits
-    in
+    let fits : length (c.self.inside.unread ++ c.self.inside.taken) < capacity c.self.inside.settings =
+    subst (λ (v : Tallied). length v.listing.events < capacity v.listing.settings) (sym c.self.view_is) c.requires.fits in
     let m_is : c.self.inside.len + 1 ≡ suc (length (c.self.inside.unread ++ c.self.inside.taken)) = omega (arith, c.self.invariant.len_is) in
     rows_before t c.self.inside.levels.settings c.self.invariant.levels_settings c.self.invariant.valid c.self.invariant.named c.self.invariant.young_settings counted fits c.args.key
     c.tail_of-tail.result (c.self.inside.len + 1) c.tail_of-tail.ensures.value m_is c.add.new.self c.add.ensures
@@ -72,8 +73,8 @@ returns-in_err-bring g c =
       rows = c.self.inside.levels.rows;
       due = due_in c.self.inside.due;
     }) = subst (λ (v : Tallied). IsCounted v) (sym c.self.view_is) c.requires.counted in
-    let fits : length (c.self.inside.unread ++ c.self.inside.taken) < capacity c.self.inside.settings = subst (λ (v : Tallied). length v.listing.events < capacity v.listing.settings) (sym c.self.view_is) c.requires.fits
-    in
+    let fits : length (c.self.inside.unread ++ c.self.inside.taken) < capacity c.self.inside.settings =
+    subst (λ (v : Tallied). length v.listing.events < capacity v.listing.settings) (sym c.self.view_is) c.requires.fits in
     let m_is : c.self.inside.len + 1 ≡ suc (length (c.self.inside.unread ++ c.self.inside.taken)) = omega (arith, c.self.invariant.len_is) in
     let start_is : (due_in c.begin.new.due) ≡ started (due_in c.self.inside.due) (c.self.inside.len + 1) =
     c.begin.ensures.begun in
@@ -97,8 +98,8 @@ returns-then-is_full g c =
       rows = c.self.inside.levels.rows;
       due = due_in c.self.inside.due;
     }) = subst (λ (v : Tallied). IsCounted v) (sym c.self.view_is) c.requires.counted in
-    let fits : length (c.self.inside.unread ++ c.self.inside.taken) < capacity c.self.inside.settings = subst (λ (v : Tallied). length v.listing.events < capacity v.listing.settings) (sym c.self.view_is) c.requires.fits
-    in
+    let fits : length (c.self.inside.unread ++ c.self.inside.taken) < capacity c.self.inside.settings =
+    subst (λ (v : Tallied). length v.listing.events < capacity v.listing.settings) (sym c.self.view_is) c.requires.fits in
     let m_is : c.self.inside.len + 1 ≡ suc (length (c.self.inside.unread ++ c.self.inside.taken)) = omega (arith, c.self.invariant.len_is) in
     let start_is : (due_in c.begin.new.due) ≡ started (due_in c.self.inside.due) (c.self.inside.len + 1) =
     c.begin.ensures.begun in
@@ -126,8 +127,8 @@ returns g c =
       rows = c.self.inside.levels.rows;
       due = due_in c.self.inside.due;
     }) = subst (λ (v : Tallied). IsCounted v) (sym c.self.view_is) c.requires.counted in
-    let fits : length (c.self.inside.unread ++ c.self.inside.taken) < capacity c.self.inside.settings = subst (λ (v : Tallied). length v.listing.events < capacity v.listing.settings) (sym c.self.view_is) c.requires.fits
-    in
+    let fits : length (c.self.inside.unread ++ c.self.inside.taken) < capacity c.self.inside.settings =
+    subst (λ (v : Tallied). length v.listing.events < capacity v.listing.settings) (sym c.self.view_is) c.requires.fits in
     let m_is : c.self.inside.len + 1 ≡ suc (length (c.self.inside.unread ++ c.self.inside.taken)) = omega (arith, c.self.invariant.len_is) in
     let start_is : (due_in c.begin.new.due) ≡ started (due_in c.self.inside.due) (c.self.inside.len + 1) =
     c.begin.ensures.begun in
@@ -146,4 +147,5 @@ returns g c =
     c.args.key c.tail_of-tail.result (c.self.inside.len + 1) c.tail_of-tail.ensures.value m_is c.add.new.self c.add.ensures
     (due_in c.begin.new.due) (due_in c.bring.new.due) start_is c.args.bay.now c.bring.new.bay c.bring.new.zero c.bring.new.levels
     c.ranges.key.fits own still brings (c.self.inside.unread ++ c.push.new.self)
-    (ap (λ keys. c.self.inside.unread ++ keys) c.push.ensures ∙ sym (append_assoc c.self.inside.unread c.self.inside.taken (c.args.key ∷ []))) (sym c.is_full.ensures.value ∙ c.if-is_full.false))
+    (ap (λ keys. c.self.inside.unread ++ keys) c.push.ensures ∙ sym (append_assoc c.self.inside.unread c.self.inside.taken (c.args.key ∷ [])))
+    (sym c.is_full.ensures.value ∙ c.if-is_full.false))
