@@ -28,6 +28,7 @@ pub mod MarkLaws
 pub mod NextFlush
 pub mod PacketTaken
 pub mod ReadCosts
+pub mod Refusals
 pub mod RecordLaws
 pub mod ReplayLaws
 pub mod ReplayCalls

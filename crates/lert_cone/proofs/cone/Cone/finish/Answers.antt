@@ -5,6 +5,7 @@ use Rattle.lert_bay.specs.Files.{IfTold}
 use Rattle.lert_bay.specs.Kept.{Bays}
 use Rattle.lert_bay.proofs.KeptLaws.{IsLawful, keeps_as, keeps_none}
 use Rattle.std.proofs.lemmas.Bool.{false≢true}
+use Rattle.std.proofs.lemmas.Result.{err_from_is_err_and}
 use Rattle.lert_spec.specs.declared.numbers.Numbers.{Numbers}
 use Rattle.lert_spec.specs.Look.{closing}
 use Rattle.lert_spec.specs.Timely.{IsTimely}
@@ -19,9 +20,9 @@ use Rattle.lert_cone.proofs.SoundLaws.{turns_back}
 use Rattle.lert_io.proofs.Rising.{risen_since}
 use Rattle.lert_cone.proofs.AppendLaws.{whole_of}
 use Rattle.lert_cone.proofs.StandLaws.{stands_whole, stands_broken, ended_cone, broken_cone, reports_finished}
-use Rattle.lert_cone.proofs.FaultLaws.{any_turn, kept_since, turned_none, untold, is_broken_by, not_replaying_by, by_bay_of, by_read_of, failed_of, unsound_of}
+use Rattle.lert_cone.proofs.FaultLaws.{any_turn, by_bay_of, by_read_of, failed_of, is_broken_by, kept_since, no_refusal, not_replaying_by, turned_none, turns_as, unsound_of, untold}
+use Rattle.lert_cone.proofs.Refusals.{fault_as, no_failed, no_fault, no_unsound, one_fault}
 use Rattle.lert_cone.proofs.TimeLaws.{timely}
-use Rattle.lert_cone.proofs.TakeLaws.{handed_on}
 use Rattle.lert_cone.proofs.cone.Cone.finish.Given as given
 use Rattle.lert_cone.proofs.cone.Cone.finish.Goals as goal
 
@@ -56,17 +57,35 @@ finish-requires g c =
     }
 
 -- a refusal before the first step
-pub returns-in_err-test_state-clause-each_moment : goal.returns-in_err-test_state-clause-each_moment
-returns-in_err-test_state-clause-each_moment g c = λ still sound seen told h stands image may.
-    ((stands.whole still sound seen told).files.kept.images image (g.met.B.Bay.only_now c.args.self.now.bay image may)).sound
-
-pub returns-in_err-test_state-clause-kept : goal.returns-in_err-test_state-clause-kept
-returns-in_err-test_state-clause-kept g c =
-    let given = handed_on c.from_residual.result c.in_err-test_state.field-0.0 c.from_residual.ensures.1 in
+pub returns-in_err-test_state : goal.returns-in_err-test_state
+returns-in_err-test_state g c =
+    let p = err_from_is_err_and c.from_residual.result c.from_residual.ensures.1 in
     let refusal = rw c.in_err-test_state.was at c.test_state.ensures.refusal in
-    keeps_none (bays g) (lawful g) c.args.self.now.bay _ (λ same.
-    let inner : c.in_err-test_state.field-0.0 ≡ BayFailed = cc in
-    false≢true (sym (ap is_refusal inner) ∙ refusal))
+    let closed = rw c.in_err-test_state.was at c.test_state.ensures.closed in
+    let broken = rw c.in_err-test_state.was at c.test_state.ensures.broken in
+    let never_full = rw c.in_err-test_state.was at c.test_state.ensures.never_full in
+    rw (p.1, p.2) (record {
+      stands_for = tt;
+      answers = tt;
+      reports = tt;
+      finished = tt;
+      in_time = tt;
+      stays = λ h stands. stands;
+      unchanged = λ _. refl;
+      broke = λ never. absurd (false≢true (sym never ∙ refusal));
+      same_cone = record { settings = refl; cone = refl; made = refl; last = refl };
+      closed = fault_as _ _ closed;
+      broken = fault_as _ _ broken;
+      never_full = λ n len same. never_full n len (ap Err (one_fault same));
+      bay_failed = λ same. absurd (no_failed _ refusal same);
+      unsound = λ file at same. absurd (no_unsound _ refusal file at same);
+      shows = λ file at same. absurd (no_unsound _ refusal file at same);
+      each_moment = λ still sound seen told h stands image may.
+          ((stands.whole still sound seen told).files.kept.images image (g.met.B.Bay.only_now c.args.self.now.bay image may)).sound;
+      sound_closed = tt;
+      seen = turns_as (g.B.Bay.files c.args.self.now.bay) (g.B.Bay.files c.args.self.now.bay) refl;
+      kept = keeps_none (bays g) (lawful g) c.args.self.now.bay _ (no_failed _ refusal);
+    })
 
 -- a refusal in the middle
 pub returns-in-Err-clause-stays : goal.returns-in-Err-clause-stays
@@ -136,7 +155,7 @@ invariant_of-self g c =
 pub returns-in-Err-clause-unsound : goal.returns-in-Err-clause-unsound
 returns-in-Err-clause-unsound g c = rw (← c.self.view_is) (λ file at same.
     let running : c.self.inside.state ≡ Running = subst (λ (v : Standing g.row.B.Denot). v.state ≡ Running) (sym c.self.view_is) c.in_ok-test_state.ensures.ok in
-    let answer : c.from.result ≡ Unsound file at = cc in
+    let answer : c.from.result ≡ Unsound file at = one_fault same in
     let fault_is = unsound_of c.in-Err.fault file at (sym c.from.ensures ∙ answer) in (
       c.broken_by-self-inside.ensures ∙ ap broken_by fault_is,
       (λ h stands sound. untold (g.B.Bay.files c.self.inside.bay) (λ seen told. c.finish.ensures.sound seen told h (stands.whole
@@ -155,9 +174,41 @@ returns-in-Err-clause-seen g c = rw (← c.self.view_is) (any_turn (λ old new. 
 pub returns-in-Err-clause-kept : goal.returns-in-Err-clause-kept
 returns-in-Err-clause-kept g c = rw (← c.self.view_is) (keeps_as (bays g) (lawful g) c.self.inside.bay c.finish.new.bay _ _
     (λ same.
-    let answer : c.from.result ≡ BayFailed = cc in
+    let answer : c.from.result ≡ BayFailed = one_fault same in
     c.in-Err.is ∙ ap Err (failed_of c.in-Err.fault (sym c.from.ensures ∙ answer)))
     c.finish.ensures.keeps.kept)
+
+pub returns-in-Err-clause-stands_for : goal.returns-in-Err-clause-stands_for
+returns-in-Err-clause-stands_for g c = tt
+
+pub returns-in-Err-clause-answers : goal.returns-in-Err-clause-answers
+returns-in-Err-clause-answers g c = tt
+
+pub returns-in-Err-clause-reports : goal.returns-in-Err-clause-reports
+returns-in-Err-clause-reports g c = tt
+
+pub returns-in-Err-clause-finished : goal.returns-in-Err-clause-finished
+returns-in-Err-clause-finished g c = tt
+
+pub returns-in-Err-clause-in_time : goal.returns-in-Err-clause-in_time
+returns-in-Err-clause-in_time g c = tt
+
+pub returns-in-Err-clause-sound_closed : goal.returns-in-Err-clause-sound_closed
+returns-in-Err-clause-sound_closed g c = tt
+
+pub returns-in-Err-clause-same_cone : goal.returns-in-Err-clause-same_cone
+returns-in-Err-clause-same_cone g c = rw (← c.self.view_is) (record {
+  settings = ap (λ (l : Listing). l.settings) c.finish.ensures.listing;
+  cone = ap (λ (l : Listing). l.cone) c.finish.ensures.listing;
+  made = refl;
+  last = refl;
+})
+
+pub returns-in-Err-clause-never_full : goal.returns-in-Err-clause-never_full
+returns-in-Err-clause-never_full g c = λ n len same. false≢true (sym (no_refusal c.in-Err.fault) ∙ ap is_refusal (sym c.from.ensures ∙ one_fault same))
+
+pub returns-in-Err-clause-unchanged : goal.returns-in-Err-clause-unchanged
+returns-in-Err-clause-unchanged g c = λ same. absurd (false≢true (sym (ap is_refusal c.from.ensures ∙ no_refusal c.in-Err.fault) ∙ same))
 
 -- the end
 pub invariant_of-self-2 : goal.invariant_of-self-2
@@ -213,6 +264,35 @@ returns-clause-stands_for g c = rw (← c.self.view_is) (λ h stands.
     (ap (λ (l : Listing). l.events) is ∙ whole.keys) whole.gate_is)
     stands)
 
+pub returns-clause-stays : goal.returns-clause-stays
+returns-clause-stays g c = tt
+
+pub returns-clause-unchanged : goal.returns-clause-unchanged
+returns-clause-unchanged g c = tt
+
+pub returns-clause-broke : goal.returns-clause-broke
+returns-clause-broke g c = tt
+
+pub returns-clause-same_cone : goal.returns-clause-same_cone
+returns-clause-same_cone g c = rw (← c.self.view_is) (record {
+  settings = ap (λ (l : Listing). l.settings) c.finish.ensures.listing;
+  cone = ap (λ (l : Listing). l.cone) c.finish.ensures.listing;
+  made = refl;
+  last = refl;
+})
+
+pub returns-clause-never_full : goal.returns-clause-never_full
+returns-clause-never_full g c = λ n len same. no_fault same
+
+pub returns-clause-bay_failed : goal.returns-clause-bay_failed
+returns-clause-bay_failed g c = λ same. absurd (no_fault same)
+
+pub returns-clause-unsound : goal.returns-clause-unsound
+returns-clause-unsound g c = λ file at same. absurd (no_fault same)
+
+pub returns-clause-shows : goal.returns-clause-shows
+returns-clause-shows g c = λ file at same. absurd (no_fault same)
+
 pub returns-clause-answers : goal.returns-clause-answers
 returns-clause-answers g c = rw (← c.self.view_is) (λ h stands sound seen told.
     let running : c.self.inside.state ≡ Running = subst (λ (v : Standing g.row.B.Denot). v.state ≡ Running) (sym c.self.view_is) c.in_ok-test_state.ensures.ok in
@@ -255,12 +335,12 @@ pub returns-clause-seen : goal.returns-clause-seen
 returns-clause-seen g c = rw (← c.self.view_is) (any_turn (λ old new. new 0 ≡ old 0) (g.B.Bay.files c.self.inside.bay) (g.B.Bay.files c.finish.new.bay) c.finish.ensures.keeps.journal.seen)
 
 pub returns-clause-kept : goal.returns-clause-kept
-returns-clause-kept g c = rw (← c.self.view_is) (keeps_as (bays g) (lawful g) c.self.inside.bay c.finish.new.bay _ _ (λ same. absurd (let never : ⊥ = cc in never))
+returns-clause-kept g c = rw (← c.self.view_is) (keeps_as (bays g) (lawful g) c.self.inside.bay c.finish.new.bay _ _ (λ same. absurd (no_fault same))
     c.finish.ensures.keeps.kept)
 
 pub returns-in-Err-clause-shows : goal.returns-in-Err-clause-shows
 returns-in-Err-clause-shows g c = λ file at same.
-    let answer : c.from.result ≡ Unsound file at = cc in
+    let answer : c.from.result ≡ Unsound file at = one_fault same in
     let fault_is = unsound_of c.in-Err.fault file at (sym c.from.ensures ∙ answer) in
     λ seen told. c.finish.ensures.keeps.shows seen told file at (c.in-Err.is ∙ ap Err fault_is)
 

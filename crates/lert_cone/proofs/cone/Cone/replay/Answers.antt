@@ -32,6 +32,7 @@ use Rattle.lert_cone.proofs.ReplayStep.{told_once}
 use Rattle.lert_io.proofs.Rising.{risen_since}
 use Rattle.lert_cone.proofs.StandLaws.{broken_cone}
 use Rattle.lert_cone.proofs.FaultLaws.{by_bay_of, is_broken_by, not_replaying_by, turns_as, turns_on}
+use Rattle.lert_cone.proofs.Refusals.{no_fault, one_fault}
 use Rattle.lert_cone.proofs.cone.Cone.replay.Given as given
 use Rattle.lert_cone.proofs.cone.Cone.replay.Goals as goal
 
@@ -282,24 +283,24 @@ returns-in-Err-clause-replays g c =
 
 pub returns-in-Err-replay_keys-clause-unsound : goal.returns-in-Err-replay_keys-clause-unsound
 returns-in-Err-replay_keys-clause-unsound g c = λ file at same.
-    let answer : c.from.result ≡ Unsound file at = cc in
+    let answer : c.from.result ≡ Unsound file at = one_fault same in
     let fault_is = unsound_keys c.in-Err-replay_keys.fault file at (sym c.from.ensures ∙ answer) in
     λ seen told. c.replay_keys.ensures.keeps.shows seen told file at (c.in-Err-replay_keys.is ∙ ap Err fault_is)
 
 pub returns-in-Err-clause-unsound : goal.returns-in-Err-clause-unsound
 returns-in-Err-clause-unsound g c = λ file at same.
-    let answer : c.from-fault.result ≡ Unsound file at = cc in
+    let answer : c.from-fault.result ≡ Unsound file at = one_fault same in
     absurd (never_unsound c.in-Err.fault file at (sym c.from-fault.ensures ∙ answer))
 
 -- the frames, whatever events they hold
 pub returns-in-Err-replay_keys-clause-whole : goal.returns-in-Err-replay_keys-clause-whole
 returns-in-Err-replay_keys-clause-whole g c = rw (← c.self.view_is) (λ seen told some at same.
-    let answer : c.from.result ≡ Unsound 2 at = cc in
+    let answer : c.from.result ≡ Unsound 2 at = one_fault same in
     let fault_is = unsound_keys c.in-Err-replay_keys.fault 2 at (sym c.from.ensures ∙ answer) in
     c.replay_keys.ensures.whole seen (c.read_packet.ensures.keeps.reads.seen ∙ told) some at (c.in-Err-replay_keys.is ∙ ap Err fault_is))
 
 pub returns-in-Err-clause-whole : goal.returns-in-Err-clause-whole
-returns-in-Err-clause-whole g c = λ seen told some at same. (let answer : c.from-fault.result ≡ Unsound 2 at = cc in
+returns-in-Err-clause-whole g c = λ seen told some at same. (let answer : c.from-fault.result ≡ Unsound 2 at = one_fault same in
     never_unsound c.in-Err.fault 2 at (sym c.from-fault.ensures ∙ answer))
 
 pub returns-in_default-clause-framed : goal.returns-in_default-clause-framed
@@ -361,21 +362,21 @@ returns-in-Err-clause-unflushed g c = rw (← c.self.view_is) (λ seen told none
 pub returns-in-Err-replay_keys-clause-kept : goal.returns-in-Err-replay_keys-clause-kept
 returns-in-Err-replay_keys-clause-kept g c = rw (← c.self.view_is)
     (calls_behind (bays g) (lawful g) c.self.inside.bay c.read_packet.new.bay _ _ _ _ _ c.read_packet.ensures.keeps c.replay_keys.new.bay _ _ (λ same.
-    let answer : c.from.result ≡ Failed = cc in
+    let answer : c.from.result ≡ Failed = one_fault same in
     c.in-Err-replay_keys.is ∙ ap Err (failed_keys c.in-Err-replay_keys.fault (sym c.from.ensures ∙ answer))) c.replay_keys.ensures.keeps.kept)
 
 pub returns-in_default-clause-kept : goal.returns-in_default-clause-kept
 returns-in_default-clause-kept g c = rw (← c.self.view_is)
     (calls_behind (bays g) (lawful g) c.self.inside.bay c.read_packet.new.bay _ _ _ _ _ c.read_packet.ensures.keeps c.replay_keys.new.bay _ _
-    (λ same. absurd (let never : ⊥ = cc in never)) c.replay_keys.ensures.keeps.kept)
+    (λ same. absurd (no_fault same)) c.replay_keys.ensures.keeps.kept)
 
 pub returns-in-Ok-false-clause-kept : goal.returns-in-Ok-false-clause-kept
 returns-in-Ok-false-clause-kept g c = rw (← c.self.view_is)
-    (calls_as (bays g) (lawful g) c.self.inside.bay c.read_packet.new.bay _ _ (λ same. absurd (let never : ⊥ = cc in never)) c.read_packet.ensures.keeps.reads.kept)
+    (calls_as (bays g) (lawful g) c.self.inside.bay c.read_packet.new.bay _ _ (λ same. absurd (no_fault same)) c.read_packet.ensures.keeps.reads.kept)
 
 pub returns-in-Err-clause-kept : goal.returns-in-Err-clause-kept
 returns-in-Err-clause-kept g c = rw (← c.self.view_is) (calls_as (bays g) (lawful g) c.self.inside.bay c.read_packet.new.bay _ _ (λ same.
-    let answer : c.from-fault.result ≡ Failed = cc in
+    let answer : c.from-fault.result ≡ Failed = one_fault same in
     c.in-Err.is ∙ ap Err (failed_record c.in-Err.fault (sym c.from-fault.ensures ∙ answer))) c.read_packet.ensures.keeps.reads.kept)
 
 pub returns-in-Err-replay_keys-clause-handed : goal.returns-in-Err-replay_keys-clause-handed

@@ -20,6 +20,7 @@ use Rattle.lert_rows.proofs.RowLaws.{IsAt-moved, AreRows-moved}
 use Rattle.lert_cone.specs.Due.{TookFrom}
 use Rattle.lert_cone.proofs.TallyLaws.{young_total, flush_total, rows_still, dropped_edge, dropped_bins}
 use Rattle.lert_cone.proofs.NextFlush.{moves_deep, stays_shallow}
+use Rattle.lert_cone.proofs.Refusals.{no_fault}
 use Rattle.lert_cone.proofs.TotalLaws.{edge_within}
 use Rattle.lert_cone.proofs.tally.totals.bring.Given as given
 use Rattle.lert_cone.proofs.tally.totals.bring.Goals as goal
@@ -63,9 +64,9 @@ returns-then-not-flushes-clause-brings g c = record {
     record { tail = c.args.tail; count = sum_by (λ (bin : Bin). count_of bin.pieces c.args.tail) c.args.zero.now.bins } ∷ [],
     c.total_of_key.ensures g.N.Begun.start (let start = rw c.in-Some.is at c.requires.start in start),
   );
-  sound = λ events long bins seen told holds at same. (let never : ⊥ = cc in never);
-  malformed = λ seen told at same. absurd (let never : ⊥ = cc in never);
-  malformed_after = λ after told at same. absurd (let never : ⊥ = cc in never);
+  sound = λ events long bins seen told holds at same. no_fault same;
+  malformed = λ seen told at same. absurd (no_fault same);
+  malformed_after = λ after told at same. absurd (no_fault same);
   images = λ events long bins seen told holds each after told_after. each;
   are = λ are. are;
   still = λ stays. refl;
@@ -74,7 +75,7 @@ returns-then-not-flushes-clause-brings g c = record {
   kept = record {
     time = lasts_none (g.B.Bay.moment c.args.bay.now) (g.B.Bay.left_since c.args.bay.now);
     never_falls = omega arith;
-    failed = λ same. absurd (let never : ⊥ = cc in never);
+    failed = λ same. absurd (no_fault same);
     mark = refl;
     journal = refl;
   };
@@ -91,9 +92,9 @@ drop_oldest-requires g c =
     omega (arith, next, wide, c.requires.from, c.requires.to, edge_within c.args.levels.now.settings 0 c.args.m)
 
 pub returns-in-Ok-clause-brings : goal.returns-in-Ok-clause-brings
-returns-in-Ok-clause-brings g c = record {
+returns-in-Ok-clause-brings g c = let did = rw c.in-Ok.is at c.flush_into-taken.ensures in record {
   young_settings = ap (λ (y : Young). y.settings) c.drop_oldest.ensures;
-  settings = (let flushed_ = rw c.in-Ok.is at c.flush_into-taken.ensures.flushed in ap (λ (v : OnDisk). v.settings) flushed_);
+  settings = ap (λ (v : OnDisk). v.settings) did.flushed;
   from = (let next = dropped_edge c.args.levels.now.settings c.requires.valid c.args.m (moves_deep c.args.levels.now.settings c.requires.valid c.args.m (c.requires.moves c.if-not-flushes.false)) in
       ap (λ (y : Young). y.from) c.drop_oldest.ensures
       ∙ ap₂ (λ (from : ℕ) (t : Numbers). from + span t 0) c.requires.from c.requires.settings
@@ -107,31 +108,27 @@ returns-in-Ok-clause-brings g c = record {
             ∙ ap (drop 1) (bins.is ∙ ap (λ p. young_bins c.args.levels.now.settings events p) c.requires.from)
             ∙ dropped;
       };
-  rows = (let moved_ = rw c.in-Ok.is at c.flush_into-taken.ensures.flushed in
-      subst (λ (v : OnDisk). IsAt c.args.levels.now.settings c.args.m v.rows) (sym moved_)
-      (IsAt-moved c.args.levels.now.settings c.requires.valid c.args.m c.requires.first c.requires.last c.args.levels.now.rows c.requires.rows));
+  rows = subst (λ (v : OnDisk). IsAt c.args.levels.now.settings c.args.m v.rows) (sym did.flushed)
+      (IsAt-moved c.args.levels.now.settings c.requires.valid c.args.m c.requires.first c.requires.last c.args.levels.now.rows c.requires.rows);
   holds = λ events long bins seen told holds after told_after.
-      let moved_ = rw c.in-Ok.is at c.flush_into-taken.ensures.flushed in
-      let held = rw c.in-Ok.is at (c.flush_into-taken.ensures.holds events long bins seen told holds) in
-      subst (λ (t : Numbers). HoldsBins t events c.flush_into-taken.new.levels.rows (after 2)) (ap (λ (v : OnDisk). v.settings) moved_) (held after told_after);
+      let held = did.holds events long bins seen told holds in
+      subst (λ (t : Numbers). HoldsBins t events c.flush_into-taken.new.levels.rows (after 2)) (ap (λ (v : OnDisk). v.settings) did.flushed) (held after told_after);
   totals = λ events long bins seen told holds.
-      let took = rw c.in-Ok.is at (c.flush_into-taken.ensures.totals events long bins seen told holds) in
+      let took = did.totals events long bins seen told holds in
       subst (λ (pieces : List Piece). TookFrom g.N.Begun.start c.flush_into-taken.result.0 pieces)
       (flush_total c.args.levels.now.settings c.requires.valid events c.args.m c.args.tail (moves_deep c.args.levels.now.settings c.requires.valid c.args.m (c.requires.moves c.if-not-flushes.false)))
       took;
-  took = (let took_ = rw c.in-Ok.is at c.flush_into-taken.ensures.took in took_);
-  sound = λ events long bins seen told holds at same. (let never : ⊥ = cc in never);
-  malformed = λ seen told at same. absurd (let never : ⊥ = cc in never);
-  malformed_after = λ after told at same. absurd (let never : ⊥ = cc in never);
+  took = did.took;
+  sound = λ events long bins seen told holds at same. no_fault same;
+  malformed = λ seen told at same. absurd (no_fault same);
+  malformed_after = λ after told at same. absurd (no_fault same);
   images = λ events long bins seen told holds each after told_after image may.
-      let moved_ = rw c.in-Ok.is at c.flush_into-taken.ensures.flushed in
-      let held = rw c.in-Ok.is at (c.flush_into-taken.ensures.holds events long bins seen told holds) in
-      let durable = rw c.in-Ok.is at c.flush_into-taken.ensures.durable in
+      let held = did.holds events long bins seen told holds in
+      let durable = did.durable in
       subst (λ (bytes : List ℕ). HoldsBins c.args.levels.now.settings events c.flush_into-taken.new.levels.rows bytes) (sym (durable after told_after image may))
-      (subst (λ (t : Numbers). HoldsBins t events c.flush_into-taken.new.levels.rows (after 2)) (ap (λ (v : OnDisk). v.settings) moved_) (held after told_after));
+      (subst (λ (t : Numbers). HoldsBins t events c.flush_into-taken.new.levels.rows (after 2)) (ap (λ (v : OnDisk). v.settings) did.flushed) (held after told_after));
   are = λ are.
-      let moved_ = rw c.in-Ok.is at c.flush_into-taken.ensures.flushed in
-      subst (λ (v : OnDisk). AreRows c.args.levels.now.settings v.rows) (sym moved_)
+      subst (λ (v : OnDisk). AreRows c.args.levels.now.settings v.rows) (sym did.flushed)
       (AreRows-moved c.args.levels.now.settings c.requires.valid c.args.m c.requires.first c.requires.last c.args.levels.now.rows c.requires.rows are);
   still = λ stays.
       absurd (c.requires.moves c.if-not-flushes.false stays);
@@ -141,16 +138,16 @@ returns-in-Ok-clause-brings g c = record {
   kept = record {
     time = c.flush_into-taken.ensures.kept.time;
     never_falls = c.flush_into-taken.ensures.kept.never_falls;
-    failed = λ same. absurd (let never : ⊥ = cc in never);
+    failed = λ same. absurd (no_fault same);
     mark = c.flush_into-taken.ensures.kept.mark;
     journal = c.flush_into-taken.ensures.kept.journal;
   };
 }
 
 pub returns-in-Err-clause-brings : goal.returns-in-Err-clause-brings
-returns-in-Err-clause-brings g c = record {
+returns-in-Err-clause-brings g c = let did = rw c.in-Err.is at c.flush_into-taken.ensures in record {
   young_settings = refl;
-  settings = (let stays = rw c.in-Err.is at c.flush_into-taken.ensures.refused in ap (λ (v : OnDisk). v.settings) stays);
+  settings = ap (λ (v : OnDisk). v.settings) did.refused;
   from = tt;
   to = tt;
   bins = λ events long bins. tt;
@@ -161,11 +158,9 @@ returns-in-Err-clause-brings g c = record {
   sound = λ events long bins seen told holds at same.
       c.flush_into-taken.ensures.sound events long bins seen told holds at (c.in-Err.is ∙ same);
   malformed = λ seen told at same.
-      let stays = rw c.in-Err.is at c.flush_into-taken.ensures.refused in
-      subst (λ (v : OnDisk). OneBreaks v.settings v.rows (seen 2) at) (sym stays) (c.flush_into-taken.ensures.malformed seen told at (c.in-Err.is ∙ same));
+      subst (λ (v : OnDisk). OneBreaks v.settings v.rows (seen 2) at) (sym did.refused) (c.flush_into-taken.ensures.malformed seen told at (c.in-Err.is ∙ same));
   malformed_after = λ after told at same.
-      let stays = rw c.in-Err.is at c.flush_into-taken.ensures.refused in
-      subst (λ (v : OnDisk). OneBreaks v.settings v.rows (after 2) at) (sym stays) (c.flush_into-taken.ensures.malformed_after after told at (c.in-Err.is ∙ same));
+      subst (λ (v : OnDisk). OneBreaks v.settings v.rows (after 2) at) (sym did.refused) (c.flush_into-taken.ensures.malformed_after after told at (c.in-Err.is ∙ same));
   images = λ events long bins seen told holds each. tt;
   are = tt;
   still = λ stays. tt;
