@@ -1,4 +1,5 @@
-use Rattle.std.proofs.Common.{◌≡◌, ◌∙◌, ℕ, ◌-◌, ◌<◌, ◌≤◌, ◌++◌, List, All, length, drop, min, Ok, ap, sym, subst, arith, rules, length-append}
+use Rattle.std.proofs.Common.{◌≡◌, ◌∙◌, ℕ, ◌-◌, ◌<◌, ◌≤◌, ◌++◌, List, All, length, drop, min, Ok, ap, sym, subst, arith, length-append}
+use Rattle.std.proofs.lemmas.Bool.{eqb-false, eqb-true}
 use Rattle.std.proofs.lemmas.List.Elements.{All-take}
 use Rattle.lert_spec.specs.Mix.{cone_of}
 use Rattle.lert_bay.specs.Kept.{Bays}
@@ -34,7 +35,8 @@ count_again-requires-clause-own g c = subst (λ (keys : List ℕ). All (λ key. 
 
 pub count_again-requires-clause-within : goal.count_again-requires-clause-within
 count_again-requires-clause-within g c = λ some.
-    let count_is : c.min-count.result ≡ min (c.args.n0 - length c.args.tally.now.listing.events) (length c.args.keys.now) = omega arith in
+    let count_is : c.min-count.result ≡ min (c.args.n0 - length c.args.tally.now.listing.events) (length c.args.keys.now) =
+    omega (arith, c.min-count.ensures, c.saturating_sub.ensures, c.len.ensures) in
     omega (arith, some, count_is, c.split_at.ensures.front_len)
 
 pub count_again-requires-clause-recounted : goal.count_again-requires-clause-recounted
@@ -57,7 +59,8 @@ pass-requires-clause-within g c =
 
 pub returns-then-is_empty : goal.returns-then-is_empty
 returns-then-is_empty g c =
-    let count_is : c.min-count.result ≡ min (c.args.n0 - length c.args.tally.now.listing.events) (length c.args.keys.now) = omega arith in
+    let count_is : c.min-count.result ≡ min (c.args.n0 - length c.args.tally.now.listing.events) (length c.args.keys.now) =
+    omega (arith, c.min-count.ensures, c.saturating_sub.ensures, c.len.ensures) in
     let listing_is = c.count_again.ensures.listing ∙ ap (λ (keys : List ℕ). record {
       settings = c.args.tally.now.listing.settings;
       cone = c.args.tally.now.listing.cone;
@@ -66,7 +69,7 @@ returns-then-is_empty g c =
     }) c.split_at.ensures.front in
     let over : HasPassed (length c.count_again.new.tally.listing.events) c.args.mark c.args.log.now.marks c.pass.new.self.marks =
     subst (λ n. HasPassed n c.args.mark c.args.log.now.marks c.pass.new.self.marks) c.len-2.ensures c.pass.ensures.passed in
-    let none : length c.split_at.result.1.now ≡ 0 = search rules in
+    let none : length c.split_at.result.1.now ≡ 0 = eqb-true (length c.split_at.result.1.now) 0 (sym c.is_empty.ensures ∙ c.if-is_empty.true) in
     subst (λ (l : LogPlace). ReplaysKeys (bays g) c.args.n0 c.args.mark c.args.keys.now
     (record { bay = c.args.bay.now; counts = c.args.tally.now; log = c.args.log.now; room = length c.args.buffer.now })
     (record { bay = c.args.bay.now; counts = c.count_again.new.tally; log = l; room = length c.args.buffer.now }) (Ok tt)) (sym c.pass.ensures.rest)
@@ -78,7 +81,8 @@ returns-then-is_empty g c =
 
 pub take_keys-requires : goal.take_keys-requires
 take_keys-requires g c =
-    let count_is : c.min-count.result ≡ min (c.args.n0 - length c.args.tally.now.listing.events) (length c.args.keys.now) = omega arith in
+    let count_is : c.min-count.result ≡ min (c.args.n0 - length c.args.tally.now.listing.events) (length c.args.keys.now) =
+    omega (arith, c.min-count.ensures, c.saturating_sub.ensures, c.len.ensures) in
     let listing_is = c.count_again.ensures.listing ∙ ap (λ (keys : List ℕ). record {
       settings = c.args.tally.now.listing.settings;
       cone = c.args.tally.now.listing.cone;
@@ -87,7 +91,7 @@ take_keys-requires g c =
     }) c.split_at.ensures.front in
     let over : HasPassed (length c.count_again.new.tally.listing.events) c.args.mark c.args.log.now.marks c.pass.new.self.marks =
     subst (λ n. HasPassed n c.args.mark c.args.log.now.marks c.pass.new.self.marks) c.len-2.ensures c.pass.ensures.passed in
-    let some : 0 < length c.split_at.result.1.now = search rules in
+    let some : 0 < length c.split_at.result.1.now = omega (arith, eqb-false (length c.split_at.result.1.now) 0 (sym c.is_empty.ensures ∙ c.if-is_empty.false)) in
     let some_left : 0 < length (drop c.min-count.result c.args.keys.now) = omega (arith, some, ap (length {A = ℕ}) c.split_at.ensures.back) in
     subst (λ (keys : List ℕ). CanTake (bays g) keys (record { bay = c.args.bay.now; counts = c.count_again.new.tally; log = c.pass.new.self; room = length c.args.buffer.now }))
     (sym c.split_at.ensures.back)
@@ -100,7 +104,8 @@ take_keys-requires g c =
 
 pub returns : goal.returns
 returns g c =
-    let count_is : c.min-count.result ≡ min (c.args.n0 - length c.args.tally.now.listing.events) (length c.args.keys.now) = omega arith in
+    let count_is : c.min-count.result ≡ min (c.args.n0 - length c.args.tally.now.listing.events) (length c.args.keys.now) =
+    omega (arith, c.min-count.ensures, c.saturating_sub.ensures, c.len.ensures) in
     let listing_is = c.count_again.ensures.listing ∙ ap (λ (keys : List ℕ). record {
       settings = c.args.tally.now.listing.settings;
       cone = c.args.tally.now.listing.cone;
@@ -109,7 +114,7 @@ returns g c =
     }) c.split_at.ensures.front in
     let over : HasPassed (length c.count_again.new.tally.listing.events) c.args.mark c.args.log.now.marks c.pass.new.self.marks =
     subst (λ n. HasPassed n c.args.mark c.args.log.now.marks c.pass.new.self.marks) c.len-2.ensures c.pass.ensures.passed in
-    let some : 0 < length c.split_at.result.1.now = search rules in
+    let some : 0 < length c.split_at.result.1.now = omega (arith, eqb-false (length c.split_at.result.1.now) 0 (sym c.is_empty.ensures ∙ c.if-is_empty.false)) in
     let some_left : 0 < length (drop c.min-count.result c.args.keys.now) = omega (arith, some, ap (length {A = ℕ}) c.split_at.ensures.back) in
     others_ahead (bays g) (lawful g) c.args.mark
     (record { bay = c.args.bay.now; counts = c.args.tally.now; log = c.args.log.now; room = length c.args.buffer.now })

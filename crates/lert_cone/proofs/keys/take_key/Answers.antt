@@ -1,4 +1,4 @@
-use Rattle.std.proofs.Common.{ℕ, [], ◌∷◌, length, ap, arith, rules, length-append, subst, sym, ◌∙◌, ◌≤◌, Ok, Err}
+use Rattle.std.proofs.Common.{ℕ, [], ◌∷◌, length, ap, arith, length-append, subst, sym, ◌∙◌, ◌≤◌, Ok, Err}
 use Rattle.lert_rows.specs.Rows.{directory_text}
 use Rattle.lert_reports.specs.declared.log.LogKind.{LogKind}
 use Rattle.lert_spec.specs.declared.numbers.Numbers.{Numbers}
@@ -76,7 +76,7 @@ returns-then-not-is_flushed g c =
     (record { bay = c.take.new.bay; counts = c.take.new.self; log = l; room = length c.args.buffer.now }) (Ok tt)) (sym c.pass.ensures.rest)
     (key_between (bays g) (lawful g) c.args.mark
     (record { bay = c.args.bay.now; counts = c.args.tally.now; log = c.args.log.now; room = length c.args.buffer.now })
-    c.args.key c.requires c.take.new.bay c.take.new.self c.in_ok-take.ensures c.pass.new.self.marks over (c.is_flushed.ensures.still (search rules)))
+    c.args.key c.requires c.take.new.bay c.take.new.self c.in_ok-take.ensures c.pass.new.self.marks over (c.is_flushed.ensures.still c.if-not-is_flushed.true))
 
 pub write_record-requires-clause-counted : goal.write_record-requires-clause-counted
 write_record-requires-clause-counted g c = c.in_ok-take.ensures.counted
@@ -96,7 +96,7 @@ returns-in_err-write_record g c =
     subst (λ n. HasPassed n c.args.mark c.args.log.now.marks c.pass.new.self.marks) c.len.ensures c.pass.ensures.passed in
     record_failed (bays g) (lawful g) c.args.mark
     (record { bay = c.args.bay.now; counts = c.args.tally.now; log = c.args.log.now; room = length c.args.buffer.now })
-    c.args.key c.requires c.take.new.bay c.take.new.self c.in_ok-take.ensures c.pass.new.self.marks over (c.is_flushed.ensures.flushed (search rules)) c.write_record.ensures.few
+    c.args.key c.requires c.take.new.bay c.take.new.self c.in_ok-take.ensures c.pass.new.self.marks over (c.is_flushed.ensures.flushed c.if-not-is_flushed.false) c.write_record.ensures.few
     c.in_err-write_record.field-0.0 c.write_record.new.bay c.write_record.new.log (length c.write_record.new.buffer)
     (subst (λ (l : LogPlace). AppendsRecord (bays g) LogKind.Flush (length c.take.new.self.listing.events) (directory_text c.take.new.self.rows) c.take.new.self.due.reports
     c.take.new.bay c.write_record.new.bay l c.write_record.new.log (Err c.in_err-write_record.field-0.0)) c.pass.ensures.rest
@@ -108,7 +108,7 @@ returns g c =
     subst (λ n. HasPassed n c.args.mark c.args.log.now.marks c.pass.new.self.marks) c.len.ensures c.pass.ensures.passed in
     key_flushed (bays g) (lawful g) c.args.mark
     (record { bay = c.args.bay.now; counts = c.args.tally.now; log = c.args.log.now; room = length c.args.buffer.now })
-    c.args.key c.requires c.take.new.bay c.take.new.self c.in_ok-take.ensures c.pass.new.self.marks over (c.is_flushed.ensures.flushed (search rules)) c.write_record.ensures.few
+    c.args.key c.requires c.take.new.bay c.take.new.self c.in_ok-take.ensures c.pass.new.self.marks over (c.is_flushed.ensures.flushed c.if-not-is_flushed.false) c.write_record.ensures.few
     c.write_record.new.bay c.write_record.new.log (length c.write_record.new.buffer) c.write_record.auto.buffer (subst (λ (l : LogPlace). AppendsRecord (bays g) LogKind.Flush
     (length c.take.new.self.listing.events) (directory_text c.take.new.self.rows) c.take.new.self.due.reports
     c.take.new.bay c.write_record.new.bay l c.write_record.new.log (Ok tt)) c.pass.ensures.rest (rw c.in_ok-write_record.was at c.write_record.ensures.appends))

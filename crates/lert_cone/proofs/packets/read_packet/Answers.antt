@@ -1,8 +1,10 @@
-use Rattle.std.proofs.Common.{◌≡◌, ◌∙◌, ℕ, ◌+◌, ◌<◌, ◌^◌, All, List, true, false, ap, arith, inl, inr, length, rules, subst, sym}
+use Rattle.std.proofs.Common.{◌≡◌, ◌∙◌, ℕ, ◌+◌, ◌<◌, ◌^◌, All, List, true, false, ap, arith, inl, inr, length, Err, IsErrOf, subst, sym}
 use Rattle.std.proofs.lemmas.Result.{err_from_is_err_and}
 use Rattle.lert_base.specs.Entries.{packet_of}
 use Rattle.lert_base.specs.Packet.{Packet}
 use Rattle.lert_bay.specs.Files.{Files}
+use Rattle.lert_gatelog.specs.declared.fault.LogFault.{LogFault}
+use Rattle.lert_gatelog.specs.declared.fault.LogFault.TheVariants.{Malformed}
 use Rattle.lert_gatelog.specs.Gated.{IsOpen, Log}
 use Rattle.lert_journal.specs.Journal.{HoldsPacket}
 use Rattle.lert_journal.specs.Payload.{IsJournaled, payload_of}
@@ -23,6 +25,15 @@ held_at s cone most file gate seen packet file_is most_is opened journaled fits 
   fits = fits;
 }
 
+-- said of the tally's own settings and cone
+journaled_of : {s t : Numbers} {cone other : ℕ} {packet : Packet} → s ≡ t → cone ≡ other → IsJournaled s cone packet → IsJournaled t other packet
+journaled_of {t = t} {cone = cone} {packet = packet} same is journaled =
+    subst (λ (n : ℕ). IsJournaled t n packet) is (subst (λ (v : Numbers). IsJournaled v cone packet) same journaled)
+
+-- a malformed record has one place
+one_place : {T : Type 0} {x y : ℕ} → IsErrOf {T = T} {E = LogFault} (Err (Malformed x)) (Malformed y) → x ≡ y
+one_place {x = x} {y = y} same = (let is : x ≡ y = cc in is)
+
 pub packet_left-requires-clause-few : goal.packet_left-requires-clause-few
 packet_left-requires-clause-few g c = omega (arith, ap (length {A = ℕ}) c.keys_of.ensures.value)
 
@@ -31,8 +42,9 @@ returns-in-Some-packet_left-clause-malformed g c = λ seen told at same.
     let fits = subst (λ (keys : List ℕ). All (λ key. key < 2 ^ 64) keys) c.keys_of.ensures.value c.keys_of.ensures.fit in
     let packet = packet_of c.read_entry.new.entry in
     let holds = held_at c.args.tally.now.listing.settings c.args.tally.now.listing.cone c.args.journal.now.most c.args.journal.now.file c.args.journal.now.gate seen
-    packet c.requires.file c.requires.most (c.in_ok-is_packet.ensures.found seen told (search rules)) (search rules) fits in
-    let at_is : c.in-Some-packet_left.at ≡ at = cc in
+    packet c.requires.file c.requires.most (c.in_ok-is_packet.ensures.found seen told c.if-not-is_packet.false)
+    (journaled_of c.settings-settings.ensures c.cone.ensures (c.in_ok-is_packet.ensures.journaled c.if-not-is_packet.false)) fits in
+    let at_is : c.in-Some-packet_left.at ≡ at = one_place same in
     let count = ap (length {A = ℕ}) c.keys_of.ensures.value in
     let left = rw c.in-Some-packet_left.is at c.packet_left.ensures in
     elim left [
@@ -45,7 +57,8 @@ pub returns-in-None-packet_left-clause-found : goal.returns-in-None-packet_left-
 returns-in-None-packet_left-clause-found g c = λ seen told _.
     let fits = subst (λ (keys : List ℕ). All (λ key. key < 2 ^ 64) keys) c.keys_of.ensures.value c.keys_of.ensures.fit in
     held_at c.args.tally.now.listing.settings c.args.tally.now.listing.cone c.args.journal.now.most c.args.journal.now.file c.args.journal.now.gate seen
-    (packet_of c.read_entry.new.entry) c.requires.file c.requires.most (c.in_ok-is_packet.ensures.found seen told (search rules)) (search rules) fits
+    (packet_of c.read_entry.new.entry) c.requires.file c.requires.most (c.in_ok-is_packet.ensures.found seen told c.if-not-is_packet.false)
+    (journaled_of c.settings-settings.ensures c.cone.ensures (c.in_ok-is_packet.ensures.journaled c.if-not-is_packet.false)) fits
 
 -- ---- how many bytes were handed out
 
@@ -57,19 +70,19 @@ returns-in_err-is_packet-clause-handed g c =
 
 pub returns-in-Some-clause-handed : goal.returns-in-Some-clause-handed
 returns-in-Some-clause-handed g c =
-    let none : c.in_ok-is_packet.is_packet ≡ false = search rules in
+    let none : c.in_ok-is_packet.is_packet ≡ false = c.if-not-is_packet.true in
     let cost = ended_cost c.args.journal.now.most (packet_of c.read_entry.new.entry) c.in_ok-is_packet.is_packet none in
     journal_up_to c.args.journal.now.file _ _ _ _ c.requires.file (omega (arith, cost)) c.in_ok-is_packet.ensures.handed
 
 pub returns-in-None-clause-handed : goal.returns-in-None-clause-handed
 returns-in-None-clause-handed g c =
-    let none : c.in_ok-is_packet.is_packet ≡ false = search rules in
+    let none : c.in_ok-is_packet.is_packet ≡ false = c.if-not-is_packet.true in
     let cost = ended_cost c.args.journal.now.most (packet_of c.read_entry.new.entry) c.in_ok-is_packet.is_packet none in
     journal_up_to c.args.journal.now.file _ _ _ _ c.requires.file (omega (arith, cost)) c.in_ok-is_packet.ensures.handed
 
 pub returns-in-Some-packet_left-clause-handed : goal.returns-in-Some-packet_left-clause-handed
 returns-in-Some-packet_left-clause-handed g c =
-    let found : c.in_ok-is_packet.is_packet ≡ true = search rules in
+    let found : c.in_ok-is_packet.is_packet ≡ true = c.if-not-is_packet.false in
     let cost = found_cost c.args.journal.now.most (packet_of c.read_entry.new.entry) c.in_ok-is_packet.is_packet found in
     let gate_is = ap (λ (log : Log). log.gate) (c.in_ok-is_packet.ensures.moved found) in
     let short = (c.in_ok-is_packet.ensures.forward found).1 in
@@ -78,6 +91,6 @@ returns-in-Some-packet_left-clause-handed g c =
 
 pub returns-in-None-packet_left-clause-handed : goal.returns-in-None-packet_left-clause-handed
 returns-in-None-packet_left-clause-handed g c =
-    let found : c.in_ok-is_packet.is_packet ≡ true = search rules in
+    let found : c.in_ok-is_packet.is_packet ≡ true = c.if-not-is_packet.false in
     let cost = found_cost c.args.journal.now.most (packet_of c.read_entry.new.entry) c.in_ok-is_packet.is_packet found in
     journal_up_to c.args.journal.now.file _ _ _ _ c.requires.file (omega (arith, cost)) c.in_ok-is_packet.ensures.handed
