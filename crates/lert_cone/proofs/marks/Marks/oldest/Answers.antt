@@ -9,6 +9,9 @@ use Rattle.lert_cone.proofs.marks.Marks.oldest.Goals as goal
 pub edge-edge-requires-clause-events : goal.edge-edge-requires-clause-events
 edge-edge-requires-clause-events c = c.self.invariant.within
 
+pub overflow_sub-bins : goal.overflow_sub-bins
+overflow_sub-bins c = omega (arith, c.self.invariant.next_is)
+
 pub returns-then-bins-eq0 : goal.returns-then-bins-eq0
 returns-then-bins-eq0 c =
     let s = c.self.inside.settings in

@@ -1,4 +1,4 @@
-use Rattle.std.proofs.Common.{◌≡◌, ◌∙◌, ℕ, ◌+◌, ◌<◌, List, suc, length, ap, sym, subst, arith, cond, ltb, refl, [], ◌∷◌, ◌++◌, append_assoc, length-append}
+use Rattle.std.proofs.Common.{◌≡◌, ◌∙◌, ℕ, ◌+◌, ◌-◌, ◌^◌, ◌<◌, List, suc, length, ap, sym, subst, arith, cond, ltb, refl, [], ◌∷◌, ◌++◌, append_assoc, length-append}
 use Rattle.lert_spec.specs.declared.numbers.Numbers.{Numbers}
 use Rattle.lert_rows.specs.Young.{IsNextPosition, with_event}
 use Rattle.lert_spec.specs.Edges.{edge}
@@ -7,6 +7,45 @@ use Rattle.lert_cone.specs.Tally.{Tallied, IsRecounted, due_in}
 use Rattle.lert_cone.proofs.RecountLaws.{again_settings, recount_position, recounted_more}
 use Rattle.lert_cone.proofs.NextFlush.{flush_next}
 use Rattle.lert_cone.proofs.tally.Tally.recount_key.Goals as goal
+
+pub overflow_add-m : goal.overflow_add-m
+overflow_add-m g c =
+    let recounted : IsRecounted (record {
+      listing = record { settings = c.self.inside.settings; cone = c.self.inside.cone; events = c.self.inside.unread ++ c.self.inside.taken; closed = c.self.inside.closed };
+      young = c.self.inside.zero;
+      rows = c.self.inside.levels.rows;
+      due = due_in c.self.inside.due;
+    }) c.args.n0 = subst (λ (v : Tallied). IsRecounted v c.args.n0) (sym c.self.view_is) c.requires.recounted in
+    omega (arith, c.self.invariant.len_is, recounted.fits, c.self.invariant.valid.positions_fit)
+
+pub flush_behind-flush-requires-clause-fits : goal.flush_behind-flush-requires-clause-fits
+flush_behind-flush-requires-clause-fits g c =
+    let recounted : IsRecounted (record {
+      listing = record { settings = c.self.inside.settings; cone = c.self.inside.cone; events = c.self.inside.unread ++ c.self.inside.taken; closed = c.self.inside.closed };
+      young = c.self.inside.zero;
+      rows = c.self.inside.levels.rows;
+      due = due_in c.self.inside.due;
+    }) c.args.n0 = subst (λ (v : Tallied). IsRecounted v c.args.n0) (sym c.self.view_is) c.requires.recounted in
+    let before : length (c.self.inside.unread ++ c.self.inside.taken) < c.args.n0 = subst (λ (v : Tallied). length v.listing.events < c.args.n0) (sym c.self.view_is) c.requires.within in
+    omega (arith, c.self.invariant.len_is, before, recounted.n0_fits)
+
+pub flush_behind-flush-requires-clause-flush : goal.flush_behind-flush-requires-clause-flush
+flush_behind-flush-requires-clause-flush g c = c.self.invariant.flush_is
+
+pub count_again-requires-clause-below : goal.count_again-requires-clause-below
+count_again-requires-clause-below g c = subst (λ (s : Numbers). c.tail_of-tail.result < 2 ^ (64 - s.cone_bits)) (sym c.self.invariant.young_settings) c.tail_of-tail.ensures.below
+
+pub returns-clause-listing : goal.returns-clause-listing
+returns-clause-listing g c =
+    ap (λ (keys : List ℕ). record { settings = c.self.inside.settings; cone = c.self.inside.cone; events = keys; closed = c.self.inside.closed })
+    (ap (λ keys. c.self.inside.unread ++ keys) c.push.ensures ∙ sym (append_assoc c.self.inside.unread c.self.inside.taken (c.args.key ∷ [])))
+    ∙ ap (λ (v : Tallied). record { settings = v.listing.settings; cone = v.listing.cone; events = v.listing.events ++ c.args.key ∷ []; closed = v.listing.closed }) c.self.view_is
+
+pub returns-clause-rows : goal.returns-clause-rows
+returns-clause-rows g c = ap (λ (v : Tallied). v.rows) c.self.view_is
+
+pub returns-clause-due : goal.returns-clause-due
+returns-clause-due g c = ap (λ (v : Tallied). v.due) c.self.view_is
 
 pub count_again-requires-clause-position : goal.count_again-requires-clause-position
 count_again-requires-clause-position g c =

@@ -1,13 +1,15 @@
-use Rattle.std.proofs.Common.{◌≡◌, ◌+◌, ◌<◌, ◌++◌, ◌∷◌, [], suc, false, length, ap, sym, ◌∙◌, subst, arith, append_assoc}
+use Rattle.std.proofs.Common.{◌≡◌, ◌+◌, ◌-◌, ◌^◌, ◌<◌, ◌≤◌, ◌++◌, ◌∷◌, [], suc, false, length, ap, sym, ◌∙◌, refl, subst, arith, append_assoc, length-append}
+use Rattle.lert_spec.specs.declared.numbers.Numbers.{Numbers}
 use Rattle.lert_spec.specs.Edges.{capacity}
+use Rattle.lert_spec.specs.Limits.{IsValid}
 use Rattle.lert_spec.specs.Mix.{cone_of}
 use Rattle.lert_cone.specs.Due.{started}
 use Rattle.lert_cone.specs.Tally.{Tallied, IsCounted, due_in}
 use Rattle.lert_cone.proofs.KeyCounted.{not_counted, no_room, key_counted}
-use Rattle.lert_cone.proofs.NextFlush.{next_flushes, next_stays}
+use Rattle.lert_cone.proofs.NextFlush.{flush_next, next_flushes, next_stays}
 use Rattle.lert_cone.proofs.TakeLaws.{rows_before}
 use Rattle.lert_cone.proofs.TallyLaws.{next_position}
-use Rattle.lert_rows.specs.Young.{IsNextPosition}
+use Rattle.lert_rows.specs.Young.{IsNextPosition, Young}
 use Rattle.lert_bay.specs.Kept.{Bays}
 use Rattle.lert_bay.proofs.KeptLaws.{IsLawful}
 use Rattle.lert_cone.proofs.tally.Tally.take.Given as given
@@ -26,6 +28,91 @@ bays g = record {
 
 lawful : (g : given.Over) → IsLawful (bays g)
 lawful g = record { as_read = g.met.B.Bay.as_read; since_now = g.met.B.Bay.since_now; only_now = g.met.B.Bay.only_now; since_earlier = g.met.B.Bay.since_earlier }
+
+pub overflow_add-m : goal.overflow_add-m
+overflow_add-m g c =
+    let fits : length (c.self.inside.unread ++ c.self.inside.taken) < capacity c.self.inside.settings =
+    subst (λ (v : Tallied). length v.listing.events < capacity v.listing.settings) (sym c.self.view_is) c.requires.fits in
+    omega (arith, c.self.invariant.len_is, fits, c.self.invariant.valid.positions_fit)
+
+pub flush_behind-flush-requires-clause-fits : goal.flush_behind-flush-requires-clause-fits
+flush_behind-flush-requires-clause-fits g c =
+    let fits : length (c.self.inside.unread ++ c.self.inside.taken) < capacity c.self.inside.settings =
+    subst (λ (v : Tallied). length v.listing.events < capacity v.listing.settings) (sym c.self.view_is) c.requires.fits in
+    omega (arith, c.self.invariant.len_is, fits)
+
+pub flush_behind-flush-requires-clause-flush : goal.flush_behind-flush-requires-clause-flush
+flush_behind-flush-requires-clause-flush g c = c.self.invariant.flush_is
+
+pub add-requires-clause-below : goal.add-requires-clause-below
+add-requires-clause-below g c = subst (λ (s : Numbers). c.tail_of-tail.result < 2 ^ (64 - s.cone_bits)) (sym c.self.invariant.young_settings) c.tail_of-tail.ensures.below
+
+pub begin-requires : goal.begin-requires
+begin-requires g c = record { there = c.self.invariant.there }
+
+pub bring-requires-clause-there : goal.bring-requires-clause-there
+bring-requires-clause-there g c = c.begin.ensures.there
+
+pub bring-requires-clause-valid : goal.bring-requires-clause-valid
+bring-requires-clause-valid g c = subst IsValid (sym c.self.invariant.levels_settings) c.self.invariant.valid
+
+pub bring-requires-clause-first : goal.bring-requires-clause-first
+bring-requires-clause-first g c = omega arith
+
+pub bring-requires-clause-last : goal.bring-requires-clause-last
+bring-requires-clause-last g c =
+    let fits : length (c.self.inside.unread ++ c.self.inside.taken) < capacity c.self.inside.settings =
+    subst (λ (v : Tallied). length v.listing.events < capacity v.listing.settings) (sym c.self.view_is) c.requires.fits in
+    subst (λ (s : Numbers). c.self.inside.len + 1 ≤ capacity s) (sym c.self.invariant.levels_settings) (omega (arith, c.self.invariant.len_is, fits))
+
+pub bring-requires-clause-settings : goal.bring-requires-clause-settings
+bring-requires-clause-settings g c = ap (λ (y : Young). y.settings) c.add.ensures ∙ c.self.invariant.young_settings ∙ sym c.self.invariant.levels_settings
+
+pub bring-requires-clause-to : goal.bring-requires-clause-to
+bring-requires-clause-to g c = ap (λ (y : Young). y.to) c.add.ensures
+
+pub is_full-requires : goal.is_full-requires
+is_full-requires g c = record { there = c.bring.ensures.there }
+
+pub invariant_of-self : goal.invariant_of-self
+invariant_of-self g c = record {
+  valid = c.self.invariant.valid;
+  named = c.self.invariant.named;
+  young_settings = c.bring.ensures.brings.young_settings ∙ ap (λ (y : Young). y.settings) c.add.ensures ∙ c.self.invariant.young_settings;
+  levels_settings = c.bring.ensures.brings.settings ∙ c.self.invariant.levels_settings;
+  there = c.bring.ensures.there;
+  len_is = c.self.invariant.len_is;
+  flush_is = c.self.invariant.flush_is;
+}
+
+pub invariant_of-self-then-is_full : goal.invariant_of-self-then-is_full
+invariant_of-self-then-is_full g c = record {
+  valid = c.self.invariant.valid;
+  named = c.self.invariant.named;
+  young_settings = c.bring.ensures.brings.young_settings ∙ ap (λ (y : Young). y.settings) c.add.ensures ∙ c.self.invariant.young_settings;
+  levels_settings = c.bring.ensures.brings.settings ∙ c.self.invariant.levels_settings;
+  there = c.bring.ensures.there;
+  len_is = c.self.invariant.len_is;
+  flush_is = c.self.invariant.flush_is;
+}
+
+pub invariant_of-self-2 : goal.invariant_of-self-2
+invariant_of-self-2 g c = record {
+  valid = c.self.invariant.valid;
+  named = c.self.invariant.named;
+  young_settings = c.bring.ensures.brings.young_settings ∙ ap (λ (y : Young). y.settings) c.add.ensures ∙ c.self.invariant.young_settings;
+  levels_settings = c.bring.ensures.brings.settings ∙ c.self.invariant.levels_settings;
+  there = c.bring.ensures.there;
+  len_is = omega (
+    arith,
+    c.self.invariant.len_is,
+    length-append c.self.inside.unread c.self.inside.taken,
+    ap length c.push.ensures,
+    length-append c.self.inside.taken (c.args.key ∷ []),
+    length-append c.self.inside.unread c.push.new.self,
+  );
+  flush_is = flush_next c.self.inside.settings c.self.inside.settings refl c.self.invariant.valid c.self.inside.len c.flush_behind-flush.result c.flush_behind-flush.ensures;
+}
 
 pub add-requires-clause-position : goal.add-requires-clause-position
 add-requires-clause-position g c =
