@@ -1,5 +1,5 @@
 //! The loops of `crates/lert_bench` over a plain map in place of a filter. Words: WORKLOAD KEYS EVENTS
-//! SEED, as there. It prints the same sum, and on standard error the nanoseconds that the loop took. It
+//! SEED, as there behind `filter`. It prints the same sum, and on standard error the nanoseconds that the loop took. It
 //! is the yardstick of `bench/filter`, and ends at the first fault.
 
 use std::env;

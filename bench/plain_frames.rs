@@ -1,4 +1,4 @@
-//! The frames of `crates/lert_framing` in plain Rust. Words: TEXT KIND FILE PIECES SEED. The text is `trusted`, for a
+//! The frames of `crates/lert_bench` in plain Rust. Words: TEXT KIND FILE PIECES SEED. The text is `trusted`, for a
 //! reader that takes what it reads for a frame, or `tested`, for one that makes the tests of the proved reader. The
 //! kind is `distinct` or `skewed`.
 //!

@@ -1,4 +1,4 @@
-//! The merge of `crates/lert_merging` in plain Rust. Words: KIND STREAMS PIECES SEED. The kind is `tree`, for the tree
+//! The merge of `crates/lert_bench` in plain Rust. Words: KIND STREAMS PIECES SEED. The kind is `tree`, for the tree
 //! of losers that the proved merge has, or `heap`, for the heap of std. It prints the same sums, and on standard error
 //! the nanoseconds that the merge took. It is the yardstick of `bench/merge`, and ends at the first fault.
 

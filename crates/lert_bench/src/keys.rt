@@ -1,5 +1,6 @@
 //! The tails of a workload. `bench/counting_map.rs` makes the same ones.
 
+use crate::random::Random;
 use lert_mixer::mix;
 use std::alloc::{AllocError, Global};
 
@@ -7,7 +8,7 @@ use std::alloc::{AllocError, Global};
 const MOST_BITS: u64 = 24;
 
 /// What the keys of a workload are.
-#[derive(Clone, Copy, Debug, PartialEq, Eq, Drop)]
+#[derive(Clone, Copy)]
 pub enum Keys {
     /// Each another one.
     Distinct,
@@ -33,11 +34,11 @@ impl Keys {
         mask: u64,
     ) -> Result<Vec<u64>, AllocError> {
         let mut tails = Vec::new(alloc);
-        let mut random = Random(seed);
+        let mut random = Random::new(seed);
         for event in 0..events {
             let key = match self {
                 Keys::Distinct => seed.wrapping_add(event),
-                Keys::Skewed => random.skewed(),
+                Keys::Skewed => skewed(&mut random),
             };
             tails.push(mix(key) & mask)?;
         }
@@ -45,21 +46,8 @@ impl Keys {
     }
 }
 
-/// Numbers that follow from a seed, as splitmix64 makes them.
-#[derive(Drop)]
-struct Random(u64);
-
-impl Random {
-    fn next(&mut self) -> u64 {
-        self.0 = self.0.wrapping_add(0x9e37_79b9_7f4a_7c15);
-        let mixed = (self.0 ^ (self.0 >> 30)).wrapping_mul(0xbf58_476d_1ce4_e5b9);
-        let mixed = (mixed ^ (mixed >> 27)).wrapping_mul(0x94d0_49bb_1331_11eb);
-        mixed ^ (mixed >> 31)
-    }
-
-    /// A number of 1 to `MOST_BITS` bits, each length with the same chance.
-    fn skewed(&mut self) -> u64 {
-        let highest = 1u64 << (self.next() % MOST_BITS);
-        highest | (self.next() & (highest - 1))
-    }
+/// A number of 1 to `MOST_BITS` bits, each length with the same chance.
+fn skewed(random: &mut Random) -> u64 {
+    let highest = 1u64 << (random.next() % MOST_BITS);
+    highest | (random.next() & (highest - 1))
 }

@@ -1,65 +1,81 @@
-//! Loops over filters, which `bench/filter` times: the windows of level 0 as events fill them, and the
-//! counts of one great table.
-//!
-//! Words: WORKLOAD KEYS EVENTS SEED. The workload is `one` or `sixteen`, for the windows of so many
-//! cones, or `hits` or `misses`, for one table; the keys are `distinct` or `skewed`. It prints the sum
-//! of all counts that it asked for, and on standard error the nanoseconds that the loop took. The loops
-//! are proved safe, and a bin is proved to count; that the sums are right is seen beside a plain map's.
+//! Loops over the parts of a run, which `bench/filter`, `bench/routing`, `bench/merge` and `bench/frames` time. Words: one of
+//! `filter WORKLOAD KEYS EVENTS SEED`, `route CONE_BITS KEYS SEED`, `merge STREAMS PIECES SEED` and
+//! `frame KIND DIR PIECES SEED`, or `all DIR` for a small task of each. It prints a line of sums, and on standard error the
+//! nanoseconds that it took. The loops are proved safe, a bin to count, streams to be sorted, and what is put into a frame to
+//! be what a writer asks for; that the sums are right is seen beside plain programs.
 #![tactic(auto)]
 
 mod bin;
+mod checksum;
+mod drawn;
+mod filter;
+mod frame;
+mod framing;
 mod keys;
+mod merge;
+mod random;
+mod route;
+mod sorted;
+mod task;
+mod timed;
+mod trace;
 mod window;
+mod words;
 mod workload;
 
-use crate::keys::Keys;
-use crate::workload::Workload;
-use anyhow::{Context, Result, bail};
-use std::env;
-use std::time::Instant;
+use crate::task::{Task, small_tasks};
+use crate::timed::Line;
+use crate::words::{read_task, read_words};
+use anyhow::{Result, bail};
+use std::fs::File;
+use std::io;
+use std::io::Write;
+use std::rt::{Clock, Files};
 
-/// What the words ask for.
-#[derive(Drop)]
-struct Task {
-    workload: Workload,
-    keys: Keys,
-    events: u64,
-    seed: u64,
+/// Prints the numbers of a line.
+fn print_line<W: Write>(out: &mut W, line: Line) -> io::Result<()> {
+    let first = line.first;
+    match line.second {
+        Some(second) => writeln!(out, "{first} {second}"),
+        None => writeln!(out, "{first}"),
+    }
 }
 
-/// Reads the words after the program's name.
-fn read_words<R: env::Env + AllocGlobal>(rt: &R) -> Result<Task> {
-    let mut words = env::args(rt)?.skip(1);
-    let workload = words.next().context("no workload")?;
-    let keys = words.next().context("no kind of keys")?;
-    let events = words.next().context("no number of events")?;
-    let seed = words.next().context("no seed")?;
-    if words.next().is_some() {
-        bail!("too many words");
+/// Runs a task, and prints what came of it.
+fn show<R, W, E>(rt: &R, task: Task, out: &mut W, errors: &mut E) -> Result<()>
+where
+    R: Clock + Files<File = File> + AllocGlobal,
+    W: Write,
+    E: Write,
+{
+    let timed = task.run(rt)?;
+    print_line(out, timed.sums)?;
+    print_line(errors, timed.times)?;
+    Ok(())
+}
+
+/// Runs what the words ask for, of which the first is the program's name.
+fn run<R, W, E>(rt: &R, words: &[String], out: &mut W, errors: &mut E) -> Result<()>
+where
+    R: Clock + Files<File = File> + AllocGlobal,
+    W: Write,
+    E: Write,
+{
+    if let [_, first, dir] = words
+        && first.as_str() == "all"
+    {
+        for task in &small_tasks(dir.as_str()) {
+            show(rt, *task, out, errors)?;
+        }
+        return Ok(());
     }
-    Ok(Task {
-        workload: Workload::named(workload.as_str()).context("no such workload")?,
-        keys: Keys::named(keys.as_str()).context("no such kind of keys")?,
-        events: events.as_str().parse::<u64>()?,
-        seed: seed.as_str().parse::<u64>()?,
-    })
+    let Some(task) = read_task(words) else {
+        bail!("no such words");
+    };
+    show(rt, task, out, errors)
 }
 
 fn main(rt: HostRuntime) -> Result<()> {
-    let task = read_words(&rt)?;
-    let greatest = task.workload.shape().greatest;
-    let tails = task
-        .keys
-        .tails(rt.alloc(), task.events, task.seed, greatest)?;
-    let mut ready = task
-        .workload
-        .prepare(rt.alloc(), &tails)
-        .ok()
-        .context("out of memory")?;
-    let start = Instant::now(&rt)?;
-    let sum = ready.run(&tails);
-    let time = start.elapsed(&rt)?;
-    println!(rt; "{sum}")?;
-    eprintln!(rt; "{}", time.as_nanos())?;
-    Ok(())
+    let words = read_words(&rt)?;
+    run(&rt, &words, &mut rt.stdout(), &mut rt.stderr())
 }

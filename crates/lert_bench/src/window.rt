@@ -6,6 +6,9 @@ use crate::bin::{Bin, Shape};
 use lert_io::OutOfMemory;
 use std::alloc::Global;
 
+/// So many tables take events in turn.
+const BINS: u32 = 4;
+
 /// Four tables, of which the newest takes the events. Once it is full, the oldest is cleared and is the
 /// newest from then on.
 #[derive(Drop)]
@@ -17,12 +20,10 @@ pub struct Window {
 
 impl Window {
     pub fn new(alloc: Global, shape: Shape) -> Result<Window, OutOfMemory> {
-        let bins = vec![in alloc;
-            Bin::new(alloc, shape)?,
-            Bin::new(alloc, shape)?,
-            Bin::new(alloc, shape)?,
-            Bin::new(alloc, shape)?,
-        ]?;
+        let mut bins = Vec::new(alloc);
+        for _ in 0..BINS {
+            bins.push(Bin::new(alloc, shape)?)?;
+        }
         Ok(Window { bins, newest: 0 })
     }
 

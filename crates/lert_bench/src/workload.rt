@@ -1,4 +1,4 @@
-//! What is timed.
+//! The filters of a workload, and the loops over them.
 
 use crate::bin::{Bin, Shape};
 use crate::window::Window;
@@ -9,7 +9,7 @@ use std::alloc::Global;
 const TURN: usize = 1024;
 
 /// A loop over tails.
-#[derive(Clone, Copy, Debug, PartialEq, Eq, Drop)]
+#[derive(Clone, Copy)]
 pub enum Workload {
     /// The window of one cone takes each tail.
     OneCone,

@@ -1,0 +1,10 @@
+use Rattle.std.proofs.Common.{◌≡◌, take}
+use Rattle.lert_bench.proofs.frame.write_all.Given as goal
+
+-- the pieces so far were put
+abbrev pub invariant-loop-piece : goal.invariant-loop-piece
+invariant-loop-piece g l = record {
+  put : l.writer.put ≡ take l.piece-index l.pieces;
+  settings : l.writer.settings ≡ l.fn.writer.settings;
+  level : l.writer.level ≡ l.fn.writer.level;
+}

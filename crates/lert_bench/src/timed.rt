@@ -1,0 +1,33 @@
+//! What a timed loop has to show.
+
+use std::time::Duration;
+
+/// A number, or two, which a line has.
+#[derive(Clone, Copy)]
+pub struct Line {
+    pub first: u128,
+    pub second: Option<u128>,
+}
+
+/// What a loop came to, and the nanoseconds that it took.
+#[derive(Clone, Copy)]
+pub struct Timed {
+    pub sums: Line,
+    pub times: Line,
+}
+
+impl Timed {
+    /// One sum and one time.
+    pub fn once(sum: u64, time: Duration) -> Timed {
+        Timed {
+            sums: Line {
+                first: u128::from(sum),
+                second: None,
+            },
+            times: Line {
+                first: time.as_nanos(),
+                second: None,
+            },
+        }
+    }
+}
