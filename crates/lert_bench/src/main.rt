@@ -24,58 +24,44 @@ mod words;
 mod workload;
 
 use crate::task::{Task, small_tasks};
-use crate::timed::Line;
 use crate::words::{read_task, read_words};
-use anyhow::{Result, bail};
+use anyhow::{Context, Result};
 use std::fs::File;
-use std::io;
-use std::io::Write;
 use std::rt::{Clock, Files};
 
-/// Prints the numbers of a line.
-fn print_line<W: Write>(out: &mut W, line: Line) -> io::Result<()> {
-    let first = line.first;
-    match line.second {
-        Some(second) => writeln!(out, "{first} {second}"),
-        None => writeln!(out, "{first}"),
-    }
+/// Runs a task, and prints what came of it.
+fn show<R: Clock + Files<File = File> + Print + Eprint + AllocGlobal>(
+    rt: &R,
+    task: Task,
+) -> Result<()> {
+    let timed = task.run(rt)?;
+    rt.println(timed.sums)?;
+    rt.eprintln(timed.times)?;
+    Ok(())
 }
 
-/// Runs a task, and prints what came of it.
-fn show<R, W, E>(rt: &R, task: Task, out: &mut W, errors: &mut E) -> Result<()>
-where
-    R: Clock + Files<File = File> + AllocGlobal,
-    W: Write,
-    E: Write,
-{
-    let timed = task.run(rt)?;
-    print_line(out, timed.sums)?;
-    print_line(errors, timed.times)?;
+fn show_all<R: Clock + Files<File = File> + Print + Eprint + AllocGlobal>(
+    rt: &R,
+    dir: &str,
+) -> Result<()> {
+    for task in &small_tasks(dir) {
+        show(rt, *task)?;
+    }
     Ok(())
 }
 
 /// Runs what the words ask for, of which the first is the program's name.
-fn run<R, W, E>(rt: &R, words: &[String], out: &mut W, errors: &mut E) -> Result<()>
-where
-    R: Clock + Files<File = File> + AllocGlobal,
-    W: Write,
-    E: Write,
-{
-    if let [_, first, dir] = words
-        && first.as_str() == "all"
-    {
-        for task in &small_tasks(dir.as_str()) {
-            show(rt, *task, out, errors)?;
-        }
-        return Ok(());
+fn run<R: Clock + Files<File = File> + Print + Eprint + AllocGlobal>(
+    rt: &R,
+    words: &[String],
+) -> Result<()> {
+    match words {
+        [_, first, dir] if first.as_str() == "all" => show_all(rt, dir.as_str()),
+        _ => show(rt, read_task(words).context("no such words")?),
     }
-    let Some(task) = read_task(words) else {
-        bail!("no such words");
-    };
-    show(rt, task, out, errors)
 }
 
 fn main(rt: HostRuntime) -> Result<()> {
     let words = read_words(&rt)?;
-    run(&rt, &words, &mut rt.stdout(), &mut rt.stderr())
+    run(&rt, &words)
 }

@@ -17,6 +17,9 @@ const MOST_PIECES: u64 = 1 << 47;
 
 const MOST_COUNT: u64 = 1 << 15;
 
+/// No count of pieces that lie near each other is drawn above this.
+const MOST_NEAR: u64 = 16;
+
 /// So many streams of so many pieces in one order, with its memory.
 fn prepare(
     alloc: Global,
@@ -32,7 +35,7 @@ fn prepare(
             alloc,
             Kind::Near,
             len,
-            16 * u64::from(len),
+            MOST_NEAR * u64::from(len),
         )?))?;
     }
     let ahead = Ahead::new(alloc, streams.len())?;

@@ -12,65 +12,40 @@ use anyhow::Result;
 use std::fs::File;
 use std::rt::{Clock, Files};
 
-/// A loop, and what it is run on.
+/// A loop.
 #[derive(Clone, Copy)]
-pub enum Task<'a> {
+pub enum What<'a> {
     /// The windows of level 0 as events fill them, or the counts of one great table.
-    Filter {
-        workload: Workload,
-        keys: Keys,
-        events: u64,
-        seed: u64,
-    },
-    /// The loop of `run` without its cones: it reads a trace in memory, puts each key into the ring of its cone, and
-    /// empties each ring that holds a packet.
-    Route {
-        cone_bits: u64,
-        keys: u64,
-        seed: u64,
-    },
+    Filter(Workload, Keys),
+    /// The loop of `run` without its cones, of which there are so many bits: it reads a trace in memory, puts each key into
+    /// the ring of its cone, and empties each ring that holds a packet.
+    Route(u16),
     /// The merge of a flush over so many sorted streams in memory: the steps of an order, and the sums of equal tails
     /// behind them.
-    Merge {
-        streams: u16,
-        pieces: u32,
-        seed: u64,
-    },
+    Merge(u16),
     /// A frame of a level that is written into a file and read back: the first one of cone 0 in the directory.
-    Frame {
-        kind: Kind,
-        dir: &'a str,
-        pieces: u32,
-        seed: u64,
-    },
+    Frame(Kind, &'a str),
+}
+
+/// A loop, and how much of what follows from which seed it is run on.
+#[derive(Clone, Copy)]
+pub struct Task<'a> {
+    pub what: What<'a>,
+    /// The events or the keys, or the pieces of a stream or a frame.
+    pub size: u32,
+    pub seed: u64,
 }
 
 impl Task<'_> {
     /// Runs the loop.
     pub fn run<R: Clock + Files<File = File> + AllocGlobal>(self, rt: &R) -> Result<Timed> {
-        match self {
-            Task::Filter {
-                workload,
-                keys,
-                events,
-                seed,
-            } => time_filter(rt, workload, keys, events, seed),
-            Task::Route {
-                cone_bits,
-                keys,
-                seed,
-            } => time_route(rt, cone_bits, keys, seed),
-            Task::Merge {
-                streams,
-                pieces,
-                seed,
-            } => time_merge(rt, streams, pieces, seed),
-            Task::Frame {
-                kind,
-                dir,
-                pieces,
-                seed,
-            } => time_frame(rt, kind, dir, pieces, seed),
+        let size = self.size;
+        let seed = self.seed;
+        match self.what {
+            What::Filter(workload, keys) => time_filter(rt, workload, keys, u64::from(size), seed),
+            What::Route(cone_bits) => time_route(rt, u64::from(cone_bits), u64::from(size), seed),
+            What::Merge(streams) => time_merge(rt, streams, size, seed),
+            What::Frame(kind, dir) => time_frame(rt, kind, dir, size, seed),
         }
     }
 }
@@ -78,26 +53,24 @@ impl Task<'_> {
 /// A small task of each loop.
 pub fn small_tasks(dir: &str) -> [Task; 4] {
     [
-        Task::Filter {
-            workload: Workload::OneCone,
-            keys: Keys::Distinct,
-            events: 20_000,
+        Task {
+            what: What::Filter(Workload::OneCone, Keys::Distinct),
+            size: 20_000,
             seed: 1,
         },
-        Task::Route {
-            cone_bits: 2,
-            keys: 20_000,
+        Task {
+            what: What::Route(2),
+            size: 20_000,
             seed: 1,
         },
-        Task::Merge {
-            streams: 3,
-            pieces: 1000,
+        Task {
+            what: What::Merge(3),
+            size: 1000,
             seed: 1,
         },
-        Task::Frame {
-            kind: Kind::Distinct,
-            dir,
-            pieces: 1000,
+        Task {
+            what: What::Frame(Kind::Distinct, dir),
+            size: 1000,
             seed: 1,
         },
     ]

@@ -1,5 +1,6 @@
 //! What a timed loop has to show.
 
+use std::fmt;
 use std::time::Duration;
 
 /// A number, or two, which a line has.
@@ -7,6 +8,16 @@ use std::time::Duration;
 pub struct Line {
     pub first: u128,
     pub second: Option<u128>,
+}
+
+impl fmt::Display for Line {
+    fn fmt<W: fmt::Write>(&self, f: &mut fmt::Formatter<W>) -> fmt::Result {
+        let first = self.first;
+        match self.second {
+            Some(second) => write!(f, "{first} {second}"),
+            None => write!(f, "{first}"),
+        }
+    }
 }
 
 /// What a loop came to, and the nanoseconds that it took.

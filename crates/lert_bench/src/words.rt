@@ -2,7 +2,7 @@
 
 use crate::drawn::Kind;
 use crate::keys::Keys;
-use crate::task::Task;
+use crate::task::{Task, What};
 use crate::workload::Workload;
 use anyhow::Result;
 use std::env;
@@ -18,64 +18,45 @@ pub fn read_words<R: env::Env + AllocGlobal>(rt: &R) -> Result<Vec<String>> {
 
 /// The task that words ask for, of which the first is the program's name.
 pub fn read_task(words: &[String]) -> Option<Task> {
-    let [_, first, rest @ ..] = words else {
+    let [_, first, rest @ .., size, seed] = words else {
         return None;
     };
-    match first.as_str() {
+    Some(Task {
+        what: read_what(first.as_str(), rest)?,
+        size: size.as_str().parse::<u32>().ok()?,
+        seed: seed.as_str().parse::<u64>().ok()?,
+    })
+}
+
+fn read_what<'a>(first: &str, rest: &'a [String]) -> Option<What<'a>> {
+    match first {
         "filter" => read_filter(rest),
-        "route" => read_route(rest),
-        "merge" => read_merge(rest),
+        "route" => Some(What::Route(read_number(rest)?)),
+        "merge" => Some(What::Merge(read_number(rest)?)),
         "frame" => read_frame(rest),
         _ => None,
     }
 }
 
-fn read_filter(words: &[String]) -> Option<Task> {
-    let [workload, keys, events, seed] = words else {
+fn read_number(words: &[String]) -> Option<u16> {
+    let [number] = words else {
         return None;
     };
-    Some(Task::Filter {
-        workload: Workload::named(workload.as_str())?,
-        keys: Keys::named(keys.as_str())?,
-        events: number(events)?,
-        seed: number(seed)?,
-    })
+    number.as_str().parse::<u16>().ok()
 }
 
-fn read_route(words: &[String]) -> Option<Task> {
-    let [cone_bits, keys, seed] = words else {
+fn read_filter(words: &[String]) -> Option<What> {
+    let [workload, keys] = words else {
         return None;
     };
-    Some(Task::Route {
-        cone_bits: number(cone_bits)?,
-        keys: number(keys)?,
-        seed: number(seed)?,
-    })
+    let workload = Workload::named(workload.as_str())?;
+    let keys = Keys::named(keys.as_str())?;
+    Some(What::Filter(workload, keys))
 }
 
-fn read_merge(words: &[String]) -> Option<Task> {
-    let [streams, pieces, seed] = words else {
+fn read_frame(words: &[String]) -> Option<What> {
+    let [kind, dir] = words else {
         return None;
     };
-    Some(Task::Merge {
-        streams: streams.as_str().parse::<u16>().ok()?,
-        pieces: pieces.as_str().parse::<u32>().ok()?,
-        seed: number(seed)?,
-    })
-}
-
-fn read_frame(words: &[String]) -> Option<Task> {
-    let [kind, dir, pieces, seed] = words else {
-        return None;
-    };
-    Some(Task::Frame {
-        kind: Kind::named(kind.as_str())?,
-        dir: dir.as_str(),
-        pieces: pieces.as_str().parse::<u32>().ok()?,
-        seed: number(seed)?,
-    })
-}
-
-fn number(word: &String) -> Option<u64> {
-    word.as_str().parse::<u64>().ok()
+    Some(What::Frame(Kind::named(kind.as_str())?, dir.as_str()))
 }
