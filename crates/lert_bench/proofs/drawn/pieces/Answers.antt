@@ -1,4 +1,4 @@
-use Rattle.std.proofs.Common.{rules, arith, ◌≡◌, ◌≤◌, ◌+◌, ◌^◌, ◌∙◌, ap, subst, sym}
+use Rattle.std.proofs.Common.{rules, arith, ◌≡◌, ◌+◌, ◌^◌, ◌∙◌, ap, subst, sym}
 use Rattle.lert_bench.proofs.drawn.pieces.Goals as goal
 use Rattle.lert_frames.proofs.WritingLaws.{total_push}
 use Rattle.lert_spec.proofs.GivenLaws.{given_more, given_wide}
