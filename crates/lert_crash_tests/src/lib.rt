@@ -4,3 +4,5 @@
 
 #[cfg(test)]
 mod crashes;
+#[cfg(test)]
+mod reopenings;
