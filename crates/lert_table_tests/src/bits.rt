@@ -2,7 +2,6 @@
 
 use lert_slotbits::Bits;
 use std::process::Abort;
-use std::test::Fail;
 
 /// Asserts that exactly the bits at `places` are set.
 fn set_bits(rt: &impl Abort, bits: &Bits, places: &[u64]) {
@@ -12,24 +11,20 @@ fn set_bits(rt: &impl Abort, bits: &Bits, places: &[u64]) {
 }
 
 #[test]
-fn rank_select_and_a_gap_of_eight_bits(rt: HostRuntime) -> Result<(), Fail> {
-    let mut bits = Bits::new(rt.alloc(), 8)?;
-    assert_eq!(rt; bits.len(), 8);
+fn rank_select_and_a_gap_of_eight_bits(rt: HostRuntime) {
+    let mut bits = Bits::new(rt.alloc(), 8).expect(&rt, "memory");
     bits.set(1, true);
     bits.set(5, true);
-    assert_eq!(rt; bits.rank(5), 1);
-    assert_eq!(rt; bits.rank(6), 2);
-    assert_eq!(rt; bits.select(0), Some(1));
-    assert_eq!(rt; bits.select(1), Some(5));
-    assert_eq!(rt; bits.select(2), None);
+    assert_eq!(rt; [bits.len(), bits.rank(5), bits.rank(6)], [8, 1, 2]);
+    let places = [bits.select(0), bits.select(1), bits.select(2)];
+    assert_eq!(rt; places, [Some(1), Some(5), None]);
     bits.open_gap(1, 3);
     set_bits(&rt, &bits, &[2, 5]);
-    Ok(())
 }
 
 #[test]
-fn a_gap_crosses_words(rt: HostRuntime) -> Result<(), Fail> {
-    let mut bits = Bits::new(rt.alloc(), 200)?;
+fn a_gap_crosses_words(rt: HostRuntime) {
+    let mut bits = Bits::new(rt.alloc(), 200).expect(&rt, "memory");
     assert_eq!(rt; bits.len(), 200);
     bits.set(60, true);
     bits.set(63, true);
@@ -38,9 +33,7 @@ fn a_gap_crosses_words(rt: HostRuntime) -> Result<(), Fail> {
     bits.set(130, true);
     bits.open_gap(61, 130);
     set_bits(&rt, &bits, &[60, 64, 65, 128]);
-    assert_eq!(rt; bits.next_true(66), Some(128));
-    assert_eq!(rt; bits.next_false(64), Some(66));
+    let places = [bits.next_true(66), bits.next_false(64)];
     bits.clear();
-    assert_eq!(rt; bits.next_true(0), None);
-    Ok(())
+    assert_eq!(rt; (places, bits.next_true(0)), ([Some(128), Some(66)], None));
 }

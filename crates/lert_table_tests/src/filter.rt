@@ -8,17 +8,16 @@ use lert_cqf::Cqf;
 use lert_plain::PlainTable;
 use lert_slotbits::Bits;
 use std::process::Abort;
-use std::test::Fail;
 
 /// Asserts that the slots from 3 on are `values`, and all others 0.
 fn slots_from_three(rt: &impl Abort, slots: &[u64], values: &[u64]) {
-    for (i, &slot) in slots.iter().enumerate() {
+    for i in 0..slots.len() {
         let value = if i < 3 {
             0
         } else {
             values.get(i - 3).copied().unwrap_or(0)
         };
-        assert_eq!(rt; slot, value);
+        assert_eq!(rt; slots[i], value);
     }
 }
 
@@ -29,59 +28,59 @@ fn set_bits(rt: &impl Abort, bits: &Bits, places: &[u64]) {
     }
 }
 
+/// Asserts that the slots from 3 on are `slots`, that exactly these quotients occur, and that exactly these slots end a run.
+fn has_rows(rt: &impl Abort, table: &Cqf, slots: &[u64], occupied: &[u64], run_ends: &[u64]) {
+    slots_from_three(rt, table.slots(), slots);
+    set_bits(rt, table.occupied(), occupied);
+    set_bits(rt, table.run_ends(), run_ends);
+}
+
 #[test]
-fn a_run_that_grows_moves_the_run_behind_it(rt: HostRuntime) -> Result<(), Fail> {
-    let mut table = Cqf::new(rt.alloc(), 6, 8, 8)?;
+fn a_run_that_grows_moves_the_run_behind_it(rt: HostRuntime) {
+    let mut table = Cqf::new(rt.alloc(), 6, 8, 8).expect(&rt, "memory");
     table.add(773, 1);
     table.add(777, 2);
     table.add(1025, 1);
     assert_eq!(rt; table.slots().len(), 80);
-    slots_from_three(&rt, table.slots(), &[5, 9, 9, 1]);
-    set_bits(&rt, table.occupied(), &[3, 4]);
-    set_bits(&rt, table.run_ends(), &[5, 6]);
+    has_rows(&rt, &table, &[5, 9, 9, 1], &[3, 4], &[5, 6]);
     table.add(773, 1);
-    slots_from_three(&rt, table.slots(), &[5, 5, 9, 9, 1]);
-    set_bits(&rt, table.occupied(), &[3, 4]);
-    set_bits(&rt, table.run_ends(), &[6, 7]);
-    assert_eq!(rt; table.count(773), 2);
-    assert_eq!(rt; table.count(774), 0);
+    has_rows(&rt, &table, &[5, 5, 9, 9, 1], &[3, 4], &[6, 7]);
+    assert_eq!(rt; [table.count(773), table.count(774)], [2, 0]);
     table.clear();
-    slots_from_three(&rt, table.slots(), &[]);
-    set_bits(&rt, table.occupied(), &[]);
-    set_bits(&rt, table.run_ends(), &[]);
-    Ok(())
+    has_rows(&rt, &table, &[], &[], &[]);
 }
 
 #[test]
-fn a_cursor_gives_each_group_of_each_run(rt: HostRuntime) -> Result<(), Fail> {
-    let mut table = Cqf::new(rt.alloc(), 6, 8, 8)?;
+fn a_cursor_gives_each_group_of_each_run(rt: HostRuntime) {
+    let mut table = Cqf::new(rt.alloc(), 6, 8, 8).expect(&rt, "memory");
     table.add(1025, 1);
     table.add(777, 5);
     table.add(773, 1);
     let mut cursor = table.start();
-    assert_eq!(rt;
+    let pieces = [
         table.step(&mut cursor),
-        Some(Piece {
-            tail: 773,
-            count: 1
-        })
-    );
-    assert_eq!(rt;
         table.step(&mut cursor),
-        Some(Piece {
-            tail: 777,
-            count: 5
-        })
-    );
-    assert_eq!(rt;
         table.step(&mut cursor),
-        Some(Piece {
-            tail: 1025,
-            count: 1
-        })
+        table.step(&mut cursor),
+    ];
+    assert_eq!(rt;
+        pieces,
+        [
+            Some(Piece {
+                tail: 773,
+                count: 1
+            }),
+            Some(Piece {
+                tail: 777,
+                count: 5
+            }),
+            Some(Piece {
+                tail: 1025,
+                count: 1
+            }),
+            None
+        ]
     );
-    assert_eq!(rt; table.step(&mut cursor), None);
-    Ok(())
 }
 
 /// A tail below `limit`: of an even draw a skewed one, the seldomer the more bits it has, and of an odd one one of the
@@ -123,32 +122,45 @@ fn same_pieces<A: CountTable, B: CountTable>(rt: &impl Abort, left: &A, right: &
     panic!(rt; "more pieces than events");
 }
 
-#[test]
-fn a_filter_counts_as_a_sorted_list_does(rt: HostRuntime) -> Result<(), Fail> {
-    let mut filter = Cqf::new(rt.alloc(), 10, 8, 100_000)?;
-    let mut list = PlainTable::new(rt.alloc(), 10, 8, 100_000)?;
-    add_drawn(&mut filter, 1 << 18, 100_000);
-    add_drawn(&mut list, 1 << 18, 100_000);
-    for tail in 0..1u64 << 18 {
-        assert_eq!(rt; filter.count(tail), list.count(tail));
+/// Asserts that two tables count each tail below `limit` the same.
+fn same_counts<A: CountTable, B: CountTable>(rt: &impl Abort, left: &A, right: &B, limit: u64) {
+    for tail in 0..limit {
+        assert_eq!(rt; left.count(tail), right.count(tail));
     }
-    same_pieces(&rt, &filter, &list);
-    Ok(())
+}
+
+/// Asserts that two tables count the tails of the first `n` draws, and their neighbours, the same.
+fn same_counts_of_drawn<A: CountTable, B: CountTable>(
+    rt: &impl Abort,
+    left: &A,
+    right: &B,
+    n: u64,
+) {
+    for draw in 0..n {
+        let tail = drawn_tail(1 << 40, draw);
+        let counts = [left.count(tail), left.count(tail ^ 1)];
+        assert_eq!(rt; counts, [right.count(tail), right.count(tail ^ 1)]);
+    }
 }
 
 #[test]
-fn so_does_one_of_a_million_quotients(rt: HostRuntime) -> Result<(), Fail> {
-    let mut filter = Cqf::new(rt.alloc(), 20, 20, 20_000)?;
-    let mut list = PlainTable::new(rt.alloc(), 20, 20, 20_000)?;
+fn a_filter_counts_as_a_sorted_list_does(rt: HostRuntime) {
+    let mut filter = Cqf::new(rt.alloc(), 10, 8, 100_000).expect(&rt, "memory");
+    let mut list = PlainTable::new(rt.alloc(), 10, 8, 100_000).expect(&rt, "memory");
+    add_drawn(&mut filter, 1 << 18, 100_000);
+    add_drawn(&mut list, 1 << 18, 100_000);
+    same_counts(&rt, &filter, &list, 1 << 18);
+    same_pieces(&rt, &filter, &list);
+}
+
+#[test]
+fn so_does_one_of_a_million_quotients(rt: HostRuntime) {
+    let mut filter = Cqf::new(rt.alloc(), 20, 20, 20_000).expect(&rt, "memory");
+    let mut list = PlainTable::new(rt.alloc(), 20, 20, 20_000).expect(&rt, "memory");
     add_drawn(&mut filter, 1 << 40, 20_000);
     add_drawn(&mut list, 1 << 40, 20_000);
-    for draw in 0..20_000 {
-        let tail = drawn_tail(1 << 40, draw);
-        assert_eq!(rt; filter.count(tail), list.count(tail));
-        assert_eq!(rt; filter.count(tail ^ 1), list.count(tail ^ 1));
-    }
+    same_counts_of_drawn(&rt, &filter, &list, 20_000);
     same_pieces(&rt, &filter, &list);
-    assert_eq!(rt; filter.slots().len(), (1 << 20) + 40_000);
-    assert_eq!(rt; filter.occupied().len(), 1 << 20);
-    Ok(())
+    let lens = (filter.slots().len(), filter.occupied().len());
+    assert_eq!(rt; lens, ((1 << 20) + 40_000, 1 << 20));
 }

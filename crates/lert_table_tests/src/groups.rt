@@ -8,7 +8,10 @@ use std::process::Abort;
 /// What `slots` are read as.
 fn reads(rt: &impl Abort, slots: &[u64], expected: Option<(u64, u64, usize)>) {
     let group = read_group(8, slots);
-    let expected = expected.map(|(x, count, used)| Group { x, count, used });
+    let expected = match expected {
+        Some((x, count, used)) => Some(Group { x, count, used }),
+        None => None,
+    };
     assert_eq!(rt; group, expected);
 }
 
