@@ -2,30 +2,30 @@
 
 use lert_args::{Line, LineFault, read_line};
 use lert_base::Words;
-use lert_io::OutOfMemory;
 use std::alloc::Global;
-use std::test::Fail;
+use std::process::Abort;
 
 /// The words of a line, which stand in a text with one space between them.
-pub fn words_of(alloc: Global, text: &str) -> Result<Words, OutOfMemory> {
-    let mut words = Words::new(alloc)?;
+pub fn words_of(rt: &impl Abort, alloc: Global, text: &str) -> Words {
+    let mut words = Words::new(alloc).expect(rt, "memory");
     for word in text.split(' ') {
-        words.push(word)?;
+        words.push(word).expect(rt, "memory");
     }
-    Ok(words)
+    words
 }
 
 // The rule that a line gets, or none where it is one.
-fn rule_of(alloc: Global, text: &str) -> Result<Option<u8>, OutOfMemory> {
-    match read_line(alloc, &words_of(alloc, text)?) {
-        Ok(_) => Ok(None),
-        Err(LineFault::Usage { rule }) => Ok(Some(rule)),
-        Err(LineFault::OutOfMemory) => Err(OutOfMemory),
+fn rule_of(rt: &impl Abort, alloc: Global, text: &str) -> Option<u8> {
+    let words = words_of(rt, alloc, text);
+    match read_line(alloc, &words).err() {
+        None => None,
+        Some(LineFault::Usage { rule }) => Some(rule),
+        Some(LineFault::OutOfMemory) => panic!(rt; "memory"),
     }
 }
 
 #[test]
-fn faulty_lines_get_their_first_rule(rt: HostRuntime) -> Result<(), Fail> {
+fn faulty_lines_get_their_first_rule(rt: HostRuntime) {
     let rows = [
         ("", Some(0)),
         ("run", Some(0)),
@@ -49,9 +49,8 @@ fn faulty_lines_get_their_first_rule(rt: HostRuntime) -> Result<(), Fail> {
         ("drill --events=4194305 --workers 0", Some(12)),
     ];
     for (line, rule) in rows {
-        assert_eq!(rt; rule_of(rt.alloc(), line)?, rule, "{line}");
+        assert_eq!(rt; rule_of(&rt, rt.alloc(), line), rule, "{line}");
     }
-    Ok(())
 }
 
 // Whether a line is a run with three bins and the other defaults, over the directory that the second word names and the trace
@@ -76,21 +75,17 @@ fn is_run_of_three_bins(line: &Line) -> bool {
 }
 
 #[test]
-fn a_name_behind_the_options_may_begin_with_a_hyphen(rt: HostRuntime) -> Result<(), Fail> {
-    let words = words_of(rt.alloc(), "run d --bins=003 -- -a")?;
-    let line = read_line(rt.alloc(), &words)
-        .ok()
-        .ok_or("the words are a line")?;
+fn a_name_behind_the_options_may_begin_with_a_hyphen(rt: HostRuntime) {
+    let words = words_of(&rt, rt.alloc(), "run d --bins=003 -- -a");
+    let line = read_line(rt.alloc(), &words).expect(&rt, "the words are a line");
     assert!(rt; is_run_of_three_bins(&line));
-    Ok(())
 }
 
 #[test]
-fn generated_keys_have_a_seed_and_a_number(rt: HostRuntime) -> Result<(), Fail> {
-    let words = words_of(rt.alloc(), "gen --events 7")?;
+fn generated_keys_have_a_seed_and_a_number(rt: HostRuntime) {
+    let words = words_of(&rt, rt.alloc(), "gen --events 7");
     match read_line(rt.alloc(), &words) {
         Ok(Line::Gen { seed, events }) => assert_eq!(rt; (seed, events), (1, 7)),
         _ => assert!(rt; false, "the line is one of generated keys"),
     }
-    Ok(())
 }

@@ -6,7 +6,7 @@ use lert_args::{Line, LineFault, read_line};
 use lert_base::Words;
 use lert_io::OutOfMemory;
 use std::alloc::Global;
-use std::test::Fail;
+use std::process::Abort;
 
 // The options of a drill, by their names without the hyphens. The first eight are those of a recovery, the first nine those of a
 // run, and the last two those of generated keys.
@@ -32,17 +32,25 @@ enum Verdict {
     Apart,
 }
 
+// The options of a command, where there is one of this name.
+fn options_of<'a>(options: &'a [&'a str; 11], command: &str) -> Option<&'a [&'a str]> {
+    match command {
+        "run" => Some(&options[..9]),
+        "recover" => Some(&options[..8]),
+        "gen" => Some(&options[9..]),
+        "drill" => Some(options.as_slice()),
+        _ => None,
+    }
+}
+
 // What the reader by hand says of a line, by the options of its command.
 fn given_by_hand(alloc: Global, words: &Words) -> Result<Given, HandFault> {
     if words.len() == 0 {
         return Err(HandFault::Faulty);
     }
-    match words.word(0) {
-        "run" => read_given(alloc, &OPTIONS[..9], words),
-        "recover" => read_given(alloc, &OPTIONS[..8], words),
-        "gen" => read_given(alloc, &OPTIONS[9..], words),
-        "drill" => read_given(alloc, &OPTIONS, words),
-        _ => Err(HandFault::Faulty),
+    match options_of(&OPTIONS, words.word(0)) {
+        Some(options) => read_given(alloc, options, words),
+        None => Err(HandFault::Faulty),
     }
 }
 
@@ -97,14 +105,14 @@ fn compared(alloc: Global, words: &Words, names: Option<&[usize]>) -> Result<Ver
 }
 
 // What both readers say of a line.
-fn verdict_of(alloc: Global, text: &str) -> Result<Verdict, OutOfMemory> {
-    let words = words_of(alloc, text)?;
-    let names = names_by_hand(alloc, &words)?;
-    compared(alloc, &words, names.as_deref())
+fn verdict_of(rt: &impl Abort, alloc: Global, text: &str) -> Verdict {
+    let words = words_of(rt, alloc, text);
+    let names = names_by_hand(alloc, &words).expect(rt, "memory");
+    compared(alloc, &words, names.as_deref()).expect(rt, "memory")
 }
 
 #[test]
-fn clap_reads_what_the_reader_by_hand_reads(rt: HostRuntime) -> Result<(), Fail> {
+fn clap_reads_what_the_reader_by_hand_reads(rt: HostRuntime) {
     let rows = [
         ("run d a", Verdict::Spelt),
         ("run d dé a", Verdict::Spelt),
@@ -145,7 +153,6 @@ fn clap_reads_what_the_reader_by_hand_reads(rt: HostRuntime) -> Result<(), Fail>
         (" run d a", Verdict::NoLine),
     ];
     for (line, verdict) in rows {
-        assert_eq!(rt; verdict_of(rt.alloc(), line)?, verdict, "{line}");
+        assert_eq!(rt; verdict_of(&rt, rt.alloc(), line), verdict, "{line}");
     }
-    Ok(())
 }
