@@ -29,11 +29,11 @@ impl Files {
 
     /// What the files of a bay hold.
     pub fn of_bay(alloc: Global, bay: &MemBay) -> Result<Files, OutOfMemory> {
-        let mut files = Files::new(alloc);
-        files.journal.extend_from_slice(bay.bytes(JOURNAL))?;
-        files.log.extend_from_slice(bay.bytes(LOG))?;
-        files.frames.extend_from_slice(bay.bytes(FRAMES))?;
-        Ok(files)
+        Ok(Files {
+            journal: Vec::from_slice(alloc, bay.bytes(JOURNAL))?,
+            log: Vec::from_slice(alloc, bay.bytes(LOG))?,
+            frames: Vec::from_slice(alloc, bay.bytes(FRAMES))?,
+        })
     }
 }
 

@@ -2,9 +2,10 @@
 
 ghost use Rattle.std.specs.Prelude.{◌≡◌, ◌≤◌, [], IfOk};
 
+use crate::runs::sink;
 use lert_base::Words;
 use lert_bay::MemBay;
-use lert_io::{CallList, MemSink, OutOfMemory, PairedSource};
+use lert_io::{MemSink, OutOfMemory, PairedSource};
 use lert_place::PairPlace;
 use lert_top::{Status, run};
 use std::alloc::Global;
@@ -34,8 +35,32 @@ pub fn run_pair<R: Threads + Wait + Sync>(
 ) -> Result<(Status, Vec<u8>), OutOfMemory>
     requires { 1 ≤ cut }
 {
-    let mut out = MemSink::new(alloc, 16_384, &CallList::new(alloc)?)?;
     let mut place = pair_place(alloc, bytes, cut, turns)?;
-    let status = run(rt, alloc, words, &mut place, &mut out);
+    run_pair_at(rt, alloc, words, &mut place)
+}
+
+fn run_pair_at<R: Threads + Wait + Sync>(
+    rt: &R,
+    alloc: Global,
+    words: &Words,
+    place: &mut PairPlace,
+) -> Result<(Status, Vec<u8>), OutOfMemory>
+    requires { place.old.handed.asked ≡ [] }
+{
+    let mut out = sink(alloc, 0)?;
+    let status = run_on_pair(rt, alloc, words, place, &mut out);
     Ok((status, Vec::from_slice(alloc, out.bytes())?))
+}
+
+// The call alone, so that what it says stands in no goal of its caller.
+fn run_on_pair<R: Threads + Wait + Sync>(
+    rt: &R,
+    alloc: Global,
+    words: &Words,
+    place: &mut PairPlace,
+    out: &mut MemSink,
+) -> Status
+    requires { place.old.handed.asked ≡ [] }
+{
+    run(rt, alloc, words, place, out)
 }

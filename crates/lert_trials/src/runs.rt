@@ -123,15 +123,41 @@ pub fn run_at<R: Threads + Wait + Sync>(
     requires { place.old.ledger.asked ≡ [] }
 {
     let words = words(alloc, texts)?;
-    let mut out = MemSink::new(alloc, 16_384, &calls(alloc, failing_write)?)?;
-    let status = run_words(rt, alloc, &words, place, &mut out);
-    let files = files_back(alloc, place)?;
+    run_into_new(rt, alloc, &words, place, failing_write)
+}
+
+fn run_into_new<R: Threads + Wait + Sync>(
+    rt: &R,
+    alloc: Global,
+    words: &Words,
+    place: &mut MemPlace,
+    failing_write: u64,
+) -> Result<Ended, OutOfMemory>
+    requires { place.old.ledger.asked ≡ [] }
+{
+    let mut out = sink(alloc, failing_write)?;
+    let status = run_words(rt, alloc, words, place, &mut out);
+    what_came(alloc, place, status, out.bytes())
+}
+
+// A sink of which this write fails, or none where it is 0.
+pub(crate) fn sink(alloc: Global, failing_write: u64) -> Result<MemSink, OutOfMemory> {
+    let fails = calls(alloc, failing_write)?;
+    MemSink::new(alloc, 16_384, &fails)
+}
+
+fn what_came(
+    alloc: Global,
+    place: &MemPlace,
+    status: Status,
+    text: &[u8],
+) -> Result<Ended, OutOfMemory> {
     Ok(Ended {
         status,
-        text: Vec::from_slice(alloc, out.bytes())?,
+        text: Vec::from_slice(alloc, text)?,
         trace: place.trace(0).is_some(),
         bays: bays_back(place),
-        files,
+        files: files_back(alloc, place)?,
     })
 }
 
@@ -250,21 +276,20 @@ pub fn recover_files<R: Threads + Wait + Sync>(
     texts: &[&str],
     files: &Files,
 ) -> Result<Ended, OutOfMemory> {
-    let bay = bay_of(alloc, files)?;
     let mut place = MemPlace::new(alloc)?;
-    recover_at(rt, alloc, texts, bay, &mut place)
+    recover_at(rt, alloc, texts, files, &mut place)
 }
 
 fn recover_at<R: Threads + Wait + Sync>(
     rt: &R,
     alloc: Global,
     texts: &[&str],
-    bay: MemBay,
+    files: &Files,
     place: &mut MemPlace,
 ) -> Result<Ended, OutOfMemory>
     requires { place.old.ledger.asked ≡ [] }
 {
-    place.add_bay("d", 0, bay)?;
+    place.add_bay("d", 0, bay_of(alloc, files)?)?;
     run_at(rt, alloc, texts, place, 0)
 }
 
