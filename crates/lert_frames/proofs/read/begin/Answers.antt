@@ -26,20 +26,11 @@ reach_of place blocks span most fits is = omega (arith, fits, is)
 wide_enough : (width : ℕ) → 24 ≤ width → 8 ≤ width
 wide_enough width least = omega (arith, least)
 
-few_blocks : (blocks : ℕ) → blocks ≤ 2 ^ 26 → blocks < 2 ^ 32
-few_blocks blocks few = omega (arith, few)
-
 pub start-requires-clause-narrow : goal.start-requires-clause-narrow
 start-requires-clause-narrow c = wide_enough _ c.width-width.ensures.least
 
 pub start-requires-clause-wide : goal.start-requires-clause-wide
 start-requires-clause-wide c = c.width-width.ensures.most
-
-pub start-requires-clause-some : goal.start-requires-clause-some
-start-requires-clause-some c = c.block_count.ensures.some
-
-pub start-requires-clause-count : goal.start-requires-clause-count
-start-requires-clause-count c = few_blocks _ c.block_count.ensures.few
 
 pub start-requires-clause-reach : goal.start-requires-clause-reach
 start-requires-clause-reach c =
