@@ -1,11 +1,21 @@
--- Two workers over a fleet that has no other.
+-- Two callers of a lock or of a fleet, and two workers over a fleet, that has no other.
 use Rattle.std.specs.Prelude.{◌≡◌, ℕ, List, [], ◌∷◌, Option, Some, slice_get}
 use Rattle.lert_base.specs.declared.cone_fault.ConeFault.{ConeFault}
 use Rattle.lert_base.specs.declared.held.Held.{Ghosts as HeldOf}
-use Rattle.lert_conelock.specs.Sight.{LockSight}
+use Rattle.lert_conelock.specs.Sight.{BelongsTo, LockSight, Sight}
 use Rattle.lert_fleet.specs.Cones.{FleetSight, FleetPassSight, IsPassOf}
 use Rattle.lert_spec.specs.declared.numbers.Numbers.{Numbers}
 use Rattle.lert_worker.specs.Ran.{HasRun, MayRun, Working}
+
+-- two passes of a lock, each with one of its two numbers
+pub record AreLockPasses {H F : Type 0} (lock : LockSight H) (first second : Sight H F) : Type 0 where
+  pub belongs : BelongsTo first lock
+  pub other_belongs : BelongsTo second lock
+  pub lo_is : first.lo ≡ 0
+  pub hi_is : first.hi ≡ 1
+  pub other_lo_is : second.lo ≡ 1
+  pub other_hi_is : second.hi ≡ 2
+  pub all : lock.numbers ≡ 2
 
 -- two passes of a fleet, each with one of its two numbers
 pub record ArePasses {H F : Type 0} (fleet : FleetSight H) (first second : FleetPassSight H F) : Type 0 where

@@ -7,9 +7,6 @@ use lert_io::{Failed, Faulty, MemSource, Source};
 use std::alloc::Global;
 use std::sync::Arc;
 
-// How often a source looks for the flag before it goes on.
-const TURNS: u64 = 200_000_000;
-
 /// A source in memory that may wait before its first read until a state is inside a call.
 #[derive(Drop)]
 pub struct LateSource {
@@ -44,7 +41,7 @@ impl Source for LateSource {
     fn read(&mut self, into: &mut [u8]) -> Result<usize, Failed> {
         if self.waits {
             self.waits = false;
-            let _seen = self.flags.await_inside(TURNS);
+            let _seen = self.flags.await_inside();
         }
         self.source.read(into)
     }

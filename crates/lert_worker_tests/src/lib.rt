@@ -1,16 +1,28 @@
-//! Tests of workers on two threads and in turn, over states and sources that wait for each other.
+//! Tests of the lock of a cone, of the fleet of all cones' locks, and of workers over a fleet: what no clause says.
 //!
-//! No contract of the lock or of a worker tells that two of them run at once, nor that a worker goes on with other cones while
-//! one is held: these tests show it, with waits that end by themselves.
+//! That the calls answer at all, that `admitted` looks, that a second thread finds the lock held, that one which waits
+//! for it is woken, that a cone is free while another one's lock is held, and that a fleet crosses threads where its
+//! states may; that two workers run at once, and that one goes on with other cones while one is held. The waits end by
+//! themselves. No crate stands on this one.
 #![tactic(auto)]
 
+#[cfg(test)]
+mod callers;
+#[cfg(test)]
+mod counter;
 #[cfg(test)]
 mod crew;
 #[cfg(test)]
 mod flags;
 #[cfg(test)]
+mod fleet;
+#[cfg(test)]
 mod late_source;
+#[cfg(test)]
+mod lock;
 #[cfg(test)]
 mod station;
 #[cfg(test)]
-mod tests;
+mod threads;
+#[cfg(test)]
+mod workers;

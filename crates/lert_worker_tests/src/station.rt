@@ -1,23 +1,26 @@
 //! The state of a cone in these tests.
 
-ghost use Rattle.std.specs.Prelude.{◌≡◌, ℕ, ◌+◌, ◌<◌, ◌≤◌, ◌^◌, List, All, false, None, length, IfOk};
+ghost use Rattle.std.specs.Prelude.{◌≡◌, ℕ, ◌+◌, ◌<◌, ◌≤◌, ◌^◌, List, All, false, None, length};
 ghost use Rattle.lert_base.specs.Packet.{Packet};
 
-use crate::flags::Flags;
+use crate::flags::{Flags, shared};
 use lert_base::{ConeFault, Entry, Held};
-use lert_io::OutOfMemory;
 use std::alloc::Global;
+use std::process::Abort;
 use std::sync::Arc;
+use std::thread::yield_now;
 
-// How often a state looks for the other one's call before it gives up.
-const TURNS: u64 = 200_000_000;
+// How often a state gives way once the other thread has answered, so that this one is asleep before the lock is freed.
+const LINGERS: u64 = 100_000;
 
 /// What a state does besides counting.
 #[derive(Clone, Copy, Debug, PartialEq, Eq)]
 pub enum Role {
     Counts,
-    /// At its first packet it waits until the other state is given one, and refuses the packet where that doesn't come.
+    /// At its first packet it waits until the other thread answers, and refuses the packet where that doesn't come.
     Waits,
+    /// The same, and it stays for long behind the answer.
+    Lingers,
     /// It shows that it was given a packet.
     Shows,
 }
@@ -36,15 +39,26 @@ impl Station {
     fn meets(&self) -> bool {
         match self.role {
             Role::Counts => true,
-            Role::Waits => {
-                self.flags.enter();
-                self.taken > 0 || self.flags.await_answer(TURNS)
-            }
+            Role::Waits => self.is_answered(0),
+            Role::Lingers => self.is_answered(LINGERS),
             Role::Shows => {
                 self.flags.answer();
                 true
             }
         }
+    }
+
+    // Whether the other thread answers at the first packet. At a later one nothing is waited for.
+    fn is_answered(&self, lingers: u64) -> bool {
+        self.flags.enter();
+        if self.taken > 0 {
+            return true;
+        }
+        let answered = self.flags.await_answer();
+        for _ in 0..lingers {
+            yield_now();
+        }
+        answered
     }
 }
 
@@ -84,28 +98,29 @@ impl Held for Station {
     ghost short = { λ s h stands. let bound = s.bounded in Prim.omega arith };
 }
 
-/// Two of them that took nothing, with these roles.
+/// One that took nothing, with this role.
+pub fn empty_station(rt: &impl Abort, flags: &Arc<Flags, Global>, role: Role) -> Station
+    ensures { result.taken ≡ 0 }
+{
+    Station {
+        taken: 0,
+        role,
+        flags: shared(rt, flags),
+    }
+}
+
+/// Two of them, with these roles.
 pub fn two_stations(
+    rt: &impl Abort,
     alloc: Global,
     flags: &Arc<Flags, Global>,
     roles: (Role, Role),
-) -> Result<Vec<Station>, OutOfMemory>
-    ensures cones { IfOk result (λ states. length states.items ≡ 2) }
-    ensures opened { IfOk result (λ states.
-        All (λ state. (h : List Packet) × (length h ≡ state.taken)) states.items) }
+) -> Vec<Station>
+    ensures cones { length result.items ≡ 2 }
+    ensures opened { All (λ state. (h : List Packet) × (length h ≡ state.taken)) result.items }
 {
-    let mut states = Vec::with_capacity(alloc, 2)?;
-    states.push_reserved(empty_station(flags, roles.0)?);
-    states.push_reserved(empty_station(flags, roles.1)?);
-    Ok(states)
-}
-
-fn empty_station(flags: &Arc<Flags, Global>, role: Role) -> Result<Station, OutOfMemory>
-    ensures { IfOk result (λ station. station.taken ≡ 0) }
-{
-    Ok(Station {
-        taken: 0,
-        role,
-        flags: Arc::try_clone(flags)?,
-    })
+    let mut states = Vec::with_capacity(alloc, 2).expect(rt, "memory");
+    states.push_reserved(empty_station(rt, flags, roles.0));
+    states.push_reserved(empty_station(rt, flags, roles.1));
+    states
 }

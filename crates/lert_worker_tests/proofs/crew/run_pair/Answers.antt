@@ -4,7 +4,8 @@ use Rattle.lert_worker_tests.proofs.crew.run_pair.Goals as goal
 
 pub run-first-requires : goal.run-first-requires
 run-first-requires g c =
-    let may = may_run g.H.Held c.in_ok-fleet.fleet c.in_ok-fleet.first c.in_ok-fleet.second c.in_ok-fleet.ensures.passes c.args.settings.now
-    (c.in_ok-fleet.ensures.cones ∙ c.requires.cones)
-    c.requires.fits c.in-Ok.first c.in-Ok.second c.in-Ok.ensures.first c.in-Ok.ensures.second in
+    let made = c.fleet_of_two-fleet in
+    let may = may_run g.H.Held made.result.0 made.result.1 made.result.2 made.ensures.passes c.args.settings.now
+    (made.ensures.cones ∙ c.requires.cones)
+    c.requires.fits c.start-first.result c.start-second.result c.start-first.ensures c.start-second.ensures in
     search may

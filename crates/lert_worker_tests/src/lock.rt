@@ -8,13 +8,12 @@ ghost use Rattle.lert_conelock.specs.After.{StandsAfter, AnswersAfter};
 ghost use Rattle.lert_conelock.specs.Sight.{BelongsTo};
 
 use crate::callers::lock_of_two;
-use crate::counter::{Counter, Full, entry_of, two_entries};
+use crate::counter::{Counter, Full, entry_of};
 use lert_base::{Entry, Held};
 use lert_conelock::{ConeLock, Pass, Turn};
-use lert_io::OutOfMemory;
 use std::alloc::Global;
+use std::process::Abort;
 use std::sync::Wait;
-use std::test::Fail;
 
 // What two callers of a lock were told, and what its counter counted under number 0 and under others.
 #[derive(Clone, Copy, Debug, PartialEq, Eq)]
@@ -26,9 +25,10 @@ struct Told {
 }
 
 // Each of two callers acts once, and the first one looks behind that.
-fn act_and_look<R: Wait>(rt: &R, alloc: Global) -> Result<Told, OutOfMemory> {
-    let (mine, theirs) = two_entries(alloc)?;
-    let (lock, mut first, mut second) = lock_of_two(alloc, Counter::new('a', 8))?;
+fn act_and_look<R: Wait + Abort>(rt: &R, alloc: Global) -> Told {
+    let mine = entry_of(rt, alloc, 0);
+    let theirs = entry_of(rt, alloc, 1);
+    let (lock, mut first, mut second) = lock_of_two(rt, alloc, Counter::new('a', 8));
     let numbers = (first.number(), second.number());
     let replies = [
         lock.act(rt, &mut first, &mine),
@@ -37,25 +37,24 @@ fn act_and_look<R: Wait>(rt: &R, alloc: Global) -> Result<Told, OutOfMemory> {
     let admitted = lock.admitted(&mut first);
     lock.join(&mut first, second);
     let counter = lock.close(first);
-    Ok(Told {
+    Told {
         numbers,
         replies,
         admitted,
         counted: (counter.zeros, counter.others),
-    })
+    }
 }
 
 // The caller that acted first learns of the other one's call by looking alone.
 #[test]
-fn admitted_looks_and_each_call_counts_once(rt: HostRuntime) -> Result<(), Fail> {
+fn admitted_looks_and_each_call_counts_once(rt: HostRuntime) {
     let expected = Told {
         numbers: (0, 1),
         replies: [Ok(1), Ok(2)],
         admitted: 2,
         counted: (1, 1),
     };
-    assert_eq!(rt; act_and_look(&rt, rt.alloc())?, expected);
-    Ok(())
+    assert_eq!(rt; act_and_look(&rt, rt.alloc()), expected);
 }
 
 // What the calls of one caller were answered at a counter that has room for one packet.
@@ -67,10 +66,10 @@ struct Refused {
     counted: (u64, u64),
 }
 
-fn act_past_the_room<R: Wait>(rt: &R, alloc: Global) -> Result<Refused, OutOfMemory> {
-    let entry = entry_of(alloc, 0)?;
+fn act_past_the_room<R: Wait + Abort>(rt: &R, alloc: Global) -> Refused {
+    let entry = entry_of(rt, alloc, 0);
     let Ok((lock, mut pass)) = ConeLock::new(alloc, Counter::new('a', 1), 1) else {
-        return Err(OutOfMemory);
+        panic!(rt; "memory");
     };
     let tries = [
         lock.try_act(&mut pass, &entry),
@@ -79,24 +78,23 @@ fn act_past_the_room<R: Wait>(rt: &R, alloc: Global) -> Result<Refused, OutOfMem
     let reply = lock.act(rt, &mut pass, &entry);
     let admitted = lock.admitted(&mut pass);
     let counter = lock.close(pass);
-    Ok(Refused {
+    Refused {
         tries,
         reply,
         admitted,
         counted: (counter.zeros, counter.others),
-    })
+    }
 }
 
 #[test]
-fn a_refusal_is_handed_on_and_changes_nothing(rt: HostRuntime) -> Result<(), Fail> {
+fn a_refusal_is_handed_on_and_changes_nothing(rt: HostRuntime) {
     let expected = Refused {
         tries: [Turn::Done(1), Turn::Refused(Full)],
         reply: Err(Full),
         admitted: 1,
         counted: (1, 0),
     };
-    assert_eq!(rt; act_past_the_room(&rt, rt.alloc())?, expected);
-    Ok(())
+    assert_eq!(rt; act_past_the_room(&rt, rt.alloc()), expected);
 }
 
 // The contracts compose: the reply is the one at the call's own point of the history that the closed
@@ -123,20 +121,20 @@ fn act_join_close<S: Held, R: Wait>(
 }
 
 // The second caller's reply, then the first one's, and what was counted.
-fn reply_behind_another<R: Wait>(
+fn reply_behind_another<R: Wait + Abort>(
     rt: &R,
     alloc: Global,
-) -> Result<([Result<u64, Full>; 2], (u64, u64)), OutOfMemory> {
-    let (mine, theirs) = two_entries(alloc)?;
-    let (lock, first, mut second) = lock_of_two(alloc, Counter::new('a', 8))?;
+) -> ([Result<u64, Full>; 2], (u64, u64)) {
+    let mine = entry_of(rt, alloc, 0);
+    let theirs = entry_of(rt, alloc, 1);
+    let (lock, first, mut second) = lock_of_two(rt, alloc, Counter::new('a', 8));
     let before = lock.act(rt, &mut second, &theirs);
     let (reply, counter) = act_join_close(rt, lock, first, second, &mine);
-    Ok(([before, reply], (counter.zeros, counter.others)))
+    ([before, reply], (counter.zeros, counter.others))
 }
 
 #[test]
-fn a_reply_stands_in_the_history_of_the_close(rt: HostRuntime) -> Result<(), Fail> {
-    let told = reply_behind_another(&rt, rt.alloc())?;
+fn a_reply_stands_in_the_history_of_the_close(rt: HostRuntime) {
+    let told = reply_behind_another(&rt, rt.alloc());
     assert_eq!(rt; told, ([Ok(1), Ok(2)], (1, 1)));
-    Ok(())
 }

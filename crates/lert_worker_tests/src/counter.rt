@@ -1,11 +1,11 @@
 //! A state for tests: it counts the packets of number 0 and those of other numbers, up to a bound, and says whose state it is.
 
-ghost use Rattle.std.specs.Prelude.{◌≡◌, ℕ, ◌+◌, ◌<◌, ◌≤◌, ◌^◌, false, None, length, IfOk};
+ghost use Rattle.std.specs.Prelude.{◌≡◌, ℕ, ◌+◌, ◌<◌, ◌≤◌, ◌^◌, false, None, length};
 ghost use Rattle.lert_base.specs.Packet.{own};
 
 use lert_base::{Entry, Held, KeyList};
-use lert_io::OutOfMemory;
 use std::alloc::Global;
+use std::process::Abort;
 
 /// The counter stands at its bound.
 #[derive(Clone, Copy, Debug, PartialEq, Eq, Drop)]
@@ -72,15 +72,8 @@ impl Held for Counter {
 }
 
 /// A packet of this number, with no key.
-pub fn entry_of(alloc: Global, by: u32) -> Result<Entry, OutOfMemory>
-    ensures { IfOk result (λ entry. entry.by ≡ by) }
+pub fn entry_of(rt: &impl Abort, alloc: Global, by: u32) -> Entry
+    ensures { result.by ≡ by }
 {
-    Ok(Entry::new(by, 0, KeyList::with_room(alloc, 1)?))
-}
-
-/// Packets of the numbers 0 and 1, with no key.
-pub fn two_entries(alloc: Global) -> Result<(Entry, Entry), OutOfMemory>
-    ensures { IfOk result (λ entries. (entries.0.by ≡ 0) × (entries.1.by ≡ 1)) }
-{
-    Ok((entry_of(alloc, 0)?, entry_of(alloc, 1)?))
+    Entry::new(by, 0, KeyList::with_room(alloc, 1).expect(rt, "memory"))
 }

@@ -1,18 +1,18 @@
 //! The tests themselves.
 
-ghost use Rattle.std.specs.Prelude.{◌≡◌, IfSome};
+ghost use Rattle.std.specs.Prelude.{◌≡◌};
 
 use crate::crew::{Outcome, Way, run_pair};
-use crate::flags::Flags;
+use crate::flags::{Flags, new_flags, shared};
 use crate::late_source::LateSource;
 use crate::station::{Role, Station, two_stations};
 use lert_base::{Numbers, Settings};
-use lert_io::{CallList, MemSource, OutOfMemory, PairedSource};
+use lert_io::{CallList, MemSource, PairedSource};
 use lert_trace::TraceFault;
 use lert_worker::WorkerEnd;
 use std::alloc::Global;
+use std::process::Abort;
 use std::sync::{Arc, Wait};
-use std::test::Fail;
 use std::thread::Threads;
 
 // Two cones, and packets of one key.
@@ -39,13 +39,10 @@ const BOTH: [u8; 24] = [
     0x4c, 0x45, 0x52, 0x54, 1, 0, 0, 0, 0, 0, 0, 0, 0, 0, 0, 0, 1, 0, 0, 0, 0, 0, 0, 0,
 ];
 
-fn two_cones() -> Option<Settings>
-    ensures { IfSome result (λ settings. settings.cone_bits ≡ 1) }
+fn two_cones(rt: &impl Abort) -> Settings
+    ensures { result.cone_bits ≡ 1 }
 {
-    match Settings::new(NUMBERS) {
-        Ok(settings) => Some(settings),
-        Err(_bad) => None,
-    }
+    Settings::new(NUMBERS).expect(rt, "settings")
 }
 
 // How the workers ended, and how many packets each cone took.
@@ -55,46 +52,44 @@ struct Seen {
     taken: (Option<u64>, Option<u64>),
 }
 
+fn taken_of(station: Option<&Station>) -> Option<u64> {
+    match station {
+        Some(station) => Some(station.taken),
+        None => None,
+    }
+}
+
 fn look_at(outcome: &Outcome<Station>) -> Seen {
     Seen {
         ends: (outcome.first, outcome.second),
         taken: (
-            outcome.states.first().map(|state| state.taken),
-            outcome.states.last().map(|state| state.taken),
+            taken_of(outcome.states.first()),
+            taken_of(outcome.states.last()),
         ),
     }
 }
 
 // Two workers whose sources meet: each fails at its first read where the other's wasn't begun.
-fn meet<R: Threads + Wait + Sync>(
-    rt: &R,
-    alloc: Global,
-    way: Way,
-    turns: u64,
-) -> Result<Seen, OutOfMemory> {
-    let Some(settings) = two_cones() else {
-        return Err(OutOfMemory);
-    };
-    let flags = Arc::new(alloc, Flags::new())?;
-    let states = two_stations(alloc, &flags, (Role::Counts, Role::Counts))?;
-    let sources = PairedSource::pair(alloc, &FIRST, &BOTH, 8, turns)?;
-    let outcome = run_pair(rt, alloc, &settings, states, sources, way)?;
-    Ok(look_at(&outcome))
+fn meet<R: Threads + Wait + Sync + Abort>(rt: &R, alloc: Global, way: Way, turns: u64) -> Seen {
+    let settings = two_cones(rt);
+    let flags = new_flags(rt, alloc);
+    let states = two_stations(rt, alloc, &flags, (Role::Counts, Role::Counts));
+    let sources = PairedSource::pair(alloc, &FIRST, &BOTH, 8, turns).expect(rt, "memory");
+    look_at(&run_pair(rt, alloc, &settings, states, sources, way))
 }
 
 #[test]
-fn two_workers_run_at_once(rt: HostRuntime) -> Result<(), Fail> {
+fn two_workers_run_at_once(rt: HostRuntime) {
     let all = Seen {
         ends: (WorkerEnd::Ran, WorkerEnd::Ran),
         taken: (Some(2), Some(1)),
     };
-    assert_eq!(rt; meet(&rt, rt.alloc(), Way::AtOnce, LONG), Ok(all));
-    Ok(())
+    assert_eq!(rt; meet(&rt, rt.alloc(), Way::AtOnce, LONG), all);
 }
 
 // Its source is met by no other one. That of the second worker is.
 #[test]
-fn of_two_workers_in_turn_the_first_fails(rt: HostRuntime) -> Result<(), Fail> {
+fn of_two_workers_in_turn_the_first_fails(rt: HostRuntime) {
     let stopped = WorkerEnd::Trace {
         trace: 0,
         fault: TraceFault::ReadFailed,
@@ -103,44 +98,41 @@ fn of_two_workers_in_turn_the_first_fails(rt: HostRuntime) -> Result<(), Fail> {
         ends: (stopped, WorkerEnd::Ran),
         taken: (Some(1), Some(1)),
     };
-    assert_eq!(rt; meet(&rt, rt.alloc(), Way::InTurn, SHORT), Ok(second_alone));
-    Ok(())
+    assert_eq!(rt; meet(&rt, rt.alloc(), Way::InTurn, SHORT), second_alone);
 }
 
 // The first worker holds the first cone until the second cone is given a packet. The second worker has a key for the first
 // cone, begins while that is held, and then has one for the second.
-fn hold<R: Threads + Wait + Sync>(rt: &R, alloc: Global) -> Result<Seen, OutOfMemory> {
-    let Some(settings) = two_cones() else {
-        return Err(OutOfMemory);
-    };
-    let flags = Arc::new(alloc, Flags::new())?;
-    let states = two_stations(alloc, &flags, (Role::Waits, Role::Shows))?;
-    let sources = late_sources(alloc, &flags)?;
-    let outcome = run_pair(rt, alloc, &settings, states, sources, Way::AtOnce)?;
-    Ok(look_at(&outcome))
+fn hold<R: Threads + Wait + Sync + Abort>(rt: &R, alloc: Global) -> Seen {
+    let settings = two_cones(rt);
+    let flags = new_flags(rt, alloc);
+    let states = two_stations(rt, alloc, &flags, (Role::Waits, Role::Shows));
+    let sources = late_sources(rt, alloc, &flags);
+    let outcome = run_pair(rt, alloc, &settings, states, sources, Way::AtOnce);
+    look_at(&outcome)
 }
 
 // The second one waits until the first cone is held.
 fn late_sources(
+    rt: &impl Abort,
     alloc: Global,
     flags: &Arc<Flags, Global>,
-) -> Result<(LateSource, LateSource), OutOfMemory> {
-    let calm = CallList::new(alloc)?;
-    let first = MemSource::new(alloc, &FIRST, &calm)?;
-    let second = MemSource::new(alloc, &BOTH, &calm)?;
-    Ok((
-        LateSource::new(first, Arc::try_clone(flags)?, false),
-        LateSource::new(second, Arc::try_clone(flags)?, true),
-    ))
+) -> (LateSource, LateSource) {
+    let calm = CallList::new(alloc).expect(rt, "memory");
+    let first = MemSource::new(alloc, &FIRST, &calm).expect(rt, "memory");
+    let second = MemSource::new(alloc, &BOTH, &calm).expect(rt, "memory");
+    (
+        LateSource::new(first, shared(rt, flags), false),
+        LateSource::new(second, shared(rt, flags), true),
+    )
 }
 
 // A worker that waited for a cone with its first key would never bring the second one, and the first cone would refuse.
 #[test]
-fn a_worker_goes_on_while_a_cone_is_held(rt: HostRuntime) -> Result<(), Fail> {
+fn a_worker_goes_on_while_a_cone_is_held(rt: HostRuntime) {
     let all = Seen {
         ends: (WorkerEnd::Ran, WorkerEnd::Ran),
         taken: (Some(2), Some(1)),
     };
-    assert_eq!(rt; hold(&rt, rt.alloc()), Ok(all));
-    Ok(())
+    assert_eq!(rt; hold(&rt, rt.alloc()), all);
 }

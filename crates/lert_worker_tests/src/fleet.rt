@@ -7,15 +7,15 @@ ghost use Rattle.lert_conelock.specs.Prefix.{IsPrefix};
 ghost use Rattle.lert_conelock.specs.After.{StandsAfter, AnswersAfter};
 ghost use Rattle.lert_conelock.specs.Sight.{LockSight};
 ghost use Rattle.lert_fleet.specs.Cones.{IsPassOf};
+ghost use Rattle.lert_worker_tests.specs.Pairs.{ArePasses};
 
 use crate::callers::fleet_of_two;
-use crate::counter::{Counter, Full, two_entries};
+use crate::counter::{Counter, Full, entry_of};
 use lert_base::{Entry, Held};
 use lert_fleet::{Fleet, FleetPass, Turn};
-use lert_io::OutOfMemory;
 use std::alloc::Global;
+use std::process::Abort;
 use std::sync::Wait;
-use std::test::Fail;
 
 fn shared<T: Sync>(_value: &T) {}
 
@@ -28,15 +28,14 @@ fn ask_both<S: Held + Send>(fleet: &Fleet<S>, pass: &FleetPass<S>) {
 }
 
 // Two empty counters, with room for one packet and for eight.
-fn two_counters(alloc: Global) -> Result<Vec<Counter>, OutOfMemory>
-    ensures cones { IfOk result (λ states. length states.items ≡ 2) }
-    ensures opened { IfOk result (λ states.
-        All (λ state. (h : List Packet) × ((length (own h 0) ≡ state.zeros) × (length h ≡ state.zeros + state.others))) states.items) }
+fn two_counters(rt: &impl Abort, alloc: Global) -> Vec<Counter>
+    ensures cones { length result.items ≡ 2 }
+    ensures opened { All (λ state. (h : List Packet) × ((length (own h 0) ≡ state.zeros) × (length h ≡ state.zeros + state.others))) result.items }
 {
-    let mut states = Vec::with_capacity(alloc, 2)?;
+    let mut states = Vec::with_capacity(alloc, 2).expect(rt, "memory");
     states.push_reserved(Counter::new('a', 1));
     states.push_reserved(Counter::new('b', 8));
-    Ok(states)
+    states
 }
 
 // What two callers of two cones were told, and whose counters came back, in their order, with what each counted.
@@ -59,11 +58,8 @@ fn call_both_cones<R: Wait>(
     theirs: &Entry,
 ) -> Told
     requires cones { length fleet ≡ 2 }
-    requires belongs { IsPassOf first fleet × IsPassOf second fleet }
+    requires passes { ArePasses fleet first second }
     requires entries { (mine.now.by ≡ 0) × (theirs.now.by ≡ 1) }
-    requires first { (first.lo ≡ 0) × (first.hi ≡ 1) }
-    requires second { (second.lo ≡ 1) × (second.hi ≡ 2) }
-    requires all { (cone : ℕ) (lock : LockSight Counter) → slice_get fleet cone ≡ Some lock → lock.numbers ≡ 2 }
 {
     ask_both(&fleet, &first);
     let cones = fleet.cones();
@@ -97,14 +93,15 @@ fn count_of(counter: &Counter) -> (char, u64) {
     (counter.name, counter.zeros + counter.others)
 }
 
-fn call_counters<R: Wait>(rt: &R, alloc: Global) -> Result<Told, OutOfMemory> {
-    let (mine, theirs) = two_entries(alloc)?;
-    let (fleet, first, second) = fleet_of_two(alloc, two_counters(alloc)?)?;
-    Ok(call_both_cones(rt, fleet, first, second, &mine, &theirs))
+fn call_counters<R: Wait + Abort>(rt: &R, alloc: Global) -> Told {
+    let mine = entry_of(rt, alloc, 0);
+    let theirs = entry_of(rt, alloc, 1);
+    let (fleet, first, second) = fleet_of_two(rt, alloc, two_counters(rt, alloc));
+    call_both_cones(rt, fleet, first, second, &mine, &theirs)
 }
 
 #[test]
-fn each_cone_counts_its_own_packets(rt: HostRuntime) -> Result<(), Fail> {
+fn each_cone_counts_its_own_packets(rt: HostRuntime) {
     let expected = Told {
         cones: 2,
         numbers: (0, 1),
@@ -112,8 +109,7 @@ fn each_cone_counts_its_own_packets(rt: HostRuntime) -> Result<(), Fail> {
         replies: [Ok(1), Ok(2)],
         counted: [('a', 1), ('b', 2)],
     };
-    assert_eq!(rt; call_counters(&rt, rt.alloc())?, expected);
-    Ok(())
+    assert_eq!(rt; call_counters(&rt, rt.alloc()), expected);
 }
 
 // The contracts compose, cone by cone: a reply is the one at the call's own point of the history that
@@ -148,20 +144,17 @@ fn admit_join_close<S: Held, R: Wait>(
 }
 
 // The second caller's reply and then the first one's, of the second cone, and how many states came back.
-fn reply_behind_another<R: Wait>(
-    rt: &R,
-    alloc: Global,
-) -> Result<([Result<u64, Full>; 2], usize), OutOfMemory> {
-    let (mine, theirs) = two_entries(alloc)?;
-    let (fleet, first, mut second) = fleet_of_two(alloc, two_counters(alloc)?)?;
+fn reply_behind_another<R: Wait + Abort>(rt: &R, alloc: Global) -> ([Result<u64, Full>; 2], usize) {
+    let mine = entry_of(rt, alloc, 0);
+    let theirs = entry_of(rt, alloc, 1);
+    let (fleet, first, mut second) = fleet_of_two(rt, alloc, two_counters(rt, alloc));
     let before = fleet.admit(rt, &mut second, 1, &theirs);
     let (reply, states) = admit_join_close(rt, fleet, first, second, 1, &mine);
-    Ok(([before, reply], states.len()))
+    ([before, reply], states.len())
 }
 
 #[test]
-fn a_reply_stands_in_the_history_of_its_cone(rt: HostRuntime) -> Result<(), Fail> {
-    let told = reply_behind_another(&rt, rt.alloc())?;
+fn a_reply_stands_in_the_history_of_its_cone(rt: HostRuntime) {
+    let told = reply_behind_another(&rt, rt.alloc());
     assert_eq!(rt; told, ([Ok(1), Ok(2)], 2));
-    Ok(())
 }

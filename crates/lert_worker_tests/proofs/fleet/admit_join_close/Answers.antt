@@ -10,7 +10,7 @@ use Rattle.lert_conelock.specs.Sight.{Sight, LockSight, Acted}
 use Rattle.lert_conelock.proofs.Prefixes.{prefix_trans}
 use Rattle.lert_fleet.specs.Cones.{FleetSight, FleetPassSight, IsPassOf, AtCone, JoinsEach, ClosesEach}
 use Rattle.lert_fleet.proofs.Places.{some_at}
-use Rattle.lert_lock_tests.proofs.fleet.admit_join_close.Goals as goal
+use Rattle.lert_worker_tests.proofs.fleet.admit_join_close.Goals as goal
 
 composes : {H T R F : Type 0} (held : HeldOf H T R F) (fleet : FleetSight H) (cone : ℕ) (old mid other new : FleetPassSight H F)
     (states : List H) (e : Packet) (result : Result R F) → IsPassOf old fleet → IsPassOf mid fleet → IsPassOf other fleet → IsPassOf new fleet
