@@ -28,6 +28,18 @@ fn records(bay: &mut MemBay) -> Result<u32, LogFault> {
     Ok(2)
 }
 
+// A bay whose log holds these bytes.
+fn loaded(rt: &impl Abort, alloc: Global, bytes: &[u8]) -> MemBay {
+    let mut bay = MemBay::new(alloc).expect(rt, "memory");
+    bay.load(LOG, bytes).expect(rt, "memory");
+    bay
+}
+
+fn records_of(rt: &impl Abort, alloc: Global, bytes: &[u8]) -> Result<u32, LogFault> {
+    let mut bay = loaded(rt, alloc, bytes);
+    records(&mut bay)
+}
+
 // What a crash leaves of a log with one record, where the append of a second one is stopped at a call.
 fn stopped(rt: &impl Abort, alloc: Global, call: u64, pick: u64) -> MemBay {
     let mut bay = MemBay::new(alloc).expect(rt, "memory");
@@ -108,13 +120,8 @@ fn a_file_leaves_the_format_at_a_place(rt: HostRuntime) {
         (b"head\x01\x02\0\0\0a", 10),
     ];
     for (bytes, at) in broken {
-        let mut bay = MemBay::new(rt.alloc()).expect(&rt, "memory");
-        bay.load(LOG, bytes).expect(&rt, "memory");
-        assert_eq!(rt;
-            records(&mut bay),
-            Err(LogFault::Malformed { at }),
-            "at {at}"
-        );
+        let answer = records_of(&rt, rt.alloc(), bytes);
+        assert_eq!(rt; answer, Err(LogFault::Malformed { at }), "at {at}");
     }
 }
 
@@ -131,8 +138,7 @@ fn a_header_and_its_gate_are_one_write(rt: HostRuntime) {
 
 #[test]
 fn a_failed_call_is_told(rt: HostRuntime) {
-    let mut bay = MemBay::new(rt.alloc()).expect(&rt, "memory");
-    bay.load(LOG, b"head\0").expect(&rt, "memory");
+    let mut bay = loaded(&rt, rt.alloc(), b"head\0");
     bay.fail_at(2);
     assert_eq!(rt; records(&mut bay), Err(LogFault::Failed));
     assert_eq!(rt; records(&mut bay), Ok(0));

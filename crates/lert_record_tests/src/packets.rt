@@ -114,16 +114,34 @@ fn first_answer(
 ) -> Result<bool, LogFault>
     requires { settings.now.packet ≡ 1 }
 {
+    let text = text_of(rt, alloc, settings, bytes);
+    let mut bay = loaded(rt, alloc, text.as_slice());
+    let mut entry = blank(rt, alloc, 4);
+    read_first(settings, &mut bay, &mut entry)
+}
+
+// The header of cone 0, and these bytes behind it.
+fn text_of(rt: &impl Abort, alloc: Global, settings: &Settings, bytes: &[u8]) -> Vec<u8> {
     let mut header = [0; HEADER_LEN];
     write_header(settings, 0, &mut header);
     let mut text = Vec::from_slice(alloc, &header).expect(rt, "memory");
     text.extend_from_slice(bytes).expect(rt, "memory");
+    text
+}
+
+fn loaded(rt: &impl Abort, alloc: Global, text: &[u8]) -> MemBay {
     let mut bay = MemBay::new(alloc).expect(rt, "memory");
-    bay.load(JOURNAL, text.as_slice()).expect(rt, "memory");
+    bay.load(JOURNAL, text).expect(rt, "memory");
+    bay
+}
+
+fn read_first(settings: &Settings, bay: &mut MemBay, entry: &mut Entry) -> Result<bool, LogFault>
+    requires packet { settings.now.packet ≡ 1 }
+    requires room { entry.old.keys.room ≡ 4 }
+{
     let mut log = GateLog::at_gate(JOURNAL, HEADER_LEN as u64, MOST_OF_HALVES);
-    let mut entry = blank(rt, alloc, 4);
     let mut buffer = [0; MOST_OF_HALVES as usize];
-    read_entry(&mut log, &mut bay, settings, 0, &mut entry, &mut buffer)
+    read_entry(&mut log, bay, settings, 0, entry, &mut buffer)
 }
 
 // Asserts that a journal has one packet of three keys 7, and its gate at 69.

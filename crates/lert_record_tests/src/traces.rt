@@ -20,13 +20,13 @@ fn trace(rt: &impl Abort, alloc: Global, last: u64) -> Vec<u8> {
     bytes
 }
 
+// What a call of a reader answers, and the first four.
+type Answer = Result<Option<u64>, TraceFault>;
+
+type Answers = [Answer; 4];
+
 // What the first four calls of a reader with this limit answer.
-fn four_answers(
-    rt: &impl Abort,
-    alloc: Global,
-    bytes: &[u8],
-    most: u64,
-) -> [Result<Option<u64>, TraceFault>; 4]
+fn four_answers(rt: &impl Abort, alloc: Global, bytes: &[u8], most: u64) -> Answers
     requires { (1 ≤ most) × (most ≤ 2 ^ 36) }
 {
     let source = SteadySource::new(alloc, bytes).expect(rt, "memory");
@@ -34,41 +34,35 @@ fn four_answers(
     [reader.next(), reader.next(), reader.next(), reader.next()]
 }
 
+// Wants these answers of the first four calls of a reader with this limit.
+fn assert_answers(rt: &impl Abort, alloc: Global, bytes: &[u8], most: u64, want: Answers)
+    requires { (1 ≤ most) × (most ≤ 2 ^ 36) }
+{
+    assert_eq!(rt; four_answers(rt, alloc, bytes, most), want);
+}
+
 #[test]
 fn the_limit_is_met_by_one_key_more(rt: HostRuntime) {
     let rows = [(3, Err(TraceFault::TooLong)), (2, Ok(None))];
     for (last, end) in rows {
         let bytes = trace(&rt, rt.alloc(), last);
-        let answers = four_answers(&rt, rt.alloc(), bytes.as_slice(), 2);
-        assert_eq!(rt; answers, [Ok(Some(1)), Ok(Some(2)), end, end]);
+        let want = [Ok(Some(1)), Ok(Some(2)), end, end];
+        assert_answers(&rt, rt.alloc(), bytes.as_slice(), 2, want);
     }
 }
 
 #[test]
 fn bytes_that_leave_the_format_are_named_by_their_place(rt: HostRuntime) {
     let rows: [(&[u8], TraceFault); 6] = [
-        (&[], TraceFault::BadHeader { at: 0 }),
-        (&[0x4c, 0x45, 0x52], TraceFault::BadHeader { at: 3 }),
-        (
-            &[0x4c, 0x45, 0x52, 0, 1, 0, 0, 0],
-            TraceFault::BadHeader { at: 3 },
-        ),
-        (
-            &[0x4c, 0x45, 0x52, 0x54, 9, 0, 0, 0],
-            TraceFault::BadHeader { at: 4 },
-        ),
-        (
-            &[0x4c, 0x45, 0x52, 0x54, 1, 0, 0, 0, 7],
-            TraceFault::CutKey { at: 8 },
-        ),
-        (
-            &[0x4c, 0x45, 0x52, 0x54, 1, 0, 0, 7],
-            TraceFault::BadHeader { at: 7 },
-        ),
+        (b"", TraceFault::BadHeader { at: 0 }),
+        (b"LER", TraceFault::BadHeader { at: 3 }),
+        (b"LER\0\x01\0\0\0", TraceFault::BadHeader { at: 3 }),
+        (b"LERT\x09\0\0\0", TraceFault::BadHeader { at: 4 }),
+        (b"LERT\x01\0\0\0\x07", TraceFault::CutKey { at: 8 }),
+        (b"LERT\x01\0\0\x07", TraceFault::BadHeader { at: 7 }),
     ];
     for (bytes, fault) in rows {
-        let answers = four_answers(&rt, rt.alloc(), bytes, MOST_KEYS);
-        assert_eq!(rt; answers, [Err(fault); 4]);
+        assert_answers(&rt, rt.alloc(), bytes, MOST_KEYS, [Err(fault); 4]);
     }
 }
 
@@ -76,9 +70,24 @@ fn bytes_that_leave_the_format_are_named_by_their_place(rt: HostRuntime) {
 fn a_key_that_is_cut_is_named_by_its_place(rt: HostRuntime) {
     let mut cut = trace(&rt, rt.alloc(), 2);
     cut.truncate(21);
-    let answers = four_answers(&rt, rt.alloc(), cut.as_slice(), MOST_KEYS);
     let fault = Err(TraceFault::CutKey { at: 16 });
-    assert_eq!(rt; answers, [Ok(Some(1)), fault, fault, fault]);
+    let want = [Ok(Some(1)), fault, fault, fault];
+    assert_answers(&rt, rt.alloc(), cut.as_slice(), MOST_KEYS, want);
+}
+
+// A source of these bytes, of which this call fails.
+fn source_of(rt: &impl Abort, alloc: Global, bytes: &[u8], failing: u64) -> MemSource {
+    let mut fails = CallList::new(alloc).expect(rt, "memory");
+    fails.push(failing).expect(rt, "memory");
+    MemSource::new(alloc, bytes, &fails).expect(rt, "memory")
+}
+
+// Wants the keys 1 to 1,000, and then this answer.
+fn assert_thousand(rt: &impl Abort, reader: &mut TraceReader<MemSource>, end: Answer) {
+    for key in 1..1_001 {
+        assert_eq!(rt; reader.next(), Ok(Some(key)));
+    }
+    assert_eq!(rt; reader.next(), end);
 }
 
 // 8,008 bytes take two full blocks, and a third call finds the end: a fourth isn't made.
@@ -86,13 +95,8 @@ fn a_key_that_is_cut_is_named_by_its_place(rt: HostRuntime) {
 fn a_thousand_keys_take_three_calls(rt: HostRuntime) {
     let bytes = trace(&rt, rt.alloc(), 1_000);
     for (failing, end) in [(4, Ok(None)), (3, Err(TraceFault::ReadFailed))] {
-        let mut fails = CallList::new(rt.alloc()).expect(&rt, "memory");
-        fails.push(failing).expect(&rt, "memory");
-        let source = MemSource::new(rt.alloc(), bytes.as_slice(), &fails).expect(&rt, "memory");
+        let source = source_of(&rt, rt.alloc(), bytes.as_slice(), failing);
         let mut reader = TraceReader::new(source, MOST_KEYS);
-        for key in 1..1_001 {
-            assert_eq!(rt; reader.next(), Ok(Some(key)));
-        }
-        assert_eq!(rt; reader.next(), end);
+        assert_thousand(&rt, &mut reader, end);
     }
 }

@@ -2,7 +2,7 @@ use Rattle.std.proofs.Common.{ℕ, ◌+◌, ◌++◌, List, length, take, drop, 
 use Rattle.lert_bay.specs.Files.{padded, Torn}
 use Rattle.lert_bay.proofs.Tearing.{torn_held}
 use Rattle.lert_bay.proofs.Steps.{with_file, with_file_here, with_file_other}
-use Rattle.lert_bay_tests.proofs.bay.tears.Goals as goal
+use Rattle.lert_record_tests.proofs.bays.tears.Goals as goal
 
 pub returns : goal.returns
 returns g c seen told others long =
