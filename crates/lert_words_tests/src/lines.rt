@@ -14,41 +14,51 @@ pub fn words_of(rt: &impl Abort, alloc: Global, text: &str) -> Words {
     words
 }
 
-// The rule that a line gets, or none where it is one.
-fn rule_of(rt: &impl Abort, alloc: Global, text: &str) -> Option<u8> {
-    let words = words_of(rt, alloc, text);
-    match read_line(alloc, &words).err() {
-        None => None,
-        Some(LineFault::Usage { rule }) => Some(rule),
-        Some(LineFault::OutOfMemory) => panic!(rt; "memory"),
+/// The line that words are, or the rule that they get. It tells no more, so that who calls has no facts to carry.
+pub fn line_of(rt: &impl Abort, alloc: Global, words: &Words) -> Result<Line, u8> {
+    match read_line(alloc, words) {
+        Ok(line) => Ok(line),
+        Err(LineFault::Usage { rule }) => Err(rule),
+        Err(LineFault::OutOfMemory) => panic!(rt; "memory"),
     }
 }
 
+// The rule that a line gets, or none where it is one.
+fn rule_of(rt: &impl Abort, alloc: Global, text: &str) -> Option<u8> {
+    let words = words_of(rt, alloc, text);
+    match line_of(rt, alloc, &words) {
+        Ok(_line) => None,
+        Err(rule) => Some(rule),
+    }
+}
+
+// Lines, and the rule that each gets.
+const ROWS: [(&str, Option<u8>); 20] = [
+    ("", Some(0)),
+    ("run", Some(0)),
+    ("run d", Some(0)),
+    ("run d a --bins", Some(0)),
+    ("run d a --bins=3 --bins 3", Some(0)),
+    ("run d a --bins=", Some(0)),
+    ("run d -", Some(0)),
+    ("run d a -x", Some(0)),
+    ("run d -- a --", Some(0)),
+    ("run d a --seed 1", Some(0)),
+    ("run d a --bins 18446744073709551616", Some(0)),
+    ("recover d a", Some(0)),
+    ("gen d", Some(0)),
+    ("drill --", None),
+    ("run d a --bins 1 --workers 65", Some(2)),
+    ("run d a --workers 65", Some(12)),
+    ("gen --events=4294967296", None),
+    ("gen --events=4294967297", Some(14)),
+    ("drill --events=4194305", Some(14)),
+    ("drill --events=4194305 --workers 0", Some(12)),
+];
+
 #[test]
 fn faulty_lines_get_their_first_rule(rt: HostRuntime) {
-    let rows = [
-        ("", Some(0)),
-        ("run", Some(0)),
-        ("run d", Some(0)),
-        ("run d a --bins", Some(0)),
-        ("run d a --bins=3 --bins 3", Some(0)),
-        ("run d a --bins=", Some(0)),
-        ("run d -", Some(0)),
-        ("run d a -x", Some(0)),
-        ("run d -- a --", Some(0)),
-        ("run d a --seed 1", Some(0)),
-        ("run d a --bins 18446744073709551616", Some(0)),
-        ("recover d a", Some(0)),
-        ("gen d", Some(0)),
-        ("drill --", None),
-        ("run d a --bins 1 --workers 65", Some(2)),
-        ("run d a --workers 65", Some(12)),
-        ("gen --events=4294967296", None),
-        ("gen --events=4294967297", Some(14)),
-        ("drill --events=4194305", Some(14)),
-        ("drill --events=4194305 --workers 0", Some(12)),
-    ];
-    for (line, rule) in rows {
+    for (line, rule) in ROWS {
         assert_eq!(rt; rule_of(&rt, rt.alloc(), line), rule, "{line}");
     }
 }
@@ -77,15 +87,21 @@ fn is_run_of_three_bins(line: &Line) -> bool {
 #[test]
 fn a_name_behind_the_options_may_begin_with_a_hyphen(rt: HostRuntime) {
     let words = words_of(&rt, rt.alloc(), "run d --bins=003 -- -a");
-    let line = read_line(rt.alloc(), &words).expect(&rt, "the words are a line");
+    let line = line_of(&rt, rt.alloc(), &words).expect(&rt, "the words are a line");
     assert!(rt; is_run_of_three_bins(&line));
+}
+
+// The seed and the number of a line of generated keys.
+fn generated(line: &Line) -> Option<(u64, u64)> {
+    match line {
+        Line::Gen { seed, events } => Some((*seed, *events)),
+        _ => None,
+    }
 }
 
 #[test]
 fn generated_keys_have_a_seed_and_a_number(rt: HostRuntime) {
     let words = words_of(&rt, rt.alloc(), "gen --events 7");
-    match read_line(rt.alloc(), &words) {
-        Ok(Line::Gen { seed, events }) => assert_eq!(rt; (seed, events), (1, 7)),
-        _ => assert!(rt; false, "the line is one of generated keys"),
-    }
+    let line = line_of(&rt, rt.alloc(), &words).expect(&rt, "the words are a line");
+    assert_eq!(rt; generated(&line), Some((1, 7)));
 }

@@ -1,10 +1,11 @@
 //! `read_line` beside the reader by hand, over lines that were judged by eye.
 
+ghost use Rattle.std.specs.Prelude.{◌≤◌, IfSome};
+
 use crate::by_hand::{Given, HandFault, read_given};
-use crate::lines::words_of;
-use lert_args::{Line, LineFault, read_line};
+use crate::lines::{line_of, words_of};
+use lert_args::Line;
 use lert_base::Words;
-use lert_io::OutOfMemory;
 use std::alloc::Global;
 use std::process::Abort;
 
@@ -32,25 +33,29 @@ enum Verdict {
     Apart,
 }
 
-// The options of a command, where there is one of this name.
-fn options_of<'a>(options: &'a [&'a str; 11], command: &str) -> Option<&'a [&'a str]> {
+// Where the options of a command begin and end, where there is one of this name.
+fn span_of(command: &str) -> Option<(usize, usize)>
+    ensures { IfSome result (λ span. (span.0 ≤ span.1) × (span.1 ≤ 11)) }
+{
     match command {
-        "run" => Some(&options[..9]),
-        "recover" => Some(&options[..8]),
-        "gen" => Some(&options[9..]),
-        "drill" => Some(options.as_slice()),
+        "run" => Some((0, 9)),
+        "recover" => Some((0, 8)),
+        "gen" => Some((9, 11)),
+        "drill" => Some((0, 11)),
         _ => None,
     }
 }
 
-// What the reader by hand says of a line, by the options of its command.
-fn given_by_hand(alloc: Global, words: &Words) -> Result<Given, HandFault> {
+// What the reader by hand says of a line, by the options of its command, or none where its words are faulty.
+fn given_by_hand(rt: &impl Abort, alloc: Global, words: &Words) -> Option<Given> {
     if words.len() == 0 {
-        return Err(HandFault::Faulty);
+        return None;
     }
-    match options_of(&OPTIONS, words.word(0)) {
-        Some(options) => read_given(alloc, options, words),
-        None => Err(HandFault::Faulty),
+    let (first, last) = span_of(words.word(0))?;
+    match read_given(alloc, &OPTIONS[first..last], words) {
+        Ok(given) => Some(given),
+        Err(HandFault::Faulty) => None,
+        Err(HandFault::OutOfMemory) => panic!(rt; "memory"),
     }
 }
 
@@ -64,17 +69,12 @@ fn takes_names(command: &str, number: usize) -> bool {
 }
 
 // The places of the names of a line by the reader by hand, or none where the words spell no line.
-fn names_by_hand(alloc: Global, words: &Words) -> Result<Option<Vec<usize>>, OutOfMemory> {
-    match given_by_hand(alloc, words) {
-        Ok(given) => {
-            if words.len() > 0 && takes_names(words.word(0), given.names.len()) {
-                return Ok(Some(given.names));
-            }
-            Ok(None)
-        }
-        Err(HandFault::Faulty) => Ok(None),
-        Err(HandFault::OutOfMemory) => Err(OutOfMemory),
+fn names_by_hand(rt: &impl Abort, alloc: Global, words: &Words) -> Option<Vec<usize>> {
+    let given = given_by_hand(rt, alloc, words)?;
+    if words.len() > 0 && takes_names(words.word(0), given.names.len()) {
+        return Some(given.names);
     }
+    None
 }
 
 // Whether these are the places of the names of a line.
@@ -89,70 +89,74 @@ fn has_names(line: &Line, names: &[usize]) -> bool {
     }
 }
 
-// What both readers say, where the one by hand finds names at these places in a line, or no line. A line that breaks a rule of
-// numbers is spelt, and its names aren't told.
-fn compared(alloc: Global, words: &Words, names: Option<&[usize]>) -> Result<Verdict, OutOfMemory> {
-    let same = match read_line(alloc, words) {
-        Ok(line) => names.is_some_and(|names| has_names(&line, names)),
-        Err(LineFault::Usage { rule }) => names.is_some() == (rule > 0),
-        Err(LineFault::OutOfMemory) => return Err(OutOfMemory),
-    };
-    match (same, names) {
-        (true, Some(_)) => Ok(Verdict::Spelt),
-        (true, None) => Ok(Verdict::NoLine),
-        (false, _) => Ok(Verdict::Apart),
+// Whether both readers agree, where the one by hand finds names at these places in a line, or no line. A line that
+// breaks a rule of numbers is spelt, and its names aren't told.
+fn agree(line: &Result<Line, u8>, names: Option<&[usize]>) -> bool {
+    match line {
+        Ok(line) => match names {
+            Some(names) => has_names(line, names),
+            None => false,
+        },
+        Err(rule) => names.is_some() == (*rule > 0),
     }
 }
 
 // What both readers say of a line.
 fn verdict_of(rt: &impl Abort, alloc: Global, text: &str) -> Verdict {
     let words = words_of(rt, alloc, text);
-    let names = names_by_hand(alloc, &words).expect(rt, "memory");
-    compared(alloc, &words, names.as_deref()).expect(rt, "memory")
+    let names = names_by_hand(rt, alloc, &words);
+    let line = line_of(rt, alloc, &words);
+    match (agree(&line, names.as_deref()), names.is_some()) {
+        (true, true) => Verdict::Spelt,
+        (true, false) => Verdict::NoLine,
+        (false, _) => Verdict::Apart,
+    }
 }
+
+// Lines, and what both readers say of each.
+const ROWS: [(&str, Verdict); 37] = [
+    ("run d a", Verdict::Spelt),
+    ("run d dé a", Verdict::Spelt),
+    ("run --bins 3 d --base=4096 a --workers 2", Verdict::Spelt),
+    ("run --threshold=00000000000000000024 d a", Verdict::Spelt),
+    ("run d a --room 18446744073709551615", Verdict::Spelt),
+    ("run d a --", Verdict::Spelt),
+    ("run -- d a", Verdict::Spelt),
+    ("run d --ratio 4 -- -a --bins=3 --levels", Verdict::Spelt),
+    ("recover d --base=4096 --", Verdict::Spelt),
+    ("recover --cone-bits 3 -- --packet", Verdict::Spelt),
+    ("gen", Verdict::Spelt),
+    ("gen --seed 7 --events=9 --", Verdict::Spelt),
+    ("drill --workers 0 --seed=0", Verdict::Spelt),
+    ("run d a ", Verdict::NoLine),
+    ("run d a --bins ", Verdict::NoLine),
+    ("run d a --bins=", Verdict::NoLine),
+    ("run d a --bins=3=4", Verdict::NoLine),
+    ("run d a --bins +3", Verdict::NoLine),
+    ("run d a --bins -3", Verdict::NoLine),
+    ("run d a --bins -- 3", Verdict::NoLine),
+    ("run d a --room 000000000000000000024", Verdict::NoLine),
+    ("run d a --room=18446744073709551616", Verdict::NoLine),
+    ("run d a --bin 3", Verdict::NoLine),
+    ("run d a --=3", Verdict::NoLine),
+    ("run d a ---bins 3", Verdict::NoLine),
+    ("run d a -x", Verdict::NoLine),
+    ("run d a --help", Verdict::NoLine),
+    ("run d -- a -", Verdict::NoLine),
+    ("run d -- a -- b", Verdict::NoLine),
+    ("run d -- a ", Verdict::NoLine),
+    ("recover d --workers 2", Verdict::NoLine),
+    ("recover d --seed=1", Verdict::NoLine),
+    ("gen --events 9 --seed", Verdict::NoLine),
+    ("gen --bins=3", Verdict::NoLine),
+    ("drill --seed=1 --bins 3 --seed 1", Verdict::NoLine),
+    ("drill --events 5 d", Verdict::NoLine),
+    (" run d a", Verdict::NoLine),
+];
 
 #[test]
 fn clap_reads_what_the_reader_by_hand_reads(rt: HostRuntime) {
-    let rows = [
-        ("run d a", Verdict::Spelt),
-        ("run d dé a", Verdict::Spelt),
-        ("run --bins 3 d --base=4096 a --workers 2", Verdict::Spelt),
-        ("run --threshold=00000000000000000024 d a", Verdict::Spelt),
-        ("run d a --room 18446744073709551615", Verdict::Spelt),
-        ("run d a --", Verdict::Spelt),
-        ("run -- d a", Verdict::Spelt),
-        ("run d --ratio 4 -- -a --bins=3 --levels", Verdict::Spelt),
-        ("recover d --base=4096 --", Verdict::Spelt),
-        ("recover --cone-bits 3 -- --packet", Verdict::Spelt),
-        ("gen", Verdict::Spelt),
-        ("gen --seed 7 --events=9 --", Verdict::Spelt),
-        ("drill --workers 0 --seed=0", Verdict::Spelt),
-        ("run d a ", Verdict::NoLine),
-        ("run d a --bins ", Verdict::NoLine),
-        ("run d a --bins=", Verdict::NoLine),
-        ("run d a --bins=3=4", Verdict::NoLine),
-        ("run d a --bins +3", Verdict::NoLine),
-        ("run d a --bins -3", Verdict::NoLine),
-        ("run d a --bins -- 3", Verdict::NoLine),
-        ("run d a --room 000000000000000000024", Verdict::NoLine),
-        ("run d a --room=18446744073709551616", Verdict::NoLine),
-        ("run d a --bin 3", Verdict::NoLine),
-        ("run d a --=3", Verdict::NoLine),
-        ("run d a ---bins 3", Verdict::NoLine),
-        ("run d a -x", Verdict::NoLine),
-        ("run d a --help", Verdict::NoLine),
-        ("run d -- a -", Verdict::NoLine),
-        ("run d -- a -- b", Verdict::NoLine),
-        ("run d -- a ", Verdict::NoLine),
-        ("recover d --workers 2", Verdict::NoLine),
-        ("recover d --seed=1", Verdict::NoLine),
-        ("gen --events 9 --seed", Verdict::NoLine),
-        ("gen --bins=3", Verdict::NoLine),
-        ("drill --seed=1 --bins 3 --seed 1", Verdict::NoLine),
-        ("drill --events 5 d", Verdict::NoLine),
-        (" run d a", Verdict::NoLine),
-    ];
-    for (line, verdict) in rows {
+    for (line, verdict) in ROWS {
         assert_eq!(rt; verdict_of(&rt, rt.alloc(), line), verdict, "{line}");
     }
 }
