@@ -1,8 +1,13 @@
-//! Tests of what the machine hands a run: real files, in folders of their own where they run, and words that are no text.
+//! Tests of places: bays over real files, in folders of their own where they run, and bays in memory; and of words that
+//! are no text.
 //!
 //! No crate stands on this one.
 #![tactic(auto)]
 
+#[cfg(test)]
+mod memory;
+#[cfg(test)]
+mod openings;
 #[cfg(test)]
 mod places;
 #[cfg(test)]

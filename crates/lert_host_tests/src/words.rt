@@ -1,9 +1,9 @@
 //! The words of a program that was called by a name that is no text.
 
+use lert_base::Words;
 use lert_host::{WordsFault, read_words};
 use std::env::{Env, FillError};
 use std::process::Abort;
-use std::test::Fail;
 
 // Arguments, of which the first one is the name.
 #[derive(Drop)]
@@ -31,20 +31,21 @@ impl Env for Arguments {
     }
 }
 
-#[test]
-fn a_name_that_is_no_text_is_no_word(rt: HostRuntime) -> Result<(), Fail> {
-    let arguments = Arguments([b"\xff", b"run", b"d"]);
-    let Ok(words) = read_words(&arguments, rt.alloc()) else {
-        return Err(Fail::new("each word is text"));
-    };
+// Wants two words, of which this is the first.
+fn assert_run(rt: &impl Abort, words: &Words) {
     assert_eq!(rt; words.len(), 2);
     assert_eq!(rt; words.word(0), "run");
-    Ok(())
 }
 
 #[test]
-fn a_word_that_is_no_text_is_refused(rt: HostRuntime) -> Result<(), Fail> {
+fn a_name_that_is_no_text_is_no_word(rt: HostRuntime) {
+    let arguments = Arguments([b"\xff", b"run", b"d"]);
+    let words = read_words(&arguments, rt.alloc()).expect(&rt, "each word is text");
+    assert_run(&rt, &words);
+}
+
+#[test]
+fn a_word_that_is_no_text_is_refused(rt: HostRuntime) {
     let arguments = Arguments([b"lert", b"run", b"\xff"]);
     assert!(rt; read_words(&arguments, rt.alloc()).is_err());
-    Ok(())
 }
