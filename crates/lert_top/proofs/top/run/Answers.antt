@@ -1,11 +1,16 @@
-use Rattle.std.proofs.Common.{◌≡◌, ◌≢◌, ◌^◌, ◌<◌, List, [], ℕ, length, refl, sym, subst}
-use Rattle.lert_args.specs.Command.{command}
+use Rattle.std.proofs.Common.{◌≡◌, ◌≢◌, ◌⊎◌, ◌^◌, ◌<◌, ◌≤◌, List, [], ℕ, Some, false, length, refl, sym, ap, ◌∙◌, inl, inr, subst}
+use Rattle.std.proofs.Math.Dec.{eqb}
+use Rattle.lert_args.specs.Command.{command, usage}
+use Rattle.lert_args.specs.Names.{names_of}
+use Rattle.lert_args.specs.declared.line.Line.{Line}
+use Rattle.lert_args.specs.declared.line.Line.TheVariants.{Run, Recover, Gen, Drill}
 use Rattle.lert_args.specs.Word.{word_at}
-use Rattle.lert_args.proofs.SoundLines.{AreBelow, along_drill, along_recover, along_run, recover_placed, run_placed, word_at-slice_get}
+use Rattle.lert_args.proofs.SoundLines.{AreBelow, along_drill, along_gen, along_recover, along_run, command_number, drill_keeps, gen_keeps, recover_placed, run_keeps, run_placed, word_at-slice_get}
 use Rattle.lert_drill.specs.Drilled.{DrillShows}
 use Rattle.lert_ingest.specs.declared.status.Status.TheVariants.{Done, OutOfMemory, PlaceFault}
 use Rattle.lert_ingest.specs.Bays.{AreLater}
-use Rattle.lert_cones.specs.Asked.{IsAskedForBays}
+use Rattle.lert_cones.specs.Asked.{IsAsked, IsAskedForBays}
+use Rattle.lert_cones.proofs.AskedLaws.{nothing_handed}
 use Rattle.lert_cones.specs.Closed.{AreReturnedClosed}
 use Rattle.lert_run.specs.Ran.{HasPutBack}
 use Rattle.lert_run.specs.Run.{HasRun}
@@ -13,8 +18,12 @@ use Rattle.lert_spec.specs.declared.numbers.Numbers.{Numbers}
 use Rattle.lert_recovery.specs.Recovered.{HasRecovered}
 use Rattle.std.specs.Prelude.{slice_get}
 use Rattle.lert_bay.specs.Kept.{Bays}
+use Rattle.lert_place.specs.Openings.{AreReturned, bays_granted, traces_granted}
+use Rattle.lert_top.specs.Generated.{TraceShows}
+use Rattle.lert_top.proofs.OtherLines.{none_back, none_back_same, of_another, of_no_rule}
 use Rattle.lert_recovery.specs.Moments.{AreReturnedSound}
 use Rattle.lert_top.proofs.top.run.Given as given
+use Rattle.lert_top.proofs.top.run.Goals.{In-Err-Usage}
 use Rattle.lert_top.proofs.top.run.Goals as goal
 
 abbrev bays_in : (g : given.Over) → Bays g.row.P-Bay.Denot
@@ -27,6 +36,21 @@ bays_in g = record {
   left_since = g.P.Bay.Bay.left_since;
   handed_out = g.P.Bay.Bay.handed_out;
 }
+
+-- a place that was asked for nothing handed nothing out
+no_trace : (g : given.Over) (place : g.row.P.Denot) → g.P.Place.asked place ≡ [] → g.P.Place.handed_traces place ≡ []
+no_trace g place none = nothing_handed traces_granted (g.P.Place.asked place) (g.P.Place.handed_traces place) (g.met.P.Place.tied_traces place) (ap traces_granted none)
+
+no_bay : (g : given.Over) (place : g.row.P.Denot) → g.P.Place.asked place ≡ [] → g.P.Place.handed_bays place ≡ []
+no_bay g place none = nothing_handed bays_granted (g.P.Place.asked place) (g.P.Place.handed_bays place) (g.met.P.Place.tied_bays place) (ap bays_granted none)
+
+all_back : (g : given.Over) (place : g.row.P.Denot) → g.P.Place.asked place ≡ [] →
+    AreReturned g.P.Trace.Faulty.mark (g.P.Place.handed_traces place) (g.P.Place.returned_trace place)
+    × AreReturned g.P.Bay.Faulty.mark (g.P.Place.handed_bays place) (g.P.Place.returned_bay place)
+all_back g place none = (
+      none_back (g.P.Place.handed_traces place) (no_trace g place none) (g.P.Place.returned_trace place) g.P.Trace.Faulty.mark,
+      none_back (g.P.Place.handed_bays place) (no_bay g place none) (g.P.Place.returned_bay place) g.P.Bay.Faulty.mark,
+    )
 
 pub run_line-requires-clause-dir : goal.run_line-requires-clause-dir
 run_line-requires-clause-dir g c κs within =
@@ -94,3 +118,262 @@ returns-in-Drill-clause-drilled g c = λ settings workers seed events spelled so
     along_drill (command c.args.words.now) c.in-Ok.line c.in-Ok.ensures.line
     (λ s w a n. (c.args.place.now ≡ c.args.place.now) × DrillShows {K = g.row.K.Denot} g.K.Sink.taken g.K.Faulty.faults s a n c.args.out.now c.drill.new.out c.drill.result)
     c.in-Drill.settings settings c.in-Drill.workers workers c.in-Drill.seed seed c.in-Drill.events events c.in-Drill.is spelled (refl, c.drill.ensures.shows)
+
+-- a run
+pub run_line-requires-clause-least : goal.run_line-requires-clause-least
+run_line-requires-clause-least g c κs within =
+    (run_keeps c.args.words.now c.in-Ok.line c.in-Ok.ensures.line c.in-Ok.ensures.sound c.in-Run.settings c.in-Run.workers c.in-Run.dir c.in-Run.traces c.in-Run.is).0.least
+
+pub run_line-requires-clause-most : goal.run_line-requires-clause-most
+run_line-requires-clause-most g c κs within =
+    (run_keeps c.args.words.now c.in-Ok.line c.in-Ok.ensures.line c.in-Ok.ensures.sound c.in-Run.settings c.in-Run.workers c.in-Run.dir c.in-Run.traces c.in-Run.is).0.most
+
+pub run_line-requires-clause-some : goal.run_line-requires-clause-some
+run_line-requires-clause-some g c κs within =
+    subst (λ (xs : List ℕ). 1 ≤ length xs) (sym c.as_slice.ensures)
+    (run_placed c.args.words.now c.in-Ok.line c.in-Ok.ensures.line c.in-Run.settings c.in-Run.workers c.in-Run.dir c.in-Run.traces c.in-Run.is).some
+
+pub run_line-requires-clause-few : goal.run_line-requires-clause-few
+run_line-requires-clause-few g c κs within =
+    subst (λ (xs : List ℕ). length xs ≤ 1024) (sym c.as_slice.ensures)
+    (run_keeps c.args.words.now c.in-Ok.line c.in-Ok.ensures.line c.in-Ok.ensures.sound c.in-Run.settings c.in-Run.workers c.in-Run.dir c.in-Run.traces c.in-Run.is).1
+
+pub run_line-requires-clause-asked : goal.run_line-requires-clause-asked
+run_line-requires-clause-asked g c κs within = c.requires.asked
+
+pub returns-in-Run-clause-usage : goal.returns-in-Run-clause-usage
+returns-in-Run-clause-usage g c = λ rule is. absurd (c.run_line.ensures.no_usage rule is)
+
+pub returns-in-Run-clause-at_usage : goal.returns-in-Run-clause-at_usage
+returns-in-Run-clause-at_usage g c = λ rule broken. of_no_rule (usage c.args.words.now) rule c.in-Ok.ensures.sound broken
+
+pub returns-in-Run-clause-asked : goal.returns-in-Run-clause-asked
+returns-in-Run-clause-asked g c = λ settings workers dir traces spelled sound.
+    let words = c.args.words.now in
+    along_run (command words) c.in-Ok.line c.in-Ok.ensures.line
+    (λ (s : Numbers) (w d : ℕ) (t : List ℕ). IsAsked (names_of words t) (word_at words d) (2 ^ s.cone_bits) (g.P.Place.asked c.run_line.new.place) c.run_line.result)
+    c.in-Run.settings settings c.in-Run.workers workers c.in-Run.dir dir c.in-Run.traces traces c.in-Run.is spelled
+    (subst (λ (t : List ℕ). IsAsked (names_of words t) (word_at words c.in-Run.dir) (2 ^ c.in-Run.settings.cone_bits) (g.P.Place.asked c.run_line.new.place) c.run_line.result)
+    c.as_slice.ensures c.run_line.ensures.asked)
+
+pub returns-in-Run-clause-place_fault : goal.returns-in-Run-clause-place_fault
+returns-in-Run-clause-place_fault g c = c.run_line.ensures.place_fault
+
+pub returns-in-Run-clause-returned : goal.returns-in-Run-clause-returned
+returns-in-Run-clause-returned g c = λ sound. c.run_line.ensures.returned
+
+-- a recovery
+pub recover_to-requires-clause-no_bay : goal.recover_to-requires-clause-no_bay
+recover_to-requires-clause-no_bay g c κs within = ap bays_granted c.requires.asked
+
+pub returns-in-Recover-clause-usage : goal.returns-in-Recover-clause-usage
+returns-in-Recover-clause-usage g c = λ rule is. absurd (c.recover_to.ensures.no_usage rule is)
+
+pub returns-in-Recover-clause-at_usage : goal.returns-in-Recover-clause-at_usage
+returns-in-Recover-clause-at_usage g c = λ rule broken. of_no_rule (usage c.args.words.now) rule c.in-Ok.ensures.sound broken
+
+pub returns-in-Recover-clause-returned : goal.returns-in-Recover-clause-returned
+returns-in-Recover-clause-returned g c = λ sound. (
+      none_back (g.P.Place.handed_traces c.recover_to.new.place) (c.recover_to.ensures.traces ∙ no_trace g c.args.place.now c.requires.asked) (g.P.Place.returned_trace c.recover_to.new.place)
+          g.P.Trace.Faulty.mark,
+      c.recover_to.ensures.returned,
+    )
+
+pub returns-in-Recover-clause-place_fault : goal.returns-in-Recover-clause-place_fault
+returns-in-Recover-clause-place_fault g c = λ is.
+    let found = c.recover_to.ensures.place_fault is in (
+      found.0,
+      found.1,
+      none_back_same (g.P.Place.handed_traces c.recover_to.new.place) (c.recover_to.ensures.traces ∙ no_trace g c.args.place.now c.requires.asked) (g.P.Place.returned_trace c.recover_to.new.place),
+      found.2,
+    )
+
+-- generated keys
+pub gen_to-requires : goal.gen_to-requires
+gen_to-requires g c = record {
+  few = gen_keeps c.args.words.now c.in-Ok.line c.in-Ok.ensures.line c.in-Ok.ensures.sound c.in-Gen.seed c.in-Gen.events c.in-Gen.is;
+}
+
+pub returns-in-Gen-clause-usage : goal.returns-in-Gen-clause-usage
+returns-in-Gen-clause-usage g c = λ rule is.
+    absurd (subst (TraceShows g.K.Sink.taken g.K.Faulty.faults c.in-Gen.seed c.in-Gen.events c.args.out.now c.gen_to.new.out) is c.gen_to.ensures.shows)
+
+pub returns-in-Gen-clause-at_usage : goal.returns-in-Gen-clause-at_usage
+returns-in-Gen-clause-at_usage g c = λ rule broken. of_no_rule (usage c.args.words.now) rule c.in-Ok.ensures.sound broken
+
+pub returns-in-Gen-clause-place_fault : goal.returns-in-Gen-clause-place_fault
+returns-in-Gen-clause-place_fault g c = λ is.
+    absurd (subst (TraceShows g.K.Sink.taken g.K.Faulty.faults c.in-Gen.seed c.in-Gen.events c.args.out.now c.gen_to.new.out) is c.gen_to.ensures.shows)
+
+pub returns-in-Gen-clause-returned : goal.returns-in-Gen-clause-returned
+returns-in-Gen-clause-returned g c = λ sound. all_back g c.args.place.now c.requires.asked
+
+pub returns-in-Gen-clause-generated : goal.returns-in-Gen-clause-generated
+returns-in-Gen-clause-generated g c = λ seed events spelled sound.
+    along_gen (command c.args.words.now) c.in-Ok.line c.in-Ok.ensures.line
+    (λ (a n : ℕ). (c.args.place.now ≡ c.args.place.now) × (((c.gen_to.result ≡ OutOfMemory) × (c.gen_to.new.out ≡ c.args.out.now))
+    ⊎ TraceShows g.K.Sink.taken g.K.Faulty.faults a n c.args.out.now c.gen_to.new.out c.gen_to.result))
+    c.in-Gen.seed seed c.in-Gen.events events c.in-Gen.is spelled (refl, inr c.gen_to.ensures.shows)
+
+-- a drill
+pub drill-requires-clause-least : goal.drill-requires-clause-least
+drill-requires-clause-least g c κs within =
+    (drill_keeps c.args.words.now c.in-Ok.line c.in-Ok.ensures.line c.in-Ok.ensures.sound c.in-Drill.settings c.in-Drill.workers c.in-Drill.seed c.in-Drill.events c.in-Drill.is).0.least
+
+pub drill-requires-clause-most : goal.drill-requires-clause-most
+drill-requires-clause-most g c κs within =
+    (drill_keeps c.args.words.now c.in-Ok.line c.in-Ok.ensures.line c.in-Ok.ensures.sound c.in-Drill.settings c.in-Drill.workers c.in-Drill.seed c.in-Drill.events c.in-Drill.is).0.most
+
+pub drill-requires-clause-few : goal.drill-requires-clause-few
+drill-requires-clause-few g c κs within =
+    (drill_keeps c.args.words.now c.in-Ok.line c.in-Ok.ensures.line c.in-Ok.ensures.sound c.in-Drill.settings c.in-Drill.workers c.in-Drill.seed c.in-Drill.events c.in-Drill.is).1
+
+pub returns-in-Drill-clause-usage : goal.returns-in-Drill-clause-usage
+returns-in-Drill-clause-usage g c = λ rule is.
+    absurd (subst (DrillShows g.K.Sink.taken g.K.Faulty.faults c.in-Drill.settings c.in-Drill.seed c.in-Drill.events c.args.out.now c.drill.new.out) is c.drill.ensures.shows)
+
+pub returns-in-Drill-clause-at_usage : goal.returns-in-Drill-clause-at_usage
+returns-in-Drill-clause-at_usage g c = λ rule broken. of_no_rule (usage c.args.words.now) rule c.in-Ok.ensures.sound broken
+
+pub returns-in-Drill-clause-place_fault : goal.returns-in-Drill-clause-place_fault
+returns-in-Drill-clause-place_fault g c = λ is.
+    absurd (subst (DrillShows g.K.Sink.taken g.K.Faulty.faults c.in-Drill.settings c.in-Drill.seed c.in-Drill.events c.args.out.now c.drill.new.out) is c.drill.ensures.shows)
+
+pub returns-in-Drill-clause-returned : goal.returns-in-Drill-clause-returned
+returns-in-Drill-clause-returned g c = λ sound. all_back g c.args.place.now c.requires.asked
+
+-- what is said of another command than that of the line
+in_run : {P : Type 0} (g : given.Over) (c : goal.After-drop-traces-inside g) (other : Line) → command c.args.words.now ≡ Some other → eqb 0 (command_number other) ≡ false → P
+in_run g c other said apart =
+    of_another (command c.args.words.now) c.in-Ok.line (Run c.in-Run.settings c.in-Run.workers c.in-Run.dir c.in-Run.traces) other c.in-Ok.ensures.line c.in-Run.is said apart
+
+in_recover : {P : Type 0} (g : given.Over) (c : goal.After-recover_to g) (other : Line) → command c.args.words.now ≡ Some other → eqb 1 (command_number other) ≡ false → P
+in_recover g c other said apart =
+    of_another (command c.args.words.now) c.in-Ok.line (Recover c.in-Recover.settings c.in-Recover.dir) other c.in-Ok.ensures.line c.in-Recover.is said apart
+
+in_gen : {P : Type 0} (g : given.Over) (c : goal.After-gen_to g) (other : Line) → command c.args.words.now ≡ Some other → eqb 2 (command_number other) ≡ false → P
+in_gen g c other said apart =
+    of_another (command c.args.words.now) c.in-Ok.line (Gen c.in-Gen.seed c.in-Gen.events) other c.in-Ok.ensures.line c.in-Gen.is said apart
+
+in_drill : {P : Type 0} (g : given.Over) (c : goal.After-drill g) (other : Line) → command c.args.words.now ≡ Some other → eqb 3 (command_number other) ≡ false → P
+in_drill g c other said apart =
+    of_another (command c.args.words.now) c.in-Ok.line (Drill c.in-Drill.settings c.in-Drill.workers c.in-Drill.seed c.in-Drill.events) other c.in-Ok.ensures.line c.in-Drill.is said apart
+
+pub returns-in-Run-clause-asked_again : goal.returns-in-Run-clause-asked_again
+returns-in-Run-clause-asked_again g c = λ settings dir spelled sound. in_run g c (Recover settings dir) spelled refl
+
+pub returns-in-Run-clause-recovered : goal.returns-in-Run-clause-recovered
+returns-in-Run-clause-recovered g c = λ settings dir spelled sound. in_run g c (Recover settings dir) spelled refl
+
+pub returns-in-Run-clause-each_moment : goal.returns-in-Run-clause-each_moment
+returns-in-Run-clause-each_moment g c = λ settings dir spelled sound. in_run g c (Recover settings dir) spelled refl
+
+pub returns-in-Run-clause-generated : goal.returns-in-Run-clause-generated
+returns-in-Run-clause-generated g c = λ seed events spelled sound. in_run g c (Gen seed events) spelled refl
+
+pub returns-in-Run-clause-drilled : goal.returns-in-Run-clause-drilled
+returns-in-Run-clause-drilled g c = λ settings workers seed events spelled sound. in_run g c (Drill settings workers seed events) spelled refl
+
+pub returns-in-Recover-clause-asked : goal.returns-in-Recover-clause-asked
+returns-in-Recover-clause-asked g c = λ settings workers dir traces spelled sound. in_recover g c (Run settings workers dir traces) spelled refl
+
+pub returns-in-Recover-clause-ran : goal.returns-in-Recover-clause-ran
+returns-in-Recover-clause-ran g c = λ settings workers dir traces spelled sound. in_recover g c (Run settings workers dir traces) spelled refl
+
+pub returns-in-Recover-clause-closed : goal.returns-in-Recover-clause-closed
+returns-in-Recover-clause-closed g c = λ settings workers dir traces spelled sound. in_recover g c (Run settings workers dir traces) spelled refl
+
+pub returns-in-Recover-clause-generated : goal.returns-in-Recover-clause-generated
+returns-in-Recover-clause-generated g c = λ seed events spelled sound. in_recover g c (Gen seed events) spelled refl
+
+pub returns-in-Recover-clause-drilled : goal.returns-in-Recover-clause-drilled
+returns-in-Recover-clause-drilled g c = λ settings workers seed events spelled sound. in_recover g c (Drill settings workers seed events) spelled refl
+
+pub returns-in-Gen-clause-asked : goal.returns-in-Gen-clause-asked
+returns-in-Gen-clause-asked g c = λ settings workers dir traces spelled sound. in_gen g c (Run settings workers dir traces) spelled refl
+
+pub returns-in-Gen-clause-ran : goal.returns-in-Gen-clause-ran
+returns-in-Gen-clause-ran g c = λ settings workers dir traces spelled sound. in_gen g c (Run settings workers dir traces) spelled refl
+
+pub returns-in-Gen-clause-closed : goal.returns-in-Gen-clause-closed
+returns-in-Gen-clause-closed g c = λ settings workers dir traces spelled sound. in_gen g c (Run settings workers dir traces) spelled refl
+
+pub returns-in-Gen-clause-asked_again : goal.returns-in-Gen-clause-asked_again
+returns-in-Gen-clause-asked_again g c = λ settings dir spelled sound. in_gen g c (Recover settings dir) spelled refl
+
+pub returns-in-Gen-clause-recovered : goal.returns-in-Gen-clause-recovered
+returns-in-Gen-clause-recovered g c = λ settings dir spelled sound. in_gen g c (Recover settings dir) spelled refl
+
+pub returns-in-Gen-clause-each_moment : goal.returns-in-Gen-clause-each_moment
+returns-in-Gen-clause-each_moment g c = λ settings dir spelled sound. in_gen g c (Recover settings dir) spelled refl
+
+pub returns-in-Gen-clause-drilled : goal.returns-in-Gen-clause-drilled
+returns-in-Gen-clause-drilled g c = λ settings workers seed events spelled sound. in_gen g c (Drill settings workers seed events) spelled refl
+
+pub returns-in-Drill-clause-asked : goal.returns-in-Drill-clause-asked
+returns-in-Drill-clause-asked g c = λ settings workers dir traces spelled sound. in_drill g c (Run settings workers dir traces) spelled refl
+
+pub returns-in-Drill-clause-ran : goal.returns-in-Drill-clause-ran
+returns-in-Drill-clause-ran g c = λ settings workers dir traces spelled sound. in_drill g c (Run settings workers dir traces) spelled refl
+
+pub returns-in-Drill-clause-closed : goal.returns-in-Drill-clause-closed
+returns-in-Drill-clause-closed g c = λ settings workers dir traces spelled sound. in_drill g c (Run settings workers dir traces) spelled refl
+
+pub returns-in-Drill-clause-asked_again : goal.returns-in-Drill-clause-asked_again
+returns-in-Drill-clause-asked_again g c = λ settings dir spelled sound. in_drill g c (Recover settings dir) spelled refl
+
+pub returns-in-Drill-clause-recovered : goal.returns-in-Drill-clause-recovered
+returns-in-Drill-clause-recovered g c = λ settings dir spelled sound. in_drill g c (Recover settings dir) spelled refl
+
+pub returns-in-Drill-clause-each_moment : goal.returns-in-Drill-clause-each_moment
+returns-in-Drill-clause-each_moment g c = λ settings dir spelled sound. in_drill g c (Recover settings dir) spelled refl
+
+pub returns-in-Drill-clause-generated : goal.returns-in-Drill-clause-generated
+returns-in-Drill-clause-generated g c = λ seed events spelled sound. in_drill g c (Gen seed events) spelled refl
+
+-- words that break a rule
+broken_rule : (g : given.Over) (c : In-Err-Usage g) → usage c.args.words.now ≡ Some c.in-Err-Usage.rule
+broken_rule g c = c.in-Err-Usage.ensures.usage c.in-Err-Usage.rule c.in-Err-Usage.field-0-is
+
+pub returns-in-Err-Usage-clause-asked : goal.returns-in-Err-Usage-clause-asked
+returns-in-Err-Usage-clause-asked g c = λ settings workers dir traces spelled sound. of_no_rule (usage c.args.words.now) c.in-Err-Usage.rule sound (broken_rule g c)
+
+pub returns-in-Err-Usage-clause-ran : goal.returns-in-Err-Usage-clause-ran
+returns-in-Err-Usage-clause-ran g c = λ settings workers dir traces spelled sound. of_no_rule (usage c.args.words.now) c.in-Err-Usage.rule sound (broken_rule g c)
+
+pub returns-in-Err-Usage-clause-closed : goal.returns-in-Err-Usage-clause-closed
+returns-in-Err-Usage-clause-closed g c = λ settings workers dir traces spelled sound. of_no_rule (usage c.args.words.now) c.in-Err-Usage.rule sound (broken_rule g c)
+
+pub returns-in-Err-Usage-clause-asked_again : goal.returns-in-Err-Usage-clause-asked_again
+returns-in-Err-Usage-clause-asked_again g c = λ settings dir spelled sound. of_no_rule (usage c.args.words.now) c.in-Err-Usage.rule sound (broken_rule g c)
+
+pub returns-in-Err-Usage-clause-recovered : goal.returns-in-Err-Usage-clause-recovered
+returns-in-Err-Usage-clause-recovered g c = λ settings dir spelled sound. of_no_rule (usage c.args.words.now) c.in-Err-Usage.rule sound (broken_rule g c)
+
+pub returns-in-Err-Usage-clause-each_moment : goal.returns-in-Err-Usage-clause-each_moment
+returns-in-Err-Usage-clause-each_moment g c = λ settings dir spelled sound. of_no_rule (usage c.args.words.now) c.in-Err-Usage.rule sound (broken_rule g c)
+
+pub returns-in-Err-Usage-clause-generated : goal.returns-in-Err-Usage-clause-generated
+returns-in-Err-Usage-clause-generated g c = λ seed events spelled sound. of_no_rule (usage c.args.words.now) c.in-Err-Usage.rule sound (broken_rule g c)
+
+pub returns-in-Err-Usage-clause-drilled : goal.returns-in-Err-Usage-clause-drilled
+returns-in-Err-Usage-clause-drilled g c = λ settings workers seed events spelled sound. of_no_rule (usage c.args.words.now) c.in-Err-Usage.rule sound (broken_rule g c)
+
+pub returns-in-Err-Usage-clause-returned : goal.returns-in-Err-Usage-clause-returned
+returns-in-Err-Usage-clause-returned g c = λ sound. of_no_rule (usage c.args.words.now) c.in-Err-Usage.rule sound (broken_rule g c)
+
+-- no memory to read the line
+pub returns-in-Err-OutOfMemory-clause-at_usage : goal.returns-in-Err-OutOfMemory-clause-at_usage
+returns-in-Err-OutOfMemory-clause-at_usage g c = λ rule broken. (inr refl, refl, refl)
+
+pub returns-in-Err-OutOfMemory-clause-asked : goal.returns-in-Err-OutOfMemory-clause-asked
+returns-in-Err-OutOfMemory-clause-asked g c = λ settings workers dir traces spelled sound. inl (c.requires.asked, refl)
+
+pub returns-in-Err-OutOfMemory-clause-returned : goal.returns-in-Err-OutOfMemory-clause-returned
+returns-in-Err-OutOfMemory-clause-returned g c = λ sound. all_back g c.args.place.now c.requires.asked
+
+pub returns-in-Err-OutOfMemory-clause-generated : goal.returns-in-Err-OutOfMemory-clause-generated
+returns-in-Err-OutOfMemory-clause-generated g c = λ seed events spelled sound. (refl, inl (refl, refl))
+
+pub returns-in-Err-OutOfMemory-clause-drilled : goal.returns-in-Err-OutOfMemory-clause-drilled
+returns-in-Err-OutOfMemory-clause-drilled g c = λ settings workers seed events spelled sound. (refl, refl)
