@@ -5,3 +5,27 @@ use Rattle.lert_ingest.proofs.crews.lock_cones.Goals as goal
 
 pub new-requires-send-S : goal.new-requires-send-S
 new-requires-send-S g c κs within = param_send _ _ (arg_send _ no _ (cone_send _ _ _ g.B.Bay g.B.Faulty g.T.CountTable c.type_bounds.send-B c.type_bounds.send-T c.type_bounds.send-T-Cursor))
+
+pub new-requires-clause-cones : goal.new-requires-clause-cones
+new-requires-clause-cones g c κs within = c.requires.cones
+
+pub new-requires-clause-numbers : goal.new-requires-clause-numbers
+new-requires-clause-numbers g c κs within = c.requires.numbers
+
+pub new-requires-clause-opened : goal.new-requires-clause-opened
+new-requires-clause-opened g c κs within = c.requires.opened
+
+pub returns-clause-locks : goal.returns-clause-locks
+returns-clause-locks g c = c.new.ensures.locks
+
+pub returns-clause-pass : goal.returns-clause-pass
+returns-clause-pass g c = c.new.ensures.pass
+
+pub returns-clause-belongs : goal.returns-clause-belongs
+returns-clause-belongs g c = c.new.ensures.belongs
+
+pub returns-clause-whole : goal.returns-clause-whole
+returns-clause-whole g c = c.new.ensures.whole
+
+pub returns-clause-back : goal.returns-clause-back
+returns-clause-back g c = c.new.ensures.back

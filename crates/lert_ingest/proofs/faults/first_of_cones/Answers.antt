@@ -1,4 +1,4 @@
-use Rattle.std.proofs.Common.{◌≡◌, ◌∙◌, length, ap, arith}
+use Rattle.std.proofs.Common.{◌≡◌, ◌∙◌, length, ap, arith, refl}
 use Rattle.std.proofs.lemmas.Option.{slice_get_within}
 use Rattle.lert_ingest.specs.Faults.{earliest, fault_at}
 use Rattle.lert_ingest.proofs.FaultOrder.{earliest_more, fault_there, seen_more}
@@ -21,3 +21,6 @@ pub returns-clause-first : goal.returns-clause-first
 returns-clause-first g c =
     let all : c.loop-cone.cone ≡ length c.args.cones.now = omega (arith, c.loop-cone-test.false, c.loop-cone.auto.cone-end) in
     c.loop-cone.invariant.first_is ∙ ap (earliest (fault_at c.args.cones.now)) all
+
+pub loop-cone-init : goal.loop-cone-init
+loop-cone-init g c = record { first_is = refl; seen = λ place standing none is. absurd (omega (arith, none)) }
