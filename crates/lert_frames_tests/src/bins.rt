@@ -5,8 +5,8 @@ ghost use Rattle.lert_frames.specs.Place.{tail_limit};
 ghost use Rattle.lert_spec.specs.Edges.{span};
 ghost use Rattle.lert_spec.specs.Table.{total, AreGiven};
 
-use lert_base::{Numbers, Piece, PieceFault, Settings};
-use lert_bay::{Bay, FRAMES, MemBay};
+use lert_base::{Numbers, Piece, PieceFault, Pieces, Settings};
+use lert_bay::{FRAMES, MemBay};
 use lert_frames::{FrameReader, FrameWriter};
 use lert_io::Failed;
 use std::alloc::{AllocError, Global};
@@ -49,8 +49,24 @@ pub fn empty_bay(rt: &impl Abort, alloc: Global) -> MemBay {
     MemBay::new(alloc).expect(rt, "memory")
 }
 
-/// At most so many pieces, whose tails begin at 0 and are so far apart. The first ones have these counts, as far as they
-/// add up to `most`, and the others 1.
+/// One whose file of frames has these bytes.
+pub fn bay_of(rt: &impl Abort, alloc: Global, bytes: &[u8]) -> MemBay {
+    let mut bay = empty_bay(rt, alloc);
+    bay.load(FRAMES, bytes).expect(rt, "memory");
+    bay
+}
+
+/// A reader of level 1.
+pub fn reader_of(rt: &impl Abort, alloc: Global, settings: &Settings) -> FrameReader
+    requires { 1 ≤ settings.now.levels }
+    ensures settings { result.settings ≡ settings.now }
+    ensures level { result.level ≡ 1 }
+{
+    FrameReader::new(alloc, settings, 1).expect(rt, "memory")
+}
+
+/// At most so many pieces, whose tails begin at 0 and are so far apart. The first ones have these counts, as far as
+/// they add up to `most`, and the others 1.
 pub fn pieces_of(
     alloc: Global,
     counts: &[u64],
@@ -81,6 +97,16 @@ pub fn pieces_of(
     Ok(pieces)
 }
 
+/// A width that a bin of level 1 may have.
+pub fn bounded(rt: &impl Abort, settings: &Settings, width: u64) -> u64
+    requires { 1 ≤ settings.now.levels }
+    ensures some { 1 ≤ result }
+    ensures most { result ≤ span settings.now 1 }
+{
+    assert!(rt; 1 <= width && width <= settings.span(1));
+    width
+}
+
 /// What the counts of pieces add up to.
 pub fn width_of(pieces: &[Piece]) -> u64 {
     let mut width = 0u64;
@@ -91,7 +117,7 @@ pub fn width_of(pieces: &[Piece]) -> u64 {
 }
 
 /// Puts pieces into a frame that a writer began, and ends it.
-pub fn write<B: Bay>(writer: &mut FrameWriter, bay: &mut B, pieces: &[Piece]) -> Result<(), Failed>
+pub fn write(writer: &mut FrameWriter, bay: &mut MemBay, pieces: &[Piece]) -> Result<(), Failed>
     requires none { writer.old.put ≡ [] }
     requires given { AreGiven (tail_limit writer.old.settings) pieces.now }
     requires fits { total pieces.now ≤ span writer.old.settings writer.old.level }
@@ -102,6 +128,72 @@ pub fn write<B: Bay>(writer: &mut FrameWriter, bay: &mut B, pieces: &[Piece]) ->
         writer.put(bay, *piece)?;
     }
     writer.end(bay)
+}
+
+/// Writes a frame by a writer of its own.
+pub fn write_frame(
+    rt: &impl Abort,
+    alloc: Global,
+    bay: &mut MemBay,
+    settings: &Settings,
+    level: u32,
+    frame: u32,
+    pieces: &[Piece],
+)
+    requires first { 1 ≤ level }
+    requires last { level ≤ settings.now.levels }
+    requires frame { frame ≤ settings.now.bins }
+    requires given { AreGiven (tail_limit settings.now) pieces.now }
+    requires fits { total pieces.now ≤ span settings.now level }
+{
+    let mut writer = FrameWriter::new(alloc, settings, level, frame).expect(rt, "memory");
+    write(&mut writer, bay, pieces).expect(rt, "no fault");
+}
+
+/// How a check of frame 0 answers.
+pub fn check(reader: &mut FrameReader, bay: &mut MemBay, width: u64) -> Result<(), PieceFault>
+    requires some { 1 ≤ width }
+    requires width { width ≤ span reader.old.settings reader.old.level }
+    ensures settings { reader.new.settings ≡ reader.old.settings }
+    ensures level { reader.new.level ≡ reader.old.level }
+{
+    reader.check(bay, 0, width)
+}
+
+// What a reader gives next.
+fn next_of(reader: &mut FrameReader, bay: &mut MemBay) -> Result<Option<Piece>, PieceFault> {
+    reader.next(bay)
+}
+
+// What it gives next, by a second call where the first one fails.
+fn next_again(reader: &mut FrameReader, bay: &mut MemBay) -> Result<Option<Piece>, PieceFault> {
+    let first = next_of(reader, bay);
+    if first == Err(PieceFault::Failed) {
+        next_of(reader, bay)
+    } else {
+        first
+    }
+}
+
+/// Whether a reader gives just these pieces. A call may fail and be made again, where that is said.
+pub fn come_all(
+    reader: &mut FrameReader,
+    bay: &mut MemBay,
+    pieces: &[Piece],
+    may_fail: bool,
+) -> bool {
+    for number in 0..pieces.len() + 1 {
+        let piece = pieces.get(number).copied();
+        let next = if may_fail {
+            next_again(reader, bay)
+        } else {
+            next_of(reader, bay)
+        };
+        if next != Ok(piece) {
+            return false;
+        }
+    }
+    true
 }
 
 /// How a check of frame 0 of level 1 answers over a file of these bytes.
@@ -115,24 +207,19 @@ pub fn checked(
     requires levels { 1 ≤ numbers.levels }
 {
     let settings = settings_of(rt, numbers);
-    if width == 0 || width > settings.span(1) {
-        return Ok(());
-    }
-    let mut bay = empty_bay(rt, alloc);
-    bay.load(FRAMES, bytes).expect(rt, "memory");
-    let mut reader = FrameReader::new(alloc, &settings, 1).expect(rt, "memory");
-    reader.check(&mut bay, 0, width)
+    let width = bounded(rt, &settings, width);
+    let mut bay = bay_of(rt, alloc, bytes);
+    check(&mut reader_of(rt, alloc, &settings), &mut bay, width)
 }
 
-/// The file of frame 0 of level 1 alone. The frame's text stands at its front; behind it may stand slots that were moved.
+/// The file of frame 0 of level 1 alone. The frame's text stands at its front; behind it may stand slots that were
+/// moved.
 pub fn text_of(rt: &impl Abort, alloc: Global, numbers: Numbers, pieces: &[Piece]) -> Vec<u8>
     requires levels { 1 ≤ numbers.levels }
     requires given { AreGiven (tail_limit numbers) pieces.now }
     requires fits { total pieces.now ≤ span numbers 1 }
 {
-    let settings = settings_of(rt, numbers);
     let mut bay = empty_bay(rt, alloc);
-    let mut writer = FrameWriter::new(alloc, &settings, 1, 0).expect(rt, "memory");
-    write(&mut writer, &mut bay, pieces).expect(rt, "no fault");
+    write_frame(rt, alloc, &mut bay, &settings_of(rt, numbers), 1, 0, pieces);
     Vec::from_slice(alloc, bay.bytes(FRAMES)).expect(rt, "memory")
 }

@@ -1,63 +1,51 @@
 //! A frame that is cut is left where the file ends.
 
+ghost use Rattle.std.specs.Prelude.{◌≤◌};
+
 use crate::bins::{WIDE, checked, pieces_of, text_of, width_of};
 use lert_base::PieceFault;
 use std::alloc::Global;
 use std::process::Abort;
 
-// The least length of a text of 100,000 pieces, of which each has a slot of eight bytes.
-const LEAST_LEN: usize = 800_000;
+// Lengths of texts: such as end in the first block, whose fields come first, and any below the 800,000 bytes that the
+// slots of 100,000 pieces have. They were drawn.
+const LENS: [usize; 12] = [
+    174, 344_153, 196, 592_870, 34, 439_795, 130, 486_902, 89, 546_746, 123, 130_802,
+];
 
-// Lengths of texts: such as end in the first block, whose fields come first, and any. They are drawn.
-fn lens(rt: &impl Abort, alloc: Global, len: usize) -> Vec<usize> {
-    let mut drawn = 1u64;
-    let mut lens = Vec::new(alloc);
-    for turn in 0..12u64 {
-        drawn = drawn
-            .wrapping_mul(6_364_136_223_846_793_005)
-            .wrapping_add(1_442_695_040_888_963_407);
-        let most = if turn % 2 == 0 { 200 } else { len };
-        let less = ((drawn >> 33) as usize).checked_rem(most).unwrap_or(0);
-        lens.push(less).expect(rt, "memory");
+// Counts whose groups have several slots.
+const COUNTS: [u64; 7] = [1, 2, 3, 255, 256, 257, 65_536];
+
+// The first length at which the text that is cut there isn't left, or that of the whole text where it isn't read.
+fn first_untold(rt: &impl Abort, alloc: Global, text: &[u8], width: u64) -> Option<usize> {
+    if checked(rt, alloc, WIDE, text, width) != Ok(()) {
+        return Some(text.len());
     }
-    lens
-}
-
-// The first length, of those below `most`, at which the text that is cut there isn't left.
-fn first_untold(
-    rt: &impl Abort,
-    alloc: Global,
-    text: &[u8],
-    width: u64,
-    most: usize,
-) -> Option<usize> {
-    for len in lens(rt, alloc, most) {
-        let at = len as u64;
-        let Some(cut) = text.get(..len) else {
-            return Some(len);
-        };
-        if checked(rt, alloc, WIDE, cut, width) != Err(PieceFault::Malformed { at }) {
+    for len in LENS {
+        let fault = PieceFault::Malformed { at: len as u64 };
+        if len > text.len() || checked(rt, alloc, WIDE, &text[..len], width) != Err(fault) {
             return Some(len);
         }
     }
     None
 }
 
+// That of the text of 100,000 pieces, which are so far apart.
+fn first_untold_of(rt: &impl Abort, alloc: Global, counts: &[u64], gap: u64) -> Option<usize>
+    requires { 1 ≤ gap }
+{
+    let pieces = pieces_of(alloc, counts, 100_000, gap, 262_144).expect(rt, "memory");
+    assert!(rt; pieces.len() == 100_000);
+    let text = text_of(rt, alloc, WIDE, &pieces);
+    first_untold(rt, alloc, &text, width_of(&pieces))
+}
+
 #[test]
 fn a_frame_that_is_cut_is_left_at_the_end_of_the_file(rt: HostRuntime) {
-    // Pieces of one quotient, whose run ends fill several buffers; and pieces over all blocks, the first with counts
-    // whose groups have several slots.
-    let counts: [&[u64]; 2] = [&[], &[1, 2, 3, 255, 256, 257, 65_536]];
-    for (counts, gap) in [(&counts[0], 1), (&counts[1], (1 << 47) - 1)] {
-        let pieces = pieces_of(rt.alloc(), counts, 100_000, gap, 262_144).expect(&rt, "memory");
-        assert_eq!(rt; pieces.len(), 100_000);
-        let text = text_of(&rt, rt.alloc(), WIDE, &pieces);
-        let width = width_of(&pieces);
-        assert_eq!(rt; checked(&rt, rt.alloc(), WIDE, &text, width), Ok(()));
-        assert_eq!(rt;
-            first_untold(&rt, rt.alloc(), &text, width, LEAST_LEN),
-            None,
-            "{gap} apart"
-        );
-    }
+    // Pieces of one quotient, whose run ends fill several buffers; and pieces over all blocks.
+    let untold = [
+        first_untold_of(&rt, rt.alloc(), &[], 1),
+        first_untold_of(&rt, rt.alloc(), &COUNTS, (1 << 47) - 1),
+    ];
+    assert_eq!(rt; untold, [None, None]);
 }

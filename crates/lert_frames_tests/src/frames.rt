@@ -3,10 +3,13 @@
 ghost use Rattle.std.specs.Prelude.{◌≤◌, ◌^◌};
 ghost use Rattle.lert_spec.specs.Table.{total, AreGiven};
 
-use crate::bins::{SMALL, WIDE, checked, empty_bay, pieces_of, settings_of, width_of, write};
-use lert_base::{Piece, PieceFault, Pieces};
+use crate::bins::{
+    SMALL, WIDE, bounded, checked, come_all, empty_bay, pieces_of, reader_of, settings_of,
+    width_of, write_frame,
+};
+use lert_base::{Piece, PieceFault};
 use lert_bay::FRAMES;
-use lert_frames::{FrameReader, FrameWriter, frame_place};
+use lert_frames::frame_place;
 use std::alloc::Global;
 use std::process::Abort;
 
@@ -50,58 +53,74 @@ const BROKEN: [(usize, u8, u64, u64); 15] = [
 #[test]
 fn frames_stand_at_their_places(rt: HostRuntime) {
     let settings = settings_of(&rt, SMALL);
-    assert_eq!(rt; frame_place(&settings, 1, 1), 148);
-    assert_eq!(rt; frame_place(&settings, 2, 0), 592);
-    assert_eq!(rt; frame_place(&settings, 2, 1), 868);
+    let places = [
+        frame_place(&settings, 1, 1),
+        frame_place(&settings, 2, 0),
+        frame_place(&settings, 2, 1),
+    ];
+    assert_eq!(rt; places, [148, 592, 868]);
+}
+
+// Whether frame 1 of level 1 is written as that text, and read.
+fn is_read(rt: &impl Abort, alloc: Global) -> bool {
+    let settings = settings_of(rt, SMALL);
+    let mut bay = empty_bay(rt, alloc);
+    write_frame(rt, alloc, &mut bay, &settings, 1, 1, &[TWICE]);
+    let mut reader = reader_of(rt, alloc, &settings);
+    reader.start(1, 2);
+    bay.bytes(FRAMES).len() == 184
+        && bay.bytes(FRAMES).ends_with(&ONE)
+        && come_all(&mut reader, &mut bay, &[TWICE], false)
 }
 
 #[test]
 fn a_frame_is_written_and_read(rt: HostRuntime) {
-    let settings = settings_of(&rt, SMALL);
-    let mut bay = empty_bay(&rt, rt.alloc());
-    let mut writer = FrameWriter::new(rt.alloc(), &settings, 1, 1).expect(&rt, "memory");
-    writer.put(&mut bay, TWICE).expect(&rt, "no fault");
-    writer.end(&mut bay).expect(&rt, "no fault");
-    assert_eq!(rt; bay.bytes(FRAMES).len(), 184);
-    assert!(rt; bay.bytes(FRAMES).ends_with(&ONE));
-    let mut reader = FrameReader::new(rt.alloc(), &settings, 1).expect(&rt, "memory");
-    reader.start(1, 2);
-    assert_eq!(rt; reader.next(&mut bay), Ok(Some(TWICE)));
-    assert_eq!(rt; reader.next(&mut bay), Ok(None));
+    assert!(rt; is_read(&rt, rt.alloc()));
+}
+
+// Whether frame 1 of level 2 is read by a reader of level 1.
+fn is_read_from_another_level(rt: &impl Abort, alloc: Global) -> bool {
+    let settings = settings_of(rt, SMALL);
+    let mut bay = empty_bay(rt, alloc);
+    write_frame(rt, alloc, &mut bay, &settings, 2, 1, &[TWICE]);
+    let mut reader = reader_of(rt, alloc, &settings);
+    reader.start_at(2, 1, 2);
+    come_all(&mut reader, &mut bay, &[TWICE], false)
 }
 
 #[test]
 fn a_reader_goes_to_another_level(rt: HostRuntime) {
-    let settings = settings_of(&rt, SMALL);
-    let mut bay = empty_bay(&rt, rt.alloc());
-    let mut writer = FrameWriter::new(rt.alloc(), &settings, 2, 1).expect(&rt, "memory");
-    writer.put(&mut bay, TWICE).expect(&rt, "no fault");
-    writer.end(&mut bay).expect(&rt, "no fault");
-    let mut reader = FrameReader::new(rt.alloc(), &settings, 1).expect(&rt, "memory");
-    reader.start_at(2, 1, 2);
-    assert_eq!(rt; reader.next(&mut bay), Ok(Some(TWICE)));
-    assert_eq!(rt; reader.next(&mut bay), Ok(None));
+    assert!(rt; is_read_from_another_level(&rt, rt.alloc()));
+}
+
+// The place at which a file of these bytes leaves the frame of a bin of this width.
+fn left_at(rt: &impl Abort, alloc: Global, bytes: &[u8], width: u64) -> Option<u64> {
+    match checked(rt, alloc, SMALL, bytes, width) {
+        Ok(()) => None,
+        Err(PieceFault::Malformed { at }) => Some(at),
+        Err(PieceFault::Failed) => panic!(rt; "no call fails"),
+    }
+}
+
+// The one where a byte of the text is another.
+fn left_with(rt: &impl Abort, alloc: Global, place: usize, byte: u8, width: u64) -> Option<u64> {
+    let mut bytes = ONE;
+    if place < bytes.len() {
+        bytes[place] = byte;
+    }
+    left_at(rt, alloc, &bytes, width)
 }
 
 #[test]
 fn a_file_leaves_a_frame_at_a_place(rt: HostRuntime) {
-    assert_eq!(rt; checked(&rt, rt.alloc(), SMALL, &ONE, 2), Ok(()));
+    assert_eq!(rt; left_at(&rt, rt.alloc(), &ONE, 2), None);
     for (place, byte, width, at) in BROKEN {
-        let mut bytes = ONE;
-        if place < bytes.len() {
-            bytes[place] = byte;
-        }
-        let answer = checked(&rt, rt.alloc(), SMALL, &bytes, width);
-        assert_eq!(rt;
-            answer,
-            Err(PieceFault::Malformed { at }),
-            "byte {place} is {byte}"
-        );
+        let left = left_with(&rt, rt.alloc(), place, byte, width);
+        assert!(rt; left == Some(at), "byte {place} is {byte}");
     }
     for len in 0..ONE.len() {
-        let at = len as u64;
-        let answer = checked(&rt, rt.alloc(), SMALL, &ONE[..len], 2);
-        assert_eq!(rt; answer, Err(PieceFault::Malformed { at }), "{len} bytes");
+        let left = left_at(&rt, rt.alloc(), &ONE[..len], 2);
+        assert!(rt; left == Some(len as u64), "{len} bytes");
     }
 }
 
@@ -111,19 +130,24 @@ fn come_back(rt: &impl Abort, alloc: Global, pieces: &[Piece]) -> bool
     requires fits { total pieces.now ≤ 262144 }
 {
     let settings = settings_of(rt, WIDE);
+    let width = bounded(rt, &settings, width_of(pieces));
     let mut bay = empty_bay(rt, alloc);
-    let mut writer = FrameWriter::new(alloc, &settings, 1, 2).expect(rt, "memory");
-    write(&mut writer, &mut bay, pieces).expect(rt, "no fault");
-    let mut reader = FrameReader::new(alloc, &settings, 1).expect(rt, "memory");
-    let width = width_of(pieces);
-    if width == 0 || width > settings.span(1) {
-        return false;
-    }
+    write_frame(rt, alloc, &mut bay, &settings, 1, 2, pieces);
+    let mut reader = reader_of(rt, alloc, &settings);
     reader.start(2, width);
-    pieces
-        .iter()
-        .all(|piece| reader.next(&mut bay) == Ok(Some(*piece)))
-        && reader.next(&mut bay) == Ok(None)
+    come_all(&mut reader, &mut bay, pieces, false)
+}
+
+// The width of so many pieces, which are so far apart, where they come back.
+fn width_back(rt: &impl Abort, alloc: Global, counts: &[u64], len: u64, gap: u64) -> Option<u64>
+    requires { 1 ≤ gap }
+{
+    let pieces = pieces_of(alloc, counts, len, gap, 262_144).expect(rt, "memory");
+    if pieces.len() as u64 == len && come_back(rt, alloc, &pieces) {
+        Some(width_of(&pieces))
+    } else {
+        None
+    }
 }
 
 #[test]
@@ -135,22 +159,22 @@ fn long_runs_and_sparse_frames_come_back(rt: HostRuntime) {
         (700, 1),
         (5_000, 3),
         (100_000, 1),
-        (131_072, 1 << 47),
+        (131_072, 1u64 << 47),
     ] {
-        let pieces = pieces_of(rt.alloc(), &[], len, gap, 262_144).expect(&rt, "memory");
-        assert_eq!(rt; pieces.len() as u64, len);
-        assert!(rt; come_back(&rt, rt.alloc(), &pieces), "{len} pieces");
+        let width = width_back(&rt, rt.alloc(), &[], len, gap.max(1));
+        assert!(rt; width == Some(len), "{len} pieces");
     }
 }
 
 #[test]
 fn counts_come_back(rt: HostRuntime) {
     // Beside the remainders 0 to 6 of one quotient, of as many, and beside 0 and the greatest ones.
-    for gap in [1, (1 << 46) + 1, (1 << 46) - 1] {
-        let pieces = pieces_of(rt.alloc(), &COUNTS, 7, gap, 262_144).expect(&rt, "memory");
-        assert_eq!(rt; width_of(&pieces), 66_310);
-        assert!(rt; come_back(&rt, rt.alloc(), &pieces), "{gap} apart");
+    for gap in [1u64, (1 << 46) + 1, (1 << 46) - 1] {
+        let width = width_back(&rt, rt.alloc(), &COUNTS, 7, gap.max(1));
+        assert!(rt; width == Some(66_310), "{gap} apart");
     }
-    let all = pieces_of(rt.alloc(), &[262_144], 1, 1, 262_144).expect(&rt, "memory");
-    assert!(rt; come_back(&rt, rt.alloc(), &all));
+    assert_eq!(rt;
+        width_back(&rt, rt.alloc(), &[262_144], 1, 1),
+        Some(262_144)
+    );
 }

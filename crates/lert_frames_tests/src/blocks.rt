@@ -1,6 +1,6 @@
 //! A block is laid as its text, pieces come back from its slots, and a slot that breaks a rule is told.
 
-ghost use Rattle.std.specs.Prelude.{◌≡◌, ◌+◌, ◌*◌, ◌<◌, ◌≤◌, ◌^◌, length};
+ghost use Rattle.std.specs.Prelude.{◌≡◌, ◌+◌, ◌*◌, ◌<◌, ◌≤◌, ◌^◌, length, vec_capacity};
 
 use lert_base::Piece;
 use lert_blocks::{Block, Slots, Walk, decode};
@@ -19,32 +19,39 @@ const COUNTS: [u64; 8] = [1, 2, 3, 255, 256, 257, 65_536, 1 << 47];
 // Remainders of eight bits at which the digits are written in another way.
 const REMAINDERS: [u64; 6] = [0, 1, 2, 128, 254, 255];
 
+// Whether the block of a piece alone is laid as this text.
+fn is_laid_as(block: &mut Block, piece: Piece, text: &[u8]) -> bool
+    requires some { 1 ≤ piece.count }
+    requires count { piece.count ≤ 2 ^ 47 }
+{
+    if !block.has_room() {
+        return false;
+    }
+    block.put(58, piece);
+    let mut bytes = [0xff; 4800];
+    let len = block.lay(&mut bytes);
+    len == text.len() && bytes.starts_with(text)
+}
+
 #[test]
 fn a_block_is_laid_as_its_text(rt: HostRuntime) {
     let mut block = Block::new(rt.alloc()).expect(&rt, "memory");
-    assert!(rt; block.has_room());
     let piece = Piece {
         tail: TAIL,
         count: 2,
     };
-    block.put(58, piece);
-    let mut bytes = [0xff; 4800];
-    assert_eq!(rt; block.lay(&mut bytes), 36);
-    assert!(rt; bytes.starts_with(&ONE));
+    assert!(rt; is_laid_as(&mut block, piece, &ONE));
 }
 
-// The piece that the slots of a block of this piece alone decode to, with eight bits of remainder.
-fn decoded(rt: &impl Abort, alloc: Global, piece: Piece) -> Option<Piece>
-    requires tail { piece.tail < 256 }
-    requires some { 1 ≤ piece.count }
-    requires count { piece.count ≤ 2 ^ 47 }
+// Decodes the slots of a block, whose remainders have eight bits, and answers whether they could be.
+fn is_decoded(block: &Block, pieces: &mut Vec<Piece>) -> bool
+    requires { length pieces.old.items + 64 ≤ vec_capacity pieces.old }
 {
-    let mut block = Block::new(alloc).expect(rt, "memory");
-    if !block.has_room() {
-        return None;
-    }
-    block.put(8, piece);
     let slots = block.slots();
+    let ends = block.ends();
+    if slots.len() > 72 || ends.is_empty() {
+        return false;
+    }
     let mut walk = Walk {
         occupied: block.occupied(),
         least: 0,
@@ -52,13 +59,22 @@ fn decoded(rt: &impl Abort, alloc: Global, piece: Piece) -> Option<Piece>
     let word = Slots {
         slots,
         some: slots.len(),
-        ends: *block.ends().first()?,
+        ends: ends[0],
         next_ends: 0,
     };
+    decode(8, 0, word, 0, &mut walk, pieces).is_ok()
+}
+
+// The piece that the slots of a block of this piece alone decode to.
+fn decoded(rt: &impl Abort, alloc: Global, piece: Piece) -> Option<Piece>
+    requires some { 1 ≤ piece.count }
+    requires count { piece.count ≤ 2 ^ 47 }
+{
+    let mut block = Block::new(alloc).expect(rt, "memory");
+    assert!(rt; block.has_room());
+    block.put(8, piece);
     let mut pieces = Vec::with_capacity(alloc, 64).expect(rt, "memory");
-    if slots.len() > 72 || decode(8, 0, word, 0, &mut walk, &mut pieces).is_err() {
-        return None;
-    }
+    assert!(rt; is_decoded(&block, &mut pieces));
     pieces.first().copied()
 }
 
