@@ -11,7 +11,7 @@ abbrev nothing : Piece
 nothing = record { tail = 0; count = 0 }
 
 pub put-requires : goal.put-requires
-put-requires g c =
+put-requires c =
     let was = c.loop-piece.invariant in
     let w = c.loop-piece.writer in
     let i = c.loop-piece.piece-index in

@@ -1,7 +1,7 @@
 use Rattle.std.proofs.Common.{get_or, refl}
-use Rattle.lert_landing_tests.specs.declared.samples.Step.{Step}
-use Rattle.lert_landing_tests.proofs.ReadyLaws.{can_take, ready_more}
-use Rattle.lert_landing_tests.proofs.frames.land.Goals as goal
+use Rattle.lert_streams_tests.specs.declared.steps.Step.{Step}
+use Rattle.lert_streams_tests.proofs.ReadyLaws.{can_take, ready_more}
+use Rattle.lert_streams_tests.proofs.landings.land.Goals as goal
 
 abbrev nothing : Step
 nothing = record { part = 0; piece = record { tail = 0; count = 0 } }

@@ -13,7 +13,7 @@ use Rattle.lert_landing.specs.Landed.{taken, CanTake}
 use Rattle.lert_landing.specs.Landings.{Home, home}
 use Rattle.lert_landing.specs.Whole.{AreUpTo}
 use Rattle.lert_landing.proofs.SummedLaws.{plus_up_to}
-use Rattle.lert_landing_tests.specs.Ready.{IsReady}
+use Rattle.lert_streams_tests.specs.Ready.{IsReady}
 
 up_to : (last tail : ℕ) (pieces : List Piece) → last ≤ tail → AreUpTo last pieces → AreUpTo tail pieces
 up_to last tail pieces above up = All-weaker (λ (p : Piece). p.tail ≤ last) (λ (p : Piece). p.tail ≤ tail) (λ p low. omega (arith, low, above)) pieces up

@@ -1,6 +1,6 @@
 use Rattle.std.specs.List.{All}
-use Rattle.lert_landing_tests.specs.Ready.{IsReady}
-use Rattle.lert_landing_tests.proofs.frames.land.Given as goal
+use Rattle.lert_streams_tests.specs.Ready.{IsReady}
+use Rattle.lert_streams_tests.proofs.landings.land.Given as goal
 
 -- the landings may take what is left
 abbrev pub invariant-loop-step : goal.invariant-loop-step
