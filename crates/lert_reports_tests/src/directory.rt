@@ -19,9 +19,12 @@ const SMALL: Numbers = Numbers {
 #[test]
 fn bins_are_those_of_a_worked_cone(rt: HostRuntime) {
     let settings = settings_of(&rt, SMALL);
-    assert_eq!(rt; (bins(&settings, 1, 11), bins(&settings, 2, 11)), (0, 0));
-    assert_eq!(rt; (bins(&settings, 1, 12), bins(&settings, 2, 12)), (1, 0));
-    assert_eq!(rt; (bins(&settings, 1, 20), bins(&settings, 2, 20)), (2, 0));
-    assert_eq!(rt; (bins(&settings, 1, 32), bins(&settings, 2, 32)), (2, 1));
-    assert_eq!(rt; (bins(&settings, 1, 48), bins(&settings, 2, 48)), (2, 2));
+    let bins = [
+        [bins(&settings, 1, 11), bins(&settings, 2, 11)],
+        [bins(&settings, 1, 12), bins(&settings, 2, 12)],
+        [bins(&settings, 1, 20), bins(&settings, 2, 20)],
+        [bins(&settings, 1, 32), bins(&settings, 2, 32)],
+        [bins(&settings, 1, 48), bins(&settings, 2, 48)],
+    ];
+    assert_eq!(rt; bins, [[0, 0], [1, 0], [2, 0], [2, 1], [2, 2]]);
 }

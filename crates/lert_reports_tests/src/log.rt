@@ -1,6 +1,6 @@
 //! The text of a record, and each place at which a payload leaves it.
 
-ghost use Rattle.std.specs.Prelude.{◌<◌};
+ghost use Rattle.std.specs.Prelude.{◌≡◌, ◌+◌, ◌<◌, ◌≤◌, length};
 
 use crate::settings::settings_of;
 use lert_base::{Numbers, Report};
@@ -13,11 +13,9 @@ const TEXT: [u8; 61] =
 
 #[test]
 fn a_record_is_written(rt: HostRuntime) {
-    let report = Report { key: 7, at: 3 };
     let mut text = [255; 53];
-    let len = write_log(LogKind::Closing, 3, 32, 1, &[0, 0], &[report], &mut text);
-    assert_eq!(rt; len, 52);
-    assert_eq!(rt; text[..52], TEXT[9..]);
+    let len = written(&CLOSED, &mut text);
+    assert!(rt; len == 52 && text.starts_with(&TEXT[9..]));
 }
 
 const NUMBERS: Numbers = Numbers {
@@ -38,11 +36,13 @@ const NOTHING: LogBefore = LogBefore {
     at: 0,
 };
 
+// What is answered to a payload behind nothing.
+fn read(rt: &impl Abort, payload: &[u8]) -> Result<LogParts, u64> {
+    read_log(&settings_of(rt, NUMBERS), 0, &NOTHING, payload)
+}
+
 #[test]
 fn a_record_is_read(rt: HostRuntime) {
-    let settings = settings_of(&rt, NUMBERS);
-    let payload = &TEXT[13..60];
-    let parts = read_log(&settings, 0, &NOTHING, payload);
     let closed = LogParts {
         kind: LogKind::Closing,
         n0: 3,
@@ -52,7 +52,7 @@ fn a_record_is_read(rt: HostRuntime) {
         reports_at: 31,
         reports: 1,
     };
-    assert_eq!(rt; parts, Ok(closed));
+    assert!(rt; read(&rt, &TEXT[13..60]) == Ok(closed));
 }
 
 // A record with one report, the bytes of its directory, and the cone and the records before it with which it is read.
@@ -79,153 +79,167 @@ const CLOSED: Case = Case {
     before: NOTHING,
 };
 
-// What is answered to the payload that is written of a case.
-fn answer(rt: &impl Abort, case: &Case) -> Result<LogParts, u64> {
-    let settings = settings_of(rt, NUMBERS);
-    let mut text = [0; 56];
-    assert!(rt; case.directory.len() <= 6);
-    let len = write_log(
+const EARLY: Case = Case {
+    kind: LogKind::Flush,
+    ..CLOSED
+};
+
+const FIRST: Case = Case { n0: 12, ..EARLY };
+
+const LATER: Case = Case {
+    n0: 32,
+    before: LogBefore {
+        flushes: 5,
+        ..NOTHING
+    },
+    ..EARLY
+};
+
+// Cases that break a rule, and the field at which their payload is left.
+const BROKEN: [(Case, u64); 16] = [
+    (EARLY, 1),
+    (Case { n0: 12, ..CLOSED }, 1),
+    (
+        Case {
+            before: LogBefore { n0: 4, ..NOTHING },
+            ..CLOSED
+        },
+        1,
+    ),
+    (
+        Case {
+            offset: 31,
+            ..CLOSED
+        },
+        9,
+    ),
+    (
+        Case {
+            offset: (1 << 46) + 1,
+            ..CLOSED
+        },
+        9,
+    ),
+    (Case { first: 0, ..CLOSED }, 17),
+    (Case { first: 2, ..CLOSED }, 17),
+    (FIRST, 25),
+    (
+        Case {
+            directory: &[1, 4, 0],
+            ..FIRST
+        },
+        26,
+    ),
+    (
+        Case {
+            directory: &[1, 3, 1, 0],
+            ..FIRST
+        },
+        27,
+    ),
+    (
+        Case {
+            directory: &[2, 1, 1, 1, 0],
+            ..LATER
+        },
+        27,
+    ),
+    (
+        Case {
+            before: LogBefore {
+                reports: 32,
+                ..NOTHING
+            },
+            ..CLOSED
+        },
+        27,
+    ),
+    (Case { cone: 1, ..CLOSED }, 31),
+    (
+        Case {
+            before: LogBefore { at: 4, ..NOTHING },
+            ..CLOSED
+        },
+        39,
+    ),
+    (
+        Case {
+            report: Report { key: 7, at: 0 },
+            ..CLOSED
+        },
+        39,
+    ),
+    (
+        Case {
+            report: Report { key: 7, at: 4 },
+            ..CLOSED
+        },
+        39,
+    ),
+];
+
+// Cases that break none.
+const KEPT: [Case; 3] = [
+    CLOSED,
+    Case {
+        directory: &[1, 3, 0],
+        ..FIRST
+    },
+    Case {
+        directory: &[2, 1, 0, 1, 1],
+        ..LATER
+    },
+];
+
+// Writes a case, whose directory has to fit, and answers how long the record is.
+fn written(case: &Case, text: &mut [u8]) -> usize
+    requires directory { length case.now.directory.now ≤ 6 }
+    requires room { 50 + length case.now.directory.now ≤ length text.old }
+    ensures { result ≡ 50 + length case.now.directory.now }
+{
+    write_log(
         case.kind,
         case.n0,
         case.offset,
         case.first,
         case.directory,
         &[case.report],
-        &mut text,
-    );
-    read_log(&settings, case.cone, &case.before, &text[4..len - 1])
+        text,
+    )
+}
+
+// The field at which the payload that is written of a case is left.
+fn left(rt: &impl Abort, case: &Case) -> Option<u64> {
+    let settings = settings_of(rt, NUMBERS);
+    let mut text = [0; 56];
+    assert!(rt; case.directory.len() <= 6);
+    let len = written(case, &mut text);
+    read_log(&settings, case.cone, &case.before, &text[4..len - 1]).err()
 }
 
 #[test]
 fn a_record_that_breaks_a_rule_is_left_at_its_field(rt: HostRuntime) {
-    let early = Case {
-        kind: LogKind::Flush,
-        ..CLOSED
-    };
-    let first = Case { n0: 12, ..early };
-    let later = Case {
-        n0: 32,
-        before: LogBefore {
-            flushes: 5,
-            ..NOTHING
-        },
-        ..early
-    };
-    let rows = [
-        (early, 1),
-        (Case { n0: 12, ..CLOSED }, 1),
-        (
-            Case {
-                before: LogBefore { n0: 4, ..NOTHING },
-                ..CLOSED
-            },
-            1,
-        ),
-        (
-            Case {
-                offset: 31,
-                ..CLOSED
-            },
-            9,
-        ),
-        (
-            Case {
-                offset: (1 << 46) + 1,
-                ..CLOSED
-            },
-            9,
-        ),
-        (Case { first: 0, ..CLOSED }, 17),
-        (Case { first: 2, ..CLOSED }, 17),
-        (first, 25),
-        (
-            Case {
-                directory: &[1, 4, 0],
-                ..first
-            },
-            26,
-        ),
-        (
-            Case {
-                directory: &[1, 3, 1, 0],
-                ..first
-            },
-            27,
-        ),
-        (
-            Case {
-                directory: &[2, 1, 1, 1, 0],
-                ..later
-            },
-            27,
-        ),
-        (
-            Case {
-                before: LogBefore {
-                    reports: 32,
-                    ..NOTHING
-                },
-                ..CLOSED
-            },
-            27,
-        ),
-        (Case { cone: 1, ..CLOSED }, 31),
-        (
-            Case {
-                before: LogBefore { at: 4, ..NOTHING },
-                ..CLOSED
-            },
-            39,
-        ),
-        (
-            Case {
-                report: Report { key: 7, at: 0 },
-                ..CLOSED
-            },
-            39,
-        ),
-        (
-            Case {
-                report: Report { key: 7, at: 4 },
-                ..CLOSED
-            },
-            39,
-        ),
-    ];
-    for (case, place) in rows {
-        assert_eq!(rt; answer(&rt, &case), Err(place));
+    for (case, place) in BROKEN {
+        assert!(rt; left(&rt, &case) == Some(place), "{place}");
     }
-    let kept = [
-        CLOSED,
-        Case {
-            directory: &[1, 3, 0],
-            ..first
-        },
-        Case {
-            directory: &[2, 1, 0, 1, 1],
-            ..later
-        },
-    ];
-    for case in kept {
-        assert_eq!(rt; answer(&rt, &case).is_ok(), true);
+    for case in KEPT {
+        assert!(rt; left(&rt, &case).is_none());
     }
 }
 
 // What is answered where a byte of the closing record is another.
-fn changed(rt: &impl Abort, place: usize, byte: u8) -> Result<LogParts, u64>
+fn changed(rt: &impl Abort, place: usize, byte: u8) -> Option<u64>
     requires { place < 47 }
 {
-    let settings = settings_of(rt, NUMBERS);
     let mut payload = [0; 47];
     payload.copy_from_slice(&TEXT[13..60]);
     payload[place] = byte;
-    read_log(&settings, 0, &NOTHING, &payload)
+    read(rt, &payload).err()
 }
 
 #[test]
 fn bytes_that_no_record_has_are_left(rt: HostRuntime) {
-    assert_eq!(rt; changed(&rt, 0, 3), Err(0));
-    // More reports than there are bytes for, and fewer.
-    assert_eq!(rt; changed(&rt, 27, 2), Err(47));
-    assert_eq!(rt; changed(&rt, 27, 0), Err(31));
+    // The kind; and more reports than there are bytes for, and fewer.
+    let places = [changed(&rt, 0, 3), changed(&rt, 27, 2), changed(&rt, 27, 0)];
+    assert_eq!(rt; places, [Some(0), Some(47), Some(31)]);
 }
