@@ -5,14 +5,14 @@ ghost use Rattle.lert_base.specs.Entries.{packet_of};
 ghost use Rattle.lert_journal.specs.Payload.{IsJournaled};
 
 use lert_base::{Entry, KeyList, Numbers, Report, Settings};
-use lert_bay::Bay;
+use lert_bay::{Bay, MemBay};
 use lert_cone::{Acked, Cone, ConeFault, ConeRoom, ConeState, CreateFault, CreateRefused};
 use lert_mixer::cone_of;
 use lert_plain::PlainTable;
 use std::alloc::Global;
 use std::process::Abort;
 
-const SMALL: Numbers = Numbers {
+pub const SMALL: Numbers = Numbers {
     threshold: 3,
     bins: 3,
     ratio: 2,
@@ -31,16 +31,22 @@ pub fn entry(rt: &impl Abort, alloc: Global, settings: &Settings, keys: &[u64]) 
 {
     let mut list = KeyList::with_room(alloc, keys.len()).expect(rt, "memory");
     for key in keys {
-        assert_eq!(rt; cone_of(settings, *key), 0);
+        assert!(rt; cone_of(settings, *key) == 0);
         list.push(*key);
     }
     Entry::new(0, 0, list)
 }
 
+pub fn settings_of(rt: &impl Abort, numbers: Numbers) -> Settings
+    ensures { result ≡ numbers }
+{
+    Settings::new(numbers).expect(rt, "settings")
+}
+
 pub fn small(rt: &impl Abort, room: u64) -> Settings
     ensures { result.packet ≡ 8 }
 {
-    Settings::new(Numbers { room, ..SMALL }).expect(rt, "settings")
+    settings_of(rt, Numbers { room, ..SMALL })
 }
 
 pub fn created<B: Bay>(
@@ -136,12 +142,16 @@ pub fn check_state<B: Bay>(
     state: ConeState,
     events: u64,
 ) {
-    assert_eq!(rt; cone.state(), state);
-    assert_eq!(rt; cone.events(), events);
+    assert!(rt; cone.state() == state && cone.events() == events);
 }
 
 pub fn check_listed<B: Bay>(rt: &impl Abort, cone: &Cone<B, PlainTable>, reports: &[Report]) {
-    assert_eq!(rt; cone.reports().list(), reports);
+    assert!(rt; cone.reports().list() == reports);
+}
+
+// A bay in memory without files.
+pub fn empty_bay(rt: &impl Abort, alloc: Global) -> MemBay {
+    MemBay::new(alloc).expect(rt, "memory")
 }
 
 // Keys 1 to `last` of which those at these positions are 7, and each other is a key of its own.

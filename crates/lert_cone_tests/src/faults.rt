@@ -2,7 +2,9 @@
 
 ghost use Rattle.std.specs.Prelude.{◌≡◌, ◌<◌, ◌≤◌, length};
 
-use crate::cones::{check_state, created, end, give, give_all, refusal, sevens_at, small};
+use crate::cones::{
+    check_state, created, empty_bay, end, give, give_all, refusal, sevens_at, small,
+};
 use crate::files::JOURNAL_TEXT;
 use crate::garbled::GarbledBay;
 use lert_base::Settings;
@@ -14,7 +16,7 @@ use std::process::Abort;
 
 // A bay in memory with a call that fails.
 fn failing(rt: &impl Abort, alloc: Global, call: u64) -> MemBay {
-    let mut bay = MemBay::new(alloc).expect(rt, "memory");
+    let mut bay = empty_bay(rt, alloc);
     bay.fail_at(call);
     bay
 }
@@ -59,42 +61,58 @@ fn check_broken<B: Bay>(
     give_all(rt, alloc, settings, cone, keys);
     let first = give(rt, alloc, settings, cone, last);
     let second = give(rt, alloc, settings, cone, last);
-    assert_eq!(rt; [first, second], [Err(fault), Err(ConeFault::Broken)]);
-    assert_eq!(rt; end(cone), Err(ConeFault::Broken));
+    assert!(rt; first == Err(fault) && second == Err(ConeFault::Broken));
+    assert!(rt; end(cone) == Err(ConeFault::Broken));
     check_state(rt, cone, state, keys.len() as u64);
+}
+
+// The journal that a cone leaves which takes each of these keys, and whose bay fails at a call of the last packet.
+fn left_broken(rt: &impl Abort, alloc: Global, call: u64, keys: &[u64], last: &[u64]) -> Vec<u8>
+    requires some { 0 < length last.now }
+    requires few { length last.now ≤ 32 }
+{
+    let fault = ConeFault::BayFailed;
+    let state = ConeState::BrokenByBay;
+    let bay = broken(
+        rt,
+        alloc,
+        failing(rt, alloc, call),
+        keys,
+        last,
+        fault,
+        state,
+    );
+    Vec::from_slice(alloc, bay.bytes(JOURNAL)).expect(rt, "memory")
+}
+
+// The gate behind the header of a journal whose first packet fails at a call.
+fn gate_at(rt: &impl Abort, alloc: Global, call: u64) -> Option<u8> {
+    let journal = left_broken(rt, alloc, call, &[], &[7, 7, 7]);
+    assert!(rt; journal.starts_with(&JOURNAL_TEXT[..32]));
+    journal.get(32).copied()
 }
 
 #[test]
 fn a_failed_call_breaks_the_cone(rt: HostRuntime) {
     for (call, gate) in [(8, 0), (9, 0), (10, 0), (11, 1)] {
-        let bay = failing(&rt, rt.alloc(), call);
-        let fault = ConeFault::BayFailed;
-        let state = ConeState::BrokenByBay;
-        let bay = broken(&rt, rt.alloc(), bay, &[], &[7, 7, 7], fault, state);
-        let journal = bay.bytes(JOURNAL);
-        assert!(rt; journal.starts_with(&JOURNAL_TEXT[..32]));
-        assert_eq!(rt; journal.get(32).copied(), Some(gate));
+        assert!(rt; gate_at(&rt, rt.alloc(), call) == Some(gate), "call {call}");
     }
 }
 
 #[test]
 fn a_failed_flush_or_record_breaks_the_cone_and_leaves_the_packet(rt: HostRuntime) {
     let keys = sevens_at(&rt, rt.alloc(), 11, &[]);
-    // Seven calls make the cone, and four append each packet. Behind them stand the two of the first flush, and then the
-    // four that append its record.
-    for call in [56, 57, 58, 59, 60, 61] {
-        let bay = failing(&rt, rt.alloc(), call);
-        let fault = ConeFault::BayFailed;
-        let state = ConeState::BrokenByBay;
-        let bay = broken(&rt, rt.alloc(), bay, &keys, &[7], fault, state);
-        assert_eq!(rt; bay.bytes(JOURNAL).len(), 33 + 12 * 21);
+    // Seven calls make the cone, and four append each packet. Behind them stand the two of the first flush, and then
+    // the four that append its record.
+    for call in 56..62 {
+        let journal = left_broken(&rt, rt.alloc(), call, &keys, &[7]);
+        assert!(rt; journal.len() == 33 + 12 * 21, "call {call}");
     }
 }
 
-#[test]
-fn a_frame_that_leaves_its_format_breaks_the_cone(rt: HostRuntime) {
-    let keys = sevens_at(&rt, rt.alloc(), 15, &[]);
-    let bay = GarbledBay::new(MemBay::new(rt.alloc()).expect(&rt, "memory"));
+// A cone takes these keys over a bay whose frames leave their format, and breaks.
+fn check_garbled(rt: &impl Abort, alloc: Global, keys: &[u64]) {
+    let bay = GarbledBay::new(empty_bay(rt, alloc));
     let fault = ConeFault::Unsound {
         file: FRAMES,
         at: 0,
@@ -103,16 +121,26 @@ fn a_frame_that_leaves_its_format_breaks_the_cone(rt: HostRuntime) {
         file: FRAMES,
         at: 0,
     };
-    let _bay = broken(&rt, rt.alloc(), bay, &keys, &[7], fault, state);
+    let _bay = broken(rt, alloc, bay, keys, &[7], fault, state);
+}
+
+#[test]
+fn a_frame_that_leaves_its_format_breaks_the_cone(rt: HostRuntime) {
+    let keys = sevens_at(&rt, rt.alloc(), 15, &[]);
+    check_garbled(&rt, rt.alloc(), &keys);
+}
+
+// Why no cone is made over a bay with a call that fails, and the packet size of the room that comes back.
+fn refused_at(rt: &impl Abort, alloc: Global, call: u64) -> (CreateFault, u64) {
+    let settings = small(rt, 32);
+    let (fault, packet, _bay) = refusal(rt, alloc, &settings, failing(rt, alloc, call));
+    (fault, packet)
 }
 
 #[test]
 fn a_cone_is_not_made_where_a_call_fails(rt: HostRuntime) {
-    let settings = small(&rt, 32);
     for call in 1..8 {
-        let bay = failing(&rt, rt.alloc(), call);
-        let (fault, packet, _bay) = refusal(&rt, rt.alloc(), &settings, bay);
-        assert_eq!(rt; fault, CreateFault::Failed);
-        assert_eq!(rt; packet, 8);
+        let refused = refused_at(&rt, rt.alloc(), call);
+        assert!(rt; refused == (CreateFault::Failed, 8), "call {call}");
     }
 }

@@ -2,7 +2,7 @@
 
 ghost use Rattle.std.specs.Prelude.{◌≡◌, ◌<◌};
 
-use crate::cones::{check_listed, check_state, created, end, give, refusal, small};
+use crate::cones::{check_listed, check_state, created, empty_bay, end, give, refusal, small};
 use lert_base::{Report, Settings};
 use lert_bay::{Bay, FRAMES, JOURNAL, LOG, MemBay};
 use lert_cone::{Acked, Cone, ConeFault, ConeState, CreateFault, is_fresh};
@@ -18,13 +18,10 @@ pub const JOURNAL_TEXT: [u8; 70] =
 const LOG_TEXT: [u8; 61] =
     *b"LERTL\x01\0\0\x01\x2f\0\0\0\x02\x03\0\0\0\0\0\0\0\x20\0\0\0\0\0\0\0\x01\0\0\0\0\0\0\0\0\0\x01\0\0\0\x07\0\0\0\0\0\0\0\x03\0\0\0\0\0\0\0\0";
 
-// A cone over this bay takes three keys, and ends. Answers the bay that it leaves.
-fn ended<B: Bay>(rt: &impl Abort, alloc: Global, bay: B) -> B
-where
-    B: Drop,
-{
+// A cone over an empty bay takes three keys, and ends. Answers the bay that it leaves.
+fn ended(rt: &impl Abort, alloc: Global) -> MemBay {
     let settings = small(rt, 32);
-    let mut cone = created(rt, alloc, &settings, bay);
+    let mut cone = created(rt, alloc, &settings, empty_bay(rt, alloc));
     check_ended(rt, alloc, &settings, &mut cone);
     cone.into_bay()
 }
@@ -46,43 +43,58 @@ fn check_ended<B: Bay>(
     };
     let first = give(rt, alloc, settings, cone, &[7, 7, 7]);
     check_state(rt, cone, ConeState::Running, 3);
-    let ends = [end(cone), end(cone)];
-    assert_eq!(rt; ends, [Ok(1), Err(ConeFault::Closed)]);
+    assert!(rt; end(cone) == Ok(1));
+    assert!(rt; end(cone) == Err(ConeFault::Closed));
     let second = give(rt, alloc, settings, cone, &[7, 7, 7]);
-    assert_eq!(rt; [first, second], [Ok(acked), Err(ConeFault::Closed)]);
+    assert!(rt; first == Ok(acked) && second == Err(ConeFault::Closed));
     check_state(rt, cone, ConeState::Finished, 3);
     check_listed(rt, cone, &[Report { key: 7, at: 3 }]);
 }
 
-#[test]
-fn three_keys_leave_their_files(rt: HostRuntime) {
-    let bay = MemBay::new(rt.alloc()).expect(&rt, "memory");
-    let bay = ended(&rt, rt.alloc(), bay);
-    assert_eq!(rt; bay.bytes(JOURNAL), JOURNAL_TEXT.as_slice());
-    assert_eq!(rt; bay.bytes(LOG), LOG_TEXT.as_slice());
-    assert_eq!(rt; bay.bytes(FRAMES), [].as_slice());
+// Whether a bay has these files.
+fn has_files(bay: &MemBay, journal: &[u8], log: &[u8], frames: &[u8]) -> bool {
+    bay.bytes(JOURNAL) == journal && bay.bytes(LOG) == log && bay.bytes(FRAMES) == frames
 }
 
 #[test]
-fn a_cone_is_made_on_empty_files(rt: HostRuntime) {
-    let settings = small(&rt, 32);
-    for file in [JOURNAL, LOG, FRAMES] {
-        let bay = with_a_byte(&rt, rt.alloc(), file);
-        let (fault, _packet, bay) = refusal(&rt, rt.alloc(), &settings, bay);
-        assert_eq!(rt; fault, CreateFault::NotFresh);
-        for other in [JOURNAL, LOG, FRAMES] {
-            let left: &[u8] = if other == file { b"x" } else { b"" };
-            assert_eq!(rt; bay.bytes(other), left);
-        }
-    }
+fn three_keys_leave_their_files(rt: HostRuntime) {
+    let bay = ended(&rt, rt.alloc());
+    assert!(rt; has_files(&bay, &JOURNAL_TEXT, &LOG_TEXT, &[]));
 }
 
 // A bay of which one file has a byte.
 fn with_a_byte(rt: &impl Abort, alloc: Global, file: u8) -> MemBay
     requires { file < 3 }
 {
-    let mut bay = MemBay::new(alloc).expect(rt, "memory");
+    let mut bay = empty_bay(rt, alloc);
     assert!(rt; bay.load(file, b"x").is_ok());
-    assert_eq!(rt; is_fresh(&mut bay), Ok(false));
+    assert!(rt; is_fresh(&mut bay) == Ok(false));
     bay
+}
+
+// What it has of a file.
+fn left_of(file: u8, other: u8) -> &'static [u8] {
+    if other == file { b"x" } else { b"" }
+}
+
+// No cone is made over such a bay, whose files are left.
+fn check_refused(rt: &impl Abort, alloc: Global, file: u8)
+    requires { file < 3 }
+{
+    let settings = small(rt, 32);
+    let (fault, _packet, bay) = refusal(rt, alloc, &settings, with_a_byte(rt, alloc, file));
+    assert!(rt; fault == CreateFault::NotFresh);
+    let left = [
+        left_of(file, JOURNAL),
+        left_of(file, LOG),
+        left_of(file, FRAMES),
+    ];
+    assert!(rt; has_files(&bay, left[0], left[1], left[2]));
+}
+
+#[test]
+fn a_cone_is_made_on_empty_files(rt: HostRuntime) {
+    check_refused(&rt, rt.alloc(), JOURNAL);
+    check_refused(&rt, rt.alloc(), LOG);
+    check_refused(&rt, rt.alloc(), FRAMES);
 }

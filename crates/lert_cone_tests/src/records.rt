@@ -2,7 +2,7 @@
 
 ghost use Rattle.std.specs.Prelude.{◌≡◌};
 
-use crate::cones::{created, end, give, small};
+use crate::cones::{created, empty_bay, end, give, small};
 use lert_base::Settings;
 use lert_bay::{Bay, LOG, MemBay};
 use lert_cone::Cone;
@@ -10,21 +10,13 @@ use lert_plain::PlainTable;
 use std::alloc::Global;
 use std::process::Abort;
 
-// After how many keys a record was written, and where the journal's record begins that it names.
-#[derive(Clone, Copy, Debug, PartialEq, Eq)]
-struct Named {
-    n0: u64,
-    offset: u64,
-    first: u64,
-}
+// After how many keys a record was written, where the journal's record begins that it names, and the first key there.
+type Named = (u64, u64, u64);
 
-// A cone over this bay takes these packets, and ends. Answers the bay that it leaves.
-fn ended<B: Bay>(rt: &impl Abort, alloc: Global, bay: B, packets: &[&[u64]]) -> B
-where
-    B: Drop,
-{
+// A cone over an empty bay takes these packets, and ends. Answers the bay that it leaves.
+fn ended(rt: &impl Abort, alloc: Global, packets: &[&[u64]]) -> MemBay {
     let settings = small(rt, 32);
-    let mut cone = created(rt, alloc, &settings, bay);
+    let mut cone = created(rt, alloc, &settings, empty_bay(rt, alloc));
     check_ended(rt, alloc, &settings, &mut cone, packets);
     cone.into_bay()
 }
@@ -60,11 +52,11 @@ fn number(bytes: &[u8]) -> u64 {
 
 // What a record names whose payload is the first of these bytes.
 fn name_in(payload: &[u8]) -> Named {
-    Named {
-        n0: number(payload.get(1..).unwrap_or(&[])),
-        offset: number(payload.get(9..).unwrap_or(&[])),
-        first: number(payload.get(17..).unwrap_or(&[])),
-    }
+    (
+        number(payload.get(1..).unwrap_or(&[])),
+        number(payload.get(9..).unwrap_or(&[])),
+        number(payload.get(17..).unwrap_or(&[])),
+    )
 }
 
 // What the records of a log name, by its format alone.
@@ -76,79 +68,43 @@ fn named_in(rt: &impl Abort, alloc: Global, log: &[u8]) -> Vec<Named> {
         named.push(name_in(behind)).expect(rt, "memory");
         rest = behind.get(len..).unwrap_or(&[]);
     }
-    assert_eq!(rt; rest, [0].as_slice(), "the log ends with a closed gate");
+    assert!(rt; rest == [0].as_slice(), "the log ends with a closed gate");
     named
 }
 
 // The records behind these packets: the log's name these records of the journal.
 fn check_named(rt: &impl Abort, alloc: Global, packets: &[&[u64]], due: &[Named]) {
-    let bay = MemBay::new(alloc).expect(rt, "memory");
-    let bay = ended(rt, alloc, bay, packets);
+    let bay = ended(rt, alloc, packets);
     let named = named_in(rt, alloc, bay.bytes(LOG));
-    assert_eq!(rt; named.as_slice(), due);
+    assert!(rt; named.as_slice() == due);
 }
 
-// A record of n keys takes 13 + 8n bytes, the first one behind 32. The bins of level 0 have four keys: it begins behind 4 at
-// the flush at 12, behind 8 at 16, and so on, behind 28 at 36 and at the end.
+const PACKETS: [&[u64]; 8] = [
+    &[1, 2, 3],
+    &[4],
+    &[5, 6, 7, 8, 9],
+    &[10, 11, 12, 13, 14, 15, 16, 17, 18],
+    &[19, 20],
+    &[21, 22, 23, 24, 25, 26, 27],
+    &[28, 29, 30, 31, 32, 33],
+    &[34, 35, 36, 37],
+];
+
+// A record of n keys takes 13 + 8n bytes, the first one behind 32. The bins of level 0 have four keys: it begins behind
+// 4 at the flush at 12, behind 8 at 16, and so on, behind 28 at 36 and at the end.
+const DUE: [(u64, u64, u64); 8] = [
+    (12, 90, 5),
+    (16, 90, 5),
+    (20, 143, 10),
+    (24, 143, 10),
+    (28, 257, 21),
+    (32, 257, 21),
+    (36, 326, 28),
+    (37, 326, 28),
+];
+
 #[test]
 fn each_record_names_the_journal_record_that_holds_the_first_key_of_level_0(rt: HostRuntime) {
-    let packets: [&[u64]; 8] = [
-        &[1, 2, 3],
-        &[4],
-        &[5, 6, 7, 8, 9],
-        &[10, 11, 12, 13, 14, 15, 16, 17, 18],
-        &[19, 20],
-        &[21, 22, 23, 24, 25, 26, 27],
-        &[28, 29, 30, 31, 32, 33],
-        &[34, 35, 36, 37],
-    ];
-    let due = [
-        Named {
-            n0: 12,
-            offset: 90,
-            first: 5,
-        },
-        Named {
-            n0: 16,
-            offset: 90,
-            first: 5,
-        },
-        Named {
-            n0: 20,
-            offset: 143,
-            first: 10,
-        },
-        Named {
-            n0: 24,
-            offset: 143,
-            first: 10,
-        },
-        Named {
-            n0: 28,
-            offset: 257,
-            first: 21,
-        },
-        Named {
-            n0: 32,
-            offset: 257,
-            first: 21,
-        },
-        Named {
-            n0: 36,
-            offset: 326,
-            first: 28,
-        },
-        Named {
-            n0: 37,
-            offset: 326,
-            first: 28,
-        },
-    ];
-    check_named(&rt, rt.alloc(), &packets, &due);
-    let none = [Named {
-        n0: 0,
-        offset: 32,
-        first: 1,
-    }];
-    check_named(&rt, rt.alloc(), &[], &none);
+    check_named(&rt, rt.alloc(), &PACKETS, &DUE);
+    check_named(&rt, rt.alloc(), &[], &[(0, 32, 1)]);
 }

@@ -1,6 +1,6 @@
 //! Files that are read again: what a cone has of them, and why one isn't made.
 
-use crate::settings::alone;
+use crate::cones::{SMALL, empty_bay, settings_of};
 use lert_bay::{Bay, FRAMES, JOURNAL, LOG, MemBay};
 use lert_cone::{Cone, ConeRoom, ConeState};
 use lert_plain::PlainTable;
@@ -28,7 +28,7 @@ const FLUSHED: [u8; 62] =
     *b"LERTL\x01\0\0\x010\0\0\0\x01\x0c\0\0\0\0\0\0\0 \0\0\0\0\0\0\0\x01\0\0\0\0\0\0\0\x01\0\0\x01\0\0\0\x07\0\0\0\0\0\0\0\x03\0\0\0\0\0\0\0\0";
 
 fn bay(rt: &impl Abort, alloc: Global, files: &[&[u8]; 3]) -> MemBay {
-    let mut bay = MemBay::new(alloc).expect(rt, "memory");
+    let mut bay = empty_bay(rt, alloc);
     bay.load(JOURNAL, files[0]).expect(rt, "memory");
     bay.load(LOG, files[1]).expect(rt, "memory");
     bay.load(FRAMES, files[2]).expect(rt, "memory");
@@ -36,7 +36,7 @@ fn bay(rt: &impl Abort, alloc: Global, files: &[&[u8]; 3]) -> MemBay {
 }
 
 // What there is to see of a cone that was reopened, or why there is none.
-#[derive(Clone, Copy, Debug, PartialEq, Eq)]
+#[derive(Clone, Copy, PartialEq, Eq)]
 struct Answer {
     state: Option<ConeState>,
     events: u64,
@@ -49,7 +49,7 @@ fn reopened<B: Bay>(rt: &impl Abort, alloc: Global, bay: B) -> (Answer, B)
 where
     B: Drop,
 {
-    let settings = alone(rt);
+    let settings = settings_of(rt, SMALL);
     let room: ConeRoom<PlainTable> = ConeRoom::new(alloc, &settings).expect(rt, "memory");
     match reopen(room, 0, bay) {
         Ok(cone) => (answer_of(&cone), cone.into_bay()),
@@ -88,13 +88,20 @@ fn is_left(file: u8, at: u64) -> Answer {
     is_refused(ReopenFault::Malformed { file, at })
 }
 
+// Rows of files, of which each has to be answered so.
+fn check_answers(rt: &impl Abort, alloc: Global, rows: &[([&[u8]; 3], Answer)]) {
+    for number in 0..rows.len() {
+        let (files, wanted) = rows[number];
+        assert!(rt; answer_over(rt, alloc, &files) == wanted, "row {number}");
+    }
+}
+
 #[test]
 fn files_make_a_cone_or_leave_their_format(rt: HostRuntime) {
     let mut other_letter = THREE;
     other_letter[4] = b'L';
     let mut many_callers = THREE;
     many_callers[37] = 64;
-    let empty = &THREE[..33];
     let rows: [([&[u8]; 3], Answer); 9] = [
         ([&THREE, &BEGUN, &[]], is_open(ConeState::Running, 3, 1)),
         ([&THREE, &CLOSED, &[]], is_open(ConeState::Finished, 3, 1)),
@@ -106,47 +113,48 @@ fn files_make_a_cone_or_leave_their_format(rt: HostRuntime) {
         // The log was closed after three keys: a record goes past them.
         ([&SIX, &CLOSED, &[]], is_left(JOURNAL, 69)),
         // And here the keys are missing.
-        ([&empty[..32], &CLOSED, &[]], is_left(JOURNAL, 32)),
+        ([&THREE[..32], &CLOSED, &[]], is_left(JOURNAL, 32)),
     ];
-    for (files, wanted) in rows {
-        assert_eq!(rt; answer_over(&rt, rt.alloc(), &files), wanted);
-    }
+    check_answers(&rt, rt.alloc(), &rows);
+}
+
+// The bay of the twelve keys once it was opened again, which made their flush.
+fn flushed(rt: &impl Abort, alloc: Global) -> MemBay {
+    let (_answer, bay) = reopened(rt, alloc, bay(rt, alloc, &[&TWELVE, &BEGUN, &[]]));
+    bay
 }
 
 #[test]
 fn a_flush_that_the_run_did_not_come_to(rt: HostRuntime) {
-    let alloc = rt.alloc();
-    let (_answer, first) = reopened(&rt, alloc, bay(&rt, alloc, &[&TWELVE, &BEGUN, &[]]));
-    assert_eq!(rt; first.bytes(LOG), FLUSHED.as_slice());
+    let first = flushed(&rt, rt.alloc());
     let frames = first.bytes(FRAMES);
     let cut = frames.get(..10).expect(&rt, "a frame was written");
-    let rows = [
-        (frames, is_open(ConeState::Running, 12, 1)),
-        (cut, is_left(FRAMES, 10)),
+    assert!(rt; first.bytes(LOG) == FLUSHED.as_slice());
+    let rows: [([&[u8]; 3], Answer); 2] = [
+        (
+            [&TWELVE, &FLUSHED, frames],
+            is_open(ConeState::Running, 12, 1),
+        ),
+        ([&TWELVE, &FLUSHED, cut], is_left(FRAMES, 10)),
     ];
-    for (frames, wanted) in rows {
-        let answer = answer_over(&rt, alloc, &[&TWELVE, &FLUSHED, frames]);
-        assert_eq!(rt; answer, wanted);
-    }
+    check_answers(&rt, rt.alloc(), &rows);
+}
+
+// The answer to a log that names this offset of the journal.
+fn answer_naming(rt: &impl Abort, alloc: Global, frames: &[u8], offset: u8) -> Answer {
+    let mut other = FLUSHED;
+    other[22] = offset;
+    answer_over(rt, alloc, &[&TWELVE, &other, frames])
 }
 
 #[test]
 fn a_log_that_names_no_record_of_the_journal(rt: HostRuntime) {
-    let alloc = rt.alloc();
-    let (_answer, first) = reopened(&rt, alloc, bay(&rt, alloc, &[&TWELVE, &BEGUN, &[]]));
-    // Byte 33 is no open gate and 141 a closed one, before which the log's twelve keys are missing. There the journal ends.
+    let first = flushed(&rt, rt.alloc());
+    // Byte 33 is no open gate and 141 a closed one, before which the log's twelve keys are missing. There the journal
+    // ends.
     for (offset, at) in [(33, 33), (141, 141), (142, 142), (200, 142)] {
-        let mut other = FLUSHED;
-        other[22] = offset;
-        let answer = answer_over(&rt, alloc, &[&TWELVE, &other, first.bytes(FRAMES)]);
-        assert_eq!(rt; answer, is_left(JOURNAL, at), "byte {offset}");
-    }
-}
-
-#[test]
-fn a_call_that_fails_is_told(rt: HostRuntime) {
-    for call in 1..9 {
-        check_failing(&rt, rt.alloc(), call);
+        let answer = answer_naming(&rt, rt.alloc(), first.bytes(FRAMES), offset);
+        assert!(rt; answer == is_left(JOURNAL, at), "byte {offset}");
     }
 }
 
@@ -154,6 +162,13 @@ fn check_failing(rt: &impl Abort, alloc: Global, call: u64) {
     let mut failing = bay(rt, alloc, &[&THREE, &CLOSED, &[]]);
     failing.fail_at(call);
     let (answer, refused) = reopened(rt, alloc, failing);
-    assert_eq!(rt; answer, is_refused(ReopenFault::Failed));
-    assert_eq!(rt; refused.bytes(JOURNAL), THREE.as_slice());
+    assert!(rt; answer == is_refused(ReopenFault::Failed));
+    assert!(rt; refused.bytes(JOURNAL) == THREE.as_slice());
+}
+
+#[test]
+fn a_call_that_fails_is_told(rt: HostRuntime) {
+    for call in 1..9 {
+        check_failing(&rt, rt.alloc(), call);
+    }
 }

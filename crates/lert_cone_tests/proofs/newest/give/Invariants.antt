@@ -1,5 +1,5 @@
 use Rattle.std.proofs.Common.{◌≡◌}
-use Rattle.lert_recover_tests.proofs.newest.give.Given as goal
+use Rattle.lert_cone_tests.proofs.newest.give.Given as goal
 
 -- the cone is the same one
 abbrev pub invariant-loop-m : goal.invariant-loop-m

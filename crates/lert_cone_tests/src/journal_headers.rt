@@ -1,15 +1,15 @@
 //! The header of one cone's journal, read with its own settings and with others.
 
-use crate::settings::ALONE;
-use lert_base::{Kept, Numbers, Settings};
-use lert_bay::{JOURNAL, MemBay};
+use crate::cones::{SMALL, empty_bay, settings_of};
+use lert_base::{Kept, Numbers};
+use lert_bay::JOURNAL;
 use lert_files::{ReopenFault, read_journal_header};
 use std::alloc::Global;
 use std::process::Abort;
 
 const OTHERS: Numbers = Numbers {
     threshold: 4,
-    ..ALONE
+    ..SMALL
 };
 
 // A header of these numbers, and a closed gate behind it.
@@ -30,8 +30,8 @@ fn answer_to(
     numbers: Numbers,
     bytes: &[u8],
 ) -> Result<(), ReopenFault> {
-    let settings = Settings::new(numbers).expect(rt, "settings");
-    let mut bay = MemBay::new(alloc).expect(rt, "memory");
+    let settings = settings_of(rt, numbers);
+    let mut bay = empty_bay(rt, alloc);
     bay.load(JOURNAL, bytes).expect(rt, "memory");
     read_journal_header(&mut bay, &settings, 0)
 }
@@ -40,23 +40,23 @@ fn answer_to(
 fn a_header_is_this_cones_or_anothers_or_none(rt: HostRuntime) {
     let own = Kept {
         cone: 0,
-        numbers: ALONE,
+        numbers: SMALL,
     };
     let second = Kept { cone: 1, ..own };
     let cases: [(Numbers, &[u8], Result<(), ReopenFault>); 7] = [
-        (ALONE, &TEXT, Ok(())),
+        (SMALL, &TEXT, Ok(())),
         (OTHERS, &TEXT, Err(ReopenFault::OtherSettings { kept: own })),
         (
-            ALONE,
+            SMALL,
             &SECOND_CONE,
             Err(ReopenFault::OtherSettings { kept: second }),
         ),
-        (ALONE, &TEXT[..32], malformed(32)),
+        (SMALL, &TEXT[..32], malformed(32)),
         (OTHERS, &TEXT[..20], malformed(20)),
-        (ALONE, b"LERTL\x01\0\0", malformed(4)),
-        (ALONE, b"", malformed(0)),
+        (SMALL, b"LERTL\x01\0\0", malformed(4)),
+        (SMALL, b"", malformed(0)),
     ];
     for (numbers, bytes, wanted) in cases {
-        assert_eq!(rt; answer_to(&rt, rt.alloc(), numbers, bytes), wanted);
+        assert!(rt; answer_to(&rt, rt.alloc(), numbers, bytes) == wanted);
     }
 }

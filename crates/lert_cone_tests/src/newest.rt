@@ -4,6 +4,7 @@ ghost use Rattle.std.specs.Prelude.{◌≡◌, ◌<◌};
 ghost use Rattle.lert_base.specs.Entries.{packet_of};
 ghost use Rattle.lert_journal.specs.Payload.{IsJournaled};
 
+use crate::cones::{check_listed, check_state, empty_bay, settings_of};
 use lert_base::{Entry, KeyList, Numbers, Report, Settings};
 use lert_bay::{Bay, JOURNAL, MemBay};
 use lert_cone::{Cone, ConeRoom, ConeState};
@@ -24,9 +25,10 @@ const LONG: Numbers = Numbers {
     packet: 1,
 };
 
-// A record of one key takes 21 bytes: behind a header of 32 those of 1,000 keys end at 21,032, where a closed gate stands. The
-// last flush came with key 1,000. Behind it level 0 holds the keys from 993 on: the bins have four keys, and 992 is the last
-// multiple of four with eight keys behind it at least. The record of key 993 begins at 32 + 992 * 21.
+// A record of one key takes 21 bytes: behind a header of 32 those of 1,000 keys end at 21,032, where a closed gate
+// stands. The last flush came with key 1,000. Behind it level 0 holds the keys from 993 on: the bins have four keys,
+// and 992 is the last multiple of four with eight keys behind it at least. The record of key 993 begins at 32 + 992 *
+// 21.
 const JOURNAL_LEN: usize = 21_033;
 
 const NAMED: usize = 20_864;
@@ -39,7 +41,8 @@ const EARLY: u64 = 5_000;
 
 const LATE: u64 = 6_000;
 
-// The edge of level 5 moves at 504 + 4 * 128 = 1,016: the flush there goes down to level 6, and counts from the first key on.
+// The edge of level 5 moves at 504 + 4 * 128 = 1,016: the flush there goes down to level 6, and counts from the first
+// key on.
 const FIRST_REPORT: Report = Report { key: EARLY, at: 3 };
 
 const SECOND_REPORT: Report = Report {
@@ -55,18 +58,12 @@ fn key_at(m: u64) -> u64 {
     }
 }
 
-fn settings(rt: &impl Abort) -> Settings
-    ensures { result ≡ LONG }
-{
-    Settings::new(LONG).expect(rt, "settings")
-}
-
 // The packet of a key of the only cone.
 fn packet(rt: &impl Abort, alloc: Global, key: u64) -> Entry
     ensures { IsJournaled LONG 0 (packet_of result) }
 {
-    let settings = settings(rt);
-    assert_eq!(rt; cone_of(&settings, key), 0);
+    let settings = settings_of(rt, LONG);
+    assert!(rt; cone_of(&settings, key) == 0);
     let mut list = KeyList::with_room(alloc, 1).expect(rt, "memory");
     list.push(key);
     Entry::new(0, 0, list)
@@ -95,7 +92,7 @@ fn left<B: Bay>(rt: &impl Abort, alloc: Global, bay: B) -> B
 where
     B: Drop,
 {
-    let room = ConeRoom::new(alloc, &settings(rt)).expect(rt, "memory");
+    let room = ConeRoom::new(alloc, &settings_of(rt, LONG)).expect(rt, "memory");
     match Cone::create(room, 0, bay) {
         Ok(mut cone) => {
             give(rt, alloc, &mut cone, 1, 1_000);
@@ -106,16 +103,16 @@ where
 }
 
 fn left_in_memory(rt: &impl Abort, alloc: Global) -> MemBay {
-    left(rt, alloc, MemBay::new(alloc).expect(rt, "memory"))
+    left(rt, alloc, empty_bay(rt, alloc))
 }
 
-// Opens a bay again: why no cone was made, and the bay. A cone that is made has the 1,000 keys, with their report, and goes on
-// to the second one.
+// Opens a bay again: why no cone was made, and the bay. A cone that is made has the 1,000 keys, with their report, and
+// goes on to the second one.
 fn reopened<B: Bay>(rt: &impl Abort, alloc: Global, bay: B) -> (Option<ReopenFault>, B)
 where
     B: Drop,
 {
-    let room = ConeRoom::new(alloc, &settings(rt)).expect(rt, "memory");
+    let room = ConeRoom::new(alloc, &settings_of(rt, LONG)).expect(rt, "memory");
     match reopen(room, 0, bay) {
         Ok(mut cone) => {
             check_rest(rt, alloc, &mut cone);
@@ -129,19 +126,14 @@ fn check_rest<B: Bay>(rt: &impl Abort, alloc: Global, cone: &mut Cone<B, PlainTa
     requires settings { cone.old.listing.settings ≡ LONG }
     requires cone { cone.old.listing.cone ≡ 0 }
 {
-    assert_eq!(rt; cone.state(), ConeState::Running);
-    assert_eq!(rt; cone.events(), 1_000);
-    check_reports(rt, cone, &[FIRST_REPORT]);
+    check_state(rt, cone, ConeState::Running, 1_000);
+    check_listed(rt, cone, &[FIRST_REPORT]);
     give(rt, alloc, cone, 1_001, 1_016);
-    check_reports(rt, cone, &[FIRST_REPORT, SECOND_REPORT]);
+    check_listed(rt, cone, &[FIRST_REPORT, SECOND_REPORT]);
 }
 
-fn check_reports<B: Bay>(rt: &impl Abort, cone: &Cone<B, PlainTable>, reports: &[Report]) {
-    assert_eq!(rt; cone.reports().list(), reports);
-}
-
-// What there is to see of a reopening: the journal's length, the bytes of it that were read before and behind, and why no cone
-// was made.
+// What there is to see of a reopening: the journal's length, the bytes of it that were read before and behind, and why
+// no cone was made.
 #[derive(Clone, Copy)]
 struct Seen {
     len: usize,
@@ -166,8 +158,7 @@ fn stopped_and_reopened(rt: &impl Abort, alloc: Global) -> Seen {
 #[test]
 fn a_reopening_reads_the_newest_bins_alone(rt: HostRuntime) {
     let seen = stopped_and_reopened(&rt, rt.alloc());
-    assert_eq!(rt; seen.len, JOURNAL_LEN);
-    assert_eq!(rt; seen.fault, None);
+    assert!(rt; seen.len == JOURNAL_LEN && seen.fault.is_none());
     // A packet that is admitted reads nothing of it.
     assert_eq!(rt; seen.behind, seen.before.saturating_add(READ));
 }
@@ -188,7 +179,7 @@ fn check_damage(rt: &impl Abort, alloc: Global, bay: &MemBay, rows: &[Damage]) {
     for row in rows {
         let (at, byte, wanted) = *row;
         let (fault, _bay) = reopened(rt, alloc, damaged(rt, alloc, bay, at, byte));
-        assert_eq!(rt; fault, wanted, "at {at}");
+        assert!(rt; fault == wanted, "at {at}");
     }
 }
 
@@ -207,8 +198,8 @@ fn damage_before_the_newest_bins_is_not_found(rt: HostRuntime) {
         (32, 0, None),
         (54, 0, None),
         (32 + 9 * 21 + 13, 255, None),
-        // The last byte that isn't read, and in the first record that is: its gate is closed, so that keys are missing, its length
-        // is too great, and there is no such caller.
+        // The last byte that isn't read, and in the first record that is: its gate is closed, so that keys are missing,
+        // its length is too great, and there is no such caller.
         (NAMED - 1, 255, None),
         (NAMED, 0, left_at(NAMED)),
         (NAMED + 2, 255, left_at(NAMED + 1)),

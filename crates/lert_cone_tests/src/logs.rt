@@ -1,8 +1,8 @@
 //! The bytes of whole logs, and of some that leave the format.
 
-use crate::settings::alone;
+use crate::cones::{SMALL, empty_bay, settings_of};
 use lert_base::Report;
-use lert_bay::{LOG, MemBay};
+use lert_bay::LOG;
 use lert_files::{Directory, ReopenFault, read_whole_log};
 use lert_plain::PlainTable;
 use lert_reports::{LogPoint, ReportStore};
@@ -26,8 +26,8 @@ struct Found {
 }
 
 fn read(rt: &impl Abort, alloc: Global, bytes: &[u8]) -> Found {
-    let settings = alone(rt);
-    let mut bay = MemBay::new(alloc).expect(rt, "memory");
+    let settings = settings_of(rt, SMALL);
+    let mut bay = empty_bay(rt, alloc);
     bay.load(LOG, bytes).expect(rt, "memory");
     let mut store: ReportStore<PlainTable> = ReportStore::new(alloc, &settings).expect(
         rt, "memory",
@@ -49,6 +49,13 @@ fn read(rt: &impl Abort, alloc: Global, bytes: &[u8]) -> Found {
     }
 }
 
+// Whether a whole log ends so, with these reports, and this directory.
+fn is_whole(found: &Found, end: LogPoint, reports: &[Report], directory: &[u8]) -> bool {
+    found.answer == Ok(end)
+        && found.reports.as_slice() == reports
+        && found.directory.bytes() == directory
+}
+
 fn check_whole(
     rt: &impl Abort,
     alloc: Global,
@@ -57,14 +64,12 @@ fn check_whole(
     reports: &[Report],
     directory: &[u8],
 ) {
-    let found = read(rt, alloc, bytes);
-    assert_eq!(rt; found.answer, Ok(end));
-    assert_eq!(rt; found.reports.as_slice(), reports);
-    assert_eq!(rt; found.directory.bytes(), directory);
+    assert!(rt; is_whole(&read(rt, alloc, bytes), end, reports, directory));
 }
 
-fn answer_to(rt: &impl Abort, alloc: Global, bytes: &[u8]) -> Result<LogPoint, ReopenFault> {
-    read(rt, alloc, bytes).answer
+// Whether a log is left at this place.
+fn is_left_at(rt: &impl Abort, alloc: Global, bytes: &[u8], at: u64) -> bool {
+    read(rt, alloc, bytes).answer == Err(ReopenFault::Malformed { file: LOG, at })
 }
 
 #[test]
@@ -131,7 +136,6 @@ fn a_log_leaves_its_format_at_a_place(rt: HostRuntime) {
         (&late_alone, 106),
     ];
     for (bytes, at) in broken {
-        let answer = answer_to(&rt, rt.alloc(), bytes);
-        assert_eq!(rt; answer, Err(ReopenFault::Malformed { file: LOG, at }));
+        assert!(rt; is_left_at(&rt, rt.alloc(), bytes, at), "at {at}");
     }
 }
