@@ -5,17 +5,14 @@ ghost use Rattle.std.specs.Prelude.{◌≡◌, ◌+◌, ◌*◌, ◌<◌, ◌≤
 ghost use Rattle.lert_spec.specs.Edges.{span};
 ghost use Rattle.lert_levels_tests.specs.Samples.{small as small_numbers, IsReady};
 
-use crate::samples::{Taken, are, fill};
-use crate::scenes::{Scene, play};
-use lert_base::{Piece, Pieces, Settings};
+use crate::samples::{Place, Taken, begun, begun_with, fill};
+use lert_base::{Piece, PieceFault, Pieces, Settings};
 use lert_bay::{Bay, FRAMES, MemBay};
 use lert_frames::FrameReader;
 use lert_levels::{FlushFault, Levels, Zero};
 use lert_plain::PlainTable;
 use std::alloc::Global;
-use std::test::Fail;
-
-pub(crate) const ROUND: [u64; 12] = [1, 2, 3, 4, 1, 2, 3, 4, 1, 2, 3, 4];
+use std::process::Abort;
 
 // The flush at position 12 + 4 * k. After Ok the oldest bin has left level 0, and four more events came.
 fn flush_into(
@@ -56,179 +53,186 @@ pub(crate) fn flush(
 
 // So many flushes from position 12 on: the directories behind them, one after another.
 pub(crate) fn directories(
+    rt: &impl Abort,
     alloc: Global,
     zero: &mut Zero<PlainTable>,
     levels: &mut Levels<PlainTable>,
     bay: &mut MemBay,
     flushes: u64,
-) -> Result<Vec<u8>, Fail>
+) -> Vec<u8>
     requires ready { IsReady 12 zero.old levels.old }
     requires few { flushes ≤ 6 }
-    ensures { OnOk result (IsReady (12 + 4 * flushes) zero.new levels.new) }
+    ensures { IsReady (12 + 4 * flushes) zero.new levels.new }
 {
     let mut seen = Vec::new(alloc);
     for k in 0..flushes {
-        flush(alloc, zero, levels, bay, k)?;
-        seen.extend_from_slice(levels.directory())?;
+        flush(alloc, zero, levels, bay, k).expect(rt, "no fault");
+        seen.extend_from_slice(levels.directory())
+            .expect(rt, "memory");
     }
-    Ok(seen)
+    seen
 }
 
 // The directories behind six flushes.
-#[derive(Drop)]
-struct SixFlushes;
-
-impl Scene for SixFlushes {
-    type Seen = Vec<u8>;
-
-    fn play(
-        &self,
-        alloc: Global,
-        zero: &mut Zero<PlainTable>,
-        levels: &mut Levels<PlainTable>,
-        bay: &mut MemBay,
-    ) -> Result<Vec<u8>, Fail> {
-        directories(alloc, zero, levels, bay, 6)
-    }
+fn six_directories(rt: &impl Abort, alloc: Global) -> Vec<u8> {
+    let mut place = begun(rt, alloc);
+    let Place { zero, levels, bay } = &mut place;
+    directories(rt, alloc, zero, levels, bay, 6)
 }
 
 #[test]
-fn each_bin_is_written_into_the_lowest_free_frame(rt: HostRuntime) -> Result<(), Fail> {
-    let seen = play(rt.alloc(), &ROUND, &SixFlushes)?;
+fn each_bin_is_written_into_the_lowest_free_frame(rt: HostRuntime) {
+    let seen = six_directories(&rt, rt.alloc());
     assert_eq!(rt;
         seen.as_slice(),
         b"\x01\0\0\x01\x01\0\x02\x01\0\0\x02\x01\x02\0\x03\x01\x02\0\0\x02\x02\x03\x01\0".as_slice()
     );
-    Ok(())
 }
 
-// The directory behind a flush of which this call fails, and behind the same flush once more.
-#[derive(Drop)]
-struct FailedCall {
+// A flush of which this call fails.
+fn refused(
+    rt: &impl Abort,
+    alloc: Global,
+    zero: &mut Zero<PlainTable>,
+    levels: &mut Levels<PlainTable>,
+    bay: &mut MemBay,
     call: u64,
+)
+    requires { IsReady 12 zero.old levels.old }
+    ensures { IsReady 12 zero.new levels.new }
+{
+    bay.fail_at(call);
+    if flush(alloc, zero, levels, bay, 0).is_ok() {
+        panic!(rt; "no call of the flush failed");
+    }
 }
 
-impl Scene for FailedCall {
-    type Seen = Vec<u8>;
+// The directory behind it, and behind the same flush once more.
+fn directories_though(
+    rt: &impl Abort,
+    alloc: Global,
+    zero: &mut Zero<PlainTable>,
+    levels: &mut Levels<PlainTable>,
+    bay: &mut MemBay,
+    call: u64,
+) -> Vec<u8>
+    requires { IsReady 12 zero.old levels.old }
+{
+    refused(rt, alloc, zero, levels, bay, call);
+    let mut seen = Vec::from_slice(alloc, levels.directory()).expect(rt, "memory");
+    let behind = directories(rt, alloc, zero, levels, bay, 1);
+    seen.extend_from_slice(&behind).expect(rt, "memory");
+    seen
+}
 
-    fn play(
-        &self,
-        alloc: Global,
-        zero: &mut Zero<PlainTable>,
-        levels: &mut Levels<PlainTable>,
-        bay: &mut MemBay,
-    ) -> Result<Vec<u8>, Fail> {
-        bay.fail_at(self.call);
-        if flush(alloc, zero, levels, bay, 0).is_ok() {
-            return Err(Fail::new("no call of the flush failed"));
-        }
-        let mut seen = Vec::from_slice(alloc, levels.directory())?;
-        flush(alloc, zero, levels, bay, 0)?;
-        seen.extend_from_slice(levels.directory())?;
-        Ok(seen)
-    }
+// The same of levels of their own.
+fn seen_though(rt: &impl Abort, alloc: Global, call: u64) -> Vec<u8> {
+    let mut place = begun(rt, alloc);
+    let Place { zero, levels, bay } = &mut place;
+    directories_though(rt, alloc, zero, levels, bay, call)
 }
 
 // The first call of the flush stores the bin, the second syncs the file.
 #[test]
-fn a_refused_flush_leaves_the_directory(rt: HostRuntime) -> Result<(), Fail> {
+fn a_refused_flush_leaves_the_directory(rt: HostRuntime) {
     for call in 1..3 {
-        let seen = play(rt.alloc(), &ROUND, &FailedCall { call })?;
+        let seen = seen_though(&rt, rt.alloc(), call);
         assert_eq!(rt; seen.as_slice(), b"\0\0\x01\0\0".as_slice());
     }
-    Ok(())
+}
+
+fn piece(tail: u64, count: u64) -> Piece {
+    Piece { tail, count }
 }
 
 // Whether a scan behind two flushes counts the events of all levels.
-#[derive(Drop)]
-struct ScanBehindTwo;
-
-impl Scene for ScanBehindTwo {
-    type Seen = bool;
-
-    fn play(
-        &self,
-        alloc: Global,
-        zero: &mut Zero<PlainTable>,
-        levels: &mut Levels<PlainTable>,
-        bay: &mut MemBay,
-    ) -> Result<bool, Fail> {
-        directories(alloc, zero, levels, bay, 2)?;
-        let mut totals = Taken::new(alloc);
-        levels.scan(bay, zero, &mut totals)?;
-        Ok(are(&totals.kept, &[(1, 5), (2, 5), (3, 5), (4, 5)]))
-    }
+fn is_scanned(
+    rt: &impl Abort,
+    alloc: Global,
+    zero: &mut Zero<PlainTable>,
+    levels: &mut Levels<PlainTable>,
+    bay: &mut MemBay,
+) -> bool
+    requires { IsReady 12 zero.old levels.old }
+{
+    let _behind = directories(rt, alloc, zero, levels, bay, 2);
+    let mut totals = Taken::new(alloc);
+    let all = [piece(1, 5), piece(2, 5), piece(3, 5), piece(4, 5)];
+    levels.scan(bay, zero, &mut totals).is_ok() && totals.kept.as_slice() == all.as_slice()
 }
 
 #[test]
-fn a_scan_counts_the_events_of_all_levels(rt: HostRuntime) -> Result<(), Fail> {
-    assert!(rt; play(rt.alloc(), &ROUND, &ScanBehindTwo)?);
-    Ok(())
+fn a_scan_counts_the_events_of_all_levels(rt: HostRuntime) {
+    let mut place = begun(&rt, rt.alloc());
+    let Place { zero, levels, bay } = &mut place;
+    assert!(rt; is_scanned(&rt, rt.alloc(), zero, levels, bay));
+}
+
+// What a reader gives next.
+fn next_of(reader: &mut FrameReader, bay: &mut MemBay) -> Result<Option<Piece>, PieceFault> {
+    reader.next(bay)
+}
+
+// Whether a reader gives just these pieces.
+fn gives(reader: &mut FrameReader, bay: &mut MemBay, pieces: &[Piece]) -> bool {
+    for piece in pieces {
+        if next_of(reader, bay) != Ok(Some(*piece)) {
+            return false;
+        }
+    }
+    next_of(reader, bay) == Ok(None)
 }
 
 // Whether the frame of a bin of level 1 holds these pieces.
 fn holds(
+    rt: &impl Abort,
     alloc: Global,
     settings: &Settings,
     bay: &mut MemBay,
     frame: u32,
     width: u64,
-    pairs: &[(u64, u64)],
-) -> Result<bool, Fail>
+    pieces: &[Piece],
+) -> bool
     requires settings { settings.now ≡ small_numbers }
     requires frame { frame ≤ 3 }
     requires some { 1 ≤ width }
     requires width { width ≤ span small_numbers 1 }
 {
-    let mut reader = FrameReader::new(alloc, settings, 1)?;
+    let mut reader = FrameReader::new(alloc, settings, 1).expect(rt, "memory");
     reader.start(frame, width);
-    let begins = pairs.iter().all(|(tail, count)| {
-        let piece = Piece {
-            tail: *tail,
-            count: *count,
-        };
-        reader.next(bay) == Ok(Some(piece))
-    });
-    Ok(begins && reader.next(bay) == Ok(None))
+    gives(&mut reader, bay, pieces)
 }
 
-// Whether the totals of a flush are the sums of the bins of level 0, and the bins of level 1 behind the third one those of
-// their parts: the first two bins of level 0 joined in frame 1, and the third one alone in frame 0.
-#[derive(Drop)]
-struct TotalsAndParts;
-
-impl Scene for TotalsAndParts {
-    type Seen = bool;
-
-    fn play(
-        &self,
-        alloc: Global,
-        zero: &mut Zero<PlainTable>,
-        levels: &mut Levels<PlainTable>,
-        bay: &mut MemBay,
-    ) -> Result<bool, Fail> {
-        let mut totals = Taken::new(alloc);
-        flush_into(&mut totals, zero, levels, bay, 0)?;
-        flush(alloc, zero, levels, bay, 1)?;
-        flush(alloc, zero, levels, bay, 2)?;
-        let joined = holds(
-            alloc,
-            zero.settings(),
-            bay,
-            1,
-            8,
-            &[(1, 3), (4, 2), (5, 1), (9, 2)],
-        )?;
-        let alone = holds(alloc, zero.settings(), bay, 0, 4, &[(1, 1), (5, 3)])?;
-        Ok(joined && alone && are(&totals.kept, &[(1, 4), (4, 2), (5, 4), (9, 2)]))
-    }
+// Whether the totals of a flush are the sums of the bins of level 0, and the bins of level 1 behind the third one those
+// of their parts: the first two bins of level 0 joined in frame 1, and the third one alone in frame 0.
+fn are_sums(
+    rt: &impl Abort,
+    alloc: Global,
+    zero: &mut Zero<PlainTable>,
+    levels: &mut Levels<PlainTable>,
+    bay: &mut MemBay,
+) -> bool
+    requires { IsReady 12 zero.old levels.old }
+{
+    let mut totals = Taken::new(alloc);
+    flush_into(&mut totals, zero, levels, bay, 0).expect(rt, "no fault");
+    flush(alloc, zero, levels, bay, 1).expect(rt, "no fault");
+    flush(alloc, zero, levels, bay, 2).expect(rt, "no fault");
+    let joined = [piece(1, 3), piece(4, 2), piece(5, 1), piece(9, 2)];
+    let alone = [piece(1, 1), piece(5, 3)];
+    let sums = [piece(1, 4), piece(4, 2), piece(5, 4), piece(9, 2)];
+    let settings = zero.settings();
+    holds(rt, alloc, settings, bay, 1, 8, &joined)
+        && holds(rt, alloc, settings, bay, 0, 4, &alone)
+        && totals.kept.as_slice() == sums.as_slice()
 }
 
 #[test]
-fn totals_and_parts_are_sums_of_the_bins(rt: HostRuntime) -> Result<(), Fail> {
+fn totals_and_parts_are_sums_of_the_bins(rt: HostRuntime) {
     let tails = [1, 1, 5, 9, 1, 4, 4, 9, 5, 5, 5, 1];
-    assert!(rt; play(rt.alloc(), &tails, &TotalsAndParts)?);
-    Ok(())
+    let mut place = begun_with(&rt, rt.alloc(), &tails);
+    let Place { zero, levels, bay } = &mut place;
+    assert!(rt; are_sums(&rt, rt.alloc(), zero, levels, bay));
 }
 
 // Puts the bins behind six flushes into the levels, by the directory alone.
@@ -239,142 +243,148 @@ fn restore(levels: &mut Levels<PlainTable>)
     levels.restore(32, &[2, 2, 3, 1, 0]);
 }
 
-// Whether two levels have the same bins, and name the same frames.
+// Whether two levels have the same bins in one of them.
+fn are_same_at(one: &Levels<PlainTable>, other: &Levels<PlainTable>, level: u32) -> bool
+    requires one { one.now.settings ≡ small_numbers }
+    requires other { other.now.settings ≡ small_numbers }
+    requires first { 1 ≤ level }
+    requires last { level ≤ 2 }
+{
+    one.bins(level) == other.bins(level)
+}
+
+// Whether they have the same bins, and name the same frames.
 fn are_same(one: &Levels<PlainTable>, other: &Levels<PlainTable>) -> bool
     requires one { one.now.settings ≡ small_numbers }
     requires other { other.now.settings ≡ small_numbers }
 {
-    one.bins(1) == other.bins(1)
-        && one.bins(2) == other.bins(2)
-        && one.directory() == other.directory()
+    are_same_at(one, other, 1) && are_same_at(one, other, 2) && one.directory() == other.directory()
 }
 
 // Whether levels that are restored from a directory have the bins of those that wrote it.
-#[derive(Drop)]
-struct RestoredBehindSix;
-
-impl Scene for RestoredBehindSix {
-    type Seen = bool;
-
-    fn play(
-        &self,
-        alloc: Global,
-        zero: &mut Zero<PlainTable>,
-        levels: &mut Levels<PlainTable>,
-        bay: &mut MemBay,
-    ) -> Result<bool, Fail> {
-        directories(alloc, zero, levels, bay, 6)?;
-        let mut again: Levels<PlainTable> = Levels::new(alloc, zero.settings())?;
-        restore(&mut again);
-        Ok(are_same(&again, levels))
-    }
+fn are_restored(
+    rt: &impl Abort,
+    alloc: Global,
+    zero: &mut Zero<PlainTable>,
+    levels: &mut Levels<PlainTable>,
+    bay: &mut MemBay,
+) -> bool
+    requires { IsReady 12 zero.old levels.old }
+{
+    let _behind = directories(rt, alloc, zero, levels, bay, 6);
+    let mut again: Levels<PlainTable> = Levels::new(alloc, zero.settings()).expect(rt, "memory");
+    restore(&mut again);
+    are_same(&again, levels)
 }
 
 #[test]
-fn a_directory_brings_the_bins_back(rt: HostRuntime) -> Result<(), Fail> {
-    assert!(rt; play(rt.alloc(), &ROUND, &RestoredBehindSix)?);
-    Ok(())
+fn a_directory_brings_the_bins_back(rt: HostRuntime) {
+    let mut place = begun(&rt, rt.alloc());
+    let Place { zero, levels, bay } = &mut place;
+    assert!(rt; are_restored(&rt, rt.alloc(), zero, levels, bay));
 }
 
-// Where a check finds the first frame that leaves its format.
-fn left(levels: &mut Levels<PlainTable>, bay: &mut MemBay) -> Result<Option<u64>, Fail> {
+// Where a check finds the first frame that leaves its format, once a byte of the file is another one.
+fn left_with(
+    rt: &impl Abort,
+    levels: &mut Levels<PlainTable>,
+    bay: &mut MemBay,
+    at: u32,
+    byte: u8,
+) -> Option<u64> {
+    bay.write_at(FRAMES, u64::from(at), &[byte])
+        .expect(rt, "no fault");
     match levels.check(bay) {
-        Ok(()) => Ok(None),
-        Err(FlushFault::Malformed { at }) => Ok(Some(at)),
-        Err(_) => Err(Fail::new("a call of the check failed")),
+        Ok(()) => None,
+        Err(FlushFault::Malformed { at }) => Some(at),
+        Err(_) => panic!(rt; "a call of the check failed"),
     }
 }
 
-// The same of restored levels after each of these bytes is written at its place.
-#[derive(Drop)]
-struct BrokenBytes {
-    writes: [(u32, u8); 3],
+// The same of restored levels after each of these bytes is written at its place. The oldest bin of level 1 stands at
+// byte 296, and that of level 2 at byte 592: each in one block, of which the first quotient has a run of eight slots.
+fn places_left(
+    rt: &impl Abort,
+    alloc: Global,
+    zero: &mut Zero<PlainTable>,
+    levels: &mut Levels<PlainTable>,
+    bay: &mut MemBay,
+) -> [Option<u64>; 3]
+    requires { IsReady 12 zero.old levels.old }
+{
+    let _behind = directories(rt, alloc, zero, levels, bay, 6);
+    restore(levels);
+    [
+        left_with(rt, levels, bay, 592, 1),
+        left_with(rt, levels, bay, 600, 33),
+        left_with(rt, levels, bay, 308, 0xc0),
+    ]
 }
 
-impl Scene for BrokenBytes {
-    type Seen = Vec<Option<u64>>;
-
-    fn play(
-        &self,
-        alloc: Global,
-        zero: &mut Zero<PlainTable>,
-        levels: &mut Levels<PlainTable>,
-        bay: &mut MemBay,
-    ) -> Result<Vec<Option<u64>>, Fail> {
-        directories(alloc, zero, levels, bay, 6)?;
-        restore(levels);
-        let mut places = Vec::new(alloc);
-        for (at, byte) in &self.writes {
-            bay.write_at(FRAMES, u64::from(*at), &[*byte])?;
-            places.push(left(levels, bay)?)?;
-        }
-        Ok(places)
-    }
-}
-
-// The oldest bin of level 1 stands at byte 296, and that of level 2 at byte 592: each in one block, of which the first
-// quotient has a run of eight slots.
 #[test]
-fn a_check_stops_at_the_first_broken_byte(rt: HostRuntime) -> Result<(), Fail> {
-    let writes = [(592, 1), (600, 33), (308, 0xc0)];
-    let places = play(rt.alloc(), &ROUND, &BrokenBytes { writes })?;
-    assert_eq!(rt; places.as_slice(), [None, Some(600), Some(308)].as_slice());
-    Ok(())
+fn a_check_stops_at_the_first_broken_byte(rt: HostRuntime) {
+    let mut place = begun(&rt, rt.alloc());
+    let Place { zero, levels, bay } = &mut place;
+    let places = places_left(&rt, rt.alloc(), zero, levels, bay);
+    assert!(rt; places == [None, Some(600), Some(308)]);
 }
 
-// The faults of a check and of a scan whose first call of the bay fails.
-fn failed_reads(
+// The fault of a check.
+fn check_fault(levels: &mut Levels<PlainTable>, bay: &mut MemBay) -> Option<FlushFault>
+    ensures { levels.new ≡ levels.old }
+{
+    levels.check(bay).err()
+}
+
+// The fault of a scan.
+fn scan_fault(
     alloc: Global,
     zero: &Zero<PlainTable>,
     levels: &mut Levels<PlainTable>,
     bay: &mut MemBay,
-) -> [Option<FlushFault>; 2]
+) -> Option<FlushFault>
     requires { zero.now.settings ≡ levels.old.settings }
     ensures { levels.new ≡ levels.old }
 {
-    bay.fail_at(1);
-    let check = levels.check(bay).err();
-    bay.fail_at(1);
-    let scan = levels.scan(bay, zero, &mut Taken::new(alloc)).err();
-    [check, scan]
+    levels.scan(bay, zero, &mut Taken::new(alloc)).err()
 }
 
-// The faults of a check, a scan and a flush behind two flushes: first where their first call fails, then where none does.
-#[derive(Drop)]
-struct FirstCalls;
-
-impl Scene for FirstCalls {
-    type Seen = [Option<FlushFault>; 6];
-
-    fn play(
-        &self,
-        alloc: Global,
-        zero: &mut Zero<PlainTable>,
-        levels: &mut Levels<PlainTable>,
-        bay: &mut MemBay,
-    ) -> Result<[Option<FlushFault>; 6], Fail> {
-        directories(alloc, zero, levels, bay, 2)?;
-        let [check, scan] = failed_reads(alloc, zero, levels, bay);
-        bay.fail_at(1);
-        let Err(fault) = flush(alloc, zero, levels, bay, 2) else {
-            return Err(Fail::new("no call of the flush failed"));
-        };
-        Ok([
-            check,
-            scan,
-            Some(fault),
-            levels.check(bay).err(),
-            levels.scan(bay, zero, &mut Taken::new(alloc)).err(),
-            flush(alloc, zero, levels, bay, 2).err(),
-        ])
-    }
+// The faults of a check, a scan and a flush behind two flushes: first where their first call fails, then where none
+// does.
+fn faults_of_calls(
+    rt: &impl Abort,
+    alloc: Global,
+    zero: &mut Zero<PlainTable>,
+    levels: &mut Levels<PlainTable>,
+    bay: &mut MemBay,
+) -> [Option<FlushFault>; 6]
+    requires { IsReady 12 zero.old levels.old }
+{
+    let _behind = directories(rt, alloc, zero, levels, bay, 2);
+    bay.fail_at(1);
+    let check = check_fault(levels, bay);
+    bay.fail_at(1);
+    let scan = scan_fault(alloc, zero, levels, bay);
+    bay.fail_at(1);
+    let Err(fault) = flush(alloc, zero, levels, bay, 2) else {
+        panic!(rt; "no call of the flush failed");
+    };
+    [
+        check,
+        scan,
+        Some(fault),
+        check_fault(levels, bay),
+        scan_fault(alloc, zero, levels, bay),
+        flush(alloc, zero, levels, bay, 2).err(),
+    ]
 }
 
 // A failed call is no want of memory, and where there is enough of it none is told.
 #[test]
-fn a_failed_call_is_told_as_one(rt: HostRuntime) -> Result<(), Fail> {
+fn a_failed_call_is_told_as_one(rt: HostRuntime) {
     let failed = Some(FlushFault::Failed);
-    let faults = play(rt.alloc(), &ROUND, &FirstCalls)?;
-    assert_eq!(rt; faults, [failed, failed, failed, None, None, None]);
-    Ok(())
+    let mut place = begun(&rt, rt.alloc());
+    let Place { zero, levels, bay } = &mut place;
+    let faults = faults_of_calls(&rt, rt.alloc(), zero, levels, bay);
+    assert!(rt; faults == [failed, failed, failed, None, None, None]);
 }

@@ -11,6 +11,4 @@ mod levels;
 #[cfg(test)]
 mod samples;
 #[cfg(test)]
-mod scenes;
-#[cfg(test)]
 mod zero;

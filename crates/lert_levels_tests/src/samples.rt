@@ -1,13 +1,16 @@
-//! Small settings, level 0 filled with tails, and totals that are kept: what several tests share.
+//! Small settings, level 0 filled with tails, the levels on disk and their bay, and totals that are kept: what several
+//! tests share.
 
-ghost use Rattle.std.specs.Prelude.{◌≡◌, ◌+◌, ◌%◌, ◌^◌, ◌<◌, ◌≤◌, All, [], length, IfOk};
+ghost use Rattle.std.specs.Prelude.{◌≡◌, ◌+◌, ◌%◌, ◌^◌, ◌<◌, ◌≤◌, All, [], length};
+ghost use Rattle.lert_levels_tests.specs.Samples.{IsReady, IsFilledTo};
 
 use lert_base::{Numbers, Piece, Settings, Totals};
+use lert_bay::MemBay;
 use lert_io::Seen;
-use lert_levels::Zero;
+use lert_levels::{Levels, Zero};
 use lert_plain::PlainTable;
 use std::alloc::Global;
-use std::test::Fail;
+use std::process::Abort;
 
 // Three bins a level, of 4 events at level 0, 8 at level 1 and 16 at level 2.
 pub(crate) const SMALL: Numbers = Numbers {
@@ -21,22 +24,19 @@ pub(crate) const SMALL: Numbers = Numbers {
     packet: 8,
 };
 
-// Whether pieces are these, by tail and count.
-pub(crate) fn are(pieces: &[Piece], pairs: &[(u64, u64)]) -> bool {
-    pieces.len() == pairs.len()
-        && pieces
-            .iter()
-            .zip(pairs)
-            .all(|(piece, pair)| (piece.tail, piece.count) == *pair)
+pub(crate) fn small(rt: &impl Abort) -> Settings
+    ensures { result ≡ SMALL }
+{
+    Settings::new(SMALL).expect(rt, "settings")
 }
 
-pub(crate) fn small() -> Result<Settings, Fail>
-    ensures { IfOk result (λ settings. settings ≡ SMALL) }
+// Level 0 without tails.
+pub(crate) fn empty_zero(rt: &impl Abort, alloc: Global) -> Zero<PlainTable>
+    ensures settings { result.settings ≡ SMALL }
+    ensures from { result.from ≡ 0 }
+    ensures to { result.to ≡ 0 }
 {
-    match Settings::new(SMALL) {
-        Ok(settings) => Ok(settings),
-        Err(_) => Err(Fail::new("the numbers are no settings")),
-    }
+    Zero::new(alloc, &small(rt)).expect(rt, "memory")
 }
 
 // Adds these tails at the positions behind `last`, the last one so far.
@@ -57,6 +57,52 @@ pub(crate) fn fill(zero: &mut Zero<PlainTable>, last: u64, tails: &[u64])
         m += 1;
         zero.add(*tail, m);
     }
+}
+
+// Level 0 with these twelve tails.
+fn filled(rt: &impl Abort, alloc: Global, tails: &[u64]) -> Zero<PlainTable>
+    requires twelve { length tails.now ≡ 12 }
+    requires below { All (λ tail. tail < 2 ^ 56) tails.now }
+    ensures { IsFilledTo 12 result }
+{
+    let mut zero = empty_zero(rt, alloc);
+    fill(&mut zero, 0, tails);
+    zero
+}
+
+// The levels on disk beside it, without bins.
+fn empty_levels(rt: &impl Abort, alloc: Global, zero: &Zero<PlainTable>) -> Levels<PlainTable>
+    requires { IsFilledTo 12 zero.now }
+    ensures { IsReady 12 zero.now result }
+{
+    Levels::new(alloc, zero.settings()).expect(rt, "memory")
+}
+
+// Level 0, the levels on disk, and their bay.
+#[derive(Drop)]
+pub(crate) struct Place {
+    pub zero: Zero<PlainTable>,
+    pub levels: Levels<PlainTable>,
+    pub bay: MemBay,
+}
+
+// One with these twelve tails in level 0, no bin on disk, and an empty bay.
+pub(crate) fn begun_with(rt: &impl Abort, alloc: Global, tails: &[u64]) -> Place
+    requires twelve { length tails.now ≡ 12 }
+    requires below { All (λ tail. tail < 2 ^ 56) tails.now }
+    ensures { IsReady 12 result.zero result.levels }
+{
+    let zero = filled(rt, alloc, tails);
+    let levels = empty_levels(rt, alloc, &zero);
+    let bay = MemBay::new(alloc).expect(rt, "memory");
+    Place { zero, levels, bay }
+}
+
+// One with the tails 1 to 4 three times.
+pub(crate) fn begun(rt: &impl Abort, alloc: Global) -> Place
+    ensures { IsReady 12 result.zero result.levels }
+{
+    begun_with(rt, alloc, &[1, 2, 3, 4, 1, 2, 3, 4, 1, 2, 3, 4])
 }
 
 // The totals that were taken, in their order.

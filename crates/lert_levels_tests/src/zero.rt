@@ -2,10 +2,9 @@
 
 ghost use Rattle.std.specs.Prelude.{◌≡◌, ◌+◌, ◌%◌, ◌<◌, ◌≤◌};
 
-use crate::samples::{SMALL, fill, small};
+use crate::samples::{SMALL, empty_zero, fill};
 use lert_levels::Zero;
 use lert_plain::PlainTable;
-use std::test::Fail;
 
 // The counts of the tails 5, 7 and 9.
 fn counts(zero: &Zero<PlainTable>) -> [u64; 3]
@@ -35,10 +34,8 @@ fn are_counted(zero: &mut Zero<PlainTable>) -> bool
 }
 
 #[test]
-fn counts_are_those_of_the_bins(rt: HostRuntime) -> Result<(), Fail> {
-    let mut zero: Zero<PlainTable> = Zero::new(rt.alloc(), &small()?)?;
-    assert!(rt; are_counted(&mut zero));
-    Ok(())
+fn counts_are_those_of_the_bins(rt: HostRuntime) {
+    assert!(rt; are_counted(&mut empty_zero(&rt, rt.alloc())));
 }
 
 // Whether tails are refused that never came, or only in a bin that was dropped three drops ago.
@@ -60,10 +57,8 @@ fn are_refused(zero: &mut Zero<PlainTable>) -> bool
 }
 
 #[test]
-fn absent_tails_are_refused(rt: HostRuntime) -> Result<(), Fail> {
-    let mut zero: Zero<PlainTable> = Zero::new(rt.alloc(), &small()?)?;
-    assert!(rt; are_refused(&mut zero));
-    Ok(())
+fn absent_tails_are_refused(rt: HostRuntime) {
+    assert!(rt; are_refused(&mut empty_zero(&rt, rt.alloc())));
 }
 
 // The tail of the event at a position: below 8, the seldomer the more bits it has.
@@ -95,14 +90,29 @@ fn fill_bin(zero: &mut Zero<PlainTable>, last: u64)
     fill(zero, last, &tails);
 }
 
-// Whether each tail may have come as often as it is drawn at the positions above `from`, up to `to`.
+// How often a tail is drawn at the positions above `from`, up to `to`.
+fn times_drawn(tail: u64, from: u64, to: u64) -> u64
+    requires { to ≤ 71 }
+{
+    let mut times = 0u64;
+    for m in from..to {
+        if drawn(m + 1) == tail {
+            times = times.saturating_add(1);
+        }
+    }
+    times
+}
+
+// Whether each tail may have come as often as it is drawn there.
 fn may_reach_drawn(zero: &Zero<PlainTable>, from: u64, to: u64) -> bool
     requires { to ≤ 71 }
 {
-    (0..8).all(|tail| {
-        let times = (from..to).filter(|m| drawn(m + 1) == tail).count();
-        zero.may_reach(tail, times as u64)
-    })
+    for tail in 0..8 {
+        if !zero.may_reach(tail, times_drawn(tail, from, to)) {
+            return false;
+        }
+    }
+    true
 }
 
 // Whether no tail is refused that came as often in the bins, as these come and go over seven generations of the bound.
@@ -124,8 +134,6 @@ fn none_is_refused(zero: &mut Zero<PlainTable>) -> bool
 }
 
 #[test]
-fn no_tail_that_came_is_refused(rt: HostRuntime) -> Result<(), Fail> {
-    let mut zero: Zero<PlainTable> = Zero::new(rt.alloc(), &small()?)?;
-    assert!(rt; none_is_refused(&mut zero));
-    Ok(())
+fn no_tail_that_came_is_refused(rt: HostRuntime) {
+    assert!(rt; none_is_refused(&mut empty_zero(&rt, rt.alloc())));
 }

@@ -3,4 +3,4 @@ use Rattle.lert_levels_tests.specs.Samples.{IsReady}
 use Rattle.lert_levels_tests.proofs.levels.directories.Given as goal
 
 abbrev pub invariant-loop-k : goal.invariant-loop-k
-invariant-loop-k l = IsReady (12 + 4 * l.k) l.zero l.levels
+invariant-loop-k g l = IsReady (12 + 4 * l.k) l.zero l.levels
