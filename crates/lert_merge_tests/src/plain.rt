@@ -1,7 +1,7 @@
 //! What a plain sort of all pieces finds.
 
-use lert_io::OutOfMemory;
 use std::alloc::Global;
+use std::process::Abort;
 
 /// Some tables of rows, a tail and a count each, as one list of tails, numbers of tables and counts.
 #[derive(Drop)]
@@ -17,27 +17,26 @@ impl Plain {
     }
 
     /// Adds the rows of a table of this number.
-    pub fn add(&mut self, table: usize, rows: &[(u64, u64)]) -> Result<(), OutOfMemory> {
+    pub fn add(&mut self, rt: &impl Abort, table: usize, rows: &[(u64, u64)]) {
         for &(tail, count) in rows {
-            self.rows.push((tail, table, count))?;
+            self.rows.push((tail, table, count)).expect(rt, "memory");
         }
-        Ok(())
     }
 
     /// All rows, each as its tail, the number of its table and its count, sorted.
-    pub fn rows(&mut self, alloc: Global) -> Result<Vec<u64>, OutOfMemory> {
+    pub fn rows(&mut self, rt: &impl Abort, alloc: Global) -> Vec<u64> {
         self.rows.sort_unstable();
         let mut all = Vec::new(alloc);
         for &(tail, table, count) in &self.rows {
-            all.push(tail)?;
-            all.push(table as u64)?;
-            all.push(count)?;
+            all.push(tail).expect(rt, "memory");
+            all.push(table as u64).expect(rt, "memory");
+            all.push(count).expect(rt, "memory");
         }
-        Ok(all)
+        all
     }
 
     /// For each tail the tail, the sum of its counts, and the count in each of so many tables.
-    pub fn sums(&mut self, alloc: Global, tables: usize) -> Result<Vec<u64>, OutOfMemory> {
+    pub fn sums(&mut self, rt: &impl Abort, alloc: Global, tables: usize) -> Vec<u64> {
         self.rows.sort_unstable();
         let mut all = Vec::new(alloc);
         let mut last = None;
@@ -45,12 +44,7 @@ impl Plain {
         for &(tail, table, count) in &self.rows {
             if last != Some(tail) {
                 last = Some(tail);
-                all.push(tail)?;
-                sum_at = all.len();
-                all.push(0)?;
-                for _ in 0..tables {
-                    all.push(0)?;
-                }
+                sum_at = add_tail(rt, &mut all, tail, tables);
             }
             raise(&mut all, sum_at, count);
             raise(
@@ -59,8 +53,20 @@ impl Plain {
                 count,
             );
         }
-        Ok(all)
+        all
     }
+}
+
+// Puts a tail behind the others, with a sum and the count of each of so many tables, all 0. Answers where its sum
+// stands.
+fn add_tail(rt: &impl Abort, all: &mut Vec<u64>, tail: u64, tables: usize) -> usize {
+    all.push(tail).expect(rt, "memory");
+    let sum_at = all.len();
+    all.push(0).expect(rt, "memory");
+    for _ in 0..tables {
+        all.push(0).expect(rt, "memory");
+    }
+    sum_at
 }
 
 fn raise(numbers: &mut [u64], at: usize, by: u64) {

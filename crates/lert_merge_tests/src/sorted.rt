@@ -1,12 +1,13 @@
 //! A stream of sorted pieces in memory.
 
-ghost use Rattle.std.specs.Prelude.{◌^◌, ◌<◌, ◌≤◌, IfOk, IsTrue};
+ghost use Rattle.std.specs.Prelude.{◌≡◌, ◌^◌, ◌<◌, ◌≤◌, ◌++◌, ◌∷◌, [], IsTrue};
 ghost use Rattle.lert_spec.proofs.GivenLaws.{given_prop};
 ghost use Rattle.lert_spec.specs.Table.{AreGiven};
 
 use lert_base::{Piece, PieceFault, Pieces};
-use lert_io::{Faulty, OutOfMemory};
+use lert_io::Faulty;
 use std::alloc::Global;
+use std::process::Abort;
 
 /// A context that counts its faults.
 #[derive(Clone, Copy)]
@@ -32,13 +33,13 @@ pub struct Sorted {
 
 impl Sorted {
     /// The rows of a table, a tail and a count each, up to the first that isn't above those before it.
-    pub fn new(alloc: Global, rows: &[(u64, u64)]) -> Result<Sorted, OutOfMemory> {
-        Ok(Sorted {
-            pieces: pieces_of(alloc, rows)?,
+    pub fn new(rt: &impl Abort, alloc: Global, rows: &[(u64, u64)]) -> Sorted {
+        Sorted {
+            pieces: pieces_of(rt, alloc, rows),
             given: 0,
             refuses_at: 0,
             refusals: 0,
-        })
+        }
     }
 
     /// The same stream, which refuses so many times before this piece.
@@ -53,23 +54,30 @@ impl Sorted {
     }
 }
 
-fn pieces_of(alloc: Global, rows: &[(u64, u64)]) -> Result<Vec<Piece>, OutOfMemory>
-    ensures { IfOk result (λ pieces. AreGiven (2 ^ 64) pieces.items) }
+fn pieces_of(rt: &impl Abort, alloc: Global, rows: &[(u64, u64)]) -> Vec<Piece>
+    ensures { AreGiven (2 ^ 64) result.items }
 {
     let mut pieces = Vec::new(alloc);
     let mut least = 0u64;
     for &(tail, count) in rows {
         let piece = Piece { tail, count };
         if !is_next(piece, least) {
-            return Ok(pieces);
+            return pieces;
         }
-        pieces.push(piece)?;
+        put(rt, &mut pieces, piece);
         let Some(above) = tail.checked_add(1) else {
-            return Ok(pieces);
+            return pieces;
         };
         least = above;
     }
-    Ok(pieces)
+    pieces
+}
+
+// Puts a piece behind the others.
+fn put(rt: &impl Abort, pieces: &mut Vec<Piece>, piece: Piece)
+    ensures { pieces.new.items ≡ pieces.old.items ++ piece ∷ [] }
+{
+    pieces.push(piece).expect(rt, "memory");
 }
 
 // Whether a piece may stand behind others whose tails are below the least one.
