@@ -1,8 +1,8 @@
 //! The printed text as its definition says it.
 
-ghost use Rattle.std.specs.Prelude.{◌≡◌, if◌then◌else◌, codes, ◌<◌, ◌^◌, length, sum_by, IfOk};
+ghost use Rattle.std.specs.Prelude.{◌≡◌, ◌++◌, if◌then◌else◌, codes, ◌<◌, ◌^◌, length, sum_by, IfOk};
 ghost use Rattle.std.specs.String.{string_bytes};
-ghost use Rattle.lert_spec.specs.Lines.{cone_line, report_line, total_line, cone_text, lines, Printed};
+ghost use Rattle.lert_spec.specs.Lines.{cone_line, report_line, total_line, cone_text, cone_texts, lines, Printed};
 
 use lert_spec::Report;
 use std::alloc::{AllocError, Global};
@@ -74,6 +74,30 @@ fn cone_text(alloc: Global, cone: usize, printed: &Printed) -> Result<String, Al
     Ok(text)
 }
 
+// Puts the text of a cone behind a text.
+fn push_cone(
+    alloc: Global,
+    text: &mut String,
+    cone: usize,
+    printed: &Printed,
+) -> Result<(), AllocError>
+    ensures { IfOk result (λ _. string_bytes text.new ≡ string_bytes text.old ++ cone_text cone printed.now) }
+{
+    let more = cone_text(alloc, cone, printed)?;
+    text.push_str(&more)
+}
+
+// The texts of cones in ascending order, from number 0 on.
+fn cone_texts(alloc: Global, cones: &[Printed]) -> Result<String, AllocError>
+    ensures { IfOk result (λ text. string_bytes text ≡ cone_texts 0 cones.now) }
+{
+    let mut text = String::new(alloc);
+    for (number, cone) in cones.iter().enumerate() {
+        push_cone(alloc, &mut text, number, cone)?;
+    }
+    Ok(text)
+}
+
 /// The whole text: each cone in ascending order, from number 0 on, and the line of totals. Its only error is want of
 /// memory.
 pub fn lines(alloc: Global, cones: &[Printed]) -> Result<String, AllocError>
@@ -83,10 +107,7 @@ pub fn lines(alloc: Global, cones: &[Printed]) -> Result<String, AllocError>
 {
     let events = cones.iter().map(|cone| cone.events).sum();
     let reports = cones.iter().map(|cone| cone.reports.len() as u64).sum();
-    let mut text = String::new(alloc);
-    for (number, cone) in cones.iter().enumerate() {
-        text.push_str(&cone_text(alloc, number, cone)?)?;
-    }
+    let mut text = cone_texts(alloc, cones)?;
     text.push_str(&total_line(alloc, events, reports)?)?;
     Ok(text)
 }

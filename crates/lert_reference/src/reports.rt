@@ -2,7 +2,7 @@
 //!
 //! The time spent grows with the square of the number of events, times that of the keys.
 
-ghost use Rattle.std.specs.Prelude.{◌≡◌, ℕ, ◌+◌, ◌-◌, ◌<◌, ◌≤◌, length, insert, IfOk, IfSome, MatchOption};
+ghost use Rattle.std.specs.Prelude.{◌≡◌, ℕ, ◌+◌, ◌-◌, ◌<◌, ◌≤◌, length, insert, [], IfOk, IfSome, MatchOption};
 ghost use Rattle.lert_spec.specs.Counts.{count};
 ghost use Rattle.lert_spec.specs.Edges.{capacity, lookback};
 ghost use Rattle.lert_spec.specs.Limits.{IsValid};
@@ -91,6 +91,25 @@ fn add_due(
     Ok(())
 }
 
+// Puts the reports of each position one behind the other, where none was made before.
+fn add_each(
+    reports: &mut Vec<Report>,
+    keys: &[u64],
+    s: &Numbers,
+    events: &[u64],
+) -> Result<(), AllocError>
+    requires none { reports.old.items ≡ [] }
+    requires keys { keys.now ≡ mixed_order events.now }
+    requires valid { IsValid s.now }
+    ensures { IfOk result (λ _. reports.new.items ≡ look s.now events.now) }
+{
+    for m in 1..events.len() + 1 {
+        let from = lookback(s, m as u64) as usize;
+        add_due(reports, keys, s.threshold, events, from, m)?;
+    }
+    Ok(())
+}
+
 /// The reports that are made of a cone's events while they come: every key whose bound has passed is among them.
 pub fn look(alloc: Global, s: &Numbers, events: &[u64]) -> Result<Vec<Report>, AllocError>
     requires valid { IsValid s.now }
@@ -101,10 +120,7 @@ pub fn look(alloc: Global, s: &Numbers, events: &[u64]) -> Result<Vec<Report>, A
 {
     let keys = mixed_order(alloc, events)?;
     let mut reports = Vec::new(alloc);
-    for m in 1..events.len() + 1 {
-        let from = lookback(s, m as u64) as usize;
-        add_due(&mut reports, &keys, s.threshold, events, from, m)?;
-    }
+    add_each(&mut reports, &keys, s, events)?;
     Ok(reports)
 }
 
