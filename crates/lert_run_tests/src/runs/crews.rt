@@ -1,11 +1,12 @@
 //! Runs over two traces by several workers.
 
+use crate::checks::ends;
 use lert_base::Words;
 use lert_top::Status;
 use lert_trials::{SMALL, Two, crew_form, long_form, run_pair, run_two, trace};
+use std::alloc::Global;
 use std::process::Abort;
 use std::sync::Wait;
-use std::test::Fail;
 use std::thread::Threads;
 
 // Threshold 2, and else the small settings.
@@ -13,106 +14,101 @@ const TWICE: [&str; 8] = ["2", "3", "2", "4", "2", "0", "32", "8"];
 
 // Runs these words over two traces and an empty bay, and wants the status and the text.
 fn check_two(
-    rt: &(impl Abort + AllocGlobal + Threads + Wait + Sync),
+    rt: &(impl Abort + Threads + Wait + Sync),
+    alloc: Global,
     words: &[&str],
     two: &Two,
     status: Status,
     text: &str,
-) -> Result<(), Fail> {
-    let ended = run_two(rt, rt.alloc(), words, two)?;
-    assert!(rt; ended.ended_with(status), "the status");
-    assert!(rt; ended.wrote(text), "the text");
-    Ok(())
+) {
+    let ended = run_two(rt, alloc, words, two).expect(rt, "memory");
+    ends(rt, &ended, status, text);
 }
 
-#[test]
-fn a_key_of_two_traces_is_counted_in_both(rt: HostRuntime) -> Result<(), Fail> {
-    let one = trace(rt.alloc(), &[7])?;
-    let two = Two {
-        first: one.as_slice(),
-        second: one.as_slice(),
+// Two traces, of which no read fails.
+fn two<'a>(first: &'a [u8], second: &'a [u8]) -> Two<'a> {
+    Two {
+        first,
+        second,
         failing_read: 0,
-    };
-    let text = "cone 0 events 2 reports 1 closed\n7 2\ntotal events 2 reports 1\n";
-    for workers in ["1", "2", "64"] {
-        check_two(
-            &rt,
-            &crew_form(TWICE, workers, "b"),
-            &two,
-            Status::Done,
-            text,
-        )?;
     }
+}
+
+#[test]
+fn a_key_of_two_traces_is_counted_in_both(rt: HostRuntime) {
+    let one = trace(rt.alloc(), &[7]).expect(&rt, "memory");
+    let both = two(&one, &one);
+    let text = "cone 0 events 2 reports 1 closed\n7 2\ntotal events 2 reports 1\n";
     // One name twice is two readers.
-    check_two(&rt, &crew_form(TWICE, "2", "a"), &two, Status::Done, text)
+    let crews = [("1", "b"), ("2", "b"), ("64", "b"), ("2", "a")];
+    for crew in 0..4 {
+        let (workers, second) = crews[crew];
+        let words = crew_form(TWICE, workers, second);
+        check_two(&rt, rt.alloc(), &words, &both, Status::Done, text);
+    }
 }
 
 #[test]
-fn the_lowest_trace_with_the_first_kind_of_fault_is_answered(rt: HostRuntime) -> Result<(), Fail> {
-    let mut cut = trace(rt.alloc(), &[7, 7])?;
+fn the_lowest_trace_with_the_first_kind_of_fault_is_answered(rt: HostRuntime) {
+    let mut cut = trace(rt.alloc(), &[7, 7]).expect(&rt, "memory");
     cut.truncate(21);
-    let bad: [u8; 8] = [0x4c, 0x45, 0x52, 0x55, 1, 0, 0, 0];
+    let bad = [0x4c, 0x45, 0x52, 0x55, 1, 0, 0, 0];
+    let rows: [(&[u8], u64, Status); 2] = [
+        (&bad, 0, Status::BadTrace { trace: 0, at: 16 }),
+        (&cut, 1, Status::TraceFault { trace: 0 }),
+    ];
     let words = crew_form(TWICE, "2", "b");
-    let place = Two {
-        first: cut.as_slice(),
-        second: &bad,
-        failing_read: 0,
-    };
-    check_two(
-        &rt,
-        &words,
-        &place,
-        Status::BadTrace { trace: 0, at: 16 },
-        "",
-    )?;
-    let failing = Two {
-        first: cut.as_slice(),
-        second: cut.as_slice(),
-        failing_read: 1,
-    };
-    check_two(&rt, &words, &failing, Status::TraceFault { trace: 0 }, "")
+    for (second, failing_read, status) in rows {
+        let place = Two {
+            first: &cut,
+            second,
+            failing_read,
+        };
+        check_two(&rt, rt.alloc(), &words, &place, status, "");
+    }
+}
+
+// Runs these words over two traces without a byte, and wants the rule that they break.
+fn check_rule(rt: &(impl Abort + Threads + Wait + Sync), alloc: Global, words: &[&str], rule: u8) {
+    let none = two(&[], &[]);
+    check_two(rt, alloc, words, &none, Status::Usage { rule }, "");
+}
+
+// Words with one trace more than there may be.
+fn too_many_words() -> [&'static str; 1_043] {
+    let mut many = ["a"; 1_043];
+    many[..18].copy_from_slice(&long_form(SMALL)[..18]);
+    many
 }
 
 #[test]
-fn rules_on_workers_and_traces_are_named(rt: HostRuntime) -> Result<(), Fail> {
-    let two = Two {
-        first: &[],
-        second: &[],
-        failing_read: 0,
-    };
+fn rules_on_workers_and_traces_are_named(rt: HostRuntime) {
     for workers in ["0", "65"] {
-        let rule = Status::Usage { rule: 12 };
-        check_two(&rt, &crew_form(SMALL, workers, "b"), &two, rule, "")?;
+        check_rule(&rt, rt.alloc(), &crew_form(SMALL, workers, "b"), 12);
     }
     // No trace.
-    let long = long_form(SMALL);
-    check_two(&rt, &long[..18], &two, Status::Usage { rule: 0 }, "")?;
-    let crew = crew_form(SMALL, "2", "b");
-    check_two(&rt, &crew[..20], &two, Status::Usage { rule: 0 }, "")?;
-    // One trace more than there may be.
-    let mut many = ["a"; 1_043];
-    many[..18].copy_from_slice(&long[..18]);
-    check_two(&rt, &many, &two, Status::Usage { rule: 13 }, "")
+    check_rule(&rt, rt.alloc(), &long_form(SMALL)[..18], 0);
+    check_rule(&rt, rt.alloc(), &crew_form(SMALL, "2", "b")[..20], 0);
+    check_rule(&rt, rt.alloc(), &too_many_words(), 13);
 }
 
-fn words_of(rt: &impl AllocGlobal, texts: &[&str]) -> Result<Words, Fail> {
-    let mut words = Words::new(rt.alloc())?;
+fn words_of(rt: &impl Abort, alloc: Global, texts: &[&str]) -> Words {
+    let mut words = Words::new(alloc).expect(rt, "memory");
     for text in texts {
-        words.push(text)?;
+        words.push(text).expect(rt, "memory");
     }
-    Ok(words)
+    words
 }
 
 #[test]
-fn two_workers_read_at_once(rt: HostRuntime) -> Result<(), Fail> {
-    let sevens = trace(rt.alloc(), &[7, 7, 7])?;
-    let words = words_of(
-        &rt,
-        &crew_form(["3", "3", "2", "4", "2", "0", "32", "8"], "2", "b"),
-    )?;
-    let (status, text) = run_pair(&rt, rt.alloc(), &words, sevens.as_slice(), 8, 200_000_000)?;
-    assert!(&rt; status == Status::Done, "the status");
+fn two_workers_read_at_once(rt: HostRuntime) {
+    let sevens = trace(rt.alloc(), &[7, 7, 7]).expect(&rt, "memory");
+    let words = crew_form(SMALL, "2", "b");
+    let words = words_of(&rt, rt.alloc(), &words);
+    let (status, text) = run_pair(&rt, rt.alloc(), &words, &sevens, 8, 200_000_000).expect(
+        &rt, "memory",
+    );
+    assert!(rt; status == Status::Done, "the status");
     let wanted = "cone 0 events 6 reports 1 closed\n7 3\ntotal events 6 reports 1\n";
-    assert!(&rt; text.as_slice() == wanted.as_bytes(), "the text");
-    Ok(())
+    assert!(rt; text.as_slice() == wanted.as_bytes(), "the text");
 }

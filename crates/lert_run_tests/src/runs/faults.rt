@@ -1,15 +1,15 @@
 //! Faults of the place, of the trace and of the sink.
 
 use super::check;
+use crate::checks::whole_row;
 use lert_top::Status;
 use lert_trials::{Row, short_form, trace};
-use std::test::Fail;
 
 #[test]
-fn a_fault_of_the_outside_is_answered_by_its_status(rt: HostRuntime) -> Result<(), Fail> {
+fn a_fault_of_the_outside_is_answered_by_its_status(rt: HostRuntime) {
     let short = short_form("3");
     let lacking = ["run", "--threshold", "3", "--cone-bits", "0", "d", "b"];
-    let whole = trace(rt.alloc(), &[7, 7, 7])?;
+    let whole = trace(rt.alloc(), &[7, 7, 7]).expect(&rt, "memory");
     let rows: [(&[&str], u64, u64, Status); 4] = [
         (&lacking, 0, 0, Status::PlaceFault),
         (&short, 1, 0, Status::TraceFault { trace: 0 }),
@@ -20,37 +20,27 @@ fn a_fault_of_the_outside_is_answered_by_its_status(rt: HostRuntime) -> Result<(
         let row = Row {
             words,
             cones: 1,
-            trace: whole.as_slice(),
+            trace: &whole,
             failing_read,
             failing_write,
         };
-        check(&rt, &row, status, "")?;
+        check(&rt, rt.alloc(), &row, status, "");
     }
-    Ok(())
 }
 
 #[test]
-fn a_bad_trace_is_answered_with_its_place_and_leaves_nothing_written(
-    rt: HostRuntime,
-) -> Result<(), Fail> {
+fn a_bad_trace_is_answered_with_its_place_and_leaves_nothing_written(rt: HostRuntime) {
     let short = short_form("3");
-    let mut cut = trace(rt.alloc(), &[7, 7, 7])?;
+    let mut cut = trace(rt.alloc(), &[7, 7, 7]).expect(&rt, "memory");
     cut.truncate(21);
     let rows: [(&[u8], u64); 4] = [
-        (cut.as_slice(), 16),
+        (&cut, 16),
         (&[], 0),
         (&[0x4c, 0x45, 0x52, 0], 3),
         (&[0x4c, 0x45, 0x52, 0x54, 9, 0, 0, 0], 4),
     ];
     for (trace, at) in rows {
-        let row = Row {
-            words: &short,
-            cones: 1,
-            trace,
-            failing_read: 0,
-            failing_write: 0,
-        };
-        check(&rt, &row, Status::BadTrace { trace: 0, at }, "")?;
+        let row = whole_row(&short, 1, trace);
+        check(&rt, rt.alloc(), &row, Status::BadTrace { trace: 0, at }, "");
     }
-    Ok(())
 }

@@ -1,15 +1,15 @@
 //! What is reported, and when.
 
 use super::{check, check_long};
+use crate::checks::whole_row;
 use lert_top::Status;
-use lert_trials::{Row, SMALL, short_form, trace, trace_with};
-use std::test::Fail;
+use lert_trials::{SMALL, short_form, trace, trace_with};
 
 // How many keys there are, these at these positions, and the text.
 type Placed<'a> = (u8, &'a [(u8, u64)], &'a str);
 
 #[test]
-fn the_short_form_runs_with_the_defaults(rt: HostRuntime) -> Result<(), Fail> {
+fn the_short_form_runs_with_the_defaults(rt: HostRuntime) {
     let rows: [(&str, &[u64], &str); 4] = [
         (
             "3",
@@ -33,54 +33,47 @@ fn the_short_form_runs_with_the_defaults(rt: HostRuntime) -> Result<(), Fail> {
         ),
     ];
     for (threshold, keys, text) in rows {
-        let trace = trace(rt.alloc(), keys)?;
-        let row = Row {
-            words: &short_form(threshold),
-            cones: 1,
-            trace: trace.as_slice(),
-            failing_read: 0,
-            failing_write: 0,
-        };
-        check(&rt, &row, Status::Done, text)?;
+        let trace = trace(rt.alloc(), keys).expect(&rt, "memory");
+        let words = short_form(threshold);
+        let row = whole_row(&words, 1, &trace);
+        check(&rt, rt.alloc(), &row, Status::Done, text);
     }
-    Ok(())
 }
 
 #[test]
-fn the_long_form_runs_with_its_settings(rt: HostRuntime) -> Result<(), Fail> {
+fn the_long_form_runs_with_its_settings(rt: HostRuntime) {
     let at_once = ["1", "3", "2", "4", "2", "0", "32", "8"];
     let spelled = ["03", "3", "2", "4", "2", "00", "32", "00000000000000000008"];
-    let rows: [([&str; 8], &[u64], &str); 4] = [
+    let rows: [(&[&str; 8], &[u64], &str); 4] = [
         (
-            SMALL,
+            &SMALL,
             &[],
             "cone 0 events 0 reports 0 closed\ntotal events 0 reports 0\n",
         ),
         (
-            SMALL,
+            &SMALL,
             &[7, 7, 7],
             "cone 0 events 3 reports 1 closed\n7 3\ntotal events 3 reports 1\n",
         ),
         (
-            spelled,
+            &spelled,
             &[7, 7, 7],
             "cone 0 events 3 reports 1 closed\n7 3\ntotal events 3 reports 1\n",
         ),
         (
-            at_once,
+            &at_once,
             &[7, 7, 8],
             "cone 0 events 3 reports 2 closed\n7 1\n8 3\ntotal events 3 reports 2\n",
         ),
     ];
     for (numbers, keys, text) in rows {
-        let trace = trace(rt.alloc(), keys)?;
-        check_long(&rt, numbers, trace.as_slice(), Status::Done, text)?;
+        let trace = trace(rt.alloc(), keys).expect(&rt, "memory");
+        check_long(&rt, rt.alloc(), numbers, &trace, Status::Done, text);
     }
-    Ok(())
 }
 
 #[test]
-fn a_key_is_reported_by_level_0_by_a_flush_or_at_the_end(rt: HostRuntime) -> Result<(), Fail> {
+fn a_key_is_reported_by_level_0_by_a_flush_or_at_the_end(rt: HostRuntime) {
     let rows: [Placed; 5] = [
         (
             16,
@@ -109,14 +102,13 @@ fn a_key_is_reported_by_level_0_by_a_flush_or_at_the_end(rt: HostRuntime) -> Res
         ),
     ];
     for (len, placed, text) in rows {
-        let trace = trace_with(rt.alloc(), len, placed)?;
-        check_long(&rt, SMALL, trace.as_slice(), Status::Done, text)?;
+        let trace = trace_with(rt.alloc(), len, placed).expect(&rt, "memory");
+        check_long(&rt, rt.alloc(), &SMALL, &trace, Status::Done, text);
     }
-    Ok(())
 }
 
 #[test]
-fn reports_of_one_position_stand_in_the_order_of_mixed_values(rt: HostRuntime) -> Result<(), Fail> {
+fn reports_of_one_position_stand_in_the_order_of_mixed_values(rt: HostRuntime) {
     let text =
         "cone 0 events 16 reports 2 closed\n18446744073709551615 16\n1 16\ntotal events 16 reports 2\n";
     let rows: [&[(u8, u64)]; 2] = [
@@ -138,8 +130,7 @@ fn reports_of_one_position_stand_in_the_order_of_mixed_values(rt: HostRuntime) -
         ],
     ];
     for placed in rows {
-        let trace = trace_with(rt.alloc(), 16, placed)?;
-        check_long(&rt, SMALL, trace.as_slice(), Status::Done, text)?;
+        let trace = trace_with(rt.alloc(), 16, placed).expect(&rt, "memory");
+        check_long(&rt, rt.alloc(), &SMALL, &trace, Status::Done, text);
     }
-    Ok(())
 }
