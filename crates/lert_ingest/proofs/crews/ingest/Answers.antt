@@ -52,22 +52,22 @@ returns-in-Err-clause-later g c =
     c.args.settings.now c.args.workers c.args.traces.items c.args.traces.items c.args.cones.items c.in-Err.cones.items refl c.in-Err.ensures.back).later
 
 pub returns-in_default-clause-later : goal.returns-in_default-clause-later
-returns-in_default-clause-later g c = 
+returns-in_default-clause-later g c =
     (untouched g.S.Source.remaining g.S.Faulty.faults g.S.Faulty.mark g.B.Bay.files g.B.Bay.leaves g.B.Faulty.faults g.B.Faulty.mark
     c.args.settings.now c.args.workers c.args.traces.items c.args.traces.items c.args.cones.items c.args.cones.items refl refl).later
 
 pub returns-in_default-clause-traces_later : goal.returns-in_default-clause-traces_later
-returns-in_default-clause-traces_later g c = 
+returns-in_default-clause-traces_later g c =
     (untouched g.S.Source.remaining g.S.Faulty.faults g.S.Faulty.mark g.B.Bay.files g.B.Bay.leaves g.B.Faulty.faults g.B.Faulty.mark
     c.args.settings.now c.args.workers c.args.traces.items c.args.traces.items c.args.cones.items c.args.cones.items refl refl).traces_later
 
 pub returns-in_default-clause-stopped : goal.returns-in_default-clause-stopped
-returns-in_default-clause-stopped g c = 
+returns-in_default-clause-stopped g c =
     (untouched g.S.Source.remaining g.S.Faulty.faults g.S.Faulty.mark g.B.Bay.files g.B.Bay.leaves g.B.Faulty.faults g.B.Faulty.mark
     c.args.settings.now c.args.workers c.args.traces.items c.args.traces.items c.args.cones.items c.args.cones.items refl refl).stopped
 
 pub returns-in_default-clause-exact : goal.returns-in_default-clause-exact
-returns-in_default-clause-exact g c = 
+returns-in_default-clause-exact g c =
     (untouched g.S.Source.remaining g.S.Faulty.faults g.S.Faulty.mark g.B.Bay.files g.B.Bay.leaves g.B.Faulty.faults g.B.Faulty.mark
     c.args.settings.now c.args.workers c.args.traces.items c.args.traces.items c.args.cones.items c.args.cones.items refl refl).exact
 
@@ -75,35 +75,35 @@ pub returns-in_default-clause-read : goal.returns-in_default-clause-read
 returns-in_default-clause-read g c = tt
 
 pub returns-in-Ok-lock_cones-clause-later : goal.returns-in-Ok-lock_cones-clause-later
-returns-in-Ok-lock_cones-clause-later g c = 
+returns-in-Ok-lock_cones-clause-later g c =
     (subst (λ (firsts : List (Standing _)). HasIngested g.S.Source.remaining g.S.Faulty.faults g.S.Faulty.mark g.B.Bay.files g.B.Bay.leaves g.B.Faulty.faults g.B.Faulty.mark
     c.args.settings.now c.args.workers c.args.traces.items c.ingest_fleet.result.0.items firsts c.ingest_fleet.result.1.items c.ingest_fleet.result.2)
     c.in-Ok-lock_cones.ensures.locks.firsts c.ingest_fleet.ensures).later
 
 pub returns-in-Ok-lock_cones-clause-traces_later : goal.returns-in-Ok-lock_cones-clause-traces_later
-returns-in-Ok-lock_cones-clause-traces_later g c = 
+returns-in-Ok-lock_cones-clause-traces_later g c =
     (subst (λ (firsts : List (Standing _)). HasIngested g.S.Source.remaining g.S.Faulty.faults g.S.Faulty.mark g.B.Bay.files g.B.Bay.leaves g.B.Faulty.faults g.B.Faulty.mark
     c.args.settings.now c.args.workers c.args.traces.items c.ingest_fleet.result.0.items firsts c.ingest_fleet.result.1.items c.ingest_fleet.result.2)
     c.in-Ok-lock_cones.ensures.locks.firsts c.ingest_fleet.ensures).traces_later
 
 pub returns-in-Ok-lock_cones-clause-read : goal.returns-in-Ok-lock_cones-clause-read
-returns-in-Ok-lock_cones-clause-read g c = 
+returns-in-Ok-lock_cones-clause-read g c =
     (subst (λ (firsts : List (Standing _)). HasIngested g.S.Source.remaining g.S.Faulty.faults g.S.Faulty.mark g.B.Bay.files g.B.Bay.leaves g.B.Faulty.faults g.B.Faulty.mark
     c.args.settings.now c.args.workers c.args.traces.items c.ingest_fleet.result.0.items firsts c.ingest_fleet.result.1.items c.ingest_fleet.result.2)
     c.in-Ok-lock_cones.ensures.locks.firsts c.ingest_fleet.ensures).read
 
 pub returns-in-Err-clause-traces_later : goal.returns-in-Err-clause-traces_later
-returns-in-Err-clause-traces_later g c = 
+returns-in-Err-clause-traces_later g c =
     (untouched g.S.Source.remaining g.S.Faulty.faults g.S.Faulty.mark g.B.Bay.files g.B.Bay.leaves g.B.Faulty.faults g.B.Faulty.mark
     c.args.settings.now c.args.workers c.args.traces.items c.args.traces.items c.args.cones.items c.in-Err.cones.items refl c.in-Err.ensures.back).traces_later
 
 pub returns-in-Err-clause-stopped : goal.returns-in-Err-clause-stopped
-returns-in-Err-clause-stopped g c = 
+returns-in-Err-clause-stopped g c =
     (untouched g.S.Source.remaining g.S.Faulty.faults g.S.Faulty.mark g.B.Bay.files g.B.Bay.leaves g.B.Faulty.faults g.B.Faulty.mark
     c.args.settings.now c.args.workers c.args.traces.items c.args.traces.items c.args.cones.items c.in-Err.cones.items refl c.in-Err.ensures.back).stopped
 
 pub returns-in-Err-clause-exact : goal.returns-in-Err-clause-exact
-returns-in-Err-clause-exact g c = 
+returns-in-Err-clause-exact g c =
     (untouched g.S.Source.remaining g.S.Faulty.faults g.S.Faulty.mark g.B.Bay.files g.B.Bay.leaves g.B.Faulty.faults g.B.Faulty.mark
     c.args.settings.now c.args.workers c.args.traces.items c.args.traces.items c.args.cones.items c.in-Err.cones.items refl c.in-Err.ensures.back).exact
 

@@ -48,9 +48,9 @@ all_back : (g : given.Over) (place : g.row.P.Denot) → g.P.Place.asked place �
     AreReturned g.P.Trace.Faulty.mark (g.P.Place.handed_traces place) (g.P.Place.returned_trace place)
     × AreReturned g.P.Bay.Faulty.mark (g.P.Place.handed_bays place) (g.P.Place.returned_bay place)
 all_back g place none = (
-      none_back (g.P.Place.handed_traces place) (no_trace g place none) (g.P.Place.returned_trace place) g.P.Trace.Faulty.mark,
-      none_back (g.P.Place.handed_bays place) (no_bay g place none) (g.P.Place.returned_bay place) g.P.Bay.Faulty.mark,
-    )
+  none_back (g.P.Place.handed_traces place) (no_trace g place none) (g.P.Place.returned_trace place) g.P.Trace.Faulty.mark,
+  none_back (g.P.Place.handed_bays place) (no_bay g place none) (g.P.Place.returned_bay place) g.P.Bay.Faulty.mark,
+)
 
 pub run_line-requires-clause-dir : goal.run_line-requires-clause-dir
 run_line-requires-clause-dir g c κs within =
@@ -174,10 +174,10 @@ returns-in-Recover-clause-at_usage g c = λ rule broken. of_no_rule (usage c.arg
 
 pub returns-in-Recover-clause-returned : goal.returns-in-Recover-clause-returned
 returns-in-Recover-clause-returned g c = λ sound. (
-      none_back (g.P.Place.handed_traces c.recover_to.new.place) (c.recover_to.ensures.traces ∙ no_trace g c.args.place.now c.requires.asked) (g.P.Place.returned_trace c.recover_to.new.place)
-          g.P.Trace.Faulty.mark,
-      c.recover_to.ensures.returned,
-    )
+  none_back (g.P.Place.handed_traces c.recover_to.new.place) (c.recover_to.ensures.traces ∙ no_trace g c.args.place.now c.requires.asked) (g.P.Place.returned_trace c.recover_to.new.place)
+      g.P.Trace.Faulty.mark,
+  c.recover_to.ensures.returned,
+)
 
 pub returns-in-Recover-clause-place_fault : goal.returns-in-Recover-clause-place_fault
 returns-in-Recover-clause-place_fault g c = λ is.
