@@ -1,4 +1,6 @@
 use lert_reference::counts::{count, distinct, first, heavy, nth_occurrence};
+use std::alloc::Global;
+use std::process::Abort;
 
 const EVENTS: [u64; 5] = [9, 1, 1, 9, 5];
 
@@ -15,7 +17,7 @@ fn a_key_is_counted_above_one_position_and_up_to_another(rt: HostRuntime) {
     ];
     for (key, from, to, times) in rows {
         assert!(rt; from <= to && to <= 5);
-        assert_eq!(rt; count(key, &EVENTS, from, to), times, "{key} above {from}");
+        assert_eq!(rt; count(key, &EVENTS, from, to), times, "{key}");
     }
 }
 
@@ -31,11 +33,21 @@ fn occurrences_are_told_by_their_positions(rt: HostRuntime) {
         (1, 7, None),
     ];
     for (n, key, position) in rows {
-        assert_eq!(rt; nth_occurrence(n, key, &EVENTS), position, "{n} of {key}");
-        if n == 1 {
-            assert_eq!(rt; first(key, &EVENTS), position, "{key}");
-        }
+        let is_first = n != 1 || first(key, &EVENTS) == position;
+        assert_eq!(rt;
+            (nth_occurrence(n, key, &EVENTS), is_first),
+            (position, true),
+            "{key}"
+        );
     }
+}
+
+// Wants these keys, and these of them twice at least.
+fn check_keys(rt: &impl Abort, alloc: Global, events: &[u64], keys: &[u64], twice: &[u64]) {
+    let found = distinct(alloc, events).expect(rt, "memory");
+    assert_eq!(rt; found.as_slice(), keys);
+    let found = heavy(alloc, 2, events).expect(rt, "memory");
+    assert_eq!(rt; found.as_slice(), twice);
 }
 
 #[test]
@@ -47,17 +59,6 @@ fn keys_ascend_and_stand_once(rt: HostRuntime) {
         (&[u64::MAX, 0, u64::MAX], &[0, u64::MAX], &[u64::MAX]),
     ];
     for (events, keys, twice) in rows {
-        assert_eq!(rt;
-            distinct(rt.alloc(), events)
-                .expect(&rt, "memory")
-                .as_slice(),
-            keys
-        );
-        assert_eq!(rt;
-            heavy(rt.alloc(), 2, events)
-                .expect(&rt, "memory")
-                .as_slice(),
-            twice
-        );
+        check_keys(&rt, rt.alloc(), events, keys, twice);
     }
 }

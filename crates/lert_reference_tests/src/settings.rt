@@ -1,6 +1,9 @@
+ghost use Rattle.std.specs.Prelude.{◌≡◌};
+
 use lert_base::Settings;
 use lert_reference::edges;
 use lert_spec::Numbers;
+use std::process::Abort;
 
 const SMALL: Numbers = Numbers {
     threshold: 3,
@@ -31,126 +34,107 @@ fn rule_of(numbers: Numbers) -> u8 {
     }
 }
 
+// The shipped numbers, with this one of them changed to a value.
+fn changed(place: u8, value: u64) -> Numbers {
+    let mut numbers = SHIPPED;
+    match place {
+        1 => numbers.threshold = value,
+        2 => numbers.bins = value,
+        3 => numbers.ratio = value,
+        4 => numbers.base = value,
+        5 => numbers.levels = value,
+        6 => numbers.cone_bits = value,
+        7 => numbers.room = value,
+        _ => numbers.packet = value,
+    }
+    numbers
+}
+
 #[test]
 fn the_first_broken_rule_is_named(rt: HostRuntime) {
-    assert_eq!(rt; rule_of(SHIPPED), 0);
-    assert_eq!(rt; rule_of(SMALL), 0);
-    assert_eq!(rt;
-        rule_of(Numbers {
-            threshold: 0,
-            ..SHIPPED
-        }),
-        1
-    );
-    assert_eq!(rt;
-        rule_of(Numbers {
-            threshold: 1 << 32,
-            ..SHIPPED
-        }),
-        1
-    );
-    assert_eq!(rt;
-        rule_of(Numbers {
-            bins: 1,
-            ratio: 1,
-            ..SHIPPED
-        }),
-        2
-    );
-    assert_eq!(rt;
-        rule_of(Numbers {
-            ratio: 17,
-            ..SHIPPED
-        }),
-        3
-    );
-    assert_eq!(rt; rule_of(Numbers { base: 3, ..SHIPPED }), 4);
-    assert_eq!(rt;
-        rule_of(Numbers {
-            levels: 9,
-            ..SHIPPED
-        }),
-        5
-    );
-    assert_eq!(rt;
-        rule_of(Numbers {
-            cone_bits: 9,
-            ..SHIPPED
-        }),
-        6
-    );
-    assert_eq!(rt; rule_of(Numbers { room: 0, ..SHIPPED }), 7);
-    assert_eq!(rt;
-        rule_of(Numbers {
-            packet: 1_025,
-            ..SHIPPED
-        }),
-        8
-    );
-    assert_eq!(rt;
-        rule_of(Numbers {
-            cone_bits: 8,
-            base: 65_536,
-            ..SHIPPED
-        }),
-        9
-    );
-    assert_eq!(rt;
-        rule_of(Numbers {
-            cone_bits: 8,
-            room: 65_537,
-            ..SHIPPED
-        }),
-        10
-    );
-    assert_eq!(rt;
-        rule_of(Numbers {
-            ratio: 16,
-            levels: 8,
-            ..SHIPPED
-        }),
-        11
-    );
+    assert_eq!(rt; [rule_of(SHIPPED), rule_of(SMALL)], [0, 0]);
+    let single = [
+        (1, 0, 1),
+        (1, 1 << 32, 1),
+        (3, 17, 3),
+        (4, 3, 4),
+        (5, 9, 5),
+        (6, 9, 6),
+        (7, 0, 7),
+        (8, 1_025, 8),
+    ];
+    for (place, value, rule) in single {
+        assert_eq!(rt; rule_of(changed(place, value)), rule, "{place}");
+    }
+    let few = Numbers {
+        bins: 1,
+        ratio: 1,
+        ..SHIPPED
+    };
+    let wide = Numbers {
+        cone_bits: 8,
+        base: 65_536,
+        ..SHIPPED
+    };
+    let full = Numbers {
+        cone_bits: 8,
+        room: 65_537,
+        ..SHIPPED
+    };
+    let deep = Numbers {
+        ratio: 16,
+        levels: 8,
+        ..SHIPPED
+    };
+    let rules = [rule_of(few), rule_of(wide), rule_of(full), rule_of(deep)];
+    assert_eq!(rt; rules, [2, 9, 10, 11]);
+}
+
+fn settings(rt: &impl Abort, numbers: Numbers) -> Settings
+    ensures { result ≡ numbers }
+{
+    Settings::new(numbers).expect(rt, "the numbers are settings")
 }
 
 #[test]
 fn small_settings_have_the_numbers_of_the_worked_rows(rt: HostRuntime) {
-    let settings = Settings::new(SMALL)
-        .ok()
-        .expect(&rt, "the numbers are settings");
-    assert_eq!(rt; settings.cones(), 1);
-    assert_eq!(rt; settings.capacity(), 71);
-    assert_eq!(rt; settings.span(2), 16);
-    assert_eq!(rt; settings.offset(2), 56);
-    assert_eq!(rt; settings.edge(0, 32), 24);
-    assert_eq!(rt; settings.edge(1, 32), 8);
-    assert_eq!(rt; settings.depth(35), 0);
-    assert_eq!(rt; settings.depth(36), 1);
-    assert_eq!(rt; settings.depth(40), 2);
-    assert_eq!(rt; settings.lookback(36), 8);
-    assert_eq!(rt; settings.lookback(40), 0);
-    assert_eq!(rt; settings.quotient_bits(1), 6);
-    assert_eq!(rt; settings.width(1), 58);
+    let small = settings(&rt, SMALL);
+    let found = [
+        small.capacity(),
+        small.span(2),
+        small.offset(2),
+        small.edge(0, 32),
+        small.edge(1, 32),
+        small.lookback(36),
+        small.lookback(40),
+    ];
+    assert_eq!(rt; found, [71, 16, 56, 24, 8, 8, 0]);
+    let found = [
+        small.cones(),
+        small.depth(35),
+        small.depth(36),
+        small.depth(40),
+        small.quotient_bits(1),
+        small.width(1),
+    ];
+    assert_eq!(rt; found, [1, 0, 1, 2, 6, 58]);
 }
 
 #[test]
 fn the_shipped_capacity_is_6291456(rt: HostRuntime) {
-    let settings = Settings::new(SHIPPED)
-        .ok()
-        .expect(&rt, "the numbers are settings");
-    assert_eq!(rt; settings.capacity(), 6_291_456);
-    assert_eq!(rt; settings.cones(), 16);
+    let shipped = settings(&rt, SHIPPED);
+    let found = (shipped.capacity(), shipped.cones());
+    assert_eq!(rt; found, (6_291_456, 16));
 }
 
 // The readers and the slow programs of their definitions, at each position of a cone.
 #[test]
 fn readers_agree_with_the_slow_programs(rt: HostRuntime) {
-    let settings = Settings::new(SMALL)
-        .ok()
-        .expect(&rt, "the numbers are settings");
-    let numbers = settings.numbers();
-    for m in 1..settings.capacity() + 1 {
-        assert_eq!(rt; u64::from(settings.depth(m)), edges::depth(&numbers, m));
-        assert_eq!(rt; settings.lookback(m), edges::lookback(&numbers, m));
+    let small = settings(&rt, SMALL);
+    let numbers = small.numbers();
+    for m in 1..small.capacity() + 1 {
+        let read = (u64::from(small.depth(m)), small.lookback(m));
+        let wanted = (edges::depth(&numbers, m), edges::lookback(&numbers, m));
+        assert_eq!(rt; read, wanted);
     }
 }

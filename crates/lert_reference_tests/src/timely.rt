@@ -1,18 +1,31 @@
 use lert_reference::timely::{is_timely, is_timely_so_far};
 use lert_spec::Report;
-use std::alloc::{AllocError, Global};
+use std::alloc::Global;
+use std::process::Abort;
 
 // Key 7 reaches three at position 13, twelve behind its first, and key 8 at position 14, eleven behind its first.
 const EVENTS: [u64; 20] = [
     7, 7, 8, 8, 105, 106, 107, 108, 109, 110, 111, 112, 7, 8, 115, 116, 117, 118, 119, 120,
 ];
 
-fn reports_of(alloc: Global, pairs: &[(u64, u64)]) -> Result<Vec<Report>, AllocError> {
+fn reports_of(rt: &impl Abort, alloc: Global, pairs: &[(u64, u64)]) -> Vec<Report> {
     let mut reports = Vec::new(alloc);
     for (key, at) in pairs {
-        reports.push(Report { key: *key, at: *at })?;
+        let report = Report { key: *key, at: *at };
+        reports.push(report).expect(rt, "memory");
     }
-    Ok(reports)
+    reports
+}
+
+// Whether these reports are timely for so many of the events, and whether they are so far.
+fn are_timely(rt: &impl Abort, alloc: Global, len: usize, pairs: &[(u64, u64)]) -> (bool, bool) {
+    assert!(rt; len <= 20);
+    let reports = reports_of(rt, alloc, pairs);
+    let events = &EVENTS[..len];
+    (
+        is_timely(3, 3, events, &reports),
+        is_timely_so_far(3, 3, events, &reports),
+    )
 }
 
 // With three bins a report may be late by half of what its key took to reach the threshold.
@@ -48,15 +61,9 @@ fn reports_are_tried_with_threshold_three_and_three_bins(rt: HostRuntime) {
         (20, &[(8, 19)], false, false),
         (20, &[], false, false),
     ];
-    for (len, pairs, timely, so_far) in rows {
-        assert!(rt; len <= 20);
-        let reports = reports_of(rt.alloc(), pairs).expect(&rt, "memory");
-        let events = &EVENTS[..len];
-        assert_eq!(rt; is_timely(3, 3, events, &reports), timely, "{reports:?}");
-        assert_eq!(rt;
-            is_timely_so_far(3, 3, events, &reports),
-            so_far,
-            "{reports:?}"
-        );
+    for row in 0..20 {
+        let (len, pairs, timely, so_far) = rows[row];
+        let found = are_timely(&rt, rt.alloc(), len, pairs);
+        assert_eq!(rt; found, (timely, so_far), "row {row}");
     }
 }

@@ -1,4 +1,20 @@
 use lert_reference::traces::{keys, left, whole};
+use std::alloc::Global;
+use std::process::Abort;
+
+// Wants that bytes leave the format at this place, with these keys before it, and that they are a trace where there
+// is none.
+fn check(rt: &impl Abort, alloc: Global, bytes: &[u8], place: Option<usize>, before: &[u64]) {
+    let found = whole(alloc, bytes).expect(rt, "memory");
+    let is_trace = keys(alloc, bytes).expect(rt, "memory").is_some();
+    let len = bytes.len();
+    assert_eq!(rt; found.as_slice(), before, "{len} bytes");
+    assert_eq!(rt;
+        (left(bytes), is_trace),
+        (place, place.is_none()),
+        "{len} bytes"
+    );
+}
 
 #[test]
 fn bytes_leave_the_format_at_the_first_wrong_place(rt: HostRuntime) {
@@ -18,13 +34,6 @@ fn bytes_leave_the_format_at_the_first_wrong_place(rt: HostRuntime) {
         ),
     ];
     for (bytes, place, before) in rows {
-        assert_eq!(rt; left(bytes), place, "{bytes:?}");
-        assert_eq!(rt;
-            whole(rt.alloc(), bytes).expect(&rt, "memory").as_slice(),
-            before,
-            "{bytes:?}"
-        );
-        let found = keys(rt.alloc(), bytes).expect(&rt, "memory");
-        assert_eq!(rt; found.is_some(), place.is_none(), "{bytes:?}");
+        check(&rt, rt.alloc(), bytes, place, before);
     }
 }
