@@ -1,13 +1,15 @@
 //! Runs of two traces into two cones, and recoveries of these, in which calls on the outside fail, and what comes of them.
 
-ghost use Rattle.std.specs.Prelude.{◌≡◌, [], OnOk};
+ghost use Rattle.std.specs.Prelude.{◌≡◌, []};
 
 use crate::faults::Faults;
 use lert_base::Words;
-use lert_io::{CallList, MemSink, MemSource, OutOfMemory};
+use lert_bay::MemBay;
+use lert_io::{CallList, MemSink, MemSource};
 use lert_top::{MemPlace, Status, run};
 use lert_trials::{Files, bay_of, trace};
 use std::alloc::Global;
+use std::process::Abort;
 use std::sync::Wait;
 use std::thread::Threads;
 
@@ -62,32 +64,31 @@ impl Ended {
 }
 
 /// Runs these words over the traces `a` and `b` and bays of cones 0 and 1 in the directory `d` that hold these files.
-pub fn play<R: Threads + Wait + Sync>(
-    rt: &R,
+pub fn play(
+    rt: &(impl Abort + Threads + Wait + Sync),
     alloc: Global,
     texts: &[&str],
     cones: &Cones,
     faults: Faults,
-) -> Result<Ended, OutOfMemory> {
-    let mut place = MemPlace::new(alloc)?;
-    play_at(rt, alloc, texts, cones, faults, &mut place)
+) -> Ended {
+    let mut place = MemPlace::new(alloc).expect(rt, "memory");
+    add_all(rt, alloc, &mut place, cones, faults);
+    play_at(rt, alloc, texts, faults, &mut place)
 }
 
-fn play_at<R: Threads + Wait + Sync>(
-    rt: &R,
+fn play_at(
+    rt: &(impl Abort + Threads + Wait + Sync),
     alloc: Global,
     texts: &[&str],
-    cones: &Cones,
     faults: Faults,
     place: &mut MemPlace,
-) -> Result<Ended, OutOfMemory>
+) -> Ended
     requires { place.old.ledger.asked ≡ [] }
 {
-    add_all(alloc, place, cones, faults)?;
-    let words = words(alloc, texts)?;
-    let mut out = MemSink::new(alloc, faults.room, &calls(alloc, faults.write)?)?;
+    let words = words(rt, alloc, texts);
+    let mut out = sink(rt, alloc, faults);
     let status = run_words(rt, alloc, &words, place, &mut out);
-    what_came(alloc, place, status, out.bytes())
+    what_came(rt, alloc, place, status, out.bytes())
 }
 
 // The call alone, so that what it says stands in no goal of its caller.
@@ -103,113 +104,115 @@ fn run_words<R: Threads + Wait + Sync>(
     run(rt, alloc, words, place, out)
 }
 
+fn sink(rt: &impl Abort, alloc: Global, faults: Faults) -> MemSink {
+    let calls = calls(rt, alloc, faults.write);
+    MemSink::new(alloc, faults.room, &calls).expect(rt, "memory")
+}
+
 fn what_came(
+    rt: &impl Abort,
     alloc: Global,
     place: &MemPlace,
     status: Status,
     text: &[u8],
-) -> Result<Ended, OutOfMemory> {
-    let first = files_back(alloc, place, 0)?;
-    let second = files_back(alloc, place, 1)?;
-    Ok(Ended {
+) -> Ended {
+    Ended {
         status,
-        text: Vec::from_slice(alloc, text)?,
+        text: Vec::from_slice(alloc, text).expect(rt, "memory"),
         back: [
             place.trace(0).is_some(),
             place.trace(1).is_some(),
             place.bay(0).is_some(),
             place.bay(1).is_some(),
         ],
-        cones: Cones { first, second },
-    })
+        cones: Cones {
+            first: files_back(rt, alloc, place, 0),
+            second: files_back(rt, alloc, place, 1),
+        },
+    }
 }
 
 // What the bay of a cone holds that came back.
-fn files_back(alloc: Global, place: &MemPlace, cone: u32) -> Result<Files, OutOfMemory> {
+fn files_back(rt: &impl Abort, alloc: Global, place: &MemPlace, cone: u32) -> Files {
     match place.bay(cone) {
-        Some(bay) => Files::of_bay(alloc, bay),
-        None => Ok(Files::new(alloc)),
+        Some(bay) => Files::of_bay(alloc, bay).expect(rt, "memory"),
+        None => Files::new(alloc),
     }
 }
 
-fn words(alloc: Global, texts: &[&str]) -> Result<Words, OutOfMemory> {
-    let mut words = Words::new(alloc)?;
-    push_words(&mut words, texts)?;
-    Ok(words)
-}
-
-fn push_words(words: &mut Words, texts: &[&str]) -> Result<(), OutOfMemory> {
+fn words(rt: &impl Abort, alloc: Global, texts: &[&str]) -> Words {
+    let mut words = Words::new(alloc).expect(rt, "memory");
     for text in texts {
-        words.push(text)?;
+        words.push(text).expect(rt, "memory");
     }
-    Ok(())
+    words
 }
 
 // The list of this call. No call has the number 0.
-fn calls(alloc: Global, call: u64) -> Result<CallList, OutOfMemory> {
-    let mut calls = CallList::new(alloc)?;
-    calls.push(call)?;
-    Ok(calls)
+fn calls(rt: &impl Abort, alloc: Global, call: u64) -> CallList {
+    let mut calls = CallList::new(alloc).expect(rt, "memory");
+    calls.push(call).expect(rt, "memory");
+    calls
 }
 
 // Gives a place that was asked for nothing yet all that is to be opened, but what the failing opening asks for.
-fn add_all(
-    alloc: Global,
-    place: &mut MemPlace,
-    cones: &Cones,
-    faults: Faults,
-) -> Result<(), OutOfMemory>
+fn add_all(rt: &impl Abort, alloc: Global, place: &mut MemPlace, cones: &Cones, faults: Faults)
     requires { place.old.ledger.asked ≡ [] }
-    ensures { OnOk result (place.new.ledger.asked ≡ []) }
+    ensures { place.new.ledger.asked ≡ [] }
 {
     let lacking = faults.opening;
-    add_trace(alloc, place, "a", &FIRST_KEYS, faults.reads.0, lacking == 1)?;
-    add_trace(
-        alloc,
-        place,
-        "b",
-        &SECOND_KEYS,
-        faults.reads.1,
-        lacking == 2,
-    )?;
-    add_bay(alloc, place, 0, &cones.first, faults.calls.0, lacking == 3)?;
-    add_bay(alloc, place, 1, &cones.second, faults.calls.1, lacking == 4)
+    if lacking != 1 {
+        add_trace(rt, alloc, place, "a", &FIRST_KEYS, faults.reads.0);
+    }
+    if lacking != 2 {
+        add_trace(rt, alloc, place, "b", &SECOND_KEYS, faults.reads.1);
+    }
+    if lacking != 3 {
+        add_bay(rt, alloc, place, 0, &cones.first, faults.calls.0);
+    }
+    if lacking != 4 {
+        add_bay(rt, alloc, place, 1, &cones.second, faults.calls.1);
+    }
 }
 
 fn add_trace(
+    rt: &impl Abort,
     alloc: Global,
     place: &mut MemPlace,
     name: &str,
     keys: &[u64],
     failing_read: u64,
-    is_lacking: bool,
-) -> Result<(), OutOfMemory>
+)
     requires { place.old.ledger.asked ≡ [] }
-    ensures { OnOk result (place.new.ledger.asked ≡ []) }
+    ensures { place.new.ledger.asked ≡ [] }
 {
-    if is_lacking {
-        return Ok(());
-    }
-    let bytes = trace(alloc, keys)?;
-    let source = MemSource::new(alloc, bytes.as_slice(), &calls(alloc, failing_read)?)?;
-    place.add_trace(name, source)
+    let source = source(rt, alloc, keys, failing_read);
+    place.add_trace(name, source).expect(rt, "memory");
+}
+
+fn source(rt: &impl Abort, alloc: Global, keys: &[u64], failing_read: u64) -> MemSource {
+    let bytes = trace(alloc, keys).expect(rt, "memory");
+    let calls = calls(rt, alloc, failing_read);
+    MemSource::new(alloc, &bytes, &calls).expect(rt, "memory")
 }
 
 fn add_bay(
+    rt: &impl Abort,
     alloc: Global,
     place: &mut MemPlace,
     cone: u32,
     files: &Files,
     failing_call: u64,
-    is_lacking: bool,
-) -> Result<(), OutOfMemory>
+)
     requires { place.old.ledger.asked ≡ [] }
-    ensures { OnOk result (place.new.ledger.asked ≡ []) }
+    ensures { place.new.ledger.asked ≡ [] }
 {
-    if is_lacking {
-        return Ok(());
-    }
-    let mut bay = bay_of(alloc, files)?;
+    let bay = failing_bay(rt, alloc, files, failing_call);
+    place.add_bay("d", cone, bay).expect(rt, "memory");
+}
+
+fn failing_bay(rt: &impl Abort, alloc: Global, files: &Files, failing_call: u64) -> MemBay {
+    let mut bay = bay_of(alloc, files).expect(rt, "memory");
     bay.fail_at(failing_call);
-    place.add_bay("d", cone, bay)
+    bay
 }

@@ -5,37 +5,37 @@ use crate::plays::{Cones, play};
 use crate::steps::{recover_words, run_words};
 use crate::walk::{Left, check_calls};
 use lert_top::Status;
+use std::alloc::Global;
 use std::process::Abort;
 use std::sync::Wait;
-use std::test::Fail;
 use std::thread::Threads;
 
 #[test]
-fn a_run_whose_trace_fails_drops_what_its_rings_hold(rt: HostRuntime) -> Result<(), Fail> {
+fn a_run_whose_trace_fails_drops_what_its_rings_hold(rt: HostRuntime) {
     // The first read gives all keys of such a trace, of which a full ring is brought.
-    let first: [(u64, Left); 2] = [(1, Left::Steps(0)), (0, Left::Steps(1))];
-    check_calls(&rt, Object::FirstTrace, &first)?;
-    let second: [(u64, Left); 1] = [(0, Left::Steps(3))];
-    check_calls(&rt, Object::SecondTrace, &second)
+    let first = [(1, Left::Steps(0)), (0, Left::Steps(1))];
+    let second = [(0, Left::Steps(3))];
+    check_calls(&rt, rt.alloc(), Object::FirstTrace, &first);
+    check_calls(&rt, rt.alloc(), Object::SecondTrace, &second);
 }
 
 // Runs two workers over empty files, and wants the status, and this text of a recovery.
 fn check_two(
-    rt: &(impl Abort + AllocGlobal + Threads + Wait + Sync),
+    rt: &(impl Abort + Threads + Wait + Sync),
+    alloc: Global,
     faults: Faults,
     status: Status,
     text: &str,
-) -> Result<(), Fail> {
-    let empty = Cones::empty(rt.alloc());
-    let ended = play(rt, rt.alloc(), &run_words("2"), &empty, faults)?;
-    let recovered = play(rt, rt.alloc(), &recover_words(), &ended.cones, NO_FAULT)?;
+) {
+    let empty = Cones::empty(alloc);
+    let ended = play(rt, alloc, &run_words("2"), &empty, faults);
+    let recovered = play(rt, alloc, &recover_words(), &ended.cones, NO_FAULT);
     assert!(rt; ended.is(status, b""), "the status");
     assert!(rt; recovered.is(Status::Done, text.as_bytes()), "{text}");
-    Ok(())
 }
 
 #[test]
-fn the_other_worker_goes_on_and_the_lowest_fault_is_answered(rt: HostRuntime) -> Result<(), Fail> {
+fn the_other_worker_goes_on_and_the_lowest_fault_is_answered(rt: HostRuntime) {
     let first = Status::TraceFault { trace: 0 };
     let rows: [(Faults, Status, &str); 4] = [
         (
@@ -68,7 +68,6 @@ fn the_other_worker_goes_on_and_the_lowest_fault_is_answered(rt: HostRuntime) ->
         ),
     ];
     for (faults, status, text) in rows {
-        check_two(&rt, faults, status, text)?;
+        check_two(&rt, rt.alloc(), faults, status, text);
     }
-    Ok(())
 }

@@ -3,11 +3,10 @@
 use crate::faults::{NO_FAULT, Object};
 use crate::plays::{Cones, Ended, play};
 use crate::steps::{STEPS, WHOLE, have_no_packet, have_packets, recover_words, run_words};
-use lert_io::OutOfMemory;
 use lert_top::Status;
+use std::alloc::Global;
 use std::process::Abort;
 use std::sync::Wait;
-use std::test::Fail;
 use std::thread::Threads;
 
 // A number above that of the calls of each object here.
@@ -25,71 +24,71 @@ pub enum Left {
 /// Makes each call of an object fail in turn, and wants the object's status, no text, and that the run leaves what these rows
 /// say: so many calls in turn leave this, and with 0 as many as there are, one at least. No further call comes.
 pub fn check_calls(
-    rt: &(impl Abort + AllocGlobal + Threads + Wait + Sync),
+    rt: &(impl Abort + Threads + Wait + Sync),
+    alloc: Global,
     object: Object,
     rows: &[(u64, Left)],
-) -> Result<(), Fail> {
+) {
     let mut call = 1;
     for (calls, left) in rows {
-        let next = first_other(rt, object, call, *left)?;
-        assert!(rt; call < next, "call {call}");
-        assert!(rt;
-            *calls == 0 || next - call == *calls,
-            "calls {call} to {next}"
-        );
+        let next = first_other(rt, alloc, object, call, *left);
+        let is_due = call < next && (*calls == 0 || next - call == *calls);
+        assert!(rt; is_due, "calls from {call} on");
         call = next;
     }
-    let ended = run_failing(rt, object, call)?;
-    assert!(rt; ended.is(Status::Done, WHOLE.as_bytes()), "call {call}");
-    assert!(rt; have_steps(&ended.cones, 7));
-    Ok(())
+    let ended = run_failing(rt, alloc, object, call);
+    ends_whole(rt, &ended, call);
+}
+
+// Wants all that a run prints and leaves which comes to its end.
+fn ends_whole(rt: &impl Abort, ended: &Ended, call: u64) {
+    let is_whole = ended.is(Status::Done, WHOLE.as_bytes()) && have_steps(&ended.cones, 7);
+    assert!(rt; is_whole, "call {call}");
 }
 
 // The number of the first call from this one on whose failing leaves something else.
 fn first_other(
-    rt: &(impl Abort + AllocGlobal + Threads + Wait + Sync),
+    rt: &(impl Abort + Threads + Wait + Sync),
+    alloc: Global,
     object: Object,
     from: u64,
     left: Left,
-) -> Result<u64, Fail> {
+) -> u64 {
     for call in from..MOST_CALLS {
-        if !leaves(rt, object, call, left)? {
-            return Ok(call);
+        if !leaves(rt, alloc, object, call, left) {
+            return call;
         }
     }
-    Err(Fail::new("there is no end of calls"))
+    panic!(rt; "there is no end of calls");
 }
 
 // Whether a run of which this call fails has the object's status and no text, puts all back, and leaves this.
 fn leaves(
-    rt: &(impl Abort + AllocGlobal + Threads + Wait + Sync),
+    rt: &(impl Abort + Threads + Wait + Sync),
+    alloc: Global,
     object: Object,
     call: u64,
     left: Left,
-) -> Result<bool, OutOfMemory> {
-    let ended = run_failing(rt, object, call)?;
-    let recovered = play(rt, rt.alloc(), &recover_words(), &ended.cones, NO_FAULT)?;
-    Ok(
-        ended.is(object.status(), b"")
-            && ended.back == [true; 4]
-            && is_left(&ended, &recovered, left),
-    )
+) -> bool {
+    let ended = run_failing(rt, alloc, object, call);
+    let recovered = play(rt, alloc, &recover_words(), &ended.cones, NO_FAULT);
+    has_failed(&ended, object) && is_left(&ended, &recovered, left)
+}
+
+// Whether a run has the object's status and no text, and put all back.
+fn has_failed(ended: &Ended, object: Object) -> bool {
+    ended.is(object.status(), b"") && ended.back == [true; 4]
 }
 
 /// What comes of a run by one worker over empty files of which this call fails.
 pub fn run_failing(
-    rt: &(impl Abort + AllocGlobal + Threads + Wait + Sync),
+    rt: &(impl Abort + Threads + Wait + Sync),
+    alloc: Global,
     object: Object,
     call: u64,
-) -> Result<Ended, OutOfMemory> {
-    let empty = Cones::empty(rt.alloc());
-    play(
-        rt,
-        rt.alloc(),
-        &run_words("1"),
-        &empty,
-        object.failing(call),
-    )
+) -> Ended {
+    let empty = Cones::empty(alloc);
+    play(rt, alloc, &run_words("1"), &empty, object.failing(call))
 }
 
 // Whether this was left, of which that was recovered: a recovery changes no journal, and no file where it is refused.
