@@ -57,6 +57,7 @@ fn a_header_is_this_cones_or_anothers_or_none(rt: HostRuntime) {
         (SMALL, b"", malformed(0)),
     ];
     for (numbers, bytes, wanted) in cases {
-        assert!(rt; answer_to(&rt, rt.alloc(), numbers, bytes) == wanted);
+        let answer = answer_to(&rt, rt.alloc(), numbers, bytes);
+        assert!(rt; answer == wanted, "of {} bytes", bytes.len());
     }
 }

@@ -80,11 +80,15 @@ fn log_behind(
     cones: &Cones,
     status: Status,
     text: &[u8],
+    call: u64,
 ) -> Option<usize> {
     if ended.is(Status::Done, text) {
         return Some(ended.cones.first.log.len());
     }
-    assert!(rt; is_repeated(ended, again, cones, status, text));
+    assert!(rt;
+        is_repeated(ended, again, cones, status, text),
+        "call {call}"
+    );
     None
 }
 
@@ -101,7 +105,7 @@ fn recover_failing(
     let words = recover_words();
     let ended = play(rt, alloc, &words, cones, bay.failing(call));
     let again = play(rt, alloc, &words, &ended.cones, NO_FAULT);
-    log_behind(rt, &ended, &again, cones, bay.status(), text)
+    log_behind(rt, &ended, &again, cones, bay.status(), text, call)
 }
 
 // Makes each call of a bay fail in turn in a recovery of these files, and wants the bay's status, no text, the same
