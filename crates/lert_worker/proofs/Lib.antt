@@ -3,6 +3,7 @@ mod Given
 mod GoingLaws
 mod JoinLaws
 mod LaneLaws
+mod MayLaws
 mod OutboxLaws
 mod ReadLaws
 mod RestLaws

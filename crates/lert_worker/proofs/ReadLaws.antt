@@ -1,8 +1,9 @@
 -- A reader of a trace, one call later.
-use Rattle.std.proofs.Common.{◌≡◌, ℕ, ◌+◌, ◌≤◌, List, [], ◌∷◌, ◌++◌, length, take, drop, Option, Some, None, slice_get}
+use Rattle.std.proofs.Common.{◌≡◌, ℕ, ◌+◌, ◌-◌, ◌<◌, ◌≤◌, List, [], ◌∷◌, ◌++◌, length, take, drop, Option, Some, None, slice_get}
 use Rattle.std.proofs.Common.{refl, ap, sym, ◌∙◌, subst, arith, length-drop}
 use Rattle.std.proofs.lemmas.List.{take_more, get_or-drop, length_push}
 use Rattle.std.proofs.lemmas.Option.{get_or_from_slice_get, slice_get_within}
+use Rattle.std.specs.Prelude.{IfSome}
 use Rattle.lert_io.specs.Reading.{IfTold}
 use Rattle.lert_spec.specs.Trace.{whole}
 use Rattle.lert_trace.specs.Reader.{IsTraceOf, Means, Reading}
@@ -76,6 +77,15 @@ module _ {S : Type 0} (remaining : S → Option (List ℕ)) (faults mark : S →
 
     pub was_ended : new.given ≡ mid.given → new.fault ≡ None → WasRead remaining faults mark old new keys
     was_ended given sound = was_still given (λ fault is. none_some new.fault fault sound is)
+
+-- a key less is left
+pub fewer_left : (next : Option ℕ) (key limit most given then : ℕ) → next ≡ Some key → most ≡ limit → IfSome next (λ _. (then ≡ given + 1) × (then ≤ most))
+    → most - then < limit - given
+fewer_left next key limit most given then is limit_is counted =
+    let both = subst (λ (o : Option ℕ). IfSome o (λ _. (then ≡ given + 1) × (then ≤ most))) is counted in
+    let one = both.0 in
+    let within = both.1 in
+    omega (arith, limit_is, one, within)
 
 -- a reader that answered the end of its trace stands there
 pub at_end : {S : Type 0} (remaining : S → Option (List ℕ)) (mid new : Reading S) → new.made ≡ mid.made → new.given ≡ mid.given → new.fault ≡ None

@@ -1,23 +1,55 @@
 -- All cones at the end of a trace: the rests of the rings, in ascending cones.
-use Rattle.std.proofs.Common.{◌≡◌, ◌≢◌, ◌⊎◌, ℕ, zero, suc, ◌+◌, ◌<◌, ◌≤◌, List, [], ◌∷◌, length}
+use Rattle.std.proofs.Common.{◌≡◌, ◌≢◌, ◌⊎◌, ℕ, zero, suc, ◌+◌, ◌^◌, ◌<◌, ◌≤◌, List, [], ◌∷◌, length, set}
 use Rattle.std.proofs.Common.{Some, slice_get, refl, ap, sym, ◌∙◌, subst, inl, inr, arith}
 use Rattle.std.proofs.lemmas.Bool.{cases_eq}
+use Rattle.std.proofs.lemmas.List.{set-get_or}
 use Rattle.std.proofs.lemmas.Option.{slice_get_within}
-use Rattle.lert_buffers.specs.Rings.{Rings, ring_of}
+use Rattle.lert_buffers.specs.Rings.{Rings, ring_of, with_ring}
 use Rattle.lert_conelock.specs.Sight.{Sight}
 use Rattle.lert_fleet.specs.Cones.{FleetPassSight, ChangesOnly}
 use Rattle.lert_fleet.proofs.Places.{some_at}
 use Rattle.lert_spec.specs.declared.numbers.Numbers.{Numbers}
 use Rattle.lert_base.specs.declared.cone_fault.ConeFault.{ConeFault}
-use Rattle.lert_worker.specs.Outbox.{HasRoom, IsSendable}
-use Rattle.lert_worker.specs.Sending.{AreSent, AtOwn, Goes, Lanes, SentIn, WasTurned}
+use Rattle.lert_worker.specs.Outbox.{HasRoom, HaveRoom, IsSendable}
+use Rattle.lert_worker.specs.Sending.{AreSent, AtOwn, Goes, Lane, Lanes, SentIn, WasTurned}
 use Rattle.lert_worker.specs.declared.end.WorkerEnd.TheVariants.{Ran, Cone}
 use Rattle.lert_worker.proofs.LaneLaws.{ringed}
+use Rattle.lert_worker.proofs.TakeLaws.{ring_else, room_none, room_with}
 use Rattle.lert_worker.proofs.SentLaws.{lane_empty, lane_rest, lane_stopped, lane_turned, rested_stopped}
 
 pub nil_is : {X : Type 0} (xs : List X) → length xs ≡ 0 → xs ≡ []
 nil_is [] is = refl
 nil_is (x ∷ xs) is = absurd (omega (arith, is))
+
+-- a ring without keys is as if it was emptied
+pub ring_empty : (rings : Rings) (cone : ℕ) → length (ring_of rings cone) ≡ 0 → rings ≡ with_ring rings cone []
+ring_empty rings cone none =
+    ap (λ (r : List (List ℕ)). record rings { rings = r })
+    (sym (ap (set rings.rings cone) (sym (nil_is (ring_of rings cone) none)) ∙ set-get_or rings.rings cone []))
+
+-- rings with room, one of which was emptied
+pub room_rest : (s t : Numbers) (rings after : Rings) (at : ℕ) → 1 ≤ s.packet → length rings.rings ≡ 2 ^ s.cone_bits → HaveRoom s rings → after ≡ with_ring rings at [] → t ≡ s
+    → HaveRoom t after
+room_rest s t rings after at some number room is same =
+    subst (λ (u : Numbers). HaveRoom u after) (sym same) (subst (HaveRoom s) (sym is) (room_with s rings at [] number room (room_none s at some)))
+
+-- the lanes above a cone, whether its ring was emptied or not
+pub lanes_above : {H F : Type 0} (s : Numbers) (number trace at : ℕ) (keys : List ℕ) (start now : FleetPassSight H F) (rings : Rings)
+    → Lanes s number trace at keys start now rings → Lanes s number trace (at + 1) keys start now rings
+lanes_above s number trace at keys start now rings lanes = record {
+  as_many = lanes.as_many;
+  each = λ cone before after low was is. lanes.each cone before after (omega (arith, low)) was is;
+}
+
+pub lanes_rested : {H F : Type 0} (s : Numbers) (number trace at : ℕ) (keys : List ℕ) (start now next : FleetPassSight H F) (rings after : Rings)
+    → ChangesOnly at now next → after ≡ with_ring rings at [] → Lanes s number trace at keys start now rings → Lanes s number trace (at + 1) keys start next after
+lanes_rested s number trace at keys start now next rings after only is lanes = record {
+  as_many = only.as_many ∙ lanes.as_many;
+  each = λ cone before then low was found.
+      let other : cone ≢ at = omega (arith, low) in
+      let here : ring_of rings cone ≡ ring_of after cone = sym (ap (λ r. ring_of r cone) is ∙ ring_else rings at [] cone other) in
+      subst (λ r. Lane s number cone trace keys (length r) before then r) here (lanes.each cone before then (omega (arith, low)) was (sym (only.others cone other) ∙ found));
+}
 
 -- some keys of a ring with room may go
 pub may_go : (s : Numbers) (cone : ℕ) (ring : List ℕ) → HasRoom s cone ring → length ring ≢ 0 → IsSendable s cone ring

@@ -47,6 +47,9 @@ drained_more rings after at within is drained = λ cone below.
       | inr other ↦ ring_else rings at [] cone other ∙ drained cone (omega (arith, below, other))
     ]
 
+pub drained_below : (rings : Rings) (most fewer : ℕ) → fewer ≤ most → AreDrained most rings → AreDrained fewer rings
+drained_below rings most fewer few drained = λ cone below. drained cone (omega (arith, few, below))
+
 -- all cones, and so those below a lesser number
 pub sent_below : {H : Type 0} (s : Numbers) (number trace below most : ℕ) (keys : List ℕ) (end : WorkerEnd) (start now : FleetPassSight H ConeFault) → most ≤ below
     → AreSent s number trace below keys end start now → AreSent s number trace most keys end start now

@@ -5,6 +5,8 @@ use Rattle.lert_worker.specs.Sending.{AreSent}
 use Rattle.lert_worker.specs.Trace.{IsNamed}
 use Rattle.lert_worker.specs.declared.end.WorkerEnd.TheVariants.{Ran}
 use Rattle.lert_worker.proofs.GoingLaws.{runs_all, runs_more, runs_none, runs_stopped}
+use Rattle.lert_worker.proofs.Given.{trace_few}
+use Rattle.lert_worker.proofs.MayLaws.{may_named, resting_named}
 use Rattle.lert_worker.proofs.run.run_traces.Goals as goal
 
 pub loop-place-init : goal.loop-place-init
@@ -74,3 +76,53 @@ returns-clause-ended g c =
     let all : c.loop-place.place ≡ length traces = omega (arith, c.loop-place-test.false, c.loop-place.auto.place-end, c.len-place-end.ensures) in
     runs_all g.S.Source.remaining g.S.Faulty.faults g.S.Faulty.mark old.settings old.entry.by traces c.loop-place.place c.args.readers.now.items c.loop-place.readers.items
     c.args.pass.now c.loop-place.pass all c.requires.given.as_many c.loop-place.invariant.so_far
+
+pub index-requires : goal.index-requires
+index-requires g c = omega (arith, c.loop-place-test.true, c.loop-place.auto.place-end, c.len-place-end.ensures)
+
+pub index_mut-requires : goal.index_mut-requires
+index_mut-requires g c =
+    let many = c.loop-place.invariant.so_far.read.as_many.0 in
+    omega (arith, c.loop-place-test.true, c.loop-place.auto.place-end, c.len-place-end.ensures, many, c.requires.given.as_many)
+
+pub send_trace-requires-clause-may : goal.send_trace-requires-clause-may
+send_trace-requires-clause-may g c =
+    let inside : c.loop-place.place < length c.args.traces.now.items = omega (arith, c.loop-place-test.true, c.loop-place.auto.place-end, c.len-place-end.ensures) in
+    may_named g.H.Held c.args.fleet.now c.loop-place.pass c.loop-place.outbox c.index.result.now
+    (trace_few c.args.traces.now.items c.loop-place.place c.index.result.now c.requires.given.few inside c.index.ensures) c.loop-place.invariant.may
+
+pub send_trace-requires-clause-resting : goal.send_trace-requires-clause-resting
+send_trace-requires-clause-resting g c =
+    let inside : c.loop-place.place < length c.args.traces.now.items = omega (arith, c.loop-place-test.true, c.loop-place.auto.place-end, c.len-place-end.ensures) in
+    resting_named c.loop-place.outbox c.index.result.now
+    (trace_few c.args.traces.now.items c.loop-place.place c.index.result.now c.requires.given.few inside c.index.ensures) c.loop-place.invariant.resting
+
+pub returns-in_default-clause-may : goal.returns-in_default-clause-may
+returns-in_default-clause-may g c = c.send_trace.ensures.may
+
+pub returns-in_default-clause-resting : goal.returns-in_default-clause-resting
+returns-in_default-clause-resting g c = c.send_trace.ensures.resting
+
+pub returns-in_default-clause-settings : goal.returns-in_default-clause-settings
+returns-in_default-clause-settings g c = c.send_trace.ensures.same.outbox.settings_is ∙ c.loop-place.invariant.settings
+
+pub returns-in_default-clause-by : goal.returns-in_default-clause-by
+returns-in_default-clause-by g c = c.send_trace.ensures.same.outbox.by_is ∙ c.loop-place.invariant.by_is
+
+pub returns-in_default-clause-hi : goal.returns-in_default-clause-hi
+returns-in_default-clause-hi g c = c.send_trace.ensures.same.hi_is ∙ c.loop-place.invariant.hi_is
+
+pub returns-clause-may : goal.returns-clause-may
+returns-clause-may g c = c.loop-place.invariant.may
+
+pub returns-clause-resting : goal.returns-clause-resting
+returns-clause-resting g c = c.loop-place.invariant.resting
+
+pub returns-clause-settings : goal.returns-clause-settings
+returns-clause-settings g c = c.loop-place.invariant.settings
+
+pub returns-clause-by : goal.returns-clause-by
+returns-clause-by g c = c.loop-place.invariant.by_is
+
+pub returns-clause-hi : goal.returns-clause-hi
+returns-clause-hi g c = c.loop-place.invariant.hi_is

@@ -4,7 +4,7 @@ use Rattle.lert_trace.specs.Reader.{Means}
 use Rattle.lert_worker.specs.Sending.{AreSent, Lanes}
 use Rattle.lert_worker.specs.Trace.{IsNamed}
 use Rattle.lert_worker.specs.declared.end.WorkerEnd.TheVariants.{Trace}
-use Rattle.lert_worker.proofs.ReadLaws.{at_end, ends_by_cone, named_by_cone, was_ended, was_more, was_new, was_still}
+use Rattle.lert_worker.proofs.ReadLaws.{at_end, ends_by_cone, fewer_left, named_by_cone, was_ended, was_more, was_new, was_still}
 use Rattle.lert_worker.proofs.Steps.{lanes_start, lanes_stopped, room_resting, same_on, to_new, to_old}
 use Rattle.lert_worker.proofs.sending.read_keys.Goals as goal
 
@@ -96,3 +96,42 @@ returns-in-Err-take_key-clause-read g c =
           (c.in-Err-take_key.ensures.refused c.args.pass.now here.keys
           (to_new (λ s n t. Lanes s n t 0 here.keys c.args.pass.now c.loop-key.pass mid.rings) old mid here.same.outbox here.lanes));
     }
+
+pub returns-in-Ok-None-clause-may : goal.returns-in-Ok-None-clause-may
+returns-in-Ok-None-clause-may g c = c.loop-key.invariant.may
+
+pub returns-in-Ok-None-clause-room : goal.returns-in-Ok-None-clause-room
+returns-in-Ok-None-clause-room g c = c.loop-key.invariant.room
+
+pub returns-in-Ok-None-clause-same : goal.returns-in-Ok-None-clause-same
+returns-in-Ok-None-clause-same g c = c.loop-key.invariant.same
+
+pub returns-in-Err-clause-may : goal.returns-in-Err-clause-may
+returns-in-Err-clause-may g c = c.loop-key.invariant.may
+
+pub returns-in-Err-clause-room : goal.returns-in-Err-clause-room
+returns-in-Err-clause-room g c = c.loop-key.invariant.room
+
+pub returns-in-Err-clause-same : goal.returns-in-Err-clause-same
+returns-in-Err-clause-same g c = c.loop-key.invariant.same
+
+pub take_key-requires-clause-may : goal.take_key-requires-clause-may
+take_key-requires-clause-may g c = c.loop-key.invariant.may
+
+pub take_key-requires-clause-room : goal.take_key-requires-clause-room
+take_key-requires-clause-room g c = c.loop-key.invariant.room
+
+pub returns-in-Err-take_key-clause-may : goal.returns-in-Err-take_key-clause-may
+returns-in-Err-take_key-clause-may g c = c.take_key.ensures.may
+
+pub returns-in-Err-take_key-clause-room : goal.returns-in-Err-take_key-clause-room
+returns-in-Err-take_key-clause-room g c = c.take_key.ensures.room
+
+pub returns-in-Err-take_key-clause-same : goal.returns-in-Err-take_key-clause-same
+returns-in-Err-take_key-clause-same g c =
+    same_on c.args.outbox.now c.loop-key.outbox c.take_key.new.outbox c.args.pass.now c.loop-key.pass c.take_key.new.pass c.loop-key.invariant.same c.take_key.ensures.same
+
+pub loop-key-smaller : goal.loop-key-smaller
+loop-key-smaller g c =
+    fewer_left c.in-Ok-Some.field-0 c.in-Ok-Some.key c.loop-key.reader.limit c.next.new.self.limit c.loop-key.reader.given c.next.new.self.given c.in-Ok-Some.field-0-is
+    c.next.ensures.same_limit c.in-Ok-Some.ensures.counted

@@ -3,7 +3,8 @@ use Rattle.lert_worker.specs.Sending.{AreSent, Lanes}
 use Rattle.lert_worker.specs.Trace.{IsNamed}
 use Rattle.lert_worker.specs.declared.end.WorkerEnd.TheVariants.{Ran}
 use Rattle.lert_worker.proofs.ReadLaws.{ends_by_cone, named_by_cone}
-use Rattle.lert_worker.proofs.Steps.{to_new, to_old}
+use Rattle.lert_worker.proofs.Steps.{same_on, same_outbox, to_new, to_old}
+use Rattle.lert_worker.proofs.MayLaws.{may_rested}
 use Rattle.lert_worker.proofs.sending.send_trace.Goals as goal
 
 pub returns-in-Err-send_rests-clause-sent : goal.returns-in-Err-send_rests-clause-sent
@@ -38,3 +39,67 @@ returns-clause-sent g c =
           (c.in_default-send_rests.ensures.sent c.args.pass.now read.keys
           (to_new (λ s n t. Lanes s n t 0 read.keys c.args.pass.now c.read_keys.new.pass mid.rings) old mid same read.lanes));
     }
+
+pub read_keys-requires-clause-may : goal.read_keys-requires-clause-may
+read_keys-requires-clause-may g c = c.requires.may
+
+pub read_keys-requires-clause-resting : goal.read_keys-requires-clause-resting
+read_keys-requires-clause-resting g c = c.requires.resting
+
+pub drop_keys-requires : goal.drop_keys-requires
+drop_keys-requires g c = c.read_keys.ensures.may.idle
+
+pub returns-in-Err-clause-may : goal.returns-in-Err-clause-may
+returns-in-Err-clause-may g c =
+    may_rested g.H.Held c.args.fleet.now c.read_keys.new.pass c.read_keys.new.outbox c.drop_keys.new.self c.read_keys.ensures.may c.drop_keys.ensures.resting c.drop_keys.ensures.same
+
+pub returns-in-Err-clause-resting : goal.returns-in-Err-clause-resting
+returns-in-Err-clause-resting g c = c.drop_keys.ensures.resting
+
+pub returns-in-Err-clause-same : goal.returns-in-Err-clause-same
+returns-in-Err-clause-same g c =
+    record {
+      outbox = same_outbox c.args.outbox.now c.read_keys.new.outbox c.drop_keys.new.self c.read_keys.ensures.same.outbox c.drop_keys.ensures.same;
+      hi_is = c.read_keys.ensures.same.hi_is;
+    }
+
+pub returns-in-Err-clause-sent : goal.returns-in-Err-clause-sent
+returns-in-Err-clause-sent g c =
+    let read = c.in-Err.ensures.read in
+    record { keys = read.keys; read = read.read; ends = read.stopped; named = read.named; sent = read.sent }
+
+pub send_rests-requires-clause-may : goal.send_rests-requires-clause-may
+send_rests-requires-clause-may g c = c.read_keys.ensures.may
+
+pub send_rests-requires-clause-room : goal.send_rests-requires-clause-room
+send_rests-requires-clause-room g c = c.read_keys.ensures.room
+
+pub drop_keys-requires-in-Err-send_rests : goal.drop_keys-requires-in-Err-send_rests
+drop_keys-requires-in-Err-send_rests g c = c.send_rests.ensures.may.idle
+
+pub returns-in-Err-send_rests-clause-may : goal.returns-in-Err-send_rests-clause-may
+returns-in-Err-send_rests-clause-may g c =
+    let dropped = c.drop_keys-in-Err-send_rests in
+    may_rested g.H.Held c.args.fleet.now c.send_rests.new.pass c.send_rests.new.outbox dropped.new.self c.send_rests.ensures.may dropped.ensures.resting dropped.ensures.same
+
+pub returns-in-Err-send_rests-clause-resting : goal.returns-in-Err-send_rests-clause-resting
+returns-in-Err-send_rests-clause-resting g c = c.drop_keys-in-Err-send_rests.ensures.resting
+
+pub returns-in-Err-send_rests-clause-same : goal.returns-in-Err-send_rests-clause-same
+returns-in-Err-send_rests-clause-same g c =
+    let old = c.args.outbox.now in
+    let same = same_on old c.read_keys.new.outbox c.send_rests.new.outbox c.args.pass.now c.read_keys.new.pass c.send_rests.new.pass c.read_keys.ensures.same c.send_rests.ensures.same in
+    record {
+      outbox = same_outbox old c.send_rests.new.outbox c.drop_keys-in-Err-send_rests.new.self same.outbox c.drop_keys-in-Err-send_rests.ensures.same;
+      hi_is = same.hi_is;
+    }
+
+pub returns-clause-may : goal.returns-clause-may
+returns-clause-may g c = c.send_rests.ensures.may
+
+pub returns-clause-resting : goal.returns-clause-resting
+returns-clause-resting g c = record { idle = c.send_rests.ensures.may.idle; drained = c.in_default-send_rests.ensures.drained }
+
+pub returns-clause-same : goal.returns-clause-same
+returns-clause-same g c =
+    same_on c.args.outbox.now c.read_keys.new.outbox c.send_rests.new.outbox c.args.pass.now c.read_keys.new.pass c.send_rests.new.pass c.read_keys.ensures.same c.send_rests.ensures.same
