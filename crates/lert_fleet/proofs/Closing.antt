@@ -1,14 +1,16 @@
 -- The locks of a fleet are closed from the last cone on.
-use Rattle.std.proofs.Common.{◌≡◌, List, [], ◌∷◌, ◌++◌, length, map, reverse, slice_get, sym, ap, ◌∙◌, subst, arith}
-use Rattle.std.proofs.lemmas.List.{append_assoc, append-nil, reverse-append, reverse-reverse, length_push, map-append}
+use Rattle.std.proofs.Common.{◌≡◌, ℕ, ◌+◌, ◌≤◌, List, [], ◌∷◌, ◌++◌, length, map, reverse, slice_get, sym, ap, ◌∙◌, subst, arith}
+use Rattle.std.proofs.lemmas.List.{append_assoc, append-nil, reverse-append, reverse-reverse, length_push, length-map, map-append}
 use Rattle.crossbeam_utils.specs.declared.cache_padded.CachePadded.{CachePadded}
 use Rattle.crossbeam_utils.specs.Padded.{padded_value}
 use Rattle.lert_base.specs.declared.held.Held.{Ghosts as HeldOf}
 use Rattle.lert_conelock.specs.Sight.{Sight, LockSight, Closed}
+use Rattle.lert_fleet.specs.Cones.{ClosesEach, FleetPassSight, FleetSight, IsPassOf}
 use Rattle.lert_fleet.specs.Each.{EachTwo, EachThree}
 use Rattle.lert_fleet.specs.Rows.{IsWholePass, WereClosed}
 use Rattle.lert_fleet.proofs.Places.{slice_get_seam}
 use Rattle.lert_fleet.proofs.Eachwise.{three_none, three_cons}
+use Rattle.lert_fleet.proofs.Splitting.{as_long}
 
 module _ {H T R F : Type 0} (held : HeldOf H T R F) (locks₀ : List (LockSight H)) (passes₀ : List (Sight H F)) (others : List H) where
   -- the locks that are left stand in front of those that are closed, whose states lie the last one first
@@ -88,3 +90,35 @@ module _ {H T R F : Type 0} (held : HeldOf H T R F) (locks₀ : List (LockSight 
     each = subst (λ (xs : List (LockSight H)). EachThree (Closed held) xs passes₀ was.closed) (sym was.locks_are)
         (subst (λ (xs : List (Sight H F)). EachThree (Closed held) was.shut_locks xs was.closed) (sym was.passes_are) was.each);
   }
+
+  pub closing_done : (padded : List (CachePadded (LockSight H))) (passes : List (Sight H F)) (states result : List H) → padded ≡ [] → passes ≡ []
+      → IsClosing (map padded_value padded) passes states → result ≡ reverse states → WereClosed held locks₀ passes₀ others result
+  closing_done padded passes states result no_lock no_pass was is =
+      subst (λ (xs : List H). WereClosed held locks₀ passes₀ others xs) (sym is)
+      (closing_last states (subst (λ (xs : List (Sight H F)). IsClosing [] xs states) no_pass
+      (subst (λ (xs : List (CachePadded (LockSight H))). IsClosing (map padded_value xs) passes states) no_lock was)))
+
+  -- as many passes are left as locks
+  pub closing_many : (padded : List (CachePadded (LockSight H))) (passes : List (Sight H F)) (states : List H)
+      → IsClosing (map padded_value padded) passes states → length passes ≡ length padded
+  closing_many padded passes states was = was.as_many ∙ length-map padded padded_value
+
+-- the list that a fleet's states came in has room for all of them
+pub room_all : {H F : Type 0} (fleet : FleetSight H) (pass : FleetPassSight H F) (locks : List (CachePadded (LockSight H))) (lo hi : ℕ) (cones : List (Sight H F))
+    (states : List H) (room : ℕ) → IsPassOf pass fleet → pass.lo ≡ 0 → map padded_value locks ≡ fleet → record { lo = lo; hi = hi; cones = cones } ≡ pass
+    → states ≡ [] → (lo ≡ 0 → length cones ≤ room) → length states + length locks ≤ room
+room_all {H} {F} fleet pass locks lo hi cones states room is zero locks_are view none enough =
+    let first : lo ≡ 0 = ap (λ (x : FleetPassSight H F). x.lo) view ∙ zero in
+    let long : length cones ≡ length pass.cones = ap (λ (x : FleetPassSight H F). length x.cones) view in
+    let many = as_long fleet pass is locks locks_are in
+    let few = enough first in
+    let no = ap (λ (xs : List H). length xs) none in
+    omega (arith, long, many, few, no)
+
+pub closes_each : {H T R F : Type 0} (held : HeldOf H T R F) (fleet locks : FleetSight H) (pass : FleetPassSight H F) (passes : List (Sight H F)) (others result : List H)
+    → WereClosed held locks passes others result → others ≡ [] → locks ≡ fleet → passes ≡ pass.cones → ClosesEach held fleet pass result
+closes_each {H} {T} {R} {F} held fleet locks pass passes others result were none locks_are passes_are =
+    let all : result ≡ were.closed = were.result_is ∙ (ap (λ (xs : List H). were.closed ++ reverse xs) none ∙ append-nil were.closed) in
+    subst (λ (xs : List H). EachThree (Closed held) fleet pass.cones xs) (sym all)
+    (subst (λ (xs : List (LockSight H)). EachThree (Closed held) xs pass.cones were.closed) locks_are
+    (subst (λ (xs : List (Sight H F)). EachThree (Closed held) locks xs were.closed) passes_are were.each))

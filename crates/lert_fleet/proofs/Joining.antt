@@ -150,6 +150,20 @@ module _ {H F : Type 0} where
         theirs = other_is.each (length left) lock own lock_is theirs_there;
       }
 
+  -- it stands in each list
+  pub next_within : (fleet : FleetSight H) (old other : FleetPassSight H F) → IsPassOf old fleet → IsPassOf other fleet
+      → (all left : List (Sight H F)) (lo hi : ℕ) (now : List (Sight H F)) → IsJoining old other all lo hi now
+      → (own : Sight H F) → all ≡ left ++ own ∷ [] → (locks : List (CachePadded (LockSight H))) → map padded_value locks ≡ fleet
+      → (length left < length locks) × (length left < length now)
+  next_within fleet old other is other_is all left lo hi now joining own popped locks fleet_is =
+      let was = subst (λ (xs : List (Sight H F)). IsJoining old other xs lo hi now) popped joining in
+      let within = slice_get_within other.cones (length left) own (last_other old other left lo hi now own was) in
+      let sizes = was.as_many in
+      let as_many = is.as_many in
+      let others = other_is.as_many in
+      let rows : length (map padded_value locks) ≡ length fleet = ap (λ (xs : List (LockSight H)). length xs) fleet_is in
+      (omega (arith, within, as_many, others, rows, length-map locks padded_value), omega (arith, within, sizes, as_many, others))
+
   module _ {fleet : FleetSight H} {old other : FleetPassSight H F} {left : List (Sight H F)} {lo hi : ℕ}
       {now : List (Sight H F)} {lock : LockSight H} {before own : Sight H F}
       (next : IsNext fleet old other left lo hi now lock before own) where

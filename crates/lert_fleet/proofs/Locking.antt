@@ -1,7 +1,7 @@
 -- A lock is put round each state, and after want of memory each state comes back as it was.
-use Rattle.std.proofs.Common.{◌≡◌, ℕ, suc, zero, List, [], ◌∷◌, ◌++◌, length, map, reverse, Some, slice_get, refl, sym, ap, ◌∙◌, subst, arith}
+use Rattle.std.proofs.Common.{◌≡◌, ℕ, suc, zero, ◌≤◌, List, [], ◌∷◌, ◌++◌, length, map, reverse, Some, slice_get, refl, sym, ap, ◌∙◌, subst, arith}
 use Rattle.std.specs.Prelude.{All}
-use Rattle.std.proofs.lemmas.List.{append_assoc, append-nil, reverse-append, reverse-reverse, length-map, map-append}
+use Rattle.std.proofs.lemmas.List.{append_assoc, append-nil, reverse-append, reverse-reverse, length-map, length-reverse, map-append}
 use Rattle.std.proofs.lemmas.List.Elements.{All-nil, All-head, All-tail, All-push}
 use Rattle.std.proofs.lemmas.Option.{same_Some, none-some}
 use Rattle.crossbeam_utils.specs.declared.cache_padded.CachePadded.{CachePadded}
@@ -29,6 +29,20 @@ push_cases (z ∷ xs) y P all here (suc place) x is = push_cases xs y P (λ k. a
 
 abbrev pub firsts : {H : Type 0} → List (LockSight H) → List H
 firsts {H} locks = map (λ (lock : LockSight H). lock.first) locks
+
+-- there are as many locks as states
+pub locks_few : {H : Type 0} (padded : List (CachePadded (LockSight H))) (numbers : ℕ) (states turned : List H) (most : ℕ) → turned ≡ reverse states → length states ≤ most
+    → IsFleetOf (reverse turned) numbers (map padded_value padded) → length padded ≤ most
+locks_few {H} padded numbers states turned most is few made = omega (
+  arith,
+  length-map padded padded_value,
+  length-map (map padded_value padded) (λ (lock : LockSight H). lock.first),
+  ap (λ (xs : List H). length xs) made.firsts,
+  length-reverse turned,
+  ap (λ (xs : List H). length xs) is,
+  length-reverse states,
+  few,
+)
 
 module _ {H F : Type 0} where
   abbrev pub first_of : LockSight H → Sight H F
@@ -116,6 +130,23 @@ module _ {H F : Type 0} where
           subst (λ (x : Sight H F). IsOwnPass start lock x) (ap first_of (sym same) ∙ made.2)
           record { belongs = record { lock_is = refl; first_is = refl }; lo_is = refl; hi_is = of_them place lock lock_is });
     }
+
+  pub start_is : (fleet : FleetSight H) (numbers : ℕ) (cones : List (Sight H F)) → cones ≡ map first_of fleet
+      → record { lo = 0; hi = numbers; cones = cones } ≡ first_passes numbers fleet
+  start_is fleet numbers cones is = λ i. record { lo = 0; hi = numbers; cones = is i }
+
+  -- where there is room for the states, there is for their passes
+  pub passes_fit : (fleet : FleetSight H) (numbers : ℕ) (states : List H) (passes : List (Sight H F)) (room : ℕ) → IsFleetOf (reverse states) numbers fleet
+      → passes ≡ map first_of fleet → length states ≤ room → length passes ≤ room
+  passes_fit fleet numbers states passes room made passes_are fits = omega (
+    arith,
+    ap (λ (xs : List (Sight H F)). length xs) passes_are,
+    length-map fleet first_of,
+    ap (λ (xs : List H). length xs) made.firsts,
+    length-map fleet (λ (lock : LockSight H). lock.first),
+    length-reverse states,
+    fits,
+  )
 
   -- the passes of a pass that is whole
   pub whole_each : (fleet : FleetSight H) (pass : FleetPassSight H F) → IsPassOf pass fleet → IsWhole pass fleet

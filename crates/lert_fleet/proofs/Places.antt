@@ -1,5 +1,5 @@
 -- Elements of a list by their place.
-use Rattle.std.proofs.Common.{◌≡◌, ◌+◌, ◌≢◌, ℕ, suc, zero, ◌<◌, List, [], ◌∷◌, ◌++◌, length, set, get_or, map, Some, slice_get, refl, sym, ap, ◌∙◌, arith}
+use Rattle.std.proofs.Common.{◌≡◌, ◌+◌, ◌≢◌, ℕ, suc, zero, ◌<◌, ◌≤◌, List, [], ◌∷◌, ◌++◌, length, set, get_or, map, Some, slice_get, refl, sym, ap, ◌∙◌, arith}
 use Rattle.std.proofs.lemmas.List.{length-set, length_push, get_or-set_same}
 use Rattle.std.proofs.lemmas.Option.{slice_get-get_or, slice_get-map, slice_get_read, none-some, same_Some}
 use Rattle.std.specs.Option.{option_map}
@@ -44,3 +44,18 @@ image_at f (x ∷ xs) (suc i) y is = image_at f xs i y is
 -- a list that another one and an element make is longer by one
 pub length_pushed : {X : Type 0} (xs ys : List X) (y : X) → xs ≡ ys ++ y ∷ [] → length xs ≡ length ys + 1
 length_pushed xs ys y is = ap length is ∙ length_push ys y
+
+pub is_fewer : {X : Type 0} (all left : List X) (last : X) → all ≡ left ++ last ∷ [] → length left < length all
+is_fewer all left last popped = omega (arith, length_pushed all left last popped)
+
+-- a list that isn't empty isn't as long as one that is
+pub not_alone : {X Y : Type 0} (left : List X) (last : X) (all : List X) (others : List Y) → all ≡ left ++ last ∷ [] → length others ≡ length all → length others ≡ 0 → ⊥
+not_alone left last all others popped many none = omega (arith, length_pushed all left last popped, many, none)
+
+-- where there is room for the elements of two lists, there is for one more in the one
+pub has_room : {X Y : Type 0} (xs : List X) (long room : ℕ) (all left : List Y) (last : Y) → long ≡ length xs → all ≡ left ++ last ∷ [] → length xs + length all ≤ room → long < room
+has_room xs long room all left last is popped fits = omega (arith, is, length_pushed all left last popped, fits)
+
+-- a place that is told by a list's length
+pub at_length : {X Y : Type 0} (place long most : ℕ) (xs : List X) (ys : List Y) → place ≡ long → long ≡ length xs → most ≡ length ys → length xs < length ys → place < most
+at_length place long most xs ys is xs_are ys_are within = omega (arith, is, xs_are, ys_are, within)

@@ -1,12 +1,15 @@
 -- A pass of a fleet is cut from the first cone on.
 use Rattle.std.proofs.Common.{◌≡◌, ℕ, ◌+◌, ◌<◌, ◌≤◌, List, [], ◌∷◌, ◌++◌, length, map, set, take, drop, get_or, refl, sym, ap, ◌∙◌, subst, arith}
-use Rattle.std.proofs.lemmas.List.{length-map, length-take-le, drop_more, drop_all, take_all, append-nil, get_or_at, map_more}
+use Rattle.std.proofs.lemmas.List.{length-append, length-map, length-take-le, take-append-drop, drop_more, drop_all, take_all, append-nil, get_or_at, map_more}
 use Rattle.std.proofs.lemmas.List.Edits.{map_over_more}
 use Rattle.crossbeam_utils.specs.declared.cache_padded.CachePadded.{CachePadded}
 use Rattle.crossbeam_utils.specs.Padded.{padded_value}
 use Rattle.lert_conelock.specs.Sight.{Sight, LockSight}
 use Rattle.lert_fleet.specs.Cones.{FleetSight, FleetPassSight, IsOwnPass, IsPassOf, below, from}
 use Rattle.lert_fleet.proofs.Places.{image_at, read_at, seen_at}
+
+pub none_below : (lo at : ℕ) → lo < at → at ≡ 0 → ⊥
+none_below lo at within zero = omega (arith, within, zero)
 
 module _ {H F : Type 0} where
   abbrev pub lower : ℕ → Sight H F → Sight H F
@@ -23,7 +26,30 @@ module _ {H F : Type 0} where
   pub splitting_first : (at : ℕ) (cones : List (Sight H F)) → IsSplitting at cones 0 cones []
   splitting_first at cones = record { now_is = refl; others_are = refl }
 
+  pub splitting_begun : (at lo hi : ℕ) (cones others : List (Sight H F)) (pass : FleetPassSight H F) → record { lo = lo; hi = hi; cones = cones } ≡ pass → others ≡ []
+      → IsSplitting at pass.cones 0 cones others
+  splitting_begun at lo hi cones others pass view none =
+      subst (λ (xs : List (Sight H F)). IsSplitting at pass.cones 0 cones xs) (sym none)
+      (subst (λ (x : FleetPassSight H F). IsSplitting at x.cones 0 cones []) view (splitting_first at cones))
+
   module _ (at : ℕ) (cones : List (Sight H F)) (done : ℕ) (now others : List (Sight H F)) (was : IsSplitting at cones done now others) where
+    pub now_long : length now ≡ length cones
+    now_long = omega (
+      arith,
+      ap (λ (xs : List (Sight H F)). length xs) was.now_is,
+      length-append (map (lower at) (take done cones)) (drop done cones),
+      length-map (take done cones) (lower at),
+      length-append (take done cones) (drop done cones),
+      ap (λ (xs : List (Sight H F)). length xs) (take-append-drop done cones),
+    )
+
+    pub others_long : done ≤ length cones → length others ≡ done
+    others_long few = ap (λ (xs : List (Sight H F)). length xs) was.others_are ∙ (length-map (take done cones) (upper at) ∙ length-take-le done cones few)
+
+    -- there is room for one more
+    pub room_more : (long room most : ℕ) → long ≡ length others → most ≡ length cones → done < most → most ≤ room → long < room
+    room_more long room most is many within fits = omega (arith, is, many, others_long (omega (arith, within, many)), within, fits)
+
     -- the next cone stands as it was
     pub next_is : (own : Sight H F) → done < length cones → own ≡ get_or now done own → own ≡ get_or cones done own
     next_is own within read = read ∙ (ap (λ (xs : List (Sight H F)). get_or xs done own)
@@ -101,7 +127,7 @@ module _ {H F : Type 0} where
       (splitting_more at cones done now others was own within read)))
 
   -- the passes once all cones are cut
-  below_at_last : (at : ℕ) (pass : FleetPassSight H F) (done lo : ℕ) (now others : List (Sight H F))
+  pub below_at_last : (at : ℕ) (pass : FleetPassSight H F) (done lo : ℕ) (now others : List (Sight H F))
       → IsSplitting at pass.cones done now others → length pass.cones ≤ done → lo ≡ pass.lo
       → record { lo = lo; hi = at; cones = now } ≡ below at pass
   below_at_last at pass done lo now others was all same =
