@@ -9,3 +9,5 @@ pub mod Lasting
 pub mod KeptLaws
 pub mod HandedLaws
 pub mod Copying
+pub mod Counting
+pub mod Restoring
