@@ -1,9 +1,10 @@
 -- The pending bytes of a window: those from one place of its block up to another.
-use Rattle.std.proofs.Common.{◌≡◌, ℕ, ◌+◌, ◌-◌, ◌≤◌, List, [], ◌++◌, length, take, drop, Option, Some, None, refl, ap, sym, ◌∙◌, arith, length-drop, append_assoc}
+use Rattle.std.proofs.Common.{◌≡◌, ℕ, ◌+◌, ◌-◌, ◌≤◌, List, [], ◌++◌, length, take, drop, Option, Some, None}
+use Rattle.std.proofs.Common.{refl, ap, sym, ◌∙◌, subst, arith, length-drop, length-append, append_assoc}
 use Rattle.std.proofs.Math.Seq.{take-append-add}
 use Rattle.std.proofs.lemmas.List.{length-take-le, take-append-le, take-append-drop, take-take}
-use Rattle.std.proofs.lemmas.Slice.{between_is}
-use borrow.Rule.Slice.PartMut.{put_mid, post_of}
+use Rattle.std.proofs.lemmas.Slice.{between_is, take-put_mid_below}
+use borrow.Rule.Slice.PartMut.{mid_of, put_mid, post_of, mid_len, same_len_mid}
 use Rattle.lert_io.specs.Reading.{HandsOut}
 use Rattle.lert_trace.specs.Window.{IsBlock, StillAhead, IsAtEnd}
 
@@ -70,3 +71,53 @@ handed-none count into bytes after out zero =
 pub IsAtEnd-after : (first second third : Option (List ℕ)) (old mid : List ℕ) →
     StillAhead first second old mid → IsAtEnd second third → IsAtEnd first third
 IsAtEnd-after first second third old mid a end = λ bytes was. let x = a.told bytes was in end x.0 x.1
+
+-- ---- a window that reads on: what is pending was moved to its block's front, and a read had the rest
+
+module _ (block slid into : List ℕ) (start end : ℕ) (is : IsBlock block start end) (kept : length slid ≡ length block)
+    (room : length into ≡ length (mid_of (end - start) (4096 - (end - start)) slid)) where
+  sized : length slid ≡ 4096
+  sized = kept ∙ is.sized
+
+  fits : end - start ≤ length slid
+  fits = omega (arith, sized, is.within)
+
+  room_is : length into ≡ 4096 - (end - start)
+  room_is = room ∙ mid_len (end - start) 4096 slid (omega (arith, sized))
+
+  -- it has what was pending, where nothing came
+  pub IsBlock-unread : IsBlock (put_mid (end - start) (4096 - (end - start)) slid into) 0 (end - start)
+  IsBlock-unread = record {
+    sized = same_len_mid (end - start) (4096 - (end - start)) slid into room ∙ sized;
+    ordered = omega arith;
+    within = omega (arith, is.within);
+  }
+
+  pub IsBlock-read : (count : ℕ) → count ≤ length into → IsBlock (put_mid (end - start) (4096 - (end - start)) slid into) 0 ((end - start) + count)
+  IsBlock-read count within = record {
+    sized = same_len_mid (end - start) (4096 - (end - start)) slid into room ∙ sized;
+    ordered = omega arith;
+    within = omega (arith, is.within, within, room_is);
+  }
+
+  pub length-read : (count : ℕ) → count ≤ length into →
+      length (take ((end - start) + count) (put_mid (end - start) (4096 - (end - start)) slid into)) ≡ length (drop start (take end block)) + count
+  length-read count within =
+      ap length (take-read slid into (end - start) count (4096 - (end - start)) fits within)
+      ∙ (length-append (take (end - start) slid) (take count into)
+      ∙ omega (arith, length-take-le (end - start) slid fits, length-take-le count into within, length-pending block start end is))
+
+  pub StillAhead-unread : (before after : Option (List ℕ)) → take (end - start) slid ≡ drop start (take end block) → after ≡ before →
+      StillAhead before after (drop start (take end block)) (take (end - start) (put_mid (end - start) (4096 - (end - start)) slid into))
+  StillAhead-unread before after moved same =
+      subst (λ (xs : List ℕ). StillAhead before after (drop start (take end block)) xs)
+      (sym (take-put_mid_below (end - start) (4096 - (end - start)) slid into (end - start) (omega arith) fits ∙ moved))
+      (StillAhead-same before after (drop start (take end block)) same)
+
+-- a block of which the eight bytes in front were taken
+pub IsBlock-taken : (block : List ℕ) (start end : ℕ) → IsBlock block start end → 8 ≤ length (drop start (take end block)) → IsBlock block (start + 8) end
+IsBlock-taken block start end is enough = record {
+  sized = is.sized;
+  ordered = omega (arith, enough, length-pending block start end is);
+  within = is.within;
+}

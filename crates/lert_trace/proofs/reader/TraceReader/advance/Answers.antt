@@ -1,9 +1,48 @@
-use Rattle.std.proofs.Common.{◌≡◌, Some, IfOk, slice_get, ap, ◌∙◌, subst}
-use Rattle.std.specs.Prelude.{IfSome}
+use Rattle.std.proofs.Common.{◌≡◌, ◌+◌, ◌≤◌, Some, [], IfOk, slice_get, ap, ◌∙◌, subst}
+use Rattle.std.specs.Prelude.{IfSome, IfNone, IfErr}
+use Rattle.std.proofs.lemmas.Result.{err_from_is_err_and}
+use Rattle.lert_io.proofs.Rising.{risen_since}
 use Rattle.lert_spec.specs.Trace.{whole}
+use Rattle.lert_trace.specs.Reader.{IsTraceOf}
+use Rattle.lert_trace.proofs.Steps.{same_again, err_again, never_falls_on}
 use Rattle.lert_trace.proofs.reader.TraceReader.advance.Goals as goal
 
-pub returns-clause-key : goal.returns-clause-key
-returns-clause-key g c = λ bytes was.
-    subst (λ n. IfOk c.take_key.result (λ next. IfSome next (λ key. slice_get (whole bytes) n ≡ Some key)))
-    c.in_ok-begin.ensures.given (c.take_key.ensures.key bytes (ap g.S.Source.remaining c.in_ok-begin.ensures.same.made ∙ was))
+pub returns-in_err-begin : goal.returns-in_err-begin
+returns-in_err-begin g c =
+    let p = err_from_is_err_and c.from_residual.result c.from_residual.ensures.1 in
+    let failed = c.in_err-begin.ensures in
+    rw (p.1, p.2)
+    (record {
+      same = failed.same;
+      counted = tt;
+      key = λ bytes was. tt;
+      ended = tt;
+      end = λ bytes was. tt;
+      fault = failed.given;
+      cause = failed.cause;
+      read_failed = λ is. failed.read_failed (err_again _ _ is);
+      never_falls = failed.never_falls;
+      mark = failed.mark;
+    })
+
+pub returns : goal.returns
+returns g c =
+    let begun = c.in_ok-begin.ensures in
+    let taken = c.take_key.ensures in
+    record {
+      same = same_again c.args.self.now c.begin.new.self c.take_key.new.self begun.same taken.same;
+      counted = subst (λ n. IfOk c.take_key.result (λ next. IfSome next (λ _. (c.take_key.new.self.given ≡ n + 1) × (c.take_key.new.self.given ≤ c.take_key.new.self.limit))))
+          begun.given taken.counted;
+      key = λ bytes was.
+          subst (λ n. IfOk c.take_key.result (λ next. IfSome next (λ key. slice_get (whole bytes) n ≡ Some key))) begun.given
+          (taken.key bytes (ap g.S.Source.remaining begun.same.made ∙ was));
+      ended = subst (λ n. IfOk c.take_key.result (λ next. IfNone next (c.take_key.new.self.given ≡ n))) begun.given taken.ended;
+      end = λ bytes was.
+          subst (λ n. IfOk c.take_key.result (λ next. IfNone next (IsTraceOf bytes n × (g.S.Source.remaining c.take_key.new.self.source ≡ Some [])))) begun.given
+          (taken.end bytes (ap g.S.Source.remaining begun.same.made ∙ was));
+      fault = subst (λ n. IfErr c.take_key.result (λ _. c.take_key.new.self.given ≡ n)) begun.given taken.fault;
+      cause = taken.cause;
+      read_failed = λ is. risen_since _ _ _ begun.never_falls taken.never_falls (taken.read_failed is);
+      never_falls = never_falls_on _ _ _ begun.never_falls taken.never_falls;
+      mark = taken.mark ∙ begun.mark;
+    }

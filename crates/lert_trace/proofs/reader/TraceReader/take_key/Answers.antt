@@ -1,6 +1,9 @@
-use Rattle.std.proofs.Common.{◌<◌, Some, length, sym, ap, ◌∙◌, subst, arith}
+use Rattle.std.proofs.Common.{◌<◌, ◌≤◌, true, Some, length, refl, sym, ap, ◌∙◌, subst, arith}
+use Rattle.std.proofs.lemmas.Result.{err_from_is_err_and}
+use Rattle.lert_io.proofs.Rising.{risen_since}
 use Rattle.lert_spec.specs.Trace.{whole}
 use Rattle.lert_trace.proofs.Standing.{IsReader-read, IsReader-key, next_none, next_cut, next_more, next_key}
+use Rattle.lert_trace.proofs.Steps.{below_limit, behind_header, ok_no_err}
 use Rattle.lert_trace.proofs.reader.TraceReader.take_key.Goals as goal
 
 pub invariant_of-self : goal.invariant_of-self
@@ -23,26 +26,87 @@ invariant_of-self-then-self g c =
     IsReader-read _ _ _ _ _ _ _ _ _ _ _ _ c.self.invariant c.fill.ensures.cause.never_falls c.fill.ensures.mark
     (ap (λ r. r.fault) c.self.view_is ∙ c.requires.sound) c.fill.ensures.ahead
 
-pub returns-then-len-eq0-clause-end : goal.returns-then-len-eq0-clause-end
-returns-then-len-eq0-clause-end g c =
+pub returns-in_err-fill : goal.returns-in_err-fill
+returns-in_err-fill g c =
+    let p = err_from_is_err_and c.from_residual.result c.from_residual.ensures.1 in
+    let read = c.in_err-fill.ensures in
+    rw (p.1, p.2, ← c.self.view_is)
+    (record {
+      same = record { made = refl; limit = refl; fault = refl };
+      counted = tt;
+      key = λ bytes was. tt;
+      ended = tt;
+      end = λ bytes was. tt;
+      fault = refl;
+      cause = risen_since _ _ _ c.self.invariant.never_falls read.cause.never_falls (read.cause.failed (refl {a = true}));
+      read_failed = λ is. read.cause.failed (refl {a = true});
+      never_falls = read.cause.never_falls;
+      mark = read.mark;
+    })
+
+-- the trace's end
+pub returns-then-len-eq0 : goal.returns-then-len-eq0
+returns-then-len-eq0 g c =
+    let read = c.in_ok-fill.ensures in
     rw (← c.self.view_is)
-    (λ bytes was. next_none _ _ _ _ _ _ _ _ _ _ _ _ c.self.invariant (ap (λ r. r.begun) c.self.view_is ∙ c.requires.begun) c.fill.ensures.ahead bytes was
-    (c.in_ok-fill.ensures.at_end c.if-not-branch.true) (sym c.len.ensures ∙ c.if-len-eq0.true))
+    (record {
+      same = record { made = refl; limit = refl; fault = refl };
+      counted = tt;
+      key = λ bytes was. tt;
+      ended = refl;
+      end = λ bytes was. next_none _ _ _ _ _ _ _ _ _ _ _ _ c.self.invariant (ap (λ r. r.begun) c.self.view_is ∙ c.requires.begun) read.ahead bytes was
+          (read.at_end c.if-not-branch.true) (sym c.len.ensures ∙ c.if-len-eq0.true);
+      fault = tt;
+      cause = tt;
+      read_failed = λ is. absurd (ok_no_err _ _ is);
+      never_falls = read.cause.never_falls;
+      mark = read.mark;
+    })
 
-pub returns-then-not-branch-clause-cause : goal.returns-then-not-branch-clause-cause
-returns-then-not-branch-clause-cause g c = (
-  omega arith,
-  λ bytes was. next_cut _ _ _ _ _ _ _ _ _ _ _ _ c.self.invariant (ap (λ r. r.begun) c.self.view_is ∙ c.requires.begun) c.fill.ensures.ahead bytes was
-      (c.in_ok-fill.ensures.at_end c.if-not-branch.true) (λ none. c.if-len-eq0.false (c.len.ensures ∙ none)) (c.in_ok-fill.ensures.short c.if-not-branch.true),
-)
+-- a key that is cut off
+pub returns-then-not-branch : goal.returns-then-not-branch
+returns-then-not-branch g c =
+    let read = c.in_ok-fill.ensures in
+    rw (← c.self.view_is)
+    (record {
+      same = record { made = refl; limit = refl; fault = refl };
+      counted = tt;
+      key = λ bytes was. tt;
+      ended = tt;
+      end = λ bytes was. tt;
+      fault = refl;
+      cause = (
+        behind_header c.self.inside.given,
+        λ bytes was. next_cut _ _ _ _ _ _ _ _ _ _ _ _ c.self.invariant (ap (λ r. r.begun) c.self.view_is ∙ c.requires.begun) read.ahead bytes was
+            (read.at_end c.if-not-branch.true) (λ none. c.if-len-eq0.false (c.len.ensures ∙ none)) (read.short c.if-not-branch.true),
+      );
+      read_failed = λ is. absurd (cc);
+      never_falls = read.cause.never_falls;
+      mark = read.mark;
+    })
 
-pub returns-then-self-clause-cause : goal.returns-then-self-clause-cause
-returns-then-self-clause-cause g c = (
-  c.if-self.true,
-  λ bytes was. subst (λ n. n < length (whole bytes)) c.if-self.true
-      (next_more _ _ _ _ _ _ _ _ _ _ _ _ c.self.invariant (ap (λ r. r.begun) c.self.view_is ∙ c.requires.begun) c.fill.ensures.ahead bytes was
-      (c.in_ok-fill.ensures.enough c.if-not-branch.false)),
-)
+-- one key more than the limit
+pub returns-then-self : goal.returns-then-self
+returns-then-self g c =
+    let read = c.in_ok-fill.ensures in
+    rw (← c.self.view_is)
+    (record {
+      same = record { made = refl; limit = refl; fault = refl };
+      counted = tt;
+      key = λ bytes was. tt;
+      ended = tt;
+      end = λ bytes was. tt;
+      fault = refl;
+      cause = (
+        c.if-self.true,
+        λ bytes was. subst (λ n. n < length (whole bytes)) c.if-self.true
+            (next_more _ _ _ _ _ _ _ _ _ _ _ _ c.self.invariant (ap (λ r. r.begun) c.self.view_is ∙ c.requires.begun) read.ahead bytes was
+            (read.enough c.if-not-branch.false)),
+      );
+      read_failed = λ is. absurd (cc);
+      never_falls = read.cause.never_falls;
+      mark = read.mark;
+    })
 
 pub invariant_of-self-2 : goal.invariant_of-self-2
 invariant_of-self-2 g c =
@@ -52,10 +116,23 @@ invariant_of-self-2 g c =
     IsReader-key _ _ _ _ _ _ _ _ _ _ _ _ read c.take_number.ensures.source begun (c.in_ok-fill.ensures.enough c.if-not-branch.false)
     c.take_number.ensures.pending (omega (arith, c.self.invariant.within, c.if-self.false)) sound
 
-pub returns-clause-key : goal.returns-clause-key
-returns-clause-key g c =
+pub returns : goal.returns
+returns g c =
+    let read = c.in_ok-fill.ensures in
+    let source = c.take_number.ensures.source in
     rw (← c.self.view_is)
-    (λ bytes was.
-    next_key _ _ _ _ _ _ _ _ _ _ _ _ c.self.invariant (ap (λ r. r.begun) c.self.view_is ∙ c.requires.begun) c.fill.ensures.ahead bytes was
-    (c.in_ok-fill.ensures.enough c.if-not-branch.false)
-    ∙ ap Some (sym c.take_number.ensures.number))
+    (record {
+      same = record { made = refl; limit = refl; fault = refl };
+      counted = (refl, below_limit c.self.inside.given c.self.inside.limit c.self.invariant.within c.if-self.false);
+      key = λ bytes was.
+          next_key _ _ _ _ _ _ _ _ _ _ _ _ c.self.invariant (ap (λ r. r.begun) c.self.view_is ∙ c.requires.begun) read.ahead bytes was
+          (read.enough c.if-not-branch.false)
+          ∙ ap Some (sym c.take_number.ensures.number);
+      ended = tt;
+      end = λ bytes was. tt;
+      fault = tt;
+      cause = tt;
+      read_failed = λ is. absurd (ok_no_err _ _ is);
+      never_falls = subst (λ s. g.S.Faulty.faults c.self.inside.window.source ≤ g.S.Faulty.faults s) (sym source) read.cause.never_falls;
+      mark = ap g.S.Faulty.mark source ∙ read.mark;
+    })

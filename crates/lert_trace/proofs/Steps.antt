@@ -1,0 +1,68 @@
+-- What a step of a reader keeps.
+use Rattle.std.proofs.Common.{◌≡◌, ◌≢◌, ℕ, ◌+◌, ◌*◌, ◌≤◌, Bool, List, Option, Some, None, Result, Ok, Err, refl, sym, ap, ◌∙◌, subst, arith}
+use Rattle.std.specs.Prelude.{IfErr, IfSome}
+use Rattle.lert_trace.specs.declared.fault.TraceFault.{TraceFault}
+use Rattle.lert_trace.specs.Reader.{Reading, IsReader, IsSameReader, Means}
+
+-- one step after another
+pub same_again : {S : Type 0} (old mid new : Reading S) → IsSameReader old mid → IsSameReader mid new → IsSameReader old new
+same_again old mid new first second = record {
+  made = second.made ∙ first.made;
+  limit = second.limit ∙ first.limit;
+  fault = second.fault ∙ first.fault;
+}
+
+pub never_falls_on : (first middle last : ℕ) → first ≤ middle → middle ≤ last → first ≤ last
+never_falls_on first middle last one two = omega (arith, one, two)
+
+-- a fault of one call is that of the call around it
+pub err_again : {T U E : Type 0} (fault other : E) → ◌≡◌ {A = Result T E} (Err fault) (Err other) → ◌≡◌ {A = Result U E} (Err fault) (Err other)
+err_again fault other same = let is : fault ≡ other = cc in ap (λ f. Err f) is
+
+pub ok_no_err : {T E : Type 0} (x : T) (fault : E) → ◌≡◌ {A = Result T E} (Ok x) (Err fault) → ⊥
+ok_no_err x fault same = cc
+
+pub no_err : {T E : Type 0} (result : Result T E) (P : E → Type 0) (x : T) → result ≡ Ok x → IfErr result P
+no_err result P x is = subst (λ r. IfErr r P) (sym is) tt
+
+-- no fault was met
+pub none_is : {A : Type 0} (fault : Option A) → ((f : A) → fault ≡ Some f → ⊥) → fault ≡ None
+none_is None never = refl
+none_is (Some f) never = absurd (never f refl)
+
+pub if_none : {A : Type 0} (fault : Option A) (P : A → Type 0) → fault ≡ None → IfSome fault P
+if_none fault P none = subst (λ o. IfSome o P) (sym none) tt
+
+pub if_some : {A : Type 0} (fault : Option A) (P : A → Type 0) (f : A) → fault ≡ Some f → P f → IfSome fault P
+if_some fault P f is holds = subst (λ o. IfSome o P) (sym is) holds
+
+pub some_no_none : {A : Type 0} (fault : Option A) (f : A) → fault ≡ Some f → fault ≡ None → ⊥
+some_no_none fault f is none = cc
+
+pub below_limit : (given limit : ℕ) → given ≤ limit → given ≢ limit → given + 1 ≤ limit
+below_limit given limit within apart = omega (arith, within, apart)
+
+pub none_less : (n : ℕ) → n ≤ n
+none_less n = omega arith
+
+-- a place of a key is behind the header
+pub behind_header : (given : ℕ) → 8 ≤ 8 + 8 * given
+behind_header given = omega arith
+
+-- a reader that keeps the fault that it met
+pub IsReader-fault : {S : Type 0} (remaining : S → Option (List ℕ)) (faults mark : S → ℕ) (made source : S) (pending : List ℕ) (limit given : ℕ) (begun : Bool)
+    (fault now : Option TraceFault) → IsReader remaining faults mark made source pending limit given begun fault →
+    ((f : TraceFault) → now ≡ Some f → Means remaining faults made source limit given f) → IsReader remaining faults mark made source pending limit given begun now
+IsReader-fault remaining faults mark made source pending limit given begun fault now is caused = record {
+  stands = is.stands;
+  untold = is.untold;
+  never_falls = is.never_falls;
+  marked = is.marked;
+  within = is.within;
+  small = is.small;
+  fresh = is.fresh;
+  caused = caused;
+}
+
+pub some_is : {A : Type 0} (P : A → Type 0) (f other : A) → P f → Some f ≡ Some other → P other
+some_is P f other holds same = let is : f ≡ other = cc in subst P is holds
