@@ -4,3 +4,5 @@ pub mod Appending
 pub mod Looking
 pub mod Deciding
 pub mod Costs
+pub mod Announcing
+pub mod Seen

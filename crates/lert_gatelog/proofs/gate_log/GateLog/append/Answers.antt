@@ -1,8 +1,10 @@
-use Rattle.std.proofs.Common.{subst, sym}
+use Rattle.std.proofs.Common.{◌+◌, ◌<◌, length, refl, subst, sym}
+use Rattle.std.proofs.lemmas.Result.{err_from_is_err_and}
 use Rattle.lert_bay.specs.Kept.{Bays}
-use Rattle.lert_bay.proofs.KeptLaws.{IsLawful}
+use Rattle.lert_bay.proofs.KeptLaws.{IsLawful, keeps_on}
 use Rattle.lert_gatelog.specs.Gated.{Log, IsAppendix}
 use Rattle.lert_gatelog.proofs.Appending.{others_once, before_once, moments_once, settled_once, others_twice, before_twice, moments_twice, appended_twice, closed_twice, written_twice}
+use Rattle.lert_gatelog.proofs.Seen.{others_seen, others_on, gate_in_reach}
 use Rattle.lert_gatelog.proofs.gate_log.GateLog.append.Given as given
 use Rattle.lert_gatelog.proofs.gate_log.GateLog.append.Goals as goal
 
@@ -20,57 +22,75 @@ bays g = record {
 lawful : (g : given.Over) → IsLawful (bays g)
 lawful g = record { as_read = g.met.B.Bay.as_read; since_now = g.met.B.Bay.since_now; only_now = g.met.B.Bay.only_now; since_earlier = g.met.B.Bay.since_earlier }
 
+pub write_durably-requires : goal.write_durably-requires
+write_durably-requires g c = record {
+  file = c.self.invariant.0;
+  reach = subst (λ (log : Log). log.gate + 1 + length c.args.text.now < 9223372036854775808) (sym c.self.view_is) c.requires.reach;
+}
+
+pub write_durably-requires-2 : goal.write_durably-requires-2
+write_durably-requires-2 g c = record {
+  file = c.self.invariant.0;
+  reach = gate_in_reach c.self.inside.gate (length c.args.text.now)
+      (subst (λ (log : Log). log.gate + 1 + length c.args.text.now < 9223372036854775808) (sym c.self.view_is) c.requires.reach);
+}
+
 -- the first write or its sync fails
-pub returns-in_err-write_durably-clause-each_moment : goal.returns-in_err-write_durably-clause-each_moment
-returns-in_err-write_durably-clause-each_moment g c = rw (← c.self.view_is) (moments_once (bays g) c.self.inside.most c.self.inside.gate c.write_durably.ensures)
-
-pub returns-in_err-write_durably-clause-others : goal.returns-in_err-write_durably-clause-others
-returns-in_err-write_durably-clause-others g c = rw (← c.self.view_is) (others_once (bays g) c.write_durably.ensures)
-
-pub returns-in_err-write_durably-clause-before : goal.returns-in_err-write_durably-clause-before
-returns-in_err-write_durably-clause-before g c = rw (← c.self.view_is) (before_once (bays g) c.self.inside.gate c.write_durably.ensures)
+pub returns-in_err-write_durably : goal.returns-in_err-write_durably
+returns-in_err-write_durably g c =
+    let p = err_from_is_err_and c.from_residual.result c.from_residual.ensures.1 in
+    let wrote = c.write_durably.ensures in
+    rw (p.1, ← c.self.view_is) (record {
+      moved = tt;
+      stayed = refl;
+      each_moment = moments_once (bays g) c.self.inside.most c.self.inside.gate wrote;
+      appended = λ seen told first payloads payload is gated. tt;
+      closed = λ seen told. tt;
+      settled = tt;
+      written = tt;
+      before = before_once (bays g) c.self.inside.gate wrote;
+      others = others_once (bays g) wrote;
+      seen = others_seen _ _ _ _ wrote.seen;
+      kept = c.in_err-write_durably.ensures.kept;
+    })
 
 -- the second one fails
-pub returns-in_err-write_durably-2-clause-each_moment : goal.returns-in_err-write_durably-2-clause-each_moment
-returns-in_err-write_durably-2-clause-each_moment g c = rw (← c.self.view_is)
-    (moments_twice (bays g) (lawful g) c.self.inside.most c.self.inside.gate c.in_ok-write_durably.ensures c.write_durably-2.ensures
-    (subst (λ (log : Log). IsAppendix log.most c.args.text.now) (sym c.self.view_is) c.requires.text) c.self.invariant.1)
-
-pub returns-in_err-write_durably-2-clause-others : goal.returns-in_err-write_durably-2-clause-others
-returns-in_err-write_durably-2-clause-others g c = rw (← c.self.view_is)
-    (others_twice (bays g) (lawful g) c.self.inside.gate c.in_ok-write_durably.ensures c.write_durably-2.ensures)
-
-pub returns-in_err-write_durably-2-clause-before : goal.returns-in_err-write_durably-2-clause-before
-returns-in_err-write_durably-2-clause-before g c = rw (← c.self.view_is)
-    (before_twice (bays g) (lawful g) c.self.inside.gate c.in_ok-write_durably.ensures c.write_durably-2.ensures)
+pub returns-in_err-write_durably-2 : goal.returns-in_err-write_durably-2
+returns-in_err-write_durably-2 g c =
+    let p = err_from_is_err_and c.from_residual-in_err-write_durably-2.result c.from_residual-in_err-write_durably-2.ensures.1 in
+    let one = c.in_ok-write_durably.ensures in
+    let two = c.write_durably-2.ensures in
+    rw (p.1, ← c.self.view_is) (record {
+      moved = tt;
+      stayed = refl;
+      each_moment = moments_twice (bays g) (lawful g) c.self.inside.most c.self.inside.gate one two
+          (subst (λ (log : Log). IsAppendix log.most c.args.text.now) (sym c.self.view_is) c.requires.text) c.self.invariant.1;
+      appended = λ seen told first payloads payload is gated. tt;
+      closed = λ seen told. tt;
+      settled = tt;
+      written = tt;
+      before = before_twice (bays g) (lawful g) c.self.inside.gate one two;
+      others = others_twice (bays g) (lawful g) c.self.inside.gate one two;
+      seen = others_on _ _ _ _ (others_seen _ _ _ _ one.seen) (others_seen _ _ _ _ two.seen);
+      kept = keeps_on (bays g) (lawful g) _ _ _ _ _ one.kept c.in_err-write_durably-2.ensures.kept;
+    })
 
 -- the gate is open on the disk
-pub returns-clause-each_moment : goal.returns-clause-each_moment
-returns-clause-each_moment g c = rw (← c.self.view_is)
-    (moments_twice (bays g) (lawful g) c.self.inside.most c.self.inside.gate c.in_ok-write_durably.ensures c.write_durably-2.ensures
-    (subst (λ (log : Log). IsAppendix log.most c.args.text.now) (sym c.self.view_is) c.requires.text) c.self.invariant.1)
-
-pub returns-clause-others : goal.returns-clause-others
-returns-clause-others g c = rw (← c.self.view_is)
-    (others_twice (bays g) (lawful g) c.self.inside.gate c.in_ok-write_durably.ensures c.write_durably-2.ensures)
-
-pub returns-clause-before : goal.returns-clause-before
-returns-clause-before g c = rw (← c.self.view_is)
-    (before_twice (bays g) (lawful g) c.self.inside.gate c.in_ok-write_durably.ensures c.write_durably-2.ensures)
-
-pub returns-clause-appended : goal.returns-clause-appended
-returns-clause-appended g c = rw (← c.self.view_is)
-    (appended_twice (bays g) (lawful g) c.self.inside.most c.self.inside.gate c.in_ok-write_durably.ensures c.in_ok-write_durably-2.ensures
-    (subst (λ (log : Log). IsAppendix log.most c.args.text.now) (sym c.self.view_is) c.requires.text) c.self.invariant.1)
-
-pub returns-clause-closed : goal.returns-clause-closed
-returns-clause-closed g c = rw (← c.self.view_is)
-    (closed_twice (bays g) (lawful g) c.self.inside.most c.self.inside.gate c.in_ok-write_durably.ensures c.in_ok-write_durably-2.ensures
-    (subst (λ (log : Log). IsAppendix log.most c.args.text.now) (sym c.self.view_is) c.requires.text))
-
-pub returns-clause-settled : goal.returns-clause-settled
-returns-clause-settled g c = rw (← c.self.view_is) (settled_once (bays g) c.in_ok-write_durably-2.ensures)
-
-pub returns-clause-written : goal.returns-clause-written
-returns-clause-written g c = rw (← c.self.view_is)
-    (written_twice (bays g) (lawful g) c.self.inside.gate c.in_ok-write_durably.ensures c.in_ok-write_durably-2.ensures)
+pub returns : goal.returns
+returns g c =
+    let one = c.in_ok-write_durably.ensures in
+    let two = c.in_ok-write_durably-2.ensures in
+    let fits = subst (λ (log : Log). IsAppendix log.most c.args.text.now) (sym c.self.view_is) c.requires.text in
+    rw (← c.self.view_is) (record {
+      moved = refl;
+      stayed = tt;
+      each_moment = moments_twice (bays g) (lawful g) c.self.inside.most c.self.inside.gate one two fits c.self.invariant.1;
+      appended = appended_twice (bays g) (lawful g) c.self.inside.most c.self.inside.gate one two fits c.self.invariant.1;
+      closed = closed_twice (bays g) (lawful g) c.self.inside.most c.self.inside.gate one two fits;
+      settled = settled_once (bays g) two;
+      written = written_twice (bays g) (lawful g) c.self.inside.gate one two;
+      before = before_twice (bays g) (lawful g) c.self.inside.gate one two;
+      others = others_twice (bays g) (lawful g) c.self.inside.gate one two;
+      seen = others_on _ _ _ _ (others_seen _ _ _ _ one.seen) (others_seen _ _ _ _ two.seen);
+      kept = keeps_on (bays g) (lawful g) _ _ _ _ _ one.kept two.kept;
+    })

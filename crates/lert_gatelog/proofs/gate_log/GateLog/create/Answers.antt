@@ -1,8 +1,10 @@
 use Rattle.std.proofs.Common.{ℕ, ◌++◌, [], ◌+◌, length, take, drop, replicate, ap, ◌∙◌, arith}
+use Rattle.std.proofs.lemmas.Result.{err_from_is_err_and}
 use Rattle.lert_bay.proofs.Laid.{zeros_past}
 use Rattle.lert_gatelog.proofs.Looking.{text_alone, header_text, closed_text}
 use Rattle.lert_bay.specs.Kept.{Bays}
 use Rattle.lert_gatelog.proofs.Appending.{others_once, settled_once}
+use Rattle.lert_gatelog.proofs.Seen.{others_seen, short_text}
 use Rattle.lert_gatelog.proofs.gate_log.GateLog.create.Given as given
 use Rattle.lert_gatelog.proofs.gate_log.GateLog.create.Goals as goal
 
@@ -17,8 +19,30 @@ bays g = record {
   handed_out = g.B.Bay.handed_out;
 }
 
-pub returns-in_err-write_durably-clause-others : goal.returns-in_err-write_durably-clause-others
-returns-in_err-write_durably-clause-others g c = others_once (bays g) c.write_durably.ensures
+pub write_durably-requires : goal.write_durably-requires
+write_durably-requires g c = record { file = c.requires.file; reach = short_text (length c.args.header.now) _ c.requires.header }
+
+pub returns-in_err-write_durably : goal.returns-in_err-write_durably
+returns-in_err-write_durably g c =
+    let p = err_from_is_err_and c.from_residual.result c.from_residual.ensures.1 in
+    rw p.1 (record {
+      made = tt;
+      text = λ seen told. tt;
+      closed = λ seen told. tt;
+      settled = tt;
+      others = others_once (bays g) c.write_durably.ensures;
+      seen = others_seen _ _ _ _ c.write_durably.ensures.seen;
+      kept = c.in_err-write_durably.ensures.kept;
+    })
+
+pub returns-clause-made : goal.returns-clause-made
+returns-clause-made g c = c.at_gate.ensures
+
+pub returns-clause-seen : goal.returns-clause-seen
+returns-clause-seen g c = others_seen _ _ _ _ c.write_durably.ensures.seen
+
+pub returns-clause-kept : goal.returns-clause-kept
+returns-clause-kept g c = c.in_ok-write_durably.ensures.kept
 
 pub returns-clause-others : goal.returns-clause-others
 returns-clause-others g c = others_once (bays g) c.write_durably.ensures

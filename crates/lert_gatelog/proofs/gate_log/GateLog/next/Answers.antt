@@ -1,26 +1,118 @@
-use Rattle.std.proofs.Common.{◌≡◌, length, refl, ap, ◌∙◌, arith}
+use Rattle.std.proofs.Common.{◌≡◌, length, true, Err, refl, sym, ap, ◌∙◌, arith}
 use Rattle.std.proofs.lemmas.List.{take_at, length-take-le}
 use Rattle.std.proofs.lemmas.Result.{err_from_is_err_and}
+use Rattle.std.specs.Prelude.{IsErr}
+use Rattle.lert_bay.specs.Kept.{Bays}
+use Rattle.lert_bay.proofs.KeptLaws.{IsLawful, reading_on, reading_as}
 use Rattle.lert_bay.proofs.HandedLaws.{up_to_same, up_to_room}
 use Rattle.lert_gatelog.proofs.Costs.{least_cost, up_to_look}
+use Rattle.lert_gatelog.proofs.Announcing.{failed_no_place, malformed_no_fail, ok_no_fault}
+use Rattle.lert_gatelog.proofs.Seen.{reads_once, behind_payload}
 use Rattle.lert_gatelog.proofs.Looking.{opened, cut_payload}
+use Rattle.lert_gatelog.proofs.gate_log.GateLog.next.Given as given
 use Rattle.lert_gatelog.proofs.gate_log.GateLog.next.Goals as goal
 
-pub returns-clause-opened : goal.returns-clause-opened
-returns-clause-opened g c = rw (← c.self.view_is) (λ seen told.
-    let told_then = c.len.ensures.seen ∙ told in
-    let told_later = c.look.ensures.only_reads.seen ∙ told_then in
-    let said = rw (c.in-Some.is, ← c.self.view_is) at ((c.in_ok-count.ensures.looked seen told_then).announced) in
-    let bounds = rw (c.in-Some.is, ← c.self.view_is) at c.in_ok-count.ensures.counted in
-    let most_is : c.self.inside.most ≡ c.args.self.now.most = ap (λ log. log.most) c.self.view_is in
-    let long : length c.read_at.new.into ≡ c.in-Some.count = c.read_at.auto.into ∙ length-take-le c.in-Some.count c.args.into.now (omega (arith, bounds.1, c.requires.room, most_is)) in
-    opened c.self.inside.most c.self.inside.gate c.in-Some.count c.in_ok-read_at.field-0 _ c.read_at.new.into (seen c.self.inside.file)
-    said bounds.0 bounds.1 (c.in_ok-read_at.ensures.told seen told_later) long c.if-branch-count.false (take_at c.read_at.new.into _ c.in-Some.count long))
+abbrev bays : (g : given.Over) → Bays g.row.B.Denot
+bays g = record {
+  faults = g.B.Faulty.faults;
+  mark = g.B.Faulty.mark;
+  files = g.B.Bay.files;
+  leaves = g.B.Bay.leaves;
+  moment = g.B.Bay.moment;
+  left_since = g.B.Bay.left_since;
+  handed_out = g.B.Bay.handed_out;
+}
 
-pub returns-in_err-count-clause-malformed : goal.returns-in_err-count-clause-malformed
-returns-in_err-count-clause-malformed g c seen told at =
+lawful : (g : given.Over) → IsLawful (bays g)
+lawful g = record { as_read = g.met.B.Bay.as_read; since_now = g.met.B.Bay.since_now; only_now = g.met.B.Bay.only_now; since_earlier = g.met.B.Bay.since_earlier }
+
+pub look-requires : goal.look-requires
+look-requires g c = record {
+  reach = c.requires.reach;
+  end = λ seen told. c.in_ok-end.ensures.told seen (sym c.len.ensures.seen ∙ told) ∙ ap (λ log. length (seen log.file)) c.self.view_is;
+}
+
+-- a call fails, or the look finds a fault
+pub returns-in_err-end : goal.returns-in_err-end
+returns-in_err-end g c =
+    let p = err_from_is_err_and c.from_residual.result c.from_residual.ensures.1 in
+    let failed = c.in_err-end.ensures in
+    rw (p.1, p.2) (record {
+      opened = λ seen told. tt;
+      closed = λ seen told. tt;
+      malformed = λ seen told at is. absurd (failed_no_place at is);
+      counted = tt;
+      moved = tt;
+      stayed = refl;
+      only_reads = reads_once (bays g) (lawful g) c.args.bay.now c.len.new.self _ _ (λ _. refl {a = true}) failed.time failed.cause failed.mark failed.seen failed.images;
+      handed = up_to_same _ _ _ _ failed.handed;
+    })
+
+pub returns-in_err-count : goal.returns-in_err-count
+returns-in_err-count g c =
     let p = err_from_is_err_and c.from_residual-in_err-count.result c.from_residual-in_err-count.ensures.1 in
-    rw (p.1, p.2) ((c.in_err-count.ensures.looked seen (c.len.ensures.seen ∙ told)).malformed at)
+    let looked = c.in_err-count.ensures in
+    rw (p.1, p.2) (record {
+      opened = λ seen told. tt;
+      closed = λ seen told. tt;
+      malformed = λ seen told at. (looked.looked seen (c.len.ensures.seen ∙ told)).malformed at;
+      counted = tt;
+      moved = tt;
+      stayed = refl;
+      only_reads = reading_on (bays g) (lawful g) _ _ _ _ _
+          (reads_once (bays g) (lawful g) c.args.bay.now c.len.new.self c.len.result (IsErr c.len.result) (λ fails. fails) c.len.ensures.time c.len.ensures.cause
+          c.len.ensures.mark c.len.ensures.seen c.len.ensures.images)
+          looked.only_reads;
+      handed = up_to_look _ 0 _ _ _ _ _ (least_cost c.args.self.now.most (Err c.in_err-count.field-0.0)) c.len.ensures.handed looked.handed (up_to_same _ 0 _ _ refl);
+    })
+
+-- a closed gate
+pub returns-in_default : goal.returns-in_default
+returns-in_default g c =
+    let looked = c.in_ok-count.ensures in
+    record {
+      opened = λ seen told. tt;
+      closed = λ seen told. rw c.in_default.is at ((looked.looked seen (c.len.ensures.seen ∙ told)).closed);
+      malformed = λ seen told at is. absurd (ok_no_fault _ _ is);
+      counted = tt;
+      moved = refl;
+      stayed = tt;
+      only_reads = reading_on (bays g) (lawful g) _ _ _ _ _
+          (reads_once (bays g) (lawful g) c.args.bay.now c.len.new.self c.len.result (IsErr c.len.result) (λ fails. fails) c.len.ensures.time c.len.ensures.cause
+          c.len.ensures.mark c.len.ensures.seen c.len.ensures.images)
+          (reading_as (bays g) (lawful g) _ _ _ _ (λ is. absurd (ok_no_fault _ _ is)) looked.only_reads);
+      handed = up_to_look _ 0 _ _ _ _ _ (omega arith) c.len.ensures.handed looked.handed (up_to_same _ 0 _ _ refl);
+    }
+
+-- ---- behind an open gate
+
+pub returns-in_err-read_at : goal.returns-in_err-read_at
+returns-in_err-read_at g c =
+    let p = err_from_is_err_and c.from_residual-in_err-read_at.result c.from_residual-in_err-read_at.ensures.1 in
+    let failed = c.in_err-read_at.ensures in
+    rw (p.1, p.2) (record {
+      opened = λ seen told. tt;
+      closed = λ seen told. tt;
+      malformed = λ seen told at is. absurd (failed_no_place at is);
+      counted = tt;
+      moved = tt;
+      stayed = refl;
+      only_reads = reading_on (bays g) (lawful g) _ _ _ _ _
+          (reads_once (bays g) (lawful g) c.args.bay.now c.len.new.self c.len.result (IsErr c.len.result) (λ fails. fails) c.len.ensures.time c.len.ensures.cause
+          c.len.ensures.mark c.len.ensures.seen c.len.ensures.images)
+          (reading_on (bays g) (lawful g) _ _ _ _ _ c.look.ensures.only_reads
+          (reads_once (bays g) (lawful g) c.look.new.bay c.read_at.new.self _ _ (λ _. refl {a = true}) failed.time failed.cause failed.mark failed.seen failed.images));
+      handed = up_to_look _ 0 _ _ _ _ _ (omega arith) c.len.ensures.handed c.look.ensures.handed (up_to_same _ 0 _ _ failed.handed.failed);
+    })
+
+pub returns-then-branch-count-clause-only_reads : goal.returns-then-branch-count-clause-only_reads
+returns-then-branch-count-clause-only_reads g c =
+    reading_on (bays g) (lawful g) _ _ _ _ _
+    (reads_once (bays g) (lawful g) c.args.bay.now c.len.new.self c.len.result (IsErr c.len.result) (λ fails. fails) c.len.ensures.time c.len.ensures.cause
+    c.len.ensures.mark c.len.ensures.seen c.len.ensures.images)
+    (reading_on (bays g) (lawful g) _ _ _ _ _ c.look.ensures.only_reads
+    (reads_once (bays g) (lawful g) c.look.new.bay c.read_at.new.self c.read_at.result _ (λ is. absurd (malformed_no_fail _ is)) c.read_at.ensures.time c.read_at.ensures.cause
+    c.read_at.ensures.mark c.read_at.ensures.seen c.read_at.ensures.images))
 
 pub returns-then-branch-count-clause-malformed : goal.returns-then-branch-count-clause-malformed
 returns-then-branch-count-clause-malformed g c = rw (← c.self.view_is) (λ seen told at is.
@@ -33,22 +125,6 @@ returns-then-branch-count-clause-malformed g c = rw (← c.self.view_is) (λ see
     cut_payload c.self.inside.most c.self.inside.gate c.in-Some.count c.in_ok-read_at.field-0 c.in_ok-end.end at c.read_at.new.into (seen c.self.inside.file)
     said bounds.0 bounds.1 (c.in_ok-read_at.ensures.told seen told_later) long c.if-branch-count.true (c.in_ok-end.ensures.told seen told) (cc))
 
--- ---- how many bytes were handed out
-
-pub returns-in_err-end-clause-handed : goal.returns-in_err-end-clause-handed
-returns-in_err-end-clause-handed g c = up_to_same _ _ _ _ c.len.ensures.handed
-
-pub returns-in_err-count-clause-handed : goal.returns-in_err-count-clause-handed
-returns-in_err-count-clause-handed g c = up_to_look _ 0 _ _ _ _ _ (omega (arith, least_cost c.args.self.now.most c.from_residual-in_err-count.result))
-    c.len.ensures.handed c.look.ensures.handed (up_to_same _ 0 _ _ refl)
-
-pub returns-in_default-clause-handed : goal.returns-in_default-clause-handed
-returns-in_default-clause-handed g c = up_to_look _ 0 _ _ _ _ _ (omega arith) c.len.ensures.handed c.look.ensures.handed (up_to_same _ 0 _ _ refl)
-
-pub returns-in_err-read_at-clause-handed : goal.returns-in_err-read_at-clause-handed
-returns-in_err-read_at-clause-handed g c = up_to_look _ 0 _ _ _ _ _ (omega (arith, least_cost c.args.self.now.most c.from_residual-in_err-read_at.result))
-    c.len.ensures.handed c.look.ensures.handed (up_to_same _ 0 _ _ c.in_err-read_at.ensures.handed.failed)
-
 pub returns-then-branch-count-clause-handed : goal.returns-then-branch-count-clause-handed
 returns-then-branch-count-clause-handed g c = rw (← c.self.view_is) (
     let bounds = rw (c.in-Some.is, ← c.self.view_is) at c.in_ok-count.ensures.counted in
@@ -56,6 +132,32 @@ returns-then-branch-count-clause-handed g c = rw (← c.self.view_is) (
     let long : length c.read_at.new.into ≡ c.in-Some.count = c.read_at.auto.into ∙ length-take-le c.in-Some.count c.args.into.now (omega (arith, bounds.1, c.requires.room, most_is)) in
     up_to_look _ c.in-Some.count _ _ _ _ _ (omega (arith, bounds.1)) c.len.ensures.handed (rw (← c.self.view_is) at c.look.ensures.handed)
     (up_to_room _ _ _ _ _ _ c.in_ok-read_at.ensures.handed (omega (arith, c.in_ok-read_at.ensures.within, long))))
+
+pub returns-clause-opened : goal.returns-clause-opened
+returns-clause-opened g c = rw (← c.self.view_is) (λ seen told.
+    let told_then = c.len.ensures.seen ∙ told in
+    let told_later = c.look.ensures.only_reads.seen ∙ told_then in
+    let said = rw (c.in-Some.is, ← c.self.view_is) at ((c.in_ok-count.ensures.looked seen told_then).announced) in
+    let bounds = rw (c.in-Some.is, ← c.self.view_is) at c.in_ok-count.ensures.counted in
+    let most_is : c.self.inside.most ≡ c.args.self.now.most = ap (λ log. log.most) c.self.view_is in
+    let long : length c.read_at.new.into ≡ c.in-Some.count = c.read_at.auto.into ∙ length-take-le c.in-Some.count c.args.into.now (omega (arith, bounds.1, c.requires.room, most_is)) in
+    opened c.self.inside.most c.self.inside.gate c.in-Some.count c.in_ok-read_at.field-0 _ c.read_at.new.into (seen c.self.inside.file)
+    said bounds.0 bounds.1 (c.in_ok-read_at.ensures.told seen told_later) long c.if-branch-count.false (take_at c.read_at.new.into _ c.in-Some.count long))
+
+pub returns-clause-counted : goal.returns-clause-counted
+returns-clause-counted g c = rw c.in-Some.is at c.in_ok-count.ensures.counted
+
+pub returns-clause-moved : goal.returns-clause-moved
+returns-clause-moved g c = rw (← c.self.view_is) (ap (λ n. record { file = c.self.inside.file; gate = n; most = c.self.inside.most }) (behind_payload c.self.inside.gate c.in-Some.count))
+
+pub returns-clause-only_reads : goal.returns-clause-only_reads
+returns-clause-only_reads g c =
+    reading_on (bays g) (lawful g) _ _ _ _ _
+    (reads_once (bays g) (lawful g) c.args.bay.now c.len.new.self c.len.result (IsErr c.len.result) (λ fails. fails) c.len.ensures.time c.len.ensures.cause
+    c.len.ensures.mark c.len.ensures.seen c.len.ensures.images)
+    (reading_on (bays g) (lawful g) _ _ _ _ _ c.look.ensures.only_reads
+    (reads_once (bays g) (lawful g) c.look.new.bay c.read_at.new.self c.read_at.result _ (λ is. absurd (ok_no_fault _ _ is)) c.read_at.ensures.time c.read_at.ensures.cause
+    c.read_at.ensures.mark c.read_at.ensures.seen c.read_at.ensures.images))
 
 pub returns-clause-handed : goal.returns-clause-handed
 returns-clause-handed g c = rw (← c.self.view_is) (
