@@ -6,3 +6,5 @@ pub mod PayloadWhole
 pub mod OneAnswer
 pub mod BeginningLaws
 pub mod Costs
+pub mod Leaving
+pub mod TextLaws

@@ -1,7 +1,9 @@
 -- What stands at a gate of a journal is a packet, a closed gate, or a place at which the format is left: only one of these.
-use Rattle.std.proofs.Common.{◌≡◌, ℕ, suc, ◌+◌, ◌<◌, ◌^◌, Bool, Some, None, Result, Err, List, [], ◌∷◌, length, map, slice_index_or, refl, sym, ap, ap₂, ◌∙◌}
-use Rattle.std.proofs.Common.{◌⊎◌, inl, inr, arith}
+use Rattle.std.proofs.Common.{◌≡◌, ℕ, suc, ◌+◌, ◌-◌, ◌*◌, ◌/◌, ◌<◌, ◌≤◌, ◌^◌}
+use Rattle.std.proofs.Common.{Bool, Some, None, Result, Ok, Err, List, [], ◌∷◌, length, take, map, slice_index_or, refl, sym, ap, ap₂, ◌∙◌}
+use Rattle.std.proofs.Common.{◌⊎◌, inl, inr, arith, length-take}
 use Rattle.std.specs.Prelude.{All}
+use Rattle.std.proofs.lemmas.List.FromFn.{length-map-range_with_len}
 use Rattle.std.proofs.lemmas.Option.{none-some}
 use Rattle.lert_base.specs.Packet.{Packet}
 use Rattle.lert_gatelog.specs.declared.fault.LogFault.{LogFault}
@@ -10,7 +12,7 @@ use Rattle.lert_gatelog.specs.Gated.{IsClosed, IsOpen, BreaksAt}
 use Rattle.lert_gatelog.proofs.Deciding.{one_payload, open_or_closed, whole_or_broken, closed_or_broken, one_place, one_list}
 use Rattle.lert_spec.specs.declared.numbers.Numbers.{Numbers}
 use Rattle.lert_journal.specs.Journal.{HasPackets, HoldsPacket, LeavesAt}
-use Rattle.lert_journal.specs.Payload.{payload_of, packet_in, left, IsJournaled}
+use Rattle.lert_journal.specs.Payload.{payload_of, packet_in, key_in, left, IsJournaled}
 use Rattle.lert_journal.proofs.PayloadBack.{never_left, packet_back}
 
 -- a packet's payload leaves the format nowhere
@@ -55,6 +57,12 @@ same_fault one other is = cc
 pub same_place : (one other : ℕ) → ◌≡◌ {A = LogFault} (Malformed one) (Malformed other) → one ≡ other
 same_place one other is = cc
 
+pub ok_no_fault : (found : Bool) (fault : LogFault) → ◌≡◌ {A = Result Bool LogFault} (Ok found) (Err fault) → ⊥
+ok_no_fault found fault is = cc
+
+pub place_no_failure : (at : ℕ) → ◌≡◌ {A = LogFault} (Malformed at) Failed → ⊥
+place_no_failure at is = cc
+
 -- where no place can be the first, the fault is a failure
 pub fails : (s : Numbers) (cone most : ℕ) (bytes : List ℕ) (gate : ℕ) (fault : LogFault) → ((at : ℕ) → fault ≡ Malformed at → BreaksAt most bytes gate at) →
     ((at : ℕ) → LeavesAt s cone most bytes gate at → ⊥) → fault ≡ Failed
@@ -66,6 +74,22 @@ pub fails_there : (s : Numbers) (cone most : ℕ) (bytes : List ℕ) (gate at : 
     LeavesAt s cone most bytes gate at → (fault ≡ Failed) ⊎ (fault ≡ Malformed at)
 fails_there s cone most bytes gate at Failed said left_at = inl refl
 fails_there s cone most bytes gate at (Malformed other) said left_at = inr (ap Malformed (one_place_left s cone most bytes gate other at (inl (said other refl)) left_at))
+
+-- ---- what was read of a record
+
+pub payload_short : (count most : ℕ) (bytes : List ℕ) → count ≤ most → most < 4294967296 → length (take count bytes) < 4294967296
+payload_short count most bytes within small = omega (arith, within, small, length-take count bytes)
+
+pub plus_five : (count most : ℕ) → count ≤ most → 5 + count ≤ 5 + most
+plus_five count most within = omega (arith, within)
+
+-- its keys have room
+pub keys_fit : (payload : List ℕ) (most room : ℕ) → length (packet_in payload).keys ≤ most → most ≤ room → (length payload - 8) / 8 ≤ room
+keys_fit payload most room few fits = omega (arith, few, fits, length-map-range_with_len (key_in payload) 0 ((length payload - 8) / 8))
+
+pub went_forward : (gate next count most packet : ℕ) → next ≡ gate + 5 + count → 0 < count → count ≤ most → most ≡ 8 + 32 * packet →
+    (gate < next) × (next ≤ gate + 13 + 32 * packet)
+went_forward gate next count most packet is some within most_is = (omega (arith, is, some), omega (arith, is, within, most_is))
 
 -- ---- one journal has one list of packets
 
