@@ -40,3 +40,17 @@ gate_in_reach gate n reach = omega (arith, reach)
 
 pub behind_payload : (gate count : ℕ) → gate + (5 + count) ≡ gate + 5 + count
 behind_payload gate count = omega arith
+
+-- ---- what is read and added stays in range
+
+pub at_most : (a b c : ℕ) → a ≤ b → b ≤ c → a ≤ c
+at_most a b c one two = omega (arith, one, two)
+
+pub behind_gate : (gate : ℕ) → gate ≤ 4611686018427387904 → gate + 5 < 18446744073709551616
+behind_gate gate reach = omega (arith, reach)
+
+pub record_small : (count most : ℕ) → count ≤ most → most < 4294967296 → 5 + count < 18446744073709551616
+record_small count most within small = omega (arith, within, small)
+
+pub record_in_reach : (gate count most : ℕ) → count ≤ most → most < 4294967296 → gate ≤ 4611686018427387904 → gate + (5 + count) < 18446744073709551616
+record_in_reach gate count most within small reach = omega (arith, within, small, reach)

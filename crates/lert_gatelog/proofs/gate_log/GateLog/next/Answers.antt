@@ -1,4 +1,4 @@
-use Rattle.std.proofs.Common.{◌≡◌, length, true, Err, refl, sym, ap, ◌∙◌, arith}
+use Rattle.std.proofs.Common.{◌≤◌, subst, ◌≡◌, length, true, Err, refl, sym, ap, ◌∙◌, arith}
 use Rattle.std.proofs.lemmas.List.{take_at, length-take-le}
 use Rattle.std.proofs.lemmas.Result.{err_from_is_err_and}
 use Rattle.std.specs.Prelude.{IsErr}
@@ -7,7 +7,7 @@ use Rattle.lert_bay.proofs.KeptLaws.{IsLawful, reading_on, reading_as}
 use Rattle.lert_bay.proofs.HandedLaws.{up_to_same, up_to_room}
 use Rattle.lert_gatelog.proofs.Costs.{least_cost, up_to_look}
 use Rattle.lert_gatelog.proofs.Announcing.{failed_no_place, malformed_no_fail, ok_no_fault}
-use Rattle.lert_gatelog.proofs.Seen.{reads_once, behind_payload}
+use Rattle.lert_gatelog.proofs.Seen.{reads_once, behind_payload, at_most, behind_gate, record_small, record_in_reach}
 use Rattle.lert_gatelog.proofs.Looking.{opened, cut_payload}
 use Rattle.lert_gatelog.proofs.gate_log.GateLog.next.Given as given
 use Rattle.lert_gatelog.proofs.gate_log.GateLog.next.Goals as goal
@@ -105,6 +105,24 @@ returns-in_err-read_at g c =
       handed = up_to_look _ 0 _ _ _ _ _ (omega arith) c.len.ensures.handed c.look.ensures.handed (up_to_same _ 0 _ _ failed.handed.failed);
     })
 
+pub read_at-requires : goal.read_at-requires
+read_at-requires g c = c.self.invariant.0
+
+pub returns-then-branch-count-clause-opened : goal.returns-then-branch-count-clause-opened
+returns-then-branch-count-clause-opened g c seen told = tt
+
+pub returns-then-branch-count-clause-closed : goal.returns-then-branch-count-clause-closed
+returns-then-branch-count-clause-closed g c seen told = tt
+
+pub returns-then-branch-count-clause-counted : goal.returns-then-branch-count-clause-counted
+returns-then-branch-count-clause-counted g c = tt
+
+pub returns-then-branch-count-clause-moved : goal.returns-then-branch-count-clause-moved
+returns-then-branch-count-clause-moved g c = tt
+
+pub returns-then-branch-count-clause-stayed : goal.returns-then-branch-count-clause-stayed
+returns-then-branch-count-clause-stayed g c = refl
+
 pub returns-then-branch-count-clause-only_reads : goal.returns-then-branch-count-clause-only_reads
 returns-then-branch-count-clause-only_reads g c =
     reading_on (bays g) (lawful g) _ _ _ _ _
@@ -144,6 +162,15 @@ returns-clause-opened g c = rw (← c.self.view_is) (λ seen told.
     opened c.self.inside.most c.self.inside.gate c.in-Some.count c.in_ok-read_at.field-0 _ c.read_at.new.into (seen c.self.inside.file)
     said bounds.0 bounds.1 (c.in_ok-read_at.ensures.told seen told_later) long c.if-branch-count.false (take_at c.read_at.new.into _ c.in-Some.count long))
 
+pub returns-clause-closed : goal.returns-clause-closed
+returns-clause-closed g c seen told = tt
+
+pub returns-clause-malformed : goal.returns-clause-malformed
+returns-clause-malformed g c seen told at is = absurd (ok_no_fault _ _ is)
+
+pub returns-clause-stayed : goal.returns-clause-stayed
+returns-clause-stayed g c = tt
+
 pub returns-clause-counted : goal.returns-clause-counted
 returns-clause-counted g c = rw c.in-Some.is at c.in_ok-count.ensures.counted
 
@@ -166,3 +193,31 @@ returns-clause-handed g c = rw (← c.self.view_is) (
     let long : length c.read_at.new.into ≡ c.in-Some.count = c.read_at.auto.into ∙ length-take-le c.in-Some.count c.args.into.now (omega (arith, bounds.1, c.requires.room, most_is)) in
     up_to_look _ c.in-Some.count _ _ _ _ _ (omega arith) c.len.ensures.handed (rw (← c.self.view_is) at c.look.ensures.handed)
     (up_to_room _ _ _ _ _ _ c.in_ok-read_at.ensures.handed (omega (arith, c.in_ok-read_at.ensures.within, long))))
+
+-- what is read and added stays in range
+pub slice_bounds-read_at-end : goal.slice_bounds-read_at-end
+slice_bounds-read_at-end g c = let bounds = rw c.in-Some.is at c.in_ok-count.ensures.counted in at_most _ _ _ bounds.1 c.requires.room
+
+pub slice_bounds-read_at-end-2 : goal.slice_bounds-read_at-end-2
+slice_bounds-read_at-end-2 g c =
+    let bounds = rw c.in-Some.is at c.in_ok-count.ensures.counted in
+    sym (length-take-le c.in-Some.count c.args.into.now (at_most _ _ _ bounds.1 c.requires.room))
+
+pub overflow_add-self-inside : goal.overflow_add-self-inside
+overflow_add-self-inside g c = record { fits = behind_gate c.self.inside.gate (subst (λ log. log.gate ≤ 4611686018427387904) (sym c.self.view_is) c.requires.reach) }
+
+pub overflow_add-self : goal.overflow_add-self
+overflow_add-self g c =
+    let bounds = rw (c.in-Some.is, ← c.self.view_is) at c.in_ok-count.ensures.counted in
+    record { fits = record_small c.in-Some.count c.self.inside.most bounds.1 c.self.invariant.1 }
+
+pub overflow_add-self-2 : goal.overflow_add-self-2
+overflow_add-self-2 g c =
+    let bounds = rw (c.in-Some.is, ← c.self.view_is) at c.in_ok-count.ensures.counted in
+    record {
+      fits = record_in_reach c.self.inside.gate c.in-Some.count c.self.inside.most bounds.1 c.self.invariant.1
+          (subst (λ log. log.gate ≤ 4611686018427387904) (sym c.self.view_is) c.requires.reach);
+    }
+
+pub invariant_of-self : goal.invariant_of-self
+invariant_of-self g c = c.self.invariant
