@@ -2,6 +2,7 @@
 use Rattle.std.proofs.Common.{◌≡◌, ◌≢◌, ℕ, ◌+◌, ◌*◌, ◌≤◌, Bool, List, Option, Some, None, Result, Ok, Err, refl, sym, ap, ◌∙◌, subst, arith}
 use Rattle.std.specs.Prelude.{IfErr, IfSome}
 use Rattle.lert_trace.specs.declared.fault.TraceFault.{TraceFault}
+use Rattle.lert_trace.specs.declared.fault.TraceFault.TheVariants.{ReadFailed, CutKey, TooLong}
 use Rattle.lert_trace.specs.Reader.{Reading, IsReader, IsSameReader, Means}
 
 -- one step after another
@@ -21,6 +22,12 @@ err_again fault other same = let is : fault ≡ other = cc in ap (λ f. Err f) i
 
 pub ok_no_err : {T E : Type 0} (x : T) (fault : E) → ◌≡◌ {A = Result T E} (Ok x) (Err fault) → ⊥
 ok_no_err x fault same = cc
+
+pub cut_no_failure : {T : Type 0} (at : ℕ) → ◌≡◌ {A = Result T TraceFault} (Err (CutKey at)) (Err ReadFailed) → ⊥
+cut_no_failure at same = cc
+
+pub long_no_failure : {T : Type 0} → ◌≡◌ {A = Result T TraceFault} (Err TooLong) (Err ReadFailed) → ⊥
+long_no_failure same = cc
 
 pub no_err : {T E : Type 0} (result : Result T E) (P : E → Type 0) (x : T) → result ≡ Ok x → IfErr result P
 no_err result P x is = subst (λ r. IfErr r P) (sym is) tt

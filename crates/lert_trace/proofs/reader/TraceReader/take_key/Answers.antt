@@ -1,9 +1,11 @@
-use Rattle.std.proofs.Common.{◌<◌, ◌≤◌, true, Some, length, refl, sym, ap, ◌∙◌, subst, arith}
+use Rattle.std.proofs.Common.{◌≡◌, ℕ, ◌+◌, List, [], slice_get, ◌<◌, ◌≤◌, true, Some, length, refl, sym, ap, ◌∙◌, subst, arith}
 use Rattle.std.proofs.lemmas.Result.{err_from_is_err_and}
+use Rattle.lert_io.specs.Fault.{HasRisen}
 use Rattle.lert_io.proofs.Rising.{risen_since}
 use Rattle.lert_spec.specs.Trace.{whole}
 use Rattle.lert_trace.proofs.Standing.{IsReader-read, IsReader-key, next_none, next_cut, next_more, next_key}
-use Rattle.lert_trace.proofs.Steps.{below_limit, behind_header, ok_no_err}
+use Rattle.lert_trace.proofs.Steps.{below_limit, behind_header, ok_no_err, cut_no_failure, long_no_failure}
+use Rattle.lert_trace.specs.Reader.{IsTraceOf}
 use Rattle.lert_trace.proofs.reader.TraceReader.take_key.Goals as goal
 
 pub invariant_of-self : goal.invariant_of-self
@@ -29,84 +31,87 @@ invariant_of-self-then-self g c =
 pub returns-in_err-fill : goal.returns-in_err-fill
 returns-in_err-fill g c =
     let p = err_from_is_err_and c.from_residual.result c.from_residual.ensures.1 in
+    let seen = c.self.view_is in
     let read = c.in_err-fill.ensures in
-    rw (p.1, p.2, ← c.self.view_is)
+    rw (p.1, p.2)
     (record {
-      same = record { made = refl; limit = refl; fault = refl };
+      same = record { made = ap (λ r. r.made) seen; limit = ap (λ r. r.limit) seen; fault = ap (λ r. r.fault) seen };
       counted = tt;
       key = λ bytes was. tt;
       ended = tt;
       end = λ bytes was. tt;
-      fault = refl;
+      fault = ap (λ r. r.given) seen;
       cause = risen_since _ _ _ c.self.invariant.never_falls read.cause.never_falls (read.cause.failed (refl {a = true}));
-      read_failed = λ is. read.cause.failed (refl {a = true});
-      never_falls = read.cause.never_falls;
-      mark = read.mark;
+      read_failed = λ is.
+          subst (λ r. HasRisen (g.S.Faulty.faults r.source) (g.S.Faulty.faults c.fill.new.self.source)) seen (read.cause.failed (refl {a = true}));
+      never_falls = subst (λ r. g.S.Faulty.faults r.source ≤ g.S.Faulty.faults c.fill.new.self.source) seen read.cause.never_falls;
+      mark = read.mark ∙ ap (λ r. g.S.Faulty.mark r.source) seen;
     })
 
 -- the trace's end
 pub returns-then-len-eq0 : goal.returns-then-len-eq0
 returns-then-len-eq0 g c =
+    let seen = c.self.view_is in
     let read = c.in_ok-fill.ensures in
-    rw (← c.self.view_is)
-    (record {
-      same = record { made = refl; limit = refl; fault = refl };
+    record {
+      same = record { made = ap (λ r. r.made) seen; limit = ap (λ r. r.limit) seen; fault = ap (λ r. r.fault) seen };
       counted = tt;
       key = λ bytes was. tt;
-      ended = refl;
-      end = λ bytes was. next_none _ _ _ _ _ _ _ _ _ _ _ _ c.self.invariant (ap (λ r. r.begun) c.self.view_is ∙ c.requires.begun) read.ahead bytes was
-          (read.at_end c.if-not-branch.true) (sym c.len.ensures ∙ c.if-len-eq0.true);
+      ended = ap (λ r. r.given) seen;
+      end = subst (λ r. (bytes : List ℕ) → g.S.Source.remaining r.made ≡ Some bytes → IsTraceOf bytes r.given × (g.S.Source.remaining c.fill.new.self.source ≡ Some [])) seen
+          (λ bytes was. next_none _ _ _ _ _ _ _ _ _ _ _ _ c.self.invariant (ap (λ r. r.begun) seen ∙ c.requires.begun) read.ahead bytes was
+          (read.at_end c.if-not-branch.true) (sym c.len.ensures ∙ c.if-len-eq0.true));
       fault = tt;
       cause = tt;
       read_failed = λ is. absurd (ok_no_err _ _ is);
-      never_falls = read.cause.never_falls;
-      mark = read.mark;
-    })
+      never_falls = subst (λ r. g.S.Faulty.faults r.source ≤ g.S.Faulty.faults c.fill.new.self.source) seen read.cause.never_falls;
+      mark = read.mark ∙ ap (λ r. g.S.Faulty.mark r.source) seen;
+    }
 
 -- a key that is cut off
 pub returns-then-not-branch : goal.returns-then-not-branch
 returns-then-not-branch g c =
+    let seen = c.self.view_is in
     let read = c.in_ok-fill.ensures in
-    rw (← c.self.view_is)
-    (record {
-      same = record { made = refl; limit = refl; fault = refl };
+    record {
+      same = record { made = ap (λ r. r.made) seen; limit = ap (λ r. r.limit) seen; fault = ap (λ r. r.fault) seen };
       counted = tt;
       key = λ bytes was. tt;
       ended = tt;
       end = λ bytes was. tt;
-      fault = refl;
+      fault = ap (λ r. r.given) seen;
       cause = (
         behind_header c.self.inside.given,
-        λ bytes was. next_cut _ _ _ _ _ _ _ _ _ _ _ _ c.self.invariant (ap (λ r. r.begun) c.self.view_is ∙ c.requires.begun) read.ahead bytes was
+        λ bytes was. next_cut _ _ _ _ _ _ _ _ _ _ _ _ c.self.invariant (ap (λ r. r.begun) seen ∙ c.requires.begun) read.ahead bytes was
             (read.at_end c.if-not-branch.true) (λ none. c.if-len-eq0.false (c.len.ensures ∙ none)) (read.short c.if-not-branch.true),
       );
-      read_failed = λ is. absurd (cc);
-      never_falls = read.cause.never_falls;
-      mark = read.mark;
-    })
+      read_failed = λ is. absurd (cut_no_failure _ is);
+      never_falls = subst (λ r. g.S.Faulty.faults r.source ≤ g.S.Faulty.faults c.fill.new.self.source) seen read.cause.never_falls;
+      mark = read.mark ∙ ap (λ r. g.S.Faulty.mark r.source) seen;
+    }
 
 -- one key more than the limit
 pub returns-then-self : goal.returns-then-self
 returns-then-self g c =
+    let seen = c.self.view_is in
     let read = c.in_ok-fill.ensures in
-    rw (← c.self.view_is)
-    (record {
-      same = record { made = refl; limit = refl; fault = refl };
+    record {
+      same = record { made = ap (λ r. r.made) seen; limit = ap (λ r. r.limit) seen; fault = ap (λ r. r.fault) seen };
       counted = tt;
       key = λ bytes was. tt;
       ended = tt;
       end = λ bytes was. tt;
-      fault = refl;
+      fault = ap (λ r. r.given) seen;
       cause = (
         c.if-self.true,
         λ bytes was. subst (λ n. n < length (whole bytes)) c.if-self.true
-            (next_more _ _ _ _ _ _ _ _ _ _ _ _ c.self.invariant (ap (λ r. r.begun) c.self.view_is ∙ c.requires.begun) read.ahead bytes was
+            (next_more _ _ _ _ _ _ _ _ _ _ _ _ c.self.invariant (ap (λ r. r.begun) seen ∙ c.requires.begun) read.ahead bytes was
             (read.enough c.if-not-branch.false)),
       );
-      read_failed = λ is. absurd (cc);
-      never_falls = read.cause.never_falls;
-      mark = read.mark;
-    })
+      read_failed = λ is. absurd (long_no_failure is);
+      never_falls = subst (λ r. g.S.Faulty.faults r.source ≤ g.S.Faulty.faults c.fill.new.self.source) seen read.cause.never_falls;
+      mark = read.mark ∙ ap (λ r. g.S.Faulty.mark r.source) seen;
+    }
 
 pub invariant_of-self-2 : goal.invariant_of-self-2
 invariant_of-self-2 g c =
@@ -118,21 +123,23 @@ invariant_of-self-2 g c =
 
 pub returns : goal.returns
 returns g c =
+    let seen = c.self.view_is in
     let read = c.in_ok-fill.ensures in
     let source = c.take_number.ensures.source in
-    rw (← c.self.view_is)
-    (record {
-      same = record { made = refl; limit = refl; fault = refl };
-      counted = (refl, below_limit c.self.inside.given c.self.inside.limit c.self.invariant.within c.if-self.false);
-      key = λ bytes was.
-          next_key _ _ _ _ _ _ _ _ _ _ _ _ c.self.invariant (ap (λ r. r.begun) c.self.view_is ∙ c.requires.begun) read.ahead bytes was
+    record {
+      same = record { made = ap (λ r. r.made) seen; limit = ap (λ r. r.limit) seen; fault = ap (λ r. r.fault) seen };
+      counted = (ap (λ r. r.given + 1) seen, below_limit c.self.inside.given c.self.inside.limit c.self.invariant.within c.if-self.false);
+      key = subst (λ r. (bytes : List ℕ) → g.S.Source.remaining r.made ≡ Some bytes → slice_get (whole bytes) r.given ≡ Some c.take_number.result) seen
+          (λ bytes was.
+          next_key _ _ _ _ _ _ _ _ _ _ _ _ c.self.invariant (ap (λ r. r.begun) seen ∙ c.requires.begun) read.ahead bytes was
           (read.enough c.if-not-branch.false)
-          ∙ ap Some (sym c.take_number.ensures.number);
+          ∙ ap Some (sym c.take_number.ensures.number));
       ended = tt;
       end = λ bytes was. tt;
       fault = tt;
       cause = tt;
       read_failed = λ is. absurd (ok_no_err _ _ is);
-      never_falls = subst (λ s. g.S.Faulty.faults c.self.inside.window.source ≤ g.S.Faulty.faults s) (sym source) read.cause.never_falls;
-      mark = ap g.S.Faulty.mark source ∙ read.mark;
-    })
+      never_falls = subst (λ s. g.S.Faulty.faults c.args.self.now.source ≤ g.S.Faulty.faults s) (sym source)
+          (subst (λ r. g.S.Faulty.faults r.source ≤ g.S.Faulty.faults c.fill.new.self.source) seen read.cause.never_falls);
+      mark = ap g.S.Faulty.mark source ∙ (read.mark ∙ ap (λ r. g.S.Faulty.mark r.source) seen);
+    }
