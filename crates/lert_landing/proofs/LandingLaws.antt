@@ -1,5 +1,5 @@
 -- One landing: what its calls leave, and what it takes.
-use Rattle.std.proofs.Common.{ℕ, ◌≡◌, ◌+◌, ◌^◌, ◌<◌, ◌≤◌, List, [], ◌∷◌, ◌++◌, Option, Some, ap, sym, ◌∙◌, subst, arith}
+use Rattle.std.proofs.Common.{ℕ, ◌≡◌, ◌+◌, ◌^◌, ◌<◌, ◌≤◌, List, [], ◌∷◌, ◌++◌, Option, Some, None, ap, sym, ◌∙◌, subst, arith}
 use Rattle.std.specs.Prelude.{IfSome, IsSomeAnd, option_to_list}
 use Rattle.lert_bay.specs.declared.bay.TheConstants.{FRAMES}
 use Rattle.lert_bay.specs.Files.{Files, IfTold}
@@ -11,7 +11,8 @@ use Rattle.lert_frames.specs.Place.{frame_place, frame_len, tail_limit}
 use Rattle.lert_frames.specs.Writing.{IsWriting}
 use Rattle.lert_frames.specs.declared.writer.FrameWriter.{FrameWriter}
 use Rattle.lert_frames.proofs.PlaceLaws.{span_fits}
-use Rattle.lert_rows.specs.Landing.{IsApart, KeepsRest}
+use Rattle.lert_frames.proofs.ReadingLaws.{given_none}
+use Rattle.lert_rows.specs.Landing.{IsApart, KeepsRest, CanStand}
 use Rattle.lert_rows.proofs.LandLaws.{rest_none, within_rest}
 use Rattle.lert_spec.specs.declared.numbers.Numbers.{Numbers}
 use Rattle.lert_spec.specs.declared.piece.Piece.{Piece}
@@ -84,6 +85,30 @@ module _ (l : Landing) (p : Piece) (last_is : l.sum.last ≡ Some p) where
 
   pub finished_fits : total (l.writer.put ++ p ∷ []) ≤ span l.writer.settings l.writer.level
   finished_fits = omega (arith, ap total all_is, l.taking.fits)
+
+-- ---- a frame that begins anew
+
+module _ (w : FrameWriter) (sum : Sum) (put : w.put ≡ []) (last : sum.last ≡ None) where
+  pub taken_none : whole w.put sum ≡ []
+  taken_none = ap (λ (front : List Piece). front ++ option_to_list sum.last) put ∙ ap (λ (o : Option Piece). option_to_list o) last
+
+  pub taking_none : (frame : ℕ) → w.frame ≡ frame → IsTaking w frame sum
+  taking_none frame frame_is = record { frame_is = frame_is; begun = λ _. put; fits = omega (arith, ap total taken_none) }
+
+  pub given_anew : AreGiven (tail_limit w.settings) (whole w.put sum)
+  given_anew = given_none (tail_limit w.settings) w.put (option_to_list sum.last) put (ap (λ (o : Option Piece). option_to_list o) last)
+
+-- a landing's frame is one of those of its level
+pub frame_stands : (l : Landing) (w : FrameWriter) → w.settings ≡ l.writer.settings → l.frame ≤ w.settings.bins
+frame_stands l w settings =
+    subst (λ (s : Numbers). l.frame ≤ s.bins) (sym settings)
+    (subst (λ (f : ℕ). f ≤ l.writer.settings.bins) l.taking.frame_is l.writer.growing.within)
+
+-- what it took, once its sum is handed on, can stand
+pub can_end : (l : Landing) (last : Option Piece) → last ≡ l.sum.last → CanStand l.writer.settings l.writer.level (l.writer.put ++ option_to_list last)
+can_end l last is =
+    subst (λ (o : Option Piece). CanStand l.writer.settings l.writer.level (l.writer.put ++ option_to_list o)) (sym is)
+    (record { given = l.given; fits = l.taking.fits })
 
 -- ---- what calls leave
 

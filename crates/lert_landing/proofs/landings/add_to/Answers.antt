@@ -7,7 +7,7 @@ use Rattle.lert_rows.specs.Landing.{IsApart, LeavesRest}
 use Rattle.lert_spec.specs.declared.piece.Piece.{Piece}
 use Rattle.lert_spec.specs.Table.{plus}
 use Rattle.lert_landing.specs.Landed.{taken}
-use Rattle.lert_landing.proofs.LandingsLaws.{apart_one, homes_set, taken_here, landing_set}
+use Rattle.lert_landing.proofs.LandingsLaws.{apart_one, homes_set, taken_here, others_set, landing_set}
 use Rattle.lert_landing.proofs.landings.add_to.Given as given
 use Rattle.lert_landing.proofs.landings.add_to.Goals as goal
 
@@ -21,6 +21,22 @@ bays g = record {
   left_since = g.B.Bay.left_since;
   handed_out = g.B.Bay.handed_out;
 }
+
+pub bounds-landings-part : goal.bounds-landings-part
+bounds-landings-part g c = c.requires.part
+
+pub add-requires : goal.add-requires
+add-requires g c = c.requires.piece c.index-landings-part.result
+
+pub returns-clause-kept : goal.returns-clause-kept
+returns-clause-kept g c = c.add.ensures.lands.kept
+
+pub returns-clause-others : goal.returns-clause-others
+returns-clause-others g c k d other =
+    let xs = c.args.landings.now in
+    let i = c.args.part in
+    let l = get_or xs i c.index-landings-part.result in
+    others_set xs i l c.add.new.self c.requires.part (get_or_default xs i c.index-landings-part.result l c.requires.part) k d other
 
 pub returns-clause-taken : goal.returns-clause-taken
 returns-clause-taken g c =

@@ -5,7 +5,7 @@ use Rattle.lert_bay.specs.Kept.{Bays}
 use Rattle.lert_bay.proofs.KeptLaws.{IsLawful}
 use Rattle.lert_spec.specs.declared.piece.Piece.{Piece}
 use Rattle.lert_landing.specs.Whole.{whole}
-use Rattle.lert_landing.proofs.LandingLaws.{put_below, taking_after, given_after, lands_none, lands_wrote}
+use Rattle.lert_landing.proofs.LandingLaws.{sum_ascends, sum_fits, put_below, finished_given, finished_fits, taken_none, taking_none, given_anew, frame_stands, taking_after, given_after, lands_none, lands_wrote}
 use Rattle.lert_landing.proofs.landing.Landing.add.Given as given
 use Rattle.lert_landing.proofs.landing.Landing.add.Goals as goal
 
@@ -22,6 +22,42 @@ bays g = record {
 
 lawful : (g : given.Over) → IsLawful (bays g)
 lawful g = record { as_read = g.met.B.Bay.as_read; since_now = g.met.B.Bay.since_now; only_now = g.met.B.Bay.only_now; since_earlier = g.met.B.Bay.since_earlier }
+
+pub add-requires-clause-ascends : goal.add-requires-clause-ascends
+add-requires-clause-ascends g c = sum_ascends c.args.self.now c.args.piece c.requires
+
+pub add-requires-clause-fits : goal.add-requires-clause-fits
+add-requires-clause-fits g c = sum_fits c.args.self.now c.args.piece c.requires
+
+pub put-requires-clause-given : goal.put-requires-clause-given
+put-requires-clause-given g c = finished_given c.args.self.now _ c.in-Some.ensures.finished.0
+
+pub put-requires-clause-fits : goal.put-requires-clause-fits
+put-requires-clause-fits g c = finished_fits c.args.self.now _ c.in-Some.ensures.finished.0
+
+pub start-requires : goal.start-requires
+start-requires g c = frame_stands c.args.self.now c.put.new.self c.in-Err.ensures.settings
+
+pub invariant_of-self-in-Err : goal.invariant_of-self-in-Err
+invariant_of-self-in-Err g c =
+    let w = c.start.new.self in
+    let sum = c.new-self.result in
+    record {
+      taking = taking_none w sum c.start.ensures.put c.new-self.ensures c.args.self.now.frame c.start.ensures.frame;
+      given = given_anew w sum c.start.ensures.put c.new-self.ensures;
+    }
+
+pub returns-in-Err-clause-taken : goal.returns-in-Err-clause-taken
+returns-in-Err-clause-taken g c = tt
+
+pub returns-in-Err-clause-failed : goal.returns-in-Err-clause-failed
+returns-in-Err-clause-failed g c = taken_none c.start.new.self c.new-self.result c.start.ensures.put c.new-self.ensures
+
+pub returns-in_default-clause-failed : goal.returns-in_default-clause-failed
+returns-in_default-clause-failed g c = tt
+
+pub returns-clause-failed : goal.returns-clause-failed
+returns-clause-failed g c = tt
 
 pub invariant_of-self : goal.invariant_of-self
 invariant_of-self g c =
