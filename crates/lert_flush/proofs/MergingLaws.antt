@@ -1,8 +1,9 @@
 -- A merge of bins of which some land.
 use Rattle.std.proofs.Common.{ℕ, ◌≡◌, ◌<◌, ◌≤◌, true, Option, Some, None, MatchOption, List, [], ◌∷◌, ◌++◌, length, get_or, set, refl, ap, sym, ◌∙◌, subst, arith}
-use Rattle.std.specs.Prelude.{IfSome, IsErrOf, Ok}
+use Rattle.std.specs.Prelude.{IfSome, IsErrOf, Ok, Err}
 use Rattle.std.proofs.lemmas.Bool.{eq-eqb}
 use Rattle.std.proofs.lemmas.Option.{none-some}
+use Rattle.lert_base.specs.declared.pieces.PieceFault.TheVariants as fault
 use Rattle.lert_bay.specs.declared.bay.TheConstants.{FRAMES}
 use Rattle.lert_bay.specs.Files.{IfTold}
 use Rattle.lert_bay.specs.Kept.{Bays}
@@ -101,6 +102,9 @@ none_at (Some x) N P is some = absurd (none-some x (sym is))
 
 pub never_failed : {T E : Type 0} (x : T) (fault : E) → IsErrOf {T = T} {E = E} (Ok x) fault → ⊥
 never_failed x fault is = absurd (cc)
+
+pub not_malformed : {T : Type 0} (at : ℕ) → IsErrOf {T = T} (Err fault.Failed) (fault.Malformed at) → ⊥
+not_malformed at is = absurd (cc)
 
 pub if_some : {X : Type 0} (own : Option X) (P : X → Type 0) → ((x : X) → own ≡ Some x → P x) → IfSome own P
 if_some None P each = tt

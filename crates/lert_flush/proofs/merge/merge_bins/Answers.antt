@@ -72,6 +72,22 @@ bounds-parts-next g c =
       c.requires.parts.len,
     )
 
+pub land-requires-clause-part : goal.land-requires-clause-part
+land-requires-clause-part g c =
+    let was = c.loop-next.invariant in
+    let e = c.in_ok-next.ensures in
+    let step = given_at g.S.Streams c.loop-next.order c.loop-next.bay c.step.new.self c.step.new.ctx c.in_ok-next.field-0 c.in-Some.next c.in-Some.is
+    e.taken e.ascending e.below e.above e.last e.told e.known c.step.ensures.same c.step.ensures.kept in
+    if_some (get_or c.args.parts.now c.in-Some.next.0 None) (λ own. own < length c.loop-next.landings)
+    (λ own is.
+    let below : own < length c.args.landings.now = rw is at (c.requires.parts.within c.in-Some.next.0 (omega (
+      arith,
+      within g.S.Streams g.O.Totals.took c.args.order.now c.args.bay.now was.lists c.loop-next.order c.loop-next.bay c.loop-next.totals c.loop-next.sum
+          was.gathering c.step.new.self c.step.new.ctx c.in-Some.next step,
+      c.requires.parts.len,
+    ))) in
+    omega (arith, below, c.loop-next.auto.landings))
+
 pub land-requires-clause-piece : goal.land-requires-clause-piece
 land-requires-clause-piece g c =
     let was = c.loop-next.invariant in
@@ -124,6 +140,12 @@ next_writes g c =
     (λ is. c.in_err-next.ensures.failed (cc (p.1, p.2, is))) (g.met.S.Bins.reading c.loop-next.bay c.step.new.ctx c.step.ensures.keeps) in
     writes_on (bays g) (lawful g) c.args.landings.now xs xs c.args.bay.now c.loop-next.bay c.step.new.ctx ⊥ _ c.loop-next.invariant.writes
     (writes_read (bays g) (lawful g) xs c.loop-next.bay c.step.new.ctx _ read)
+
+pub returns-in_err-next-clause-merged : goal.returns-in_err-next-clause-merged
+returns-in_err-next-clause-merged g c = rw (err_from_is_err_and c.from_residual.result c.from_residual.ensures.1).1 tt
+
+pub returns-in_err-next-clause-took : goal.returns-in_err-next-clause-took
+returns-in_err-next-clause-took g c = rw (err_from_is_err_and c.from_residual.result c.from_residual.ensures.1).1 tt
 
 pub returns-in_err-next-clause-landing : goal.returns-in_err-next-clause-landing
 returns-in_err-next-clause-landing g c =
@@ -184,6 +206,22 @@ land_writes g c =
     (writes_on (bays g) (lawful g) c.args.landings.now xs xs c.args.bay.now c.loop-next.bay c.step.new.ctx ⊥ NoneFailed c.loop-next.invariant.writes
     (writes_read (bays g) (lawful g) xs c.loop-next.bay c.step.new.ctx NoneFailed read))
     (writes_as (bays g) (lawful g) xs c.land.new.landings c.step.new.ctx c.land.new.bay _ _ (λ is. cc (p.1, p.2, is)) c.in_err-land.ensures.writes)
+
+pub returns-in_err-land-clause-merged : goal.returns-in_err-land-clause-merged
+returns-in_err-land-clause-merged g c = rw (err_from_is_err_and c.from_residual-in_err-land.result c.from_residual-in_err-land.ensures.1).1 tt
+
+pub returns-in_err-land-clause-took : goal.returns-in_err-land-clause-took
+returns-in_err-land-clause-took g c = rw (err_from_is_err_and c.from_residual-in_err-land.result c.from_residual-in_err-land.ensures.1).1 tt
+
+pub returns-in_err-land-clause-sound : goal.returns-in_err-land-clause-sound
+returns-in_err-land-clause-sound g c lists are at is =
+    let p = err_from_is_err_and c.from_residual-in_err-land.result c.from_residual-in_err-land.ensures.1 in
+    c.in_err-land.ensures.whole at (cc (p.1, p.2, is))
+
+pub returns-in_err-land-clause-malformed : goal.returns-in_err-land-clause-malformed
+returns-in_err-land-clause-malformed g c at is =
+    let p = err_from_is_err_and c.from_residual-in_err-land.result c.from_residual-in_err-land.ensures.1 in
+    absurd (c.in_err-land.ensures.whole at (cc (p.1, p.2, is)))
 
 pub returns-in_err-land-clause-landing : goal.returns-in_err-land-clause-landing
 returns-in_err-land-clause-landing g c =
@@ -253,6 +291,12 @@ returns-clause-took g c s limits =
         c.end_totals.ensures.took (sums_of was.lists) was.gathering.totals_are,
       ),
     )
+
+pub returns-clause-sound : goal.returns-clause-sound
+returns-clause-sound g c lists are at is = never_failed _ _ is
+
+pub returns-clause-malformed : goal.returns-clause-malformed
+returns-clause-malformed g c at is = absurd (never_failed _ _ is)
 
 pub returns-clause-landing : goal.returns-clause-landing
 returns-clause-landing g c =
