@@ -3,6 +3,7 @@ use Rattle.lert_counter.specs.Group.{group}
 use Rattle.lert_counter.specs.Reading.{read_as, HasTwoZeros}
 use Rattle.std.proofs.Common.{length-append}
 use Rattle.std.proofs.lemmas.Bool.Decides.{nat_tests}
+use Rattle.std.proofs.lemmas.Option.{none-some, IfSome_then}
 use Rattle.lert_counter.proofs.CounterLemmas.{group-one}
 use Rattle.lert_counter.proofs.GroupLemmas.{length_group-positive}
 use Rattle.lert_counter.proofs.FrontLemmas.{short_of, read_one, begins_front}
@@ -15,6 +16,32 @@ returns-then-is_empty-clause-in_run c = λ x count back counts text follows.
     let some = length_group-positive c.args.width x count counts.0 in
     absurd (omega (arith, ap (λ (t : List ℕ). length t) text, length-append (group c.args.width x count) back))
 
+-- ---- the first values decide
+
+pub returns-in-Some-clause-begins : goal.returns-in-Some-clause-begins
+returns-in-Some-clause-begins c = c.in-Some.ensures.begins c.args.width
+
+pub returns-in-Some-clause-alone : goal.returns-in-Some-clause-alone
+returns-in-Some-clause-alone c = c.in-Some.ensures.alone
+
+pub returns-in-Some-clause-above : goal.returns-in-Some-clause-above
+returns-in-Some-clause-above c = c.in-Some.ensures.above
+
+pub returns-in-Some-clause-twice : goal.returns-in-Some-clause-twice
+returns-in-Some-clause-twice c = c.in-Some.ensures.twice
+
+pub returns-in-Some-clause-two_zeros : goal.returns-in-Some-clause-two_zeros
+returns-in-Some-clause-two_zeros c = c.in-Some.ensures.two_zeros
+
+pub returns-in-Some-clause-three_zeros : goal.returns-in-Some-clause-three_zeros
+returns-in-Some-clause-three_zeros c = c.in-Some.ensures.three_zeros
+
+pub returns-in-Some-clause-counter : goal.returns-in-Some-clause-counter
+returns-in-Some-clause-counter c = λ long below. absurd (none-some c.in-Some.group (sym (c.in-Some.ensures.below long below)))
+
+pub returns-in-Some-clause-zero : goal.returns-in-Some-clause-zero
+returns-in-Some-clause-zero c = λ long first second. absurd (none-some c.in-Some.group (sym (c.in-Some.ensures.zero long first second)))
+
 pub returns-in-Some-clause-in_run : goal.returns-in-Some-clause-in_run
 returns-in-Some-clause-in_run c = λ x count back counts text follows.
     elim (short_of c.args.width x count back c.args.rest.now (Some c.in-Some.group) counts text follows c.in-Some.ensures) [
@@ -22,6 +49,20 @@ returns-in-Some-clause-in_run c = λ x count back counts text follows.
       | alone_or_counter z none long first which ↦ cc none
       | behind_counter p none long first least ↦ cc none
     ]
+
+-- ---- digits may stand behind the first value
+
+pub returns-then-rest-eq0-clause-begins : goal.returns-then-rest-eq0-clause-begins
+returns-then-rest-eq0-clause-begins c = IfSome_then c.read_zero.result c.read_zero.ensures.zero.read (λ g r. r.0)
+
+pub returns-then-rest-eq0-clause-zero : goal.returns-then-rest-eq0-clause-zero
+returns-then-rest-eq0-clause-zero c = λ long first second. c.read_zero.ensures.zero
+
+pub returns-clause-begins : goal.returns-clause-begins
+returns-clause-begins c = IfSome_then c.read_counter.result c.read_counter.ensures.read (λ g r. r.1)
+
+pub returns-clause-counter : goal.returns-clause-counter
+returns-clause-counter c = λ long below. c.read_counter.ensures
 
 pub returns-then-rest-eq0-clause-in_run : goal.returns-then-rest-eq0-clause-in_run
 returns-then-rest-eq0-clause-in_run c = λ x count back counts text follows.
