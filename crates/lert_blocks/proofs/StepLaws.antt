@@ -1,9 +1,9 @@
 -- How a decoder goes through the groups of a word.
-use Rattle.std.proofs.Common.{◌≡◌, ℕ, ◌+◌, ◌-◌, ◌*◌, ◌^◌, ◌<◌, ◌≤◌, Bool, true, false, cond, min, List, [], ◌∷◌, ◌++◌, length, get_or, drop, All}
+use Rattle.std.proofs.Common.{◌≡◌, ℕ, ◌+◌, ◌-◌, ◌*◌, ◌^◌, ◌<◌, ◌≤◌, Bool, true, false, cond, min, List, [], ◌∷◌, ◌++◌, length, get_or, take, drop, All}
 use Rattle.std.proofs.Common.{Option, Some, None, Ok, Err}
 use Rattle.std.proofs.Common.{refl, sym, ap, ap₂, ◌∙◌, subst, arith, length-append, append_assoc}
 use Rattle.std.specs.Prelude.{option_map}
-use Rattle.std.proofs.lemmas.List.{append-nil, drop-drop, length-drop}
+use Rattle.std.proofs.lemmas.List.{append-nil, take_at, drop_at, drop-drop, length-drop}
 use Rattle.std.proofs.lemmas.List.Elements.{All-nil, All-push}
 use Rattle.lert_counter.specs.declared.group.Group.{Group}
 use Rattle.lert_slotbits.specs.Bits.{word_bits}
@@ -213,3 +213,21 @@ module _ (width first from : ℕ) (slots : Slots) (begin : Walk) (at occupied le
           behind = omega arith;
           within = is_step.within;
         }
+
+-- ---- what is put behind what was there
+
+module _ (width first from : ℕ) (slots : Slots) (begin now : Walk) (at : ℕ) (before pieces : List Piece) (goes : Goes width first from slots begin now at before pieces) where
+  pub put_kept : take (length before) pieces ≡ before
+  put_kept = ap (take (length before)) goes.is ∙ take_at before goes.put (length before) refl
+
+  put_behind : drop (length before) pieces ≡ goes.put
+  put_behind = ap (drop (length before)) goes.is ∙ drop_at before goes.put (length before) refl
+
+  pub put_ascend : AscendsFrom (floor_of width first begin) (floor_of width first now) (drop (length before) pieces)
+  put_ascend = subst (AscendsFrom (floor_of width first begin) (floor_of width first now)) (sym put_behind) goes.ascend
+
+  pub put_counts : All (λ (piece : Piece). piece.count ≤ 2 ^ 47) (drop (length before) pieces)
+  put_counts = subst (All (λ (piece : Piece). piece.count ≤ 2 ^ 47)) (sym put_behind) goes.counts
+
+  pub put_few : length pieces ≤ length before + 64
+  put_few = omega (arith, ap (length {A = Piece}) goes.is, length-append before goes.put, goes.few)
