@@ -1,10 +1,10 @@
 -- Calls on an order in turn.
-use Rattle.std.proofs.Common.{◌≡◌, ℕ, ◌<◌, ◌≤◌, Option, List, ◌++◌, arith, sym, ap, ◌∙◌, refl}
-use Rattle.std.proofs.Common.{subst, append-nil, Result, Ok, Err, IfOk, OnErr}
+use Rattle.std.proofs.Common.{◌≡◌, ℕ, ◌<◌, ◌≤◌, Option, Some, None, IfSome, List, [], ◌++◌, get_or, arith, sym, ap, ◌∙◌, refl}
+use Rattle.std.proofs.Common.{subst, append-nil, Result, Ok, Err, IfOk, OnOk, OnErr}
 use Rattle.lert_base.specs.declared.pieces.PieceFault.{PieceFault}
 use Rattle.lert_spec.specs.declared.piece.Piece.{Piece}
 use Rattle.lert_order.specs.Fronts.{front_at}
-use Rattle.lert_order.specs.Ordering.{Ordering, HasTaken, none_of, part_of, part_in, AllGive, AllTold, AreKnown, AreSame, Breaks, IsStarted}
+use Rattle.lert_order.specs.Ordering.{Ordering, HasTaken, none_of, part_of, part_in, AllGive, AllTold, AreKnown, AreSame, Breaks, IsGiven, IsStarted, Tells}
 use Rattle.lert_order.specs.declared.streams.Streams.{Ghosts as StreamsOf}
 use Rattle.lert_order.proofs.AskLemmas.{AreLawful}
 
@@ -61,6 +61,17 @@ gives_started {S} members a b x y z gives started =
       room = gives.room;
       kept = gives.kept;
       each = λ k under. let one = gives.each k under in record { taken = one.taken; untold = one.untold; limits = one.limits; same_breaks = one.same_breaks };
+    })
+
+pub told_started : {S C : Type 0} (members : StreamsOf S C) (a b : C) (x y z : Ordering S) → AllTold members a x b y → IsStarted y z → AllTold members a x b z
+told_started {S} members a b x y z told started =
+    subst (AllTold members a x b) (λ j. record {
+      streams = sym started.streams j;
+      ahead = record { tails = sym started.tails j; counts = sym started.counts j; is_begun = z.ahead.is_begun; first = z.ahead.first; room = sym started.room j };
+      last = sym started.last j;
+    }) (record {
+      same = λ k pieces under come. let one = told.same k pieces under come in record { rest = one.rest; told = one.told; is = one.is; ended = one.ended };
+      known = told.known;
     })
 
 -- the same, where the order that was asked is seen as another
@@ -149,3 +160,52 @@ reading_more members laws faults mark a b c x y z is gives last told rise same k
   same_mark = same ∙ is.same_mark;
   kept = laws.keeps_on a b c is.kept kept;
 }
+
+-- ---- what stands behind calls by which nothing was given
+
+-- a map over what a result says
+pub on_ok : {T E : Type 0} (P Q : Type 0) (result : Result T E) → OnOk result P → (P → Q) → OnOk result Q
+on_ok P Q (Ok value) is turned = turned is
+on_ok P Q (Err fault) is turned = tt
+
+pub ok_apart : {T E : Type 0} (result : Result T E) (value : T) (fault : E) → result ≡ Ok value → result ≡ Err fault → ⊥
+ok_apart result value fault ok err = absurd (cc)
+
+pub some_apart : {T E : Type 0} (result : Result (Option T) E) (value : T) → result ≡ Ok (Some value) → result ≡ Ok None → ⊥
+some_apart result value some none = absurd (cc)
+
+pub rose_none : (n : ℕ) → n ≤ n
+rose_none n = omega arith
+
+pub each_given : (P Q : ℕ × Piece → Type 0) (result : Result (Option (ℕ × Piece)) PieceFault) → IfOk result (λ given. IfSome given P) →
+    ((g : ℕ × Piece) → P g → Q g) → IfOk result (λ given. IfSome given Q)
+each_given P Q (Ok None) is turned = tt
+each_given P Q (Ok (Some g)) is turned = turned g is
+each_given P Q (Err fault) is turned = tt
+
+pub reading_as : {S C : Type 0} (members : StreamsOf S C) (faults mark : C → ℕ) (a b here : C) (x y seen : Ordering S) → seen ≡ y → here ≡ b →
+    IsReading members faults mark a x b y → IsReading members faults mark a x here seen
+reading_as {S} {C} members faults mark a b here x y seen self_is ctx_is is =
+    subst (λ (at : C). IsReading members faults mark a x at seen) (sym ctx_is)
+    (subst (λ (m : Ordering S). IsReading members faults mark a x b m) (sym self_is) is)
+
+module _ {S C : Type 0} (members : StreamsOf S C) (faults mark : C → ℕ) (a b : C) (x y : Ordering S) (is : IsReading members faults mark a x b y) where
+  pub tells_on : (lists : List (List Piece)) → Tells members a x lists → Tells members b y lists
+  tells_on lists tells =
+      let long : members.count y.streams ≡ members.count x.streams = is.gives.streams in
+      record {
+        len = tells.len ∙ sym long;
+        each = λ k under. let within : k < members.count x.streams = omega (arith, under, long) in is.told.same k (get_or lists k []) within (tells.each k within);
+      }
+
+  -- what a piece that is given then has to do with the order before
+  pub given_on : (z : Ordering S) (result : Result (Option (ℕ × Piece)) PieceFault) → members.count z.streams ≡ members.count x.streams →
+      IfOk result (λ given. IfSome given (λ g. IsGiven members y z g.0 g.1)) → IfOk result (λ given. IfSome given (λ g. IsGiven members x z g.0 g.1))
+  given_on z result long given = each_given (λ g. IsGiven members y z g.0 g.1) (λ g. IsGiven members x z g.0 g.1) result given (λ g one. record {
+    above = λ before was. one.above before (is.last ∙ was);
+    below = one.below;
+    last = one.last;
+    counted = one.counted;
+    small = one.small;
+    ascending = λ pieces was. one.ascending pieces (gave_none members a b x y is.gives g.0 pieces (omega (arith, one.below.within, long)) was);
+  })

@@ -1,9 +1,11 @@
-use Rattle.std.proofs.Common.{◌≡◌, ◌<◌, length, sym, subst, refl}
+use Rattle.std.proofs.Common.{◌≡◌, ◌<◌, None, length, sym, subst, refl, ap, arith}
 use Rattle.std.proofs.lemmas.Result.{err_from_is_err_and}
 use Rattle.lert_order.specs.Ordering.{Ordering, AreRead, Tells}
 use Rattle.lert_order.proofs.AskLemmas.{AreLawful, IsAsked, IsCalled, all_refused, breaks_at}
 use Rattle.lert_order.proofs.OrderLemmas.{refused_stands}
 use Rattle.lert_order.proofs.GiveLemmas.{front_above, given_stands, given_gives, given_seen, given_told}
+use Rattle.lert_order.specs.Fronts.{AreAllLast}
+use Rattle.lert_order.proofs.StepLemmas.{reading_none, ok_apart, some_apart, rose_none}
 use Rattle.lert_order.proofs.ToldLemmas.{are_over, known_seen}
 use Rattle.lert_order.proofs.order.Order.give.Given as given
 use Rattle.lert_order.proofs.order.Order.give.Goals as goal
@@ -100,3 +102,93 @@ returns-clause-told g c lists tells =
 pub returns-clause-known : goal.returns-clause-known
 returns-clause-known g c = known_seen g.S.Streams (laws g) c.args.ctx.now c.next.new.ctx (record { streams = c.self.inside.streams; ahead = c.self.inside.ahead; last = c.self.inside.last.value })
     _ (record { streams = c.next.new.self; ahead = c.replace.new.self; last = c.of.result.value }) c.in-Some.stream c.in_ok-next.next c.self.view_is (called g c) (asked g c)
+
+-- ---- no piece is left
+
+pub returns-in_default-clause-gives : goal.returns-in_default-clause-gives
+returns-in_default-clause-gives g c =
+    let none = reading_none g.S.Streams (laws g) g.C.Faulty.faults g.C.Faulty.mark c.args.ctx.now c.args.self.now in
+    none.gives
+
+pub returns-in_default-clause-over : goal.returns-in_default-clause-over
+returns-in_default-clause-over g c is =
+    let all_last = subst (λ (m : Ordering _). AreAllLast m.ahead) c.self.view_is c.in_default.ensures in
+    record { all = c.requires.read; ended = λ k under. all_last k (omega (arith, under, c.requires.read)) }
+
+pub returns-in_default-clause-given : goal.returns-in_default-clause-given
+returns-in_default-clause-given g c = tt
+
+pub returns-in_default-clause-nothing_given : goal.returns-in_default-clause-nothing_given
+returns-in_default-clause-nothing_given g c none = refl
+
+pub returns-in_default-clause-known : goal.returns-in_default-clause-known
+returns-in_default-clause-known g c k under none = none
+
+pub returns-in_default-clause-failed : goal.returns-in_default-clause-failed
+returns-in_default-clause-failed g c is = absurd (ok_apart _ _ _ refl is)
+
+pub returns-in_default-clause-malformed : goal.returns-in_default-clause-malformed
+returns-in_default-clause-malformed g c at is = absurd (ok_apart _ _ _ refl is)
+
+pub returns-in_default-clause-faults : goal.returns-in_default-clause-faults
+returns-in_default-clause-faults g c = rose_none (g.C.Faulty.faults c.args.ctx.now)
+
+pub returns-in_default-clause-mark : goal.returns-in_default-clause-mark
+returns-in_default-clause-mark g c = refl
+
+pub returns-in_default-clause-keeps : goal.returns-in_default-clause-keeps
+returns-in_default-clause-keeps g c = g.met.S.Streams.keeps_same c.args.ctx.now
+
+-- ---- the stream refused
+
+pub returns-in_err-next-clause-given : goal.returns-in_err-next-clause-given
+returns-in_err-next-clause-given g c = rw (err_from_is_err_and c.from_residual.result c.from_residual.ensures.1).1 tt
+
+pub returns-in_err-next-clause-known : goal.returns-in_err-next-clause-known
+returns-in_err-next-clause-known g c = rw (err_from_is_err_and c.from_residual.result c.from_residual.ensures.1).1 tt
+
+pub returns-in_err-next-clause-told : goal.returns-in_err-next-clause-told
+returns-in_err-next-clause-told g c lists tells = rw (err_from_is_err_and c.from_residual.result c.from_residual.ensures.1).1 tt
+
+pub returns-in_err-next-clause-over : goal.returns-in_err-next-clause-over
+returns-in_err-next-clause-over g c is = absurd (ok_apart c.from_residual.result None _ is (err_from_is_err_and c.from_residual.result c.from_residual.ensures.1).1)
+
+pub returns-in_err-next-clause-nothing_given : goal.returns-in_err-next-clause-nothing_given
+returns-in_err-next-clause-nothing_given g c none = ap (λ (m : Ordering _). m.last) c.self.view_is
+
+pub returns-in_err-next-clause-failed : goal.returns-in_err-next-clause-failed
+returns-in_err-next-clause-failed g c is =
+    let p = err_from_is_err_and c.from_residual.result c.from_residual.ensures.1 in
+    c.in_err-next.ensures.failed (cc (p.1, p.2, is))
+
+pub returns-in_err-next-clause-faults : goal.returns-in_err-next-clause-faults
+returns-in_err-next-clause-faults g c = c.next.ensures.faults
+
+pub returns-in_err-next-clause-mark : goal.returns-in_err-next-clause-mark
+returns-in_err-next-clause-mark g c = c.next.ensures.mark
+
+pub returns-in_err-next-clause-keeps : goal.returns-in_err-next-clause-keeps
+returns-in_err-next-clause-keeps g c = c.next.ensures.keeps
+
+-- ---- a piece is given
+
+pub returns-clause-over : goal.returns-clause-over
+returns-clause-over g c is = absurd (some_apart _ _ refl is)
+
+pub returns-clause-nothing_given : goal.returns-clause-nothing_given
+returns-clause-nothing_given g c none = absurd none
+
+pub returns-clause-failed : goal.returns-clause-failed
+returns-clause-failed g c is = absurd (ok_apart _ _ _ refl is)
+
+pub returns-clause-malformed : goal.returns-clause-malformed
+returns-clause-malformed g c at is = absurd (ok_apart _ _ _ refl is)
+
+pub returns-clause-faults : goal.returns-clause-faults
+returns-clause-faults g c = c.next.ensures.faults
+
+pub returns-clause-mark : goal.returns-clause-mark
+returns-clause-mark g c = c.next.ensures.mark
+
+pub returns-clause-keeps : goal.returns-clause-keeps
+returns-clause-keeps g c = c.next.ensures.keeps
