@@ -1,11 +1,11 @@
 -- The bits of a row that are shown: the first so many of its words'.
-use Rattle.std.proofs.Common.{◌≡◌, ℕ, suc, zero, ◌+◌, ◌*◌, ◌/◌, ◌<◌, ◌≤◌, Bool, true, false, List, ◌∷◌, ◌++◌, length, take, drop, get_or, set, replicate}
+use Rattle.std.proofs.Common.{◌≡◌, ℕ, suc, zero, ◌+◌, ◌*◌, ◌/◌, ◌<◌, ◌≤◌, Bool, true, false, not, List, ◌∷◌, ◌++◌, length, take, drop, get_or, set, replicate}
 use Rattle.std.proofs.Common.{refl, sym, ap, ◌∙◌, arith, Some, slice_get}
 use Rattle.std.proofs.lemmas.List.{length-take-le, take-append-drop, take_at, take-replicate, replicate-append-replicate, set-append_left, take-take, get_or-take, length-set}
 use Rattle.std.proofs.lemmas.List.Edits.{insert-append_left, remove-append_left, length-remove}
 use Rattle.std.proofs.lemmas.Option.{slice_get-get_or}
 use Rattle.std.specs.Prelude.{insert, remove}
-use Rattle.lert_slotbits.specs.Bits.{bits_in, word_bits, row_of, gapped, trues}
+use Rattle.lert_slotbits.specs.Bits.{bits_in, word_bits, row_of, gapped, trues, IsFirst}
 use Rattle.lert_slotbits.proofs.RowLemmas.{length_row}
 use Rattle.lert_slotbits.proofs.GapLemmas.{length_gapped}
 use Rattle.lert_slotbits.proofs.CountLemmas.{trues_take_grows, trues_set_more}
@@ -66,3 +66,25 @@ selected len place k bits h long set counts =
       ap trues (take-take place len bits (omega arith)) ∙ counts,
       omega arith,
     )
+
+is_other : (on b : Bool) → (b ≡ on → ⊥) → b ≡ not on
+is_other true true apart = absurd (apart refl)
+is_other true false apart = refl
+is_other false true apart = refl
+is_other false false apart = absurd (apart refl)
+
+-- the first bit of a kind, where it is below the end
+pub first_shown : (on : Bool) (bits : List Bool) (len from place : ℕ) → IsFirst on bits from place → place < len → len ≤ length bits → IsFirst on (take len bits) from place
+first_shown on bits len from place first low long = record {
+  behind = first.behind;
+  within = omega (arith, length-take-le len bits long, low);
+  found = get_or-take len bits place false low ∙ first.found;
+  others = λ k after before is. first.others k after before (sym (get_or-take len bits k false (omega (arith, before, low))) ∙ is);
+}
+
+-- and none of it is shown, where it is not
+pub none_shown : (on : Bool) (bits : List Bool) (len from end : ℕ) → ((k : ℕ) → from ≤ k → k < end → get_or bits k false ≡ on → ⊥) → len ≤ end → len ≤ length bits →
+    (k : ℕ) → from ≤ k → k < length (take len bits) → get_or (take len bits) k false ≡ not on
+none_shown on bits len from end none far long k after within =
+    let low : k < len = omega (arith, within, length-take-le len bits long) in
+    is_other on (get_or (take len bits) k false) (λ is. none k after (omega (arith, low, far)) (sym (get_or-take len bits k false low) ∙ is))

@@ -1,8 +1,24 @@
-use Rattle.std.proofs.Common.{ap, ◌∙◌, take, set, List, ℕ, Bool, length, arith}
+use Rattle.std.proofs.Common.{◌≡◌, ap, ◌∙◌, take, set, List, ℕ, Bool, length, arith}
 use Rattle.std.proofs.lemmas.List.{with_items_is}
 use Rattle.lert_slotbits.specs.Bits.{row_of}
 use Rattle.lert_slotbits.proofs.ViewLemmas.{length_view, long_enough, take-set_below}
 use Rattle.lert_slotbits.proofs.bits.Bits.set.Goals as goal
+
+pub put_bit-requires : goal.put_bit-requires
+put_bit-requires c =
+    let words = c.self.inside.words.items in
+    let all : length c.deref_mut.result.now ≡ length words = ap length c.deref_mut.ensures.value in
+    let shown = length_view words c.self.inside.len c.self.invariant.0 in
+    omega (arith, all, c.self.invariant.0, c.requires, shown, ap length c.self.view_is)
+
+pub invariant_of-self : goal.invariant_of-self
+invariant_of-self c =
+    let words = c.self.inside.words in
+    let same = c.put_bit.auto.words in (
+      ap length (with_items_is words c.put_bit.new.words (same ∙ c.deref_mut.ensures.len))
+          ∙ (same ∙ (ap length c.deref_mut.ensures.value ∙ c.self.invariant.0)),
+      c.self.invariant.1,
+    )
 
 pub returns : goal.returns
 returns c =
