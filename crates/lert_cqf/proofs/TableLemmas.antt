@@ -14,7 +14,7 @@ use Rattle.lert_cqf.specs.Cells.{cells}
 use Rattle.lert_cqf.specs.Layout.{by_quotient, texts, homes_from, slot_count}
 use Rattle.lert_cqf.specs.Around.{HomesAscend, IsAround, total_length}
 use Rattle.lert_cqf.specs.Growing.{Stand, IsGrowing, IsBeginning}
-use Rattle.lert_cqf.specs.Contents.{IsKept, IsPutting, built}
+use Rattle.lert_cqf.specs.Contents.{IsKept, IsPutting, HaveLimits, built}
 use Rattle.lert_cqf.proofs.BegunLemmas.{StandsAt, stands_at}
 use Rattle.lert_cqf.proofs.GrowingLemmas.{length_text-positive, RunBounds}
 use Rattle.lert_cqf.proofs.QuotientLemmas.{Runs, RunsAscend, runs_plus, count_runs, by_quotient-ascends, by_quotient-plus, count_by_quotient}
@@ -284,4 +284,35 @@ kept_empty pieces quotient_bits width events room slots occupied ends used spill
       };
       occupied_is = o ∙ ap (λ n. replicate n false) (occupied_long pieces quotient_bits width events room slots occupied ends used spill k
           ∙ (let z : 2 ^ quotient_bits ≡ 2 ^ quotient_bits - 0 = omega arith in z));
+    }
+
+pub kept_none : (quotient_bits width room homes n : ℕ) (slots : List ℕ) (occupied ends used : List Bool) (spill : List ℕ) → HaveLimits quotient_bits width room →
+    homes ≡ 2 ^ quotient_bits → n ≡ slot_count quotient_bits room → n + 1 < 2 ^ 32 → slots ≡ replicate n 0 → occupied ≡ replicate homes false →
+    ends ≡ replicate n false → used ≡ replicate n false → spill ≡ replicate (homes + 1) 0 → IsKept [] quotient_bits width 0 room slots occupied ends used spill
+kept_none quotient_bits width room homes n slots occupied ends used spill limits homes_are slots_are short s o e u p =
+    let spill_long : length spill ≡ 2 ^ quotient_bits + 1 = ap (λ (t : List ℕ). length t) p ∙ length-replicate (homes + 1) 0 ∙ ap (λ k. k + 1) homes_are in
+    record {
+      limits = limits;
+      ascend = tt;
+      narrow = tt;
+      events_are = refl;
+      in_room = omega arith;
+      stand = record {
+        spread = record {
+          slots_are = s ∙ ap (λ k. replicate k 0) slots_are ∙ no_cells 0 (slot_count quotient_bits room);
+          ends_are = e ∙ ap (λ k. replicate k false) slots_are ∙ no_cells false (slot_count quotient_bits room);
+          used_are = u ∙ ap (λ k. replicate k false) slots_are ∙ no_cells false (slot_count quotient_bits room);
+          spill_long = spill_long;
+          spill_is = λ g h. ap (λ (t : List ℕ). get_or t g 0) p ∙ get_or-replicate (homes + 1) g 0 0 (omega (arith, h, homes_are))
+              ∙ (let z : 0 ≡ 0 - g = omega arith in z);
+        };
+        lengths = record {
+          slots_long = ap (λ (t : List ℕ). length t) s ∙ length-replicate n 0 ∙ slots_are;
+          ends_long = ap (λ (t : List Bool). length t) e ∙ length-replicate n false ∙ slots_are;
+          used_long = ap (λ (t : List Bool). length t) u ∙ length-replicate n false ∙ slots_are;
+          spill_long = spill_long;
+          short = omega (arith, slots_are, short);
+        };
+      };
+      occupied_is = o ∙ ap (λ k. replicate k false) (homes_are ∙ (let z : 2 ^ quotient_bits ≡ 2 ^ quotient_bits - 0 = omega arith in z));
     }
