@@ -67,3 +67,18 @@ returns-clause-malformed g c seen told at is =
     c.self.invariant.readers_are.some c.index_mut-reader.ensures.value ∙ c.self.view_is in
     subst (λ (s : Numbers). frame_left s c.args.level c.args.frame c.args.width (seen FRAMES) ≡ Some at) same
     (subst (λ (level : ℕ). frame_left c.start_at.new.self.settings level c.args.frame c.args.width (seen FRAMES) ≡ Some at) c.start_at.ensures.level (c.check.ensures.malformed seen told at is))
+
+pub start_at-requires-clause-first : goal.start_at-requires-clause-first
+start_at-requires-clause-first g c = c.requires.first
+
+pub start_at-requires-clause-some : goal.start_at-requires-clause-some
+start_at-requires-clause-some g c = c.requires.some
+
+pub check-requires-clause-some : goal.check-requires-clause-some
+check-requires-clause-some g c = c.requires.some
+
+pub returns-clause-settings : goal.returns-clause-settings
+returns-clause-settings g c = c.self.view_is
+
+pub returns-clause-only_reads : goal.returns-clause-only_reads
+returns-clause-only_reads g c = c.check.ensures.only_reads
