@@ -1,4 +1,5 @@
-use Rattle.lert_order.proofs.StepLemmas.{breaks_behind, breaks_same, gave_none, same_by, gives_behind, gives_seen, taken_by, refused_by, on_ok, each_given, reading_none, reading_as, tells_on, given_on, known_on, ok_apart, IsReading}
+use Rattle.lert_order.proofs.StepLemmas.{breaks_behind, breaks_same, gave_none, same_by, gives_behind, gives_seen, taken_by, refused_by}
+use Rattle.lert_order.proofs.StepLemmas.{on_ok, each_given, reading_none, reading_as, tells_on, given_on, known_on, ok_apart, IsReading}
 use Rattle.std.proofs.lemmas.Result.{err_from_is_err_and}
 use Rattle.std.proofs.Common.{◌≡◌, ◌≤◌, ◌^◌, ◌++◌, [], ◌∷◌, List, Some, None, IfOk, IfSome, ◌∙◌, arith}
 use Rattle.lert_io.proofs.Rising.{risen_since}
