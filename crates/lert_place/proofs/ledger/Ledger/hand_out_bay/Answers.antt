@@ -1,0 +1,37 @@
+use Rattle.std.proofs.Common.{◌++◌, ◌∷◌, [], ◌&&◌, length, refl, ap, ◌∙◌}
+use Rattle.std.proofs.lemmas.List.{length_push}
+use Rattle.std.proofs.lemmas.Result.{err_from_is_err_and}
+use Rattle.lert_place.specs.Openings.{is_trace, is_bay}
+use Rattle.lert_place.specs.Shelf.{Loans}
+use Rattle.lert_place.specs.declared.opening.Opening.{Opening}
+use Rattle.lert_place.proofs.Handing.{one_more, no_more}
+use Rattle.lert_place.proofs.ledger.Ledger.hand_out_bay.Goals as goal
+
+pub returns-in_err-hand_out : goal.returns-in_err-hand_out
+returns-in_err-hand_out g c =
+    let p = err_from_is_err_and c.from_residual.result c.from_residual.ensures.1 in
+    rw p.1 (record { asked = tt; bays = tt; asked_still = refl; bays_still = c.in_err-hand_out.ensures.err; traces = refl })
+
+pub returns : goal.returns
+returns g c = record {
+  asked = c.push.ensures ∙ ap (λ o. c.args.self.now.asked ++ o ∷ []) c.of_bay.ensures;
+  bays = c.in_ok-hand_out.ensures.ok;
+  asked_still = tt;
+  bays_still = tt;
+  traces = refl;
+}
+
+pub invariant_of-self : goal.invariant_of-self
+invariant_of-self g c = record {
+  tied_traces = c.args.self.now.tied_traces;
+  tied_bays = ap (λ (l : Loans g.row.B.Denot). length l.handed) c.in_err-hand_out.ensures.err ∙ c.args.self.now.tied_bays;
+}
+
+pub invariant_of-self-2 : goal.invariant_of-self-2
+invariant_of-self-2 g c =
+    let now = c.args.self.now in
+    record {
+      tied_traces = no_more (λ o. is_trace o.wanted && o.opened) now.asked _ c.of_bay.result _ _ c.push.ensures c.of_bay.ensures refl now.tied_traces;
+      tied_bays = ap (λ (l : Loans g.row.B.Denot). length l.handed) c.in_ok-hand_out.ensures.ok ∙ length_push now.bays.handed c.args.bay.now
+          ∙ one_more (λ o. is_bay o.wanted && o.opened) now.asked _ c.of_bay.result _ _ c.push.ensures c.of_bay.ensures now.tied_bays;
+    }
