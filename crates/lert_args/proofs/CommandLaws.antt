@@ -6,10 +6,10 @@ use Rattle.std.specs.Prelude.{codes, option_and_then}
 use Rattle.std.specs.List.{remove}
 use Rattle.std.specs.Str.{bytes_eq}
 use Rattle.lert_args.specs.Answered.{IsAnswered}
-use Rattle.lert_args.specs.Command.{command, first_or, if_unnamed, line_broken, line_of, run_named, settings_said, usage_of, workers_said}
+use Rattle.lert_args.specs.Command.{command, first_or, if_unnamed, line_broken, line_of, recover_named, run_named, settings_said, usage_of, workers_said}
 use Rattle.lert_args.specs.Said.{Said}
 use Rattle.lert_args.specs.declared.line.Line.{Line}
-use Rattle.lert_args.specs.declared.line.Line.TheVariants.{Run}
+use Rattle.lert_args.specs.declared.line.Line.TheVariants.{Run, Recover}
 use Rattle.lert_args.specs.declared.line.LineFault.{LineFault}
 use Rattle.lert_args.specs.declared.line.LineFault.TheVariants.{Usage}
 use Rattle.lert_args.proofs.Texts.{equal_texts}
@@ -20,6 +20,15 @@ IsAnswered-none spelled none = record {
   line = tt;
   sound = tt;
   usage = λ rule same. let zero_is : 0 ≡ rule = cc in ap usage_of none ∙ ap Some zero_is;
+}
+
+-- where words say nothing, they spell no line
+pub unsaid : (f : Said → Option Line) (o : Option Said) (fault : LineFault) → ((rule : ℕ) → fault ≡ Usage rule → (rule ≡ 0) × (o ≡ None)) →
+    IsAnswered (Err fault) (option_and_then f o)
+unsaid f o fault refused = record {
+  line = tt;
+  sound = tt;
+  usage = λ rule same. let r = refused rule same in ap (λ said. usage_of (option_and_then f said)) r.1 ∙ ap Some (sym r.0);
 }
 
 -- where words say something, they spell what that says
@@ -45,6 +54,16 @@ pub run_named-is : (s : Said) (names : List ℕ) (dir : ℕ) (traces : List ℕ)
 run_named-is s [] dir traces enough first others = absurd (omega arith)
 run_named-is s (x ∷ []) dir traces enough first others = absurd (omega arith)
 run_named-is s (x ∷ (trace ∷ rest)) dir traces enough first others = sym (λ i. Some (Run (settings_said s) (workers_said s) (first i) (others i)))
+
+-- the line of a recovery: its one name is the directory's
+pub recover_named-is : (s : Said) (names read : List ℕ) (usual : ℕ) → read ≡ names → 1 ≤ length read → length read < 2 →
+    recover_named s names ≡ Some (Recover (settings_said s) (get_or read 0 usual))
+recover_named-is s names read usual same some few = ap (recover_named s) (sym same) ∙ by_names read some few
+  where
+    by_names : (names : List ℕ) → 1 ≤ length names → length names < 2 → recover_named s names ≡ Some (Recover (settings_said s) (get_or names 0 usual))
+    by_names [] some few = absurd (omega arith)
+    by_names (dir ∷ []) some few = refl
+    by_names (dir ∷ (other ∷ others)) some few = absurd (omega arith)
 
 -- the first word is the command
 pub command-of : (words : List (List ℕ)) (name : List ℕ) → slice_get words 0 ≡ Some name → command words ≡ line_of name (drop 1 words)

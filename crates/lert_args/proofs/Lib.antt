@@ -14,6 +14,7 @@ pub mod Parsing
 pub mod Reaching
 pub mod Refusing
 pub mod Rows
+pub mod Scanning
 pub mod Settling
 pub mod Shapes
 pub mod SoundLines
