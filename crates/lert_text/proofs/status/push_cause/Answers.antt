@@ -1,6 +1,14 @@
-use Rattle.std.proofs.Common.{◌++◌, take, codes, decimal}
+use Rattle.std.proofs.Common.{◌++◌, ◌∙◌, take, codes, decimal, ap, append-nil, arith}
 use Rattle.lert_text.proofs.Joined.{behind}
 use Rattle.lert_text.proofs.status.push_cause.Goals as goal
+
+pub returns-in-1-clause-text : goal.returns-in-1-clause-text
+returns-in-1-clause-text c =
+    rw c.in-1.is (c.push_around.ensures.text
+    ∙ ap (λ digits. take c.args.at c.args.into.now ++ (codes "usage rule " ++ digits)) (append-nil (decimal c.args.a)))
+
+pub returns-in-2-clause-text : goal.returns-in-2-clause-text
+returns-in-2-clause-text c = rw c.in-2.is c.push_text.ensures.text
 
 pub returns-in-3-clause-text : goal.returns-in-3-clause-text
 returns-in-3-clause-text c = rw c.in-3.is c.push_around-in-3.ensures.text
@@ -43,3 +51,40 @@ returns-in-9-clause-text c =
     let count = behind front text (decimal c.args.b) _ _ c.push_around-at-in-9.ensures.text c.push_number-at-in-9.ensures.text in
     let next = behind front (text ++ decimal c.args.b) (codes " malformed at ") _ _ count c.push_text-at-in-9.ensures.text in
     rw c.in-9.is (behind front (text ++ decimal c.args.b ++ codes " malformed at ") (decimal c.args.d) _ _ next c.push_number-in-9.ensures.text)
+
+-- no line is longer than its room
+pub returns-in-1-clause-within : goal.returns-in-1-clause-within
+returns-in-1-clause-within c = omega (arith, c.push_around.ensures.within)
+
+pub returns-in-2-clause-within : goal.returns-in-2-clause-within
+returns-in-2-clause-within c = omega (arith, c.push_text.ensures.place)
+
+pub returns-in-3-clause-within : goal.returns-in-3-clause-within
+returns-in-3-clause-within c = omega (arith, c.push_around-in-3.ensures.within)
+
+pub returns-in-5-clause-within : goal.returns-in-5-clause-within
+returns-in-5-clause-within c = omega (arith, c.push_around-in-5.ensures.within)
+
+pub returns-in-6-clause-within : goal.returns-in-6-clause-within
+returns-in-6-clause-within c = omega (arith, c.push_around-in-6.ensures.within)
+
+pub returns-in-7-clause-within : goal.returns-in-7-clause-within
+returns-in-7-clause-within c = omega (arith, c.push_around-in-7.ensures.within)
+
+pub returns-in-10-clause-within : goal.returns-in-10-clause-within
+returns-in-10-clause-within c = omega (arith, c.push_around-in-10.ensures.within)
+
+pub returns-in-11-clause-within : goal.returns-in-11-clause-within
+returns-in-11-clause-within c = omega (arith, c.push_text-in-11.ensures.place)
+
+pub returns-in-12-clause-within : goal.returns-in-12-clause-within
+returns-in-12-clause-within c = omega (arith, c.push_text-in-12.ensures.place)
+
+pub returns-in-4-clause-within : goal.returns-in-4-clause-within
+returns-in-4-clause-within c = omega (arith, c.push_around-at.ensures.within, c.push_number.ensures.within)
+
+pub returns-in-8-clause-within : goal.returns-in-8-clause-within
+returns-in-8-clause-within c = omega (arith, c.push_around-at-in-8.ensures.within, c.push_number-at.ensures.within, c.push_text-at.ensures.place, c.push_number-in-8.ensures.within)
+
+pub returns-in-9-clause-within : goal.returns-in-9-clause-within
+returns-in-9-clause-within c = omega (arith, c.push_around-at-in-9.ensures.within, c.push_number-at-in-9.ensures.within, c.push_text-at-in-9.ensures.place, c.push_number-in-9.ensures.within)
