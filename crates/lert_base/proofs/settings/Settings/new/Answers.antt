@@ -1,5 +1,6 @@
-use Rattle.std.proofs.Common.{arith}
-use Rattle.lert_spec.specs.Limits.{IsInLimits}
+use Rattle.std.proofs.Common.{arith, sym, ◌∙◌}
+use Rattle.lert_spec.specs.Limits.{IsInLimits, limits_kept, sums_kept}
+use Rattle.lert_spec.proofs.LimitLaws.{position_from-append_some}
 use Rattle.lert_base.proofs.Filled.{end_is, end_within}
 use Rattle.lert_base.proofs.settings.Settings.new.Goals as goal
 
@@ -12,3 +13,9 @@ pub broken_sum-requires-clause-end : goal.broken_sum-requires-clause-end
 broken_sum-requires-clause-end c =
     let limits : IsInLimits c.args.numbers = rw c.in_default.is at c.broken_limit.ensures.none in
     end_is c.args.numbers _ _ limits c.spans_of-spans.ensures c.offsets_of-offsets.ensures
+
+-- a rule on single numbers that is broken is the first of all
+pub returns-in-Some : goal.returns-in-Some
+returns-in-Some c =
+    let s = c.args.numbers in
+    position_from-append_some 1 c.in-Some.rule (limits_kept s) (sums_kept s) (sym c.broken_limit.ensures.value ∙ c.in-Some.is)
