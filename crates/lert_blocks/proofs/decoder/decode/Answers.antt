@@ -35,28 +35,40 @@ loop-at-preserved c =
 -- ---- what stands behind the pieces that were there
 
 pub returns-then-occupied-eq0-clause-kept : goal.returns-then-occupied-eq0-clause-kept
-returns-then-occupied-eq0-clause-kept c = put_kept c.args.width c.args.first c.args.from c.args.slots c.args.walk.now (walk_at c.loop-at.occupied c.loop-at.least) c.loop-at.at c.args.pieces.now.items c.loop-at.pieces.items c.loop-at.invariant.goes
+returns-then-occupied-eq0-clause-kept c =
+    put_kept c.args.width c.args.first c.args.from c.args.slots c.args.walk.now
+    (walk_at c.loop-at.occupied c.loop-at.least) c.loop-at.at c.args.pieces.now.items c.loop-at.pieces.items c.loop-at.invariant.goes
 
 pub returns-then-occupied-eq0-clause-few : goal.returns-then-occupied-eq0-clause-few
-returns-then-occupied-eq0-clause-few c = put_few c.args.width c.args.first c.args.from c.args.slots c.args.walk.now (walk_at c.loop-at.occupied c.loop-at.least) c.loop-at.at c.args.pieces.now.items c.loop-at.pieces.items c.loop-at.invariant.goes
+returns-then-occupied-eq0-clause-few c =
+    put_few c.args.width c.args.first c.args.from c.args.slots c.args.walk.now
+    (walk_at c.loop-at.occupied c.loop-at.least) c.loop-at.at c.args.pieces.now.items c.loop-at.pieces.items c.loop-at.invariant.goes
 
 pub returns-then-occupied-eq0-clause-capacity : goal.returns-then-occupied-eq0-clause-capacity
 returns-then-occupied-eq0-clause-capacity c = c.loop-at.invariant.capacity
 
 pub returns-in_err-step-clause-kept : goal.returns-in_err-step-clause-kept
-returns-in_err-step-clause-kept c = put_kept c.args.width c.args.first c.args.from c.args.slots c.args.walk.now (walk_at c.loop-at.occupied c.loop-at.least) c.loop-at.at c.args.pieces.now.items c.loop-at.pieces.items c.loop-at.invariant.goes
+returns-in_err-step-clause-kept c =
+    put_kept c.args.width c.args.first c.args.from c.args.slots c.args.walk.now
+    (walk_at c.loop-at.occupied c.loop-at.least) c.loop-at.at c.args.pieces.now.items c.loop-at.pieces.items c.loop-at.invariant.goes
 
 pub returns-in_err-step-clause-few : goal.returns-in_err-step-clause-few
-returns-in_err-step-clause-few c = put_few c.args.width c.args.first c.args.from c.args.slots c.args.walk.now (walk_at c.loop-at.occupied c.loop-at.least) c.loop-at.at c.args.pieces.now.items c.loop-at.pieces.items c.loop-at.invariant.goes
+returns-in_err-step-clause-few c =
+    put_few c.args.width c.args.first c.args.from c.args.slots c.args.walk.now
+    (walk_at c.loop-at.occupied c.loop-at.least) c.loop-at.at c.args.pieces.now.items c.loop-at.pieces.items c.loop-at.invariant.goes
 
 pub returns-in_err-step-clause-capacity : goal.returns-in_err-step-clause-capacity
 returns-in_err-step-clause-capacity c = c.loop-at.invariant.capacity
 
 pub returns-clause-kept : goal.returns-clause-kept
-returns-clause-kept c = put_kept c.args.width c.args.first c.args.from c.args.slots c.args.walk.now (walk_at c.loop-at.occupied c.loop-at.least) c.loop-at.at c.args.pieces.now.items c.loop-at.pieces.items c.loop-at.invariant.goes
+returns-clause-kept c =
+    put_kept c.args.width c.args.first c.args.from c.args.slots c.args.walk.now
+    (walk_at c.loop-at.occupied c.loop-at.least) c.loop-at.at c.args.pieces.now.items c.loop-at.pieces.items c.loop-at.invariant.goes
 
 pub returns-clause-few : goal.returns-clause-few
-returns-clause-few c = put_few c.args.width c.args.first c.args.from c.args.slots c.args.walk.now (walk_at c.loop-at.occupied c.loop-at.least) c.loop-at.at c.args.pieces.now.items c.loop-at.pieces.items c.loop-at.invariant.goes
+returns-clause-few c =
+    put_few c.args.width c.args.first c.args.from c.args.slots c.args.walk.now
+    (walk_at c.loop-at.occupied c.loop-at.least) c.loop-at.at c.args.pieces.now.items c.loop-at.pieces.items c.loop-at.invariant.goes
 
 pub returns-clause-capacity : goal.returns-clause-capacity
 returns-clause-capacity c = c.loop-at.invariant.capacity
@@ -103,10 +115,14 @@ pub returns-clause-found : goal.returns-clause-found
 returns-clause-found c = λ ends more are. (let goes = c.loop-at.invariant.goes in (goes.put, goes.is, goes.found ends more are))
 
 pub returns-clause-ascend : goal.returns-clause-ascend
-returns-clause-ascend c = put_ascend c.args.width c.args.first c.args.from c.args.slots c.args.walk.now (walk_at c.loop-at.occupied c.loop-at.least) c.loop-at.at c.args.pieces.now.items c.loop-at.pieces.items c.loop-at.invariant.goes
+returns-clause-ascend c =
+    put_ascend c.args.width c.args.first c.args.from c.args.slots c.args.walk.now
+    (walk_at c.loop-at.occupied c.loop-at.least) c.loop-at.at c.args.pieces.now.items c.loop-at.pieces.items c.loop-at.invariant.goes
 
 pub returns-clause-counts : goal.returns-clause-counts
-returns-clause-counts c = put_counts c.args.width c.args.first c.args.from c.args.slots c.args.walk.now (walk_at c.loop-at.occupied c.loop-at.least) c.loop-at.at c.args.pieces.now.items c.loop-at.pieces.items c.loop-at.invariant.goes
+returns-clause-counts c =
+    put_counts c.args.width c.args.first c.args.from c.args.slots c.args.walk.now
+    (walk_at c.loop-at.occupied c.loop-at.least) c.loop-at.at c.args.pieces.now.items c.loop-at.pieces.items c.loop-at.invariant.goes
 
 pub returns-clause-rises : goal.returns-clause-rises
 returns-clause-rises c = c.loop-at.invariant.goes.rises

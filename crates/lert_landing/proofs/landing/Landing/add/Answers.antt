@@ -5,7 +5,8 @@ use Rattle.lert_bay.specs.Kept.{Bays}
 use Rattle.lert_bay.proofs.KeptLaws.{IsLawful}
 use Rattle.lert_spec.specs.declared.piece.Piece.{Piece}
 use Rattle.lert_landing.specs.Whole.{whole}
-use Rattle.lert_landing.proofs.LandingLaws.{sum_ascends, sum_fits, put_below, finished_given, finished_fits, taken_none, taking_none, given_anew, frame_stands, taking_after, given_after, lands_none, lands_wrote}
+use Rattle.lert_landing.proofs.LandingLaws.{sum_ascends, sum_fits, finished_given, finished_fits, taken_none, taking_none, given_anew, frame_stands}
+use Rattle.lert_landing.proofs.LandingLaws.{put_below, taking_after, given_after, lands_none, lands_wrote}
 use Rattle.lert_landing.proofs.landing.Landing.add.Given as given
 use Rattle.lert_landing.proofs.landing.Landing.add.Goals as goal
 
