@@ -1,9 +1,12 @@
-use Rattle.std.proofs.Common.{◌≡◌, ◌^◌, ◌∙◌, List, ap, length, refl, subst, arith}
+use Rattle.std.proofs.Common.{◌≡◌, ◌^◌, ◌∙◌, List, Err, ap, length, refl, subst, arith}
 use Rattle.lert_cone.specs.Stands.{Standing}
 use Rattle.lert_ingest.specs.Ingest.{HasIngested}
+use Rattle.lert_ingest.specs.declared.status.Status.TheVariants.{OutOfMemory}
 use Rattle.lert_ingest.proofs.Assembling.{untouched}
 use Rattle.lert_ingest.proofs.Starting.{all_opened, as_many, few_cones, first_from, first_quiet, firsts_new}
+use Rattle.lert_ingest.proofs.crews.ingest.Given as given
 use Rattle.lert_ingest.proofs.crews.ingest.Goals as goal
+use Rattle.lert_ingest.proofs.crews.ingest.Goals.{After-destroy_empty, After-ingest_fleet, In_default}
 
 pub lock_cones-requires-clause-cones : goal.lock_cones-requires-clause-cones
 lock_cones-requires-clause-cones g c κs within = few_cones g.B.Bay.files g.B.Bay.leaves g.B.Faulty.faults c.args.settings.now c.args.cones.items c.requires.number c.requires.new_cones
@@ -34,78 +37,72 @@ ingest_fleet-requires-clause-pass g c κs within =
 pub ingest_fleet-requires-clause-quiet : goal.ingest_fleet-requires-clause-quiet
 ingest_fleet-requires-clause-quiet g c κs within = first_quiet c.args.workers c.in-Ok-lock_cones.fleet c.in-Ok-lock_cones.pass c.in-Ok-lock_cones.ensures.pass
 
-pub returns-in-Ok-lock_cones-clause-stopped : goal.returns-in-Ok-lock_cones-clause-stopped
-returns-in-Ok-lock_cones-clause-stopped g c =
-    (subst (λ (firsts : List (Standing _)). HasIngested g.S.Source.remaining g.S.Faulty.faults g.S.Faulty.mark g.B.Bay.files g.B.Bay.leaves g.B.Faulty.faults g.B.Faulty.mark
-    c.args.settings.now c.args.workers c.args.traces.items c.ingest_fleet.result.0.items firsts c.ingest_fleet.result.1.items c.ingest_fleet.result.2)
-    c.in-Ok-lock_cones.ensures.locks.firsts c.ingest_fleet.ensures).stopped
+-- ---- where no worker began, all is as it was
 
-pub returns-in-Ok-lock_cones-clause-exact : goal.returns-in-Ok-lock_cones-clause-exact
-returns-in-Ok-lock_cones-clause-exact g c =
-    (subst (λ (firsts : List (Standing _)). HasIngested g.S.Source.remaining g.S.Faulty.faults g.S.Faulty.mark g.B.Bay.files g.B.Bay.leaves g.B.Faulty.faults g.B.Faulty.mark
-    c.args.settings.now c.args.workers c.args.traces.items c.ingest_fleet.result.0.items firsts c.ingest_fleet.result.1.items c.ingest_fleet.result.2)
-    c.in-Ok-lock_cones.ensures.locks.firsts c.ingest_fleet.ensures).exact
+-- what the locks didn't take is as it was
+untaken : (g : given.Over) (c : After-destroy_empty g) → HasIngested g.S.Source.remaining g.S.Faulty.faults g.S.Faulty.mark g.B.Bay.files g.B.Bay.leaves g.B.Faulty.faults g.B.Faulty.mark
+    c.args.settings.now c.args.workers c.args.traces.items c.args.traces.items c.args.cones.items c.in-Err.cones.items (Err OutOfMemory)
+untaken g c =
+    untouched g.S.Source.remaining g.S.Faulty.faults g.S.Faulty.mark g.B.Bay.files g.B.Bay.leaves g.B.Faulty.faults g.B.Faulty.mark
+    c.args.settings.now c.args.workers c.args.traces.items c.args.traces.items c.args.cones.items c.in-Err.cones.items refl c.in-Err.ensures.back
 
 pub returns-in-Err-clause-later : goal.returns-in-Err-clause-later
-returns-in-Err-clause-later g c =
-    (untouched g.S.Source.remaining g.S.Faulty.faults g.S.Faulty.mark g.B.Bay.files g.B.Bay.leaves g.B.Faulty.faults g.B.Faulty.mark
-    c.args.settings.now c.args.workers c.args.traces.items c.args.traces.items c.args.cones.items c.in-Err.cones.items refl c.in-Err.ensures.back).later
+returns-in-Err-clause-later g c = (untaken g c).later
+
+pub returns-in-Err-clause-traces_later : goal.returns-in-Err-clause-traces_later
+returns-in-Err-clause-traces_later g c = (untaken g c).traces_later
+
+pub returns-in-Err-clause-stopped : goal.returns-in-Err-clause-stopped
+returns-in-Err-clause-stopped g c = (untaken g c).stopped
+
+pub returns-in-Err-clause-exact : goal.returns-in-Err-clause-exact
+returns-in-Err-clause-exact g c = (untaken g c).exact
+
+pub returns-in-Err-clause-read : goal.returns-in-Err-clause-read
+returns-in-Err-clause-read g c = tt
+
+-- nor is there a list for the traces
+unlocked : (g : given.Over) (c : In_default g) → HasIngested g.S.Source.remaining g.S.Faulty.faults g.S.Faulty.mark g.B.Bay.files g.B.Bay.leaves g.B.Faulty.faults g.B.Faulty.mark
+    c.args.settings.now c.args.workers c.args.traces.items c.args.traces.items c.args.cones.items c.args.cones.items (Err OutOfMemory)
+unlocked g c =
+    untouched g.S.Source.remaining g.S.Faulty.faults g.S.Faulty.mark g.B.Bay.files g.B.Bay.leaves g.B.Faulty.faults g.B.Faulty.mark
+    c.args.settings.now c.args.workers c.args.traces.items c.args.traces.items c.args.cones.items c.args.cones.items refl refl
 
 pub returns-in_default-clause-later : goal.returns-in_default-clause-later
-returns-in_default-clause-later g c =
-    (untouched g.S.Source.remaining g.S.Faulty.faults g.S.Faulty.mark g.B.Bay.files g.B.Bay.leaves g.B.Faulty.faults g.B.Faulty.mark
-    c.args.settings.now c.args.workers c.args.traces.items c.args.traces.items c.args.cones.items c.args.cones.items refl refl).later
+returns-in_default-clause-later g c = (unlocked g c).later
 
 pub returns-in_default-clause-traces_later : goal.returns-in_default-clause-traces_later
-returns-in_default-clause-traces_later g c =
-    (untouched g.S.Source.remaining g.S.Faulty.faults g.S.Faulty.mark g.B.Bay.files g.B.Bay.leaves g.B.Faulty.faults g.B.Faulty.mark
-    c.args.settings.now c.args.workers c.args.traces.items c.args.traces.items c.args.cones.items c.args.cones.items refl refl).traces_later
+returns-in_default-clause-traces_later g c = (unlocked g c).traces_later
 
 pub returns-in_default-clause-stopped : goal.returns-in_default-clause-stopped
-returns-in_default-clause-stopped g c =
-    (untouched g.S.Source.remaining g.S.Faulty.faults g.S.Faulty.mark g.B.Bay.files g.B.Bay.leaves g.B.Faulty.faults g.B.Faulty.mark
-    c.args.settings.now c.args.workers c.args.traces.items c.args.traces.items c.args.cones.items c.args.cones.items refl refl).stopped
+returns-in_default-clause-stopped g c = (unlocked g c).stopped
 
 pub returns-in_default-clause-exact : goal.returns-in_default-clause-exact
-returns-in_default-clause-exact g c =
-    (untouched g.S.Source.remaining g.S.Faulty.faults g.S.Faulty.mark g.B.Bay.files g.B.Bay.leaves g.B.Faulty.faults g.B.Faulty.mark
-    c.args.settings.now c.args.workers c.args.traces.items c.args.traces.items c.args.cones.items c.args.cones.items refl refl).exact
+returns-in_default-clause-exact g c = (unlocked g c).exact
 
 pub returns-in_default-clause-read : goal.returns-in_default-clause-read
 returns-in_default-clause-read g c = tt
 
-pub returns-in-Ok-lock_cones-clause-later : goal.returns-in-Ok-lock_cones-clause-later
-returns-in-Ok-lock_cones-clause-later g c =
-    (subst (λ (firsts : List (Standing _)). HasIngested g.S.Source.remaining g.S.Faulty.faults g.S.Faulty.mark g.B.Bay.files g.B.Bay.leaves g.B.Faulty.faults g.B.Faulty.mark
+-- ---- where workers began, the fleet's answer
+
+ingested : (g : given.Over) (c : After-ingest_fleet g) → HasIngested g.S.Source.remaining g.S.Faulty.faults g.S.Faulty.mark g.B.Bay.files g.B.Bay.leaves g.B.Faulty.faults
+    g.B.Faulty.mark c.args.settings.now c.args.workers c.args.traces.items c.ingest_fleet.result.0.items c.args.cones.items c.ingest_fleet.result.1.items c.ingest_fleet.result.2
+ingested g c =
+    subst (λ (firsts : List (Standing _)). HasIngested g.S.Source.remaining g.S.Faulty.faults g.S.Faulty.mark g.B.Bay.files g.B.Bay.leaves g.B.Faulty.faults g.B.Faulty.mark
     c.args.settings.now c.args.workers c.args.traces.items c.ingest_fleet.result.0.items firsts c.ingest_fleet.result.1.items c.ingest_fleet.result.2)
-    c.in-Ok-lock_cones.ensures.locks.firsts c.ingest_fleet.ensures).later
+    c.in-Ok-lock_cones.ensures.locks.firsts c.ingest_fleet.ensures
+
+pub returns-in-Ok-lock_cones-clause-later : goal.returns-in-Ok-lock_cones-clause-later
+returns-in-Ok-lock_cones-clause-later g c = (ingested g c).later
 
 pub returns-in-Ok-lock_cones-clause-traces_later : goal.returns-in-Ok-lock_cones-clause-traces_later
-returns-in-Ok-lock_cones-clause-traces_later g c =
-    (subst (λ (firsts : List (Standing _)). HasIngested g.S.Source.remaining g.S.Faulty.faults g.S.Faulty.mark g.B.Bay.files g.B.Bay.leaves g.B.Faulty.faults g.B.Faulty.mark
-    c.args.settings.now c.args.workers c.args.traces.items c.ingest_fleet.result.0.items firsts c.ingest_fleet.result.1.items c.ingest_fleet.result.2)
-    c.in-Ok-lock_cones.ensures.locks.firsts c.ingest_fleet.ensures).traces_later
+returns-in-Ok-lock_cones-clause-traces_later g c = (ingested g c).traces_later
 
 pub returns-in-Ok-lock_cones-clause-read : goal.returns-in-Ok-lock_cones-clause-read
-returns-in-Ok-lock_cones-clause-read g c =
-    (subst (λ (firsts : List (Standing _)). HasIngested g.S.Source.remaining g.S.Faulty.faults g.S.Faulty.mark g.B.Bay.files g.B.Bay.leaves g.B.Faulty.faults g.B.Faulty.mark
-    c.args.settings.now c.args.workers c.args.traces.items c.ingest_fleet.result.0.items firsts c.ingest_fleet.result.1.items c.ingest_fleet.result.2)
-    c.in-Ok-lock_cones.ensures.locks.firsts c.ingest_fleet.ensures).read
+returns-in-Ok-lock_cones-clause-read g c = (ingested g c).read
 
-pub returns-in-Err-clause-traces_later : goal.returns-in-Err-clause-traces_later
-returns-in-Err-clause-traces_later g c =
-    (untouched g.S.Source.remaining g.S.Faulty.faults g.S.Faulty.mark g.B.Bay.files g.B.Bay.leaves g.B.Faulty.faults g.B.Faulty.mark
-    c.args.settings.now c.args.workers c.args.traces.items c.args.traces.items c.args.cones.items c.in-Err.cones.items refl c.in-Err.ensures.back).traces_later
+pub returns-in-Ok-lock_cones-clause-stopped : goal.returns-in-Ok-lock_cones-clause-stopped
+returns-in-Ok-lock_cones-clause-stopped g c = (ingested g c).stopped
 
-pub returns-in-Err-clause-stopped : goal.returns-in-Err-clause-stopped
-returns-in-Err-clause-stopped g c =
-    (untouched g.S.Source.remaining g.S.Faulty.faults g.S.Faulty.mark g.B.Bay.files g.B.Bay.leaves g.B.Faulty.faults g.B.Faulty.mark
-    c.args.settings.now c.args.workers c.args.traces.items c.args.traces.items c.args.cones.items c.in-Err.cones.items refl c.in-Err.ensures.back).stopped
-
-pub returns-in-Err-clause-exact : goal.returns-in-Err-clause-exact
-returns-in-Err-clause-exact g c =
-    (untouched g.S.Source.remaining g.S.Faulty.faults g.S.Faulty.mark g.B.Bay.files g.B.Bay.leaves g.B.Faulty.faults g.B.Faulty.mark
-    c.args.settings.now c.args.workers c.args.traces.items c.args.traces.items c.args.cones.items c.in-Err.cones.items refl c.in-Err.ensures.back).exact
-
-pub returns-in-Err-clause-read : goal.returns-in-Err-clause-read
-returns-in-Err-clause-read g c = tt
+pub returns-in-Ok-lock_cones-clause-exact : goal.returns-in-Ok-lock_cones-clause-exact
+returns-in-Ok-lock_cones-clause-exact g c = (ingested g c).exact

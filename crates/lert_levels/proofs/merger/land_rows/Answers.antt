@@ -1,11 +1,17 @@
-use Rattle.std.proofs.Common.{◌+◌, ◌∙◌, [], map, get_or, sym, subst, arith}
+use Rattle.std.proofs.Common.{◌≡◌, ◌+◌, ◌≤◌, ◌∙◌, [], Option, Some, Result, length, map, get_or, refl, sym, subst, arith, le_refl}
+use Rattle.std.specs.Prelude.{OnOk, IsErrOf}
 use Rattle.std.proofs.lemmas.List.{length-map}
 use Rattle.lert_bay.specs.declared.bay.TheConstants.{FRAMES}
-use Rattle.lert_bay.specs.Kept.{Bays}
+use Rattle.lert_bay.specs.Files.{Files}
+use Rattle.lert_bay.specs.Kept.{Bays, KeepsBay}
 use Rattle.lert_bay.proofs.KeptLaws.{IsLawful, keeps_on}
 use Rattle.lert_rows.specs.Landing.{AreApart as RowsApart}
 use Rattle.lert_rows.specs.Loading.{OneBreaks}
 use Rattle.lert_rows.specs.Rows.{IsRow}
+use Rattle.lert_rows.specs.declared.fault.FlushFault.{FlushFault}
+use Rattle.lert_rows.specs.declared.fault.FlushFault.TheVariants.{Failed}
+use Rattle.lert_levels.specs.Ready.{HasMade}
+use Rattle.lert_levels.specs.Sources.{AreSecure}
 use Rattle.lert_rows.proofs.LandLaws.{rest_on, read_rest}
 use Rattle.lert_spec.specs.declared.numbers.Numbers.{Numbers}
 use Rattle.lert_levels.proofs.merger.land_rows.Given as given
@@ -55,3 +61,89 @@ returns-clause-kept g c =
 
 pub returns-in-Err-clause-malformed_after : goal.returns-in-Err-clause-malformed_after
 returns-in-Err-clause-malformed_after g c later told at is = returns-in-Err-clause-malformed g c later (sym c.secure_rows.ensures.only_reads.seen ∙ told) at is
+
+-- ---- the other clauses
+
+pub land_secure-requires-clause-same : goal.land_secure-requires-clause-same
+land_secure-requires-clause-same g c = c.secure_rows.ensures.room ∙ c.settings.ensures
+
+pub land_secure-requires-clause-ahead : goal.land_secure-requires-clause-ahead
+land_secure-requires-clause-ahead g c = c.requires.ahead
+
+pub land_secure-requires-clause-landings : goal.land_secure-requires-clause-landings
+land_secure-requires-clause-landings g c = c.requires.landings
+
+pub land_secure-requires-clause-enough : goal.land_secure-requires-clause-enough
+land_secure-requires-clause-enough g c = c.requires.enough
+
+pub land_secure-requires-clause-parts : goal.land_secure-requires-clause-parts
+land_secure-requires-clause-parts g c = c.requires.parts
+
+pub land_secure-requires-clause-first : goal.land_secure-requires-clause-first
+land_secure-requires-clause-first g c = c.requires.first
+
+pub land_secure-requires-clause-last : goal.land_secure-requires-clause-last
+land_secure-requires-clause-last g c = c.requires.last
+
+pub land_secure-requires-clause-reached : goal.land_secure-requires-clause-reached
+land_secure-requires-clause-reached g c = c.requires.reached
+
+pub land_secure-requires-clause-secure : goal.land_secure-requires-clause-secure
+land_secure-requires-clause-secure g c =
+    subst (λ (t : Numbers). (seen : Files) → g.B.Bay.files c.secure_rows.new.bay ≡ Some seen → AreSecure t (seen FRAMES) 1 (map (λ row. row.items) c.args.rows.now)) c.settings.ensures
+    (λ seen told. c.in_default.ensures.secure seen (sym c.secure_rows.ensures.only_reads.seen ∙ told))
+
+pub land_secure-requires-clause-none_taken : goal.land_secure-requires-clause-none_taken
+land_secure-requires-clause-none_taken g c = c.requires.none_taken
+
+pub secure_rows-requires-clause-few : goal.secure_rows-requires-clause-few
+secure_rows-requires-clause-few g c =
+    subst (λ (t : Numbers). length c.args.rows.now ≤ t.levels) (sym c.settings.ensures) (omega (arith, c.requires.reached.few, length-map c.args.rows.now (λ row. row.items)))
+
+pub secure_rows-requires-clause-same : goal.secure_rows-requires-clause-same
+secure_rows-requires-clause-same g c = c.requires.same ∙ sym c.settings.ensures
+
+pub returns-clause-room : goal.returns-clause-room
+returns-clause-room g c = c.land_secure.ensures.room
+
+pub returns-clause-ahead : goal.returns-clause-ahead
+returns-clause-ahead g c = c.land_secure.ensures.ahead
+
+pub returns-clause-landings : goal.returns-clause-landings
+returns-clause-landings g c = c.land_secure.ensures.landings
+
+pub returns-clause-count : goal.returns-clause-count
+returns-clause-count g c = c.land_secure.ensures.count
+
+pub returns-clause-parts : goal.returns-clause-parts
+returns-clause-parts g c = c.land_secure.ensures.parts
+
+pub returns-clause-made : goal.returns-clause-made
+returns-clause-made g c =
+    subst (λ (files : Option Files). OnOk c.land_secure.result.1 (HasMade c.args.zero.now.settings c.args.m c.args.zero.now.bins (map (λ row. row.items) c.args.rows.now)
+    (g.O.Totals.took c.land_secure.new.totals) files (g.B.Bay.files c.land_secure.new.bay))) c.secure_rows.ensures.only_reads.seen c.land_secure.ensures.made
+
+pub returns-clause-malformed_after : goal.returns-clause-malformed_after
+returns-clause-malformed_after g c = c.land_secure.ensures.malformed_after
+
+pub returns-in-Err-clause-room : goal.returns-in-Err-clause-room
+returns-in-Err-clause-room g c = c.secure_rows.ensures.room ∙ c.settings.ensures
+
+pub returns-in-Err-clause-ahead : goal.returns-in-Err-clause-ahead
+returns-in-Err-clause-ahead g c = refl
+
+pub returns-in-Err-clause-landings : goal.returns-in-Err-clause-landings
+returns-in-Err-clause-landings g c = c.requires.landings
+
+pub returns-in-Err-clause-count : goal.returns-in-Err-clause-count
+returns-in-Err-clause-count g c = refl
+
+pub returns-in-Err-clause-parts : goal.returns-in-Err-clause-parts
+returns-in-Err-clause-parts g c = le_refl _
+
+pub returns-in-Err-clause-made : goal.returns-in-Err-clause-made
+returns-in-Err-clause-made g c = tt
+
+pub returns-in-Err-clause-kept : goal.returns-in-Err-clause-kept
+returns-in-Err-clause-kept g c =
+    subst (λ (r : Result (Unit {0}) FlushFault). KeepsBay (bays g) c.args.bay.now c.secure_rows.new.bay (IsErrOf r Failed)) c.in-Err.is c.secure_rows.ensures.only_reads.kept

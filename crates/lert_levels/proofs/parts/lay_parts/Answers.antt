@@ -1,6 +1,6 @@
 use Rattle.std.proofs.Common.{◌≡◌, ◌+◌, ◌<◌, ◌∙◌, ◌++◌, [], None, replicate, map, get_or, length, ap, sym, subst, arith, add-one, refl}
 use Rattle.std.proofs.lemmas.List.{length-map}
-use Rattle.lert_levels.specs.Parts.{streams_to, oldest_stream, newest_stream, part_at, set_two}
+use Rattle.lert_levels.specs.Parts.{ArePartsOf, streams_to, oldest_stream, newest_stream, part_at, set_two}
 use Rattle.lert_rows.specs.Rows.{IsRow}
 use Rattle.lert_levels.proofs.PartLaws.{streams_more, streams_few_more, parts_none, parts_more, oldest_added, newest_added, added_length, some_streams}
 use Rattle.lert_rows.proofs.ReadLaws.{row_here}
@@ -102,3 +102,30 @@ loop-lower-preserved c =
       few = few.0;
       room = omega (arith, c.loop-lower.invariant.room, c.add_streams-in-loop-lower.ensures.room, c.set_part.ensures.room);
     }
+
+pub add_streams-requires : goal.add_streams-requires
+add_streams-requires c = omega (arith, ap length c.clear.ensures.items, c.clear.ensures.capacity, c.requires.few_young, c.requires.room)
+
+pub bounds-rows-lower : goal.bounds-rows-lower
+bounds-rows-lower c = c.loop-lower-test.true
+
+pub newest_of-newest-requires-clause-first : goal.newest_of-newest-requires-clause-first
+newest_of-newest-requires-clause-first c = c.requires.first
+
+pub newest_of-newest-requires-clause-last : goal.newest_of-newest-requires-clause-last
+newest_of-newest-requires-clause-last c = c.requires.last
+
+pub newest_of-newest-requires-clause-from : goal.newest_of-newest-requires-clause-from
+newest_of-newest-requires-clause-from c = omega (arith, c.loop-lower-test.true)
+
+pub newest_of-newest-requires-clause-to : goal.newest_of-newest-requires-clause-to
+newest_of-newest-requires-clause-to c = omega (arith, c.loop-lower-test.true, c.requires.few)
+
+pub returns-clause-parts : goal.returns-clause-parts
+returns-clause-parts c =
+    let rows = map (λ row. row.items) c.args.rows.now in
+    let all : c.loop-lower.lower ≡ length c.args.rows.now = omega (arith, c.loop-lower-test.false, c.loop-lower.auto.lower-end) in
+    subst (λ n. ArePartsOf c.args.settings.now c.args.m c.args.young rows (streams_to c.args.young rows n) n c.loop-lower.parts.items) all c.loop-lower.invariant.parts
+
+pub returns-clause-room : goal.returns-clause-room
+returns-clause-room c = c.loop-lower.invariant.room

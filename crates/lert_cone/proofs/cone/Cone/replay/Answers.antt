@@ -1,13 +1,11 @@
-use Rattle.std.proofs.Common.{◌≡◌, ◌∙◌, ℕ, ◌+◌, ◌*◌, ◌++◌, ◌∷◌, [], All, List, length, take, drop, max, Err, IsFalse, refl, sym, ap, subst, arith}
+use Rattle.std.proofs.Common.{◌≡◌, ◌∙◌, ℕ, ◌+◌, ◌++◌, ◌∷◌, [], All, List, length, max, Err, IsFalse, ◌≤◌, le_refl, refl, sym, ap, subst, arith}
 use Rattle.lert_base.specs.Entries.{packet_of}
 use Rattle.lert_base.specs.Packet.{events_of}
 use Rattle.lert_bay.specs.Files.{Files}
-use Rattle.lert_bay.specs.Kept.{Bays}
-use Rattle.lert_bay.proofs.KeptLaws.{IsLawful, calls_as}
+use Rattle.lert_bay.proofs.KeptLaws.{calls_as}
 use Rattle.lert_gatelog.specs.Gated.{IsClosed, Log}
 use Rattle.lert_journal.specs.Payload.{payload_of}
 use Rattle.lert_spec.specs.Mix.{cone_of}
-use Rattle.lert_spec.specs.declared.numbers.Numbers.{Numbers}
 use Rattle.lert_cone.specs.declared.refusal.ReplayFault.{ReplayFault}
 use Rattle.lert_cone.specs.declared.refusal.ReplayFault.TheVariants.{Failed, Unsound}
 use Rattle.lert_cone.specs.declared.state.ConeState.TheVariants.{Replaying}
@@ -17,30 +15,22 @@ use Rattle.lert_cone.specs.InStep.{IsLogging}
 use Rattle.lert_cone.specs.Listing.{Listing}
 use Rattle.lert_cone.specs.Replay.{IsPast, ReplayLeavesAt}
 use Rattle.lert_cone.specs.Replays.{WhyRefused}
-use Rattle.lert_cone.specs.Room.{room_of}
-use Rattle.lert_cone.specs.Stands.{Standing, is_broken, over_of}
-use Rattle.lert_cone.specs.Wrote.{Anything}
+use Rattle.lert_cone.specs.Stands.{Standing, over_of}
 use Rattle.lert_cone.proofs.GateLaws.{past_more}
 use Rattle.lert_cone.proofs.MarkLaws.{next_holds}
 use Rattle.lert_cone.proofs.ReplayLaws.{never_on_way}
 use Rattle.lert_cone.proofs.ReadCosts.{broken_read, ended_read, refused_read, taken_read}
-use Rattle.lert_cone.proofs.ReplayCalls.{alone_behind, bays_of, calls_behind, ended_at, ended_replays, held_at, keys_stay, keys_unwritten, length_more, lent_again, listing_more, moved_on, read_stays}
-use Rattle.lert_cone.proofs.ReplayCalls.{read_unwritten, refilled, refilled_twice, seen_as, with_keys}
-use Rattle.lert_cone.proofs.ReplayStands.{leaves_listing, near_then, never_unsound, failed_keys, failed_record, unsound_keys, only_by_bay, only_failed, read_settled, read_shut, refused_keys}
-use Rattle.lert_cone.proofs.ReplayStands.{refused_record, replaying_cone, settled_then}
+use Rattle.lert_cone.proofs.Calls.{alone_reading}
+use Rattle.lert_cone.proofs.ReplayCalls.{alone_behind, calls_behind, ended_at, ended_replays, held_at, keys_stay, keys_unwritten, length_more, listing_more, moved_on, read_stays}
+use Rattle.lert_cone.proofs.ReplayCalls.{read_unwritten, refilled, seen_as, with_keys}
+use Rattle.lert_cone.proofs.ReplayStands.{leaves_listing, never_unsound, failed_keys, failed_record, unsound_keys, only_by_bay, only_failed, read_shut, refused_keys}
+use Rattle.lert_cone.proofs.ReplayStands.{refused_record}
 use Rattle.lert_cone.proofs.ReplayStep.{told_once}
-use Rattle.lert_io.proofs.Rising.{risen_since}
-use Rattle.lert_cone.proofs.StandLaws.{broken_cone}
-use Rattle.lert_cone.proofs.FaultLaws.{by_bay_of, is_broken_by, not_replaying_by, turns_as, turns_on}
 use Rattle.lert_cone.proofs.Refusals.{no_fault, one_fault}
 use Rattle.lert_cone.proofs.cone.Cone.replay.Given as given
 use Rattle.lert_cone.proofs.cone.Cone.replay.Goals as goal
-
-abbrev bays : (g : given.Over) → Bays g.row.B.Denot
-bays g = bays_of g.B.Faulty.faults g.B.Faulty.mark g.B.Bay.files g.B.Bay.leaves g.B.Bay.moment g.B.Bay.left_since g.B.Bay.handed_out
-
-lawful : (g : given.Over) → IsLawful (bays g)
-lawful g = record { as_read = g.met.B.Bay.as_read; since_now = g.met.B.Bay.since_now; only_now = g.met.B.Bay.only_now; since_earlier = g.met.B.Bay.since_earlier }
+use Rattle.lert_cone.proofs.cone.Cone.replay.Answers.Kept.{bays, lawful, broken_keys, broken_keys_kept, broken_record, broken_record_kept, ended_kept, taken_kept}
+mod Kept
 
 pub replay_keys-requires : goal.replay_keys-requires
 replay_keys-requires g c =
@@ -65,25 +55,7 @@ replay_keys-requires g c =
     }
 
 pub invariant_of-self : goal.invariant_of-self
-invariant_of-self g c =
-    let len_is : c.self.inside.buffer.len ≡ length c.self.inside.buffer.items = omega (arith, c.self.inside.buffer.ok) in
-    broken_cone g.B.Bay.files g.B.Bay.leaves g.B.Faulty.faults g.B.Faulty.mark (seen_as c.self.inside.bay c.self.inside.made.value c.self.inside.tally c.self.inside.events c.self.inside.state
-    (over_of c.self.inside.over) c.self.inside.journal.gate c.self.inside.log c.self.inside.last) _ c.self.inside.tally c.replay_keys.new.tally c.self.inside.journal c.read_packet.new.journal _ _
-    _ _
-    (ap is_broken c.broken_by-self-inside.ensures ∙ is_broken_by c.in-Err-replay_keys.fault) (λ same. not_replaying_by c.in-Err-replay_keys.fault (sym c.broken_by-self-inside.ensures ∙ same))
-    (ap (λ (l : Listing). l.settings) c.replay_keys.ensures.listing) refl refl
-    ((c.read_packet.ensures.keeps.file ∙ ap (λ (j : Log). j.file) c.at_gate-self-inside.ensures) ∙ sym c.self.invariant.file)
-    ((c.read_packet.ensures.keeps.most ∙ ap (λ (j : Log). j.most) c.at_gate-self-inside.ensures ∙ c.greatest_payload-most.ensures.value ∙ ap most_payload c.settings.ensures)
-    ∙ sym c.self.invariant.most) (refilled_twice c.self.inside.buffer.len c.self.inside.buffer.items c.read_packet.new.buffer c.replay_keys.new.buffer len_is) c.read_packet.ensures.keeps.roomy
-    (omega (arith, c.read_packet.ensures.keeps.reads.kept.never_falls, c.replay_keys.ensures.keeps.kept.never_falls))
-    (turns_on Anything (λ old new. new 0 ≡ old 0) (g.B.Bay.files c.self.inside.bay) (g.B.Bay.files c.read_packet.new.bay) (g.B.Bay.files c.replay_keys.new.bay)
-    (turns_as (g.B.Bay.files c.self.inside.bay) (g.B.Bay.files c.read_packet.new.bay) c.read_packet.ensures.keeps.reads.seen) c.replay_keys.ensures.keeps.journal.seen)
-    (c.replay_keys.ensures.keeps.kept.mark ∙ c.read_packet.ensures.keeps.reads.kept.mark)
-    (λ same. risen_since (g.B.Faulty.faults c.self.inside.made.value) (g.B.Faulty.faults c.read_packet.new.bay) (g.B.Faulty.faults c.replay_keys.new.bay)
-    (omega (arith, c.self.invariant.never_falls, c.read_packet.ensures.keeps.reads.kept.never_falls))
-    c.replay_keys.ensures.keeps.kept.never_falls (c.replay_keys.ensures.keeps.kept.failed (c.in-Err-replay_keys.is ∙ ap Err
-    (by_bay_of c.in-Err-replay_keys.fault (sym c.broken_by-self-inside.ensures ∙ same)))))
-    c.self.invariant
+invariant_of-self = broken_keys_kept
 
 pub returns-in-Err-replay_keys-clause-refused : goal.returns-in-Err-replay_keys-clause-refused
 returns-in-Err-replay_keys-clause-refused g c =
@@ -113,42 +85,7 @@ returns-in-Err-replay_keys-clause-journal g c = rw (← c.self.view_is)
     (alone_behind (bays g) (lawful g) c.self.inside.bay c.read_packet.new.bay _ _ _ _ _ c.read_packet.ensures.keeps 0 c.replay_keys.new.bay c.replay_keys.ensures.keeps.journal)
 
 pub invariant_of-self-in-Ok-true : goal.invariant_of-self-in-Ok-true
-invariant_of-self-in-Ok-true g c =
-    let replaying : c.self.inside.state ≡ Replaying = subst (λ (v : Standing g.row.B.Denot). v.state ≡ Replaying) (sym c.self.view_is) c.requires.replaying in
-    let was = c.self.invariant.replaying replaying in
-    let len_is : c.self.inside.buffer.len ≡ length c.self.inside.buffer.items = omega (arith, c.self.inside.buffer.ok) in
-    let listing_is = listing_more c.self.inside.tally.listing c.replay_keys.new.tally.listing c.read_packet.new.entry.keys.keys c.keys_of.result.now
-    c.replay_keys.ensures.listing c.in_default.ensures.taken c.keys_of.ensures.value in
-    let moved = moved_on (payload_of (packet_of c.read_packet.new.entry)) (c.in-Ok-true.ensures.moved c.in-Ok-true.field-0-test) c.at_gate-self-inside.ensures in
-    let events_is = length_more c.self.inside.tally.listing c.replay_keys.new.tally.listing c.read_packet.new.entry.keys.keys c.self.inside.events c.len-self-inside.result
-    listing_is was.counted c.len-self-inside.ensures in
-    let settings_are : c.replay_keys.new.tally.listing.settings ≡ c.self.inside.tally.listing.settings = ap (λ (l : Listing). l.settings) listing_is in
-    let journaled = c.in-Ok-true.ensures.journaled c.in-Ok-true.field-0-test in
-    let long = lent_again c.self.inside.buffer.len c.self.inside.buffer.items c.read_packet.new.buffer c.replay_keys.new.buffer _ len_is c.deref_mut-in-Ok-true.ensures.value
-    c.replay_keys.auto.buffer in
-    replaying_cone g.B.Bay.files g.B.Bay.leaves g.B.Faulty.faults g.B.Faulty.mark _ _ _ _ _ replaying (c.read_packet.ensures.keeps.file ∙ ap (λ (j : Log). j.file) c.at_gate-self-inside.ensures)
-    ((c.read_packet.ensures.keeps.most ∙ ap (λ (j : Log). j.most) c.at_gate-self-inside.ensures ∙ c.greatest_payload-most.ensures.value ∙ ap most_payload c.settings.ensures)
-    ∙ ap most_payload (sym settings_are)) (refilled_twice c.self.inside.buffer.len c.self.inside.buffer.items c.read_packet.new.buffer c.replay_keys.new.buffer len_is
-    ∙ c.self.invariant.roomy ∙ ap room_of (sym settings_are))
-    (c.read_packet.ensures.keeps.roomy ∙ c.self.invariant.keys_roomy ∙ ap (λ (s : Numbers). 4 * s.packet) (sym settings_are)) (omega
-    (arith, c.in_default.ensures.recounted.fits, c.len-self-inside.ensures)) c.in_default.ensures.recounted.valid
-    (omega (arith, c.self.invariant.never_falls, c.read_packet.ensures.keeps.reads.kept.never_falls, c.replay_keys.ensures.keeps.kept.never_falls))
-    (turns_on Anything (λ old new. new 0 ≡ old 0) (g.B.Bay.files c.self.inside.made.value) (g.B.Bay.files c.read_packet.new.bay) (g.B.Bay.files c.replay_keys.new.bay)
-    (turns_on Anything Anything (g.B.Bay.files c.self.inside.made.value) (g.B.Bay.files c.self.inside.bay) (g.B.Bay.files c.read_packet.new.bay) c.self.invariant.tells
-    (turns_as (g.B.Bay.files c.self.inside.bay) (g.B.Bay.files c.read_packet.new.bay) c.read_packet.ensures.keeps.reads.seen)) c.replay_keys.ensures.keeps.journal.seen)
-    (c.replay_keys.ensures.keeps.kept.mark ∙ c.read_packet.ensures.keeps.reads.kept.mark ∙ c.self.invariant.marked) (record {
-      none_over = was.none_over;
-      counted = sym c.len-self-inside.ensures;
-      recounted = c.in_default.ensures.recounted;
-      closed = ap (λ (l : Listing). l.closed) listing_is ∙ was.closed;
-      near = near_then c.args.gate c.read_packet.new.journal.gate c.self.inside.events c.len-self-inside.result (packet_of c.read_packet.new.entry) c.requires.reach moved journaled.some events_is;
-      journal_settled = settled_then 0 (g.B.Bay.files c.read_packet.new.bay) (g.B.Bay.files c.replay_keys.new.bay) (g.B.Bay.leaves c.read_packet.new.bay) (g.B.Bay.leaves c.replay_keys.new.bay)
-          (g.B.Bay.moment c.read_packet.new.bay) (g.B.Bay.moment c.replay_keys.new.bay) (g.B.Bay.left_since c.read_packet.new.bay)
-          (g.B.Bay.left_since c.replay_keys.new.bay) c.replay_keys.ensures.keeps.journal (read_settled 0 (g.B.Bay.files c.self.inside.bay) (g.B.Bay.files c.read_packet.new.bay)
-          (g.B.Bay.leaves c.self.inside.bay) (g.B.Bay.leaves c.read_packet.new.bay) c.read_packet.ensures.keeps.reads.seen c.read_packet.ensures.keeps.reads.images was.journal_settled);
-      logging = subst (λ n. IsLogging c.replay_keys.new.tally c.replay_keys.new.log n) long c.in_default.ensures.can_log.logging;
-      log_shut = c.in_default.ensures.can_log.log_shut;
-    })
+invariant_of-self-in-Ok-true = taken_kept
 
 pub returns-in_default-clause-taken : goal.returns-in_default-clause-taken
 returns-in_default-clause-taken g c =
@@ -207,34 +144,8 @@ pub returns-in_default-clause-journal : goal.returns-in_default-clause-journal
 returns-in_default-clause-journal g c = rw (← c.self.view_is)
     (alone_behind (bays g) (lawful g) c.self.inside.bay c.read_packet.new.bay _ _ _ _ _ c.read_packet.ensures.keeps 0 c.replay_keys.new.bay c.replay_keys.ensures.keeps.journal)
 
--- a closed gate
 pub invariant_of-self-in-Ok-false : goal.invariant_of-self-in-Ok-false
-invariant_of-self-in-Ok-false g c =
-    let replaying : c.self.inside.state ≡ Replaying = subst (λ (v : Standing g.row.B.Denot). v.state ≡ Replaying) (sym c.self.view_is) c.requires.replaying in
-    let was = c.self.invariant.replaying replaying in
-    let len_is : c.self.inside.buffer.len ≡ length c.self.inside.buffer.items = omega (arith, c.self.inside.buffer.ok) in
-    let gate_at : c.read_packet.new.journal.gate ≡ c.args.gate = ap (λ (j : Log). j.gate) ((c.in-Ok-false.ensures.waits c.in-Ok-false.field-0-test).0 ∙ c.at_gate-self-inside.ensures) in
-    let long : length c.self.inside.buffer.items ≡ length (take c.self.inside.buffer.len (c.read_packet.new.buffer ++ drop (length c.read_packet.new.buffer) c.self.inside.buffer.items)) =
-    sym (refilled c.self.inside.buffer.len c.self.inside.buffer.items c.read_packet.new.buffer len_is) in
-    replaying_cone g.B.Bay.files g.B.Bay.leaves g.B.Faulty.faults g.B.Faulty.mark _ _ _ _ _ replaying (c.read_packet.ensures.keeps.file ∙ ap (λ (j : Log). j.file) c.at_gate-self-inside.ensures)
-    (c.read_packet.ensures.keeps.most ∙ ap (λ (j : Log). j.most) c.at_gate-self-inside.ensures ∙ c.greatest_payload-most.ensures.value ∙ ap most_payload c.settings.ensures)
-    (refilled c.self.inside.buffer.len c.self.inside.buffer.items c.read_packet.new.buffer len_is ∙ c.self.invariant.roomy) (c.read_packet.ensures.keeps.roomy
-    ∙ c.self.invariant.keys_roomy) c.self.invariant.within c.self.invariant.valid
-    (omega (arith, c.self.invariant.never_falls, c.read_packet.ensures.keeps.reads.kept.never_falls))
-    (turns_on Anything Anything (g.B.Bay.files c.self.inside.made.value) (g.B.Bay.files c.self.inside.bay) (g.B.Bay.files c.read_packet.new.bay) c.self.invariant.tells
-    (turns_as (g.B.Bay.files c.self.inside.bay) (g.B.Bay.files c.read_packet.new.bay) c.read_packet.ensures.keeps.reads.seen))
-    (c.read_packet.ensures.keeps.reads.kept.mark ∙ c.self.invariant.marked) (record {
-      none_over = was.none_over;
-      counted = was.counted;
-      recounted = was.recounted;
-      closed = was.closed;
-      near = omega (arith, gate_at, c.requires.reach);
-      journal_settled = read_settled 0 (g.B.Bay.files c.self.inside.bay) (g.B.Bay.files c.read_packet.new.bay) (g.B.Bay.leaves c.self.inside.bay)
-          (g.B.Bay.leaves c.read_packet.new.bay) c.read_packet.ensures.keeps.reads.seen c.read_packet.ensures.keeps.reads.images was.journal_settled;
-      logging = subst (λ n. IsLogging c.self.inside.tally c.self.inside.log n) long was.logging;
-      log_shut = read_shut 1 c.self.inside.log.gate (g.B.Bay.files c.self.inside.bay) (g.B.Bay.files c.read_packet.new.bay) (g.B.Bay.leaves c.self.inside.bay)
-          (g.B.Bay.leaves c.read_packet.new.bay) c.read_packet.ensures.keeps.reads.seen c.read_packet.ensures.keeps.reads.images was.log_shut;
-    })
+invariant_of-self-in-Ok-false = ended_kept
 
 pub returns-in-Ok-false-clause-ended : goal.returns-in-Ok-false-clause-ended
 returns-in-Ok-false-clause-ended g c =
@@ -398,3 +309,26 @@ returns-in-Ok-false-clause-handed g c = rw (← c.self.view_is) (ended_read c.se
 pub returns-in-Err-clause-handed : goal.returns-in-Err-clause-handed
 returns-in-Err-clause-handed g c = rw (← c.self.view_is) (refused_read c.self.inside.tally.listing.settings (packet_of c.read_packet.new.entry) _ _
     (g.B.Bay.handed_out c.read_packet.new.bay) refl c.in-Err.fault c.in-Err.ensures.handed)
+
+pub read_packet-requires-clause-most : goal.read_packet-requires-clause-most
+read_packet-requires-clause-most g c = ap (λ (j : Log). j.most) c.at_gate-self-inside.ensures ∙ c.greatest_payload-most.ensures.value ∙ ap most_payload c.settings.ensures
+
+pub read_packet-requires-clause-entry : goal.read_packet-requires-clause-entry
+read_packet-requires-clause-entry g c = subst (λ n. n ≤ c.self.inside.entry.keys.room) c.self.invariant.keys_roomy (le_refl _)
+
+pub returns-in-Err-clause-broke : goal.returns-in-Err-clause-broke
+returns-in-Err-clause-broke = broken_record
+
+pub returns-in-Err-clause-journal : goal.returns-in-Err-clause-journal
+returns-in-Err-clause-journal g c = rw (← c.self.view_is)
+    (alone_reading (bays g) (lawful g) 0 c.self.inside.bay c.read_packet.new.bay _ c.read_packet.ensures.keeps.reads)
+
+pub returns-in-Ok-false-clause-journal : goal.returns-in-Ok-false-clause-journal
+returns-in-Ok-false-clause-journal g c = rw (← c.self.view_is)
+    (alone_reading (bays g) (lawful g) 0 c.self.inside.bay c.read_packet.new.bay _ c.read_packet.ensures.keeps.reads)
+
+pub invariant_of-self-in-Err : goal.invariant_of-self-in-Err
+invariant_of-self-in-Err = broken_record_kept
+
+pub returns-in-Err-replay_keys-clause-broke : goal.returns-in-Err-replay_keys-clause-broke
+returns-in-Err-replay_keys-clause-broke = broken_keys

@@ -1,5 +1,6 @@
-use Rattle.std.proofs.Common.{◌≡◌, ◌-◌, ◌≤◌, ◌∙◌, ◌++◌, List, map, take, drop, length, ap, sym, subst, arith}
-use Rattle.std.specs.Prelude.{OnOk}
+use Rattle.std.proofs.Common.{◌≡◌, ◌+◌, ◌*◌, ◌-◌, ◌≤◌, ◌∙◌, ◌++◌, List, map, take, drop, length, ap, sym, subst, arith}
+use Rattle.std.specs.Prelude.{OnOk, vec_capacity}
+use Rattle.std.proofs.lemmas.List.{length-take}
 use Rattle.lert_bay.specs.declared.bay.TheConstants.{FRAMES}
 use Rattle.lert_bay.specs.Kept.{Bays}
 use Rattle.lert_landing.specs.Landings.{AreLandings}
@@ -9,7 +10,7 @@ use Rattle.lert_rows.specs.Landing.{AreApart, KeepsRest}
 use Rattle.lert_rows.specs.Loading.{OneBreaks}
 use Rattle.lert_rows.specs.Rows.{AreRows}
 use Rattle.lert_rows.proofs.MoveLaws.{written_back}
-use Rattle.lert_spec.specs.Edges.{depth, span}
+use Rattle.lert_spec.specs.Edges.{capacity, depth, span}
 use Rattle.lert_spec.specs.Bins.{Bin}
 use Rattle.std.specs.List.{All}
 use Rattle.lert_spec.specs.Limits.{IsValid}
@@ -20,6 +21,7 @@ use Rattle.lert_levels.proofs.LevelLaws.{reached_rows}
 use Rattle.lert_levels.proofs.ReachLaws.{held, turned, reached_are, young_some}
 use Rattle.lert_levels.proofs.levels.Levels.land.Given as given
 use Rattle.lert_levels.proofs.levels.Levels.land.Goals as goal
+use Rattle.lert_levels.proofs.levels.Levels.land.Goals.{Joined-self}
 
 abbrev bays : (g : given.Over) → Bays g.row.B.Denot
 bays g = record {
@@ -78,65 +80,87 @@ invariant_of-self g c =
       },
     )
 
+-- ---- behind the merge
+
+-- the settings that level 0 and the levels share
+settings_is : (g : given.Over) (c : Joined-self g) → c.self.inside.settings ≡ c.args.self.now.settings
+settings_is g c = ap (λ (v : OnDisk). v.settings) c.self.view_is
+
+-- what was lent are the rows that the flush reaches
+lent_is : (g : given.Over) (c : Joined-self g) → map (λ row. row.items) (take c.depth-depth.result c.deref.result.now)
+    ≡ take (depth c.args.self.now.settings c.args.m) c.args.self.now.rows
+lent_is g c =
+    reached_rows (λ row. row.items) c.self.inside.settings c.self.inside.rows.items c.deref.result.now c.args.self.now c.self.view_is c.deref.ensures.value c.depth-depth.result
+    ∙ ap (λ d. take d c.args.self.now.rows) (c.depth-depth.ensures.value ∙ ap (λ (n : Numbers). depth n c.args.m) (settings_is g c))
+
+-- what the merge says of the rows as they were lent it says of these
+said : (g : given.Over) (c : Joined-self g) (P : Numbers → List (List BinAt) → Type 0) →
+    P c.args.zero.now.settings (map (λ row. row.items) (take c.depth-depth.result c.deref.result.now)) →
+    P c.args.self.now.settings (take (depth c.args.self.now.settings c.args.m) c.args.self.now.rows)
+said g c P is = turned P c.args.self.now.settings c.args.zero.now.settings _ _ c.requires.same (lent_is g c) is
+
 pub returns-clause-made : goal.returns-clause-made
 returns-clause-made g c =
-    let s = c.args.self.now.settings in
-    let t = c.args.zero.now.settings in
-    let m = c.args.m in
-    let rows = c.args.self.now.rows in
-    let young = c.args.zero.now.bins in
-    let settings_is : c.self.inside.settings ≡ s = ap (λ (v : OnDisk). v.settings) c.self.view_is in
-    let depth_is : c.depth-depth.result ≡ depth s m = c.depth-depth.ensures.value ∙ ap (λ (n : Numbers). depth n m) settings_is in
-    let lent = map (λ row. row.items) (take c.depth-depth.result c.deref.result.now) in
-    let lent_is : lent ≡ take (depth s m) rows =
-    reached_rows (λ row. row.items) c.self.inside.settings c.self.inside.rows.items c.deref.result.now c.args.self.now c.self.view_is c.deref.ensures.value c.depth-depth.result
-    ∙ ap (λ d. take d rows) depth_is in
     let took = g.O.Totals.took c.land_rows-reading.new.totals in
     let before = g.B.Bay.files c.args.bay.now in
     let after = g.B.Bay.files c.land_rows-reading.new.bay in
-    turned (λ n rs. OnOk c.land_rows-reading.result.1 (HasMade n m young rs took before after)) s t (take (depth s m) rows) lent c.requires.same lent_is c.land_rows-reading.ensures.made
+    said g c (λ n rs. OnOk c.land_rows-reading.result.1 (HasMade n c.args.m c.args.zero.now.bins rs took before after)) c.land_rows-reading.ensures.made
 
 pub returns-clause-malformed : goal.returns-clause-malformed
-returns-clause-malformed g c seen told at is =
-    let s = c.args.self.now.settings in
-    let t = c.args.zero.now.settings in
-    let m = c.args.m in
-    let rows = c.args.self.now.rows in
-    let young = c.args.zero.now.bins in
-    let settings_is : c.self.inside.settings ≡ s = ap (λ (v : OnDisk). v.settings) c.self.view_is in
-    let depth_is : c.depth-depth.result ≡ depth s m = c.depth-depth.ensures.value ∙ ap (λ (n : Numbers). depth n m) settings_is in
-    let lent = map (λ row. row.items) (take c.depth-depth.result c.deref.result.now) in
-    let lent_is : lent ≡ take (depth s m) rows =
-    reached_rows (λ row. row.items) c.self.inside.settings c.self.inside.rows.items c.deref.result.now c.args.self.now c.self.view_is c.deref.ensures.value c.depth-depth.result
-    ∙ ap (λ d. take d rows) depth_is in
-    turned (λ n rs. OneBreaks n rs (seen FRAMES) at) s t (take (depth s m) rows) lent c.requires.same lent_is (c.land_rows-reading.ensures.malformed seen told at is)
+returns-clause-malformed g c seen told at is = said g c (λ n rs. OneBreaks n rs (seen FRAMES) at) (c.land_rows-reading.ensures.malformed seen told at is)
 
 pub returns-clause-malformed_after : goal.returns-clause-malformed_after
-returns-clause-malformed_after g c seen told at is =
-    let s = c.args.self.now.settings in
-    let t = c.args.zero.now.settings in
-    let m = c.args.m in
-    let rows = c.args.self.now.rows in
-    let young = c.args.zero.now.bins in
-    let settings_is : c.self.inside.settings ≡ s = ap (λ (v : OnDisk). v.settings) c.self.view_is in
-    let depth_is : c.depth-depth.result ≡ depth s m = c.depth-depth.ensures.value ∙ ap (λ (n : Numbers). depth n m) settings_is in
-    let lent = map (λ row. row.items) (take c.depth-depth.result c.deref.result.now) in
-    let lent_is : lent ≡ take (depth s m) rows =
-    reached_rows (λ row. row.items) c.self.inside.settings c.self.inside.rows.items c.deref.result.now c.args.self.now c.self.view_is c.deref.ensures.value c.depth-depth.result
-    ∙ ap (λ d. take d rows) depth_is in
-    turned (λ n rs. OneBreaks n rs (seen FRAMES) at) s t (take (depth s m) rows) lent c.requires.same lent_is (c.land_rows-reading.ensures.malformed_after seen told at is)
+returns-clause-malformed_after g c seen told at is = said g c (λ n rs. OneBreaks n rs (seen FRAMES) at) (c.land_rows-reading.ensures.malformed_after seen told at is)
 
 pub returns-clause-rest : goal.returns-clause-rest
-returns-clause-rest g c =
-    let s = c.args.self.now.settings in
-    let t = c.args.zero.now.settings in
-    let m = c.args.m in
-    let rows = c.args.self.now.rows in
-    let young = c.args.zero.now.bins in
-    let settings_is : c.self.inside.settings ≡ s = ap (λ (v : OnDisk). v.settings) c.self.view_is in
-    let depth_is : c.depth-depth.result ≡ depth s m = c.depth-depth.ensures.value ∙ ap (λ (n : Numbers). depth n m) settings_is in
-    let lent = map (λ row. row.items) (take c.depth-depth.result c.deref.result.now) in
-    let lent_is : lent ≡ take (depth s m) rows =
-    reached_rows (λ row. row.items) c.self.inside.settings c.self.inside.rows.items c.deref.result.now c.args.self.now c.self.view_is c.deref.ensures.value c.depth-depth.result
-    ∙ ap (λ d. take d rows) depth_is in
-    turned (λ n rs. KeepsRest (bays g) (AreApart n m rs) c.args.bay.now c.land_rows-reading.new.bay) s t (take (depth s m) rows) lent c.requires.same lent_is c.land_rows-reading.ensures.rest
+returns-clause-rest g c = said g c (λ n rs. KeepsRest (bays g) (AreApart n c.args.m rs) c.args.bay.now c.land_rows-reading.new.bay) c.land_rows-reading.ensures.rest
+
+pub returns-clause-kept : goal.returns-clause-kept
+returns-clause-kept g c = c.land_rows-reading.ensures.kept
+
+pub returns-clause-valid : goal.returns-clause-valid
+returns-clause-valid g c = subst IsValid (c.numbers-valid.ensures.value ∙ settings_is g c) c.numbers-valid.ensures.valid
+
+pub returns-clause-rows : goal.returns-clause-rows
+returns-clause-rows g c = subst (λ (v : OnDisk). AreRows v.settings v.rows) c.self.view_is c.self.invariant.0.are
+
+pub returns-clause-same : goal.returns-clause-same
+returns-clause-same g c = c.self.view_is
+
+-- ---- before it
+
+pub depth-depth-requires-clause-first : goal.depth-depth-requires-clause-first
+depth-depth-requires-clause-first g c = c.requires.first
+
+pub depth-depth-requires-clause-last : goal.depth-depth-requires-clause-last
+depth-depth-requires-clause-last g c = subst (λ (v : OnDisk). c.args.m ≤ capacity v.settings) (sym c.self.view_is) c.requires.last
+
+pub land_rows-reading-requires-clause-first : goal.land_rows-reading-requires-clause-first
+land_rows-reading-requires-clause-first g c = c.requires.first
+
+pub land_rows-reading-requires-clause-last : goal.land_rows-reading-requires-clause-last
+land_rows-reading-requires-clause-last g c = subst (λ (t : Numbers). c.args.m ≤ capacity t) (sym c.requires.same) c.requires.last
+
+pub land_rows-reading-requires-clause-same : goal.land_rows-reading-requires-clause-same
+land_rows-reading-requires-clause-same g c =
+    (held _ c.self.inside.reading c.take.result c.in-Some.reading c.self.invariant.1 c.take.ensures.value c.in-Some.is).0
+    ∙ ap (λ (v : OnDisk). v.settings) c.self.view_is ∙ sym c.requires.same
+
+pub land_rows-reading-requires-clause-ahead : goal.land_rows-reading-requires-clause-ahead
+land_rows-reading-requires-clause-ahead g c =
+    subst (λ (t : Numbers). (t.levels + 1) * t.bins ≤ c.in-Some.reading.ahead.room) (ap (λ (v : OnDisk). v.settings) c.self.view_is ∙ sym c.requires.same)
+    (held _ c.self.inside.reading c.take.result c.in-Some.reading c.self.invariant.1 c.take.ensures.value c.in-Some.is).1
+
+pub land_rows-reading-requires-clause-parts : goal.land_rows-reading-requires-clause-parts
+land_rows-reading-requires-clause-parts g c =
+    subst (λ (t : Numbers). (t.levels + 1) * t.bins ≤ vec_capacity c.self.inside.writing.parts) (ap (λ (v : OnDisk). v.settings) c.self.view_is ∙ sym c.requires.same)
+    c.self.invariant.2.room
+
+pub land_rows-reading-requires-clause-enough : goal.land_rows-reading-requires-clause-enough
+land_rows-reading-requires-clause-enough g c =
+    let taken = length-take c.depth-depth.result c.deref.result.now in
+    let lent = ap (length {A = Landing}) c.deref_mut.ensures.value in
+    omega (arith, taken, lent, c.depth-depth.ensures.within, c.self.invariant.2.count)
+
+pub land_rows-reading-requires-clause-none_taken : goal.land_rows-reading-requires-clause-none_taken
+land_rows-reading-requires-clause-none_taken g c = c.requires.none_taken

@@ -1,5 +1,5 @@
-use Rattle.std.proofs.Common.{ℕ, ◌≡◌, ◌+◌, ◌-◌, ◌∙◌, List, [], map, take, length, get_or, ap, sym, subst, arith, refl}
-use Rattle.std.proofs.lemmas.List.{take_all}
+use Rattle.std.proofs.Common.{ℕ, ◌≡◌, ◌+◌, ◌*◌, ◌-◌, ◌≤◌, ◌∙◌, List, Vec, Global, [], map, take, length, get_or, ap, sym, subst, arith, refl}
+use Rattle.std.proofs.lemmas.List.{take_all, length-map}
 use Rattle.lert_bay.specs.declared.bay.TheConstants.{FRAMES}
 use Rattle.lert_frames.specs.Place.{tail_limit}
 use Rattle.lert_spec.specs.Table.{IsTable}
@@ -17,7 +17,7 @@ use Rattle.lert_levels.proofs.FlushLaws.{scan_took, scan_taken}
 use Rattle.lert_levels.proofs.HoldLaws.{rows_stand}
 use Rattle.lert_levels.proofs.LandedLaws.{on_ok}
 use Rattle.lert_levels.proofs.LevelLaws.{lent_seen}
-use Rattle.lert_levels.proofs.ReachLaws.{turned, no_break, sound_by, matched_by, at_ok}
+use Rattle.lert_levels.proofs.ReachLaws.{held, turned, no_break, sound_by, matched_by, at_ok}
 use Rattle.lert_levels.proofs.levels.Levels.scan.Goals as goal
 
 pub count_rows-reading-requires-clause-rows : goal.count_rows-reading-requires-clause-rows
@@ -96,3 +96,38 @@ returns-clause-told g c seen told events of =
     (λ at is. no_break s valid rows (seen FRAMES) (tallied_in s events) at (omega (arith, are.levels))
     (λ k below. (let place : k + 1 - 1 ≡ k = omega arith in subst (λ (j : ℕ). IsRow s (k + 1) (get_or rows j [])) place (are.each (k + 1) (omega arith) (omega (arith, below, are.levels)))))
     (subst (AllStand s (seen FRAMES) (tallied_in s events)) whole stand) (returns-clause-malformed g c seen told at is))
+
+-- ---- the other clauses
+
+pub returns-clause-same : goal.returns-clause-same
+returns-clause-same g c = c.self.view_is
+
+pub returns-clause-only_reads : goal.returns-clause-only_reads
+returns-clause-only_reads g c = c.count_rows-reading.ensures.only_reads
+
+pub count_rows-reading-requires-clause-none_taken : goal.count_rows-reading-requires-clause-none_taken
+count_rows-reading-requires-clause-none_taken g c = c.requires.none_taken
+
+pub count_rows-reading-requires-clause-same : goal.count_rows-reading-requires-clause-same
+count_rows-reading-requires-clause-same g c =
+    (held _ c.self.inside.reading c.take.result c.in-Some.reading c.self.invariant.1 c.take.ensures.value c.in-Some.is).0
+    ∙ ap (λ (v : OnDisk). v.settings) c.self.view_is ∙ sym c.requires.same
+
+pub count_rows-reading-requires-clause-ahead : goal.count_rows-reading-requires-clause-ahead
+count_rows-reading-requires-clause-ahead g c =
+    subst (λ (t : Numbers). (t.levels + 1) * t.bins ≤ c.in-Some.reading.ahead.room) (ap (λ (v : OnDisk). v.settings) c.self.view_is ∙ sym c.requires.same)
+    (held _ c.self.inside.reading c.take.result c.in-Some.reading c.self.invariant.1 c.take.ensures.value c.in-Some.is).1
+
+pub count_rows-reading-requires-clause-few : goal.count_rows-reading-requires-clause-few
+count_rows-reading-requires-clause-few g c =
+    let lent = ap (length {A = Vec BinAt Global}) c.deref.ensures.value in
+    let each = length-map c.self.inside.rows.items (λ row. row.items) in
+    subst (λ (t : Numbers). length c.deref.result.now ≤ t.levels) (ap (λ (v : OnDisk). v.settings) c.self.view_is ∙ sym c.requires.same)
+    (omega (arith, lent, each, c.self.invariant.0.are.levels))
+
+pub invariant_of-self : goal.invariant_of-self
+invariant_of-self g c =
+    let settings_is : c.args.zero.now.settings ≡ c.self.inside.settings = c.requires.same ∙ sym (ap (λ (v : OnDisk). v.settings) c.self.view_is) in
+    let e = c.count_rows-reading.ensures in
+    let before = held _ c.self.inside.reading c.take.result c.in-Some.reading c.self.invariant.1 c.take.ensures.value c.in-Some.is in
+    (c.self.invariant.0, (e.room ∙ settings_is, omega (arith, e.ahead, before.1)), c.self.invariant.2)
