@@ -3,5 +3,4 @@ pub mod Computed
 pub mod Keys
 pub mod Packet
 pub mod Entries
-pub mod TwoPieces
 pub mod Weave

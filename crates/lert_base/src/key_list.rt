@@ -66,23 +66,3 @@ impl KeyList {
         self.keys.is_empty()
     }
 }
-
-#[cfg(test)]
-mod tests {
-    use super::*;
-    use std::test::Fail;
-
-    #[test]
-    fn a_list_is_filled_and_cleared(rt: HostRuntime) -> Result<(), Fail> {
-        let mut keys = KeyList::with_room(rt.alloc(), 2)?;
-        assert_eq!(rt; (keys.len(), keys.is_empty()), (0, true));
-        keys.push(7);
-        keys.push(u64::MAX);
-        assert_eq!(rt; keys.as_slice(), [7, u64::MAX].as_slice());
-        assert_eq!(rt; (keys.len(), keys.is_empty()), (2, false));
-        keys.clear();
-        keys.push(8);
-        assert_eq!(rt; keys.as_slice(), [8].as_slice());
-        Ok(())
-    }
-}

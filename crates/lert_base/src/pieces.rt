@@ -8,9 +8,6 @@ ghost use Rattle.lert_spec.specs.declared.piece.Piece.{Piece};
 use lert_io::Faulty;
 use lert_spec::Piece;
 
-#[cfg(test)]
-mod tests;
-
 /// Why a stream gives no piece.
 #[derive(Clone, Copy, Debug, PartialEq, Eq)]
 pub enum PieceFault {

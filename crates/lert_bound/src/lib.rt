@@ -9,7 +9,5 @@
 mod bound;
 mod pair;
 mod place;
-#[cfg(test)]
-mod tests;
 
 pub use bound::Bound;

@@ -1,4 +1,5 @@
-//! Tests of what counts in memory: bit rows, groups, runs, filters, sorted lists, the mixer and the rings.
+//! Tests of what counts in memory: bit rows, groups, runs, filters, sorted lists, lists of keys, the mixer and the
+//! rings.
 //!
 //! They are vectors from outside, and each public call once. No crate stands on this one.
 #![tactic(auto)]
@@ -9,6 +10,8 @@ mod bits;
 mod filter;
 #[cfg(test)]
 mod groups;
+#[cfg(test)]
+mod keys;
 #[cfg(test)]
 mod mixed;
 #[cfg(test)]

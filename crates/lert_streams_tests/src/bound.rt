@@ -2,7 +2,7 @@
 
 ghost use Rattle.std.specs.Prelude.{◌<◌};
 
-use crate::bound::Bound;
+use lert_bound::Bound;
 use std::process::Abort;
 use std::test::Fail;
 

@@ -1,4 +1,6 @@
-use super::{PieceFault, Pieces};
+//! A stream of two pieces.
+
+use lert_base::{PieceFault, Pieces};
 use lert_io::Faulty;
 use lert_spec::Piece;
 
@@ -21,7 +23,7 @@ struct Two {
 impl Pieces<Quiet> for Two {
     ghost use Rattle.std.specs.Prelude.{ℕ, ◌≡◌, ◌∷◌, [], take, drop, Some, List, refl};
     ghost use Rattle.lert_spec.specs.declared.piece.Piece.{Piece};
-    ghost use Rattle.lert_base.specs.TwoPieces.{two, two_in_order};
+    ghost use Rattle.lert_merge_tests.specs.TwoPieces.{two, two_in_order};
     ghost use Rattle.std.proofs.Common.{sym, ◌∙◌};
 
     ghost to_come = { λ s _. Some (drop s.given two) };
