@@ -7,6 +7,7 @@ use Rattle.lert_ingest.proofs.BayLaws.{are_more}
 use Rattle.lert_ingest.proofs.EachLaws.{kept_unused, unused_more}
 use Rattle.lert_run.specs.Ran.{IsDone}
 use Rattle.lert_run.specs.Run.{StatusShows}
+use Rattle.lert_cones.proofs.AskedLaws.{traces_same}
 use Rattle.lert_cones.proofs.ConeLaws.{unmade_since}
 use Rattle.lert_cones.specs.Closed.{AreClosedInEach}
 use Rattle.lert_run.proofs.DoneLaws.{unmade_not_done}
@@ -160,3 +161,30 @@ returns-clause-closed g c = λ is.
     let now = bays_of c.run_cones-cones.result.0.items in
     let back = c.bring_back.ensures.bays ∙ (ap (λ xs. now ++ xs) c.in-Ok.ensures.emptied ∙ append-nil now) in
     subst (AreClosedInEach g.B.Bay.files g.B.Bay.leaves c.args.settings.now) (sym back) (c.run_cones-cones.ensures.closed is)
+
+pub returns-in-Err-clause-traces_later : goal.returns-in-Err-clause-traces_later
+returns-in-Err-clause-traces_later g c = traces_same g.S.Faulty.faults g.S.Faulty.mark c.args.traces.items
+
+pub returns-in-Err-make_cones-clause-traces_later : goal.returns-in-Err-make_cones-clause-traces_later
+returns-in-Err-make_cones-clause-traces_later g c = traces_same g.S.Faulty.faults g.S.Faulty.mark c.args.traces.items
+
+pub returns-clause-traces_later : goal.returns-clause-traces_later
+returns-clause-traces_later g c = c.run_cones-cones.ensures.traces_later
+
+pub run_cones-cones-requires-clause-least : goal.run_cones-cones-requires-clause-least
+run_cones-cones-requires-clause-least g c = λ lifetimes outlive. c.requires.least
+
+pub run_cones-cones-requires-clause-most : goal.run_cones-cones-requires-clause-most
+run_cones-cones-requires-clause-most g c = λ lifetimes outlive. c.requires.most
+
+pub run_cones-cones-requires-clause-some : goal.run_cones-cones-requires-clause-some
+run_cones-cones-requires-clause-some g c = λ lifetimes outlive. c.requires.some
+
+pub run_cones-cones-requires-clause-few : goal.run_cones-cones-requires-clause-few
+run_cones-cones-requires-clause-few g c = λ lifetimes outlive. c.requires.few
+
+pub run_cones-cones-requires-clause-number : goal.run_cones-cones-requires-clause-number
+run_cones-cones-requires-clause-number g c = λ lifetimes outlive. c.in-Ok.ensures.number
+
+pub run_cones-cones-requires-clause-new_cones : goal.run_cones-cones-requires-clause-new_cones
+run_cones-cones-requires-clause-new_cones g c = λ lifetimes outlive. c.in-Ok.ensures.new_cones
