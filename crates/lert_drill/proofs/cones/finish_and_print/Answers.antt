@@ -1,4 +1,6 @@
-use Rattle.std.proofs.Common.{◌++◌, List, map, Some, refl, ap, sym, ◌∙◌, subst}
+use Rattle.std.proofs.Common.{◌≡◌, ℕ, ◌^◌, ◌<◌, ◌≤◌, ◌++◌, List, length, map, Some, refl, ap, sym, ◌∙◌, subst, arith, lit<}
+use Rattle.std.proofs.Math.Nat.{pow-le-pow_right}
+use Rattle.lert_spec.specs.declared.numbers.Numbers.{Numbers}
 use Rattle.lert_cone.specs.Stands.{Standing}
 use Rattle.lert_drill.specs.Print.{drilled_as}
 use Rattle.lert_drill.proofs.DrillLaws.{finished_fits, lines_same}
@@ -7,6 +9,27 @@ use Rattle.lert_cones.proofs.EndLaws.{finished_printable}
 use Rattle.lert_text.specs.Drill.{drill_lines}
 use Rattle.lert_text.specs.Page.{IsCut}
 use Rattle.lert_drill.proofs.cones.finish_and_print.Goals as goal
+
+-- there are at most 256 cones
+few_cones : (s : Numbers) (number : ℕ) → s.cone_bits ≤ 8 → number ≡ 2 ^ s.cone_bits → number ≤ 256
+few_cones s number bits is = let power = pow-le-pow_right {n = 2} (lit< tt) {i = s.cone_bits} {j = 8} bits in omega (arith, is, power)
+
+few_numbers : (number : ℕ) → number ≤ 256 → number < 4294967296
+few_numbers number few = omega (arith, few)
+
+pub finish_cones-requires-clause-few : goal.finish_cones-requires-clause-few
+finish_cones-requires-clause-few g c =
+    let bits = subst (λ (t : Numbers). t.cone_bits ≤ 8) c.numbers-valid.ensures.value c.numbers-valid.ensures.valid.limits.cone_bits_to in
+    few_numbers (length c.args.cones.now.items) (few_cones c.args.settings.now (length c.args.cones.now.items) bits c.requires.number)
+
+pub print_drill-requires-clause-empty : goal.print_drill-requires-clause-empty
+print_drill-requires-clause-empty g c = c.requires.empty
+
+pub print_drill-requires-clause-few : goal.print_drill-requires-clause-few
+print_drill-requires-clause-few g c =
+    let bits = subst (λ (t : Numbers). t.cone_bits ≤ 8) c.numbers-valid.ensures.value c.numbers-valid.ensures.valid.limits.cone_bits_to in
+    few_cones c.args.settings.now (length c.deref.result.now) bits
+    (ap (λ (cones : List (Standing g.row.B.Denot)). length cones) c.deref.ensures.value ∙ (c.in_default.ensures.finished.number_is ∙ c.requires.number))
 
 pub finish_cones-requires-clause-running : goal.finish_cones-requires-clause-running
 finish_cones-requires-clause-running g c = λ number cone is. (c.requires.weaving.1.1 number cone is).state_is
@@ -51,3 +74,15 @@ returns-in-Err-print_drill-clause-shows g c = λ workers seed events weaving.
       subst (IsCut start end) same
           (subst (λ (xs : List (Standing g.row.B.Denot)). IsCut start end (drill_lines (map drilled_as xs))) c.deref.ensures.value c.in-Err-print_drill.ensures.cut),
     )
+
+pub returns-in-Err-clause-number : goal.returns-in-Err-clause-number
+returns-in-Err-clause-number g c = c.in-Err.ensures.stopped.others.number_is
+
+pub returns-in-Ok-clause-number : goal.returns-in-Ok-clause-number
+returns-in-Ok-clause-number g c = c.in_default.ensures.finished.number_is
+
+pub returns-in-Err-print_drill-clause-number : goal.returns-in-Err-print_drill-clause-number
+returns-in-Err-print_drill-clause-number g c = c.in_default.ensures.finished.number_is
+
+pub returns-in-Err-clause-shows : goal.returns-in-Err-clause-shows
+returns-in-Err-clause-shows g c = λ workers seed events weaving. refl
