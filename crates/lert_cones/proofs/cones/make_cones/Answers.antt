@@ -1,5 +1,7 @@
-use Rattle.std.proofs.Common.{◌++◌, ap, sym, ◌∙◌, subst, arith, append-nil}
+use Rattle.std.proofs.Common.{◌++◌, refl, ap, sym, ◌∙◌, subst, arith, append-nil}
 use Rattle.lert_ingest.specs.Bays.{AreLater, AreUnused, bays_of}
+use Rattle.lert_ingest.proofs.BayLaws.{are_same}
+use Rattle.lert_ingest.proofs.EachLaws.{unused_same}
 use Rattle.lert_cones.specs.Unmade.{IsUnmade}
 use Rattle.lert_cones.proofs.ConeLaws.{cones_and_left}
 use Rattle.lert_cones.proofs.cones.make_cones.Goals as goal
@@ -30,3 +32,48 @@ returns-clause-kept g c = subst (AreLater g.B.Bay.files g.B.Faulty.faults g.B.Fa
 pub returns-clause-unmade : goal.returns-clause-unmade
 returns-clause-unmade g c =
     subst (λ xs. IsUnmade g.B.Bay.files g.B.Faulty.faults c.args.settings.now c.args.bays.now.items xs c.in-Err.status) (sym c.bring_back.ensures.bays) c.in-Err.ensures.unmade
+
+pub fill_rooms-requires-clause-number : goal.fill_rooms-requires-clause-number
+fill_rooms-requires-clause-number g c = c.requires.number
+
+pub fill_rooms-requires-clause-room : goal.fill_rooms-requires-clause-room
+fill_rooms-requires-clause-room g c = c.requires.room
+
+pub fill_rooms-requires-clause-fresh : goal.fill_rooms-requires-clause-fresh
+fill_rooms-requires-clause-fresh g c = c.requires.fresh
+
+pub fill_rooms-requires-clause-rooms_number : goal.fill_rooms-requires-clause-rooms_number
+fill_rooms-requires-clause-rooms_number g c = c.in_ok-rooms.ensures.number
+
+pub fill_rooms-requires-clause-rooms : goal.fill_rooms-requires-clause-rooms
+fill_rooms-requires-clause-rooms g c = c.in_ok-rooms.ensures.each
+
+pub fill_rooms-requires-clause-none : goal.fill_rooms-requires-clause-none
+fill_rooms-requires-clause-none g c = c.in-Ok.ensures.items
+
+pub fill_rooms-requires-clause-cones_room : goal.fill_rooms-requires-clause-cones_room
+fill_rooms-requires-clause-cones_room g c = omega (arith, c.cones.ensures, c.in-Ok.ensures.capacity)
+
+pub returns-in_default-clause-kept : goal.returns-in_default-clause-kept
+returns-in_default-clause-kept g c = are_same g.B.Bay.files g.B.Faulty.faults g.B.Faulty.mark c.args.bays.now.items
+
+pub returns-in_default-clause-unmade : goal.returns-in_default-clause-unmade
+returns-in_default-clause-unmade g c = λ cone before now was is. unused_same g.B.Bay.files c.args.settings.now c.args.bays.now.items cone before now was is
+
+pub returns-in_default-clause-room : goal.returns-in_default-clause-room
+returns-in_default-clause-room g c = refl
+
+pub returns-in-Ok-fill_rooms-clause-new_cones : goal.returns-in-Ok-fill_rooms-clause-new_cones
+returns-in-Ok-fill_rooms-clause-new_cones g c = c.in-Ok-fill_rooms.ensures.new_cones
+
+pub returns-in-Ok-fill_rooms-clause-number : goal.returns-in-Ok-fill_rooms-clause-number
+returns-in-Ok-fill_rooms-clause-number g c = c.in-Ok-fill_rooms.ensures.number
+
+pub returns-in-Ok-fill_rooms-clause-emptied : goal.returns-in-Ok-fill_rooms-clause-emptied
+returns-in-Ok-fill_rooms-clause-emptied g c = c.in-Ok-fill_rooms.ensures.emptied
+
+pub returns-in-Ok-fill_rooms-clause-room : goal.returns-in-Ok-fill_rooms-clause-room
+returns-in-Ok-fill_rooms-clause-room g c = c.fill_rooms.ensures.room
+
+pub returns-clause-room : goal.returns-clause-room
+returns-clause-room g c = c.bring_back.ensures.room ∙ c.fill_rooms.ensures.room
