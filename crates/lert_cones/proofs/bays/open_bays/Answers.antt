@@ -99,39 +99,6 @@ put_back_bays-requires-clause-marked g c = λ lifetimes outlive cone bay is. c.l
 pub put_back_bays-requires-clause-small : goal.put_back_bays-requires-clause-small
 put_back_bays-requires-clause-small g c = omega (arith, c.loop-cone.invariant.number, c.loop-cone-test.true, c.ranges.cones)
 
-pub returns-in_default-clause-opened : goal.returns-in_default-clause-opened
-returns-in_default-clause-opened g c = tt
-
-pub returns-in_default-clause-number : goal.returns-in_default-clause-number
-returns-in_default-clause-number g c = tt
-
-pub returns-in_default-clause-room : goal.returns-in_default-clause-room
-returns-in_default-clause-room g c = tt
-
-pub returns-in_default-clause-marked : goal.returns-in_default-clause-marked
-returns-in_default-clause-marked g c = tt
-
-pub returns-in_default-clause-asked : goal.returns-in_default-clause-asked
-returns-in_default-clause-asked g c = tt
-
-pub returns-in-Err-clause-opened : goal.returns-in-Err-clause-opened
-returns-in-Err-clause-opened g c = tt
-
-pub returns-in-Err-clause-number : goal.returns-in-Err-clause-number
-returns-in-Err-clause-number g c = tt
-
-pub returns-in-Err-clause-room : goal.returns-in-Err-clause-room
-returns-in-Err-clause-room g c = tt
-
-pub returns-in-Err-clause-marked : goal.returns-in-Err-clause-marked
-returns-in-Err-clause-marked g c = tt
-
-pub returns-in-Err-clause-asked : goal.returns-in-Err-clause-asked
-returns-in-Err-clause-asked g c = tt
-
-pub returns-clause-refused : goal.returns-clause-refused
-returns-clause-refused g c = tt
-
 pub returns-clause-asked : goal.returns-clause-asked
 returns-clause-asked g c =
     let end : c.loop-cone.cone ≡ c.args.cones = omega (arith, c.loop-cone-test.false, c.loop-cone.auto.cone-end) in
