@@ -33,24 +33,6 @@ pub returns-clause-unmade : goal.returns-clause-unmade
 returns-clause-unmade g c =
     subst (λ xs. IsUnmade g.B.Bay.files g.B.Faulty.faults c.args.settings.now c.args.bays.now.items xs c.in-Err.status) (sym c.bring_back.ensures.bays) c.in-Err.ensures.unmade
 
-pub fill_rooms-requires-clause-number : goal.fill_rooms-requires-clause-number
-fill_rooms-requires-clause-number g c = c.requires.number
-
-pub fill_rooms-requires-clause-room : goal.fill_rooms-requires-clause-room
-fill_rooms-requires-clause-room g c = c.requires.room
-
-pub fill_rooms-requires-clause-fresh : goal.fill_rooms-requires-clause-fresh
-fill_rooms-requires-clause-fresh g c = c.requires.fresh
-
-pub fill_rooms-requires-clause-rooms_number : goal.fill_rooms-requires-clause-rooms_number
-fill_rooms-requires-clause-rooms_number g c = c.in_ok-rooms.ensures.number
-
-pub fill_rooms-requires-clause-rooms : goal.fill_rooms-requires-clause-rooms
-fill_rooms-requires-clause-rooms g c = c.in_ok-rooms.ensures.each
-
-pub fill_rooms-requires-clause-none : goal.fill_rooms-requires-clause-none
-fill_rooms-requires-clause-none g c = c.in-Ok.ensures.items
-
 pub fill_rooms-requires-clause-cones_room : goal.fill_rooms-requires-clause-cones_room
 fill_rooms-requires-clause-cones_room g c = omega (arith, c.cones.ensures, c.in-Ok.ensures.capacity)
 
