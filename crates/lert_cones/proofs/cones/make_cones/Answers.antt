@@ -1,4 +1,4 @@
-use Rattle.std.proofs.Common.{◌++◌, refl, ap, sym, ◌∙◌, subst, arith, append-nil}
+use Rattle.std.proofs.Common.{◌++◌, ap, sym, ◌∙◌, subst, arith, append-nil}
 use Rattle.lert_ingest.specs.Bays.{AreLater, AreUnused, bays_of}
 use Rattle.lert_ingest.proofs.BayLaws.{are_same}
 use Rattle.lert_ingest.proofs.EachLaws.{unused_same}
@@ -41,21 +41,3 @@ returns-in_default-clause-kept g c = are_same g.B.Bay.files g.B.Faulty.faults g.
 
 pub returns-in_default-clause-unmade : goal.returns-in_default-clause-unmade
 returns-in_default-clause-unmade g c = λ cone before now was is. unused_same g.B.Bay.files c.args.settings.now c.args.bays.now.items cone before now was is
-
-pub returns-in_default-clause-room : goal.returns-in_default-clause-room
-returns-in_default-clause-room g c = refl
-
-pub returns-in-Ok-fill_rooms-clause-new_cones : goal.returns-in-Ok-fill_rooms-clause-new_cones
-returns-in-Ok-fill_rooms-clause-new_cones g c = c.in-Ok-fill_rooms.ensures.new_cones
-
-pub returns-in-Ok-fill_rooms-clause-number : goal.returns-in-Ok-fill_rooms-clause-number
-returns-in-Ok-fill_rooms-clause-number g c = c.in-Ok-fill_rooms.ensures.number
-
-pub returns-in-Ok-fill_rooms-clause-emptied : goal.returns-in-Ok-fill_rooms-clause-emptied
-returns-in-Ok-fill_rooms-clause-emptied g c = c.in-Ok-fill_rooms.ensures.emptied
-
-pub returns-in-Ok-fill_rooms-clause-room : goal.returns-in-Ok-fill_rooms-clause-room
-returns-in-Ok-fill_rooms-clause-room g c = c.fill_rooms.ensures.room
-
-pub returns-clause-room : goal.returns-clause-room
-returns-clause-room g c = c.bring_back.ensures.room ∙ c.fill_rooms.ensures.room
