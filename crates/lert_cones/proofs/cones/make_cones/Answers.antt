@@ -33,9 +33,6 @@ pub returns-clause-unmade : goal.returns-clause-unmade
 returns-clause-unmade g c =
     subst (λ xs. IsUnmade g.B.Bay.files g.B.Faulty.faults c.args.settings.now c.args.bays.now.items xs c.in-Err.status) (sym c.bring_back.ensures.bays) c.in-Err.ensures.unmade
 
-pub fill_rooms-requires-clause-cones_room : goal.fill_rooms-requires-clause-cones_room
-fill_rooms-requires-clause-cones_room g c = omega (arith, c.cones.ensures, c.in-Ok.ensures.capacity)
-
 pub returns-in_default-clause-kept : goal.returns-in_default-clause-kept
 returns-in_default-clause-kept g c = are_same g.B.Bay.files g.B.Faulty.faults g.B.Faulty.mark c.args.bays.now.items
 
