@@ -3,6 +3,7 @@ pub mod AdmitsPacket
 pub mod AdoptLaws
 pub mod AdoptStands
 pub mod AppendLaws
+pub mod BeginLaws
 pub mod BinLaws
 pub mod BreaksOff
 pub mod Calls
@@ -20,6 +21,7 @@ pub mod KeyCounted
 pub mod KeyLemmas
 pub mod KeyStep
 pub mod KeyTaken
+pub mod KeysRecounted
 pub mod KeysReplayed
 pub mod KeysTaken
 pub mod LogLaws
@@ -42,6 +44,7 @@ pub mod StandLaws
 pub mod StepLaws
 pub mod TakeLaws
 pub mod TallyLaws
+pub mod TextLaws
 pub mod TimeLaws
 pub mod TotalLaws
 pub mod UnreadLaws

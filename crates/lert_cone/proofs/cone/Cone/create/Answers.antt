@@ -1,4 +1,7 @@
-use Rattle.std.proofs.Common.{ap, Err}
+use Rattle.std.proofs.Common.{◌≡◌, ◌∙◌, None, Err, ap, refl, false}
+use Rattle.lert_reports.specs.declared.log_point.LogPoint.{LogPoint}
+use Rattle.lert_cone.specs.Record.{LogPlace}
+use Rattle.lert_cone.specs.declared.state.ConeState.{ConeState}
 use Rattle.lert_gatelog.specs.Gated.{Log}
 use Rattle.lert_cone.proofs.StandLaws.{new_cone, new_stands, new_was_sound}
 use Rattle.lert_cone.proofs.cone.Cone.create.Goals as goal
@@ -26,3 +29,56 @@ returns-in-Ok-clause-stands_for g c =
 
 pub returns-in-Err-clause-not_fresh : goal.returns-in-Err-clause-not_fresh
 returns-in-Err-clause-not_fresh g c seen told same = c.in-Err.ensures.not_fresh seen told (ap Err same)
+
+pub returns-in-Ok-clause-made : goal.returns-in-Ok-clause-made
+returns-in-Ok-clause-made g c =
+    let last_is : c.without_record.result ≡ record { n0 = 0; offset = 32; first = 1; closed = false; log_end = 8 } =
+    c.without_record.ensures
+    ∙ ap (λ at. (let last : LogPoint = record { n0 = 0; offset = 32; first = 1; closed = false; log_end = at } in last))
+    (c.gate.ensures ∙ ap (λ (log : LogPlace). log.gate) c.in-Ok.ensures.log) in
+    λ i. record {
+      bay = c.begin.new.bay;
+      made = c.of.ensures i;
+      listing = c.into_parts-tally.ensures.listing i;
+      rows = c.into_parts-tally.ensures.rows i;
+      reports = c.into_parts-tally.ensures.none i;
+      events = 0;
+      state = ConeState.Running;
+      over = None;
+      gate = (c.in-Ok.ensures.journal i).gate;
+      log = c.in-Ok.ensures.log i;
+      last = last_is i;
+    }
+
+pub returns-in-Ok-clause-kept : goal.returns-in-Ok-clause-kept
+returns-in-Ok-clause-kept g c = record {
+  time = c.begin.ensures.kept.time;
+  never_falls = c.begin.ensures.kept.never_falls;
+  failed = λ never. absurd never;
+  mark = c.begin.ensures.kept.mark;
+  journal = c.begin.ensures.kept.journal;
+}
+
+pub returns-in-Ok-clause-fresh : goal.returns-in-Ok-clause-fresh
+returns-in-Ok-clause-fresh g c = c.in-Ok.ensures.fresh
+
+pub returns-in-Ok-clause-frames : goal.returns-in-Ok-clause-frames
+returns-in-Ok-clause-frames g c = c.begin.ensures.frames
+
+pub into_parts-tally-requires-clause-room : goal.into_parts-tally-requires-clause-room
+into_parts-tally-requires-clause-room g c = c.requires.room
+
+pub returns-in-Err-clause-kept : goal.returns-in-Err-clause-kept
+returns-in-Err-clause-kept g c = record {
+  time = c.begin.ensures.kept.time;
+  never_falls = c.begin.ensures.kept.never_falls;
+  failed = λ same. c.in-Err.ensures.kept.failed (ap Err same);
+  mark = c.begin.ensures.kept.mark;
+  journal = c.begin.ensures.kept.journal;
+}
+
+pub returns-in-Err-clause-unwritten : goal.returns-in-Err-clause-unwritten
+returns-in-Err-clause-unwritten g c = c.in-Err.ensures.unwritten
+
+pub returns-in-Err-clause-handed_back : goal.returns-in-Err-clause-handed_back
+returns-in-Err-clause-handed_back g c = (refl, c.begin.ensures.frames)

@@ -1,11 +1,12 @@
 -- The text that was written is what a log appends for the record; each part is that of the log's own `append`.
-use Rattle.std.proofs.Common.{◌≡◌, ◌+◌, ◌≤◌, ℕ, [], ◌∷◌, ◌++◌, length, ap, sym, subst, ◌∙◌, arith}
+use Rattle.std.proofs.Common.{◌≡◌, ◌+◌, ◌≤◌, ◌<◌, ℕ, [], ◌∷◌, ◌++◌, length, ap, sym, subst, ◌∙◌, arith}
 use Rattle.std.specs.Result.{is_err}
 use Rattle.std.proofs.lemmas.Bool.{false≢true}
 use Rattle.lert_bay.specs.Files.{Turns}
 use Rattle.lert_gatelog.specs.Gated.{IsClosed, IsGated, Log, next_gate}
 use Rattle.lert_gatelog.specs.Kept.{InEach, IsWithOrWithout, IsWhollySettled, KeepsBefore, KeepsOthers, OthersStay}
 use Rattle.lert_cone.specs.Record.{LogPlace, payload_at, payload_len}
+use Rattle.lert_cone.proofs.TextLaws.{few_new, room_new, reach_new}
 use Rattle.lert_cone.proofs.RecordLaws.{refused_record, text_at, text_long, payload_long, is_appendix}
 use Rattle.lert_bay.specs.Kept.{Bays}
 use Rattle.lert_cone.proofs.report_log.ReportLog.append.Given as given
@@ -21,6 +22,30 @@ bays g = record {
   left_since = g.B.Bay.left_since;
   handed_out = g.B.Bay.handed_out;
 }
+
+pub write_log-len-requires-clause-few : goal.write_log-len-requires-clause-few
+write_log-len-requires-clause-few g c =
+    let log : LogPlace = record { gate = c.self.inside.log.gate; most = c.self.inside.log.most; named = c.self.inside.named; marks = c.self.inside.marks } in
+    few_new log c.args.directory.now c.args.reports.now
+    (subst (λ (v : LogPlace). payload_len v c.args.directory.now c.args.reports.now ≤ v.most) (sym c.self.view_is) c.requires.fits) c.gate.ensures.most
+
+pub write_log-len-requires-clause-room : goal.write_log-len-requires-clause-room
+write_log-len-requires-clause-room g c =
+    let log : LogPlace = record { gate = c.self.inside.log.gate; most = c.self.inside.log.most; named = c.self.inside.named; marks = c.self.inside.marks } in
+    room_new log c.args.directory.now c.args.reports.now
+    (subst (λ (v : LogPlace). payload_len v c.args.directory.now c.args.reports.now ≤ v.most) (sym c.self.view_is) c.requires.fits)
+    (length c.args.buffer.now)
+    (subst (λ (v : LogPlace). v.most + 5 ≤ length c.args.buffer.now) (sym c.self.view_is) c.requires.room)
+
+pub append-requires-clause-reach : goal.append-requires-clause-reach
+append-requires-clause-reach g c =
+    let log : LogPlace = record { gate = c.self.inside.log.gate; most = c.self.inside.log.most; named = c.self.inside.named; marks = c.self.inside.marks } in
+    reach_new log c.args.directory.now c.args.reports.now
+    (subst (λ (v : LogPlace). payload_len v c.args.directory.now c.args.reports.now ≤ v.most) (sym c.self.view_is) c.requires.fits) _ _
+    (text_long log c.args.kind c.args.n0 c.args.directory.now c.args.reports.now c.oldest-mark.result c.oldest-mark.ensures c.write_log-len.result c.write_log-len.new.into
+    c.write_log-len.ensures.text)
+    (payload_long log c.args.kind c.args.n0 c.args.directory.now c.args.reports.now)
+    (subst (λ (v : LogPlace). v.gate + v.most + 6 < 9223372036854775808) (sym c.self.view_is) c.requires.reach)
 
 pub append-requires-clause-text : goal.append-requires-clause-text
 append-requires-clause-text g c =
