@@ -1,6 +1,7 @@
-use Rattle.std.proofs.Common.{◌≡◌, ◌++◌, false, Option, ap, sym, ◌∙◌, subst}
+use Rattle.std.proofs.Common.{◌≡◌, ◌++◌, false, Option, ap, refl, sym, ◌∙◌, subst}
 use Rattle.lert_bay.specs.Kept.{Bays}
 use Rattle.lert_bay.proofs.KeptLaws.{IsLawful}
+use Rattle.lert_levels.specs.OnDisk.{OnDisk}
 use Rattle.lert_cone.specs.Due.{Dues, started}
 use Rattle.lert_cone.specs.Tally.{Tallied, IsCounted, due_in}
 use Rattle.lert_cone.proofs.EndCounted.{not_ended, no_room_left, all_counted}
@@ -87,3 +88,42 @@ returns g c =
     c.self.inside.levels.settings c.self.invariant.levels_settings c.self.invariant.valid c.self.invariant.named counted c.self.inside.len c.self.invariant.len_is
     c.begin.new.self c.scan_into-due.result.0 start_is c.args.bay.now c.scan_into-due.new.bay c.scan_into-due.new.levels
     still scans (sym c.is_full-is_full.ensures.value ∙ c.if-is_full.false))
+
+pub scan_into-due-requires-clause-start : goal.scan_into-due-requires-clause-start
+scan_into-due-requires-clause-start g c = c.begin.ensures.took
+
+pub scan_into-due-requires-clause-settings : goal.scan_into-due-requires-clause-settings
+scan_into-due-requires-clause-settings g c = c.self.invariant.young_settings ∙ sym c.self.invariant.levels_settings
+
+pub invariant_of-self : goal.invariant_of-self
+invariant_of-self g c = record {
+  valid = c.self.invariant.valid;
+  named = c.self.invariant.named;
+  young_settings = c.self.invariant.young_settings;
+  levels_settings = ap (λ (l : OnDisk). l.settings) c.scan_into-due.ensures.stays ∙ c.self.invariant.levels_settings;
+  there = refl;
+  len_is = c.self.invariant.len_is;
+  flush_is = c.self.invariant.flush_is;
+}
+
+pub invariant_of-self-2 : goal.invariant_of-self-2
+invariant_of-self-2 g c = record {
+  valid = c.self.invariant.valid;
+  named = c.self.invariant.named;
+  young_settings = c.self.invariant.young_settings;
+  levels_settings = ap (λ (l : OnDisk). l.settings) c.scan_into-due.ensures.stays ∙ c.self.invariant.levels_settings;
+  there = refl;
+  len_is = c.self.invariant.len_is;
+  flush_is = c.self.invariant.flush_is;
+}
+
+pub invariant_of-self-then-is_full : goal.invariant_of-self-then-is_full
+invariant_of-self-then-is_full g c = record {
+  valid = c.self.invariant.valid;
+  named = c.self.invariant.named;
+  young_settings = c.self.invariant.young_settings;
+  levels_settings = ap (λ (l : OnDisk). l.settings) c.scan_into-due.ensures.stays ∙ c.self.invariant.levels_settings;
+  there = refl;
+  len_is = c.self.invariant.len_is;
+  flush_is = c.self.invariant.flush_is;
+}
