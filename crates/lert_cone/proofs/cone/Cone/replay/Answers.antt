@@ -5,6 +5,7 @@ use Rattle.lert_bay.specs.Files.{Files}
 use Rattle.lert_bay.proofs.KeptLaws.{calls_as}
 use Rattle.lert_gatelog.specs.Gated.{IsClosed, Log}
 use Rattle.lert_journal.specs.Payload.{payload_of}
+use Rattle.lert_reports.specs.Log.{most_record}
 use Rattle.lert_spec.specs.Mix.{cone_of}
 use Rattle.lert_cone.specs.declared.refusal.ReplayFault.{ReplayFault}
 use Rattle.lert_cone.specs.declared.refusal.ReplayFault.TheVariants.{Failed, Unsound}
@@ -315,6 +316,31 @@ read_packet-requires-clause-most g c = ap (λ (j : Log). j.most) c.at_gate-self-
 
 pub read_packet-requires-clause-entry : goal.read_packet-requires-clause-entry
 read_packet-requires-clause-entry g c = subst (λ n. n ≤ c.self.inside.entry.keys.room) c.self.invariant.keys_roomy (le_refl _)
+
+pub read_packet-requires-clause-file : goal.read_packet-requires-clause-file
+read_packet-requires-clause-file g c = ap (λ (j : Log). j.file) c.at_gate-self-inside.ensures
+
+most_fits : (most payload record_ room here : ℕ) → most ≡ payload → room ≡ max payload record_ + 5 → here ≡ room → most ≤ here
+most_fits most payload record_ room here most_is roomy here_is = omega (arith, most_is, roomy, here_is)
+
+pub read_packet-requires-clause-room : goal.read_packet-requires-clause-room
+read_packet-requires-clause-room g c =
+    let most_is = ap (λ (j : Log). j.most) c.at_gate-self-inside.ensures ∙ c.greatest_payload-most.ensures.value ∙ ap most_payload c.settings.ensures in
+    most_fits c.at_gate-self-inside.result.most (most_payload c.self.inside.tally.listing.settings) (most_record c.self.inside.tally.listing.settings)
+    (length c.self.inside.buffer.items) (length c.deref_mut.result.now) most_is c.self.invariant.roomy (ap (length {A = ℕ}) c.deref_mut.ensures.value)
+
+pub read_packet-requires-clause-reach : goal.read_packet-requires-clause-reach
+read_packet-requires-clause-reach g c = subst (λ n. n ≤ 4611686018427387904) (sym (ap (λ (j : Log). j.gate) c.at_gate-self-inside.ensures)) c.requires.reach
+
+pub read_packet-requires-clause-place : goal.read_packet-requires-clause-place
+read_packet-requires-clause-place g c =
+    let replaying : c.self.inside.state ≡ Replaying = subst (λ (v : Standing g.row.B.Denot). v.state ≡ Replaying) (sym c.self.view_is) c.requires.replaying in
+    (c.self.invariant.replaying replaying).recounted.n0_fits
+
+pub read_packet-requires-clause-fits : goal.read_packet-requires-clause-fits
+read_packet-requires-clause-fits g c =
+    let replaying : c.self.inside.state ≡ Replaying = subst (λ (v : Standing g.row.B.Denot). v.state ≡ Replaying) (sym c.self.view_is) c.requires.replaying in
+    (c.self.invariant.replaying replaying).recounted.fits
 
 pub returns-in-Err-clause-broke : goal.returns-in-Err-clause-broke
 returns-in-Err-clause-broke = broken_record
