@@ -236,3 +236,6 @@ returns g c =
     c.ranges.key.fits own still brings (c.self.inside.unread ++ c.push.new.self)
     (ap (λ keys. c.self.inside.unread ++ keys) c.push.ensures ∙ sym (append_assoc c.self.inside.unread c.self.inside.taken (c.args.key ∷ [])))
     (sym c.is_full.ensures.value ∙ c.if-is_full.false))
+
+pub bring-requires-clause-start : goal.bring-requires-clause-start
+bring-requires-clause-start g c = c.begin.ensures.took
