@@ -25,6 +25,14 @@ none_own number (x ∷ xs) none = absurd (clash (ap (λ (b : Bool). cond b (x �
     clash : {A : Type 0} {y : A} {ys : List A} → y ∷ ys ≡ [] → ⊥
     clash e = cc
 
+-- room for one worker more
+pub has_room : {A : Type 0} (xs : List A) (len capacity number workers : ℕ) → len ≡ length xs → 1 ≤ number → length xs + number ≡ workers → workers ≤ capacity → len < capacity
+has_room xs len capacity number workers long low total room = omega (arith, long, low, total, room)
+
+-- a sum with nothing behind
+pub none_behind : (hi behind top : ℕ) → behind ≡ 0 → hi + behind ≡ top → hi ≡ top
+none_behind hi behind top none total = omega (arith, none, total)
+
 module _ {H : Type 0} where
   pub quiet_below : (at : ℕ) (pass : FleetPassSight H ConeFault) → IsQuiet pass → IsQuiet (below at pass)
   quiet_below at pass quiet = record {
@@ -176,6 +184,9 @@ module _ {H : Type 0} where
           let same : worker ≡ found = same_Some worker found (sym (slice_get-seam xs worker []) ∙ (ap (slice_get (xs ++ worker ∷ [])) place_is ∙ is)) in
           subst (λ k. IsHired fleet s k found) (let k : number ≡ n = omega (arith, at, e, place_is) in k) (subst (IsHired fleet s number) same one)
     ]
+
+    pub hired_none : (s : Numbers) (top : ℕ) (xs : List (Working S H)) → xs ≡ [] → AreHired fleet s top xs
+    hired_none s top xs none = λ place number worker is at. absurd (none-some worker (ap (λ (ys : List (Working S H)). slice_get ys place) (sym none) ∙ is))
 
     pub hired_leave : (s : Numbers) (top also : ℕ) (xs : List (Working S H)) → AreHired fleet s top xs → also ≡ top → AreLeaving fleet also xs
     hired_leave s top also xs are same = λ place number worker is e.

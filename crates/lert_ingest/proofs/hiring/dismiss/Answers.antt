@@ -1,5 +1,6 @@
-use Rattle.std.proofs.Common.{◌∙◌, ◌+◌, length}
-use Rattle.lert_ingest.proofs.Passing.{is_behind, leaves, new_total, still_leaving, still_quiet, still_shows}
+use Rattle.std.proofs.Common.{◌∙◌, ◌+◌, length, refl, sym, subst, arith}
+use Rattle.lert_ingest.specs.Crew.{Shows}
+use Rattle.lert_ingest.proofs.Passing.{is_behind, leaves, longer, new_total, none_behind, still_leaving, still_quiet, still_shows}
 use Rattle.lert_ingest.proofs.hiring.dismiss.Goals as goal
 
 pub into_pass-requires : goal.into_pass-requires
@@ -39,3 +40,37 @@ loop-worker-preserved g c = record {
       c.loop-worker.invariant.leaving c.loop-worker.invariant.total c.into_pass.result c.into_pass.ensures c.join.new.pass c.join.ensures.joined brought turned c.args.pass.lo
       (c.loop-worker.invariant.shows brought turned one all);
 }
+
+pub loop-worker-init : goal.loop-worker-init
+loop-worker-init g c = record {
+  belongs = c.requires.belongs;
+  lo_is = refl;
+  total = refl;
+  leaving = c.requires.leaving;
+  quiet = λ one all. (one, all);
+  shows = λ brought turned one all. (one, all);
+}
+
+pub loop-worker-smaller : goal.loop-worker-smaller
+loop-worker-smaller g c =
+    let n = longer c.args.fleet.now c.pop.new.self.items c.loop-worker.crew.items c.in-Some.worker c.in-Some.ensures.items in omega (arith, n)
+
+pub destroy_empty-requires : goal.destroy_empty-requires
+destroy_empty-requires g c = c.in_default.ensures.cases.1
+
+pub returns-clause-pass : goal.returns-clause-pass
+returns-clause-pass g c = record {
+  belongs = c.loop-worker.invariant.belongs;
+  lo_is = c.loop-worker.invariant.lo_is;
+  hi_is = none_behind c.loop-worker.pass.hi (length c.loop-worker.crew.items) (c.args.pass.hi + length c.args.crew.items)
+      (sym c.loop-worker.crew.ok.0 ∙ c.in_default.ensures.cases.0) c.loop-worker.invariant.total;
+}
+
+pub returns-clause-quiet : goal.returns-clause-quiet
+returns-clause-quiet g c = λ one all. (c.loop-worker.invariant.quiet one all).0
+
+pub returns-clause-shows : goal.returns-clause-shows
+returns-clause-shows g c = λ brought turned one all.
+    let top = none_behind c.loop-worker.pass.hi (length c.loop-worker.crew.items) (c.args.pass.hi + length c.args.crew.items)
+    (sym c.loop-worker.crew.ok.0 ∙ c.in_default.ensures.cases.0) c.loop-worker.invariant.total in
+    subst (λ n. Shows brought turned c.args.pass.lo n c.loop-worker.pass) top (c.loop-worker.invariant.shows brought turned one all).0
