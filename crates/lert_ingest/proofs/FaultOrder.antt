@@ -9,8 +9,10 @@ use Rattle.lert_cone.specs.Wrote.{Anything}
 use Rattle.lert_ingest.specs.Back.{IsSeen}
 use Rattle.lert_cone.specs.declared.state.ConeState.{ConeState}
 use Rattle.lert_fleet.proofs.Places.{read_at}
-use Rattle.lert_ingest.specs.Faults.{earlier, earliest, fault_at, fault_of, goes_before, number_in, rank, state_fault}
+use Rattle.lert_ingest.specs.Faults.{earlier, earliest, end_at, end_fault, end_of, fault_at, fault_of, goes_before, number_in, rank, state_fault}
 use Rattle.lert_ingest.specs.declared.status.Status.{Status}
+use Rattle.lert_worker.specs.Ran.{Worked}
+use Rattle.lert_worker.specs.declared.end.WorkerEnd.{WorkerEnd}
 use Rattle.lert_ingest.proofs.PartLaws.{eqb_true}
 
 -- a status isn't answered later than another one
@@ -160,6 +162,12 @@ pub fault_there : {B : Type 0} (cones : List (Standing B)) (cone : ℕ) (standin
     standing ≡ get_or cones cone standing → st ≡ standing.state → fault ≡ state_fault cone st → fault ≡ fault_at cones cone
 fault_there cones cone standing st fault below is state_is fault_is =
     fault_is ∙ (ap (state_fault cone) state_is ∙ sym (ap (fault_of cone) (read_at cones cone standing below is)))
+
+-- the fault of a worker whose end was read
+pub end_there : {T P : Type 0} (workers : List (Worked T P)) (by : ℕ) (worker : Worked T P) (end : WorkerEnd) (fault : Option Status) → by < length workers →
+    worker ≡ get_or workers by worker → end ≡ worker.end → fault ≡ end_fault end → fault ≡ end_fault (end_at workers by)
+end_there workers by worker end fault below is end_is fault_is =
+    fault_is ∙ (ap end_fault end_is ∙ sym (ap (λ o. end_fault (end_of o)) (read_at workers by worker below is)))
 
 -- one cone more that was looked at
 pub seen_more : {B : Type 0} (files : B → Option Files) (faults mark : B → ℕ) (cones : List (Standing B)) (cone : ℕ) (standing : Standing B) (st : ConeState)

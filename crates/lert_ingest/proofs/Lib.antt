@@ -13,6 +13,7 @@ pub mod Exactly
 pub mod Completing
 pub mod Answering
 pub mod Passing
+pub mod Pouring
 pub mod Starting
 pub mod Shared
 pub mod Assembling

@@ -14,6 +14,7 @@ use Rattle.lert_ingest.specs.Crews.{fresh_reader}
 use Rattle.lert_ingest.specs.Shares.{IsShare}
 use Rattle.lert_ingest.specs.Sharing.{AreFree, AreManned, ArePartTaken, AreShared, IsGiven, IsManned, IsPartTaken, IsTaken, WereTaken}
 use Rattle.lert_ingest.proofs.BayLaws.{slice_get-first, slice_get-seam, slice_get-set_other, slice_get-set_same}
+use Rattle.lert_ingest.proofs.Pouring.{given_there, rest_is}
 
 -- ---- lists
 
@@ -36,22 +37,6 @@ rest_at : {A : Type 0} (n : ℕ) (xs : List A) (x : A) → slice_get xs n ≡ So
 rest_at n [] x is = absurd (none-some x is)
 rest_at zero (y ∷ xs) x is = ap (λ z. z ∷ xs) (same_Some y x is)
 rest_at (suc n) (y ∷ xs) x is = rest_at n xs x is
-
--- the next of what is left of a list
-pub given_there : {A : Type 0} (n : ℕ) (xs : List A) (x : A) (rest : List A) → drop n xs ≡ x ∷ rest → slice_get xs n ≡ Some x
-given_there zero [] x rest is = absurd (let c = is in cc)
-given_there zero (y ∷ xs) x rest is = (let t : y ≡ x = cc in ap Some t)
-given_there (suc n) [] x rest is = absurd (let c = is in cc)
-given_there (suc n) (y ∷ xs) x rest is = given_there n xs x rest is
-
-rest_is : {A : Type 0} (n : ℕ) (xs : List A) (x : A) (rest : List A) → drop n xs ≡ x ∷ rest → rest ≡ drop (suc n) xs
-rest_is zero [] x rest e = absurd (let c = e in cc)
-rest_is zero (y ∷ xs) x rest e = (let t : xs ≡ rest = cc in sym t)
-rest_is (suc n) [] x rest e = absurd (let c = e in cc)
-rest_is (suc n) (y ∷ xs) x rest e = rest_is n xs x rest e
-
-pub given_rest : {A : Type 0} (n : ℕ) (xs : List A) (x : A) (rest : List A) → drop n xs ≡ x ∷ rest → rest ≡ drop (n + 1) xs
-given_rest n xs x rest is = rest_is n xs x rest is ∙ ap (λ k. drop k xs) (let e : suc n ≡ n + 1 = omega arith in e)
 
 -- ---- shares
 module _ (workers : ℕ) where
@@ -167,6 +152,22 @@ module _ {S H : Type 0} where
           let there_still = sym (given.others by apart) ∙ is in
           same by old new (λ e. apart (sym e ∙ ap (λ n. count % n) (sym manned.number))) (manned.each by old new was there_still)
 
+  pub given_one : (trace : ℕ) (source : S) (crew : List (Working S H)) (d other : Working S H) (reader : Reading S) → trace % length crew < length crew →
+      reader ≡ fresh_reader source →
+      other ≡ record (get_or crew (trace % length crew) d) {
+        traces = (get_or crew (trace % length crew) d).traces ++ trace ∷ [];
+        readers = (get_or crew (trace % length crew) d).readers ++ reader ∷ [];
+      } → IsGiven trace source crew (set crew (trace % length crew) other)
+  given_one trace source crew d other reader within fresh made = record {
+    number = length-set crew (trace % length crew) other;
+    here = λ old new was is.
+        let old_is : get_or crew (trace % length crew) d ≡ old =
+        same_Some (get_or crew (trace % length crew) d) old (sym (slice_get-get_or crew (trace % length crew) d within) ∙ was) in
+        let new_is : other ≡ new = same_Some other new (sym (slice_get-set_same crew (trace % length crew) other within) ∙ is) in
+        sym new_is ∙ (made ∙ λ i. record (old_is i) { traces = (old_is i).traces ++ trace ∷ []; readers = (old_is i).readers ++ fresh i ∷ [] });
+    others = λ by apart. slice_get-set_other crew (trace % length crew) by other apart;
+  }
+
   -- workers that were manned have traces below the next one alone
   pub all_below : (count : ℕ) (opened : List S) (olds mids : List (Working S H)) → AreManned count opened olds mids → (by : ℕ) (worker : Working S H) → slice_get mids by ≡ Some
       worker →
@@ -205,6 +206,15 @@ module _ {S H : Type 0} where
       IsTaken trace source crew (set crew (trace % length crew) other)
   taken_one trace source crew d other t reader within back from first =
       taken_at trace source crew (get_or crew (trace % length crew) d) other t reader within (slice_get-get_or crew (trace % length crew) d within) back from first
+
+  -- a worker whose first trace is told has one
+  pub none_first : (trace : ℕ) (crew : List (Working S H)) (d : Working S H) → trace % length crew < length crew →
+      ((worker : Working S H) → slice_get crew (trace % length crew) ≡ Some worker → (rest : List ℕ) × (worker.traces ≡ trace ∷ rest)) →
+      (get_or crew (trace % length crew) d).traces ≡ [] → ⊥
+  none_first trace crew d within first none =
+      let head = first (get_or crew (trace % length crew) d) (slice_get-get_or crew (trace % length crew) d within) in
+      let clash = sym head.1 ∙ none in
+      cc
 
   pub part_none : (count : ℕ) (olds : List (Working S H)) → AreShared count olds → (sources : List S) → sources ≡ [] → ArePartTaken 0 olds olds sources
   part_none count olds shared sources empty = record {

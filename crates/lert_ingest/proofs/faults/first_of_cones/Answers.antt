@@ -24,3 +24,18 @@ returns-clause-first g c =
 
 pub loop-cone-init : goal.loop-cone-init
 loop-cone-init g c = record { first_is = refl; seen = λ place standing none is. absurd (omega (arith, none)) }
+
+pub bounds-cones-cone : goal.bounds-cones-cone
+bounds-cones-cone g c = c.loop-cone-test.true
+
+pub loop-cone-smaller : goal.loop-cone-smaller
+loop-cone-smaller g c = let t = c.loop-cone-test.true in omega (arith, t)
+
+pub offset_bounds-cones-cone : goal.offset_bounds-cones-cone
+offset_bounds-cones-cone g c = let t = c.loop-cone-test.true in omega (arith, t)
+
+pub earlier-first-requires : goal.earlier-first-requires
+earlier-first-requires g c = tt
+
+pub state_fault-requires : goal.state_fault-requires
+state_fault-requires g c = tt

@@ -90,7 +90,8 @@ pub dismiss-requires-clause-belongs : goal.dismiss-requires-clause-belongs
 dismiss-requires-clause-belongs g c = c.in-Err.ensures.back.belongs
 
 pub dismiss-requires-in-Err-new-clause-belongs : goal.dismiss-requires-in-Err-new-clause-belongs
-dismiss-requires-in-Err-new-clause-belongs g c = subst (λ (p : FleetPassSight g.row.H.Denot ConeFault). IsPassOf p c.args.fleet.now) (sym c.in-Err-new.ensures.back) c.loop-number.invariant.pass_is.belongs
+dismiss-requires-in-Err-new-clause-belongs g c =
+    subst (λ (p : FleetPassSight g.row.H.Denot ConeFault). IsPassOf p c.args.fleet.now) (sym c.in-Err-new.ensures.back) c.loop-number.invariant.pass_is.belongs
 
 pub returns-in-Err-clause-number : goal.returns-in-Err-clause-number
 returns-in-Err-clause-number g c = tt

@@ -1,7 +1,18 @@
-use Rattle.std.proofs.Common.{arith}
-use Rattle.lert_ingest.proofs.Shared.{taken_one}
+use Rattle.std.proofs.Common.{length}
+use Rattle.std.proofs.lemmas.Nat.{mod_below}
+use Rattle.lert_ingest.proofs.Shared.{none_first, taken_one}
 use Rattle.lert_ingest.proofs.sharing.take_one.Goals as goal
 
 pub returns : goal.returns
 returns g c = taken_one c.args.trace c.into_source.result c.args.crew.now c.index-crew-by.result c.take_back.new.self c.in-Some._trace c.in-Some.reader
-    (let some = c.requires.some in omega (arith, some)) c.in-Some.ensures c.into_source.ensures c.requires.first
+    (mod_below c.args.trace (length c.args.crew.now) c.requires.some) c.in-Some.ensures c.into_source.ensures c.requires.first
+
+pub nonzero_rem-by : goal.nonzero_rem-by
+nonzero_rem-by g c = c.requires.some
+
+pub bounds-crew-by : goal.bounds-crew-by
+bounds-crew-by g c = mod_below c.args.trace (length c.args.crew.now) c.requires.some
+
+pub unreachable-requires : goal.unreachable-requires
+unreachable-requires g c = none_first c.args.trace c.args.crew.now c.index-crew-by.result
+    (mod_below c.args.trace (length c.args.crew.now) c.requires.some) c.requires.first c.in-None.ensures.0
