@@ -106,3 +106,18 @@ returns-in-Ok-lock_cones-clause-stopped g c = (ingested g c).stopped
 
 pub returns-in-Ok-lock_cones-clause-exact : goal.returns-in-Ok-lock_cones-clause-exact
 returns-in-Ok-lock_cones-clause-exact g c = (ingested g c).exact
+
+pub lock_cones-requires-clause-numbers : goal.lock_cones-requires-clause-numbers
+lock_cones-requires-clause-numbers g c κs within = (c.requires.least, c.requires.most)
+
+pub ingest_fleet-requires-clause-least : goal.ingest_fleet-requires-clause-least
+ingest_fleet-requires-clause-least g c κs within = c.requires.least
+
+pub ingest_fleet-requires-clause-most : goal.ingest_fleet-requires-clause-most
+ingest_fleet-requires-clause-most g c κs within = c.requires.most
+
+pub ingest_fleet-requires-clause-some : goal.ingest_fleet-requires-clause-some
+ingest_fleet-requires-clause-some g c κs within = c.requires.some
+
+pub ingest_fleet-requires-clause-few : goal.ingest_fleet-requires-clause-few
+ingest_fleet-requires-clause-few g c κs within = c.requires.few

@@ -213,3 +213,44 @@ first_of_cones-requires g c = (let n = c.close-cones.ensures.as_many.1 in let v 
 pub read_all-traces-requires-send-H : goal.read_all-traces-requires-send-H
 read_all-traces-requires-send-H g c κs within =
     param_send _ _ (arg_send _ no _ (cone_send _ _ _ g.B.Bay g.B.Faulty g.T.CountTable c.type_bounds.send-B c.type_bounds.send-T c.type_bounds.send-T-Cursor))
+
+pub make_crew-requires-clause-some : goal.make_crew-requires-clause-some
+make_crew-requires-clause-some g c = c.requires.least
+
+pub make_crew-requires-clause-most : goal.make_crew-requires-clause-most
+make_crew-requires-clause-most g c = c.requires.most
+
+pub make_crew-requires-clause-pass : goal.make_crew-requires-clause-pass
+make_crew-requires-clause-pass g c = c.requires.pass
+
+pub make_crew-requires-clause-quiet : goal.make_crew-requires-clause-quiet
+make_crew-requires-clause-quiet g c = c.requires.quiet
+
+pub give_traces-requires-clause-few : goal.give_traces-requires-clause-few
+give_traces-requires-clause-few g c = c.requires.few
+
+pub give_traces-requires-clause-some : goal.give_traces-requires-clause-some
+give_traces-requires-clause-some g c =
+    let number = ap (λ xs. length xs) c.deref_mut.ensures.value ∙ (c.line_up-crew.ensures.number ∙ c.in-Ok.ensures.number) in
+    let least = c.requires.least in omega (arith, number, least)
+
+pub take_traces-back-requires-clause-empty : goal.take_traces-back-requires-clause-empty
+take_traces-back-requires-clause-empty g c = c.requires.empty
+
+pub take_traces-back-requires-clause-room : goal.take_traces-back-requires-clause-room
+take_traces-back-requires-clause-room g c = let r = c.requires.room in let f = c.in-Err-give_traces.ensures.refused in omega (arith, r, f)
+
+pub close-requires-clause-belongs : goal.close-requires-clause-belongs
+close-requires-clause-belongs g c = c.in-Err.ensures.pass.belongs
+
+pub close-requires-in-Err-give_traces-clause-belongs : goal.close-requires-in-Err-give_traces-clause-belongs
+close-requires-in-Err-give_traces-clause-belongs g c = c.dismiss_all-pass.ensures.pass.belongs
+
+pub close-cones-requires-clause-belongs : goal.close-cones-requires-clause-belongs
+close-cones-requires-clause-belongs g c = c.dismiss_all-pass-2.ensures.pass.belongs
+
+pub earlier-first-requires : goal.earlier-first-requires
+earlier-first-requires g c = tt
+
+pub answer_of-requires : goal.answer_of-requires
+answer_of-requires g c = tt

@@ -39,3 +39,6 @@ earlier-first-requires g c = tt
 
 pub state_fault-requires : goal.state_fault-requires
 state_fault-requires g c = tt
+
+pub overflow_cast-cone : goal.overflow_cast-cone
+overflow_cast-cone g c = record { fits = (let t = c.loop-cone-test.true in let f = c.requires in omega (arith, t, f)) }
