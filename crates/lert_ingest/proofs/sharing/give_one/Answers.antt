@@ -1,6 +1,5 @@
-use Rattle.std.proofs.Common.{◌∙◌, ◌%◌, length, get_or, ap}
+use Rattle.std.proofs.Common.{◌∙◌, length, ap}
 use Rattle.std.proofs.lemmas.Nat.{mod_below}
-use Rattle.std.proofs.lemmas.Option.{slice_get-get_or}
 use Rattle.lert_trace.specs.Reader.{Reading}
 use Rattle.lert_ingest.proofs.Pouring.{set_back}
 use Rattle.lert_ingest.proofs.Shared.{given_one}
@@ -21,13 +20,6 @@ returns-in-Err-clause-given g c = tt
 pub nonzero_rem-by : goal.nonzero_rem-by
 nonzero_rem-by g c = c.requires.some
 
-pub bounds-crew-by : goal.bounds-crew-by
-bounds-crew-by g c = mod_below c.args.trace (length c.args.crew.now) c.requires.some
-
-pub give-requires-clause-above : goal.give-requires-clause-above
-give-requires-clause-above g c = c.requires.above (c.args.trace % length c.args.crew.now) (get_or c.args.crew.now (c.args.trace % length c.args.crew.now) c.index-crew-by.result)
-    (slice_get-get_or c.args.crew.now (c.args.trace % length c.args.crew.now) c.index-crew-by.result (mod_below c.args.trace (length c.args.crew.now) c.requires.some))
-
 pub returns-in-Ok-clause-given : goal.returns-in-Ok-clause-given
 returns-in-Ok-clause-given g c = given_one c.args.trace c.args.source c.args.crew.now c.index-crew-by.result c.give.new.self c.new.result
     (mod_below c.args.trace (length c.args.crew.now) c.requires.some) c.new.ensures c.in-Ok.ensures.given
@@ -36,4 +28,4 @@ pub returns-in-Err-clause-back : goal.returns-in-Err-clause-back
 returns-in-Err-clause-back g c = c.into_source.ensures ∙ ap (λ (r : Reading g.row.S.Denot). r.source) (c.in-Err.ensures.back.0 ∙ c.new.ensures)
 
 pub returns-in-Err-clause-unchanged : goal.returns-in-Err-clause-unchanged
-returns-in-Err-clause-unchanged g c = set_back c.args.crew.now (c.args.trace % length c.args.crew.now) c.index-crew-by.result c.give.new.self c.in-Err.ensures.back.1
+returns-in-Err-clause-unchanged g c = set_back c.args.crew.now _ c.index-crew-by.result c.give.new.self c.in-Err.ensures.back.1
