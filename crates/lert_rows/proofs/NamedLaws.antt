@@ -1,6 +1,6 @@
 -- What a directory names: where the bins of a level lie, and that the frames and the positions say which rows they are.
 use Rattle.std.proofs.Common.{ℕ, ◌≡◌, ◌+◌, ◌-◌, ◌*◌, ◌/◌, ◌^◌, ◌<◌, ◌≤◌, zero, suc, cond, List, [], ◌∷◌, ◌++◌, length, map, get_or, take, drop, max}
-use Rattle.std.proofs.Common.{refl, ap, ap₂, sym, ◌∙◌, arith, inl, inr, subst, set, slice_index, slice_range, append-nil, length-append}
+use Rattle.std.proofs.Common.{refl, ap, ap₂, sym, ◌∙◌, arith, inl, inr, add-mul, add-suc, le_trans, subst, set, slice_index, slice_range, append-nil, length-append}
 use Rattle.std.specs.List.{range_with_len}
 use Rattle.std.proofs.lemmas.Bool.{cases_lt, lt-ltb, le-ltb}
 use Rattle.std.proofs.Math.Seq.{drop-cons, drop-append-add, get_or-append_seam}
@@ -81,15 +81,18 @@ ranges_run s n level positive =
 
 -- ---- rows with the same positions and the same directory are the same
 
+none_some : (n : ℕ) → 0 ≡ suc n → ⊥
+none_some n is = absurd (omega (arith, is))
+
 row_same : (xs ys : List BinAt) → map range_of xs ≡ map range_of ys → map (λ (bin : BinAt). bin.frame) xs ≡ map (λ (bin : BinAt). bin.frame) ys → xs ≡ ys
 row_same [] [] ranges_are frames_are = refl
-row_same [] (y ∷ ys) ranges_are frames_are = absurd (cc)
-row_same (x ∷ xs) [] ranges_are frames_are = absurd (cc)
+row_same [] (y ∷ ys) ranges_are frames_are = absurd (none_some (length (map range_of ys)) (ap length ranges_are))
+row_same (x ∷ xs) [] ranges_are frames_are = absurd (none_some (length (map range_of xs)) (sym (ap length ranges_are)))
 row_same (x ∷ xs) (y ∷ ys) ranges_are frames_are =
-    let range_is : range_of x ≡ range_of y = cc in
-    let frame_is : x.frame ≡ y.frame = cc in
-    let others : map range_of xs ≡ map range_of ys = cc in
-    let frames : map (λ (bin : BinAt). bin.frame) xs ≡ map (λ (bin : BinAt). bin.frame) ys = cc in
+    let range_is : range_of x ≡ range_of y = ap (λ (rs : List Range). get_or rs 0 (range_of x)) ranges_are in
+    let frame_is : x.frame ≡ y.frame = ap (λ (fs : List ℕ). get_or fs 0 0) frames_are in
+    let others : map range_of xs ≡ map range_of ys = ap (drop 1) ranges_are in
+    let frames : map (λ (bin : BinAt). bin.frame) xs ≡ map (λ (bin : BinAt). bin.frame) ys = ap (drop 1) frames_are in
     let first : x ≡ y = λ i. record { from = (range_is i).from; to = (range_is i).to; frame = frame_is i } in
     ap₂ (λ z zs. z ∷ zs) first (row_same xs ys others frames)
 
@@ -130,6 +133,16 @@ same_named s n text one other is is_too = same_rows s n one other is.at is_too.a
 
 -- ---- the part of a level in a directory
 
+counted : (at count : ℕ) → at + 1 + count - (at + 1) ≡ count
+counted at count = omega arith
+
+stands_within : (at count front row frames behind rest total : ℕ) → at ≡ front → count ≡ row → frames ≡ row → behind ≡ frames + rest → total ≡ front + suc behind →
+    at + 1 + count ≤ total
+stands_within at count front row frames behind rest total at_is count_is frames_are behind_is total_is = omega arith
+
+ends_behind : (at front row frames total : ℕ) → at ≡ front → frames ≡ row → total ≡ front + suc frames → at + (1 + row) ≡ total
+ends_behind at front row frames total at_is frames_are total_is = omega arith
+
 module _ (text : List ℕ) (named : List (List BinAt)) (text_is : directory_text named ≡ text) (i at : ℕ) (below : i < length named) (at_is : at ≡ length (directory_text (take i named)))
   where
     abbrev row : List BinAt
@@ -158,16 +171,13 @@ module _ (text : List ℕ) (named : List (List BinAt)) (text_is : directory_text
     -- it stands wholly in the text
     pub part_within : at + 1 + slice_index text at ≤ length text
     part_within =
-        let long = ap length whole in
-        let parts = length-append front (row_text row ++ rest) in
-        let row_long = length-append frames rest in
-        let named_long = length-map row (λ (bin : BinAt). bin.frame) in
-        omega (arith, count_there, at_is)
+        stands_within at (slice_index text at) (length front) (length row) (length frames) (length (frames ++ rest)) (length rest) (length text) at_is count_there
+        (length-map row (λ (bin : BinAt). bin.frame)) (length-append frames rest) (ap length whole ∙ length-append front (row_text row ++ rest))
 
     -- the frames follow
     pub frames_there : slice_range text (at + 1) (at + 1 + slice_index text at) ≡ frames
     frames_there =
-        let count : at + 1 + slice_index text at - (at + 1) ≡ length row = omega (arith, count_there) in
+        let count : at + 1 + slice_index text at - (at + 1) ≡ length row = counted at (slice_index text at) ∙ count_there in
         let behind : drop (at + 1) text ≡ frames ++ rest = ap₂ (λ a t. drop (a + 1) t) at_is whole ∙ drop-append-add front (row_text row ++ rest) 1 in
         ap₂ take count behind ∙ take_at frames rest (length row) (length-map row (λ (bin : BinAt). bin.frame))
 
@@ -176,25 +186,27 @@ module _ (text : List ℕ) (named : List (List BinAt)) (text_is : directory_text
     next_place =
         let more : directory_text (take (i + 1) named) ≡ front ++ row_text row =
         ap directory_text (take_more named i [] below) ∙ flat_map-append row_text (take i named) (row ∷ []) ∙ ap (λ xs. front ++ xs) (append-nil (row_text row)) in
-        let long = ap length more in
-        let parts = length-append front (row_text row) in
-        let named_long = length-map row (λ (bin : BinAt). bin.frame) in
-        omega (arith, at_is)
+        ends_behind at (length front) (length row) (length frames) (length (directory_text (take (i + 1) named))) at_is (length-map row (λ (bin : BinAt). bin.frame))
+        (ap length more ∙ length-append front (row_text row))
 
 -- ---- the rows as they are put back
+
+-- so many whole intervals below a number of 32 bits and sixteen more of 48
+whole_fits : (n most low wide q number : ℕ) → low ≤ n → n ≤ most → most < 2 ^ 32 → wide * q ≤ low → suc number * wide ≤ 16 * 2 ^ 48 → suc (q + number) * wide < 2 ^ 64
+whole_fits n most low wide q number under within events whole bins =
+    let parts : suc (q + number) * wide ≡ wide * q + suc number * wide =
+    ap (λ a. a * wide) (sym (add-suc q number)) ∙ add-mul q (suc number) wide ∙ ap (λ a. a + suc number * wide) (mul_comm q wide) in
+    omega (arith, parts, bins, whole, under, events, within)
 
 -- the intervals of a level's bins end in reach of a number of 64 bits
 pub interval_within : (s : Numbers) → IsValid s → (level n number place wide low : ℕ) → level ≤ s.levels → n ≤ capacity s → wide ≡ span s level → low ≡ edge s level n →
     number < s.bins → place ≡ low / wide + number → suc place * wide < 2 ^ 64
 interval_within s valid level n number place wide low last within wide_is low_is few place_is =
-    let events = capacity_to s valid in
-    let under = edge_within s level n in
-    let whole = mul-div-le low wide in
-    let narrow = span_within s level valid.limits (omega (arith, last, valid.limits.levels_to)) in
-    let bins = mul-le (suc number) wide 16 (2 ^ 48) (omega (arith, few, valid.limits.bins_to)) (omega (arith, narrow, wide_is)) in
-    let parts : suc (low / wide + number) * wide ≡ wide * (low / wide) + suc number * wide = grind arith in
-    let here = ap (λ p. suc p * wide) place_is in
-    omega (arith, here, parts, bins, whole, under, events, within, low_is)
+    let narrow = span_within s level valid.limits (le_trans last valid.limits.levels_to) in
+    let bins = mul-le (suc number) wide 16 (2 ^ 48) (le_trans few valid.limits.bins_to) (subst (λ w. w ≤ 2 ^ 48) (sym wide_is) narrow) in
+    let under = subst (λ l. l ≤ n) (sym low_is) (edge_within s level n) in
+    subst (λ p. suc p * wide < 2 ^ 64) (sym place_is)
+    (whole_fits n (capacity s) low wide (low / wide) number under within (capacity_to s valid) (mul-div-le low wide) bins)
 
 -- the bins of as many intervals as a level has bins are the level's
 pub ranges_back : (s : Numbers) (n level wide low high count : ℕ) → 1 ≤ wide → wide ≡ span s level → low ≡ edge s level n → high ≡ edge s (level - 1) n →

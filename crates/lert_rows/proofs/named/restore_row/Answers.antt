@@ -1,5 +1,5 @@
-use Rattle.std.proofs.Common.{◌∙◌, ◌++◌, ◌∷◌, ◌/◌, [], map, suc, subst, ap, ap₂, sym, arith}
-use Rattle.std.proofs.lemmas.List.{map_push, take_more}
+use Rattle.std.proofs.Common.{◌≡◌, ℕ, ◌-◌, ◌<◌, ◌≤◌, min, ◌∙◌, ◌++◌, ◌∷◌, ◌/◌, [], length, map, suc, vec_capacity, add-zero, le_of_eq, le_trans, subst, ap, ap₂, sym, arith}
+use Rattle.std.proofs.lemmas.List.{length-map, length-take, map_push, take_all, take_more}
 use Rattle.std.proofs.lemmas.List.FromFn.{map-range_with_len_more}
 use Rattle.std.proofs.lemmas.Nat.{mul-le}
 use Rattle.lert_spec.specs.Limits.{IsValid}
@@ -8,6 +8,61 @@ use Rattle.lert_rows.specs.Ranges.{range_at}
 use Rattle.lert_rows.specs.Rows.{range_of}
 use Rattle.lert_rows.proofs.NamedLaws.{interval_within, ranges_back}
 use Rattle.lert_rows.proofs.named.restore_row.Goals as goal
+
+pub edge-low-requires-clause-level : goal.edge-low-requires-clause-level
+edge-low-requires-clause-level c = c.requires.to
+
+pub edge-low-requires-clause-events : goal.edge-low-requires-clause-events
+edge-low-requires-clause-events c = c.requires.within
+
+pub overflow_sub-level : goal.overflow_sub-level
+overflow_sub-level c = c.requires.from
+
+lower : (level most : ℕ) → level ≤ most → level - 1 ≤ most
+lower level most to = omega arith
+
+pub edge-high-requires-clause-level : goal.edge-high-requires-clause-level
+edge-high-requires-clause-level c = lower c.args.level c.args.settings.now.levels c.requires.to
+
+pub edge-high-requires-clause-events : goal.edge-high-requires-clause-events
+edge-high-requires-clause-events c = c.requires.within
+
+pub span-wide-requires : goal.span-wide-requires
+span-wide-requires c = c.requires.to
+
+pub nonzero_div-interval : goal.nonzero_div-interval
+nonzero_div-interval c = c.span-wide.ensures.positive
+
+pub loop-frame-init : goal.loop-frame-init
+loop-frame-init c = record {
+  place = sym (add-zero (c.edge-low.result / c.span-wide.result));
+  ranges = ap (map range_of) c.clear.ensures.items;
+  frames = ap (map (λ (bin : BinAt). bin.frame)) c.clear.ensures.items;
+  room = le_trans c.requires.room (le_of_eq (sym c.clear.ensures.capacity));
+  grows = le_of_eq (sym c.clear.ensures.capacity);
+}
+
+pub bounds-frames-frame-index : goal.bounds-frames-frame-index
+bounds-frames-frame-index c = c.loop-frame-test.true
+
+pub bin_in-requires-clause-some : goal.bin_in-requires-clause-some
+bin_in-requires-clause-some c = c.span-wide.ensures.positive
+
+-- so many as were read, and the room is for all
+room_for : (count index all room : ℕ) → count ≡ min index all → index < all → all ≤ room → count < room
+room_for count index all room is below fit = omega arith
+
+pub put-requires : goal.put-requires
+put-requires c =
+    room_for (length c.loop-frame.row.items) c.loop-frame.frame-index (length c.args.frames.now) (vec_capacity c.loop-frame.row)
+    (sym (length-map c.loop-frame.row.items (λ (bin : BinAt). bin.frame)) ∙ ap length c.loop-frame.invariant.frames ∙ length-take c.loop-frame.frame-index c.args.frames.now)
+    c.loop-frame-test.true c.loop-frame.invariant.room
+
+pub returns-clause-frames : goal.returns-clause-frames
+returns-clause-frames c = c.loop-frame.invariant.frames ∙ take_all c.loop-frame.frame-index c.args.frames.now c.loop-frame-test.false
+
+pub returns-clause-capacity : goal.returns-clause-capacity
+returns-clause-capacity c = c.loop-frame.invariant.grows
 
 pub bin_in-requires-clause-last : goal.bin_in-requires-clause-last
 bin_in-requires-clause-last c =
