@@ -1,8 +1,9 @@
-use Rattle.std.proofs.Common.{◌+◌, ◌<◌, ◌≤◌, ◌∙◌, length, map, subst, sym, arith}
+use Rattle.std.proofs.Common.{ℕ, ◌+◌, ◌<◌, ◌≤◌, ◌∙◌, length, map, subst, sym, arith}
 use Rattle.std.proofs.lemmas.List.{take_all, length-map}
 use Rattle.std.proofs.lemmas.Result.{err_from_is_err_and}
 use Rattle.lert_bay.specs.declared.bay.TheConstants.{FRAMES}
-use Rattle.lert_bay.proofs.KeptLaws.{IsLawful, reads_on, reads_as}
+use Rattle.lert_bay.proofs.KeptLaws.{IsLawful, reads_none, reads_on, reads_as}
+use Rattle.lert_frames.proofs.FaultLaws.{not_err}
 use Rattle.lert_frames.proofs.WriteLaws.{same_err}
 use Rattle.lert_spec.specs.declared.numbers.Numbers.{Numbers}
 use Rattle.lert_rows.specs.Loading.{RowBreaks}
@@ -16,6 +17,18 @@ use Rattle.lert_levels.proofs.secure.secure_levels.Goals as goal
 
 lawful : (g : given.Over) → IsLawful (bays g)
 lawful g = record { as_read = g.met.B.Bay.as_read; since_now = g.met.B.Bay.since_now; only_now = g.met.B.Bay.only_now; since_earlier = g.met.B.Bay.since_earlier }
+
+some_more : (n : ℕ) → 1 ≤ n + 1
+some_more n = omega arith
+
+pub loop-lower-init : goal.loop-lower-init
+loop-lower-init g c = record { secure = λ seen told long. tt; room = c.requires.same; only_reads = reads_none (bays g) (lawful g) c.args.bay.now ⊥ (λ none. none) }
+
+pub bounds-rows-lower : goal.bounds-rows-lower
+bounds-rows-lower g c = c.loop-lower-test.true
+
+pub secure_row-requires-clause-first : goal.secure_row-requires-clause-first
+secure_row-requires-clause-first g c = some_more c.loop-lower.lower
 
 pub secure_row-requires-clause-last : goal.secure_row-requires-clause-last
 secure_row-requires-clause-last g c =
@@ -67,3 +80,26 @@ returns-clause-secure g c seen told long =
     subst (AreSecure c.args.settings.now (seen FRAMES) 1)
     (take_all c.loop-lower.lower (map (λ row. row.items) c.args.rows.now) (omega (arith, c.loop-lower-test.false, length-map c.args.rows.now (λ row. row.items))))
     (c.loop-lower.invariant.secure seen told long)
+
+pub returns-clause-malformed : goal.returns-clause-malformed
+returns-clause-malformed g c seen told at is = absurd (not_err _ _ is)
+
+pub returns-clause-room : goal.returns-clause-room
+returns-clause-room g c = c.loop-lower.invariant.room
+
+pub returns-clause-only_reads : goal.returns-clause-only_reads
+returns-clause-only_reads g c = reads_as (bays g) (lawful g) c.args.bay.now c.loop-lower.bay ⊥ _ (λ is. not_err _ _ is) c.loop-lower.invariant.only_reads
+
+-- ---- a row that failed
+
+pub returns-in_err-secure_row-clause-secure : goal.returns-in_err-secure_row-clause-secure
+returns-in_err-secure_row-clause-secure g c seen told long = let p = err_from_is_err_and c.from_residual.result c.from_residual.ensures.1 in rw p.1 tt
+
+pub returns-in_err-secure_row-clause-room : goal.returns-in_err-secure_row-clause-room
+returns-in_err-secure_row-clause-room g c = c.in_err-secure_row.ensures.room ∙ c.loop-lower.invariant.room
+
+pub returns-in_err-secure_row-clause-only_reads : goal.returns-in_err-secure_row-clause-only_reads
+returns-in_err-secure_row-clause-only_reads g c =
+    let p = err_from_is_err_and c.from_residual.result c.from_residual.ensures.1 in
+    rw (p.1, p.2) (reads_as (bays g) (lawful g) c.args.bay.now c.secure_row.new.bay _ _ (λ is. same_err _ _ is)
+    (reads_on (bays g) (lawful g) c.args.bay.now c.loop-lower.bay c.secure_row.new.bay ⊥ _ c.loop-lower.invariant.only_reads c.in_err-secure_row.ensures.only_reads))
