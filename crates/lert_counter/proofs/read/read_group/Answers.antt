@@ -1,4 +1,4 @@
-use Rattle.std.proofs.Common.{◌≡◌, ℕ, arith, Some, ◌++◌, ◌∷◌, List, length, get_or, drop, ap, ◌∙◌, sym, subst, inl, inr}
+use Rattle.std.proofs.Common.{◌≡◌, ℕ, ◌<◌, arith, Some, ◌++◌, ◌∷◌, List, length, get_or, drop, ap, ◌∙◌, sym, subst, inl, inr}
 use Rattle.lert_counter.specs.Group.{group}
 use Rattle.lert_counter.specs.Reading.{read_as, HasTwoZeros}
 use Rattle.std.proofs.Common.{length-append}
@@ -9,6 +9,14 @@ use Rattle.lert_counter.proofs.GroupLemmas.{length_group-positive}
 use Rattle.lert_counter.proofs.FrontLemmas.{short_of, read_one, begins_front}
 use Rattle.lert_counter.proofs.FrontLemmas.ShortOf.{known, alone_or_counter, behind_counter}
 use Rattle.lert_counter.proofs.read.read_group.Goals as goal
+
+-- what can't be, over plain values: a search would go through all that is known
+
+pos_zero : (n first : ℕ) → 0 < n → first ≡ n → first ≡ 0 → ⊥
+pos_zero n first some is none = absurd (omega (arith, some, is, none))
+
+less_zero : (n first : ℕ) → n < first → first ≡ 0 → ⊥
+less_zero n first less none = absurd (omega (arith, less, none))
 
 pub returns-then-is_empty-clause-in_run : goal.returns-then-is_empty-clause-in_run
 returns-then-is_empty-clause-in_run c = λ x count back counts text follows.
@@ -46,8 +54,8 @@ pub returns-in-Some-clause-in_run : goal.returns-in-Some-clause-in_run
 returns-in-Some-clause-in_run c = λ x count back counts text follows.
     elim (short_of c.args.width x count back c.args.rest.now (Some c.in-Some.group) counts text follows c.in-Some.ensures) [
       | known e ↦ e
-      | alone_or_counter z none long first which ↦ cc none
-      | behind_counter p none long first least ↦ cc none
+      | alone_or_counter z none long first which ↦ absurd (none-some _ (sym none))
+      | behind_counter p none long first least ↦ absurd (none-some _ (sym none))
     ]
 
 -- ---- digits may stand behind the first value
@@ -67,8 +75,8 @@ returns-clause-counter c = λ long below. c.read_counter.ensures
 pub returns-then-rest-eq0-clause-in_run : goal.returns-then-rest-eq0-clause-in_run
 returns-then-rest-eq0-clause-in_run c = λ x count back counts text follows.
     elim (short_of c.args.width x count back c.args.rest.now c.short_group.result counts text follows c.short_group.ensures) [
-      | known e ↦ cc (e, c.in_default.is)
-      | behind_counter p none long first least ↦ absurd (omega arith)
+      | known e ↦ absurd (none-some _ (sym c.in_default.is ∙ e))
+      | behind_counter p none long first least ↦ absurd (pos_zero x _ p first c.if-rest-eq0.true)
       | alone_or_counter z none long first which ↦ elim which [
         | inl e ↦ (let is : c.args.rest.now ≡ x ∷ back = text ∙ ap (λ n. group c.args.width x n ++ back) e ∙ ap (λ (t : List ℕ). t ++ back) (group-one c.args.width x) in
             c.read_zero.ensures.alone (λ zeros. follows.apart z (subst HasTwoZeros (ap (λ (t : List ℕ). drop 1 t) is) zeros))
@@ -81,10 +89,48 @@ returns-then-rest-eq0-clause-in_run c = λ x count back counts text follows.
 pub returns-clause-in_run : goal.returns-clause-in_run
 returns-clause-in_run c = λ x count back counts text follows.
     elim (short_of c.args.width x count back c.args.rest.now c.short_group.result counts text follows c.short_group.ensures) [
-      | known e ↦ cc (e, c.in_default.is)
-      | alone_or_counter z none long first which ↦ absurd (omega arith)
+      | known e ↦ absurd (none-some _ (sym c.in_default.is ∙ e))
+      | alone_or_counter z none long first which ↦ absurd (c.if-rest-eq0.false first)
       | behind_counter p none long first least ↦
           (let whole : c.args.rest.now ≡ group c.args.width (get_or c.args.rest.now 0 0) count ++ back = text ∙ ap (λ y. group c.args.width y count ++ back) (sym first) in
           c.read_counter.ensures.there count least counts.1 (begins_front c.args.rest.now (group c.args.width (get_or c.args.rest.now 0 0) count) back whole)
           ∙ ap (λ y. Some (read_as c.args.width y count)) first)
     ]
+
+-- ---- where the first values didn't decide, no clause of theirs speaks
+
+pub returns-then-rest-eq0-clause-alone : goal.returns-then-rest-eq0-clause-alone
+returns-then-rest-eq0-clause-alone c one = absurd (none-some _ (sym c.in_default.is ∙ c.short_group.ensures.alone one))
+
+pub returns-then-rest-eq0-clause-above : goal.returns-then-rest-eq0-clause-above
+returns-then-rest-eq0-clause-above c long some less = absurd (none-some _ (sym c.in_default.is ∙ c.short_group.ensures.above long some less))
+
+pub returns-then-rest-eq0-clause-twice : goal.returns-then-rest-eq0-clause-twice
+returns-then-rest-eq0-clause-twice c long some same = absurd (none-some _ (sym c.in_default.is ∙ c.short_group.ensures.twice long some same))
+
+pub returns-then-rest-eq0-clause-two_zeros : goal.returns-then-rest-eq0-clause-two_zeros
+returns-then-rest-eq0-clause-two_zeros c long first second third = absurd (none-some _ (sym c.in_default.is ∙ c.short_group.ensures.two_zeros long first second third))
+
+pub returns-then-rest-eq0-clause-three_zeros : goal.returns-then-rest-eq0-clause-three_zeros
+returns-then-rest-eq0-clause-three_zeros c long first second third = absurd (none-some _ (sym c.in_default.is ∙ c.short_group.ensures.three_zeros long first second third))
+
+pub returns-clause-alone : goal.returns-clause-alone
+returns-clause-alone c one = absurd (none-some _ (sym c.in_default.is ∙ c.short_group.ensures.alone one))
+
+pub returns-clause-above : goal.returns-clause-above
+returns-clause-above c long some less = absurd (none-some _ (sym c.in_default.is ∙ c.short_group.ensures.above long some less))
+
+pub returns-clause-twice : goal.returns-clause-twice
+returns-clause-twice c long some same = absurd (none-some _ (sym c.in_default.is ∙ c.short_group.ensures.twice long some same))
+
+pub returns-clause-two_zeros : goal.returns-clause-two_zeros
+returns-clause-two_zeros c long first second third = absurd (none-some _ (sym c.in_default.is ∙ c.short_group.ensures.two_zeros long first second third))
+
+pub returns-clause-three_zeros : goal.returns-clause-three_zeros
+returns-clause-three_zeros c long first second third = absurd (none-some _ (sym c.in_default.is ∙ c.short_group.ensures.three_zeros long first second third))
+
+pub returns-then-rest-eq0-clause-counter : goal.returns-then-rest-eq0-clause-counter
+returns-then-rest-eq0-clause-counter c long below = absurd (less_zero _ _ below c.if-rest-eq0.true)
+
+pub returns-clause-zero : goal.returns-clause-zero
+returns-clause-zero c long first second = absurd (c.if-rest-eq0.false first)
