@@ -12,11 +12,11 @@ stand_in() {
     chmod +x "$2"
 }
 
-# What the stand-in for rt does, in the folder of a crate: it fails, or it builds.
+# What the stand-ins for rt and rattle do: they fail, or rattle builds what is asked for last.
 rt_fails() { printf 'echo rt: no proof; exit 1\n' >small/bin/answer; }
 rt_builds() {
-    printf 'mkdir -p out/rlib; [ $1 = lib ] || { cp "%s" out/lert_program; exec out/lert_program; }\n' \
-        "$work/small/bin/program" >small/bin/answer
+    printf '%s\n' 'for made; do :; done' 'case $made in *.rlib) mkdir "$made" ;; *) : >"$made" ;; esac' \
+        'echo logic=proved functions=1' >small/bin/answer
 }
 
 # Or what the gate does, which leaves the program.
@@ -42,7 +42,9 @@ make_small() {
         echo "// $crate" >small/crates/$crate/src/lib.rt
     done
     printf '#!/bin/sh\n[ $1 != version ] || { echo toy-kit 1; exit; }\n. "$(dirname "$0")/answer"\n' >small/bin/rt
-    chmod +x small/bin/rt
+    cp small/bin/rt small/bin/rattle
+    printf '#!/bin/sh\nwhile [ "$1" != -o ]; do shift; done\ncp "$(dirname "$0")/program" "$2"\n' >small/bin/rattle-link
+    chmod +x small/bin/rt small/bin/rattle small/bin/rattle-link
     rt_fails
     stand_in built small/bin/program
     stand_in kept small/dist/lert-x86_64-linux-gnu

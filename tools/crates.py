@@ -1,9 +1,12 @@
-"""The crates of this repository, as crates.txt has them, and what docs/MEASURED.md says that their proofs take."""
+"""The crates of this repository, as crates.txt has them, the words by which rattle checks them, and what docs/MEASURED.md
+says that their proofs take."""
 
 from __future__ import annotations
 
 import re
+import shutil
 from pathlib import Path
+from typing import Callable
 
 TOP = Path(__file__).resolve().parent.parent
 MEASURED = TOP / "docs/MEASURED.md"
@@ -12,6 +15,13 @@ PROGRAM = "lert_program"
 ROW = re.compile(r"^\| *`?(\w+)`? *\| *([\d,]+(?:\.\d+)?) *\|", re.MULTILINE)
 # Where a crate isn't in that table, seconds for each line that its check reads, as a guess.
 SECONDS_A_LINE = 0.03
+
+
+def kit() -> Path:
+    rt = shutil.which("rt")
+    if not rt:
+        raise FileNotFoundError("there is no rt")
+    return Path(rt).resolve().parent.parent
 
 
 class Crates:
@@ -40,6 +50,19 @@ class Crates:
         for used in self.needs(name):
             found += [each for each in [*self.below(used), used] if each not in found]
         return found
+
+    def words(self, verb: str, name: str, rlib: Callable[[str], Path]) -> list[str]:
+        """The words with which rt has rattle check or build a crate, in its folder, over libraries that stand there."""
+        top, libraries = kit(), kit() / "rlibs"
+        root = "src/main.rt" if (self.folder(name) / "src/main.rt").is_file() else "src/lib.rt"
+        words = [str(top / "bin/rattle"), verb, "--crate-name", name, root]
+        places = {used: libraries / f"{used}.rlib" for used in ["std", *self.of_kit(name)]}
+        places |= {used: rlib(used) for used in self.needs(name)}
+        words += [word for used, place in places.items() for word in ("--extern", f"{used}={place}")]
+        folders = [libraries, *(rlib(used).parent for used in self.below(name))]
+        words += [word for folder in dict.fromkeys(folders) for word in ("-L", f"dependency={folder}")]
+        words += ["--antt-project", str(top / "rattle/logic/antt-project.json"), "--logic-built", str(top / "logic_built")]
+        return [*words, "--links", f"{name}="]
 
     def longest(self, names: list[str], weights: dict[str, float]) -> dict[str, list[str]]:
         """Of each of these crates, which come lowest first, the heaviest chain of them that ends in it."""
