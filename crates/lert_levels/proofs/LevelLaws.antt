@@ -30,6 +30,13 @@ reached_are items s rows lent seen is are lent_is d deep k below =
     subst (λ (rs : List (List BinAt)). IsRow seen.settings (k + 1) (get_or rs k [])) (sym (reached_rows items s rows lent seen is lent_is d))
     (subst (IsRow seen.settings (k + 1)) (row_among seen.rows d k reached) (all.each (k + 1) (omega arith) (omega arith)))
 
+-- each level has a row
+pub level_row : {V : Type 0} (items : V → List BinAt) (s : Numbers) (rows : List V) (seen : OnDisk) →
+    record { settings = s; rows = map items rows } ≡ seen → AreRows s (map items rows) → (level : ℕ) → 1 ≤ level → level ≤ seen.settings.levels → level - 1 < length rows
+level_row items s rows seen is are level first last =
+    let within = subst (λ (v : OnDisk). level ≤ v.settings.levels) (sym is) last in
+    omega (arith, first, within, are.levels, length-map rows items)
+
 -- the rows that moved on are rows of their levels
 module _ {V : Type 0} (items : V → List BinAt) (capacity_of : V → ℕ) (s : Numbers) (valid : IsValid s) (rows : List V) (directory : List ℕ) (room : ℕ)
     (reader : FrameReader) (kept : AreKept items capacity_of s rows directory room reader)
@@ -99,6 +106,15 @@ module _ {V : Type 0} (items : V → List BinAt) (capacity_of : V → ℕ) (s : 
       (new_kept items capacity_of s valid rows directory room reader kept m first in_capacity here new are_new roomy text more
       (text_is ∙ ap (λ rs. directory_text (map items rs)) (lent_after_is ∙ back)) grown)
 
+  -- and seen as such
+  pub after_seen : ◌≡◌ {A = OnDisk} (record { settings = s; rows = map items after })
+      (record { settings = seen.settings; rows = moved seen.settings m seen.rows })
+  after_seen =
+      let rows_are : map items after ≡ moved s m (map items rows) = ap (λ (rs : List V). map items rs) back ∙ are_new in
+      let numbered : ◌≡◌ {A = OnDisk} (record { settings = s; rows = map items after }) (record { settings = s; rows = moved s m (map items rows) }) =
+      λ i. record { settings = s; rows = rows_are i } in
+      numbered ∙ ap (λ (v : OnDisk). record { settings = v.settings; rows = moved v.settings m v.rows }) seen_is
+
 -- what stands between two calls once rows are restored, of a vector whose items were written through a slice
 module _ {V : Type 0} (items : V → List BinAt) (capacity_of : V → ℕ) (s : Numbers) (valid : IsValid s) (rows : List V) (directory : List ℕ) (room : ℕ)
     (reader : FrameReader) (kept : AreKept items capacity_of s rows directory room reader)
@@ -140,3 +156,9 @@ module _ {V : Type 0} (items : V → List BinAt) (capacity_of : V → ℕ) (s : 
 pub lent_seen : {V : Type 0} (items : V → List BinAt) (s : Numbers) (rows lent : List V) (seen : OnDisk) → record { settings = s; rows = map items rows } ≡ seen → lent ≡ rows →
     record { settings = s; rows = map items lent } ≡ seen
 lent_seen items s rows lent seen is lent_is = (λ i. record { settings = s; rows = map items (lent_is i) }) ∙ is
+
+-- another reader of the same settings
+pub read_on : {V : Type 0} {items : V → List BinAt} {capacity_of : V → ℕ} {s : Numbers} {rows : List V} {directory : List ℕ} {room : ℕ}
+    {reader other : FrameReader} →
+    AreKept items capacity_of s rows directory room reader → other.settings ≡ s → AreKept items capacity_of s rows directory room other
+read_on kept is = record { are = kept.are; roomy = kept.roomy; directory_is = kept.directory_is; directory_room = kept.directory_room; read_by = is }

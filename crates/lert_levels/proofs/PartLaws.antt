@@ -4,7 +4,7 @@ use Rattle.std.proofs.Common.{refl, ap, sym, ◌∙◌, arith, inl, inr, ◌⊎�
 use Rattle.std.specs.Prelude.{IfSome}
 use Rattle.std.proofs.Math.Nat.{suc-mul, mul-le-mul_right}
 use Rattle.std.proofs.lemmas.Bool.{cases_lt, cases_eq}
-use Rattle.std.proofs.lemmas.List.{take_more, get_or-append-add, get_or_append_left, get_or-set_same, get_or-set_other, length-set, length-replicate}
+use Rattle.std.proofs.lemmas.List.{take_more, get_or-append-add, get_or_append_left, get_or-set_same, get_or-set_other, length-set, length-replicate, append_assoc, replicate-append-replicate}
 use Rattle.std.proofs.lemmas.List.Sums.{sum_by-append, sum_by-cons}
 use Rattle.std.proofs.lemmas.Option.{none-some}
 use Rattle.lert_spec.specs.declared.numbers.Numbers.{Numbers}
@@ -267,3 +267,8 @@ module _ (s : Numbers) (m young : ℕ) (rows : List (List BinAt)) (some : 1 ≤ 
               ∙ sym (two_there added (oldest_stream young rows i) (part_at s m young rows i).newest i stream elsewhere.0 elsewhere.1) ∙ there) in
               (omega (arith, old.0), old.1))
         ]
+
+-- one more stream that goes to no new bin
+pub one_added : (old parts new : List (Option ℕ)) (k : ℕ) → parts ≡ old ++ replicate k None → new ≡ parts ++ None ∷ [] → new ≡ old ++ replicate (k + 1) None
+one_added old parts new k is put =
+    put ∙ ap (λ ps. ps ++ None ∷ []) is ∙ append_assoc old (replicate k None) (None ∷ []) ∙ ap (λ ps. old ++ ps) (replicate-append-replicate k 1 None)

@@ -1,6 +1,6 @@
 -- The rows that a flush reaches, and what an answer says of their frames.
 use Rattle.std.proofs.Common.{ℕ, ◌≡◌, ◌+◌, ◌-◌, ◌<◌, ◌≤◌, List, [], length, take, get_or, Option, Some, refl, sym, ◌∙◌, arith, subst, Result, length-take}
-use Rattle.std.specs.Prelude.{Ok, Err, IfErr, OnOk, MatchResult, IsSomeAnd}
+use Rattle.std.specs.Prelude.{Ok, Err, IfErr, IsErrAnd, OnOk, MatchResult, IsSomeAnd}
 use Rattle.std.specs.List.{All}
 use Rattle.std.proofs.lemmas.Option.{none-some}
 use Rattle.lert_bay.specs.declared.bay.TheConstants.{FRAMES}
@@ -125,3 +125,8 @@ at_ok P (Err fault) value is on = absurd (cc)
 pub failed_by : (fault : FlushFault) → ((at : ℕ) → fault ≡ Malformed at → ⊥) → fault ≡ Failed
 failed_by Failed never = refl
 failed_by (Malformed at) never = absurd (never at refl)
+
+-- an answer that a call failed names no place
+pub no_place : {T : Type 0} (result : Result T FlushFault) → IsErrAnd result (λ fault. fault ≡ Failed) → (at : ℕ) → result ≡ Err (Malformed at) → ⊥
+no_place (Ok x) gave at is = gave
+no_place (Err fault) gave at is = cc

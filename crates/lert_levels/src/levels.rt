@@ -19,17 +19,15 @@ ghost use Rattle.lert_levels.specs.Ready.{HasMade};
 ghost use Rattle.lert_spec.specs.Limits.{IsValid};
 ghost use Rattle.lert_rows.specs.Rows.{row_of, IsAt, AreRows, HoldsBins, moved, directory_text};
 
-use crate::merger::{Reading, Writing, count_rows, land_rows, landings_of};
+use crate::merger::{Reading, Writing, count_rows, land_rows};
 use lert_base::{CountTable, Settings, Totals};
 use lert_bay::Bay;
 use lert_frames::FrameReader;
 use lert_io::OutOfMemory;
-use lert_order::Ahead;
 use lert_rows::{
     BinAt, FlushFault, Zero, check_rows, empty_rows, lay_directory, move_rows, restore_rows,
     sync_frames,
 };
-use lert_streams::StreamRoom;
 use std::alloc::Global;
 use std::marker::Model;
 
@@ -74,22 +72,13 @@ impl<T: CountTable> Levels<T> {
         let rows = empty_rows(alloc, levels, bins + 1)?;
         let mut directory = Vec::with_capacity(alloc, levels * (1 + bins))?;
         lay_directory(&rows, &mut directory);
-        let streams = (levels + 1) * bins;
-        let reading = Reading {
-            room: StreamRoom::new(alloc, settings)?,
-            ahead: Ahead::new(alloc, streams)?,
-        };
-        let writing = Writing {
-            landings: landings_of(alloc, settings)?,
-            parts: Vec::with_capacity(alloc, streams)?,
-        };
         Ok(Levels {
             settings: *settings,
             rows,
             directory,
             reader: FrameReader::new(alloc, settings, 1)?,
-            reading: Some(reading),
-            writing,
+            writing: Writing::new(alloc, settings)?,
+            reading: Some(Reading::new(alloc, settings)?),
         })
     }
 

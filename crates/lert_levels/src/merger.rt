@@ -13,7 +13,7 @@ ghost use Rattle.lert_rows.specs.Rows.{IsRow};
 ghost use Rattle.lert_spec.specs.Edges.{capacity};
 ghost use Rattle.lert_spec.specs.declared.piece.Piece.{Piece};
 ghost use Rattle.lert_levels.specs.Merged.{IsMade, IsFrames};
-ghost use Rattle.lert_levels.specs.Ready.{AreStarted, AreReached, HaveLanded, HasMade};
+ghost use Rattle.lert_levels.specs.Ready.{AreStarted, AreReached, HaveLanded, HasMade, CanLand};
 ghost use Rattle.lert_levels.specs.Sources.{sources, AreBegun, AreSecure};
 
 use crate::parts::lay_parts;
@@ -29,8 +29,8 @@ use lert_rows::{BinAt, FlushFault, Zero, arrival};
 use lert_streams::{BinStreams, StreamRoom};
 use std::alloc::Global;
 
-/// A landing of each level on disk, that of level 1 first. Its only error is want of memory.
-pub fn landings_of(alloc: Global, settings: &Settings) -> Result<Vec<Landing>, OutOfMemory>
+// A landing of each level on disk, that of level 1 first. Its only error is want of memory.
+fn landings_of(alloc: Global, settings: &Settings) -> Result<Vec<Landing>, OutOfMemory>
     ensures landings { IfOk result (λ landings. AreLandings settings.now landings.items) }
     ensures len { IfOk result (λ landings. length landings.items ≡ settings.now.levels) }
 {
@@ -97,6 +97,27 @@ pub struct Reading<T: CountTable> {
     pub(crate) ahead: Ahead,
 }
 
+impl<T: CountTable> Reading<T> {
+    /// Room for the bins of each level. Its only error is want of memory.
+    pub fn new(alloc: Global, settings: &Settings) -> Result<Reading<T>, OutOfMemory>
+        ensures room { IfOk result (λ reading. reading.room ≡ settings.now) }
+        ensures ahead { IfOk result (λ reading. reading.ahead.room ≡ (settings.now.levels + 1) * settings.now.bins) }
+    {
+        Ok(Reading {
+            ahead: Ahead::new(alloc, most_streams(settings))?,
+            room: StreamRoom::new(alloc, settings)?,
+        })
+    }
+}
+
+// How many bins a merge reads at most.
+fn most_streams(settings: &Settings) -> usize
+    ensures { result ≡ (settings.now.levels + 1) * settings.now.bins }
+{
+    let numbers = settings.numbers();
+    (numbers.levels as usize + 1) * numbers.bins as usize
+}
+
 // The bins of level 0 and of these rows in one order, of which nothing was read.
 fn begin_order<'a, T: CountTable, B: Bay>(
     zero: &'a Zero<T>,
@@ -139,6 +160,18 @@ fn end_order<T: CountTable, B: Bay>(order: Order<B, BinStreams<T>>) -> Reading<T
 pub struct Writing {
     pub(crate) landings: Vec<Landing>,
     pub(crate) parts: Vec<Option<usize>>,
+}
+
+impl Writing {
+    /// A landing of each level on disk, and room for the parts of the most streams. Its only error is want of memory.
+    pub fn new(alloc: Global, settings: &Settings) -> Result<Writing, OutOfMemory>
+        ensures { IfOk result (λ writing. CanLand settings.now writing.landings.items (vec_capacity writing.parts)) }
+    {
+        Ok(Writing {
+            parts: Vec::with_capacity(alloc, most_streams(settings))?,
+            landings: landings_of(alloc, settings)?,
+        })
+    }
 }
 
 /// Merges level 0 and the rows that the flush at position `m` reaches, and writes the new bins into their frames meanwhile.

@@ -1,5 +1,5 @@
 use Rattle.std.proofs.Common.{ℕ, ◌≡◌, ◌+◌, ◌*◌, ◌≤◌, ◌∙◌, List, vec_capacity, map, take, length, length-take, get_or, sym, subst, arith, Option, []}
-use Rattle.std.proofs.lemmas.List.{length-map}
+use Rattle.std.proofs.lemmas.List.{length-map, length-take-le}
 use Rattle.lert_bay.specs.declared.bay.TheConstants.{FRAMES}
 use Rattle.lert_bay.specs.Kept.{Bays}
 use Rattle.lert_bay.proofs.KeptLaws.{IsLawful}
@@ -373,3 +373,6 @@ returns-clause-parts g c = c.lay_parts.ensures.room
 
 pub returns-clause-kept : goal.returns-clause-kept
 returns-clause-kept g c = c.land_bins-landed.ensures.kept
+
+pub slice_bounds-first-end-2 : goal.slice_bounds-first-end-2
+slice_bounds-first-end-2 g c = sym (length-take-le _ c.start_landings.new.landings (omega (arith, c.start_landings.ensures.len, c.requires.enough)))

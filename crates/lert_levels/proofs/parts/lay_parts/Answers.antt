@@ -1,5 +1,6 @@
 use Rattle.std.proofs.Common.{◌≡◌, ◌+◌, ◌<◌, ◌∙◌, ◌++◌, [], None, replicate, map, get_or, length, ap, sym, subst, arith, add-one, refl}
 use Rattle.std.proofs.lemmas.List.{length-map}
+use Rattle.lert_spec.specs.declared.numbers.Numbers.{Numbers}
 use Rattle.lert_levels.specs.Parts.{ArePartsOf, streams_to, oldest_stream, newest_stream, part_at, set_two}
 use Rattle.lert_rows.specs.Rows.{IsRow}
 use Rattle.lert_levels.proofs.PartLaws.{streams_more, streams_few_more, parts_none, parts_more, oldest_added, newest_added, added_length, some_streams}
@@ -129,3 +130,32 @@ returns-clause-parts c =
 
 pub returns-clause-room : goal.returns-clause-room
 returns-clause-room c = c.loop-lower.invariant.room
+
+pub overflow_cast-lower : goal.overflow_cast-lower
+overflow_cast-lower c =
+    let levels = ap (λ (s : Numbers). s.levels) c.numbers-valid.ensures.value in
+    record { fits = omega (arith, c.loop-lower-test.true, c.requires.few, levels, c.numbers-valid.ensures.valid.limits.levels_to) }
+
+pub overflow_add-lower : goal.overflow_add-lower
+overflow_add-lower c =
+    let levels = ap (λ (s : Numbers). s.levels) c.numbers-valid.ensures.value in
+    record { fits = omega (arith, c.loop-lower-test.true, c.requires.few, levels, c.numbers-valid.ensures.valid.limits.levels_to) }
+
+pub newest_of-newest-requires-clause-some : goal.newest_of-newest-requires-clause-some
+newest_of-newest-requires-clause-some c =
+    let i = c.loop-lower.lower in
+    let s = c.args.settings.now in
+    let rows = map (λ row. row.items) c.args.rows.now in
+    let here = row_here (λ row. row.items) c.args.rows.now i c.index-rows-lower.result c.index-rows-lower.result.items c.loop-lower-test.true c.index-rows-lower.is
+    (λ i. c.index-rows-lower.result.items) in
+    let below : i < length rows = omega (arith, c.loop-lower-test.true, length-map c.args.rows.now (λ row. row.items)) in
+    let count : c.len.result ≡ length (get_or rows i []) = omega (arith, c.len.ensures, ap length here) in
+    let added_is = c.add_streams-in-loop-lower.ensures.parts ∙ ap (λ n. c.loop-lower.parts.items ++ replicate n None) count in
+    let whole : c.len-in-loop-lower.result ≡ streams_to c.args.young rows (i + 1) =
+    omega (
+      arith,
+      c.len-in-loop-lower.ensures,
+      added_length s c.args.m c.args.young rows c.requires.some c.requires.parts i below c.loop-lower.parts.items
+          c.add_streams-in-loop-lower.new.parts.items c.loop-lower.invariant.parts added_is,
+    ) in
+    omega (arith, whole, c.requires.some)

@@ -1,12 +1,14 @@
-use Rattle.std.proofs.Common.{ℕ, ◌≡◌, ◌+◌, ◌≤◌, ◌∙◌, ◌⊎◌, Some, None, get_or, length, map, subst}
+use Rattle.std.proofs.Common.{ℕ, ◌≡◌, ◌+◌, ◌≤◌, ◌∙◌, ◌⊎◌, Some, None, get_or, length, map, refl, subst, sym, arith}
 use Rattle.std.proofs.lemmas.List.{take_all}
 use Rattle.std.proofs.lemmas.List.Elements.{Contains-get_or}
 use Rattle.std.proofs.lemmas.Result.{err_from_is_err_and}
 use Rattle.lert_bay.specs.declared.bay.TheConstants.{FRAMES}
-use Rattle.lert_bay.proofs.KeptLaws.{IsLawful, reads_on, reads_as}
+use Rattle.lert_bay.proofs.KeptLaws.{IsLawful, reads_none, reads_on, reads_as}
 use Rattle.lert_frames.specs.Frame.{frame_left}
 use Rattle.lert_frames.specs.Place.{frame_place, frame_len}
+use Rattle.lert_frames.proofs.FaultLaws.{not_err}
 use Rattle.lert_frames.proofs.WriteLaws.{same_err}
+use Rattle.lert_spec.specs.Edges.{span}
 use Rattle.lert_spec.specs.declared.numbers.Numbers.{Numbers}
 use Rattle.lert_rows.specs.declared.bin_at.BinAt.{BinAt}
 use Rattle.lert_rows.specs.Loading.{width_of}
@@ -63,3 +65,56 @@ pub returns-clause-secure : goal.returns-clause-secure
 returns-clause-secure g c seen told long =
     subst (λ row. AllOf (IsSecure c.args.room.now (seen FRAMES)) (map of_bin (map (placed_at c.args.level) row))) (take_all c.loop-bin.bin-index c.args.row.now c.loop-bin-test.false)
     (c.loop-bin.invariant.secure seen told long)
+
+pub loop-bin-init : goal.loop-bin-init
+loop-bin-init g c = record { secure = λ seen told long. tt; room = refl; only_reads = reads_none (bays g) (lawful g) c.args.bay.now ⊥ (λ none. none) }
+
+pub returns-clause-malformed : goal.returns-clause-malformed
+returns-clause-malformed g c seen told at is = absurd (not_err _ _ is)
+
+pub returns-clause-room : goal.returns-clause-room
+returns-clause-room g c = c.loop-bin.invariant.room
+
+pub returns-clause-only_reads : goal.returns-clause-only_reads
+returns-clause-only_reads g c = reads_as (bays g) (lawful g) c.args.bay.now c.loop-bin.bay ⊥ _ (λ is. not_err _ _ is) c.loop-bin.invariant.only_reads
+
+-- ---- a frame that failed
+
+pub returns-in_err-secure-clause-secure : goal.returns-in_err-secure-clause-secure
+returns-in_err-secure-clause-secure g c seen told long = let p = err_from_is_err_and c.from_residual.result c.from_residual.ensures.1 in rw p.1 tt
+
+pub returns-in_err-secure-clause-room : goal.returns-in_err-secure-clause-room
+returns-in_err-secure-clause-room g c = c.in_err-secure.ensures.settings ∙ c.loop-bin.invariant.room
+
+pub returns-in_err-secure-clause-only_reads : goal.returns-in_err-secure-clause-only_reads
+returns-in_err-secure-clause-only_reads g c =
+    let p = err_from_is_err_and c.from_residual.result c.from_residual.ensures.1 in
+    rw (p.1, p.2) (reads_as (bays g) (lawful g) c.args.bay.now c.secure.new.bay _ _ (λ is. same_err _ _ is)
+    (reads_on (bays g) (lawful g) c.args.bay.now c.loop-bin.bay c.secure.new.bay ⊥ _ c.loop-bin.invariant.only_reads c.in_err-secure.ensures.only_reads))
+
+-- ---- what a frame asks for
+
+pub bounds-row-bin-index : goal.bounds-row-bin-index
+bounds-row-bin-index g c = c.loop-bin-test.true
+
+pub overflow_sub-bin : goal.overflow_sub-bin
+overflow_sub-bin g c = omega (arith, c.requires.row.some c.loop-bin.bin-index nothing c.loop-bin-test.true)
+
+pub secure-requires-clause-first : goal.secure-requires-clause-first
+secure-requires-clause-first g c = c.requires.first
+
+pub secure-requires-clause-last : goal.secure-requires-clause-last
+secure-requires-clause-last g c = subst (λ (t : Numbers). c.args.level ≤ t.levels) (sym c.loop-bin.invariant.room) c.requires.last
+
+pub secure-requires-clause-frame : goal.secure-requires-clause-frame
+secure-requires-clause-frame g c =
+    subst (λ (t : Numbers). c.from.result ≤ t.bins) (sym c.loop-bin.invariant.room)
+    (omega (arith, c.from.ensures, c.requires.row.frames c.loop-bin.bin-index nothing c.loop-bin-test.true))
+
+pub secure-requires-clause-some : goal.secure-requires-clause-some
+secure-requires-clause-some g c = omega (arith, c.requires.row.some c.loop-bin.bin-index nothing c.loop-bin-test.true)
+
+pub secure-requires-clause-width : goal.secure-requires-clause-width
+secure-requires-clause-width g c =
+    subst (λ (t : Numbers). width_of (get_or c.args.row.now c.loop-bin.bin-index nothing) ≤ span t c.args.level) (sym c.loop-bin.invariant.room)
+    (c.requires.row.widths c.loop-bin.bin-index nothing c.loop-bin-test.true)

@@ -1,5 +1,6 @@
-use Rattle.std.proofs.Common.{ℕ, ◌≡◌, ◌∙◌, Some, None, ap, sym, subst, arith}
+use Rattle.std.proofs.Common.{ℕ, ◌≡◌, ◌∙◌, Vec, Global, Some, None, length, ap, sym, subst, arith}
 use Rattle.std.specs.Prelude.{Err}
+use Rattle.std.proofs.lemmas.List.{length-map}
 use Rattle.std.proofs.lemmas.Option.{none-some}
 use Rattle.std.proofs.lemmas.Result.{err_from_is_err_and}
 use Rattle.lert_bay.specs.declared.bay.TheConstants.{FRAMES}
@@ -7,14 +8,16 @@ use Rattle.lert_bay.specs.Files.{IfTold}
 use Rattle.lert_bay.specs.Kept.{Bays}
 use Rattle.lert_bay.proofs.KeptLaws.{IsLawful, reads_as}
 use Rattle.lert_base.specs.declared.pieces.PieceFault.TheVariants.{Malformed}
+use Rattle.lert_frames.proofs.FaultLaws.{not_err}
 use Rattle.lert_spec.specs.Limits.{IsValid}
+use Rattle.lert_rows.specs.declared.bin_at.BinAt.{BinAt}
 use Rattle.lert_rows.specs.Checked.{EachStands, rows_left}
 use Rattle.lert_levels.specs.OnDisk.{OnDisk}
 use Rattle.lert_rows.specs.Rows.{AreRows}
 use Rattle.lert_rows.proofs.CheckLaws.{all_whole, check_refuses, check_passes, lent_rows}
 use Rattle.lert_rows.proofs.HeldLaws.{all_stand}
 use Rattle.lert_rows.proofs.ReadLaws.{failed_there, malformed_there}
-use Rattle.lert_levels.proofs.LevelLaws.{lent_seen}
+use Rattle.lert_levels.proofs.LevelLaws.{lent_seen, read_on}
 use Rattle.lert_levels.proofs.levels.Levels.check.Given as given
 use Rattle.lert_levels.proofs.levels.Levels.check.Goals as goal
 
@@ -103,3 +106,26 @@ pub returns-in_err-check_rows-clause-only_reads : goal.returns-in_err-check_rows
 returns-in_err-check_rows-clause-only_reads g c =
     reads_as (bays g) (lawful g) c.args.bay.now c.check_rows.new.bay _ _ (λ is. ap Err (failed_there c.from_residual.result c.in_err-check_rows.field-0.0 c.from_residual.ensures.1 is))
     c.in_err-check_rows.ensures.only_reads
+
+-- ---- what stays
+
+pub check_rows-requires-clause-few : goal.check_rows-requires-clause-few
+check_rows-requires-clause-few g c =
+    let lent = ap (length {A = Vec BinAt Global}) c.deref.ensures.value in
+    let each = length-map c.self.inside.rows.items (λ row. row.items) in
+    omega (arith, lent, each, c.self.invariant.0.are.levels)
+
+pub returns-clause-same : goal.returns-clause-same
+returns-clause-same g c = c.self.view_is
+
+pub returns-clause-malformed : goal.returns-clause-malformed
+returns-clause-malformed g c seen told at is = absurd (not_err _ _ is)
+
+pub invariant_of-self-2 : goal.invariant_of-self-2
+invariant_of-self-2 g c = (read_on c.self.invariant.0 c.check_rows.ensures.reader, c.self.invariant.1, c.self.invariant.2)
+
+pub returns-in_err-check_rows-clause-same : goal.returns-in_err-check_rows-clause-same
+returns-in_err-check_rows-clause-same g c = c.self.view_is
+
+pub invariant_of-self : goal.invariant_of-self
+invariant_of-self g c = (read_on c.self.invariant.0 c.check_rows.ensures.reader, c.self.invariant.1, c.self.invariant.2)

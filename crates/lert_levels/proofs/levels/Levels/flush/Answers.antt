@@ -1,11 +1,12 @@
-use Rattle.std.proofs.Common.{◌-◌, ◌∙◌, take, refl, ap, sym, subst, arith}
+use Rattle.std.proofs.Common.{◌-◌, ◌≤◌, ◌∙◌, take, refl, ap, sym, subst, arith}
 use Rattle.std.specs.Prelude.{Err}
 use Rattle.std.proofs.lemmas.Result.{err_from_is_err_and}
 use Rattle.lert_bay.specs.declared.bay.TheConstants.{FRAMES}
 use Rattle.lert_bay.specs.Kept.{Bays}
 use Rattle.lert_bay.proofs.KeptLaws.{IsLawful, keeps_on, keeps_as}
+use Rattle.lert_frames.proofs.FaultLaws.{not_err}
 use Rattle.lert_frames.proofs.WriteLaws.{same_err}
-use Rattle.lert_spec.specs.Edges.{depth}
+use Rattle.lert_spec.specs.Edges.{capacity, depth}
 use Rattle.lert_levels.specs.Flushed.{InNamed}
 use Rattle.lert_levels.specs.Merged.{IsFrames}
 use Rattle.lert_levels.specs.OnDisk.{OnDisk}
@@ -15,7 +16,7 @@ use Rattle.lert_rows.proofs.LandLaws.{rest_on, rest_fewer}
 use Rattle.lert_rows.proofs.RowLaws.{IsAt-moved}
 use Rattle.lert_levels.proofs.FlushLaws.{made_took, made_taken}
 use Rattle.lert_levels.proofs.HoldLaws.{named_apart, rows_stand}
-use Rattle.lert_levels.proofs.ReachLaws.{failed_by, no_break, reached_rows, reached_few, has_moved, deep}
+use Rattle.lert_levels.proofs.ReachLaws.{failed_by, no_break, no_place, reached_rows, reached_few, has_moved, deep}
 use Rattle.lert_levels.proofs.levels.Levels.flush.Given as given
 use Rattle.lert_levels.proofs.levels.Levels.flush.Goals as goal
 
@@ -35,134 +36,136 @@ lawful g = record { as_read = g.met.B.Bay.as_read; since_now = g.met.B.Bay.since
 
 -- ---- a merge that failed
 
-pub returns-in_err-land-clause-told : goal.returns-in_err-land-clause-told
-returns-in_err-land-clause-told g c seen told events of =
+pub returns-in_err-land : goal.returns-in_err-land
+returns-in_err-land g c =
     let p = err_from_is_err_and c.from_residual.result c.from_residual.ensures.1 in
     let s = c.args.self.now.settings in
     let m = c.args.m in
     let rows = c.args.self.now.rows in
     let first = c.requires.first in
     let last = c.requires.last in
-    let valid = c.in_err-land.ensures.valid in
-    let are = c.in_err-land.ensures.rows in
-    let stand = rows_stand s events (m - 1) rows (seen FRAMES) c.requires.at are (omega (arith, of.len)) of.held (depth s m) (deep s valid m first last rows c.requires.at are) in
-    rw (p.1, p.2) (failed_by _ (λ at is. no_break s valid (take (depth s m) rows) (seen FRAMES) (tallied_in s events) at (reached_few s valid m first last rows c.requires.at are)
-    (reached_rows s valid m first last rows c.requires.at are) stand (c.in_err-land.ensures.malformed seen told at (ap Err is))))
-
-pub returns-in_err-land-clause-sound : goal.returns-in_err-land-clause-sound
-returns-in_err-land-clause-sound g c seen told hold stand =
-    let p = err_from_is_err_and c.from_residual.result c.from_residual.ensures.1 in
-    let s = c.args.self.now.settings in
-    let m = c.args.m in
-    let rows = c.args.self.now.rows in
-    let first = c.requires.first in
-    let last = c.requires.last in
-    let valid = c.in_err-land.ensures.valid in
-    let are = c.in_err-land.ensures.rows in
-    rw (p.1, p.2) (failed_by _ (λ at is. no_break s valid (take (depth s m) rows) (seen FRAMES) hold at (reached_few s valid m first last rows c.requires.at are)
-    (reached_rows s valid m first last rows c.requires.at are) stand (c.in_err-land.ensures.malformed seen told at (ap Err is))))
-
-pub returns-in_err-land-clause-malformed : goal.returns-in_err-land-clause-malformed
-returns-in_err-land-clause-malformed g c seen told at =
-    let p = err_from_is_err_and c.from_residual.result c.from_residual.ensures.1 in
-    rw (p.1, p.2) (λ is. c.in_err-land.ensures.malformed seen told at (same_err _ _ is))
-
-pub returns-in_err-land-clause-malformed_after : goal.returns-in_err-land-clause-malformed_after
-returns-in_err-land-clause-malformed_after g c seen told at =
-    let p = err_from_is_err_and c.from_residual.result c.from_residual.ensures.1 in
-    rw (p.1, p.2) (λ is. c.in_err-land.ensures.malformed_after seen told at (same_err _ _ is))
-
-pub returns-in_err-land-clause-rest : goal.returns-in_err-land-clause-rest
-returns-in_err-land-clause-rest g c =
-    let s = c.args.self.now.settings in
-    let m = c.args.m in
-    let rows = c.args.self.now.rows in
-    let first = c.requires.first in
-    let last = c.requires.last in
-    let valid = c.in_err-land.ensures.valid in
-    let are = c.in_err-land.ensures.rows in
-    rest_fewer (bays g) (AreApart s m (take (depth s m) rows)) (InNamed s rows) c.args.bay.now c.land.new.bay
-    (named_apart s m rows are (depth s m) (deep s valid m first last rows c.requires.at are)) c.in_err-land.ensures.rest
+    let at_m = c.requires.at in
+    let e = c.in_err-land.ensures in
+    let reached = take (depth s m) rows in
+    let deepest = deep s e.valid m first last rows at_m e.rows in
+    let few = reached_few s e.valid m first last rows at_m e.rows in
+    let each = reached_rows s e.valid m first last rows at_m e.rows in
+    rw (p.1, p.2) (record {
+      ok = tt;
+      at = tt;
+      refused = e.same;
+      told = λ seen told events of.
+          (let stand = rows_stand s events (m - 1) rows (seen FRAMES) at_m e.rows (omega (arith, of.len)) of.held (depth s m) deepest in
+          failed_by _ (λ at is. no_break s e.valid reached (seen FRAMES) (tallied_in s events) at few each stand (e.malformed seen told at (ap Err is))));
+      took = tt;
+      durable = tt;
+      rest = rest_fewer (bays g) (AreApart s m reached) (InNamed s rows) c.args.bay.now c.land.new.bay (named_apart s m rows e.rows (depth s m) deepest) e.rest;
+      sound = λ seen told hold stand.
+          failed_by _ (λ at is. no_break s e.valid reached (seen FRAMES) hold at few each stand (e.malformed seen told at (ap Err is)));
+      malformed = λ seen told at is. e.malformed seen told at (same_err _ _ is);
+      malformed_after = λ seen told at is. e.malformed_after seen told at (same_err _ _ is);
+      kept = keeps_as (bays g) (lawful g) c.args.bay.now c.land.new.bay _ _ (λ is. same_err _ _ is) e.kept;
+    })
 
 -- ---- a sync that failed
 
-pub returns-in_err-sync_frames-clause-rest : goal.returns-in_err-sync_frames-clause-rest
-returns-in_err-sync_frames-clause-rest g c =
+pub returns-in_err-sync_frames : goal.returns-in_err-sync_frames
+returns-in_err-sync_frames g c =
+    let r = c.from_residual-in_err-sync_frames in
+    let p = err_from_is_err_and r.result r.ensures.1 in
     let s = c.args.self.now.settings in
     let m = c.args.m in
     let rows = c.args.self.now.rows in
-    let first = c.requires.first in
-    let last = c.requires.last in
-    let valid = c.in_ok-land.ensures.valid in
-    let are = c.in_ok-land.ensures.rows in
-    rest_on (bays g) (lawful g) (InNamed s rows) c.args.bay.now c.land.new.bay c.sync_frames.new.bay _ _ c.in_ok-land.ensures.kept c.in_err-sync_frames.ensures.kept
-    (rest_fewer (bays g) (AreApart s m (take (depth s m) rows)) (InNamed s rows) c.args.bay.now c.land.new.bay
-    (named_apart s m rows are (depth s m) (deep s valid m first last rows c.requires.at are)) c.in_ok-land.ensures.rest)
-    (rest_fewer (bays g) Anywhere (InNamed s rows) c.land.new.bay c.sync_frames.new.bay (λ from to inside. tt) c.in_err-sync_frames.ensures.rest)
-
-pub returns-in_err-sync_frames-clause-kept : goal.returns-in_err-sync_frames-clause-kept
-returns-in_err-sync_frames-clause-kept g c =
-    keeps_as (bays g) (lawful g) c.args.bay.now c.sync_frames.new.bay _ _ (λ is. refl)
-    (keeps_on (bays g) (lawful g) c.args.bay.now c.land.new.bay c.sync_frames.new.bay _ _ c.in_ok-land.ensures.kept c.in_err-sync_frames.ensures.kept)
+    let one = c.in_ok-land.ensures in
+    let two = c.in_err-sync_frames.ensures in
+    let deepest = deep s one.valid m c.requires.first c.requires.last rows c.requires.at one.rows in
+    record {
+      ok = rw p.1 tt;
+      at = rw p.1 tt;
+      refused = rw p.1 one.same;
+      told = λ seen told events of. rw p.1 p.2;
+      took = rw p.1 tt;
+      durable = rw p.1 tt;
+      rest = rest_on (bays g) (lawful g) (InNamed s rows) c.args.bay.now c.land.new.bay c.sync_frames.new.bay _ _ one.kept two.kept
+          (rest_fewer (bays g) (AreApart s m (take (depth s m) rows)) (InNamed s rows) c.args.bay.now c.land.new.bay
+          (named_apart s m rows one.rows (depth s m) deepest) one.rest)
+          (rest_fewer (bays g) Anywhere (InNamed s rows) c.land.new.bay c.sync_frames.new.bay (λ from to inside. tt) two.rest);
+      sound = λ seen told hold stand. rw p.1 p.2;
+      malformed = λ seen told at is. absurd (no_place r.result r.ensures.1 at is);
+      malformed_after = λ seen told at is. absurd (no_place r.result r.ensures.1 at is);
+      kept = keeps_as (bays g) (lawful g) c.args.bay.now c.sync_frames.new.bay _ _ (λ is. refl)
+          (keeps_on (bays g) (lawful g) c.args.bay.now c.land.new.bay c.sync_frames.new.bay _ _ one.kept two.kept);
+    }
 
 -- ---- all went well
 
-pub returns-clause-at : goal.returns-clause-at
-returns-clause-at g c =
+pub returns : goal.returns
+returns g c =
     let s = c.args.self.now.settings in
     let m = c.args.m in
     let rows = c.args.self.now.rows in
     let first = c.requires.first in
     let last = c.requires.last in
-    let valid = c.in_ok-land.ensures.valid in
-    let are = c.in_ok-land.ensures.rows in
-    subst (λ (v : OnDisk). IsAt v.settings m v.rows) (sym c.move_on.ensures)
-    (subst (λ (v : OnDisk). IsAt v.settings m (moved v.settings m v.rows)) (sym c.in_ok-land.ensures.same) (IsAt-moved s valid m first last rows c.requires.at))
-
-pub returns-clause-told : goal.returns-clause-told
-returns-clause-told g c seen told events of =
-    let s = c.args.self.now.settings in
-    let m = c.args.m in
-    let rows = c.args.self.now.rows in
-    let first = c.requires.first in
-    let last = c.requires.last in
-    let valid = c.in_ok-land.ensures.valid in
-    let are = c.in_ok-land.ensures.rows in
+    let at_m = c.requires.at in
+    let young = c.args.zero.now.bins in
+    let one = c.in_ok-land.ensures in
+    let two = c.in_ok-sync_frames.ensures in
     let took = g.O.Totals.took c.land.new.totals in
     let before = g.B.Bay.files c.args.bay.now in
-    let has = c.in_ok-land.ensures.made in (
-      λ after told_after. has_moved s valid m first last rows c.requires.at are c.args.zero.now.bins took before (g.B.Bay.files c.land.new.bay) has c.in_ok-land.ensures.rest.seen seen told events of
-          after (sym c.in_ok-sync_frames.ensures.seen ∙ told_after),
-      made_taken s valid m first last rows c.requires.at c.args.zero.now.bins took (IsFrames before) has.made has.is (seen FRAMES) events (record { seen = seen; told = told; is = refl }) are of,
-    )
+    let has = one.made in
+    let deepest = deep s one.valid m first last rows at_m one.rows in
+    record {
+      ok = c.move_on.ensures ∙ ap (λ (v : OnDisk). record { settings = v.settings; rows = moved v.settings m v.rows }) one.same;
+      at = subst (λ (v : OnDisk). IsAt v.settings m v.rows) (sym c.move_on.ensures)
+          (subst (λ (v : OnDisk). IsAt v.settings m (moved v.settings m v.rows)) (sym one.same) (IsAt-moved s one.valid m first last rows at_m));
+      refused = tt;
+      told = λ seen told events of. (
+        λ after told_after. has_moved s one.valid m first last rows at_m one.rows young took before (g.B.Bay.files c.land.new.bay) has one.rest.seen seen told events of
+            after (sym two.seen ∙ told_after),
+        made_taken s one.valid m first last rows at_m young took (IsFrames before) has.made has.is (seen FRAMES) events
+            (record { seen = seen; told = told; is = refl }) one.rows of,
+      );
+      took = made_took s one.valid m first last rows at_m young took (IsFrames before) has.made has.is;
+      durable = two.durable;
+      rest = rest_on (bays g) (lawful g) (InNamed s rows) c.args.bay.now c.land.new.bay c.sync_frames.new.bay _ _ one.kept two.kept
+          (rest_fewer (bays g) (AreApart s m (take (depth s m) rows)) (InNamed s rows) c.args.bay.now c.land.new.bay
+          (named_apart s m rows one.rows (depth s m) deepest) one.rest)
+          (rest_fewer (bays g) Anywhere (InNamed s rows) c.land.new.bay c.sync_frames.new.bay (λ from to inside. tt) two.rest);
+      sound = λ seen told hold stand. tt;
+      malformed = λ seen told at is. absurd (not_err _ _ is);
+      malformed_after = λ seen told at is. absurd (not_err _ _ is);
+      kept = keeps_as (bays g) (lawful g) c.args.bay.now c.sync_frames.new.bay _ _ (λ is. absurd (not_err _ _ is))
+          (keeps_on (bays g) (lawful g) c.args.bay.now c.land.new.bay c.sync_frames.new.bay _ _ one.kept two.kept);
+    }
 
-pub returns-clause-took : goal.returns-clause-took
-returns-clause-took g c =
-    let s = c.args.self.now.settings in
-    let m = c.args.m in
-    let rows = c.args.self.now.rows in
-    let first = c.requires.first in
-    let last = c.requires.last in
-    let valid = c.in_ok-land.ensures.valid in
-    let are = c.in_ok-land.ensures.rows in
-    let has = c.in_ok-land.ensures.made in
-    made_took s valid m first last rows c.requires.at c.args.zero.now.bins (g.O.Totals.took c.land.new.totals) (IsFrames (g.B.Bay.files c.args.bay.now)) has.made has.is
+-- ---- what the calls ask for
 
-pub returns-clause-rest : goal.returns-clause-rest
-returns-clause-rest g c =
-    let s = c.args.self.now.settings in
-    let m = c.args.m in
-    let rows = c.args.self.now.rows in
-    let first = c.requires.first in
-    let last = c.requires.last in
-    let valid = c.in_ok-land.ensures.valid in
-    let are = c.in_ok-land.ensures.rows in
-    rest_on (bays g) (lawful g) (InNamed s rows) c.args.bay.now c.land.new.bay c.sync_frames.new.bay _ _ c.in_ok-land.ensures.kept c.in_ok-sync_frames.ensures.kept
-    (rest_fewer (bays g) (AreApart s m (take (depth s m) rows)) (InNamed s rows) c.args.bay.now c.land.new.bay
-    (named_apart s m rows are (depth s m) (deep s valid m first last rows c.requires.at are)) c.in_ok-land.ensures.rest)
-    (rest_fewer (bays g) Anywhere (InNamed s rows) c.land.new.bay c.sync_frames.new.bay (λ from to inside. tt) c.in_ok-sync_frames.ensures.rest)
+pub land-requires-clause-same : goal.land-requires-clause-same
+land-requires-clause-same g c = c.requires.same
 
-pub returns-clause-kept : goal.returns-clause-kept
-returns-clause-kept g c =
-    keeps_as (bays g) (lawful g) c.args.bay.now c.sync_frames.new.bay _ _ (λ is. absurd (cc is))
-    (keeps_on (bays g) (lawful g) c.args.bay.now c.land.new.bay c.sync_frames.new.bay _ _ c.in_ok-land.ensures.kept c.in_ok-sync_frames.ensures.kept)
+pub land-requires-clause-first : goal.land-requires-clause-first
+land-requires-clause-first g c = c.requires.first
+
+pub land-requires-clause-last : goal.land-requires-clause-last
+land-requires-clause-last g c = c.requires.last
+
+pub land-requires-clause-from : goal.land-requires-clause-from
+land-requires-clause-from g c = c.requires.from
+
+pub land-requires-clause-to : goal.land-requires-clause-to
+land-requires-clause-to g c = c.requires.to
+
+pub land-requires-clause-at : goal.land-requires-clause-at
+land-requires-clause-at g c = c.requires.at
+
+pub land-requires-clause-none_taken : goal.land-requires-clause-none_taken
+land-requires-clause-none_taken g c = c.requires.none_taken
+
+pub move_on-requires-clause-first : goal.move_on-requires-clause-first
+move_on-requires-clause-first g c = c.requires.first
+
+pub move_on-requires-clause-last : goal.move_on-requires-clause-last
+move_on-requires-clause-last g c = subst (λ (v : OnDisk). c.args.m ≤ capacity v.settings) (sym c.in_ok-land.ensures.same) c.requires.last
+
+pub move_on-requires-clause-at : goal.move_on-requires-clause-at
+move_on-requires-clause-at g c = subst (λ (v : OnDisk). IsAt v.settings (c.args.m - 1) v.rows) (sym c.in_ok-land.ensures.same) c.requires.at

@@ -1,6 +1,6 @@
-use Rattle.std.proofs.Common.{◌≡◌, ◌+◌, ◌*◌, ◌-◌, ◌≤◌, ◌∙◌, ◌++◌, List, map, take, drop, length, ap, sym, subst, arith}
+use Rattle.std.proofs.Common.{◌≡◌, ◌+◌, ◌*◌, ◌-◌, ◌≤◌, ◌∙◌, ◌++◌, List, Vec, Global, map, take, drop, length, ap, sym, subst, arith}
 use Rattle.std.specs.Prelude.{OnOk, vec_capacity}
-use Rattle.std.proofs.lemmas.List.{length-take}
+use Rattle.std.proofs.lemmas.List.{length-map, length-take, length-take-le}
 use Rattle.lert_bay.specs.declared.bay.TheConstants.{FRAMES}
 use Rattle.lert_bay.specs.Kept.{Bays}
 use Rattle.lert_landing.specs.Landings.{AreLandings}
@@ -164,3 +164,12 @@ land_rows-reading-requires-clause-enough g c =
 
 pub land_rows-reading-requires-clause-none_taken : goal.land_rows-reading-requires-clause-none_taken
 land_rows-reading-requires-clause-none_taken g c = c.requires.none_taken
+
+pub overflow_cast-depth : goal.overflow_cast-depth
+overflow_cast-depth g c = record { fits = omega (arith, c.depth-depth.type_inv) }
+
+pub slice_bounds-rows-end : goal.slice_bounds-rows-end
+slice_bounds-rows-end g c =
+    let lent = ap (length {A = Vec BinAt Global}) c.deref.ensures.value in
+    let each = length-map c.self.inside.rows.items (λ row. row.items) in
+    sym (length-take-le _ c.deref.result.now (omega (arith, lent, each, c.depth-depth.ensures.within, c.self.invariant.0.are.levels)))

@@ -4,7 +4,7 @@ use Rattle.std.specs.List.{All}
 use Rattle.lert_spec.specs.Edges.{capacity}
 use Rattle.lert_spec.specs.Limits.{IsValid}
 use Rattle.lert_levels.specs.OnDisk.{OnDisk}
-use Rattle.lert_levels.proofs.LevelLaws.{after_few, after_room, after_kept}
+use Rattle.lert_levels.proofs.LevelLaws.{after_few, after_room, after_kept, after_seen}
 use Rattle.lert_rows.proofs.MoveLaws.{rows_few}
 use Rattle.lert_levels.proofs.levels.Levels.move_on.Goals as goal
 
@@ -58,3 +58,13 @@ pub move_rows-requires-clause-levels : goal.move_rows-requires-clause-levels
 move_rows-requires-clause-levels g c =
     let levels = subst (λ (v : OnDisk). length v.rows ≡ v.settings.levels) (sym c.self.view_is) c.requires.at.levels in
     ap length c.deref_mut.ensures.value ∙ sym (length-map c.self.inside.rows.items (λ row. row.items)) ∙ levels
+
+pub returns : goal.returns
+returns g c =
+    let s = c.self.inside.settings in
+    let valid : IsValid s = subst IsValid c.numbers-valid.ensures.value c.numbers-valid.ensures.valid in
+    let after = take c.self.inside.rows.len (c.move_rows.new.rows ++ drop (length c.move_rows.new.rows) c.self.inside.rows.items) in
+    after_seen (λ row. row.items) (λ row. vec_capacity row) s valid c.self.inside.rows.items c.self.inside.directory.items (vec_capacity c.self.inside.directory) c.self.inside.reader
+    c.self.invariant.0
+    c.args.self.now c.self.view_is c.args.m c.requires.first c.requires.last c.requires.at
+    c.deref_mut.result.now c.move_rows.new.rows after c.self.inside.rows.len c.deref_mut.ensures.value c.move_rows.ensures.rows c.deref_mut.ensures.len (λ i. after)

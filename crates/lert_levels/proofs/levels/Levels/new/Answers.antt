@@ -1,6 +1,5 @@
 use Rattle.std.proofs.Common.{◌≡◌, ◌+◌, ◌*◌, ◌≤◌, ◌∙◌, List, [], map, replicate, length, ap, sym, subst, arith, vec_capacity}
 use Rattle.lert_spec.specs.declared.numbers.Numbers.{Numbers}
-use Rattle.lert_order.specs.Fronts.{Fronts}
 use Rattle.lert_rows.specs.declared.bin_at.BinAt.{BinAt}
 use Rattle.lert_rows.specs.Rows.{AreRows, directory_text}
 use Rattle.lert_rows.proofs.MoveLaws.{all_empty, AreRows-none, short_directory}
@@ -33,14 +32,10 @@ invariant_of-result g c =
         directory_is = c.lay_directory.ensures.text ∙ ap (λ rows. directory_text (map (λ row. row.items) rows)) c.deref.ensures.value;
         directory_room = subst (λ (n : Numbers). n.levels * (1 + n.bins) ≤ vec_capacity c.lay_directory.new.directory) value
             (omega (arith, c.in_ok-directory.ensures.capacity, c.lay_directory.ensures.capacity));
-        read_by = c.in_ok-new-3.ensures.settings;
+        read_by = c.in_ok-new.ensures.settings;
       },
-      (c.in_ok-new.ensures, subst (λ (n : Numbers). (n.levels + 1) * n.bins ≤ c.in_ok-new-2.field-0.room) value (omega (arith, ap (λ (f : Fronts). f.room) c.in_ok-new-2.ensures))),
-      record {
-        of_levels = c.in_ok-landings_of.ensures.landings;
-        count = c.in_ok-landings_of.ensures.len;
-        room = subst (λ (n : Numbers). (n.levels + 1) * n.bins ≤ vec_capacity c.in_ok-with_capacity.field-0) value (omega (arith, c.in_ok-with_capacity.ensures.capacity));
-      },
+      (c.in_ok-new-3.ensures.room, omega (arith, c.in_ok-new-3.ensures.ahead)),
+      c.in_ok-new-2.ensures,
     )
 
 pub returns : goal.returns

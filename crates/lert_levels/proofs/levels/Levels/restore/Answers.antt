@@ -1,4 +1,5 @@
-use Rattle.std.proofs.Common.{◌≤◌, ◌<◌, ◌++◌, ap, length, map, take, drop, subst, sym, vec_capacity}
+use Rattle.std.proofs.Common.{◌≤◌, ◌<◌, ◌++◌, ◌∙◌, ap, length, map, take, drop, subst, sym, vec_capacity}
+use Rattle.std.proofs.lemmas.List.{length-map}
 use Rattle.std.specs.List.{All}
 use Rattle.lert_spec.specs.Edges.{capacity}
 use Rattle.lert_spec.specs.Limits.{IsValid}
@@ -72,3 +73,7 @@ returns-clause-rows g c = (named_after g c).are
 
 pub returns-clause-directory : goal.returns-clause-directory
 returns-clause-directory g c = (named_after g c).text_is
+
+pub restore_rows-requires-clause-levels : goal.restore_rows-requires-clause-levels
+restore_rows-requires-clause-levels g c =
+    ap length c.deref_mut.ensures.value ∙ sym (length-map c.self.inside.rows.items (λ row. row.items)) ∙ c.self.invariant.0.are.levels

@@ -1,0 +1,24 @@
+use Rattle.std.proofs.Common.{◌-◌, ◌∙◌, ap, sym, arith}
+use Rattle.lert_rows.specs.Rows.{row_of}
+use Rattle.lert_rows.proofs.ReadLaws.{row_here}
+use Rattle.lert_levels.specs.OnDisk.{OnDisk}
+use Rattle.lert_levels.proofs.LevelLaws.{level_row}
+use Rattle.lert_levels.proofs.levels.Levels.bins.Goals as goal
+
+pub overflow_sub-level : goal.overflow_sub-level
+overflow_sub-level g c = c.requires.first
+
+pub index-requires : goal.index-requires
+index-requires g c =
+    let v = c.self.inside in
+    let has = level_row (λ row. row.items) v.settings v.rows.items c.args.self.now c.self.view_is
+    c.self.invariant.0.are c.args.level c.requires.first c.requires.last in
+    omega (arith, has, v.rows.ok.0)
+
+pub returns : goal.returns
+returns g c =
+    let v = c.self.inside in
+    let has = level_row (λ row. row.items) v.settings v.rows.items c.args.self.now c.self.view_is
+    c.self.invariant.0.are c.args.level c.requires.first c.requires.last in
+    sym (row_here (λ row. row.items) v.rows.items (c.args.level - 1) c.index.result.now c.deref.result.now has c.index.ensures c.deref.ensures.value)
+    ∙ ap (λ (seen : OnDisk). row_of seen.rows c.args.level) c.self.view_is

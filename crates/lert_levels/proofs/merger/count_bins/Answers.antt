@@ -1,0 +1,56 @@
+use Rattle.std.proofs.Common.{ap}
+use Rattle.std.specs.Prelude.{Err}
+use Rattle.std.proofs.lemmas.Result.{err_from_is_err_and}
+use Rattle.lert_bay.specs.Kept.{Bays}
+use Rattle.lert_bay.proofs.KeptLaws.{IsLawful, reads_as}
+use Rattle.lert_frames.proofs.FaultLaws.{not_err}
+use Rattle.lert_rows.proofs.ReadLaws.{failed_there, malformed_there}
+use Rattle.lert_levels.proofs.merger.count_bins.Given as given
+use Rattle.lert_levels.proofs.merger.count_bins.Goals as goal
+
+abbrev bays : (g : given.Over) → Bays g.row.B.Denot
+bays g = record {
+  faults = g.B.Faulty.faults;
+  mark = g.B.Faulty.mark;
+  files = g.B.Bay.files;
+  leaves = g.B.Bay.leaves;
+  moment = g.B.Bay.moment;
+  left_since = g.B.Bay.left_since;
+  handed_out = g.B.Bay.handed_out;
+}
+
+lawful : (g : given.Over) → IsLawful (bays g)
+lawful g = record { as_read = g.met.B.Bay.as_read; since_now = g.met.B.Bay.since_now; only_now = g.met.B.Bay.only_now; since_earlier = g.met.B.Bay.since_earlier }
+
+pub merge_all-requires-clause-unread : goal.merge_all-requires-clause-unread
+merge_all-requires-clause-unread g c = c.requires.unread
+
+pub merge_all-requires-clause-wide : goal.merge_all-requires-clause-wide
+merge_all-requires-clause-wide g c = c.requires.wide
+
+pub merge_all-requires-clause-totals : goal.merge_all-requires-clause-totals
+merge_all-requires-clause-totals g c = c.requires.totals
+
+pub returns : goal.returns
+returns g c =
+    let e = c.in_ok-merge_all.ensures in
+    record {
+      counted = e.merged;
+      malformed = λ at is. absurd (not_err _ _ is);
+      only_reads = reads_as (bays g) (lawful g) c.args.bay.now c.merge_all.new.bay _ _ (λ is. absurd (not_err _ _ is)) e.only_reads;
+      streams = e.streams;
+      ahead = e.ahead;
+    }
+
+pub returns-in_err-merge_all : goal.returns-in_err-merge_all
+returns-in_err-merge_all g c =
+    let r = c.from_residual in
+    let fault = c.in_err-merge_all.field-0.0 in
+    let e = c.in_err-merge_all.ensures in
+    record {
+      counted = rw (err_from_is_err_and r.result r.ensures.1).1 tt;
+      malformed = λ at is. e.malformed at (ap Err (malformed_there r.result fault at r.ensures.1 is));
+      only_reads = reads_as (bays g) (lawful g) c.args.bay.now c.merge_all.new.bay _ _ (λ is. ap Err (failed_there r.result fault r.ensures.1 is)) e.only_reads;
+      streams = e.streams;
+      ahead = e.ahead;
+    }
