@@ -1,11 +1,13 @@
 -- The words of run ends at the front of bytes, and which slots they say end a run.
-use Rattle.std.proofs.Common.{◌≡◌, ℕ, zero, suc, ◌+◌, ◌-◌, ◌<◌, ◌≤◌, min, Bool, false, List, [], ◌∷◌, ◌++◌, length, take, drop, get_or, replicate, refl, sym}
+use Rattle.std.proofs.Common.{◌≡◌, ℕ, zero, suc, ◌+◌, ◌-◌, ◌*◌, ◌<◌, ◌≤◌, min, Bool, false, List, [], ◌∷◌, ◌++◌, length, take, drop}
+use Rattle.std.proofs.Common.{get_or, replicate, refl, sym}
 use Rattle.std.proofs.Common.{ap, ap₂, ◌∙◌, inl, inr, arith, append_assoc, append-nil, length-append, length-drop, length-take}
 use Rattle.std.proofs.lemmas.Bool.{cases_lt}
 use Rattle.std.proofs.lemmas.List.{drop-append-le, drop-take, drop_at, drop-replicate, length-take-le, length-replicate, take_all, take-append-le, take-take}
 use Rattle.lert_slotbits.specs.Bits.{word_bits, row_of}
 use Rattle.lert_slotbits.proofs.RowLemmas.{length_word_bits}
 use Rattle.lert_blocks.specs.Frame.{numbers_in}
+use Rattle.lert_blocks.specs.Text.{word_count}
 use Rattle.byteorder.specs.Endian.{little_number}
 use Rattle.lert_frames.specs.Decoded.{words_there, ends_there}
 use Rattle.lert_frames.specs.declared.slots.WordEnds.{WordEnds}
@@ -23,6 +25,36 @@ two_words some bytes rest word more long words_is first next =
       next = next ∙ sym (numbers_second (words_there some (bytes ++ rest)) (bytes ++ rest) there
           ∙ (ap (little_number 8) (drop-append-le 8 bytes rest (omega (arith, long))) ∙ little_number-append 8 (drop 8 bytes) rest (omega (arith, long, length-drop 8 bytes))));
     }
+
+-- none is
+pub no_words : (some : ℕ) (bytes rest : List ℕ) → 1 ≤ some → length bytes < 8 → (length bytes < 8 * min 2 (word_count some) → rest ≡ []) →
+    AreEnds some (bytes ++ rest) (record { words = 0; first = 0; next = 0 })
+no_words some bytes rest any short missing =
+    let empty : length rest ≡ 0 = ap length (missing (omega (arith, any, short))) in
+    let none : words_there some (bytes ++ rest) ≡ 0 = omega (arith, short, length-append bytes rest, empty) in
+    record {
+      words = omega (arith, none);
+      first = sym (ap (λ n. get_or (numbers_in n (bytes ++ rest)) 0 0) none);
+      next = sym (ap (λ n. get_or (numbers_in n (bytes ++ rest)) 1 0) none);
+    }
+
+-- one is there, of one or of two
+module _ (some : ℕ) (bytes rest : List ℕ) (first : ℕ) (any : 1 ≤ some) (long : 8 ≤ length bytes) (is : first ≡ little_number 8 bytes) where
+  first_there : words_there some (bytes ++ rest) ≡ 1 → AreEnds some (bytes ++ rest) (record { words = 1; first = first; next = 0 })
+  first_there one = record {
+    words = omega (arith, one);
+    first = is ∙ sym (numbers_first (words_there some (bytes ++ rest)) (bytes ++ rest) (omega (arith, one)) ∙ little_number-append 8 bytes rest long);
+    next = sym (ap (λ n. get_or (numbers_in n (bytes ++ rest)) 1 0) one);
+  }
+
+  pub only_word : some ≤ 64 → AreEnds some (bytes ++ rest) (record { words = 1; first = first; next = 0 })
+  only_word few = first_there (omega (arith, any, few, long, length-append bytes rest))
+
+  pub second_missing : 64 < some → length bytes < 16 → (length bytes < 8 * min 2 (word_count some) → rest ≡ []) →
+      AreEnds some (bytes ++ rest) (record { words = 1; first = first; next = 0 })
+  second_missing more short missing =
+      let empty : length rest ≡ 0 = ap length (missing (omega (arith, more, short))) in
+      first_there (omega (arith, more, long, short, length-append bytes rest, empty))
 
 -- ---- which slots end a run
 

@@ -12,6 +12,7 @@ pub mod FieldLaws
 pub mod FloorLaws
 pub mod FrameLaws
 pub mod FrontLaws
+pub mod GiveLaws
 pub mod GrowingLaws
 pub mod KeptPlaceLaws
 pub mod NearLaws

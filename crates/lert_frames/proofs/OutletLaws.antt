@@ -2,8 +2,9 @@
 use Rattle.std.proofs.Common.{◌≡◌, ℕ, ◌+◌, ◌<◌, ◌≤◌, List, ◌++◌, length, take, Some, refl, sym, ap, ap₂, ◌∙◌, ◌⊎◌, inl, inr, arith}
 use Rattle.std.proofs.Common.{append-nil, append_assoc, length-append, length-take, length-drop}
 use Rattle.std.proofs.lemmas.Bool.{cases_lt}
-use Rattle.std.proofs.lemmas.List.{drop_at, length-take-le, take_at, take-append-le}
+use Rattle.std.proofs.lemmas.List.{drop_at, length-take-le, take_at, take-append-le, with_items_is}
 use Rattle.std.proofs.Math.Seq.{take-add}
+use Rattle.std.specs.Vec.{with_items}
 use Rattle.lert_bay.specs.Files.{Files, Holds}
 use Rattle.lert_bay.specs.Kept.{Bays}
 use Rattle.lert_bay.specs.Settled.{part}
@@ -39,6 +40,14 @@ module _ (begin : ℕ) (text file : List ℕ) (o : Outlet) (out : IsOut begin te
     at_is = at_is ∙ out.at_is;
     there = ap (part file begin) at_is ∙ out.there;
   }
+
+  -- they were laid over the buffer, behind those that aren't written
+  pub out_laid : (bytes was buffer : List ℕ) (count : ℕ) (after : Outlet) → was ≡ o.bytes.items → length buffer ≡ o.bytes.len →
+      take (o.len + count) buffer ≡ take o.len was ++ bytes → after.at ≡ o.at →
+      unwritten after ≡ take (o.len + count) (with_items o.bytes buffer).items → IsOut begin (text ++ bytes) file after
+  out_laid bytes was buffer count after same long laid at_is unwritten_is =
+      out_more bytes after at_is
+      (unwritten_is ∙ (ap (take (o.len + count)) (with_items_is o.bytes buffer long) ∙ (laid ∙ ap (λ xs. take o.len xs ++ bytes) same)))
 
   -- the bytes gone stand in another file that has them
   pub out_elsewhere : (other : List ℕ) → (begin < o.at → part other begin o.at ≡ part file begin o.at) → part other begin o.at ≡ out.gone

@@ -1,6 +1,6 @@
 -- Places of frames don't overlap, and end early.
-use Rattle.std.proofs.Common.{◌≡◌, ◌≢◌, ℕ, zero, suc, ◌+◌, ◌-◌, ◌*◌, ◌/◌, ◌^◌, ◌<◌, ◌≤◌, ◌⊎◌, inl, inr, ap, sym, ◌∙◌, subst, arith}
-use Rattle.std.proofs.Math.Nat.{mul-le-mul_left, mul-le-mul_right, one-le-pow}
+use Rattle.std.proofs.Common.{◌≡◌, ◌≢◌, ℕ, zero, suc, ◌+◌, ◌-◌, ◌*◌, ◌/◌, ◌%◌, ◌^◌, ◌<◌, ◌≤◌, ◌⊎◌, inl, inr, ap, sym, ◌∙◌, subst, arith}
+use Rattle.std.proofs.Math.Nat.{mod-eq_of_lt, mul-le-mul_left, mul-le-mul_right, one-le-pow, pow-le-pow_right}
 use Rattle.std.proofs.lemmas.Bool.{cases_lt, cases_order}
 use Rattle.std.proofs.lemmas.Nat.{leading_top, mul-le, pow-add, pow_pos}
 use Rattle.std.proofs.lemmas.Nat.Bits.{ones_shr}
@@ -142,6 +142,23 @@ places_apart s level frame other_level other from within other_from other_within
     neither : other_level ≡ level → other ≡ frame → (other_level ≢ level) ⊎ (other ≢ frame) → ⊥
     neither same twice (inl apart) = apart same
     neither same twice (inr apart) = apart twice
+
+-- a level's quotients counted by a shift, which loses none, and so its blocks
+module _ (bits : ℕ) (least : 6 ≤ bits) (most : bits ≤ 32) where
+  quotients_from : 2 ^ 6 ≤ 2 ^ bits
+  quotients_from = pow-le-pow_right (omega arith) least
+
+  quotients_to : 2 ^ bits ≤ 2 ^ 32
+  quotients_to = pow-le-pow_right (omega arith) most
+
+  pub shift_is : 1 * 2 ^ bits % 2 ^ 64 ≡ 2 ^ bits
+  shift_is = let short : 1 * 2 ^ bits < 2 ^ 64 = omega (arith, quotients_to) in mod-eq_of_lt short ∙ omega arith
+
+  pub some_blocks : 1 ≤ 1 * 2 ^ bits % 2 ^ 64 / 64
+  some_blocks = omega (arith, shift_is, quotients_from)
+
+  pub few_blocks : 1 * 2 ^ bits % 2 ^ 64 / 64 ≤ 2 ^ 26
+  few_blocks = omega (arith, shift_is, quotients_to)
 
 -- the greatest tail and one more
 pub limit_is : (bits : ℕ) → bits ≤ 8 → 18446744073709551615 / 2 ^ bits + 1 ≡ 2 ^ (64 - bits)

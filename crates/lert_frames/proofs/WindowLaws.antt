@@ -1,10 +1,13 @@
 -- What is at hand in a window, and what is to come.
-use Rattle.std.proofs.Common.{◌≡◌, ℕ, ◌+◌, ◌-◌, ◌<◌, ◌≤◌, List, [], ◌++◌, length, take, drop, get_or, refl, sym, ap, ap₂, ◌∙◌, subst, inl, inr, arith}
+use Rattle.std.proofs.Common.{◌≡◌, ◌↔◌, ℕ, ◌+◌, ◌-◌, ◌<◌, ◌≤◌, Bool, false, true, List, [], ◌++◌}
+use Rattle.std.proofs.Common.{length, take, drop, get_or, refl, sym, ap, ap₂, ◌∙◌, subst, inl, inr, arith}
 use Rattle.std.proofs.Common.{append_assoc, length-take, length-drop}
-use Rattle.std.proofs.lemmas.Bool.{cases_lt}
+use Rattle.std.proofs.Math.Dec.{leb}
+use Rattle.std.proofs.lemmas.Bool.{cases_lt, le-leb, leb-false, leb-true}
 use Rattle.std.proofs.lemmas.List.{drop-drop, drop-append-le, drop-take, get_or-take, get_or-drop, get_or_default, take-append-drop, take_all, with_items_is}
 use Rattle.std.proofs.lemmas.List.Elements.{All-append, All-drop, All-nil, All-same, All-take}
 use Rattle.std.proofs.Math.Seq.{take-add}
+use Rattle.std.specs.Bool.{IsFalse, IsTrue}
 use Rattle.std.specs.Vec.{with_items}
 use Rattle.std.specs.declared.vec.Vec.{Vec}
 use Rattle.lert_bay.specs.Files.{CopiesFrom}
@@ -36,6 +39,20 @@ module _ (bytes : List ℕ) (from upto count : ℕ) (within : from + count ≤ u
       let hand = take (upto - from) (drop from bytes) in
       ap (λ xs. xs ++ rest) passed
       ∙ sym (drop-append-le count hand rest (omega (arith, within, fits, length-take (upto - from) (drop from bytes), length-drop from bytes)))
+
+-- ---- whether so many are at hand
+
+module _ (count long had : ℕ) (is : long ≡ had) where
+  pub is_enough : IsTrue (leb count long) ↔ (count ≤ had)
+  is_enough = (λ yes. omega (arith, leb-true count long yes, is), λ few. le-leb count long (omega (arith, few, is)))
+
+  pub too_few : IsFalse (leb count long) → had < count
+  too_few missing = omega (arith, leb-false count long missing, is)
+
+-- where fewer are at hand than were wanted, no others come
+pub off_of : (enough : Bool) (count had : ℕ) → (IsTrue enough ↔ (count ≤ had)) → had < count → enough ≡ false
+off_of true count had means short = absurd (omega (arith, means.0 refl, short))
+off_of false count had means short = refl
 
 -- ---- those behind them read
 

@@ -2,6 +2,7 @@ use Rattle.std.proofs.Common.{◌≡◌, ℕ, ◌+◌, ◌*◌, ◌^◌, ◌<◌
 use Rattle.std.specs.Prelude.{Ok, Err, OnOk}
 use Rattle.std.proofs.lemmas.Result.{err_from_is_err_and}
 use Rattle.std.proofs.lemmas.List.{length-take-le}
+use Rattle.std.specs.Int.{div_ceil}
 use Rattle.lert_bay.specs.declared.bay.TheConstants.{FRAMES}
 use Rattle.byteorder.specs.Endian.{little_bytes}
 use Rattle.lert_bay.specs.Kept.{Bays}
@@ -100,6 +101,9 @@ head_small size is = omega (arith, is)
 in_reach : (place end : ℕ) → place ≤ end → end ≤ 2 ^ 62 → place < 2 ^ 63
 in_reach place end within near = omega (arith, within, near)
 
+words_of_bits : (words n : ℕ) → words ≡ div_ceil n 64 → words ≡ word_count n
+words_of_bits words n is = omega (arith, is)
+
 -- ---- the places of the block
 
 module _ (l : Long) (b : Block) (e o : Outlet) (reach : Reaches l b.len (2 ^ 62) e o) where
@@ -138,7 +142,7 @@ move_down-requires g c =
     let l = c.args.long in
     let b = c.args.block.now in
     let reach = c.requires.reach in
-    let ceil : c.div_ceil.result ≡ word_count (64 * l.words + length c.slots-2.result.now) = omega (arith, c.div_ceil.ensures) in
+    let ceil = words_of_bits c.div_ceil.result (64 * l.words + length c.slots-2.result.now) c.div_ceil.ensures in
     let moved = moved_places l b.len (2 ^ 62) c.args.ends.now c.args.outlet.now reach (64 * l.words + length c.slots-2.result.now) c.div_ceil.result
     (all_slots l.words _ b.len (counted_slots b c.slots-2.result.now c.slots-2.ensures)) ceil in
     record {
@@ -208,7 +212,7 @@ returns-in_err-move_down g c =
     let one = c.in_ok-write_numbers.ensures in
     let two = c.in_ok-write_numbers-2.ensures in
     let three = c.in_err-move_down.ensures in
-    let ceil : c.div_ceil.result ≡ word_count (64 * l.words + length c.slots-2.result.now) = omega (arith, c.div_ceil.ensures) in
+    let ceil = words_of_bits c.div_ceil.result (64 * l.words + length c.slots-2.result.now) c.div_ceil.ensures in
     let moved = moved_places l b.len (2 ^ 62) e o reach (64 * l.words + length c.slots-2.result.now) c.div_ceil.result
     (all_slots l.words _ b.len (counted_slots b c.slots-2.result.now c.slots-2.ensures)) ceil in
     rw p.1 (record {
@@ -241,7 +245,7 @@ returns g c =
     let last = next_place o + 8 * b.len in
     let ends_are = c.ends.ensures.value in
     let count : 64 * m + length c.slots-2.result.now ≡ n = all_slots m _ b.len (counted_slots b c.slots-2.result.now c.slots-2.ensures) in
-    let ceil : c.div_ceil.result ≡ word_count (64 * m + length c.slots-2.result.now) = omega (arith, c.div_ceil.ensures) in
+    let ceil = words_of_bits c.div_ceil.result (64 * m + length c.slots-2.result.now) c.div_ceil.ensures in
     let goal_at : l.begin + 12 + 8 * c.div_ceil.result ≡ target = ap (λ words. l.begin + 12 + 8 * words) (ceil ∙ ap word_count count) in
     let at_is : c.move_down.new.outlet.at ≡ target + 8 * n = three.place ∙ ap₂ (λ to k. to + 8 * k) goal_at count in
     let places = moved_places l b.len (2 ^ 62) e o reach n (word_count n) refl refl in

@@ -1,11 +1,12 @@
-use Rattle.std.proofs.Common.{◌≡◌, ◌+◌, ◌-◌, ◌<◌, ◌∙◌, Some, length, drop, ap, sym, refl, subst, arith, true, false}
+use Rattle.std.proofs.Common.{◌≡◌, ℕ, ◌+◌, ◌-◌, ◌*◌, ◌^◌, ◌<◌, ◌≤◌, ◌∙◌, Some, length, drop, ap, sym, refl, subst, arith, true, false}
 use Rattle.std.proofs.lemmas.Result.{err_from_is_err_and}
 use Rattle.lert_bay.specs.declared.bay.TheConstants.{FRAMES}
 use Rattle.lert_bay.specs.Kept.{Bays}
 use Rattle.lert_bay.proofs.KeptLaws.{IsLawful, reads_as}
 use Rattle.lert_blocks.specs.Frame.{ends_agree}
+use Rattle.lert_blocks.specs.Text.{word_count}
 use Rattle.lert_frames.specs.Steps.{fields_len}
-use Rattle.lert_frames.specs.Window.{at_hand, place_of, to_come}
+use Rattle.lert_frames.specs.Window.{at_hand, place_of, room_of, to_come}
 use Rattle.lert_frames.proofs.FaultLaws.{not_err, not_failed, fault_is, same_place}
 use Rattle.lert_frames.proofs.FieldLaws.{fields_told, end_of, run_ends_short, run_ends_agree, run_ends_differ}
 use Rattle.lert_frames.proofs.NearLaws.{agrees_as, block_words, near_long, near_words, near_held}
@@ -26,6 +27,75 @@ bays g = record {
 
 lawful : (g : given.Over) → IsLawful (bays g)
 lawful g = record { as_read = g.met.B.Bay.as_read; since_now = g.met.B.Bay.since_now; only_now = g.met.B.Bay.only_now; since_earlier = g.met.B.Bay.since_earlier }
+
+-- ---- what calls want
+
+-- by the number of bytes before the slots, of which some are those of the words
+module _ (len words count : ℕ) (len_is : len ≡ 12 + 8 * count) (near : 12 + 8 * count ≤ 8192) where
+  fits : (room : ℕ) → room ≡ 8192 → len ≤ room
+  fits room room_is = omega (arith, len_is, near, room_is)
+
+  few_words : words ≡ count → words ≤ 2 ^ 32
+  few_words are = omega (arith, are, near)
+
+  some_fields : 12 ≤ len
+  some_fields = omega (arith, len_is)
+
+  behind_fields : (long : ℕ) → long ≡ len - 12 → words ≡ count → long ≡ 8 * words
+  behind_fields long long_is are = omega (arith, long_is, len_is, are)
+
+  words_fit : (long room : ℕ) → long ≡ len - 12 → room ≡ 8192 → long ≤ room
+  words_fit long room long_is room_is = omega (arith, long_is, len_is, near, room_is)
+
+near_end : (place more room : ℕ) → place + more < 2 ^ 43 → room ≡ 8192 → place + room < 2 ^ 63
+near_end place more room near room_is = omega (arith, near, room_is)
+
+begins : (long len place : ℕ) → long ≡ len - 12 → long ≤ place + len
+begins long len place long_is = omega (arith, long_is)
+
+pub demand-requires-clause-fits : goal.demand-requires-clause-fits
+demand-requires-clause-fits g c =
+    fits c.len-len.result 0 (word_count c.args.head.count) c.len-len.ensures c.requires.near (room_of c.args.window.now) c.requires.room
+
+pub demand-requires-clause-reach : goal.demand-requires-clause-reach
+demand-requires-clause-reach g c =
+    near_end (place_of c.args.window.now) (fields_len c.args.head) (room_of c.args.window.now) c.requires.reach c.requires.room
+
+pub between-words-requires-clause-order : goal.between-words-requires-clause-order
+between-words-requires-clause-order g c = some_fields c.len-len.result 0 (word_count c.args.head.count) c.len-len.ensures c.requires.near
+
+pub between-words-requires-clause-within : goal.between-words-requires-clause-within
+between-words-requires-clause-within g c = subst (λ n. c.len-len.result ≤ n) (sym c.at_hand.ensures.count) c.in_ok-demand.ensures.enough
+
+pub run_ends_of-requires-clause-few : goal.run_ends_of-requires-clause-few
+run_ends_of-requires-clause-few g c =
+    few_words c.len-len.result c.words.result (word_count c.args.head.count) c.len-len.ensures c.requires.near c.words.ensures
+
+pub run_ends_of-requires-clause-long : goal.run_ends_of-requires-clause-long
+run_ends_of-requires-clause-long g c =
+    behind_fields c.len-len.result c.words.result (word_count c.args.head.count) c.len-len.ensures c.requires.near (length c.between-words.result.now)
+    c.between-words.ensures.count c.words.ensures
+
+pub left_at_last_word-requires : goal.left_at_last_word-requires
+left_at_last_word-requires g c = subst (λ n. n + fields_len c.args.head < 2 ^ 43) (sym c.in_ok-demand.ensures.ahead.place) c.requires.reach
+
+pub hold-requires-clause-room : goal.hold-requires-clause-room
+hold-requires-clause-room g c =
+    words_fit c.len-len.result 0 (word_count c.args.head.count) c.len-len.ensures c.requires.near
+    (length c.between-words.result.now) (room_of c.args.ends.now) c.between-words.ensures.count c.requires.ends_room
+
+pub hold-requires-clause-begins : goal.hold-requires-clause-begins
+hold-requires-clause-begins g c = begins (length c.between-words.result.now) c.len-len.result c.place.result c.between-words.ensures.count
+
+pub overflow_add-place : goal.overflow_add-place
+overflow_add-place g c =
+    let there = c.place.ensures ∙ c.in_ok-demand.ensures.ahead.place in
+    omega (arith, there, c.len-len.ensures, c.requires.reach)
+
+pub skip-requires : goal.skip-requires
+skip-requires g c = c.in_ok-demand.ensures.enough
+
+-- ---- its ends
 
 pub returns-in_err-demand : goal.returns-in_err-demand
 returns-in_err-demand g c =

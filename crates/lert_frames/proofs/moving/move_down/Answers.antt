@@ -1,12 +1,12 @@
-use Rattle.std.proofs.Common.{◌≡◌, ℕ, ◌+◌, ◌≤◌, ◌∙◌, ◌++◌, List, ap, subst, refl, inr, arith}
+use Rattle.std.proofs.Common.{◌≡◌, ℕ, ◌+◌, ◌≤◌, ◌∙◌, ◌++◌, List, ap, sym, subst, refl, inr, arith}
 use Rattle.std.proofs.lemmas.Result.{err_from_is_err_and}
 use Rattle.lert_bay.specs.declared.bay.TheConstants.{FRAMES}
 use Rattle.lert_bay.specs.Settled.{part}
 use Rattle.lert_bay.proofs.KeptLaws.{IsLawful}
 use Rattle.lert_frames.specs.Outlet.{IsOut}
-use Rattle.lert_frames.proofs.CallLaws.{writes_on, writes_as, writes_wider, told_then, no_shorter}
+use Rattle.lert_frames.proofs.CallLaws.{writes_none, writes_on, writes_as, writes_wider, told_then, no_shorter}
 use Rattle.lert_frames.proofs.OutletLaws.{out_all}
-use Rattle.lert_frames.proofs.PartLaws.{part_join}
+use Rattle.lert_frames.proofs.PartLaws.{part_is, part_join}
 use Rattle.lert_frames.proofs.WithinLaws.{part_within}
 use Rattle.lert_frames.proofs.moving.move_down.Given as given
 use Rattle.lert_frames.proofs.moving.move_down.Invariants.{bays}
@@ -74,3 +74,28 @@ returns-clause-moved g c seen told later told_later within =
     let out = inv.out seen told later told_later within in
     let place : c.args.to + c.args.count ≡ c.loop-moved.outlet.at = omega (arith, inv.place, all) in
     ap (part (later FRAMES) c.args.to) place ∙ (out_all c.args.to _ (later FRAMES) c.loop-moved.outlet out inv.empty ∙ ap (λ n. part (seen FRAMES) c.args.from (c.args.from + n)) all)
+
+pub loop-moved-init : goal.loop-moved-init
+loop-moved-init g c =
+    let e = c.start.ensures in
+    record {
+      some = omega arith;
+      empty = omega (arith, e.place, e.at);
+      place = omega (arith, e.at);
+      size = e.size ∙ c.requires.size;
+      writes = writes_none (bays g) (lawful g) c.args.to (c.args.to + 0) c.args.bay.now ⊥ (λ never. never);
+      out = λ seen told later told_later within.
+          let none = part_is (seen FRAMES) c.args.from 0 (c.args.from + 0) refl in
+          subst (λ (bytes : List ℕ). IsOut c.args.to bytes (later FRAMES) c.start.new.self) (sym none) (e.out (later FRAMES));
+    }
+
+pub returns-clause-place : goal.returns-clause-place
+returns-clause-place g c = omega (arith, c.loop-moved.invariant.place, c.loop-moved.invariant.some, c.loop-moved-test.false)
+
+pub returns-clause-writes : goal.returns-clause-writes
+returns-clause-writes g c begin end low high =
+    let inv = c.loop-moved.invariant in
+    let to = c.args.to in
+    writes_as (bays g) (lawful g) begin end c.args.bay.now c.loop-moved.bay ⊥ _ (λ failed. cc)
+    (writes_wider (bays g) to (to + c.loop-moved.moved) begin end c.args.bay.now c.loop-moved.bay ⊥ low (omega arith)
+    (omega (arith, inv.some, high)) inv.writes)

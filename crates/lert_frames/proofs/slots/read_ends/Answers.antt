@@ -1,10 +1,10 @@
-use Rattle.std.proofs.Common.{ℕ, ◌≡◌, ◌<◌, ◌≤◌, ◌+◌, ◌*◌, ◌/◌, ◌∙◌, ◌++◌, Bool, true, false, List, [], length, drop, min, ap, refl, arith, subst, length-append}
-use Rattle.std.specs.Prelude.{◌↔◌, IsTrue}
+use Rattle.std.proofs.Common.{ℕ, ◌≡◌, ◌<◌, ◌≤◌, ◌+◌, ◌*◌, ◌/◌, ◌∙◌, ◌++◌, List, [], length, drop, min, ap, arith, subst, length-append}
 use Rattle.std.proofs.lemmas.List.{drop_all}
 use Rattle.lert_bay.specs.declared.bay.TheConstants.{FRAMES}
 use Rattle.lert_blocks.specs.Text.{word_count}
 use Rattle.lert_frames.specs.Steps.{AreEnds}
 use Rattle.lert_frames.specs.Window.{count_of, to_come}
+use Rattle.lert_frames.proofs.WindowLaws.{off_of}
 use Rattle.std.proofs.lemmas.Result.{err_from_is_err_and}
 use Rattle.lert_bay.specs.Kept.{Bays}
 use Rattle.lert_bay.proofs.KeptLaws.{IsLawful, reads_as}
@@ -43,11 +43,6 @@ returns-in_err-need g c =
       failed = asked.failed;
       only_reads = reads_as (bays g) (lawful g) c.args.bay.now c.need.new.bay _ _ (λ is. same_err _ _ is) asked.only_reads;
     })
-
--- where fewer are at hand than were wanted, no others come
-off_of : (enough : Bool) (count had : ℕ) → (IsTrue enough ↔ (count ≤ had)) → had < count → enough ≡ false
-off_of true count had means short = absurd (omega (arith, means.0 refl, short))
-off_of false count had means short = refl
 
 none_more : (xs rest ys : List ℕ) → xs ++ rest ≡ ys → xs ≡ ys → rest ≡ []
 none_more xs rest ys all same = drop_all 0 rest (omega (arith, ap (λ (zs : List ℕ). length zs) all, ap (λ (zs : List ℕ). length zs) same, length-append xs rest))

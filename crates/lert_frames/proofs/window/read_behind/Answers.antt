@@ -1,5 +1,7 @@
-use Rattle.std.proofs.Common.{◌≡◌, ℕ, ◌+◌, ◌-◌, ◌≤◌, ◌∙◌, ◌++◌, List, [], length, take, drop, ap, sym, subst, arith, append-nil, length-append, length-drop}
+use Rattle.std.proofs.Common.{◌≡◌, ℕ, ◌+◌, ◌-◌, ◌≤◌, ◌<◌, ◌∙◌, ◌++◌, List, []}
+use Rattle.std.proofs.Common.{length, take, drop, ap, sym, subst, arith, append-nil, length-append, length-drop}
 use Rattle.std.proofs.lemmas.List.{drop_all, drop_at, take_at, length-take-le}
+use Rattle.std.proofs.lemmas.List.Elements.{All-from_get_or}
 use Rattle.std.proofs.lemmas.Result.{IfOk-weaker}
 use borrow.Rule.Slice.PartMut.{put_mid}
 use Rattle.lert_bay.specs.Files.{CopiesFrom}
@@ -55,6 +57,12 @@ pub returns-clause-front : goal.returns-clause-front
 returns-clause-front g c =
     let old = c.args.into.now in
     take_at (take c.args.from old) (c.read_at.new.into ++ drop (length old - c.args.from) (drop c.args.from old)) c.args.from (front_long c.args.from old c.read_at.new.into c.requires)
+
+pub returns-clause-small : goal.returns-clause-small
+returns-clause-small g c =
+    let old = c.args.into.now in
+    All-from_get_or (λ byte. byte < 256) (put_mid c.args.from (length old - c.args.from) old c.read_at.new.into) 0
+    (λ k below. (c.type_inv.into k).fits)
 
 pub returns-clause-within : goal.returns-clause-within
 returns-clause-within g c =

@@ -1,4 +1,5 @@
-use Rattle.std.proofs.Common.{◌∙◌, ℕ, List, refl, sym, ap, subst, arith, length, take}
+use Rattle.std.proofs.Common.{◌≡◌, ◌≤◌, ◌*◌, ◌/◌, ◌∙◌, ℕ, min, List, refl, sym, ap, subst, arith, take}
+use Rattle.std.specs.Vec.{with_items}
 use Rattle.std.proofs.lemmas.List.{with_items_is}
 use Rattle.std.proofs.lemmas.Result.{err_from_is_err_and}
 use Rattle.lert_bay.specs.declared.bay.TheConstants.{FRAMES}
@@ -28,6 +29,17 @@ bays g = record {
 lawful : (g : given.Over) → IsLawful (bays g)
 lawful g = record { as_read = g.met.B.Bay.as_read; since_now = g.met.B.Bay.since_now; only_now = g.met.B.Bay.only_now; since_earlier = g.met.B.Bay.since_earlier }
 
+-- the slots that were read
+module _ (some words count had : ℕ) (is : count ≡ min (min (min some 72) (64 * words)) (had / 8)) where
+  few_slots : count ≤ min some 72
+  few_slots = omega (arith, is)
+
+  known_slots : count ≤ 64 * words
+  known_slots = omega (arith, is)
+
+  slots_there : 8 * count ≤ had
+  slots_there = omega (arith, is)
+
 pub read_ends-requires : goal.read_ends-requires
 read_ends-requires g c =
     let old = c.args.self.now in
@@ -36,7 +48,12 @@ read_ends-requires g c =
 pub read_slots-requires : goal.read_slots-requires
 read_slots-requires g c =
     let old = c.args.self.now in
-    record { words = c.in_ok-ends.ensures.few; into = omega (arith, c.deref_mut.ensures.len, old.standing.slots_room); room = old.standing.window_room; reach = window_near old }
+    record {
+      words = c.in_ok-ends.ensures.few;
+      into = c.deref_mut.ensures.len ∙ (old.slots.ok.0 ∙ old.standing.slots_room);
+      room = old.standing.window_room;
+      reach = window_near old;
+    }
 
 pub invariant_of-self : goal.invariant_of-self
 invariant_of-self g c =
@@ -51,8 +68,7 @@ invariant_of-self-2 g c =
     let read = c.read_slots.ensures.ahead in
     record {
       standing = standing_ahead old c.read_slots.new.window c.read_ends.new.ends _ read.place read.room read.grows word.place word.room word.grows
-          (ap (λ (xs : List ℕ). length xs) (with_items_is old.slots c.read_slots.new.into (omega (arith, c.read_slots.auto.into, c.deref_mut.ensures.len)))
-          ∙ omega (arith, c.read_slots.auto.into, c.deref_mut.ensures.len));
+          (sym (with_items old.slots c.read_slots.new.into).ok.0 ∙ old.slots.ok.0);
     }
 
 pub returns-in_err-ends : goal.returns-in_err-ends
@@ -100,6 +116,9 @@ returns g c =
     let old = c.args.self.now in
     let word = c.in_ok-ends.ensures in
     let read = c.in_ok-count.ensures in
+    let words = c.in_ok-ends.ends.words in
+    let count = c.in_ok-count.count in
+    let had = count_of c.read_slots.new.window in
     record {
       width = refl;
       block = refl;
@@ -107,17 +126,17 @@ returns g c =
       window = ahead_since (bays g) before between old.window c.read_slots.new.window word.only_reads.seen read.ahead;
       ends = word.ahead;
       hand = record {
-        few = omega (arith, read.count);
-        known = omega (arith, read.count);
-        hand = omega (arith, read.count);
+        few = few_slots old.block.some words count had read.count;
+        known = known_slots old.block.some words count had read.count;
+        hand = slots_there old.block.some words count had read.count;
         hand_ends = word.hand;
-        from = hand_from old.block.from old.block.some c.in_ok-ends.ends.words c.in_ok-count.count (count_of c.read_slots.new.window) (count_of old.ends) (count_of old.window)
+        from = hand_from old.block.from old.block.some words count had (count_of old.ends) (count_of old.window)
             old.standing.from old.standing.near old.standing.hand read.ahead.grows old.standing.word word.one read.count;
       };
       slots = λ seen told. hand_read old.block.some (to_come c.read_ends.new.ends (seen FRAMES)) (to_come c.read_slots.new.window (seen FRAMES)) c.in_ok-ends.ends c.in_ok-count.count _
           c.read_slots.new.window (seen FRAMES)
           (subst (λ (ends : List ℕ). AreEnds old.block.some ends c.in_ok-ends.ends) (sym (word.ahead.come seen told)) (word.there seen told)) refl read.count
-          (ap (take c.in_ok-count.count) (with_items_is old.slots c.read_slots.new.into (omega (arith, c.read_slots.auto.into, c.deref_mut.ensures.len))) ∙ read.slots)
+          (ap (take count) (with_items_is old.slots c.read_slots.new.into (c.read_slots.auto.into ∙ c.deref_mut.ensures.len)) ∙ read.slots)
           (λ few. read.all seen (word.only_reads.seen ∙ told) few ∙ sym (read.ahead.come seen (word.only_reads.seen ∙ told)));
       failed = tt;
       only_reads = reads_on (bays g) (lawful g) before between after _ _ word.only_reads (reads_as (bays g) (lawful g) between after _ _ (λ is. absurd (not_err _ _ is)) read.only_reads);

@@ -225,7 +225,7 @@ returns-in-Err g c =
     let read = c.in_ok-word.ensures in
     let left = c.in-Err.ensures in
     let fault = c.slot_fault.ensures in
-    let len_is : c.len-len.result ≡ length c.args.pieces.now.items = omega arith in
+    let len_is = c.len-len.ensures ∙ c.args.pieces.now.ok.0 in
     let same = c.truncate.ensures.items ∙ (ap (λ n. take n c.decode.new.pieces.items) len_is ∙ left.kept) in
     record {
       steps =

@@ -1,7 +1,10 @@
-use Rattle.std.proofs.Common.{◌≡◌, ℕ, ◌+◌, refl, arith}
+use Rattle.std.proofs.Common.{◌≡◌, ◌∙◌, ℕ, ◌+◌, refl, arith}
 use Rattle.std.proofs.lemmas.Result.{err_from_is_err_and}
+use Rattle.lert_bay.specs.declared.bay.TheConstants.{FRAMES}
 use Rattle.lert_bay.specs.Kept.{Bays}
+use Rattle.lert_bay.specs.Settled.{part}
 use Rattle.lert_bay.proofs.KeptLaws.{IsLawful, reads_as}
+use Rattle.lert_frames.proofs.OutletLaws.{out_laid}
 use Rattle.lert_frames.proofs.outlet.Outlet.copy.Given as given
 use Rattle.lert_frames.proofs.outlet.Outlet.copy.Goals as goal
 
@@ -44,3 +47,10 @@ returns-clause-at g c = refl
 
 pub returns-clause-only_reads : goal.returns-clause-only_reads
 returns-clause-only_reads g c = c.in_ok-read_into.ensures.only_reads
+
+pub returns-clause-out : goal.returns-clause-out
+returns-clause-out g c seen told within begin text out =
+    let from = c.args.from in
+    out_laid begin text (seen FRAMES) c.args.self.now out (part (seen FRAMES) from (from + c.args.count)) c.deref_mut.result.now c.read_into.new.into
+    c.args.count _ c.deref_mut.ensures.value (c.read_into.auto.into ∙ c.deref_mut.ensures.len)
+    (c.in_ok-read_into.ensures.told seen told within) refl refl

@@ -1,4 +1,4 @@
-use Rattle.std.proofs.Common.{◌≡◌, ◌∙◌, ◌++◌, ◌∷◌, [], Ok, None, refl, sym, ap, subst, arith}
+use Rattle.std.proofs.Common.{◌≡◌, ℕ, ◌-◌, ◌<◌, ◌≤◌, ◌∙◌, ◌++◌, ◌∷◌, [], Ok, None, refl, sym, ap, subst, arith}
 use Rattle.std.specs.Prelude.{option_to_list}
 use Rattle.std.proofs.lemmas.Result.{err_from_is_err_and}
 use Rattle.lert_bay.specs.declared.bay.TheConstants.{FRAMES}
@@ -9,6 +9,7 @@ use Rattle.lert_frames.specs.Frame.{frame_left}
 use Rattle.lert_frames.specs.Place.{frame_place, tail_limit}
 use Rattle.lert_frames.specs.ToCome.{IsOver}
 use Rattle.lert_frames.proofs.CheckLaws.{total_grows, whole_bin, left_started, whole_from, stands_from}
+use Rattle.lert_frames.proofs.FaultLaws.{not_err}
 use Rattle.lert_frames.proofs.WriteLaws.{same_err}
 use Rattle.lert_frames.proofs.reader.FrameReader.check.Given as given
 use Rattle.lert_frames.proofs.reader.FrameReader.check.Goals as goal
@@ -42,13 +43,17 @@ loop-piece-preserved g c =
       only_reads = reads_on (bays g) (lawful g) c.args.bay.now c.loop-piece.bay c.next.new.ctx ⊥ ⊥ is.only_reads e.keeps;
     }
 
+smaller_by : (wide later before more after : ℕ) → before < more → after ≡ more → after ≤ later → later ≡ wide → later - after < wide - before
+smaller_by wide later before more after grows is within same = omega (arith, grows, is, within, same)
+
 pub loop-piece-smaller : goal.loop-piece-smaller
 loop-piece-smaller g c =
     let e = c.in_ok-_piece.ensures in
     let before = c.loop-piece.self.gave in
     let given : c.next.new.self.gave ≡ before ++ c.in-Some._piece ∷ [] = e.given ∙ ap (λ piece. before ++ option_to_list piece) c.in-Some.is in
     let more = total_grows (tail_limit c.next.new.self.settings) before c.in-Some._piece (subst (AreGiven (tail_limit c.next.new.self.settings)) given e.ascending) in
-    omega (arith, more, ap total given, e.sum, e.wide)
+    smaller_by c.loop-piece.self.wide c.next.new.self.wide (total before) (total (before ++ c.in-Some._piece ∷ [])) (total c.next.new.self.gave)
+    more (ap total given) e.sum e.wide
 
 -- ---- a step that stops
 
@@ -105,4 +110,4 @@ returns-clause-stands g c seen told =
 pub returns-clause-only_reads : goal.returns-clause-only_reads
 returns-clause-only_reads g c =
     reads_on (bays g) (lawful g) c.args.bay.now c.loop-piece.bay c.next.new.ctx ⊥ _ c.loop-piece.invariant.only_reads
-    (reads_as (bays g) (lawful g) c.loop-piece.bay c.next.new.ctx ⊥ _ (λ failed. cc) c.in_ok-_piece.ensures.keeps)
+    (reads_as (bays g) (lawful g) c.loop-piece.bay c.next.new.ctx ⊥ _ (λ failed. not_err _ _ failed) c.in_ok-_piece.ensures.keeps)

@@ -1,14 +1,18 @@
-use Rattle.std.proofs.Common.{◌≡◌, ◌≢◌, zero, suc, ◌∙◌, ap, sym, refl, Some, rules}
+use Rattle.std.proofs.Common.{◌≡◌, ◌≢◌, ℕ, ◌<◌, ◌⊎◌, inl, inr, Bool, false, List, [], length, drop, ◌∙◌, ap, sym, refl, Some, arith, length-drop}
+use Rattle.std.proofs.lemmas.Bool.{eqb-true, false≢true, true≢false}
+use Rattle.std.specs.Bool.{IsTrue}
+use Rattle.lert_spec.specs.declared.piece.Piece.{Piece}
+use Rattle.lert_frames.specs.Decoded.{work_of}
 use Rattle.lert_frames.specs.declared.reader.Sum.{Sum}
 use Rattle.lert_frames.specs.declared.reader.Sum.TheVariants.{Left, Over}
 use Rattle.lert_frames.proofs.AdvanceLaws.{left_unsummed}
+use Rattle.lert_frames.proofs.FaultLaws.{not_err, not_failed}
 use Rattle.lert_frames.proofs.reader.FrameReader.judge.Goals as goal
 
 -- the test told so of the sum
 whole : (c : goal.Then-eq) (sum : Sum) → c.args.self.now.sum ≡ sum → sum ≡ Left 0
-whole c (Left zero) is = refl
-whole c (Left (suc n)) is = absurd (search rules)
-whole c Over is = absurd (search rules)
+whole c (Left n) is = ap Left (eqb-true n 0 (sym (rw (c.if-eq.true, is) at c.eq.ensures)))
+whole c Over is = absurd (true≢false (rw (c.if-eq.true, is) at c.eq.ensures))
 
 pub returns-then-eq-clause-over : goal.returns-then-eq-clause-over
 returns-then-eq-clause-over c none = record {
@@ -21,7 +25,7 @@ returns-then-eq-clause-over c none = record {
 -- ---- where the counts are others
 
 missing : (c : goal.After-self-1) → c.args.self.now.sum ≢ Left 0
-missing c = search rules
+missing c is = false≢true (rw (c.if-eq.false, is) at c.eq.ensures)
 
 pub returns-clause-to_come : goal.returns-clause-to_come
 returns-clause-to_come c file =
@@ -33,3 +37,26 @@ pub returns-clause-malformed : goal.returns-clause-malformed
 returns-clause-malformed c file at is =
     let self = c.args.self.now in
     left_unsummed self.sum self.place _ self.fault c.requires.fault (missing c) (c.is_done.ensures.done c.if-not-is_done.false file) ∙ ap Some (let same : self.place ≡ at = cc in same)
+
+-- ---- where the decoder isn't done, enough are ready
+
+still_ready : (given : ℕ) (pieces : List Piece) (work : ℕ) (done : Bool) → given ≡ 0 → (64 < length pieces) ⊎ (work ≡ 0) → (work ≡ 0 → IsTrue done) →
+    done ≡ false → drop given pieces ≡ [] → ⊥
+still_ready given pieces work done front (inl many) tells more none = omega (arith, ap length none, length-drop given pieces, front, many)
+still_ready given pieces work done front (inr all) tells more none = true≢false (sym (tells all) ∙ more)
+
+pub returns-then-not-is_done : goal.returns-then-not-is_done
+returns-then-not-is_done c =
+    let r = c.args.self.now in
+    record {
+      frame = record { settings = refl; level = refl; place = refl; wide = refl; gave = refl };
+      to_come = λ file. record { left = refl; pieces = λ _. refl };
+      malformed = λ file at is. absurd (not_err _ _ is);
+      failed = λ is. not_err _ _ is;
+      over = λ none. absurd (still_ready r.given r.pieces.items (work_of r.decoder) c.is_done.result c.requires.given c.requires.enough
+          c.is_done.ensures.more.1 c.if-not-is_done.true none);
+      within = λ file is. is;
+    }
+
+pub returns-clause-failed : goal.returns-clause-failed
+returns-clause-failed c is = not_failed c.args.self.now.place _ refl is

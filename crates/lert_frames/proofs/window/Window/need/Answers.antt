@@ -1,9 +1,10 @@
-use Rattle.std.proofs.Common.{◌<◌, ◌∙◌, refl, sym}
+use Rattle.std.proofs.Common.{◌<◌, ◌∙◌, length, refl, sym, arith}
 use Rattle.std.proofs.lemmas.List.Elements.{All-same}
 use Rattle.std.proofs.lemmas.Result.{err_from_is_err_and}
 use Rattle.lert_bay.specs.Kept.{Bays}
 use Rattle.lert_bay.proofs.KeptLaws.{IsLawful, reads_as}
-use Rattle.lert_frames.specs.Window.{at_hand}
+use Rattle.lert_frames.specs.Window.{at_hand, count_of}
+use Rattle.lert_frames.proofs.WindowLaws.{is_enough, too_few}
 use Rattle.lert_frames.proofs.window.Window.need.Given as given
 use Rattle.lert_frames.proofs.window.Window.need.Goals as goal
 
@@ -38,3 +39,21 @@ returns-in_err-fill g c =
       room = filled.room;
       only_reads = reads_as (bays g) (lawful g) c.args.bay.now c.fill.new.bay _ _ (λ _. refl) filled.only_reads;
     })
+
+pub fill-requires : goal.fill-requires
+fill-requires g c = c.requires.reach
+
+pub returns-clause-enough : goal.returns-clause-enough
+returns-clause-enough g c = is_enough c.args.count (length c.at_hand-2.result.now) (count_of c.fill.new.self) c.at_hand-2.ensures.count
+
+pub returns-clause-ends : goal.returns-clause-ends
+returns-clause-ends g c seen told missing =
+    let short = too_few c.args.count (length c.at_hand-2.result.now) (count_of c.fill.new.self) c.at_hand-2.ensures.count missing in
+    c.in_ok-fill.ensures.full seen told (omega (arith, short, c.requires.fits, c.in_ok-fill.ensures.room))
+
+pub returns-clause-read : goal.returns-clause-read
+returns-clause-read g c = c.in_ok-fill.ensures.read
+
+pub returns-clause-small : goal.returns-clause-small
+returns-clause-small g c =
+    All-same (λ byte. byte < 256) (at_hand c.fill.new.self) c.at_hand-2.result.now (sym c.at_hand-2.ensures.value) c.at_hand-2.ensures.small
