@@ -1,17 +1,18 @@
 -- Rows with no bin, rows that move on one by one, and what a directory needs.
 use Rattle.std.proofs.Common.{ℕ, ◌≡◌, ◌+◌, ◌-◌, ◌*◌, ◌<◌, ◌≤◌, zero, suc, List, [], ◌∷◌, ◌++◌, length, map, take, drop, get_or, set, replicate, refl, ap}
-use Rattle.std.proofs.Common.{ap₂, sym, ◌∙◌, arith, inl, inr, subst}
+use Rattle.std.proofs.Common.{ap₂, sym, ◌∙◌, arith, inl, inr, subst, Bool, true, false}
+use Rattle.std.specs.Prelude.{nat_lt, if◌then◌else◌}
 use Rattle.std.specs.List.{All}
-use Rattle.std.proofs.lemmas.Bool.{cases_lt}
+use Rattle.std.proofs.lemmas.Bool.{cases_lt, cond-true, cond-false, le-ltb}
 use Rattle.std.proofs.lemmas.List.{length-map, get_or-map, get_or-replicate, get_or_past, length-replicate, same_lists, take_at, get_or-set_same, get_or-set_other, get_or_default}
 use Rattle.std.proofs.lemmas.List.Concat.{length-flat_map}
 use Rattle.std.proofs.lemmas.List.Elements.{All-head, All-tail, All-nil}
 use Rattle.std.proofs.lemmas.List.FromFn.{get_or-map-range_with_len, length-map-range_with_len}
 use Rattle.std.proofs.lemmas.List.Sums.{sum_by-le}
 use Rattle.lert_spec.specs.declared.numbers.Numbers.{Numbers}
-use Rattle.lert_spec.specs.Edges.{span}
+use Rattle.lert_spec.specs.Edges.{span, depth}
 use Rattle.lert_rows.specs.declared.bin_at.BinAt.{BinAt}
-use Rattle.lert_rows.specs.Rows.{row_of, IsRow, AreRows, directory_text, moved_row, moved}
+use Rattle.lert_rows.specs.Rows.{row_of, IsRow, AreRows, directory_text, begins, kept, arrived, moved_row, moved}
 use Rattle.lert_rows.proofs.DirectoryLaws.{row_text}
 
 -- rows with no bin
@@ -117,3 +118,24 @@ rows_few items s rows lent are lent_is k d below =
 -- a vector whose items were written through a slice of all of them
 pub written_back : {V : Type 0} (n : ℕ) (new rows : List V) → length new ≡ n → take n (new ++ drop (length new) rows) ≡ new
 written_back n new rows len = take_at new (drop (length new) rows) n len
+
+-- the bins that stay where the newest one is joined
+pub kept_joined : (s : Numbers) (m level n : ℕ) (row new : List BinAt) (began : Bool) → began ≡ false → began ≡ begins s m level → length row ≡ n →
+    new ≡ take (n - 1) row → new ≡ kept s m level row
+kept_joined s m level n row new began other test len is =
+    is ∙ ap (λ k. take (k - 1) row) (sym len) ∙ sym (cond-false (begins s m level) row (take (length row - 1) row) (sym test ∙ other))
+
+-- and where the bin that comes in begins an interval
+pub kept_begun : (s : Numbers) (m level : ℕ) (row new : List BinAt) (began : Bool) → began ≡ true → began ≡ begins s m level → new ≡ row → new ≡ kept s m level row
+kept_begun s m level row new began begun test is = is ∙ sym (cond-true (begins s m level) row (take (length row - 1) row) (sym test ∙ begun))
+
+-- a row that a flush so deep reaches
+pub row_moved : (s : Numbers) (m level deep gone : ℕ) (row lent stay new : List BinAt) (bin : BinAt) → deep ≡ depth s m → level ≤ deep → lent ≡ row →
+    bin ≡ arrived s m level lent → stay ≡ kept s m level row → gone ≡ (if nat_lt level deep then 1 else 0) → new ≡ drop gone (stay ++ bin ∷ []) →
+    new ≡ moved_row s m level row
+row_moved s m level deep gone row lent stay new bin deep_is reached lent_is bin_is stays gone_is is =
+    let after = kept s m level row ++ arrived s m level row ∷ [] in
+    is
+    ∙ ap₂ (λ bins b. drop gone (bins ++ b ∷ [])) stays (bin_is ∙ ap (arrived s m level) lent_is)
+    ∙ ap (λ n. drop n after) (gone_is ∙ ap (λ n. if nat_lt level n then 1 else 0) deep_is)
+    ∙ sym (cond-false (nat_lt (depth s m) level) row _ (le-ltb (depth s m) level (subst (λ (n : ℕ). level ≤ n) deep_is reached)))

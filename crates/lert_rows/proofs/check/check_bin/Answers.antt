@@ -1,8 +1,9 @@
-use Rattle.std.proofs.Common.{ℕ, ◌≡◌, Some, None, subst}
+use Rattle.std.proofs.Common.{ℕ, ◌≡◌, ◌≤◌, ◌∙◌, Some, None, subst, sym, arith}
 use Rattle.std.specs.Prelude.{OnOk}
 use Rattle.lert_bay.specs.declared.bay.TheConstants.{FRAMES}
 use Rattle.lert_frames.specs.Frame.{HoldsFrame, IsBin, frame_left, frame_pieces}
 use Rattle.lert_frames.specs.Place.{tail_limit}
+use Rattle.lert_spec.specs.declared.numbers.Numbers.{Numbers}
 use Rattle.lert_rows.specs.Loading.{width_of}
 use Rattle.lert_rows.proofs.ReadLaws.{checked_stands, level_from}
 use Rattle.lert_rows.proofs.check.check_bin.Goals as goal
@@ -32,3 +33,21 @@ returns-clause-malformed g c seen told at is =
     subst (λ (frame : ℕ). frame_left c.args.reader.now.settings c.args.level frame (width_of c.args.bin.now) (seen FRAMES) ≡ Some at) c.from-frame.ensures
     (level_from (λ t l. frame_left t l c.from-frame.result (width_of c.args.bin.now) (seen FRAMES) ≡ Some at) c.args.reader.now.settings _ c.args.level _
     begun.settings begun.level (c.check.ensures.malformed seen told at is))
+
+pub returns-clause-settings : goal.returns-clause-settings
+returns-clause-settings g c = c.check.ensures.settings ∙ c.start_at.ensures.settings
+
+pub returns-clause-only_reads : goal.returns-clause-only_reads
+returns-clause-only_reads g c = c.check.ensures.only_reads
+
+-- ---- what the reader asks for
+
+pub overflow_sub-width : goal.overflow_sub-width
+overflow_sub-width g c = omega (arith, c.requires.some)
+
+pub check-requires-clause-frame : goal.check-requires-clause-frame
+check-requires-clause-frame g c =
+    subst (λ (s : Numbers). c.from-frame.result ≤ s.bins) (sym c.start_at.ensures.settings) (omega (arith, c.from-frame.ensures, c.requires.frame))
+
+pub check-requires-clause-some : goal.check-requires-clause-some
+check-requires-clause-some g c = omega (arith, c.requires.some)

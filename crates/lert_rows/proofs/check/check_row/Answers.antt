@@ -1,9 +1,10 @@
-use Rattle.std.proofs.Common.{◌≡◌, ◌≤◌, ◌∙◌, Some, None, get_or, map, subst, sym, ap}
+use Rattle.std.proofs.Common.{◌≡◌, ◌≤◌, ◌∙◌, refl, arith, Some, None, get_or, map, subst, sym, ap}
 use Rattle.std.proofs.lemmas.List.{take_all}
 use Rattle.std.proofs.lemmas.List.Elements.{All-more}
 use Rattle.std.proofs.lemmas.Result.{err_from_is_err_and}
 use Rattle.lert_bay.specs.declared.bay.TheConstants.{FRAMES}
-use Rattle.lert_bay.proofs.KeptLaws.{IsLawful, reads_on, reads_as}
+use Rattle.lert_bay.proofs.KeptLaws.{IsLawful, reads_none, reads_on, reads_as}
+use Rattle.lert_frames.proofs.FaultLaws.{not_err}
 use Rattle.lert_frames.proofs.WriteLaws.{same_err}
 use Rattle.lert_spec.specs.declared.numbers.Numbers.{Numbers}
 use Rattle.lert_spec.specs.Edges.{span}
@@ -84,3 +85,37 @@ pub returns-clause-whole : goal.returns-clause-whole
 returns-clause-whole g c seen told =
     ap (λ bins. first_of (map (bin_left c.args.reader.now.settings (seen FRAMES) c.args.level) bins)) (sym (take_all c.loop-bin.bin-index c.args.row.now c.loop-bin-test.false))
     ∙ c.loop-bin.invariant.whole seen told
+
+pub returns-clause-malformed : goal.returns-clause-malformed
+returns-clause-malformed g c seen told at is = absurd (not_err _ _ is)
+
+pub returns-clause-settings : goal.returns-clause-settings
+returns-clause-settings g c = c.loop-bin.invariant.settings
+
+pub returns-clause-only_reads : goal.returns-clause-only_reads
+returns-clause-only_reads g c = reads_as (bays g) (lawful g) c.args.bay.now c.loop-bin.bay ⊥ _ (λ is. not_err _ _ is) c.loop-bin.invariant.only_reads
+
+pub returns-in_err-check_bin-clause-settings : goal.returns-in_err-check_bin-clause-settings
+returns-in_err-check_bin-clause-settings g c = c.in_err-check_bin.ensures.settings ∙ c.loop-bin.invariant.settings
+
+pub loop-bin-init : goal.loop-bin-init
+loop-bin-init g c = record {
+  stand = λ seen told k d below. absurd (omega (arith, below));
+  whole = λ seen told. refl;
+  settings = refl;
+  only_reads = reads_none (bays g) (lawful g) c.args.bay.now ⊥ (λ none. none);
+}
+
+-- ---- what a bin asks for
+
+pub bounds-row-bin-index : goal.bounds-row-bin-index
+bounds-row-bin-index g c = c.loop-bin-test.true
+
+pub check_bin-requires-clause-first : goal.check_bin-requires-clause-first
+check_bin-requires-clause-first g c = c.requires.first
+
+pub check_bin-requires-clause-some : goal.check_bin-requires-clause-some
+check_bin-requires-clause-some g c = c.requires.row.some c.loop-bin.bin-index nothing c.loop-bin-test.true
+
+pub check_bin-requires-clause-end : goal.check_bin-requires-clause-end
+check_bin-requires-clause-end g c = c.requires.row.ends c.loop-bin.bin-index nothing c.loop-bin-test.true

@@ -4,6 +4,7 @@ use Rattle.std.proofs.lemmas.List.{take_all, length-map}
 use Rattle.std.proofs.lemmas.Result.{err_from_is_err_and}
 use Rattle.lert_bay.specs.declared.bay.TheConstants.{FRAMES}
 use Rattle.lert_bay.proofs.KeptLaws.{IsLawful, reads_none, reads_on, reads_as}
+use Rattle.lert_frames.proofs.FaultLaws.{not_err}
 use Rattle.lert_frames.proofs.WriteLaws.{same_err}
 use Rattle.lert_rows.specs.Checked.{RowStands, row_left, rows_left}
 use Rattle.lert_rows.specs.Rows.{IsRow}
@@ -96,3 +97,33 @@ loop-lower-init g c = record {
 pub returns-clause-stand : goal.returns-clause-stand
 returns-clause-stand g c seen told k below =
     c.loop-lower.invariant.stand seen told k (omega (arith, below, c.loop-lower-test.false, length-map c.args.rows.now (λ row. row.items)))
+
+pub returns-clause-malformed : goal.returns-clause-malformed
+returns-clause-malformed g c seen told at is = absurd (not_err _ _ is)
+
+pub returns-clause-reader : goal.returns-clause-reader
+returns-clause-reader g c = c.loop-lower.invariant.reader
+
+pub returns-clause-only_reads : goal.returns-clause-only_reads
+returns-clause-only_reads g c = reads_as (bays g) (lawful g) c.args.bay.now c.loop-lower.bay ⊥ _ (λ is. not_err _ _ is) c.loop-lower.invariant.only_reads
+
+pub returns-in_err-check_row-clause-reader : goal.returns-in_err-check_row-clause-reader
+returns-in_err-check_row-clause-reader g c = c.in_err-check_row.ensures.settings ∙ c.loop-lower.invariant.reader
+
+-- ---- what a row asks for
+
+pub bounds-rows-lower : goal.bounds-rows-lower
+bounds-rows-lower g c = c.loop-lower-test.true
+
+pub overflow_cast-lower : goal.overflow_cast-lower
+overflow_cast-lower g c =
+    let levels = ap (λ (s : Numbers). s.levels) c.numbers-valid.ensures.value in
+    record { fits = omega (arith, c.loop-lower-test.true, c.requires.few, levels, c.numbers-valid.ensures.valid.limits.levels_to) }
+
+pub overflow_add-lower : goal.overflow_add-lower
+overflow_add-lower g c =
+    let levels = ap (λ (s : Numbers). s.levels) c.numbers-valid.ensures.value in
+    record { fits = omega (arith, c.loop-lower-test.true, c.requires.few, levels, c.numbers-valid.ensures.valid.limits.levels_to) }
+
+pub check_row-requires-clause-first : goal.check_row-requires-clause-first
+check_row-requires-clause-first g c = omega arith

@@ -25,3 +25,8 @@ pub returns : goal.returns
 returns g c =
     dropped_bins (drops g.T.CountTable.pieces g.T.CountTable.room g.T.CountTable.quotient_bits g.T.CountTable.width c.clear.new.self c.self.invariant.0 c.self.view_is c.requires
     c.span-span.ensures.value c.span-span.ensures.positive c.rotate_left.ensures.items)
+
+pub overflow_sub-stay : goal.overflow_sub-stay
+overflow_sub-stay g c =
+    drops_whole (drops g.T.CountTable.pieces g.T.CountTable.room g.T.CountTable.quotient_bits g.T.CountTable.width c.clear.new.self c.self.invariant.0 c.self.view_is c.requires
+    c.span-span.ensures.value c.span-span.ensures.positive c.rotate_left.ensures.items)
