@@ -13,17 +13,18 @@ use Rattle.lert_reports.specs.declared.log_point.LogPoint.{LogPoint}
 use Rattle.lert_cone.specs.declared.state.ConeState.{ConeState}
 use Rattle.lert_cone.specs.declared.state.ConeState.TheVariants.{Running}
 use Rattle.lert_bay.specs.Kept.{Bays}
+use Rattle.lert_cone.specs.InStep.{IsLogging}
 use Rattle.lert_cone.specs.Listing.{Listing}
 use Rattle.lert_cone.specs.Record.{LogPlace}
 use Rattle.lert_cone.specs.Sound.{IsSound}
-use Rattle.lert_cone.specs.Stands.{Standing, StandsFor, WasSound, IsSameCone, is_broken, is_finished}
+use Rattle.lert_cone.specs.Stands.{Standing, StandsFor, WasSound, IsCone, IsSameCone, is_broken, is_finished}
 use Rattle.lert_cone.specs.Takes.{TakesPacket}
 use Rattle.lert_cone.specs.Tally.{Tallied}
 use Rattle.lert_cone.specs.Wrote.{Anything}
 use Rattle.lert_bay.proofs.KeptLaws.{IsLawful, keeps_as}
 use Rattle.lert_cone.proofs.SoundLaws.{turns_back, counted_more, end_more}
 use Rattle.lert_cone.proofs.AppendLaws.{whole_of, some_more, keys_more}
-use Rattle.lert_cone.proofs.StandLaws.{stands_whole, reports_running}
+use Rattle.lert_cone.proofs.StandLaws.{more_cone, stands_whole, reports_running}
 use Rattle.lert_cone.proofs.TimeLaws.{timely_so_far}
 use Rattle.lert_cone.proofs.Admits.{Admits}
 
@@ -290,3 +291,50 @@ module _ {B : Type 0} (bays : Bays B) (lawful : IsLawful bays) (packet : Packet)
         seen = did.seen;
         kept = keeps_as bays lawful bay bay_after _ _ (λ given. absurd (let never : ⊥ = cc in never)) did.kept;
       }
+
+    -- and it is a cone again, whose buffer has the room that was lent
+    pub still_cone : (events_after cone_room cone_room_after keys_room : ℕ) →
+        TakesPacket bays packet (record { bay = bay; counts = tally; log = log; room = room }) (record {
+          bay = bay_after;
+          counts = after;
+          log = log_after;
+          room = room_after;
+        }) journal journal_after (Ok tt) → events_after ≡ events + length packet.keys → 0 < length packet.keys →
+        cone_room_after ≡ cone_room → room_after ≡ cone_room_after →
+        IsCone bays.files bays.leaves bays.faults bays.mark (record {
+          bay = bay;
+          made = made;
+          listing = tally.listing;
+          rows = tally.rows;
+          reports = tally.due.reports;
+          events = events;
+          state = state;
+          over = over;
+          gate = journal.gate;
+          log = log;
+          last = last;
+        }) tally journal cone_room keys_room →
+        IsCone bays.files bays.leaves bays.faults bays.mark (record {
+          bay = bay_after;
+          made = made;
+          listing = after.listing;
+          rows = after.rows;
+          reports = after.due.reports;
+          events = events_after;
+          state = state;
+          over = over;
+          gate = journal_after.gate;
+          log = log_after;
+          last = last;
+        }) after journal_after cone_room_after keys_room
+    still_cone events_after cone_room cone_room_after keys_room did events_are some room_is lent_is cone =
+        let is = did.listing ∙ ap (λ (keys : List ℕ). record {
+          settings = tally.listing.settings;
+          cone = tally.listing.cone;
+          events = keys;
+          closed = tally.listing.closed;
+        }) did.taken in
+        more_cone bays.files bays.leaves bays.faults bays.mark bay made bay_after tally after events events_after cone_room
+        cone_room_after keys_room state over journal journal_after log log_after last packet running is did.counted
+        events_are did.moved room_is some within did.kept.never_falls did.seen did.kept.mark did.shut
+        (subst (λ (n : ℕ). IsLogging after log_after n) lent_is did.can_log.logging) did.can_log.log_shut cone

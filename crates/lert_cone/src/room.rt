@@ -42,11 +42,11 @@ impl<T: CountTable> ConeRoom<T> {
         let most_text = 5 + greatest_payload(settings).max(greatest_record(settings)) as usize;
         Ok(ConeRoom {
             settings: *settings,
-            zero: Zero::new(alloc, settings)?,
-            levels: Levels::new(alloc, settings)?,
-            store: ReportStore::new(alloc, settings)?,
             entry: Entry::new(0, 0, KeyList::with_room(alloc, most_keys)?),
             buffer: vec![in alloc; 0; most_text]?,
+            store: ReportStore::new(alloc, settings)?,
+            zero: Zero::new(alloc, settings)?,
+            levels: Levels::new(alloc, settings)?,
         })
     }
 

@@ -1,19 +1,44 @@
-use Rattle.std.proofs.Common.{◌≡◌, ◌∙◌, ℕ, ◌+◌, ◌<◌, ◌^◌, All, List, true, false, ap, arith, inl, inr, length, Err, IsErrOf, subst, sym}
+use Rattle.std.proofs.Common.{◌≡◌, ◌∙◌, ℕ, ◌+◌, ◌*◌, ◌<◌, ◌≤◌, ◌^◌, All, Bool, List, true, false, ap, arith, inl, inr}
+use Rattle.std.proofs.Common.{length, Err, IsErrOf, subst, sym}
+use Rattle.std.proofs.lemmas.Bool.{false≢true, true≢false}
 use Rattle.std.proofs.lemmas.Result.{err_from_is_err_and}
 use Rattle.lert_base.specs.Entries.{packet_of}
 use Rattle.lert_base.specs.Packet.{Packet}
 use Rattle.lert_bay.specs.Files.{Files}
+use Rattle.lert_bay.specs.Kept.{Bays}
+use Rattle.lert_bay.proofs.KeptLaws.{IsLawful, reading_as}
 use Rattle.lert_gatelog.specs.declared.fault.LogFault.{LogFault}
-use Rattle.lert_gatelog.specs.declared.fault.LogFault.TheVariants.{Malformed}
-use Rattle.lert_gatelog.specs.Gated.{IsOpen, Log}
-use Rattle.lert_journal.specs.Journal.{HoldsPacket}
+use Rattle.lert_gatelog.specs.declared.fault.LogFault.TheVariants.{Failed, Malformed}
+use Rattle.lert_gatelog.specs.Gated.{IsClosed, IsOpen, Log}
+use Rattle.lert_journal.specs.Journal.{HoldsPacket, LeavesAt}
 use Rattle.lert_journal.specs.Payload.{IsJournaled, payload_of}
 use Rattle.lert_spec.specs.declared.numbers.Numbers.{Numbers}
 use Rattle.lert_spec.specs.Edges.{capacity}
 use Rattle.lert_cone.specs.History.{most_payload}
-use Rattle.lert_cone.specs.Replay.{Past_the_end, Too_many}
+use Rattle.lert_cone.specs.Replay.{In_record, MayFollow, Past_the_end, Too_few, Too_many}
 use Rattle.lert_cone.proofs.ReadCosts.{ended_cost, found_cost, journal_up_to, same_cost}
+use Rattle.lert_cone.proofs.Refusals.{no_fault, one_fault}
+use Rattle.lert_cone.proofs.packets.read_packet.Given as given
 use Rattle.lert_cone.proofs.packets.read_packet.Goals as goal
+
+abbrev bays : (g : given.Over) → Bays g.row.B.Denot
+bays g = record {
+  faults = g.B.Faulty.faults;
+  mark = g.B.Faulty.mark;
+  files = g.B.Bay.files;
+  leaves = g.B.Bay.leaves;
+  moment = g.B.Bay.moment;
+  left_since = g.B.Bay.left_since;
+  handed_out = g.B.Bay.handed_out;
+}
+
+lawful : (g : given.Over) → IsLawful (bays g)
+lawful g = record {
+  as_read = g.met.B.Bay.as_read;
+  since_now = g.met.B.Bay.since_now;
+  only_now = g.met.B.Bay.only_now;
+  since_earlier = g.met.B.Bay.since_earlier;
+}
 
 -- what was read is a packet that stands in the journal
 held_at : (s : Numbers) (cone most file gate : ℕ) (seen : Files) (packet : Packet) → file ≡ 0 → most ≡ most_payload s → IsOpen most (seen file) gate (payload_of packet) →
@@ -30,67 +55,197 @@ journaled_of : {s t : Numbers} {cone other : ℕ} {packet : Packet} → s ≡ t 
 journaled_of {t = t} {cone = cone} {packet = packet} same is journaled =
     subst (λ (n : ℕ). IsJournaled t n packet) is (subst (λ (v : Numbers). IsJournaled v cone packet) same journaled)
 
+left_of : {s t : Numbers} {cone other most file gate at : ℕ} (seen : Files) → s ≡ t → cone ≡ other → most ≡ most_payload t →
+    file ≡ 0 → LeavesAt s cone most (seen file) gate at → LeavesAt t other (most_payload t) (seen 0) gate at
+left_of {s = s} {t = t} {cone = cone} {other = other} {most = most} {file = file} {gate = gate} {at = at} seen same is most_is file_is left =
+    subst (λ (f : ℕ). LeavesAt t other (most_payload t) (seen f) gate at) file_is
+    (subst (λ (m : ℕ). LeavesAt t other m (seen file) gate at) most_is
+    (subst (λ (n : ℕ). LeavesAt t n most (seen file) gate at) is
+    (subst (λ (v : Numbers). LeavesAt v cone most (seen file) gate at) same left)))
+
+follows_of : {s t : Numbers} {n0 n m : ℕ} {closed : Bool} {keys : List ℕ} {packet : Packet} → s ≡ t → n ≡ m → keys ≡ packet.keys →
+    (n + length keys ≤ capacity s) × (closed ≡ true → n + length keys ≤ n0) → MayFollow t n0 closed m packet
+follows_of {s = s} {t = t} {n0 = n0} {n = n} {m = m} {keys = keys} {packet = packet} same n_is keys_are may =
+    let sum : n + length keys ≡ m + length packet.keys = λ i. n_is i + length (keys_are i) in
+    record {
+      within = subst (λ (k : ℕ). k ≤ capacity t) sum (subst (λ (v : Numbers). n + length keys ≤ capacity v) same may.0);
+      before_closing = λ is_closed. subst (λ (k : ℕ). k ≤ n0) sum (may.1 is_closed);
+    }
+
 -- a malformed record has one place
 one_place : {T : Type 0} {x y : ℕ} → IsErrOf {T = T} {E = LogFault} (Err (Malformed x)) (Malformed y) → x ≡ y
 one_place {x = x} {y = y} same = (let is : x ≡ y = cc in is)
 
-pub packet_left-requires-clause-few : goal.packet_left-requires-clause-few
-packet_left-requires-clause-few g c = omega (arith, ap (length {A = ℕ}) c.keys_of.ensures.value)
+no_failure : {T : Type 0} {at : ℕ} → IsErrOf {T = T} {E = LogFault} (Err (Malformed at)) Failed → ⊥
+no_failure same = (let never : ⊥ = cc in never)
 
-pub returns-in-Some-packet_left-clause-malformed : goal.returns-in-Some-packet_left-clause-malformed
-returns-in-Some-packet_left-clause-malformed g c = λ seen told at same.
-    let fits = subst (λ (keys : List ℕ). All (λ key. key < 2 ^ 64) keys) c.keys_of.ensures.value c.keys_of.ensures.fit in
-    let packet = packet_of c.read_entry.new.entry in
-    let holds = held_at c.args.tally.now.listing.settings c.args.tally.now.listing.cone c.args.journal.now.most c.args.journal.now.file c.args.journal.now.gate seen
-    packet c.requires.file c.requires.most (c.in_ok-is_packet.ensures.found seen told c.if-not-is_packet.false)
-    (journaled_of c.settings-settings.ensures c.cone.ensures (c.in_ok-is_packet.ensures.journaled c.if-not-is_packet.false)) fits in
-    let at_is : c.in-Some-packet_left.at ≡ at = one_place same in
-    let count = ap (length {A = ℕ}) c.keys_of.ensures.value in
-    let left = rw c.in-Some-packet_left.is at c.packet_left.ensures in
-    elim left [
-      | inl past ↦ Past_the_end packet holds past.0 (omega (arith, past.1, c.len-n.ensures, count)) (sym at_is ∙ past.2 ∙ c.gate-gate.ensures.value)
-      | inr many ↦ Too_many packet holds many.0 (omega (arith, many.1, c.len-n.ensures, count, ap capacity c.settings-settings.ensures))
-          (sym at_is ∙ many.2 ∙ ap (λ n. n + 1) c.gate-gate.ensures.value)
-    ]
+pub read_entry-requires : goal.read_entry-requires
+read_entry-requires g c = record {
+  most = c.requires.most ∙ ap most_payload (sym c.settings-settings.ensures);
+  entry = subst (λ (s : Numbers). 4 * s.packet ≤ c.args.entry.now.keys.room) (sym c.settings-settings.ensures) c.requires.entry;
+  room = c.requires.room;
+  reach = c.requires.reach;
+}
 
-pub returns-in-None-packet_left-clause-found : goal.returns-in-None-packet_left-clause-found
-returns-in-None-packet_left-clause-found g c = λ seen told _.
-    let fits = subst (λ (keys : List ℕ). All (λ key. key < 2 ^ 64) keys) c.keys_of.ensures.value c.keys_of.ensures.fit in
-    held_at c.args.tally.now.listing.settings c.args.tally.now.listing.cone c.args.journal.now.most c.args.journal.now.file c.args.journal.now.gate seen
-    (packet_of c.read_entry.new.entry) c.requires.file c.requires.most (c.in_ok-is_packet.ensures.found seen told c.if-not-is_packet.false)
-    (journaled_of c.settings-settings.ensures c.cone.ensures (c.in_ok-is_packet.ensures.journaled c.if-not-is_packet.false)) fits
+pub packet_left-requires : goal.packet_left-requires
+packet_left-requires g c = record {
+  within = subst (λ (s : Numbers). c.len-n.result ≤ capacity s) (sym c.settings-settings.ensures)
+      (subst (λ (n : ℕ). n ≤ capacity c.args.tally.now.listing.settings) (sym c.len-n.ensures) c.requires.fits);
+  few = omega (arith, ap (length {A = ℕ}) c.keys_of.ensures.value);
+  reach = subst (λ (n : ℕ). n < 2 ^ 63) (sym c.gate-gate.ensures.value) (omega (arith, c.requires.reach));
+  place = subst (λ (s : Numbers). c.args.last.now.n0 ≤ capacity s) (sym c.settings-settings.ensures) c.requires.place;
+}
 
--- ---- how many bytes were handed out
-
-pub returns-in_err-is_packet-clause-handed : goal.returns-in_err-is_packet-clause-handed
-returns-in_err-is_packet-clause-handed g c =
+pub returns-in_err-is_packet : goal.returns-in_err-is_packet
+returns-in_err-is_packet g c =
     let p = err_from_is_err_and c.from_residual.result c.from_residual.ensures.1 in
-    rw (p.1, p.2) (journal_up_to c.args.journal.now.file _ _ _ _ c.requires.file
-    (same_cost c.args.journal.now.most (most_payload c.args.tally.now.listing.settings) (packet_of c.read_entry.new.entry) _ c.requires.most) c.in_err-is_packet.ensures.handed)
+    let said = c.in_err-is_packet.ensures in
+    rw (p.1, p.2) (record {
+      found = λ seen told. tt;
+      closed = λ seen told. tt;
+      malformed = λ seen told at same. In_record (left_of seen c.settings-settings.ensures c.cone.ensures c.requires.most c.requires.file
+          (said.malformed seen told at (ap Err (one_fault same))));
+      journaled = tt;
+      follows = tt;
+      enough = tt;
+      moved = tt;
+      forward = tt;
+      waits = tt;
+      keeps = record {
+        file = ap (λ (log : Log). log.file) said.stayed.0;
+        most = ap (λ (log : Log). log.most) said.stayed.0;
+        roomy = said.room;
+        reads = reading_as (bays g) (lawful g) c.args.bay.now c.read_entry.new.bay _ _ (λ same. ap Err (one_fault same)) said.only_reads;
+      };
+      handed = journal_up_to c.args.journal.now.file _ _ _ _ c.requires.file
+          (same_cost c.args.journal.now.most (most_payload c.args.tally.now.listing.settings) (packet_of c.read_entry.new.entry) _
+          c.requires.most) said.handed;
+    })
 
-pub returns-in-Some-clause-handed : goal.returns-in-Some-clause-handed
-returns-in-Some-clause-handed g c =
+-- a closed gate, behind too few keys and behind enough
+pub returns-in-Some : goal.returns-in-Some
+returns-in-Some g c =
     let none : c.in_ok-is_packet.is_packet ≡ false = c.if-not-is_packet.true in
+    let said = c.in_ok-is_packet.ensures in
+    let left = rw c.in-Some.is at c.end_left.ensures in
     let cost = ended_cost c.args.journal.now.most (packet_of c.read_entry.new.entry) c.in_ok-is_packet.is_packet none in
-    journal_up_to c.args.journal.now.file _ _ _ _ c.requires.file (omega (arith, cost)) c.in_ok-is_packet.ensures.handed
+    record {
+      found = λ seen told. tt;
+      closed = λ seen told. tt;
+      malformed = λ seen told at same. Too_few
+          (subst (λ (file : ℕ). IsClosed (seen file) c.args.journal.now.gate) c.requires.file (said.closed seen told none))
+          (subst (λ (n : ℕ). n < c.args.last.now.n0) c.len-n.ensures left.0) (sym (one_place same) ∙ left.1 ∙ c.gate-gate.ensures.value);
+      journaled = tt;
+      follows = tt;
+      enough = tt;
+      moved = tt;
+      forward = tt;
+      waits = tt;
+      keeps = record {
+        file = ap (λ (log : Log). log.file) (said.waits none).0;
+        most = ap (λ (log : Log). log.most) (said.waits none).0;
+        roomy = said.room;
+        reads = reading_as (bays g) (lawful g) c.args.bay.now c.read_entry.new.bay _ _ (λ same. absurd (no_failure same)) said.only_reads;
+      };
+      handed = journal_up_to c.args.journal.now.file _ _ _ _ c.requires.file (omega (arith, cost)) said.handed;
+    }
 
-pub returns-in-None-clause-handed : goal.returns-in-None-clause-handed
-returns-in-None-clause-handed g c =
+pub returns-in-None : goal.returns-in-None
+returns-in-None g c =
     let none : c.in_ok-is_packet.is_packet ≡ false = c.if-not-is_packet.true in
+    let said = c.in_ok-is_packet.ensures in
+    let enough = rw c.in-None.is at c.end_left.ensures in
     let cost = ended_cost c.args.journal.now.most (packet_of c.read_entry.new.entry) c.in_ok-is_packet.is_packet none in
-    journal_up_to c.args.journal.now.file _ _ _ _ c.requires.file (omega (arith, cost)) c.in_ok-is_packet.ensures.handed
+    record {
+      found = λ seen told found. absurd (false≢true found);
+      closed = λ seen told _. subst (λ (file : ℕ). IsClosed (seen file) c.args.journal.now.gate) c.requires.file (said.closed seen told none);
+      malformed = λ seen told at same. absurd (no_fault same);
+      journaled = λ found. absurd (false≢true found);
+      follows = λ found. absurd (false≢true found);
+      enough = λ _. subst (λ (n : ℕ). c.args.last.now.n0 ≤ n) c.len-n.ensures enough;
+      moved = λ found. absurd (false≢true found);
+      forward = λ found. absurd (false≢true found);
+      waits = λ _. said.waits none;
+      keeps = record {
+        file = ap (λ (log : Log). log.file) (said.waits none).0;
+        most = ap (λ (log : Log). log.most) (said.waits none).0;
+        roomy = said.room;
+        reads = reading_as (bays g) (lawful g) c.args.bay.now c.read_entry.new.bay _ _ (λ same. absurd (no_fault same)) said.only_reads;
+      };
+      handed = journal_up_to c.args.journal.now.file _ _ _ _ c.requires.file (omega (arith, cost)) said.handed;
+    }
 
-pub returns-in-Some-packet_left-clause-handed : goal.returns-in-Some-packet_left-clause-handed
-returns-in-Some-packet_left-clause-handed g c =
+-- a packet that may not follow, and one that may
+pub returns-in-Some-packet_left : goal.returns-in-Some-packet_left
+returns-in-Some-packet_left g c =
     let found : c.in_ok-is_packet.is_packet ≡ true = c.if-not-is_packet.false in
-    let cost = found_cost c.args.journal.now.most (packet_of c.read_entry.new.entry) c.in_ok-is_packet.is_packet found in
-    let gate_is = ap (λ (log : Log). log.gate) (c.in_ok-is_packet.ensures.moved found) in
-    let short = (c.in_ok-is_packet.ensures.forward found).1 in
+    let said = c.in_ok-is_packet.ensures in
+    let packet = packet_of c.read_entry.new.entry in
+    let left = rw c.in-Some-packet_left.is at c.packet_left.ensures in
+    let count = ap (length {A = ℕ}) c.keys_of.ensures.value in
+    let cost = found_cost c.args.journal.now.most packet c.in_ok-is_packet.is_packet found in
+    let gate_is = ap (λ (log : Log). log.gate) (said.moved found) in
+    let short = (said.forward found).1 in
     let packets = ap (λ (s : Numbers). s.packet) c.settings-settings.ensures in
-    journal_up_to c.args.journal.now.file _ _ _ _ c.requires.file (omega (arith, cost, gate_is, short, packets)) c.in_ok-is_packet.ensures.handed
+    record {
+      found = λ seen told. tt;
+      closed = λ seen told. tt;
+      malformed = λ seen told at same.
+          let fits = subst (λ (keys : List ℕ). All (λ key. key < 2 ^ 64) keys) c.keys_of.ensures.value c.keys_of.ensures.fit in
+          let journaled = journaled_of c.settings-settings.ensures c.cone.ensures (said.journaled found) in
+          let holds = held_at c.args.tally.now.listing.settings c.args.tally.now.listing.cone c.args.journal.now.most c.args.journal.now.file
+          c.args.journal.now.gate seen packet c.requires.file c.requires.most (said.found seen told found) journaled fits in
+          let at_is : c.in-Some-packet_left.at ≡ at = one_place same in
+          elim left [
+            | inl past ↦ Past_the_end packet holds past.0 (omega (arith, past.1, c.len-n.ensures, count))
+                (sym at_is ∙ past.2 ∙ c.gate-gate.ensures.value)
+            | inr many ↦ Too_many packet holds many.0 (omega (arith, many.1, c.len-n.ensures, count, ap capacity c.settings-settings.ensures))
+                (sym at_is ∙ many.2 ∙ ap (λ n. n + 1) c.gate-gate.ensures.value)
+          ];
+      journaled = tt;
+      follows = tt;
+      enough = tt;
+      moved = tt;
+      forward = tt;
+      waits = tt;
+      keeps = record {
+        file = ap (λ (log : Log). log.file) (said.moved found);
+        most = ap (λ (log : Log). log.most) (said.moved found);
+        roomy = said.room;
+        reads = reading_as (bays g) (lawful g) c.args.bay.now c.read_entry.new.bay _ _ (λ same. absurd (no_failure same)) said.only_reads;
+      };
+      handed = journal_up_to c.args.journal.now.file _ _ _ _ c.requires.file (omega (arith, cost, gate_is, short, packets)) said.handed;
+    }
 
-pub returns-in-None-packet_left-clause-handed : goal.returns-in-None-packet_left-clause-handed
-returns-in-None-packet_left-clause-handed g c =
+pub returns-in-None-packet_left : goal.returns-in-None-packet_left
+returns-in-None-packet_left g c =
     let found : c.in_ok-is_packet.is_packet ≡ true = c.if-not-is_packet.false in
-    let cost = found_cost c.args.journal.now.most (packet_of c.read_entry.new.entry) c.in_ok-is_packet.is_packet found in
-    journal_up_to c.args.journal.now.file _ _ _ _ c.requires.file (omega (arith, cost)) c.in_ok-is_packet.ensures.handed
+    let said = c.in_ok-is_packet.ensures in
+    let packet = packet_of c.read_entry.new.entry in
+    let fits = subst (λ (keys : List ℕ). All (λ key. key < 2 ^ 64) keys) c.keys_of.ensures.value c.keys_of.ensures.fit in
+    let journaled = journaled_of c.settings-settings.ensures c.cone.ensures (said.journaled found) in
+    let may = rw c.in-None-packet_left.is at c.packet_left.ensures in
+    let cost = found_cost c.args.journal.now.most packet c.in_ok-is_packet.is_packet found in
+    record {
+      found = λ seen told _. held_at c.args.tally.now.listing.settings c.args.tally.now.listing.cone c.args.journal.now.most
+          c.args.journal.now.file c.args.journal.now.gate seen packet c.requires.file c.requires.most (said.found seen told found) journaled fits;
+      closed = λ seen told none. absurd (true≢false none);
+      malformed = λ seen told at same. absurd (no_fault same);
+      journaled = λ _. journaled;
+      follows = λ _. follows_of c.settings-settings.ensures c.len-n.ensures c.keys_of.ensures.value may;
+      enough = λ none. absurd (true≢false none);
+      moved = λ _. said.moved found;
+      forward = λ _. (
+        (said.forward found).0,
+        subst (λ (s : Numbers). c.read_entry.new.log.gate ≤ c.args.journal.now.gate + 13 + 32 * s.packet) c.settings-settings.ensures
+            (said.forward found).1,
+      );
+      waits = λ none. absurd (true≢false none);
+      keeps = record {
+        file = ap (λ (log : Log). log.file) (said.moved found);
+        most = ap (λ (log : Log). log.most) (said.moved found);
+        roomy = said.room;
+        reads = reading_as (bays g) (lawful g) c.args.bay.now c.read_entry.new.bay _ _ (λ same. absurd (no_fault same)) said.only_reads;
+      };
+      handed = journal_up_to c.args.journal.now.file _ _ _ _ c.requires.file (omega (arith, cost)) said.handed;
+    }

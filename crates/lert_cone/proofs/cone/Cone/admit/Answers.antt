@@ -1,4 +1,4 @@
-use Rattle.std.proofs.Common.{ℕ, ◌≡◌, ◌∙◌, ◌+◌, ◌≤◌, List, length, Some, Ok, Err, refl, sym, ap, subst, arith}
+use Rattle.std.proofs.Common.{ℕ, ◌≡◌, ◌∙◌, ◌+◌, ◌≤◌, ◌++◌, drop, length, take, Some, Ok, Err, refl, sym, ap, subst, arith}
 use Rattle.lert_base.specs.declared.entry.Entry.{Entry}
 use Rattle.lert_base.specs.Entries.{packet_of}
 use Rattle.std.specs.List.{length_refill}
@@ -13,10 +13,10 @@ use Rattle.lert_cone.specs.Listing.{Listing}
 use Rattle.lert_cone.specs.InStep.{IsLogging}
 use Rattle.lert_cone.specs.Stands.{Standing, over_of, is_broken, is_finished, cone_fault}
 use Rattle.lert_cone.proofs.Admits.{Admits, not_admitted}
-use Rattle.lert_cone.proofs.AdmitsPacket.{admitted}
+use Rattle.lert_cone.proofs.AdmitsPacket.{admitted, still_cone}
 use Rattle.lert_cone.proofs.BreaksOff.{broken_off}
 use Rattle.lert_bay.proofs.KeptLaws.{IsLawful}
-use Rattle.lert_cone.proofs.StandLaws.{broken_cone, more_cone}
+use Rattle.lert_cone.proofs.StandLaws.{broken_cone}
 use Rattle.lert_cone.proofs.FaultLaws.{is_broken_by, not_replaying_by, by_bay_of}
 use Rattle.lert_cone.proofs.cone.Cone.admit.Given as given
 use Rattle.lert_cone.proofs.cone.Cone.admit.Goals as goal
@@ -175,22 +175,17 @@ invariant_of-self-2 g c =
     let did = rw c.in_default.is at c.take_packet.ensures in
     let journaled : IsJournaled c.self.inside.tally.listing.settings c.self.inside.tally.listing.cone (packet_of c.args.entry.now) =
     subst (λ (v : Standing g.row.B.Denot). IsJournaled v.listing.settings v.listing.cone (packet_of c.args.entry.now)) (sym c.self.view_is) c.requires.fits in
-    let is = did.listing ∙ ap (λ (keys : List ℕ). record {
-      settings = c.self.inside.tally.listing.settings;
-      cone = c.self.inside.tally.listing.cone;
-      events = keys;
-      closed = c.self.inside.tally.listing.closed;
-    }) did.taken in
     let len_is : c.self.inside.buffer.len ≡ length c.self.inside.buffer.items = omega (arith, c.self.inside.buffer.ok) in
     let room_is = sym (length_refill c.self.inside.buffer.len c.self.inside.buffer.items c.take_packet.new.buffer len_is) ∙ len_is in
     let long : length c.take_packet.new.buffer ≡ length c.self.inside.buffer.items = c.take_packet.auto.buffer ∙ ap (length {A = ℕ}) c.deref_mut.ensures.value in
-    more_cone g.B.Bay.files g.B.Bay.leaves g.B.Faulty.faults g.B.Faulty.mark c.self.inside.bay c.self.inside.made.value c.take_packet.new.bay c.self.inside.tally c.take_packet.new.tally
-    c.self.inside.events _ _ _
-    _
-    c.self.inside.state (over_of c.self.inside.over) c.self.inside.journal c.take_packet.new.journal c.self.inside.log c.take_packet.new.log c.self.inside.last (packet_of c.args.entry.now)
-    ok.0 is did.counted (ap (λ n. c.self.inside.events + n) c.len-len.ensures) did.moved room_is journaled.some (omega (arith, ok.1, c.len-len.ensures)) did.kept.never_falls did.seen
-    did.kept.mark did.shut
-    (subst (λ n. IsLogging c.take_packet.new.tally c.take_packet.new.log n) (long ∙ sym room_is) did.can_log.logging) did.can_log.log_shut c.self.invariant
+    still_cone (bays g) (lawful g) (packet_of c.args.entry.now) c.self.inside.bay c.self.inside.made.value c.take_packet.new.bay
+    c.self.inside.tally c.take_packet.new.tally c.self.inside.events (length c.deref_mut.result.now) (length c.take_packet.new.buffer)
+    c.self.inside.state (over_of c.self.inside.over) c.self.inside.journal c.take_packet.new.journal c.self.inside.log
+    c.take_packet.new.log c.self.inside.last ok.0 (omega (arith, ok.1, c.len-len.ensures))
+    (c.self.inside.events + c.len-len.result) (length c.self.inside.buffer.items)
+    (length (take c.self.inside.buffer.len (c.take_packet.new.buffer ++ drop (length c.take_packet.new.buffer) c.self.inside.buffer.items)))
+    c.self.inside.entry.keys.room
+    did (ap (λ n. c.self.inside.events + n) c.len-len.ensures) journaled.some room_is (long ∙ sym room_is) c.self.invariant
 
 pub returns : goal.returns
 returns g c =

@@ -1,4 +1,5 @@
-use Rattle.std.proofs.Common.{◌≡◌, ◌∙◌, ℕ, ◌+◌, ◌++◌, ◌∷◌, [], All, List, length, max, Err, IsFalse, ◌≤◌, le_refl, refl, sym, ap, subst, arith}
+use Rattle.std.proofs.Common.{◌≡◌, ◌∙◌, ℕ, ◌+◌, ◌*◌, ◌<◌, ◌++◌, ◌∷◌, [], All, List, length, max, Err, IsFalse}
+use Rattle.std.proofs.Common.{◌≤◌, le_refl, refl, sym, ap, subst, arith}
 use Rattle.lert_base.specs.Entries.{packet_of}
 use Rattle.lert_base.specs.Packet.{events_of}
 use Rattle.lert_bay.specs.Files.{Files}
@@ -15,8 +16,9 @@ use Rattle.lert_cone.specs.History.{most_payload}
 use Rattle.lert_cone.specs.InStep.{IsLogging}
 use Rattle.lert_cone.specs.Listing.{Listing}
 use Rattle.lert_cone.specs.Replay.{IsPast, ReplayLeavesAt}
-use Rattle.lert_cone.specs.Replays.{WhyRefused}
+use Rattle.lert_cone.specs.Replays.{WhyRefused, broken_after}
 use Rattle.lert_cone.specs.Stands.{Standing, over_of}
+use Rattle.lert_cone.proofs.FaultLaws.{broken_alike}
 use Rattle.lert_cone.proofs.GateLaws.{past_more}
 use Rattle.lert_cone.proofs.MarkLaws.{next_holds}
 use Rattle.lert_cone.proofs.ReplayLaws.{never_on_way}
@@ -30,8 +32,41 @@ use Rattle.lert_cone.proofs.ReplayStep.{told_once}
 use Rattle.lert_cone.proofs.Refusals.{no_fault, one_fault}
 use Rattle.lert_cone.proofs.cone.Cone.replay.Given as given
 use Rattle.lert_cone.proofs.cone.Cone.replay.Goals as goal
-use Rattle.lert_cone.proofs.cone.Cone.replay.Answers.Kept.{bays, lawful, broken_keys, broken_keys_kept, broken_record, broken_record_kept, ended_kept, taken_kept}
+use Rattle.lert_cone.proofs.cone.Cone.replay.Answers.Kept.{bays, lawful, broken_keys_kept, broken_record_kept, ended_kept, taken_kept}
 mod Kept
+
+pub read_packet-requires-clause-most : goal.read_packet-requires-clause-most
+read_packet-requires-clause-most g c = ap (λ (j : Log). j.most) c.at_gate-self-inside.ensures ∙ c.greatest_payload-most.ensures.value
+    ∙ ap most_payload c.settings.ensures
+
+pub read_packet-requires-clause-entry : goal.read_packet-requires-clause-entry
+read_packet-requires-clause-entry g c = subst (λ n. n ≤ c.self.inside.entry.keys.room) c.self.invariant.keys_roomy (le_refl _)
+
+pub read_packet-requires-clause-file : goal.read_packet-requires-clause-file
+read_packet-requires-clause-file g c = ap (λ (j : Log). j.file) c.at_gate-self-inside.ensures
+
+most_fits : (most payload record_ room here : ℕ) → most ≡ payload → room ≡ max payload record_ + 5 → here ≡ room → most ≤ here
+most_fits most payload record_ room here most_is roomy here_is = omega (arith, most_is, roomy, here_is)
+
+pub read_packet-requires-clause-room : goal.read_packet-requires-clause-room
+read_packet-requires-clause-room g c =
+    let s = c.self.inside.tally.listing.settings in
+    let most_is = ap (λ (j : Log). j.most) c.at_gate-self-inside.ensures ∙ c.greatest_payload-most.ensures.value ∙ ap most_payload c.settings.ensures in
+    most_fits c.at_gate-self-inside.result.most (most_payload s) (most_record s) (length c.self.inside.buffer.items) (length c.deref_mut.result.now)
+    most_is c.self.invariant.roomy (ap (length {A = ℕ}) c.deref_mut.ensures.value)
+
+pub read_packet-requires-clause-reach : goal.read_packet-requires-clause-reach
+read_packet-requires-clause-reach g c = subst (λ n. n ≤ 4611686018427387904) (sym (ap (λ (j : Log). j.gate) c.at_gate-self-inside.ensures)) c.requires.reach
+
+pub read_packet-requires-clause-place : goal.read_packet-requires-clause-place
+read_packet-requires-clause-place g c =
+    let replaying : c.self.inside.state ≡ Replaying = subst (λ (v : Standing g.row.B.Denot). v.state ≡ Replaying) (sym c.self.view_is) c.requires.replaying in
+    (c.self.invariant.replaying replaying).recounted.n0_fits
+
+pub read_packet-requires-clause-fits : goal.read_packet-requires-clause-fits
+read_packet-requires-clause-fits g c =
+    let replaying : c.self.inside.state ≡ Replaying = subst (λ (v : Standing g.row.B.Denot). v.state ≡ Replaying) (sym c.self.view_is) c.requires.replaying in
+    (c.self.invariant.replaying replaying).recounted.fits
 
 pub replay_keys-requires : goal.replay_keys-requires
 replay_keys-requires g c =
@@ -55,306 +90,310 @@ replay_keys-requires g c =
       };
     }
 
+went_on : (at gate new next packet : ℕ) → at ≡ gate → next ≡ new → (at < new) × (new ≤ at + 13 + 32 * packet) → packet ≤ 1024 →
+    (gate < next) × (next ≤ gate + 65536)
+went_on at gate new next packet at_is next_is forward few =
+    (omega (arith, at_is, next_is, forward.0), omega (arith, at_is, next_is, forward.1, few))
+
 pub invariant_of-self : goal.invariant_of-self
 invariant_of-self = broken_keys_kept
 
-pub returns-in-Err-replay_keys-clause-refused : goal.returns-in-Err-replay_keys-clause-refused
-returns-in-Err-replay_keys-clause-refused g c =
-    let cone = seen_as c.self.inside.bay c.self.inside.made.value c.self.inside.tally c.self.inside.events c.self.inside.state (over_of c.self.inside.over) c.self.inside.journal.gate
-    c.self.inside.log c.self.inside.last in
-    rw (← c.self.view_is) (λ seen told. subst (λ (fault : ReplayFault). WhyRefused cone (seen 0) c.args.gate fault) (sym c.from.ensures)
-    (refused_keys cone (seen 0) c.args.gate c.in-Err-replay_keys.fault (record {
-      packet = (packet_of c.read_packet.new.entry);
-      stands = (held_at c.at_gate-self-inside.ensures (c.in-Ok-true.ensures.found seen told c.in-Ok-true.field-0-test));
-      follows = c.in-Ok-true.ensures.follows c.in-Ok-true.field-0-test;
-    })))
-
-pub returns-in-Err-replay_keys-clause-replays : goal.returns-in-Err-replay_keys-clause-replays
-returns-in-Err-replay_keys-clause-replays g c =
-    rw (← c.self.view_is) (λ seen told h done way gate_same. subst (λ (fault : ReplayFault). fault ≡ Failed) (sym c.from.ensures)
-    (only_by_bay c.in-Err-replay_keys.fault (λ file at same.
-    with_keys (bays g) (lawful g) c.self.inside.bay c.read_packet.new.bay _ _ _ _ _ c.read_packet.ensures.keeps c.self.inside.tally c.self.inside.log c.self.inside.last
-    seen told h done c.args.gate (way.on_way seen told) (subst (λ g. IsPast h done c.self.inside.tally.listing.events g) (sym gate_same) way.past)
-    (packet_of c.read_packet.new.entry) (held_at c.at_gate-self-inside.ensures (c.in-Ok-true.ensures.found seen told c.in-Ok-true.field-0-test)) c.keys_of.result.now c.keys_of.ensures.value
-    (λ told_read next is on_read. c.replay_keys.ensures.sound seen told_read h (events_of next.rest) is
-    (next_holds h done c.self.inside.tally.listing.events c.args.gate (packet_of c.read_packet.new.entry) c.keys_of.result.now _
-    (subst (λ g. IsPast h done c.self.inside.tally.listing.events g) (sym gate_same) way.past) next c.keys_of.ensures.value refl (ap (λ n. n + 1) c.len-first.ensures)) on_read file at
-    (c.in-Err-replay_keys.is ∙ ap Err same)))))
-
-pub returns-in-Err-replay_keys-clause-journal : goal.returns-in-Err-replay_keys-clause-journal
-returns-in-Err-replay_keys-clause-journal g c = rw (← c.self.view_is)
-    (alone_behind (bays g) (lawful g) c.self.inside.bay c.read_packet.new.bay _ _ _ _ _ c.read_packet.ensures.keeps 0 c.replay_keys.new.bay c.replay_keys.ensures.keeps.journal)
+-- its keys aren't taken
+pub returns-in-Err-replay_keys : goal.returns-in-Err-replay_keys
+returns-in-Err-replay_keys g c =
+    rw (← c.self.view_is) (record {
+      taken = tt;
+      forward = tt;
+      ended = tt;
+      refused = let cone = seen_as c.self.inside.bay c.self.inside.made.value c.self.inside.tally c.self.inside.events c.self.inside.state
+          (over_of c.self.inside.over) c.self.inside.journal.gate c.self.inside.log c.self.inside.last in
+          λ seen told. subst (λ (fault : ReplayFault). WhyRefused cone (seen 0) c.args.gate fault) (sym c.from.ensures)
+          (refused_keys cone (seen 0) c.args.gate c.in-Err-replay_keys.fault (record {
+            packet = (packet_of c.read_packet.new.entry);
+            stands = (held_at c.at_gate-self-inside.ensures (c.in-Ok-true.ensures.found seen told c.in-Ok-true.field-0-test));
+            follows = c.in-Ok-true.ensures.follows c.in-Ok-true.field-0-test;
+          }));
+      broke = let state_is : c.broken_by-self-inside.result ≡ broken_after c.from.result =
+          c.broken_by-self-inside.ensures ∙ broken_alike c.in-Err-replay_keys.fault ∙ ap broken_after (sym c.from.ensures) in
+          λ i. record {
+            bay = c.replay_keys.new.bay;
+            made = c.self.inside.made.value;
+            listing = c.replay_keys.ensures.listing i;
+            rows = c.replay_keys.new.tally.rows;
+            reports = c.replay_keys.new.tally.due.reports;
+            events = c.self.inside.events;
+            state = state_is i;
+            over = over_of c.self.inside.over;
+            gate = c.read_packet.new.journal.gate;
+            log = c.replay_keys.new.log;
+            last = c.self.inside.last;
+          };
+      replays = λ seen told h done way gate_same. subst (λ (fault : ReplayFault). fault ≡ Failed) (sym c.from.ensures)
+          (only_by_bay c.in-Err-replay_keys.fault (λ file at same.
+          with_keys (bays g) (lawful g) c.self.inside.bay c.read_packet.new.bay _ _ _ _ _ c.read_packet.ensures.keeps c.self.inside.tally
+          c.self.inside.log c.self.inside.last
+          seen told h done c.args.gate (way.on_way seen told) (subst (λ g. IsPast h done c.self.inside.tally.listing.events g)
+          (sym gate_same) way.past)
+          (packet_of c.read_packet.new.entry) (held_at c.at_gate-self-inside.ensures (c.in-Ok-true.ensures.found seen told
+          c.in-Ok-true.field-0-test)) c.keys_of.result.now c.keys_of.ensures.value
+          (λ told_read next is on_read. c.replay_keys.ensures.sound seen told_read h (events_of next.rest) is
+          (next_holds h done c.self.inside.tally.listing.events c.args.gate (packet_of c.read_packet.new.entry) c.keys_of.result.now _
+          (subst (λ g. IsPast h done c.self.inside.tally.listing.events g) (sym gate_same) way.past) next c.keys_of.ensures.value refl (ap
+          (λ n. n + 1) c.len-first.ensures)) on_read file at
+          (c.in-Err-replay_keys.is ∙ ap Err same))));
+      stays_sound = λ seen told h done way gate_same.
+          keys_stay (bays g) (lawful g) c.self.inside.bay c.read_packet.new.bay _ _ _ _ _ c.read_packet.ensures.keeps c.self.inside.tally
+          c.self.inside.log c.self.inside.last
+          seen told h done c.args.gate (way.on_way seen told) (subst (λ g. IsPast h done c.self.inside.tally.listing.events g)
+          (sym gate_same) way.past) (c.self.invariant.replaying way.state_is).recounted
+          (packet_of c.read_packet.new.entry) (held_at c.at_gate-self-inside.ensures (c.in-Ok-true.ensures.found seen told
+          c.in-Ok-true.field-0-test))
+          c.keys_of.result.now c.keys_of.ensures.value _ refl (ap (λ n. n + 1) c.len-first.ensures) _ _ _ c.replay_keys.ensures;
+      unflushed = λ seen told none. keys_unwritten (bays g) (lawful g) c.self.inside.bay c.read_packet.new.bay _ _ _ _ _ c.read_packet.ensures.keeps
+          c.self.inside.tally.listing.settings
+          (length c.self.inside.tally.listing.events) c.self.inside.last.n0 (packet_of c.read_packet.new.entry) c.keys_of.result.now _
+          c.keys_of.ensures.value
+          (none (packet_of c.read_packet.new.entry) (held_at c.at_gate-self-inside.ensures (c.in-Ok-true.ensures.found seen told
+          c.in-Ok-true.field-0-test))) c.replay_keys.ensures.unflushed;
+      framed = λ seen told some. tt;
+      whole = λ seen told some at same.
+          let answer : c.from.result ≡ Unsound 2 at = one_fault same in
+          let fault_is = unsound_keys c.in-Err-replay_keys.fault 2 at (sym c.from.ensures ∙ answer) in
+          c.replay_keys.ensures.whole seen (c.read_packet.ensures.keeps.reads.seen ∙ told) some at (c.in-Err-replay_keys.is ∙ ap Err fault_is);
+      unsound = λ file at same.
+          let answer : c.from.result ≡ Unsound file at = one_fault same in
+          let fault_is = unsound_keys c.in-Err-replay_keys.fault file at (sym c.from.ensures ∙ answer) in
+          λ seen told. c.replay_keys.ensures.keeps.shows seen told file at (c.in-Err-replay_keys.is ∙ ap Err fault_is);
+      same_cone = record {
+        settings = ap (λ (l : Listing). l.settings) c.replay_keys.ensures.listing;
+        cone = ap (λ (l : Listing). l.cone) c.replay_keys.ensures.listing;
+        made = refl;
+        last = refl;
+      };
+      journal = alone_behind (bays g) (lawful g) c.self.inside.bay c.read_packet.new.bay _ _ _ _ _ c.read_packet.ensures.keeps 0 c.replay_keys.new.bay c.replay_keys.ensures.keeps.journal;
+      kept = calls_behind (bays g) (lawful g) c.self.inside.bay c.read_packet.new.bay _ _ _ _ _ c.read_packet.ensures.keeps
+          c.replay_keys.new.bay _ _ (λ same.
+          let answer : c.from.result ≡ Failed = one_fault same in
+          c.in-Err-replay_keys.is ∙ ap Err (failed_keys c.in-Err-replay_keys.fault (sym c.from.ensures ∙ answer))) c.replay_keys.ensures.keeps.kept;
+      handed = broken_read c.self.inside.tally.listing.settings (packet_of c.read_packet.new.entry) _ _ (g.B.Bay.handed_out c.replay_keys.new.bay)
+          c.replay_keys.ensures.keeps.kept.journal
+          c.in-Ok-true.field-0 _ _ c.in-Ok-true.ensures.handed c.in-Ok-true.field-0-test (ap (λ (j : Log). j.gate) (c.in-Ok-true.ensures.moved
+          c.in-Ok-true.field-0-test))
+          (c.in-Ok-true.ensures.forward c.in-Ok-true.field-0-test).1;
+    })
 
 pub invariant_of-self-in-Ok-true : goal.invariant_of-self-in-Ok-true
 invariant_of-self-in-Ok-true = taken_kept
 
-pub returns-in_default-clause-taken : goal.returns-in_default-clause-taken
-returns-in_default-clause-taken g c =
-    let replaying : c.self.inside.state ≡ Replaying = subst (λ (v : Standing g.row.B.Denot). v.state ≡ Replaying) (sym c.self.view_is) c.requires.replaying in
-    let was = c.self.invariant.replaying replaying in
-    let listing_is = listing_more c.self.inside.tally.listing c.replay_keys.new.tally.listing c.read_packet.new.entry.keys.keys c.keys_of.result.now
-    c.replay_keys.ensures.listing c.in_default.ensures.taken c.keys_of.ensures.value in
-    let moved = moved_on (payload_of (packet_of c.read_packet.new.entry)) (c.in-Ok-true.ensures.moved c.in-Ok-true.field-0-test) c.at_gate-self-inside.ensures in
-    let events_is = length_more c.self.inside.tally.listing c.replay_keys.new.tally.listing c.read_packet.new.entry.keys.keys c.self.inside.events c.len-self-inside.result
-    listing_is was.counted c.len-self-inside.ensures in
+-- they are
+pub returns-in_default : goal.returns-in_default
+returns-in_default g c =
     rw (← c.self.view_is) (record {
-      packet = (packet_of c.read_packet.new.entry);
-      stands = λ seen told. (held_at c.at_gate-self-inside.ensures (c.in-Ok-true.ensures.found seen told c.in-Ok-true.field-0-test));
-      journaled = c.in-Ok-true.ensures.journaled c.in-Ok-true.field-0-test;
-      follows = c.in-Ok-true.ensures.follows c.in-Ok-true.field-0-test;
-      next_is = c.gate.ensures.value ∙ moved;
-      is = λ i. record {
-        bay = c.replay_keys.new.bay;
-        made = c.self.inside.made.value;
-        listing = listing_is i;
-        rows = c.replay_keys.new.tally.rows;
-        reports = c.replay_keys.new.tally.due.reports;
-        events = events_is i;
-        state = c.self.inside.state;
-        over = over_of c.self.inside.over;
-        gate = (sym c.gate.ensures.value) i;
-        log = c.replay_keys.new.log;
-        last = c.self.inside.last;
+      taken = let replaying : c.self.inside.state ≡ Replaying = subst (λ (v : Standing g.row.B.Denot). v.state ≡ Replaying) (sym c.self.view_is)
+          c.requires.replaying in
+          let was = c.self.invariant.replaying replaying in
+          let listing_is = listing_more c.self.inside.tally.listing c.replay_keys.new.tally.listing c.read_packet.new.entry.keys.keys
+          c.keys_of.result.now
+          c.replay_keys.ensures.listing c.in_default.ensures.taken c.keys_of.ensures.value in
+          let moved = moved_on (payload_of (packet_of c.read_packet.new.entry)) (c.in-Ok-true.ensures.moved c.in-Ok-true.field-0-test)
+          c.at_gate-self-inside.ensures in
+          let events_is = length_more c.self.inside.tally.listing c.replay_keys.new.tally.listing c.read_packet.new.entry.keys.keys
+          c.self.inside.events c.len-self-inside.result
+          listing_is was.counted c.len-self-inside.ensures in
+          record {
+            packet = (packet_of c.read_packet.new.entry);
+            stands = λ seen told. (held_at c.at_gate-self-inside.ensures (c.in-Ok-true.ensures.found seen told c.in-Ok-true.field-0-test));
+            journaled = c.in-Ok-true.ensures.journaled c.in-Ok-true.field-0-test;
+            follows = c.in-Ok-true.ensures.follows c.in-Ok-true.field-0-test;
+            next_is = c.gate.ensures.value ∙ moved;
+            is = λ i. record {
+              bay = c.replay_keys.new.bay;
+              made = c.self.inside.made.value;
+              listing = listing_is i;
+              rows = c.replay_keys.new.tally.rows;
+              reports = c.replay_keys.new.tally.due.reports;
+              events = events_is i;
+              state = c.self.inside.state;
+              over = over_of c.self.inside.over;
+              gate = (sym c.gate.ensures.value) i;
+              log = c.replay_keys.new.log;
+              last = c.self.inside.last;
+            };
+          };
+      forward = went_on c.at_gate-self-inside.result.gate c.args.gate c.read_packet.new.journal.gate c.gate.result
+          c.self.inside.tally.listing.settings.packet (ap (λ (j : Log). j.gate) c.at_gate-self-inside.ensures) c.gate.ensures.value
+          (c.in-Ok-true.ensures.forward c.in-Ok-true.field-0-test) c.self.invariant.valid.limits.packet_to;
+      ended = tt;
+      refused = tt;
+      broke = tt;
+      replays = let listing_is = listing_more c.self.inside.tally.listing c.replay_keys.new.tally.listing c.read_packet.new.entry.keys.keys
+          c.keys_of.result.now
+          c.replay_keys.ensures.listing c.in_default.ensures.taken c.keys_of.ensures.value in
+          let moved = moved_on (payload_of (packet_of c.read_packet.new.entry)) (c.in-Ok-true.ensures.moved c.in-Ok-true.field-0-test)
+          c.at_gate-self-inside.ensures in
+          λ seen told h done way gate_same.
+          let past : IsPast h done c.self.inside.tally.listing.events c.args.gate = subst (λ g. IsPast h done c.self.inside.tally.listing.events g)
+          (sym gate_same) way.past in
+          with_keys (bays g) (lawful g) c.self.inside.bay c.read_packet.new.bay _ _ _ _ _ c.read_packet.ensures.keeps c.self.inside.tally
+          c.self.inside.log c.self.inside.last
+          seen told h done c.args.gate (way.on_way seen told) past
+          (packet_of c.read_packet.new.entry) (held_at c.at_gate-self-inside.ensures (c.in-Ok-true.ensures.found seen told
+          c.in-Ok-true.field-0-test)) c.keys_of.result.now c.keys_of.ensures.value
+          (λ told_read next is on_read. (
+            (packet_of c.read_packet.new.entry),
+            record {
+              state_is = way.state_is;
+              past = subst (λ (l : Listing). IsPast h (done ++ (packet_of c.read_packet.new.entry) ∷ []) l.events c.read_packet.new.journal.gate)
+                  (sym listing_is)
+                  (subst (λ g. IsPast h (done ++ (packet_of c.read_packet.new.entry) ∷ []) (c.self.inside.tally.listing.events ++
+                  c.read_packet.new.entry.keys.keys) g) (sym moved)
+                  (past_more h done c.self.inside.tally.listing.events c.args.gate (packet_of c.read_packet.new.entry) past next));
+              on_way = c.in_default.ensures.on_way seen told_read h (events_of next.rest) is
+                  (next_holds h done c.self.inside.tally.listing.events c.args.gate (packet_of c.read_packet.new.entry)
+                  c.keys_of.result.now _ past next c.keys_of.ensures.value refl
+                  (ap (λ n. n + 1) c.len-first.ensures)) on_read;
+            },
+          ));
+      stays_sound = λ seen told h done way gate_same.
+          keys_stay (bays g) (lawful g) c.self.inside.bay c.read_packet.new.bay _ _ _ _ _ c.read_packet.ensures.keeps c.self.inside.tally
+          c.self.inside.log c.self.inside.last
+          seen told h done c.args.gate (way.on_way seen told) (subst (λ g. IsPast h done c.self.inside.tally.listing.events g)
+          (sym gate_same) way.past) (c.self.invariant.replaying way.state_is).recounted
+          (packet_of c.read_packet.new.entry) (held_at c.at_gate-self-inside.ensures (c.in-Ok-true.ensures.found seen told
+          c.in-Ok-true.field-0-test))
+          c.keys_of.result.now c.keys_of.ensures.value _ refl (ap (λ n. n + 1) c.len-first.ensures) _ _ _ c.replay_keys.ensures;
+      unflushed = λ seen told none. keys_unwritten (bays g) (lawful g) c.self.inside.bay c.read_packet.new.bay _ _ _ _ _ c.read_packet.ensures.keeps
+          c.self.inside.tally.listing.settings
+          (length c.self.inside.tally.listing.events) c.self.inside.last.n0 (packet_of c.read_packet.new.entry) c.keys_of.result.now _
+          c.keys_of.ensures.value
+          (none (packet_of c.read_packet.new.entry) (held_at c.at_gate-self-inside.ensures (c.in-Ok-true.ensures.found seen told
+          c.in-Ok-true.field-0-test))) c.replay_keys.ensures.unflushed;
+      framed = λ seen told some. c.in_default.ensures.framed seen (c.read_packet.ensures.keeps.reads.seen ∙ told) some;
+      whole = λ seen told some at same. no_fault same;
+      unsound = λ file at same. absurd (no_fault same);
+      same_cone = record {
+        settings = ap (λ (l : Listing). l.settings) c.replay_keys.ensures.listing;
+        cone = ap (λ (l : Listing). l.cone) c.replay_keys.ensures.listing;
+        made = refl;
+        last = refl;
       };
+      journal = alone_behind (bays g) (lawful g) c.self.inside.bay c.read_packet.new.bay _ _ _ _ _ c.read_packet.ensures.keeps 0 c.replay_keys.new.bay c.replay_keys.ensures.keeps.journal;
+      kept = calls_behind (bays g) (lawful g) c.self.inside.bay c.read_packet.new.bay _ _ _ _ _ c.read_packet.ensures.keeps c.replay_keys.new.bay _ _
+          (λ same. absurd (no_fault same)) c.replay_keys.ensures.keeps.kept;
+      handed = taken_read c.self.inside.tally.listing.settings (packet_of c.read_packet.new.entry) _ _ (g.B.Bay.handed_out c.replay_keys.new.bay)
+          c.replay_keys.ensures.keeps.kept.journal
+          c.in-Ok-true.field-0 c.args.gate c.gate.result c.in-Ok-true.ensures.handed c.in-Ok-true.field-0-test
+          (c.gate.ensures.value ∙ moved_on (payload_of (packet_of c.read_packet.new.entry)) (c.in-Ok-true.ensures.moved c.in-Ok-true.field-0-test)
+          c.at_gate-self-inside.ensures);
     })
-
-pub returns-in_default-clause-replays : goal.returns-in_default-clause-replays
-returns-in_default-clause-replays g c =
-    let listing_is = listing_more c.self.inside.tally.listing c.replay_keys.new.tally.listing c.read_packet.new.entry.keys.keys c.keys_of.result.now
-    c.replay_keys.ensures.listing c.in_default.ensures.taken c.keys_of.ensures.value in
-    let moved = moved_on (payload_of (packet_of c.read_packet.new.entry)) (c.in-Ok-true.ensures.moved c.in-Ok-true.field-0-test) c.at_gate-self-inside.ensures in
-    rw (← c.self.view_is) (λ seen told h done way gate_same.
-    let past : IsPast h done c.self.inside.tally.listing.events c.args.gate = subst (λ g. IsPast h done c.self.inside.tally.listing.events g) (sym gate_same) way.past in
-    with_keys (bays g) (lawful g) c.self.inside.bay c.read_packet.new.bay _ _ _ _ _ c.read_packet.ensures.keeps c.self.inside.tally c.self.inside.log c.self.inside.last
-    seen told h done c.args.gate (way.on_way seen told) past
-    (packet_of c.read_packet.new.entry) (held_at c.at_gate-self-inside.ensures (c.in-Ok-true.ensures.found seen told c.in-Ok-true.field-0-test)) c.keys_of.result.now c.keys_of.ensures.value
-    (λ told_read next is on_read. (
-      (packet_of c.read_packet.new.entry),
-      record {
-        state_is = way.state_is;
-        past = subst (λ (l : Listing). IsPast h (done ++ (packet_of c.read_packet.new.entry) ∷ []) l.events c.read_packet.new.journal.gate) (sym listing_is)
-            (subst (λ g. IsPast h (done ++ (packet_of c.read_packet.new.entry) ∷ []) (c.self.inside.tally.listing.events ++ c.read_packet.new.entry.keys.keys) g) (sym moved)
-            (past_more h done c.self.inside.tally.listing.events c.args.gate (packet_of c.read_packet.new.entry) past next));
-        on_way = c.in_default.ensures.on_way seen told_read h (events_of next.rest) is
-            (next_holds h done c.self.inside.tally.listing.events c.args.gate (packet_of c.read_packet.new.entry) c.keys_of.result.now _ past next c.keys_of.ensures.value refl
-            (ap (λ n. n + 1) c.len-first.ensures)) on_read;
-      },
-    )))
-
-pub returns-in_default-clause-journal : goal.returns-in_default-clause-journal
-returns-in_default-clause-journal g c = rw (← c.self.view_is)
-    (alone_behind (bays g) (lawful g) c.self.inside.bay c.read_packet.new.bay _ _ _ _ _ c.read_packet.ensures.keeps 0 c.replay_keys.new.bay c.replay_keys.ensures.keeps.journal)
 
 pub invariant_of-self-in-Ok-false : goal.invariant_of-self-in-Ok-false
 invariant_of-self-in-Ok-false = ended_kept
 
-pub returns-in-Ok-false-clause-ended : goal.returns-in-Ok-false-clause-ended
-returns-in-Ok-false-clause-ended g c =
-    let replaying : c.self.inside.state ≡ Replaying = subst (λ (v : Standing g.row.B.Denot). v.state ≡ Replaying) (sym c.self.view_is) c.requires.replaying in
-    let no_packet : IsFalse c.in-Ok-false.field-0 = c.in-Ok-false.field-0-test in
-    let gate_at : c.read_packet.new.journal.gate ≡ c.args.gate = ap (λ (j : Log). j.gate) ((c.in-Ok-false.ensures.waits no_packet).0 ∙ c.at_gate-self-inside.ensures) in
-    rw (← c.self.view_is)
-    (ended_at (bays g) (lawful g) c.self.inside.bay c.read_packet.new.bay _ _ _ _ _ c.read_packet.ensures.keeps c.self.inside.made.value c.self.inside.tally
-    c.self.inside.events c.self.inside.state (over_of c.self.inside.over) c.self.inside.journal.gate c.read_packet.new.journal.gate c.args.gate c.self.inside.log c.self.inside.last
-    gate_at (c.in-Ok-false.ensures.enough no_packet) (c.self.invariant.replaying replaying).journal_settled
-    (λ seen told. subst (λ (j : Log). IsClosed (seen 0) j.gate) c.at_gate-self-inside.ensures (c.in-Ok-false.ensures.closed seen told no_packet)))
-
-pub returns-in-Ok-false-clause-replays : goal.returns-in-Ok-false-clause-replays
-returns-in-Ok-false-clause-replays g c =
-    let no_packet : IsFalse c.in-Ok-false.field-0 = c.in-Ok-false.field-0-test in
-    let gate_at : c.read_packet.new.journal.gate ≡ c.args.gate = ap (λ (j : Log). j.gate) ((c.in-Ok-false.ensures.waits no_packet).0 ∙ c.at_gate-self-inside.ensures) in
-    rw (← c.self.view_is) (λ seen told h done way gate_same.
-    ended_replays (bays g) (lawful g) c.self.inside.bay c.read_packet.new.bay _ _ _ _ _ c.read_packet.ensures.keeps c.self.inside.tally c.self.inside.log c.self.inside.last
-    seen told h done c.args.gate (way.on_way seen told) (subst (λ g. IsPast h done c.self.inside.tally.listing.events g) (sym gate_same) way.past)
-    c.self.inside.made.value c.self.inside.events c.self.inside.state (over_of c.self.inside.over) c.read_packet.new.journal.gate way.state_is gate_at
-    (subst (λ (j : Log). IsClosed (seen 0) j.gate) c.at_gate-self-inside.ensures (c.in-Ok-false.ensures.closed seen told no_packet)))
-
--- what stands there isn't taken
-pub returns-in-Err-clause-refused : goal.returns-in-Err-clause-refused
-returns-in-Err-clause-refused g c =
-    let cone = seen_as c.self.inside.bay c.self.inside.made.value c.self.inside.tally c.self.inside.events c.self.inside.state (over_of c.self.inside.over) c.self.inside.journal.gate
-    c.self.inside.log c.self.inside.last in
-    rw (← c.self.view_is) (λ seen told. subst (λ (fault : ReplayFault). WhyRefused cone (seen 0) c.args.gate fault) (sym c.from-fault.ensures)
-    (refused_record cone (seen 0) c.args.gate c.in-Err.fault (λ at same.
-    subst (λ (j : Log). ReplayLeavesAt c.self.inside.tally.listing.settings c.self.inside.tally.listing.cone c.self.inside.last.n0 c.self.inside.last.closed
-    (length c.self.inside.tally.listing.events) (seen 0) j.gate at) c.at_gate-self-inside.ensures (c.in-Err.ensures.malformed seen told at (ap Err same)))))
-
-pub returns-in-Err-clause-replays : goal.returns-in-Err-clause-replays
-returns-in-Err-clause-replays g c =
-    rw (← c.self.view_is) (λ seen told h done way gate_same.
-    let past : IsPast h done c.self.inside.tally.listing.events c.args.gate = subst (λ g. IsPast h done c.self.inside.tally.listing.events g) (sym gate_same) way.past in
-    let on_way = way.on_way seen told in
-    let read = g.met.B.Bay.as_read c.self.inside.bay seen told in
-    c.from-fault.ensures ∙ only_failed c.in-Err.fault (λ at same.
-    never_on_way (g.B.Bay.leaves c.self.inside.bay) seen h c.self.inside.tally.listing c.self.inside.tally.rows c.self.inside.tally.due.reports c.self.inside.log c.self.inside.last.n0 on_way read
-    done c.args.gate at past
-    (leaves_listing c.self.inside.tally.listing.settings c.self.inside.tally.listing.cone c.self.inside.last.n0 (length c.self.inside.tally.listing.events) c.args.gate at
-    c.self.inside.tally.listing.closed c.self.inside.last.closed (seen 0) (c.self.invariant.replaying way.state_is).closed
-    (subst (λ (j : Log). ReplayLeavesAt c.self.inside.tally.listing.settings c.self.inside.tally.listing.cone c.self.inside.last.n0 c.self.inside.last.closed
-    (length c.self.inside.tally.listing.events) (seen 0) j.gate at) c.at_gate-self-inside.ensures (c.in-Err.ensures.malformed seen told at (ap Err same))))))
-
-pub returns-in-Err-replay_keys-clause-unsound : goal.returns-in-Err-replay_keys-clause-unsound
-returns-in-Err-replay_keys-clause-unsound g c = λ file at same.
-    let answer : c.from.result ≡ Unsound file at = one_fault same in
-    let fault_is = unsound_keys c.in-Err-replay_keys.fault file at (sym c.from.ensures ∙ answer) in
-    λ seen told. c.replay_keys.ensures.keeps.shows seen told file at (c.in-Err-replay_keys.is ∙ ap Err fault_is)
-
-pub returns-in-Err-clause-unsound : goal.returns-in-Err-clause-unsound
-returns-in-Err-clause-unsound g c = λ file at same.
-    let answer : c.from-fault.result ≡ Unsound file at = one_fault same in
-    absurd (never_unsound c.in-Err.fault file at (sym c.from-fault.ensures ∙ answer))
-
--- the frames, whatever events they hold
-pub returns-in-Err-replay_keys-clause-whole : goal.returns-in-Err-replay_keys-clause-whole
-returns-in-Err-replay_keys-clause-whole g c = rw (← c.self.view_is) (λ seen told some at same.
-    let answer : c.from.result ≡ Unsound 2 at = one_fault same in
-    let fault_is = unsound_keys c.in-Err-replay_keys.fault 2 at (sym c.from.ensures ∙ answer) in
-    c.replay_keys.ensures.whole seen (c.read_packet.ensures.keeps.reads.seen ∙ told) some at (c.in-Err-replay_keys.is ∙ ap Err fault_is))
-
-pub returns-in-Err-clause-whole : goal.returns-in-Err-clause-whole
-returns-in-Err-clause-whole g c = λ seen told some at same. (let answer : c.from-fault.result ≡ Unsound 2 at = one_fault same in
-    never_unsound c.in-Err.fault 2 at (sym c.from-fault.ensures ∙ answer))
-
-pub returns-in_default-clause-framed : goal.returns-in_default-clause-framed
-returns-in_default-clause-framed g c = rw (← c.self.view_is) (λ seen told some. c.in_default.ensures.framed seen (c.read_packet.ensures.keeps.reads.seen ∙ told) some)
-
-pub returns-in-Ok-false-clause-framed : goal.returns-in-Ok-false-clause-framed
-returns-in-Ok-false-clause-framed g c = rw (← c.self.view_is) (λ seen told some after told_after.
-    subst (λ (files : Files). HoldsSome c.self.inside.tally.listing.settings (max c.self.inside.last.n0 (length c.self.inside.tally.listing.events)) c.self.inside.tally.rows (files 2))
-    (told_once (g.B.Bay.files c.self.inside.bay) seen after told (sym c.read_packet.ensures.keeps.reads.seen ∙ told_after)) some)
-
--- what the files are behind it
-pub returns-in-Err-replay_keys-clause-stays_sound : goal.returns-in-Err-replay_keys-clause-stays_sound
-returns-in-Err-replay_keys-clause-stays_sound g c =
-    rw (← c.self.view_is) (λ seen told h done way gate_same.
-    keys_stay (bays g) (lawful g) c.self.inside.bay c.read_packet.new.bay _ _ _ _ _ c.read_packet.ensures.keeps c.self.inside.tally c.self.inside.log c.self.inside.last
-    seen told h done c.args.gate (way.on_way seen told) (subst (λ g. IsPast h done c.self.inside.tally.listing.events g) (sym gate_same) way.past) (c.self.invariant.replaying way.state_is).recounted
-    (packet_of c.read_packet.new.entry) (held_at c.at_gate-self-inside.ensures (c.in-Ok-true.ensures.found seen told c.in-Ok-true.field-0-test))
-    c.keys_of.result.now c.keys_of.ensures.value _ refl (ap (λ n. n + 1) c.len-first.ensures) _ _ _ c.replay_keys.ensures)
-
-pub returns-in-Err-replay_keys-clause-unflushed : goal.returns-in-Err-replay_keys-clause-unflushed
-returns-in-Err-replay_keys-clause-unflushed g c =
-    rw (← c.self.view_is) (λ seen told none. keys_unwritten (bays g) (lawful g) c.self.inside.bay c.read_packet.new.bay _ _ _ _ _ c.read_packet.ensures.keeps c.self.inside.tally.listing.settings
-    (length c.self.inside.tally.listing.events) c.self.inside.last.n0 (packet_of c.read_packet.new.entry) c.keys_of.result.now _ c.keys_of.ensures.value
-    (none (packet_of c.read_packet.new.entry) (held_at c.at_gate-self-inside.ensures (c.in-Ok-true.ensures.found seen told c.in-Ok-true.field-0-test))) c.replay_keys.ensures.unflushed)
-
-pub returns-in_default-clause-stays_sound : goal.returns-in_default-clause-stays_sound
-returns-in_default-clause-stays_sound g c =
-    rw (← c.self.view_is) (λ seen told h done way gate_same.
-    keys_stay (bays g) (lawful g) c.self.inside.bay c.read_packet.new.bay _ _ _ _ _ c.read_packet.ensures.keeps c.self.inside.tally c.self.inside.log c.self.inside.last
-    seen told h done c.args.gate (way.on_way seen told) (subst (λ g. IsPast h done c.self.inside.tally.listing.events g) (sym gate_same) way.past) (c.self.invariant.replaying way.state_is).recounted
-    (packet_of c.read_packet.new.entry) (held_at c.at_gate-self-inside.ensures (c.in-Ok-true.ensures.found seen told c.in-Ok-true.field-0-test))
-    c.keys_of.result.now c.keys_of.ensures.value _ refl (ap (λ n. n + 1) c.len-first.ensures) _ _ _ c.replay_keys.ensures)
-
-pub returns-in_default-clause-unflushed : goal.returns-in_default-clause-unflushed
-returns-in_default-clause-unflushed g c =
-    rw (← c.self.view_is) (λ seen told none. keys_unwritten (bays g) (lawful g) c.self.inside.bay c.read_packet.new.bay _ _ _ _ _ c.read_packet.ensures.keeps c.self.inside.tally.listing.settings
-    (length c.self.inside.tally.listing.events) c.self.inside.last.n0 (packet_of c.read_packet.new.entry) c.keys_of.result.now _ c.keys_of.ensures.value
-    (none (packet_of c.read_packet.new.entry) (held_at c.at_gate-self-inside.ensures (c.in-Ok-true.ensures.found seen told c.in-Ok-true.field-0-test))) c.replay_keys.ensures.unflushed)
-
-pub returns-in-Ok-false-clause-stays_sound : goal.returns-in-Ok-false-clause-stays_sound
-returns-in-Ok-false-clause-stays_sound g c =
-    rw (← c.self.view_is) (λ seen told h done way gate_same.
-    read_stays (bays g) (lawful g) c.self.inside.bay c.read_packet.new.bay _ _ _ _ _ c.read_packet.ensures.keeps c.self.inside.tally c.self.inside.log c.self.inside.last
-    seen told h done c.args.gate (way.on_way seen told) (subst (λ g. IsPast h done c.self.inside.tally.listing.events g) (sym gate_same) way.past) (c.self.invariant.replaying way.state_is).recounted)
-
-pub returns-in-Ok-false-clause-unflushed : goal.returns-in-Ok-false-clause-unflushed
-returns-in-Ok-false-clause-unflushed g c = rw (← c.self.view_is) (λ seen told none. read_unwritten (bays g) (lawful g) c.self.inside.bay c.read_packet.new.bay _ _ _ _ _ c.read_packet.ensures.keeps)
-
-pub returns-in-Err-clause-stays_sound : goal.returns-in-Err-clause-stays_sound
-returns-in-Err-clause-stays_sound g c =
-    rw (← c.self.view_is) (λ seen told h done way gate_same.
-    read_stays (bays g) (lawful g) c.self.inside.bay c.read_packet.new.bay _ _ _ _ _ c.read_packet.ensures.keeps c.self.inside.tally c.self.inside.log c.self.inside.last
-    seen told h done c.args.gate (way.on_way seen told) (subst (λ g. IsPast h done c.self.inside.tally.listing.events g) (sym gate_same) way.past) (c.self.invariant.replaying way.state_is).recounted)
-
-pub returns-in-Err-clause-unflushed : goal.returns-in-Err-clause-unflushed
-returns-in-Err-clause-unflushed g c = rw (← c.self.view_is) (λ seen told none. read_unwritten (bays g) (lawful g) c.self.inside.bay c.read_packet.new.bay _ _ _ _ _ c.read_packet.ensures.keeps)
-
--- what it keeps of the bay, and how many bytes of the journal it reads
-pub returns-in-Err-replay_keys-clause-kept : goal.returns-in-Err-replay_keys-clause-kept
-returns-in-Err-replay_keys-clause-kept g c = rw (← c.self.view_is)
-    (calls_behind (bays g) (lawful g) c.self.inside.bay c.read_packet.new.bay _ _ _ _ _ c.read_packet.ensures.keeps c.replay_keys.new.bay _ _ (λ same.
-    let answer : c.from.result ≡ Failed = one_fault same in
-    c.in-Err-replay_keys.is ∙ ap Err (failed_keys c.in-Err-replay_keys.fault (sym c.from.ensures ∙ answer))) c.replay_keys.ensures.keeps.kept)
-
-pub returns-in_default-clause-kept : goal.returns-in_default-clause-kept
-returns-in_default-clause-kept g c = rw (← c.self.view_is)
-    (calls_behind (bays g) (lawful g) c.self.inside.bay c.read_packet.new.bay _ _ _ _ _ c.read_packet.ensures.keeps c.replay_keys.new.bay _ _
-    (λ same. absurd (no_fault same)) c.replay_keys.ensures.keeps.kept)
-
-pub returns-in-Ok-false-clause-kept : goal.returns-in-Ok-false-clause-kept
-returns-in-Ok-false-clause-kept g c = rw (← c.self.view_is)
-    (calls_as (bays g) (lawful g) c.self.inside.bay c.read_packet.new.bay _ _ (λ same. absurd (no_fault same)) c.read_packet.ensures.keeps.reads.kept)
-
-pub returns-in-Err-clause-kept : goal.returns-in-Err-clause-kept
-returns-in-Err-clause-kept g c = rw (← c.self.view_is) (calls_as (bays g) (lawful g) c.self.inside.bay c.read_packet.new.bay _ _ (λ same.
-    let answer : c.from-fault.result ≡ Failed = one_fault same in
-    c.in-Err.is ∙ ap Err (failed_record c.in-Err.fault (sym c.from-fault.ensures ∙ answer))) c.read_packet.ensures.keeps.reads.kept)
-
-pub returns-in-Err-replay_keys-clause-handed : goal.returns-in-Err-replay_keys-clause-handed
-returns-in-Err-replay_keys-clause-handed g c = rw (← c.self.view_is)
-    (broken_read c.self.inside.tally.listing.settings (packet_of c.read_packet.new.entry) _ _ (g.B.Bay.handed_out c.replay_keys.new.bay) c.replay_keys.ensures.keeps.kept.journal
-    c.in-Ok-true.field-0 _ _ c.in-Ok-true.ensures.handed c.in-Ok-true.field-0-test (ap (λ (j : Log). j.gate) (c.in-Ok-true.ensures.moved c.in-Ok-true.field-0-test))
-    (c.in-Ok-true.ensures.forward c.in-Ok-true.field-0-test).1)
-
-pub returns-in_default-clause-handed : goal.returns-in_default-clause-handed
-returns-in_default-clause-handed g c = rw (← c.self.view_is)
-    (taken_read c.self.inside.tally.listing.settings (packet_of c.read_packet.new.entry) _ _ (g.B.Bay.handed_out c.replay_keys.new.bay) c.replay_keys.ensures.keeps.kept.journal
-    c.in-Ok-true.field-0 c.args.gate c.gate.result c.in-Ok-true.ensures.handed c.in-Ok-true.field-0-test
-    (c.gate.ensures.value ∙ moved_on (payload_of (packet_of c.read_packet.new.entry)) (c.in-Ok-true.ensures.moved c.in-Ok-true.field-0-test) c.at_gate-self-inside.ensures))
-
-pub returns-in-Ok-false-clause-handed : goal.returns-in-Ok-false-clause-handed
-returns-in-Ok-false-clause-handed g c = rw (← c.self.view_is) (ended_read c.self.inside.tally.listing.settings (packet_of c.read_packet.new.entry) _ _
-    (g.B.Bay.handed_out c.read_packet.new.bay) refl c.in-Ok-false.field-0 c.in-Ok-false.ensures.handed c.in-Ok-false.field-0-test)
-
-pub returns-in-Err-clause-handed : goal.returns-in-Err-clause-handed
-returns-in-Err-clause-handed g c = rw (← c.self.view_is) (refused_read c.self.inside.tally.listing.settings (packet_of c.read_packet.new.entry) _ _
-    (g.B.Bay.handed_out c.read_packet.new.bay) refl c.in-Err.fault c.in-Err.ensures.handed)
-
-pub read_packet-requires-clause-most : goal.read_packet-requires-clause-most
-read_packet-requires-clause-most g c = ap (λ (j : Log). j.most) c.at_gate-self-inside.ensures ∙ c.greatest_payload-most.ensures.value ∙ ap most_payload c.settings.ensures
-
-pub read_packet-requires-clause-entry : goal.read_packet-requires-clause-entry
-read_packet-requires-clause-entry g c = subst (λ n. n ≤ c.self.inside.entry.keys.room) c.self.invariant.keys_roomy (le_refl _)
-
-pub read_packet-requires-clause-file : goal.read_packet-requires-clause-file
-read_packet-requires-clause-file g c = ap (λ (j : Log). j.file) c.at_gate-self-inside.ensures
-
-most_fits : (most payload record_ room here : ℕ) → most ≡ payload → room ≡ max payload record_ + 5 → here ≡ room → most ≤ here
-most_fits most payload record_ room here most_is roomy here_is = omega (arith, most_is, roomy, here_is)
-
-pub read_packet-requires-clause-room : goal.read_packet-requires-clause-room
-read_packet-requires-clause-room g c =
-    let most_is = ap (λ (j : Log). j.most) c.at_gate-self-inside.ensures ∙ c.greatest_payload-most.ensures.value ∙ ap most_payload c.settings.ensures in
-    most_fits c.at_gate-self-inside.result.most (most_payload c.self.inside.tally.listing.settings) (most_record c.self.inside.tally.listing.settings)
-    (length c.self.inside.buffer.items) (length c.deref_mut.result.now) most_is c.self.invariant.roomy (ap (length {A = ℕ}) c.deref_mut.ensures.value)
-
-pub read_packet-requires-clause-reach : goal.read_packet-requires-clause-reach
-read_packet-requires-clause-reach g c = subst (λ n. n ≤ 4611686018427387904) (sym (ap (λ (j : Log). j.gate) c.at_gate-self-inside.ensures)) c.requires.reach
-
-pub read_packet-requires-clause-place : goal.read_packet-requires-clause-place
-read_packet-requires-clause-place g c =
-    let replaying : c.self.inside.state ≡ Replaying = subst (λ (v : Standing g.row.B.Denot). v.state ≡ Replaying) (sym c.self.view_is) c.requires.replaying in
-    (c.self.invariant.replaying replaying).recounted.n0_fits
-
-pub read_packet-requires-clause-fits : goal.read_packet-requires-clause-fits
-read_packet-requires-clause-fits g c =
-    let replaying : c.self.inside.state ≡ Replaying = subst (λ (v : Standing g.row.B.Denot). v.state ≡ Replaying) (sym c.self.view_is) c.requires.replaying in
-    (c.self.invariant.replaying replaying).recounted.fits
-
-pub returns-in-Err-clause-broke : goal.returns-in-Err-clause-broke
-returns-in-Err-clause-broke = broken_record
-
-pub returns-in-Err-clause-journal : goal.returns-in-Err-clause-journal
-returns-in-Err-clause-journal g c = rw (← c.self.view_is)
-    (alone_reading (bays g) (lawful g) 0 c.self.inside.bay c.read_packet.new.bay _ c.read_packet.ensures.keeps.reads)
-
-pub returns-in-Ok-false-clause-journal : goal.returns-in-Ok-false-clause-journal
-returns-in-Ok-false-clause-journal g c = rw (← c.self.view_is)
-    (alone_reading (bays g) (lawful g) 0 c.self.inside.bay c.read_packet.new.bay _ c.read_packet.ensures.keeps.reads)
+-- a closed gate stands there
+pub returns-in-Ok-false : goal.returns-in-Ok-false
+returns-in-Ok-false g c =
+    rw (← c.self.view_is) (record {
+      taken = tt;
+      forward = tt;
+      ended = let replaying : c.self.inside.state ≡ Replaying = subst (λ (v : Standing g.row.B.Denot). v.state ≡ Replaying) (sym c.self.view_is)
+          c.requires.replaying in
+          let no_packet : IsFalse c.in-Ok-false.field-0 = c.in-Ok-false.field-0-test in
+          let gate_at : c.read_packet.new.journal.gate ≡ c.args.gate =
+          ap (λ (j : Log). j.gate) ((c.in-Ok-false.ensures.waits no_packet).0 ∙ c.at_gate-self-inside.ensures) in
+          ended_at (bays g) (lawful g) c.self.inside.bay c.read_packet.new.bay _ _ _ _ _ c.read_packet.ensures.keeps c.self.inside.made.value
+          c.self.inside.tally
+          c.self.inside.events c.self.inside.state (over_of c.self.inside.over) c.self.inside.journal.gate c.read_packet.new.journal.gate
+          c.args.gate c.self.inside.log c.self.inside.last
+          gate_at (c.in-Ok-false.ensures.enough no_packet) (c.self.invariant.replaying replaying).journal_settled
+          (λ seen told. subst (λ (j : Log). IsClosed (seen 0) j.gate) c.at_gate-self-inside.ensures
+          (c.in-Ok-false.ensures.closed seen told no_packet));
+      refused = tt;
+      broke = tt;
+      replays = let no_packet : IsFalse c.in-Ok-false.field-0 = c.in-Ok-false.field-0-test in
+          let gate_at : c.read_packet.new.journal.gate ≡ c.args.gate = ap (λ (j : Log). j.gate) ((c.in-Ok-false.ensures.waits no_packet).0 ∙
+          c.at_gate-self-inside.ensures) in
+          λ seen told h done way gate_same.
+          ended_replays (bays g) (lawful g) c.self.inside.bay c.read_packet.new.bay _ _ _ _ _ c.read_packet.ensures.keeps c.self.inside.tally
+          c.self.inside.log c.self.inside.last
+          seen told h done c.args.gate (way.on_way seen told) (subst (λ g. IsPast h done c.self.inside.tally.listing.events g)
+          (sym gate_same) way.past)
+          c.self.inside.made.value c.self.inside.events c.self.inside.state (over_of c.self.inside.over)
+          c.read_packet.new.journal.gate way.state_is gate_at
+          (subst (λ (j : Log). IsClosed (seen 0) j.gate) c.at_gate-self-inside.ensures (c.in-Ok-false.ensures.closed seen told no_packet));
+      stays_sound = λ seen told h done way gate_same.
+          read_stays (bays g) (lawful g) c.self.inside.bay c.read_packet.new.bay _ _ _ _ _ c.read_packet.ensures.keeps c.self.inside.tally
+          c.self.inside.log c.self.inside.last
+          seen told h done c.args.gate (way.on_way seen told) (subst (λ g. IsPast h done c.self.inside.tally.listing.events g)
+          (sym gate_same) way.past) (c.self.invariant.replaying way.state_is).recounted;
+      unflushed = λ seen told none. read_unwritten (bays g) (lawful g) c.self.inside.bay c.read_packet.new.bay _ _ _ _ _ c.read_packet.ensures.keeps;
+      framed = λ seen told some after told_after.
+          subst (λ (files : Files). HoldsSome c.self.inside.tally.listing.settings (max c.self.inside.last.n0 (length
+          c.self.inside.tally.listing.events)) c.self.inside.tally.rows (files 2))
+          (told_once (g.B.Bay.files c.self.inside.bay) seen after told (sym c.read_packet.ensures.keeps.reads.seen ∙ told_after)) some;
+      whole = λ seen told some at same. no_fault same;
+      unsound = λ file at same. absurd (no_fault same);
+      same_cone = record { settings = refl; cone = refl; made = refl; last = refl };
+      journal = alone_reading (bays g) (lawful g) 0 c.self.inside.bay c.read_packet.new.bay _ c.read_packet.ensures.keeps.reads;
+      kept = calls_as (bays g) (lawful g) c.self.inside.bay c.read_packet.new.bay _ _ (λ same. absurd (no_fault same))
+          c.read_packet.ensures.keeps.reads.kept;
+      handed = ended_read c.self.inside.tally.listing.settings (packet_of c.read_packet.new.entry) _ _
+          (g.B.Bay.handed_out c.read_packet.new.bay) refl c.in-Ok-false.field-0 c.in-Ok-false.ensures.handed c.in-Ok-false.field-0-test;
+    })
 
 pub invariant_of-self-in-Err : goal.invariant_of-self-in-Err
 invariant_of-self-in-Err = broken_record_kept
 
-pub returns-in-Err-replay_keys-clause-broke : goal.returns-in-Err-replay_keys-clause-broke
-returns-in-Err-replay_keys-clause-broke = broken_keys
+-- what stands there isn't taken
+pub returns-in-Err : goal.returns-in-Err
+returns-in-Err g c =
+    rw (← c.self.view_is) (record {
+      taken = tt;
+      forward = tt;
+      ended = tt;
+      refused = let cone = seen_as c.self.inside.bay c.self.inside.made.value c.self.inside.tally c.self.inside.events c.self.inside.state
+          (over_of c.self.inside.over) c.self.inside.journal.gate c.self.inside.log c.self.inside.last in
+          λ seen told. subst (λ (fault : ReplayFault). WhyRefused cone (seen 0) c.args.gate fault) (sym c.from-fault.ensures)
+          (refused_record cone (seen 0) c.args.gate c.in-Err.fault (λ at same.
+          subst (λ (j : Log). ReplayLeavesAt c.self.inside.tally.listing.settings c.self.inside.tally.listing.cone c.self.inside.last.n0
+          c.self.inside.last.closed
+          (length c.self.inside.tally.listing.events) (seen 0) j.gate at) c.at_gate-self-inside.ensures (c.in-Err.ensures.malformed seen told at
+          (ap Err same))));
+      broke = λ i. seen_as c.read_packet.new.bay c.self.inside.made.value c.self.inside.tally c.self.inside.events
+          (c.broken_after-self-inside.ensures i) (over_of c.self.inside.over) c.read_packet.new.journal.gate c.self.inside.log c.self.inside.last;
+      replays = λ seen told h done way gate_same.
+          let past : IsPast h done c.self.inside.tally.listing.events c.args.gate = subst (λ g. IsPast h done c.self.inside.tally.listing.events g)
+          (sym gate_same) way.past in
+          let on_way = way.on_way seen told in
+          let read = g.met.B.Bay.as_read c.self.inside.bay seen told in
+          c.from-fault.ensures ∙ only_failed c.in-Err.fault (λ at same.
+          never_on_way (g.B.Bay.leaves c.self.inside.bay) seen h c.self.inside.tally.listing c.self.inside.tally.rows
+          c.self.inside.tally.due.reports c.self.inside.log c.self.inside.last.n0 on_way read
+          done c.args.gate at past
+          (leaves_listing c.self.inside.tally.listing.settings c.self.inside.tally.listing.cone c.self.inside.last.n0 (length
+          c.self.inside.tally.listing.events) c.args.gate at
+          c.self.inside.tally.listing.closed c.self.inside.last.closed (seen 0) (c.self.invariant.replaying way.state_is).closed
+          (subst (λ (j : Log). ReplayLeavesAt c.self.inside.tally.listing.settings c.self.inside.tally.listing.cone c.self.inside.last.n0
+          c.self.inside.last.closed
+          (length c.self.inside.tally.listing.events) (seen 0) j.gate at) c.at_gate-self-inside.ensures (c.in-Err.ensures.malformed seen told at
+          (ap Err same)))));
+      stays_sound = λ seen told h done way gate_same.
+          read_stays (bays g) (lawful g) c.self.inside.bay c.read_packet.new.bay _ _ _ _ _ c.read_packet.ensures.keeps c.self.inside.tally
+          c.self.inside.log c.self.inside.last
+          seen told h done c.args.gate (way.on_way seen told) (subst (λ g. IsPast h done c.self.inside.tally.listing.events g)
+          (sym gate_same) way.past) (c.self.invariant.replaying way.state_is).recounted;
+      unflushed = λ seen told none. read_unwritten (bays g) (lawful g) c.self.inside.bay c.read_packet.new.bay _ _ _ _ _ c.read_packet.ensures.keeps;
+      framed = λ seen told some. tt;
+      whole = λ seen told some at same.
+          let answer : c.from-fault.result ≡ Unsound 2 at = one_fault same in never_unsound c.in-Err.fault 2 at (sym c.from-fault.ensures ∙ answer);
+      unsound = λ file at same.
+          let answer : c.from-fault.result ≡ Unsound file at = one_fault same in
+          absurd (never_unsound c.in-Err.fault file at (sym c.from-fault.ensures ∙ answer));
+      same_cone = record { settings = refl; cone = refl; made = refl; last = refl };
+      journal = alone_reading (bays g) (lawful g) 0 c.self.inside.bay c.read_packet.new.bay _ c.read_packet.ensures.keeps.reads;
+      kept = calls_as (bays g) (lawful g) c.self.inside.bay c.read_packet.new.bay _ _ (λ same.
+          let answer : c.from-fault.result ≡ Failed = one_fault same in
+          c.in-Err.is ∙ ap Err (failed_record c.in-Err.fault (sym c.from-fault.ensures ∙ answer))) c.read_packet.ensures.keeps.reads.kept;
+      handed = refused_read c.self.inside.tally.listing.settings (packet_of c.read_packet.new.entry) _ _
+          (g.B.Bay.handed_out c.read_packet.new.bay) refl c.in-Err.fault c.in-Err.ensures.handed;
+    })

@@ -1,11 +1,16 @@
-use Rattle.std.proofs.Common.{◌∙◌, ℕ, false, List, length, ap, sym, subst, arith}
+use Rattle.std.proofs.Common.{◌≡◌, ◌∙◌, ℕ, false, All, List, [], replicate, length, ap, sym, subst, arith}
 use Rattle.lert_rows.specs.declared.bin_at.BinAt.{BinAt}
 use Rattle.lert_levels.specs.OnDisk.{OnDisk}
-use Rattle.lert_rows.specs.Rows.{IsAt, AreRows}
+use Rattle.lert_levels.proofs.LaterLaws.{HoldsBins-none}
+use Rattle.lert_reports.specs.Stored.{Stored}
+use Rattle.lert_rows.specs.Rows.{IsAt, AreRows, HoldsBins}
 use Rattle.lert_rows.proofs.MoveLaws.{AreRows-none}
+use Rattle.lert_spec.specs.declared.report.Report.{Report}
 use Rattle.lert_spec.specs.Limits.{IsValid}
+use Rattle.lert_spec.specs.Mix.{cone_of}
 use Rattle.lert_spec.proofs.LookLaws.{AreKeys}
 use Rattle.lert_spec.proofs.TailLaws.{AreOfCone}
+use Rattle.lert_cone.specs.Listing.{Listing, reports_of}
 use Rattle.lert_cone.proofs.RecountLaws.{counted_from_none}
 use Rattle.lert_cone.proofs.TallyLaws.{rows_none}
 use Rattle.lert_cone.proofs.tally.Tally.new.Goals as goal
@@ -32,3 +37,32 @@ returns-clause-counted g c =
     let at = subst (λ (rows : List (List BinAt)). IsAt c.args.settings.now 0 rows) (sym (ap (λ (v : OnDisk). v.rows) c.requires.levels)) (rows_none c.args.settings.now
     (subst IsValid c.numbers-valid.ensures.value c.numbers-valid.ensures.valid)) in
     counted_from_none c.adopted.result (c.adopted.ensures.recounted 0 (omega arith) at (omega (arith, ap (length {A = ℕ}) c.requires.unread)))
+
+pub adopted-requires-clause-levels : goal.adopted-requires-clause-levels
+adopted-requires-clause-levels g c = ap (λ (v : OnDisk). v.settings) c.requires.levels
+
+pub adopted-requires-clause-store : goal.adopted-requires-clause-store
+adopted-requires-clause-store g c = ap (λ (v : Stored). v.settings) c.requires.store
+
+pub adopted-requires-clause-own : goal.adopted-requires-clause-own
+adopted-requires-clause-own g c =
+    subst (λ (reports : List Report). All (λ report. cone_of c.args.settings.now report.key ≡ c.args.cone) reports)
+    (sym (ap (λ (v : Stored). v.reports) c.requires.store)) (λ k d below. absurd (omega (arith, below)))
+
+pub returns-clause-rows : goal.returns-clause-rows
+returns-clause-rows g c = c.adopted.ensures.rows ∙ ap (λ (v : OnDisk). v.rows) c.requires.levels
+
+pub returns-clause-none : goal.returns-clause-none
+returns-clause-none g c = c.adopted.ensures.reports ∙ ap (λ (v : Stored). v.reports) c.requires.store
+
+pub returns-clause-held : goal.returns-clause-held
+returns-clause-held g c seen =
+    let is = returns-clause-listing g c in
+    let rows_are : c.adopted.result.rows ≡ replicate c.adopted.result.listing.settings.levels [] =
+    returns-clause-rows g c ∙ ap (λ (l : Listing). replicate l.settings.levels []) (sym is) in
+    record {
+      frames = subst
+          (λ (rows : List (List BinAt)). HoldsBins c.adopted.result.listing.settings c.adopted.result.listing.events rows (seen 2))
+          (sym rows_are) (HoldsBins-none c.adopted.result.listing.settings c.adopted.result.listing.events (seen 2));
+      reports = returns-clause-none g c ∙ ap (λ (l : Listing). reports_of l) (sym is);
+    }

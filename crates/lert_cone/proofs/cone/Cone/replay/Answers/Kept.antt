@@ -10,7 +10,6 @@ use Rattle.lert_cone.specs.declared.state.ConeState.TheVariants.{Replaying}
 use Rattle.lert_cone.specs.History.{most_payload}
 use Rattle.lert_cone.specs.InStep.{IsLogging}
 use Rattle.lert_cone.specs.Listing.{Listing}
-use Rattle.lert_cone.specs.Replays.{broken_after}
 use Rattle.lert_cone.specs.Room.{room_of}
 use Rattle.lert_cone.specs.Stands.{Standing, is_broken, over_of}
 use Rattle.lert_cone.specs.Wrote.{Anything}
@@ -20,7 +19,7 @@ use Rattle.lert_cone.proofs.ReplayStands.{near_then, failed_record, read_settled
 use Rattle.lert_cone.proofs.ReplayStands.{replaying_cone, settled_then}
 use Rattle.lert_io.proofs.Rising.{risen_since}
 use Rattle.lert_cone.proofs.StandLaws.{broken_cone}
-use Rattle.lert_cone.proofs.FaultLaws.{broken_alike, by_bay_after, by_bay_of, is_broken_after, is_broken_by, not_replaying_after, not_replaying_by, turns_as, turns_on}
+use Rattle.lert_cone.proofs.FaultLaws.{by_bay_after, by_bay_of, is_broken_after, is_broken_by, not_replaying_after, not_replaying_by, turns_as, turns_on}
 use Rattle.lert_cone.proofs.cone.Cone.replay.Given as given
 use Rattle.lert_cone.proofs.cone.Cone.replay.Goals as goal
 
@@ -117,10 +116,6 @@ ended_kept g c =
           (g.B.Bay.leaves c.read_packet.new.bay) c.read_packet.ensures.keeps.reads.seen c.read_packet.ensures.keeps.reads.images was.log_shut;
     })
 
-pub broken_record : goal.returns-in-Err-clause-broke
-broken_record g c = rw (← c.self.view_is) (λ i. seen_as c.read_packet.new.bay c.self.inside.made.value c.self.inside.tally c.self.inside.events
-    (c.broken_after-self-inside.ensures i) (over_of c.self.inside.over) c.read_packet.new.journal.gate c.self.inside.log c.self.inside.last)
-
 pub broken_record_kept : goal.invariant_of-self-in-Err
 broken_record_kept g c =
     let len_is : c.self.inside.buffer.len ≡ length c.self.inside.buffer.items = omega (arith, c.self.inside.buffer.ok) in
@@ -137,21 +132,3 @@ broken_record_kept g c =
     c.self.invariant.never_falls keeps.reads.kept.never_falls (keeps.reads.kept.failed (c.in-Err.is ∙ ap Err (failed_record c.in-Err.fault
     (sym c.from-fault.ensures ∙ by_bay_after c.from-fault.result (sym c.broken_after-self-inside.ensures ∙ same))))))
     c.self.invariant
-
-pub broken_keys : goal.returns-in-Err-replay_keys-clause-broke
-broken_keys g c =
-    let state_is : c.broken_by-self-inside.result ≡ broken_after c.from.result =
-    c.broken_by-self-inside.ensures ∙ broken_alike c.in-Err-replay_keys.fault ∙ ap broken_after (sym c.from.ensures) in
-    rw (← c.self.view_is) (λ i. record {
-      bay = c.replay_keys.new.bay;
-      made = c.self.inside.made.value;
-      listing = c.replay_keys.ensures.listing i;
-      rows = c.replay_keys.new.tally.rows;
-      reports = c.replay_keys.new.tally.due.reports;
-      events = c.self.inside.events;
-      state = state_is i;
-      over = over_of c.self.inside.over;
-      gate = c.read_packet.new.journal.gate;
-      log = c.replay_keys.new.log;
-      last = c.self.inside.last;
-    })
