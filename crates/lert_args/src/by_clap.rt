@@ -3,7 +3,7 @@
 //! Its help and version flags are off, each option takes one value as a text, and names are taken in any number. What clap
 //! takes and a line doesn't have, as an empty name or a second `--`, the scan refuses before.
 
-ghost use Rattle.std.specs.Prelude.{◌≡◌, ◌≢◌, ℕ, ◌≤◌, codes, drop, is_some, length, map, true, false, Some, None, IfOk, IfErr, option_and_then};
+ghost use Rattle.std.specs.Prelude.{◌≡◌, ◌≢◌, ℕ, ◌≤◌, [], codes, drop, is_some, length, map, true, false, Some, None, IfOk, IfErr, option_and_then};
 ghost use Rattle.std.specs.List.{list_all};
 ghost use Rattle.lert_args.specs.App.{app_with, is_read, option_rule};
 ghost use Rattle.lert_args.specs.Said.{Said, is_among, spelt, value_given};
@@ -82,16 +82,23 @@ fn fault_of(kind: ErrorKind) -> LineFault
 fn command_of<'a>(alloc: Global, options: &[&'a str]) -> Result<Command<'a>, AllocError>
     ensures { IfOk result (λ command. app_of command ≡ app_with (map (λ option. option.now) options.now)) }
 {
-    let names = Arg::new(alloc, "NAMES").action(ArgAction::Append);
-    let mut command = Command::new(alloc, "lert")
-        .no_binary_name(true)
-        .disable_help_flag(true)
-        .disable_version_flag(true)
-        .arg(names)?;
+    let mut command = command_of_names(alloc)?;
     for option in options {
         command = command.arg(option_arg(alloc, option))?;
     }
     Ok(command)
+}
+
+// The command that takes any number of names, and nothing else.
+fn command_of_names<'a>(alloc: Global) -> Result<Command<'a>, AllocError>
+    ensures { IfOk result (λ command. app_of command ≡ app_with []) }
+{
+    let names = Arg::new(alloc, "NAMES").action(ArgAction::Append);
+    Command::new(alloc, "lert")
+        .no_binary_name(true)
+        .disable_help_flag(true)
+        .disable_version_flag(true)
+        .arg(names)
 }
 
 // An option that takes one value.
