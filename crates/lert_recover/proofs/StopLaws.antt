@@ -12,7 +12,7 @@ use Rattle.lert_rows.specs.declared.bin_at.BinAt.{BinAt}
 use Rattle.lert_spec.specs.declared.numbers.Numbers.{Numbers}
 use Rattle.lert_spec.specs.declared.report.Report.{Report}
 use Rattle.lert_files.specs.declared.fault.ReopenFault.{ReopenFault}
-use Rattle.lert_files.specs.declared.fault.ReopenFault.TheVariants.{Failed}
+use Rattle.lert_files.specs.declared.fault.ReopenFault.TheVariants.{Failed, Malformed}
 use Rattle.lert_recover.specs.Replayed.{HasReplayed, JournalEnds, JournalLeavesAt}
 use Rattle.lert_recover.specs.Reopened.{IsStopped, IsWhy, At_call, At_place, At_sight}
 use Rattle.lert_recover.proofs.ReplayedLaws.{ends_from_start, here, leaves_from_start}
@@ -37,11 +37,14 @@ module _ (s : Numbers) (cone n0 : ℕ) (closed : Bool) (bytes before : List ℕ)
   stopped_of fault (ReplayUnsound file at) (inr (inl (is, ends))) left shown = (let where_ = shown file at refl in At_sight file at is (start_ends ends) where_.0 where_.1)
   stopped_of fault (ReplayUnsound file at) (inr (inr (place, is, leaves))) left shown = At_place place is (start_leaves place leaves)
 
-failed_or_unsound : (file at : ℕ) → ReplayUnsound file at ≡ ReplayFailed → ⊥
+pub failed_or_unsound : (file at : ℕ) → ReplayUnsound file at ≡ ReplayFailed → ⊥
 failed_or_unsound file at is = cc
 
 failed_or_malformed : (at : ℕ) → ReplayMalformed at ≡ ReplayFailed → ⊥
 failed_or_malformed at is = cc
+
+pub named_a_place : (file at : ℕ) → Malformed file at ≡ Failed → ⊥
+named_a_place file at is = cc
 
 pub outside_of : (s : Numbers) (cone n0 : ℕ) (closed : Bool) (bytes : List ℕ) (n gate : ℕ) (fault : ReopenFault) (replay : ReplayFault) →
     IsWhy s cone n0 closed bytes n gate replay fault → replay ≡ ReplayFailed → fault ≡ Failed

@@ -1,4 +1,4 @@
-use Rattle.std.proofs.Common.{arith, rules}
+use Rattle.std.proofs.Common.{arith, refl}
 use Rattle.lert_files.proofs.HeadLaws.{read_whole, whole_file, gateless_there, fault_there, headed_there}
 use Rattle.lert_files.proofs.journal_header.check_header.Goals as goal
 
@@ -7,18 +7,18 @@ returns-clause-told c file end_is is =
     let whole = c.in_default.ensures.whole in
     let head_is = read_whole c.args.count c.args.head.now file c.told-head c.requires is whole.0 in
     headed_there c.args.settings.now c.args.cone c.args.head.now file c.in-Some-read_header.kept (λ k. c.fits-head k) c.told-head head_is
-    c.in-Some-read_header.ensures.0 (omega (arith, end_is, c.if-end.false)) c.in-Some-read_header.ensures.1 (search rules)
+    c.in-Some-read_header.ensures.0 (omega (arith, end_is, c.if-end.false)) c.in-Some-read_header.ensures.1 (c.if-not-is_own.ensures.own refl)
 
 pub returns-then-not-is_own-clause-told : goal.returns-then-not-is_own-clause-told
 returns-then-not-is_own-clause-told c file end_is is =
     let whole = c.in_default.ensures.whole in
     let head_is = read_whole c.args.count c.args.head.now file c.told-head c.requires is whole.0 in
     fault_there c.args.settings.now c.args.cone c.args.head.now file c.in-Some-read_header.kept head_is
-    c.in-Some-read_header.ensures.0 (whole_file c.args.count c.args.head.now file is whole.0) c.in-Some-read_header.ensures.1 (search rules)
+    c.in-Some-read_header.ensures.0 (whole_file c.args.count c.args.head.now file is whole.0) c.in-Some-read_header.ensures.1 (c.if-not-is_own.ensures.other refl)
 
 pub returns-then-end-clause-told : goal.returns-then-end-clause-told
 returns-then-end-clause-told c file end_is is =
     let whole = c.in_default.ensures.whole in
     let head_is = read_whole c.args.count c.args.head.now file c.told-head c.requires is whole.0 in
     gateless_there c.args.settings.now c.args.cone c.args.end c.args.head.now file c.in-Some-read_header.kept head_is
-    c.in-Some-read_header.ensures.0 (whole_file c.args.count c.args.head.now file is whole.0) end_is (omega (arith, c.if-end.true)) c.in-Some-read_header.ensures.1 (search rules)
+    c.in-Some-read_header.ensures.0 (whole_file c.args.count c.args.head.now file is whole.0) end_is (omega (arith, c.if-end.true)) c.in-Some-read_header.ensures.1 (c.if-not-is_own.ensures.own refl)

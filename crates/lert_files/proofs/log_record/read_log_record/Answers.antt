@@ -122,3 +122,24 @@ returns g c =
       fault = tt;
       only_reads = reads_as (bays g) (lawful g) c.args.bay.now c.read_payload.new.bay _ _ (λ is. absurd (not_err true _ is)) read.only_reads;
     }
+
+pub read_payload-requires : goal.read_payload-requires
+read_payload-requires g c = record {
+  file = c.requires.file;
+  room = omega (arith, c.requires.most, c.requires.room);
+  reach = c.requires.reach;
+}
+
+pub take_record-requires : goal.take_record-requires
+take_record-requires g c =
+    let read = c.in_ok-count.ensures in
+    let count = c.in-Some.count in
+    let counted = rw c.in-Some.is at read.counted in
+    let long : length (take count c.read_payload.new.into) ≡ count = length-take-le count c.read_payload.new.into
+    (omega (arith, counted.1, c.requires.most, c.requires.room, c.read_payload.auto.into)) in
+    record {
+      same = c.requires.same;
+      short = omega (arith, long, counted.1, c.gate-gate.ensures.most);
+      still_open = rw c.in-Some.is at read.still_open;
+      read = c.requires.read;
+    }

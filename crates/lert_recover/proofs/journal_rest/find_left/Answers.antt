@@ -1,8 +1,11 @@
-use Rattle.std.proofs.Common.{◌∙◌, arith}
+use Rattle.std.proofs.Common.{◌+◌, ◌*◌, ◌^◌, ◌≤◌, ◌∙◌, ap, arith, subst, sym}
 use Rattle.std.proofs.lemmas.Result.{err_from_is_err_and}
 use Rattle.lert_bay.specs.declared.bay.TheConstants.{JOURNAL}
-use Rattle.lert_bay.proofs.KeptLaws.{IsLawful, reading_as, reading_on}
-use Rattle.lert_recover.proofs.ReplayedLaws.{here}
+use Rattle.lert_bay.proofs.KeptLaws.{IsLawful, reading_as, reading_none, reading_on}
+use Rattle.lert_gatelog.specs.Gated.{Log}
+use Rattle.lert_spec.specs.Limits.{IsValid}
+use Rattle.lert_recover.specs.Replayed.{JournalEnds, JournalLeavesAt}
+use Rattle.lert_recover.proofs.ReplayedLaws.{ends_here, here}
 use Rattle.lert_recover.proofs.RestLaws.{ends_packet, onward_packet}
 use Rattle.lert_recover.proofs.journal_rest.find_left.Given as given
 use Rattle.lert_recover.proofs.journal_rest.find_left.Invariants.{bays}
@@ -56,3 +59,34 @@ returns-in-End-clause-only_reads g c =
 pub returns-in-Left-clause-only_reads : goal.returns-in-Left-clause-only_reads
 returns-in-Left-clause-only_reads g c =
     reading_on (bays g) (lawful g) c.args.bay.now c.records.bay c.find_here.new.bay ⊥ _ c.records.invariant.only_reads c.in_ok-keys.ensures.only_reads
+
+pub find_here-requires-clause-reach : goal.find_here-requires-clause-reach
+find_here-requires-clause-reach g c =
+    let valid = subst IsValid c.numbers.ensures.value c.numbers.ensures.valid in omega (arith, c.records.invariant.near, c.records.invariant.within, valid.positions_fit)
+
+pub returns-in-End-clause-told : goal.returns-in-End-clause-told
+returns-in-End-clause-told g c seen told =
+    let now = c.records.invariant in
+    let last = c.args.last.now in
+    let shut = rw c.in-End.is at (c.in_ok-keys.ensures.told seen (now.only_reads.seen ∙ told)) in
+    now.ends seen told (ends_here c.args.settings.now c.args.cone last.n0 last.closed (seen JOURNAL) c.records.log.gate c.records.count shut.0 shut.1)
+
+pub returns-in_err-keys-clause-told : goal.returns-in_err-keys-clause-told
+returns-in_err-keys-clause-told g c seen told =
+    let p = err_from_is_err_and c.from_residual.result c.from_residual.ensures.1 in rw p.1 tt
+
+pub records-init : goal.records-init
+records-init g c =
+    let log_is = c.at_gate-log.ensures in
+    let gate_is = ap (λ (log : Log). log.gate) log_is in
+    let s = c.args.settings.now in
+    let last = c.args.last.now in
+    record {
+      file = ap (λ (log : Log). log.file) log_is;
+      most = ap (λ (log : Log). log.most) log_is ∙ c.greatest_payload.ensures.value;
+      within = c.requires.within;
+      near = subst (λ gate. gate ≤ 2 ^ 46 + 65536 * c.args.events) (sym gate_is) c.requires.near;
+      onward = λ seen told at leaves. subst (λ gate. JournalLeavesAt s c.args.cone last.n0 last.closed (seen JOURNAL) c.args.events gate at) gate_is leaves;
+      ends = λ seen told ends. subst (λ gate. JournalEnds s c.args.cone last.n0 last.closed (seen JOURNAL) c.args.events gate) gate_is ends;
+      only_reads = reading_none (bays g) (lawful g) c.args.bay.now ⊥ (λ never. never);
+    }

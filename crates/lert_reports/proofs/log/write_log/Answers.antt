@@ -1,4 +1,12 @@
-use Rattle.std.proofs.Common.{◌≡◌, ℕ, ◌+◌, ◌*◌, ◌<◌, ◌≤◌, ◌^◌, ◌∙◌, length, subst, sym, arith}
+use Rattle.std.proofs.Common.{◌≡◌, ℕ, ◌+◌, ◌*◌, ◌<◌, ◌≤◌, ◌^◌, ◌∙◌, ◌++◌, ◌∷◌, [], List, length, take, ap, subst, sym, arith}
+use Rattle.std.specs.Prelude.{flat_map}
+use Rattle.std.proofs.lemmas.List.{append_assoc}
+use Rattle.byteorder.specs.Endian.{little_bytes}
+use Rattle.lert_gatelog.specs.Gated.{appendix}
+use Rattle.lert_reports.proofs.LogLaws.{log_payload_length}
+use Rattle.lert_reports.specs.declared.log.LogKind.{LogKind}
+use Rattle.lert_reports.specs.LogText.{kind_number, log_payload, report_bytes}
+use Rattle.lert_spec.specs.declared.report.Report.{Report}
 use Rattle.lert_reports.proofs.log.write_log.Goals as goal
 
 -- ---- the numbers fit, and each place has room: over plain numbers, since the search would go through all that is known
@@ -96,3 +104,43 @@ put-requires-3 c =
 
 pub returns-clause-counted : goal.returns-clause-counted
 returns-clause-counted c = counted (length c.args.directory.now) (length c.args.reports.now)
+
+-- ---- the text, field by field
+
+-- a field more, behind those that stand behind the length
+grown : (front done more text next : List ℕ) → text ≡ front ++ done → next ≡ text ++ more → next ≡ front ++ (done ++ more)
+grown front done more text next is laid = laid ∙ ap (λ text. text ++ more) is ∙ append_assoc front done more
+
+module _ (kind : LogKind) (n0 offset first : ℕ) (directory : List ℕ) (reports : List Report) where
+  abbrev len : ℕ
+  len = 29 + length directory + 16 * length reports
+
+  abbrev front : List ℕ
+  front = little_bytes 4 len
+
+  laid : (number : ℕ) (b1 b2 b3 b4 b5 b6 b7 b8 b9 : List ℕ) → number ≡ kind_number kind → take 4 b1 ≡ front → take 5 b2 ≡ take 4 b1 ++ number ∷ [] →
+      take 13 b3 ≡ take 5 b2 ++ little_bytes 8 n0 → take 21 b4 ≡ take 13 b3 ++ little_bytes 8 offset → take 29 b5 ≡ take 21 b4 ++ little_bytes 8 first →
+      take (29 + length directory) b6 ≡ take 29 b5 ++ directory →
+      take (29 + length directory + 4) b7 ≡ take (29 + length directory) b6 ++ little_bytes 4 (length reports) →
+      take (29 + length directory + 4 + 16 * length reports) b8 ≡ take (29 + length directory + 4) b7 ++ flat_map report_bytes reports →
+      take (len + 4 + 1) b9 ≡ take (len + 4) b8 ++ 0 ∷ [] → take (len + 5) b9 ≡ appendix (log_payload kind n0 offset first directory reports)
+  laid number b1 b2 b3 b4 b5 b6 b7 b8 b9 number_is length_laid kind_laid n0_laid offset_laid first_laid directory_laid count_laid reports_laid end_laid =
+      let one = kind_laid ∙ ap (λ text. text ++ number ∷ []) length_laid ∙ ap (λ n. front ++ n ∷ []) number_is in
+      let two = grown front _ (little_bytes 8 n0) _ _ one n0_laid in
+      let three = grown front _ (little_bytes 8 offset) _ _ two offset_laid in
+      let four = grown front _ (little_bytes 8 first) _ _ three first_laid in
+      let five = grown front _ directory _ _ four directory_laid in
+      let six = grown front _ (little_bytes 4 (length reports)) _ _ five count_laid in
+      let all = grown front _ (flat_map report_bytes reports) _ _ six reports_laid in
+      let place : len + 4 ≡ 29 + length directory + 4 + 16 * length reports = omega arith in
+      let last : len + 5 ≡ len + 4 + 1 = omega arith in
+      ap (λ n. take n b9) last
+      ∙ end_laid
+      ∙ ap (λ text. text ++ 0 ∷ []) (ap (λ n. take n b8) place ∙ all)
+      ∙ ap (λ n. little_bytes 4 n ++ log_payload kind n0 offset first directory reports ++ 0 ∷ []) (sym (log_payload_length kind n0 offset first directory reports))
+
+pub returns-clause-text : goal.returns-clause-text
+returns-clause-text c =
+    laid c.args.kind c.args.n0 c.args.offset c.args.first c.args.directory.now c.args.reports.now c.number_of.result c.put_u32.new.into c.put.new.into c.put_u64.new.into
+    c.put_u64-2.new.into c.put_u64-3.new.into c.put-2.new.into c.put_u32-2.new.into c.put_reports.new.into c.put-3.new.into c.number_of.ensures c.put_u32.ensures c.put.ensures
+    c.put_u64.ensures c.put_u64-2.ensures c.put_u64-3.ensures c.put-2.ensures c.put_u32-2.ensures c.put_reports.ensures c.put-3.ensures

@@ -84,3 +84,17 @@ returns c =
         ends = c.in_ok-read_end.ensures.1;
       },
     )
+
+-- ---- what each part asks for
+
+pub read_directory-requires : goal.read_directory-requires
+read_directory-requires c = let head = c.in_ok-head.ensures in record { n0 = head.2; within = head.5; long = head.6 }
+
+pub read_report_count-requires : goal.read_report_count-requires
+read_report_count-requires c =
+    let directory = c.in_ok-count_at.ensures in record { n0 = c.in_ok-head.ensures.2; place = directory.1; long = directory.2 }
+
+pub read_reports-requires : goal.read_reports-requires
+read_reports-requires c =
+    let count = c.in_ok-reports.ensures in
+    record { n0 = c.in_ok-head.ensures.2; start = ap (λ n. n + 4) c.in_ok-count_at.ensures.1; reports = count.1; long = count.2 }
