@@ -1,1 +1,2 @@
+pub mod NoLine
 pub mod OtherLines

@@ -1,3 +1,4 @@
+use contract.BorrowLft.{⊑_static}
 use Rattle.std.proofs.Common.{◌≡◌, ◌^◌, ◌∙◌, List, Err, ap, length, refl, subst, arith}
 use Rattle.lert_cone.specs.Stands.{Standing}
 use Rattle.lert_ingest.specs.Ingest.{HasIngested}
@@ -109,6 +110,25 @@ returns-in-Ok-lock_cones-clause-exact g c = (ingested g c).exact
 
 pub lock_cones-requires-clause-numbers : goal.lock_cones-requires-clause-numbers
 lock_cones-requires-clause-numbers g c κs within = (c.requires.least, c.requires.most)
+
+pub with_capacity-requires : goal.with_capacity-requires
+with_capacity-requires g c κs within = (within, ⊑_static κs.1.0)
+
+pub destroy_empty-requires : goal.destroy_empty-requires
+destroy_empty-requires g c = c.in-Ok.ensures.len
+
+pub ingest_fleet-requires-clause-empty : goal.ingest_fleet-requires-clause-empty
+ingest_fleet-requires-clause-empty g c κs within = c.in-Ok.ensures.items
+
+pub ingest_fleet-requires-clause-room : goal.ingest_fleet-requires-clause-room
+ingest_fleet-requires-clause-room g c κs within =
+    let counted = c.len.ensures in
+    let items = c.args.traces.ok in
+    let capacity = c.in-Ok.ensures.capacity in
+    omega (arith, counted, items, capacity)
+
+pub ingest_fleet-requires-clause-numbers : goal.ingest_fleet-requires-clause-numbers
+ingest_fleet-requires-clause-numbers g c κs within = c.in-Ok-lock_cones.ensures.locks.numbers_are
 
 pub ingest_fleet-requires-clause-least : goal.ingest_fleet-requires-clause-least
 ingest_fleet-requires-clause-least g c κs within = c.requires.least

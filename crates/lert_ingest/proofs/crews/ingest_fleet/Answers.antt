@@ -254,3 +254,52 @@ earlier-first-requires g c = tt
 
 pub answer_of-requires : goal.answer_of-requires
 answer_of-requires g c = tt
+
+pub overflow_cast-count : goal.overflow_cast-count
+overflow_cast-count g c =
+    let counted = c.len-count.ensures in
+    let items = c.args.traces.ok in
+    let few = c.requires.few in
+    record { fits = omega (arith, counted, items, few) }
+
+pub destroy_empty-requires : goal.destroy_empty-requires
+destroy_empty-requires g c =
+    let items = c.args.room.ok in
+    let none = ap (λ xs. length xs) c.requires.empty in
+    omega (arith, items, none)
+
+pub destroy_empty-requires-2 : goal.destroy_empty-requires-2
+destroy_empty-requires-2 g c =
+    let items = c.give_traces.new.traces.ok in
+    let none = ap (λ xs. length xs) c.in_default.ensures.emptied in
+    omega (arith, items, none)
+
+pub take_traces-back-requires-clause-some : goal.take_traces-back-requires-clause-some
+take_traces-back-requires-clause-some g c =
+    let shown = c.deref_mut-in-Err-give_traces.ensures.value
+    ∙ front_is c.give_traces.new.crew _ c.line_up-crew.result.len (c.give_traces.auto.crew ∙ c.deref_mut.ensures.len) in
+    let number = ap (λ xs. length xs) shown
+    ∙ (c.in-Err-give_traces.ensures.some_given.number
+    ∙ (ap (λ xs. length xs) c.deref_mut.ensures.value ∙ (c.line_up-crew.ensures.number ∙ c.in-Ok.ensures.number))) in
+    let least = c.requires.least in
+    omega (arith, number, least)
+
+pub read_all-traces-requires-clause-some : goal.read_all-traces-requires-clause-some
+read_all-traces-requires-clause-some g c κs within =
+    let shown = c.deref_mut-2.ensures.value
+    ∙ front_is c.give_traces.new.crew _ c.line_up-crew.result.len (c.give_traces.auto.crew ∙ c.deref_mut.ensures.len) in
+    let number = ap (λ xs. length xs) shown
+    ∙ (c.in_default.ensures.given.number
+    ∙ (ap (λ xs. length xs) c.deref_mut.ensures.value ∙ (c.line_up-crew.ensures.number ∙ c.in-Ok.ensures.number))) in
+    let least = c.requires.least in
+    omega (arith, number, least)
+
+pub read_all-traces-requires-clause-empty : goal.read_all-traces-requires-clause-empty
+read_all-traces-requires-clause-empty g c κs within = c.requires.empty
+
+pub read_all-traces-requires-clause-room : goal.read_all-traces-requires-clause-room
+read_all-traces-requires-clause-room g c κs within =
+    let counted = c.len-count.ensures in
+    let items = c.args.traces.ok in
+    let room = c.requires.room in
+    omega (arith, counted, items, room)

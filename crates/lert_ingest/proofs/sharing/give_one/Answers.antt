@@ -1,5 +1,7 @@
-use Rattle.std.proofs.Common.{◌∙◌, length, ap}
+use Rattle.std.proofs.Common.{◌∙◌, ◌%◌, arith, length, ap}
+use Rattle.std.proofs.Math.Nat.{mod-le}
 use Rattle.std.proofs.lemmas.Nat.{mod_below}
+use Rattle.std.proofs.lemmas.Option.{slice_get-get_or}
 use Rattle.lert_trace.specs.Reader.{Reading}
 use Rattle.lert_ingest.proofs.Pouring.{set_back}
 use Rattle.lert_ingest.proofs.Shared.{given_one}
@@ -19,6 +21,18 @@ returns-in-Err-clause-given g c = tt
 
 pub nonzero_rem-by : goal.nonzero_rem-by
 nonzero_rem-by g c = c.requires.some
+
+pub offset_bounds-crew-by : goal.offset_bounds-crew-by
+offset_bounds-crew-by g c =
+    let least = mod-le c.args.trace (length c.args.crew.now) in
+    let most = c.requires.most in
+    record { fits = omega (arith, least, most) }
+
+pub give-requires-clause-above : goal.give-requires-clause-above
+give-requires-clause-above g c =
+    c.requires.above (c.args.trace % length c.args.crew.now) _
+    (slice_get-get_or c.args.crew.now (c.args.trace % length c.args.crew.now) c.index-crew-by.result
+    (mod_below c.args.trace (length c.args.crew.now) c.requires.some))
 
 pub returns-in-Ok-clause-given : goal.returns-in-Ok-clause-given
 returns-in-Ok-clause-given g c = given_one c.args.trace c.args.source c.args.crew.now c.index-crew-by.result c.give.new.self c.new.result

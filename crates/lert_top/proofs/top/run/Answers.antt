@@ -1,4 +1,4 @@
-use Rattle.std.proofs.Common.{◌≡◌, ◌≢◌, ◌⊎◌, ◌^◌, ◌<◌, ◌≤◌, List, [], ℕ, Some, false, length, refl, sym, ap, ◌∙◌, inl, inr, subst}
+use Rattle.std.proofs.Common.{◌≡◌, ◌≢◌, ◌⊎◌, ◌^◌, ◌<◌, ◌≤◌, List, [], ℕ, Some, false, length, refl, sym, ap, ◌∙◌, inl, inr, subst, arith}
 use Rattle.std.proofs.Math.Dec.{eqb}
 use Rattle.lert_args.specs.Command.{command, usage}
 use Rattle.lert_args.specs.Names.{names_of}
@@ -7,19 +7,22 @@ use Rattle.lert_args.specs.declared.line.Line.TheVariants.{Run, Recover, Gen, Dr
 use Rattle.lert_args.specs.Word.{word_at}
 use Rattle.lert_args.proofs.SoundLines.{AreBelow, along_drill, along_gen, along_recover, along_run, command_number, drill_keeps, gen_keeps, recover_placed, run_keeps, run_placed, word_at-slice_get}
 use Rattle.lert_drill.specs.Drilled.{DrillShows}
-use Rattle.lert_ingest.specs.declared.status.Status.TheVariants.{Done, OutOfMemory, PlaceFault}
+use Rattle.lert_ingest.specs.declared.status.Status.TheVariants.{Done, OutOfMemory, PlaceFault, Usage}
 use Rattle.lert_ingest.specs.Bays.{AreLater}
 use Rattle.lert_cones.specs.Asked.{IsAsked, IsAskedForBays}
 use Rattle.lert_cones.proofs.AskedLaws.{nothing_handed}
+use Rattle.lert_cones.proofs.StatusLaws.{no_memory_no_place, no_memory_no_usage, no_memory_not_done, some_is}
 use Rattle.lert_cones.specs.Closed.{AreReturnedClosed}
 use Rattle.lert_run.specs.Ran.{HasPutBack}
 use Rattle.lert_run.specs.Run.{HasRun}
+use Rattle.lert_run.proofs.RunLaws.{run_none}
 use Rattle.lert_spec.specs.declared.numbers.Numbers.{Numbers}
 use Rattle.lert_recovery.specs.Recovered.{HasRecovered}
 use Rattle.std.specs.Prelude.{slice_get}
 use Rattle.lert_bay.specs.Kept.{Bays}
 use Rattle.lert_place.specs.Openings.{AreReturned, bays_granted, traces_granted}
 use Rattle.lert_top.specs.Generated.{TraceShows}
+use Rattle.lert_top.proofs.NoLine.{below_none, later_none, put_back_none, recovered_none, rule_is, sound_none, usage_not_place}
 use Rattle.lert_top.proofs.OtherLines.{none_back, none_back_same, of_another, of_no_rule}
 use Rattle.lert_recovery.specs.Moments.{AreReturnedSound}
 use Rattle.lert_top.proofs.top.run.Given as given
@@ -335,45 +338,61 @@ returns-in-Drill-clause-generated g c = λ seed events spelled sound. in_drill g
 broken_rule : (g : given.Over) (c : In-Err-Usage g) → usage c.args.words.now ≡ Some c.in-Err-Usage.rule
 broken_rule g c = c.in-Err-Usage.ensures.usage c.in-Err-Usage.rule c.in-Err-Usage.field-0-is
 
-pub returns-in-Err-Usage-clause-asked : goal.returns-in-Err-Usage-clause-asked
-returns-in-Err-Usage-clause-asked g c = λ settings workers dir traces spelled sound. of_no_rule (usage c.args.words.now) c.in-Err-Usage.rule sound (broken_rule g c)
-
-pub returns-in-Err-Usage-clause-ran : goal.returns-in-Err-Usage-clause-ran
-returns-in-Err-Usage-clause-ran g c = λ settings workers dir traces spelled sound. of_no_rule (usage c.args.words.now) c.in-Err-Usage.rule sound (broken_rule g c)
-
-pub returns-in-Err-Usage-clause-closed : goal.returns-in-Err-Usage-clause-closed
-returns-in-Err-Usage-clause-closed g c = λ settings workers dir traces spelled sound. of_no_rule (usage c.args.words.now) c.in-Err-Usage.rule sound (broken_rule g c)
-
-pub returns-in-Err-Usage-clause-asked_again : goal.returns-in-Err-Usage-clause-asked_again
-returns-in-Err-Usage-clause-asked_again g c = λ settings dir spelled sound. of_no_rule (usage c.args.words.now) c.in-Err-Usage.rule sound (broken_rule g c)
-
-pub returns-in-Err-Usage-clause-recovered : goal.returns-in-Err-Usage-clause-recovered
-returns-in-Err-Usage-clause-recovered g c = λ settings dir spelled sound. of_no_rule (usage c.args.words.now) c.in-Err-Usage.rule sound (broken_rule g c)
-
-pub returns-in-Err-Usage-clause-each_moment : goal.returns-in-Err-Usage-clause-each_moment
-returns-in-Err-Usage-clause-each_moment g c = λ settings dir spelled sound. of_no_rule (usage c.args.words.now) c.in-Err-Usage.rule sound (broken_rule g c)
-
-pub returns-in-Err-Usage-clause-generated : goal.returns-in-Err-Usage-clause-generated
-returns-in-Err-Usage-clause-generated g c = λ seed events spelled sound. of_no_rule (usage c.args.words.now) c.in-Err-Usage.rule sound (broken_rule g c)
-
-pub returns-in-Err-Usage-clause-drilled : goal.returns-in-Err-Usage-clause-drilled
-returns-in-Err-Usage-clause-drilled g c = λ settings workers seed events spelled sound. of_no_rule (usage c.args.words.now) c.in-Err-Usage.rule sound (broken_rule g c)
-
-pub returns-in-Err-Usage-clause-returned : goal.returns-in-Err-Usage-clause-returned
-returns-in-Err-Usage-clause-returned g c = λ sound. of_no_rule (usage c.args.words.now) c.in-Err-Usage.rule sound (broken_rule g c)
+pub returns-in-Err-Usage : goal.returns-in-Err-Usage
+returns-in-Err-Usage g c =
+    record {
+      asked = λ settings workers dir traces spelled sound. of_no_rule (usage c.args.words.now) c.in-Err-Usage.rule sound (broken_rule g c);
+      ran = λ settings workers dir traces spelled sound. of_no_rule (usage c.args.words.now) c.in-Err-Usage.rule sound (broken_rule g c);
+      closed = λ settings workers dir traces spelled sound. of_no_rule (usage c.args.words.now) c.in-Err-Usage.rule sound (broken_rule g c);
+      asked_again = λ settings dir spelled sound. of_no_rule (usage c.args.words.now) c.in-Err-Usage.rule sound (broken_rule g c);
+      recovered = λ settings dir spelled sound. of_no_rule (usage c.args.words.now) c.in-Err-Usage.rule sound (broken_rule g c);
+      each_moment = λ settings dir spelled sound. of_no_rule (usage c.args.words.now) c.in-Err-Usage.rule sound (broken_rule g c);
+      generated = λ seed events spelled sound. of_no_rule (usage c.args.words.now) c.in-Err-Usage.rule sound (broken_rule g c);
+      drilled = λ settings workers seed events spelled sound. of_no_rule (usage c.args.words.now) c.in-Err-Usage.rule sound (broken_rule g c);
+      returned = λ sound. of_no_rule (usage c.args.words.now) c.in-Err-Usage.rule sound (broken_rule g c);
+      usage = λ rule is. broken_rule g c ∙ ap Some (sym c.in-Err-Usage.rule-is ∙ rule_is _ rule is);
+      at_usage = λ rule broken. (inl (ap Usage (c.in-Err-Usage.rule-is ∙ some_is (sym (broken_rule g c) ∙ broken))), refl, refl);
+      place_fault = λ is. absurd (usage_not_place _ is);
+    }
 
 -- no memory to read the line
-pub returns-in-Err-OutOfMemory-clause-at_usage : goal.returns-in-Err-OutOfMemory-clause-at_usage
-returns-in-Err-OutOfMemory-clause-at_usage g c = λ rule broken. (inr refl, refl, refl)
-
-pub returns-in-Err-OutOfMemory-clause-asked : goal.returns-in-Err-OutOfMemory-clause-asked
-returns-in-Err-OutOfMemory-clause-asked g c = λ settings workers dir traces spelled sound. inl (c.requires.asked, refl)
-
-pub returns-in-Err-OutOfMemory-clause-returned : goal.returns-in-Err-OutOfMemory-clause-returned
-returns-in-Err-OutOfMemory-clause-returned g c = λ sound. all_back g c.args.place.now c.requires.asked
-
-pub returns-in-Err-OutOfMemory-clause-generated : goal.returns-in-Err-OutOfMemory-clause-generated
-returns-in-Err-OutOfMemory-clause-generated g c = λ seed events spelled sound. (refl, inl (refl, refl))
-
-pub returns-in-Err-OutOfMemory-clause-drilled : goal.returns-in-Err-OutOfMemory-clause-drilled
-returns-in-Err-OutOfMemory-clause-drilled g c = λ settings workers seed events spelled sound. (refl, refl)
+pub returns-in-Err-OutOfMemory : goal.returns-in-Err-OutOfMemory
+returns-in-Err-OutOfMemory g c =
+    record {
+      usage = λ rule is. absurd (no_memory_no_usage rule is);
+      place_fault = λ is. absurd (no_memory_no_place is);
+      ran = λ settings workers dir traces spelled sound differs.
+          let place = c.args.place.now in
+          let out = c.args.out.now in
+          let no_traces = no_trace g place c.requires.asked in
+          let no_bays = no_bay g place c.requires.asked in (
+            [],
+            [],
+            put_back_none (g.P.Place.handed_bays place) no_bays g.P.Bay.Bay.files g.P.Bay.Faulty.faults g.P.Bay.Faulty.mark
+                g.P.Trace.Faulty.faults g.P.Trace.Faulty.mark
+                (g.P.Place.handed_traces place) no_traces (g.P.Place.returned_trace place) (g.P.Place.returned_bay place),
+            λ other. absurd (other refl),
+            run_none g.P.Trace.Source.remaining g.P.Trace.Faulty.faults g.K.Sink.taken g.K.Faulty.faults g.P.Bay.Bay.files g.P.Bay.Faulty.faults
+                settings workers (g.P.Place.handed_traces place) [] out out (g.P.Place.handed_bays place) [] (sym no_traces) refl refl no_bays,
+          );
+      closed = λ settings workers dir traces spelled sound is. absurd (no_memory_not_done is);
+      asked_again = λ settings dir spelled sound.
+          inr (record { number = 0; within = omega arith; asked_is = c.requires.asked; no_fault = no_memory_no_place; all = λ is. absurd (no_memory_not_done is) });
+      recovered = λ settings dir spelled sound differs.
+          let place = c.args.place.now in
+          let no_bays = no_bay g place c.requires.asked in (
+            [],
+            λ cone within. below_none cone within,
+            later_none (g.P.Place.handed_bays place) no_bays g.P.Bay.Bay.files g.P.Bay.Faulty.faults g.P.Bay.Faulty.mark,
+            recovered_none (g.P.Place.handed_bays place) no_bays g.P.Bay.Bay.files g.P.Bay.Faulty.faults g.P.Bay.Faulty.mark
+                g.K.Sink.taken g.K.Faulty.faults settings c.args.out.now,
+          );
+      each_moment = λ settings dir spelled sound differs.
+          let place = c.args.place.now in
+          sound_none (g.P.Place.handed_bays place) (no_bay g place c.requires.asked) (bays_in g) settings (g.P.Place.returned_bay place);
+      at_usage = λ rule broken. (inr refl, refl, refl);
+      asked = λ settings workers dir traces spelled sound. inl (c.requires.asked, refl);
+      returned = λ sound. all_back g c.args.place.now c.requires.asked;
+      generated = λ seed events spelled sound. (refl, inl (refl, refl));
+      drilled = λ settings workers seed events spelled sound. (refl, refl);
+    }
