@@ -1,5 +1,5 @@
 -- Counts of faults over several calls.
-use Rattle.std.proofs.Common.{ℕ, ◌≤◌, arith, inl, inr}
+use Rattle.std.proofs.Common.{◌≡◌, ℕ, ◌+◌, ◌≤◌, min, arith, inl, inr}
 use Rattle.std.proofs.lemmas.Bool.{cases_lt}
 use Rattle.lert_io.specs.Fault.{HasRisen, last_count}
 
@@ -13,3 +13,7 @@ risen_since first before now early later rose below = elim (cases_lt before last
 -- and has risen at each later moment
 pub risen_then : (first middle last : ℕ) → middle ≤ last → HasRisen first middle → HasRisen first last
 risen_then first middle last later rose below = omega (arith, later, rose below)
+
+-- a count that rises by one up to its last value
+pub risen_once : (before now : ℕ) → now ≡ min (before + 1) last_count → HasRisen before now
+risen_once before now is below = omega (arith, is, below)

@@ -1,5 +1,5 @@
 -- How far a sink has come with a list of bytes, and the step of one more write.
-use Rattle.std.proofs.Common.{◌≡◌, ℕ, ◌+◌, ◌-◌, ◌<◌, ◌≤◌, List, ◌++◌, length, take, drop, Option, Some, None, ap, sym, ◌∙◌, arith, length-drop, append_assoc}
+use Rattle.std.proofs.Common.{◌≡◌, ℕ, ◌+◌, ◌-◌, ◌<◌, ◌≤◌, List, ◌++◌, length, take, drop, Option, Some, None, refl, ap, sym, ◌∙◌, arith, length-drop, append-nil, append_assoc}
 use Rattle.std.proofs.Math.Seq.{take-add, take-length}
 
 -- between two states of a sink the first `done` of the bytes were appended, and the count of faults did not fall
@@ -37,3 +37,14 @@ Wrote-more taken faults mark from mid now bytes done count w below some fits tol
       never_falls = omega (arith, w.never_falls);
       marked = marked ∙ w.marked;
     }
+
+-- nothing yet
+pub Wrote-none : {K : Type 0} (taken : K → Option (List ℕ)) (faults mark : K → ℕ) (from : K) (bytes : List ℕ) → Wrote taken faults mark from from bytes 0
+Wrote-none taken faults mark from bytes = record {
+  within = omega arith;
+  told = λ before was. was ∙ ap Some (sym (append-nil before));
+  untold = λ was. was;
+  none_yet = λ zero. refl;
+  never_falls = omega arith;
+  marked = refl;
+}

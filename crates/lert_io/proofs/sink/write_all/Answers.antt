@@ -1,5 +1,8 @@
-use Rattle.lert_io.proofs.Writing.{Wrote-more}
+use Rattle.lert_io.proofs.Writing.{Wrote-more, Wrote-none}
 use Rattle.lert_io.proofs.sink.write_all.Goals as goal
+
+pub loop-done-init : goal.loop-done-init
+loop-done-init g c = Wrote-none g.K.Sink.taken g.K.Faulty.faults g.K.Faulty.mark c.args.out.now c.args.bytes.now
 
 -- the write that answered appended its bytes behind those before
 pub loop-done-preserved : goal.loop-done-preserved
