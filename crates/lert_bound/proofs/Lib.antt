@@ -1,1 +1,3 @@
+mod Adding
 mod Examples
+mod Reaching
