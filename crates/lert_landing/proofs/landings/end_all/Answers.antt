@@ -1,8 +1,9 @@
 use Rattle.std.proofs.Common.{◌<◌, length, get_or, arith}
+use Rattle.std.proofs.lemmas.Bool.{false≢true}
 use Rattle.std.proofs.lemmas.List.{get_or_default}
 use Rattle.std.proofs.lemmas.Result.{err_from_is_err_and}
 use Rattle.lert_bay.specs.declared.bay.TheConstants.{FRAMES}
-use Rattle.lert_bay.proofs.KeptLaws.{IsLawful, keeps_on}
+use Rattle.lert_bay.proofs.KeptLaws.{IsLawful, keeps_as, keeps_on}
 use Rattle.lert_landing.proofs.LandingsLaws.{homes_more, rest_more, ending_more, ended_all}
 use Rattle.lert_landing.proofs.landings.end_all.Given as given
 use Rattle.lert_landing.proofs.landings.end_all.Invariants.{bays}
@@ -51,3 +52,15 @@ returns-clause-stand g c s are seen told landing later told_later =
     let was = c.loop-landing.invariant in
     ended_all s c.args.landings.now c.loop-landing.landing-index (later FRAMES) (omega (arith, c.loop-landing-test.false, was.len))
     (was.stand s are seen told landing later told_later)
+
+pub returns-in_err-end-clause-stand : goal.returns-in_err-end-clause-stand
+returns-in_err-end-clause-stand g c = rw (err_from_is_err_and c.from_residual.result c.from_residual.ensures.1).1 tt
+
+pub returns-clause-homes : goal.returns-clause-homes
+returns-clause-homes g c = c.loop-landing.invariant.homes
+
+pub returns-clause-rest : goal.returns-clause-rest
+returns-clause-rest g c = c.loop-landing.invariant.rest
+
+pub returns-clause-kept : goal.returns-clause-kept
+returns-clause-kept g c = keeps_as (bays g) (lawful g) c.args.bay.now c.loop-landing.bay ⊥ _ (λ failed. false≢true failed) c.loop-landing.invariant.kept
