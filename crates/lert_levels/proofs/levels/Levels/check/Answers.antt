@@ -64,7 +64,7 @@ returns-clause-refuses g c seen told at left = absurd (none-some at (sym (return
 
 pub returns-clause-only_reads : goal.returns-clause-only_reads
 returns-clause-only_reads g c =
-    reads_as (bays g) (lawful g) c.args.bay.now c.check_rows.new.bay _ _ (λ is. absurd (cc is)) c.in_ok-check_rows.ensures.only_reads
+    reads_as (bays g) (lawful g) c.args.bay.now c.check_rows.new.bay _ _ (λ is. absurd (not_err _ _ is)) c.in_ok-check_rows.ensures.only_reads
 
 -- ---- one doesn't, or a call failed
 

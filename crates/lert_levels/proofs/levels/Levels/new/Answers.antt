@@ -1,23 +1,23 @@
-use Rattle.std.proofs.Common.{◌≡◌, ◌+◌, ◌*◌, ◌≤◌, ◌∙◌, List, [], map, replicate, length, ap, sym, subst, arith, vec_capacity}
+use Rattle.std.proofs.Common.{ℕ, ◌≡◌, ◌+◌, ◌*◌, ◌≤◌, ◌∙◌, List, [], map, replicate, length, ap, sym, subst, arith, vec_capacity}
+use Rattle.std.proofs.lemmas.Nat.{mul-le}
+use Rattle.std.proofs.lemmas.Result.{err_from_is_err_and}
 use Rattle.lert_spec.specs.declared.numbers.Numbers.{Numbers}
 use Rattle.lert_rows.specs.declared.bin_at.BinAt.{BinAt}
 use Rattle.lert_rows.specs.Rows.{AreRows, directory_text}
 use Rattle.lert_rows.proofs.MoveLaws.{all_empty, AreRows-none, short_directory}
 use Rattle.lert_levels.proofs.levels.Levels.new.Goals as goal
 
+-- rows without a bin have a directory that fits
+directory_fits : (rows : List (List BinAt)) (levels bins room : ℕ) → rows ≡ replicate levels [] → levels * (1 + bins) ≤ room → length (directory_text rows) ≤ room
+directory_fits rows levels bins room empty fits = omega (arith, ap (λ (rs : List (List BinAt)). length (directory_text rs)) empty, short_directory levels bins, fits)
+
 pub lay_directory-requires-clause-room : goal.lay_directory-requires-clause-room
 lay_directory-requires-clause-room g c =
-    let s = c.args.settings.now in
-    let levels = ap (λ (n : Numbers). n.levels) c.numbers-numbers.ensures.value in
     let empty : map (λ row. row.items) c.deref.result.now ≡ replicate c.numbers-numbers.result.levels [] =
     ap (map (λ row. row.items)) c.deref.ensures.value ∙ all_empty (λ row. row.items) c.in_ok-rows.rows.items c.numbers-numbers.result.levels c.in_ok-rows.ensures.len c.in_ok-rows.ensures.empty
     in
-    omega (
-      arith,
-      ap (λ (rows : List (List BinAt)). length (directory_text rows)) empty,
-      short_directory c.numbers-numbers.result.levels c.numbers-numbers.result.bins,
-      c.in_ok-directory.ensures.capacity,
-    )
+    directory_fits (map (λ row. row.items) c.deref.result.now) c.numbers-numbers.result.levels c.numbers-numbers.result.bins (vec_capacity c.in_ok-directory.directory) empty
+    c.in_ok-directory.ensures.capacity
 
 pub invariant_of-result : goal.invariant_of-result
 invariant_of-result g c =
@@ -43,3 +43,33 @@ returns g c =
     ap (λ rows. record { settings = c.args.settings.now; rows = rows })
     (all_empty (λ row. row.items) c.in_ok-rows.rows.items c.numbers-numbers.result.levels c.in_ok-rows.ensures.len c.in_ok-rows.ensures.empty
     ∙ ap (λ (n : Numbers). replicate {A = List BinAt} n.levels []) c.numbers-numbers.ensures.value)
+
+-- ---- the sums, and the refusals, at which there are no levels
+
+pub overflow_add-bins : goal.overflow_add-bins
+overflow_add-bins g c = omega (arith, c.numbers-numbers.ensures.valid.limits.bins_to)
+
+pub overflow_add-bins-2 : goal.overflow_add-bins-2
+overflow_add-bins-2 g c = omega (arith, c.numbers-numbers.ensures.valid.limits.bins_to)
+
+pub overflow_mul-levels : goal.overflow_mul-levels
+overflow_mul-levels g c =
+    let limits = c.numbers-numbers.ensures.valid.limits in
+    let n = c.numbers-numbers.result in
+    let few = mul-le n.levels (1 + n.bins) 8 17 (omega (arith, limits.levels_to)) (omega (arith, limits.bins_to)) in
+    omega (arith, few)
+
+pub returns-in_err-rows : goal.returns-in_err-rows
+returns-in_err-rows g c = rw (err_from_is_err_and c.from_residual.result c.from_residual.ensures.1).1 tt
+
+pub returns-in_err-directory : goal.returns-in_err-directory
+returns-in_err-directory g c = rw (err_from_is_err_and c.from_residual-in_err-directory.result c.from_residual-in_err-directory.ensures.1).1 tt
+
+pub returns-in_err-new : goal.returns-in_err-new
+returns-in_err-new g c = rw (err_from_is_err_and c.from_residual-in_err-new.result c.from_residual-in_err-new.ensures.1).1 tt
+
+pub returns-in_err-new-2 : goal.returns-in_err-new-2
+returns-in_err-new-2 g c = rw (err_from_is_err_and c.from_residual-in_err-new-2.result c.from_residual-in_err-new-2.ensures.1).1 tt
+
+pub returns-in_err-new-3 : goal.returns-in_err-new-3
+returns-in_err-new-3 g c = rw (err_from_is_err_and c.from_residual-in_err-new-3.result c.from_residual-in_err-new-3.ensures.1).1 tt
