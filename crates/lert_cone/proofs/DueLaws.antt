@@ -275,3 +275,24 @@ module _ (d : Dues) (piece : Piece) (bits : d.settings.cone_bits ≤ 64) (named 
       neither : (t : Bool) → (t && false) ≡ false
       neither true = refl
       neither false = refl
+
+-- one total more: behind one too many, one that isn't due, one too many, and one report more
+pub total_full : (d : Dues) (piece : Piece) → d.is_full ≡ true → d ≡ with_total d piece
+total_full d piece full = sym (ap (λ t. cond t d (with_report d (due_key d.settings d.cone d.reports piece))) full)
+
+module _ (d : Dues) (piece : Piece) (room : d.is_full ≡ false) where
+  reports_it : (found : Option ℕ) → due_key d.settings d.cone d.reports piece ≡ found → with_total d piece ≡ with_report d found
+  reports_it found is = ap (λ t. cond t d (with_report d (due_key d.settings d.cone d.reports piece))) room ∙ ap (with_report d) is
+
+  pub total_none : due_key d.settings d.cone d.reports piece ≡ None → d ≡ with_total d piece
+  total_none none = sym (reports_it None none)
+
+  module _ (key : ℕ) (is : due_key d.settings d.cone d.reports piece ≡ Some key) where
+    abbrev chosen : Bool → Dues
+    chosen t = cond t (record d { is_full = true }) (record d { reports = d.reports ++ record { key = key; at = d.at } ∷ [] })
+
+    pub total_over : length d.reports ≡ d.settings.room → record d { is_full = true } ≡ with_total d piece
+    total_over over = sym (reports_it (Some key) is ∙ ap chosen (eq-eqb (length d.reports) d.settings.room over))
+
+    pub total_one : (length d.reports ≡ d.settings.room → ⊥) → record d { reports = d.reports ++ record { key = key; at = d.at } ∷ [] } ≡ with_total d piece
+    total_one fits = sym (reports_it (Some key) is ∙ ap chosen (ne_eqb (length d.reports) d.settings.room fits))

@@ -41,6 +41,7 @@ pub mod RoomLaws
 pub mod SoundLaws
 pub mod SomeLaws
 pub mod StandLaws
+pub mod StateLaws
 pub mod StepLaws
 pub mod TakeLaws
 pub mod TallyLaws

@@ -22,6 +22,7 @@ use Rattle.lert_cone.proofs.AppendLaws.{whole_of}
 use Rattle.lert_cone.proofs.StandLaws.{stands_whole, stands_broken, ended_cone, broken_cone, reports_finished}
 use Rattle.lert_cone.proofs.FaultLaws.{any_turn, by_bay_of, by_read_of, failed_of, is_broken_by, kept_since, no_refusal, not_replaying_by, turned_none, turns_as, unsound_of, untold}
 use Rattle.lert_cone.proofs.Refusals.{fault_as, no_failed, no_fault, no_unsound, one_fault}
+use Rattle.lert_cone.proofs.StateLaws.{broke_broken, broke_closed, passed_broken, passed_closed}
 use Rattle.lert_cone.proofs.TimeLaws.{timely}
 use Rattle.lert_cone.proofs.cone.Cone.finish.Given as given
 use Rattle.lert_cone.proofs.cone.Cone.finish.Goals as goal
@@ -370,3 +371,21 @@ returns-clause-in_time g c = λ h stands sound seen told.
     (v : Standing g.row.B.Denot). v.listing.settings) c.self.view_is)
     (timely g.B.Bay.files g.B.Bay.leaves g.B.Faulty.faults _ h refl (ap (λ (l : Listing). l.closed) is) (returns-clause-stands_for g c h stands)
     (subst (λ (l : Listing). IfTold (g.B.Bay.files c.self.inside.made.value) (λ first. (history : List Packet) × IsSound l.settings l.cone history first)) (sym is) was) after.0 after.1)
+
+pub returns-clause-closed : goal.returns-clause-closed
+returns-clause-closed g c = passed_closed c.args.self.now.state c.in_ok-test_state.ensures.ok
+
+pub returns-clause-broken : goal.returns-clause-broken
+returns-clause-broken g c = passed_broken c.args.self.now.state c.in_ok-test_state.ensures.ok
+
+pub returns-in-Err-clause-closed : goal.returns-in-Err-clause-closed
+returns-in-Err-clause-closed g c = broke_closed c.from.result c.args.self.now.state (ap is_refusal c.from.ensures ∙ no_refusal c.in-Err.fault) c.in_ok-test_state.ensures.ok
+
+pub returns-in-Err-clause-broken : goal.returns-in-Err-clause-broken
+returns-in-Err-clause-broken g c = broke_broken c.from.result c.args.self.now.state (ap is_refusal c.from.ensures ∙ no_refusal c.in-Err.fault) c.in_ok-test_state.ensures.ok
+
+pub returns-in-Err-clause-bay_failed : goal.returns-in-Err-clause-bay_failed
+returns-in-Err-clause-bay_failed g c = rw (← c.self.view_is) (λ same.
+    let answer : c.from.result ≡ BayFailed = one_fault same in
+    let fault_is = failed_of c.in-Err.fault (sym c.from.ensures ∙ answer) in
+    (c.broken_by-self-inside.ensures ∙ ap broken_by fault_is, c.finish.ensures.keeps.kept.failed (c.in-Err.is ∙ ap Err fault_is)))

@@ -1,4 +1,5 @@
 use Rattle.std.proofs.Common.{arith, ap, sym, ◌∙◌, ◌≡◌, ◌<◌, ◌≤◌, ◌^◌, ◌-◌, true}
+use Rattle.std.proofs.lemmas.Bool.{false≢true}
 use Rattle.lert_spec.specs.Look.{is_listed}
 use Rattle.lert_spec.proofs.TailLaws.{key_with}
 use Rattle.lert_cone.proofs.DueLaws.{passes_listed}
@@ -26,3 +27,10 @@ returns-clause-passes g c = rw (← c.self.view_is) (λ listed count.
       at = c.self.inside.at;
       is_full = c.self.inside.is_full;
     }) (record { tail = c.args.tail; count = count }) bits c.self.invariant.named there)
+
+-- a number that is no tail
+pub returns-then-not-is_tail-clause-value : goal.returns-then-not-is_tail-clause-value
+returns-then-not-is_tail-clause-value g c = λ below. absurd (false≢true (sym c.if-not-is_tail.true ∙ c.is_tail.ensures.tail.1 below))
+
+pub returns-then-not-is_tail-clause-passes : goal.returns-then-not-is_tail-clause-passes
+returns-then-not-is_tail-clause-passes g c = λ never count. absurd (false≢true never)

@@ -173,3 +173,21 @@ returns g c = record {
     journal = c.append.ensures.kept.journal;
   };
 }
+
+-- ---- where the slices end, and what stays so of the log
+
+pub slice_bounds-new-count : goal.slice_bounds-new-count
+slice_bounds-new-count g c = subst (λ (v : LogPlace). v.named ≤ length c.args.reports.now) (sym c.self.view_is) c.requires.named
+
+pub slice_bounds-append-end : goal.slice_bounds-append-end
+slice_bounds-append-end g c =
+    let log : LogPlace = record { gate = c.self.inside.log.gate; most = c.self.inside.log.most; named = c.self.inside.named; marks = c.self.inside.marks } in
+    let fits = subst (λ (v : LogPlace). payload_len v c.args.directory.now c.args.reports.now ≤ v.most) (sym c.self.view_is) c.requires.fits in
+    let room = subst (λ (v : LogPlace). v.most + 5 ≤ length c.args.buffer.now) (sym c.self.view_is) c.requires.room in
+    omega (arith, c.write_log-len.ensures.counted, room_new log c.args.directory.now c.args.reports.now fits (length c.args.buffer.now) room, c.write_log-len.auto.into)
+
+pub invariant_of-self : goal.invariant_of-self
+invariant_of-self g c = ap (λ (l : Log). l.file) c.in_err-append.ensures.stayed ∙ c.self.invariant
+
+pub invariant_of-self-2 : goal.invariant_of-self-2
+invariant_of-self-2 g c = ap (λ (l : Log). l.file) c.in_ok-append.ensures.moved ∙ c.self.invariant
