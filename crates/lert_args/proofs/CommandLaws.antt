@@ -1,6 +1,6 @@
 -- What words spell, by their first one.
 use Rattle.std.proofs.Common.{◌≡◌, ℕ, ◌<◌, ◌≤◌, Bool, true, false, List, [], ◌∷◌, length, drop, get_or, Option, Some, None, slice_get, Result, Err}
-use Rattle.std.proofs.Common.{refl, ap, sym, ◌∙◌, subst, arith, cond, leb, le-leb, Ok}
+use Rattle.std.proofs.Common.{◌⊎◌, inl, inr, refl, ap, sym, ◌∙◌, subst, arith, cond, leb, le-leb, Ok}
 use Rattle.std.proofs.lemmas.Bool.{lt-leb}
 use Rattle.std.specs.Prelude.{codes, option_and_then}
 use Rattle.std.specs.List.{remove}
@@ -64,6 +64,16 @@ recover_named-is s names read usual same some few = ap (recover_named s) (sym sa
     by_names [] some few = absurd (omega arith)
     by_names (dir ∷ []) some few = refl
     by_names (dir ∷ (other ∷ others)) some few = absurd (omega arith)
+
+-- and where there is none, or more than one, no line is spelled
+pub recover_named-none : (s : Said) (names read : List ℕ) → read ≡ names → (length read < 1) ⊎ (2 ≤ length read) → recover_named s names ≡ None
+recover_named-none s names read same number = ap (recover_named s) (sym same) ∙ by_names read number
+  where
+    by_names : (names : List ℕ) → (length names < 1) ⊎ (2 ≤ length names) → recover_named s names ≡ None
+    by_names [] number = refl
+    by_names (dir ∷ []) (inl none) = absurd (omega (arith, none))
+    by_names (dir ∷ []) (inr many) = absurd (omega (arith, many))
+    by_names (dir ∷ (other ∷ others)) number = refl
 
 -- the first word is the command
 pub command-of : (words : List (List ℕ)) (name : List ℕ) → slice_get words 0 ≡ Some name → command words ≡ line_of name (drop 1 words)

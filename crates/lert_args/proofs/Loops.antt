@@ -1,9 +1,13 @@
 -- One more step of the reader's loops.
-use Rattle.std.proofs.Common.{◌≡◌, ◌∙◌, ℕ, ◌+◌, ◌<◌, zero, suc, List, [], ◌∷◌, ◌++◌, length, map, take, drop, Some, slice_get, get_or, sym, ap, ap₂, append_assoc, arith}
+use Rattle.std.proofs.Common.{◌≡◌, ◌∙◌, ℕ, ◌+◌, ◌<◌, ◌≤◌, Bool, true, ◌&&◌, zero, suc, List, [], ◌∷◌, ◌++◌, length, map, take, drop, Some, slice_get, get_or, sym, ap, ap₂, append_assoc, arith}
 use Rattle.std.specs.Borrow.{Bor}
-use Rattle.std.proofs.lemmas.List.{map-append, map_more}
+use Rattle.std.specs.List.{list_all}
+use Rattle.std.proofs.lemmas.List.{append-nil, drop_all, map-append, map_more}
+use Rattle.std.proofs.lemmas.List.Folds.{list_all_more}
 use Rattle.clap.specs.Words.{App, Rule, with_rule}
 use Rattle.lert_args.specs.App.{app_with, names_rule, option_rule}
+use Rattle.lert_args.specs.declared.line.LineFault.{LineFault}
+use Rattle.lert_args.specs.declared.line.LineFault.TheVariants.{Usage}
 
 from_here : (words : List (List ℕ)) (n : ℕ) (word : List ℕ) → slice_get words n ≡ Some word → drop n words ≡ word ∷ drop (n + 1) words
 from_here [] n word at = absurd (cc)
@@ -29,3 +33,22 @@ option_more options i d old new rule lt rule_is so_far is =
     ∙ ap (λ rules. record (app_with []) { top = record (app_with []).top { rules = names_rule ∷ rules } })
     (sym (map-append option_rule (map (λ (o : Bor (List ℕ)). o.now) (take i options)) ((get_or options i d).now ∷ [])))
     ∙ ap app_with (sym (map_more (λ (o : Bor (List ℕ)). o.now) options i d lt))
+
+-- one more value that was read
+pub values_more : {A B : Type 0} (f : A → B) (xs : List A) (i : ℕ) (d : A) (old new : List B) (value : B) → i < length xs → old ≡ map f (take i xs)
+    → value ≡ f (get_or xs i d) → new ≡ old ++ value ∷ [] → new ≡ map f (take (i + 1) xs)
+values_more f xs i d old new value lt so_far is items = items ∙ ap₂ (λ a b. a ++ b ∷ []) so_far is ∙ sym (map_more f xs i d lt)
+
+pub all_more : {A : Type 0} (p : A → Bool) (xs : List A) (i : ℕ) (d : A) → i < length xs → list_all p (take i xs) ≡ true → p (get_or xs i d) ≡ true
+    → list_all p (take (i + 1) xs) ≡ true
+all_more p xs i d lt so_far is = list_all_more p xs i d lt ∙ ap₂ (λ a b. a && b) so_far is
+
+pub room_more : (len capacity number all : ℕ) → len ≡ number → all ≤ capacity → number < all → len < capacity
+room_more len capacity number all is room lt = omega arith
+
+pub same_rule : (fault : LineFault) (a b : ℕ) → fault ≡ Usage a → fault ≡ Usage b → b ≡ a
+same_rule fault a b is_a is_b = cc
+
+-- all words behind the command
+pub texts_done : (texts words all : List (List ℕ)) (n : ℕ) → length words ≤ n → texts ++ drop n words ≡ all → texts ≡ all
+texts_done texts words all n most is = sym (append-nil texts) ∙ ap (λ xs. texts ++ xs) (sym (drop_all n words most)) ∙ is

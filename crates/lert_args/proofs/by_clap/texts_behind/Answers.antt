@@ -1,5 +1,7 @@
+use Rattle.std.proofs.Common.{List, ◌++◌, ◌<◌, ◌≤◌, ℕ, ap, drop, map, subst}
+use Rattle.std.specs.Borrow.{Bor}
 use Rattle.std.proofs.lemmas.Result.{err_from_is_err_and}
-use Rattle.lert_args.proofs.Loops.{text_more}
+use Rattle.lert_args.proofs.Loops.{text_more, texts_done}
 use Rattle.lert_args.proofs.by_clap.texts_behind.Goals as goal
 
 pub loop-number-preserved : goal.loop-number-preserved
@@ -8,3 +10,14 @@ loop-number-preserved c =
 
 pub returns-in_err-push : goal.returns-in_err-push
 returns-in_err-push c = let p = err_from_is_err_and c.from_residual.result c.from_residual.ensures.1 in rw p.1 tt
+
+pub loop-number-init : goal.loop-number-init
+loop-number-init c = ap (λ xs. map (λ (text : Bor (List ℕ)). text.now) xs ++ drop 1 c.args.words.now) c.new-texts.ensures.items
+
+pub word-requires : goal.word-requires
+word-requires c = subst (λ n. c.loop-number.number < n) c.len-number-end.ensures c.loop-number-test.true
+
+pub returns : goal.returns
+returns c =
+    texts_done _ c.args.words.now _ c.loop-number.number (subst (λ n. n ≤ c.loop-number.number) c.len-number-end.ensures c.loop-number-test.false)
+    c.loop-number.invariant
