@@ -63,6 +63,12 @@ module _ {H F : Type 0} where
       let new : sight tid (Some q) ≡ sight tid' me'.0 = λ i. sight (sym same i) (sym is i).0 in
       subst (λ (x : Sight H F). P old x) new (subst (λ (x : Sight H F). P x (sight tid (Some q))) view fact)
 
+  -- a pass after a try that lost one take, and after which nothing else is changed
+  pub lost_once : (tid tid' : TableId) (me me' : Mine H F) (old : Sight H F) → sight tid me.0 ≡ old → tid' ≡ tid → (p : Shown H F) → me.0 ≡ Some p
+      → me' ≡ (Some (missed p), []) → sight tid' me'.0 ≡ record old { met = old.met + 1 }
+  lost_once tid tid' me me' old view same p is now =
+      seen_both (λ (x y : Sight H F). y ≡ record x { met = x.met + 1 }) tid tid' me' old p (missed p) (view_of tid me old view p is) same now refl
+
   -- a pass after a try that lost so many takes
   pub record Turned (tid : TableId) (p : Shown H F) (me : Mine H F) (n : ℕ) : Type 0 where
     pub pass : Shown H F

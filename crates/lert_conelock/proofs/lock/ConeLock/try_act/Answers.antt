@@ -1,4 +1,4 @@
-use Rattle.lert_conelock.proofs.Seeing.{idles, takes, first_of, turned, turned_keeps, turned_met, turned_inside, acted_once, declined_once}
+use Rattle.lert_conelock.proofs.Seeing.{idles, takes, first_of, turned, turned_keeps, turned_met, turned_inside, acted_once, declined_once, lost_once}
 use Rattle.lert_conelock.proofs.Turning.{trier}
 use Rattle.lert_conelock.proofs.lock.ConeLock.try_act.Goals as goal
 
@@ -36,3 +36,7 @@ returns-clause-refused g c refusal is = let me = idles _ c.pass.invariant.0 c.pa
     declined_once _ _ _ _ _ c.pass.inside.seat.me c.try_turn.new.seat.me _ c.pass.view_is did.seat.0 me.pass (trier me) _
     (first_of _ c.pass.inside.seat.me _ c.pass.view_is _ c.requires.belongs me.pass (trier me)) refusal
     (did.refused me.pass refusal (trier me) is)
+
+pub returns-clause-busy : goal.returns-clause-busy
+returns-clause-busy g c is = let me = idles _ c.pass.invariant.0 c.pass.invariant.1 in let did = c.try_turn.ensures in
+    lost_once _ _ c.pass.inside.seat.me c.try_turn.new.seat.me _ c.pass.view_is did.seat.0 me.pass (trier me) (did.busy me.pass (trier me) is)
