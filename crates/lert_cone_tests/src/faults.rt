@@ -3,7 +3,7 @@
 ghost use Rattle.std.specs.Prelude.{◌≡◌, ◌<◌, ◌≤◌, length};
 
 use crate::cones::{
-    check_state, created, empty_bay, end, give, give_all, refusal, sevens_at, small,
+    check_end, check_given, check_state, created, empty_bay, give_all, refusal, sevens_at, small,
 };
 use crate::files::JOURNAL_TEXT;
 use crate::garbled::GarbledBay;
@@ -59,10 +59,9 @@ fn check_broken<B: Bay>(
     requires cone { cone.old.listing.cone ≡ 0 }
 {
     give_all(rt, alloc, settings, cone, keys);
-    let first = give(rt, alloc, settings, cone, last);
-    let second = give(rt, alloc, settings, cone, last);
-    assert!(rt; first == Err(fault) && second == Err(ConeFault::Broken));
-    assert!(rt; end(cone) == Err(ConeFault::Broken));
+    check_given(rt, alloc, settings, cone, last, Err(fault));
+    check_given(rt, alloc, settings, cone, last, Err(ConeFault::Broken));
+    check_end(rt, cone, Err(ConeFault::Broken));
     check_state(rt, cone, state, keys.len() as u64);
 }
 
@@ -92,9 +91,13 @@ fn gate_at(rt: &impl Abort, alloc: Global, call: u64) -> Option<u8> {
     journal.get(32).copied()
 }
 
+// A call of the first packet that fails, and the gate behind the header then.
+const GATES: [(u64, u8); 4] = [(8, 0), (9, 0), (10, 0), (11, 1)];
+
 #[test]
 fn a_failed_call_breaks_the_cone(rt: HostRuntime) {
-    for (call, gate) in [(8, 0), (9, 0), (10, 0), (11, 1)] {
+    for row in &GATES {
+        let (call, gate) = *row;
         assert!(rt; gate_at(&rt, rt.alloc(), call) == Some(gate), "call {call}");
     }
 }

@@ -2,7 +2,10 @@
 
 ghost use Rattle.std.specs.Prelude.{◌≡◌, ◌<◌};
 
-use crate::cones::{check_listed, check_state, created, empty_bay, end, give, refusal, small};
+use crate::cones::{
+    check_end, check_given, check_listed, check_state, created, empty_bay, refusal, small,
+    with_file,
+};
 use lert_base::{Report, Settings};
 use lert_bay::{Bay, FRAMES, JOURNAL, LOG, MemBay};
 use lert_cone::{Acked, Cone, ConeFault, ConeState, CreateFault, is_fresh};
@@ -41,12 +44,18 @@ fn check_ended<B: Bay>(
         to: 3,
         reports: 1,
     };
-    let first = give(rt, alloc, settings, cone, &[7, 7, 7]);
+    check_given(rt, alloc, settings, cone, &[7, 7, 7], Ok(acked));
     check_state(rt, cone, ConeState::Running, 3);
-    assert!(rt; end(cone) == Ok(1));
-    assert!(rt; end(cone) == Err(ConeFault::Closed));
-    let second = give(rt, alloc, settings, cone, &[7, 7, 7]);
-    assert!(rt; first == Ok(acked) && second == Err(ConeFault::Closed));
+    check_end(rt, cone, Ok(1));
+    check_end(rt, cone, Err(ConeFault::Closed));
+    check_given(
+        rt,
+        alloc,
+        settings,
+        cone,
+        &[7, 7, 7],
+        Err(ConeFault::Closed),
+    );
     check_state(rt, cone, ConeState::Finished, 3);
     check_listed(rt, cone, &[Report { key: 7, at: 3 }]);
 }
@@ -66,8 +75,7 @@ fn three_keys_leave_their_files(rt: HostRuntime) {
 fn with_a_byte(rt: &impl Abort, alloc: Global, file: u8) -> MemBay
     requires { file < 3 }
 {
-    let mut bay = empty_bay(rt, alloc);
-    assert!(rt; bay.load(file, b"x").is_ok());
+    let mut bay = with_file(rt, alloc, file, b"x");
     assert!(rt; is_fresh(&mut bay) == Ok(false));
     bay
 }

@@ -1,8 +1,10 @@
 //! The bytes of whole logs, and of some that leave the format.
 
-use crate::cones::{SMALL, empty_bay, settings_of};
+ghost use Rattle.std.specs.Prelude.{◌≡◌, []};
+
+use crate::cones::{SMALL, changed, settings_of, with_file};
 use lert_base::Report;
-use lert_bay::LOG;
+use lert_bay::{Bay, LOG};
 use lert_files::{Directory, ReopenFault, read_whole_log};
 use lert_plain::PlainTable;
 use lert_reports::{LogPoint, ReportStore};
@@ -25,23 +27,35 @@ struct Found {
     directory: Directory,
 }
 
-fn read(rt: &impl Abort, alloc: Global, bytes: &[u8]) -> Found {
-    let settings = settings_of(rt, SMALL);
-    let mut bay = empty_bay(rt, alloc);
-    bay.load(LOG, bytes).expect(rt, "memory");
-    let mut store: ReportStore<PlainTable> = ReportStore::new(alloc, &settings).expect(
-        rt, "memory",
-    );
-    let mut directory = Directory::new();
+// Reads the log of a bay into a store and a directory.
+fn read_into<B: Bay>(
+    rt: &impl Abort,
+    bay: &mut B,
+    store: &mut ReportStore<PlainTable>,
+    directory: &mut Directory,
+) -> Result<LogPoint, ReopenFault>
+    requires same { store.old.settings ≡ SMALL }
+    requires empty { store.old.reports ≡ [] }
+{
     let mut buffer = [0; 549];
-    let answer = read_whole_log(
-        &mut bay,
-        &settings,
+    read_whole_log(
+        bay,
+        &settings_of(rt, SMALL),
         0,
-        &mut store,
-        &mut directory,
+        store,
+        directory,
         &mut buffer,
-    );
+    )
+}
+
+fn read(rt: &impl Abort, alloc: Global, bytes: &[u8]) -> Found {
+    let mut bay = with_file(rt, alloc, LOG, bytes);
+    let mut store: ReportStore<PlainTable> = ReportStore::new(
+        alloc,
+        &settings_of(rt, SMALL),
+    ).expect(rt, "memory");
+    let mut directory = Directory::new();
+    let answer = read_into(rt, &mut bay, &mut store, &mut directory);
     Found {
         answer,
         reports: store.list().to_vec(alloc).expect(rt, "memory"),
@@ -67,75 +81,103 @@ fn check_whole(
     assert!(rt; is_whole(&read(rt, alloc, bytes), end, reports, directory));
 }
 
-// Whether a log is left at this place.
-fn is_left_at(rt: &impl Abort, alloc: Global, bytes: &[u8], at: u64) -> bool {
-    read(rt, alloc, bytes).answer == Err(ReopenFault::Malformed { file: LOG, at })
+// A log is left at this place.
+fn check_left(rt: &impl Abort, alloc: Global, bytes: &[u8], at: u64) {
+    assert!(rt;
+        read(rt, alloc, bytes).answer == Err(ReopenFault::Malformed { file: LOG, at }),
+        "at {at}"
+    );
 }
+
+// Whole logs, with their end, their reports, and their directory.
+const WHOLE: [(&[u8], LogPoint, &[Report], &[u8]); 3] = [
+    (
+        b"LERTL\x01\0\0\0\x01",
+        LogPoint {
+            n0: 0,
+            offset: 32,
+            first: 1,
+            closed: false,
+            log_end: 8,
+        },
+        &[],
+        &[0, 0],
+    ),
+    (
+        &CLOSED,
+        LogPoint {
+            n0: 3,
+            offset: 32,
+            first: 1,
+            closed: true,
+            log_end: 60,
+        },
+        &[Report { key: 7, at: 3 }],
+        &[0, 0],
+    ),
+    (
+        &TWO_RECORDS,
+        LogPoint {
+            n0: 13,
+            offset: 45,
+            first: 2,
+            closed: true,
+            log_end: 114,
+        },
+        &[Report { key: 7, at: 12 }, Report { key: 8, at: 13 }],
+        &[1, 0, 0],
+    ),
+];
 
 #[test]
 fn whole_logs_are_read(rt: HostRuntime) {
-    let seven = Report { key: 7, at: 3 };
-    let first = Report { key: 7, at: 12 };
-    let second = Report { key: 8, at: 13 };
-    let begun = LogPoint {
-        n0: 0,
-        offset: 32,
-        first: 1,
-        closed: false,
-        log_end: 8,
-    };
-    let closed = LogPoint {
-        n0: 3,
-        offset: 32,
-        first: 1,
-        closed: true,
-        log_end: 60,
-    };
-    let later = LogPoint {
-        n0: 13,
-        offset: 45,
-        first: 2,
-        closed: true,
-        log_end: 114,
-    };
-    let logs: [(&[u8], LogPoint, &[Report], &[u8]); 3] = [
-        (b"LERTL\x01\0\0\0\x01", begun, &[], &[0, 0]),
-        (&CLOSED, closed, &[seven], &[0, 0]),
-        (&TWO_RECORDS, later, &[first, second], &[1, 0, 0]),
-    ];
-    for (bytes, end, reports, directory) in logs {
+    for row in &WHOLE {
+        let (bytes, end, reports, directory) = *row;
         check_whole(&rt, rt.alloc(), bytes, end, reports, directory);
+    }
+}
+
+// How many bytes are there of the closed log, and where it is left.
+const CUT: [(usize, u64); 4] = [(3, 3), (8, 8), (60, 60), (50, 50)];
+
+fn check_cut(rt: &impl Abort, alloc: Global, len: usize, at: u64) {
+    let bytes = CLOSED.get(..len).expect(rt, "the log is so long");
+    check_left(rt, alloc, bytes, at);
+}
+
+fn check_all_cut(rt: &impl Abort, alloc: Global) {
+    for row in &CUT {
+        let (len, at) = *row;
+        check_cut(rt, alloc, len, at);
+    }
+}
+
+// Logs of which these bytes are others, and where each is left.
+const OTHERS: [(&[u8], &[(usize, u8)], u64); 6] = [
+    // Another header, a log that was opened again, and a third kind of records.
+    (&CLOSED, &[(0, b'l')], 0),
+    (&CLOSED, &[(60, 1)], 60),
+    (&CLOSED, &[(13, 3)], 13),
+    // A key that was listed before stands before a position that is too great.
+    (&TWO_RECORDS, &[(98, 7)], 98),
+    (&TWO_RECORDS, &[(98, 7), (106, 14)], 98),
+    (&TWO_RECORDS, &[(106, 14)], 106),
+];
+
+fn check_changed(rt: &impl Abort, alloc: Global, bytes: &[u8], others: &[(usize, u8)], at: u64) {
+    let log = changed(rt, alloc, bytes, others);
+    check_left(rt, alloc, &log, at);
+}
+
+fn check_all_changed(rt: &impl Abort, alloc: Global) {
+    for row in &OTHERS {
+        let (bytes, others, at) = *row;
+        check_changed(rt, alloc, bytes, others, at);
     }
 }
 
 #[test]
 fn a_log_leaves_its_format_at_a_place(rt: HostRuntime) {
-    let mut other_header = CLOSED;
-    other_header[0] = b'l';
-    let mut opened_again = CLOSED;
-    opened_again[60] = 1;
-    let mut third_kind = CLOSED;
-    third_kind[13] = 3;
-    let mut listed_before = TWO_RECORDS;
-    listed_before[98] = 7;
-    // The key that was listed before stands before the position that is too great.
-    let mut late = listed_before;
-    late[106] = 14;
-    let mut late_alone = TWO_RECORDS;
-    late_alone[106] = 14;
-    let broken: [(&[u8], u64); 10] = [
-        (&other_header, 0),
-        (&CLOSED[..3], 3),
-        (&CLOSED[..8], 8),
-        (&CLOSED[..60], 60),
-        (&CLOSED[..50], 50),
-        (&opened_again, 60),
-        (&third_kind, 13),
-        (&listed_before, 98),
-        (&late, 98),
-        (&late_alone, 106),
-    ];
-    for (bytes, at) in broken {
-        assert!(rt; is_left_at(&rt, rt.alloc(), bytes, at), "at {at}");
-    }
+    check_all_cut(&rt, rt.alloc());
+    check_all_changed(&rt, rt.alloc());
 }

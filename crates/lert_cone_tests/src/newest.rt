@@ -4,7 +4,7 @@ ghost use Rattle.std.specs.Prelude.{◌≡◌, ◌<◌};
 ghost use Rattle.lert_base.specs.Entries.{packet_of};
 ghost use Rattle.lert_journal.specs.Payload.{IsJournaled};
 
-use crate::cones::{check_listed, check_state, empty_bay, settings_of};
+use crate::cones::{changed, check_listed, check_state, empty_bay, settings_of};
 use lert_base::{Entry, KeyList, Numbers, Report, Settings};
 use lert_bay::{Bay, JOURNAL, MemBay};
 use lert_cone::{Cone, ConeRoom, ConeState};
@@ -165,45 +165,51 @@ fn a_reopening_reads_the_newest_bins_alone(rt: HostRuntime) {
 
 // A copy of a bay with another byte in the journal.
 fn damaged(rt: &impl Abort, alloc: Global, bay: &MemBay, at: usize, byte: u8) -> MemBay {
-    let mut journal = bay.bytes(JOURNAL).to_vec(alloc).expect(rt, "memory");
-    *journal.get_mut(at).expect(rt, "the journal has the place") = byte;
+    let journal = changed(rt, alloc, bay.bytes(JOURNAL), &[(at, byte)]);
     let mut copy = bay.copied(alloc).expect(rt, "memory");
     copy.load(JOURNAL, &journal).expect(rt, "memory");
     copy
 }
 
-// A byte of the journal that is another one, and why no cone is made then.
-type Damage = (usize, u8, Option<ReopenFault>);
+// A place of the journal, the byte there that is another one, and where the journal leaves its format then.
+const DAMAGES: [(usize, u8, Option<u64>); 7] = [
+    // The first gate is closed, the second record has no byte, and key 10 is another one.
+    (32, 0, None),
+    (54, 0, None),
+    (32 + 9 * 21 + 13, 255, None),
+    // The last byte that isn't read, and in the first record that is: its gate is closed, so that keys are missing,
+    // its length is too great, and there is no such caller.
+    (NAMED - 1, 255, None),
+    (NAMED, 0, Some(NAMED as u64)),
+    (NAMED + 2, 255, Some(NAMED as u64 + 1)),
+    (NAMED + 5, 64, Some(NAMED as u64 + 5)),
+];
 
-fn check_damage(rt: &impl Abort, alloc: Global, bay: &MemBay, rows: &[Damage]) {
-    for row in rows {
-        let (at, byte, wanted) = *row;
-        let (fault, _bay) = reopened(rt, alloc, damaged(rt, alloc, bay, at, byte));
-        assert!(rt; fault == wanted, "at {at}");
-    }
+fn left_at(at: u64) -> ReopenFault {
+    ReopenFault::Malformed { file: JOURNAL, at }
 }
 
-fn left_at(at: usize) -> Option<ReopenFault> {
-    Some(ReopenFault::Malformed {
-        file: JOURNAL,
-        at: at as u64,
-    })
+fn check_damage(
+    rt: &impl Abort,
+    alloc: Global,
+    bay: &MemBay,
+    place: usize,
+    byte: u8,
+    left: Option<u64>,
+) {
+    let (fault, _bay) = reopened(rt, alloc, damaged(rt, alloc, bay, place, byte));
+    assert!(rt; fault == left.map(left_at), "at {place}");
+}
+
+fn check_damages(rt: &impl Abort, alloc: Global, bay: &MemBay) {
+    for row in &DAMAGES {
+        let (place, byte, left) = *row;
+        check_damage(rt, alloc, bay, place, byte, left);
+    }
 }
 
 #[test]
 fn damage_before_the_newest_bins_is_not_found(rt: HostRuntime) {
     let bay = left_in_memory(&rt, rt.alloc());
-    let rows: [Damage; 7] = [
-        // The first gate is closed, the second record has no byte, and key 10 is another one.
-        (32, 0, None),
-        (54, 0, None),
-        (32 + 9 * 21 + 13, 255, None),
-        // The last byte that isn't read, and in the first record that is: its gate is closed, so that keys are missing,
-        // its length is too great, and there is no such caller.
-        (NAMED - 1, 255, None),
-        (NAMED, 0, left_at(NAMED)),
-        (NAMED + 2, 255, left_at(NAMED + 1)),
-        (NAMED + 5, 64, left_at(NAMED + 5)),
-    ];
-    check_damage(&rt, rt.alloc(), &bay, &rows);
+    check_damages(&rt, rt.alloc(), &bay);
 }

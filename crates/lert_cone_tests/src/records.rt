@@ -2,7 +2,7 @@
 
 ghost use Rattle.std.specs.Prelude.{◌≡◌};
 
-use crate::cones::{created, empty_bay, end, give, small};
+use crate::cones::{created, empty_bay, end, small, take};
 use lert_base::Settings;
 use lert_bay::{Bay, LOG, MemBay};
 use lert_cone::Cone;
@@ -33,11 +33,7 @@ fn check_ended<B: Bay>(
     requires cone { cone.old.listing.cone ≡ 0 }
 {
     for packet in packets {
-        let keys = *packet;
-        let len = keys.len();
-        assert!(rt; 0 < len && len <= 32);
-        let answer = give(rt, alloc, settings, cone, keys);
-        assert!(rt; answer.is_ok());
+        take(rt, alloc, settings, cone, packet);
     }
     assert!(rt; end(cone).is_ok());
 }

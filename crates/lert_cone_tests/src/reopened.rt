@@ -1,6 +1,6 @@
 //! Files that are read again: what a cone has of them, and why one isn't made.
 
-use crate::cones::{SMALL, empty_bay, settings_of};
+use crate::cones::{SMALL, changed, empty_bay, settings_of};
 use lert_bay::{Bay, FRAMES, JOURNAL, LOG, MemBay};
 use lert_cone::{Cone, ConeRoom, ConeState};
 use lert_plain::PlainTable;
@@ -88,34 +88,83 @@ fn is_left(file: u8, at: u64) -> Answer {
     is_refused(ReopenFault::Malformed { file, at })
 }
 
-// Rows of files, of which each has to be answered so.
-fn check_answers(rt: &impl Abort, alloc: Global, rows: &[([&[u8]; 3], Answer)]) {
-    for number in 0..rows.len() {
-        let (files, wanted) = rows[number];
-        assert!(rt; answer_over(rt, alloc, &files) == wanted, "row {number}");
+// These files make a cone, of which this is to be seen.
+fn check_made(
+    rt: &impl Abort,
+    alloc: Global,
+    files: &[&[u8]; 3],
+    state: ConeState,
+    events: u64,
+    reports: u64,
+) {
+    let answer = answer_over(rt, alloc, files);
+    assert!(rt;
+        answer == is_open(state, events, reports),
+        "of {events} keys"
+    );
+}
+
+// A file leaves its format at this byte.
+fn check_left(rt: &impl Abort, alloc: Global, files: &[&[u8]; 3], file: u8, at: u64) {
+    let answer = answer_over(rt, alloc, files);
+    assert!(rt; answer == is_left(file, at), "file {file} at {at}");
+}
+
+// The files, and the state of the cone that they make, its keys and reports.
+const MAKE: [([&[u8]; 3], ConeState, u64, u64); 3] = [
+    ([&THREE, &BEGUN, &[]], ConeState::Running, 3, 1),
+    ([&THREE, &CLOSED, &[]], ConeState::Finished, 3, 1),
+    ([&TWELVE, &BEGUN, &[]], ConeState::Running, 12, 1),
+];
+
+fn check_all_made(rt: &impl Abort, alloc: Global) {
+    for row in &MAKE {
+        let (files, state, events, reports) = row;
+        check_made(rt, alloc, files, *state, *events, *reports);
     }
+}
+
+// The files, and which of them leaves its format, and where.
+const LEAVE: [([&[u8]; 3], u8, u64); 3] = [
+    ([&THREE, &[], &[]], LOG, 0),
+    ([&TWELVE, &FLUSHED, &[]], FRAMES, 0),
+    // The log was closed after three keys: a record goes past them.
+    ([&SIX, &CLOSED, &[]], JOURNAL, 69),
+];
+
+fn check_all_left(rt: &impl Abort, alloc: Global) {
+    for row in &LEAVE {
+        let (files, file, at) = row;
+        check_left(rt, alloc, files, *file, *at);
+    }
+}
+
+// Another letter in the journal of three keys, and one of many callers.
+const OTHERS: [(usize, u8, u64); 2] = [(4, b'L', 4), (37, 64, 37)];
+
+fn check_other(rt: &impl Abort, alloc: Global, place: usize, byte: u8, at: u64) {
+    let journal = changed(rt, alloc, &THREE, &[(place, byte)]);
+    check_left(rt, alloc, &[&journal, &BEGUN, &[]], JOURNAL, at);
+}
+
+fn check_others(rt: &impl Abort, alloc: Global) {
+    for row in &OTHERS {
+        let (place, byte, at) = *row;
+        check_other(rt, alloc, place, byte, at);
+    }
+}
+
+// The log was closed after three keys, which are missing.
+fn check_missing(rt: &impl Abort, alloc: Global) {
+    check_left(rt, alloc, &[&THREE[..32], &CLOSED, &[]], JOURNAL, 32);
 }
 
 #[test]
 fn files_make_a_cone_or_leave_their_format(rt: HostRuntime) {
-    let mut other_letter = THREE;
-    other_letter[4] = b'L';
-    let mut many_callers = THREE;
-    many_callers[37] = 64;
-    let rows: [([&[u8]; 3], Answer); 9] = [
-        ([&THREE, &BEGUN, &[]], is_open(ConeState::Running, 3, 1)),
-        ([&THREE, &CLOSED, &[]], is_open(ConeState::Finished, 3, 1)),
-        ([&TWELVE, &BEGUN, &[]], is_open(ConeState::Running, 12, 1)),
-        ([&other_letter, &BEGUN, &[]], is_left(JOURNAL, 4)),
-        ([&THREE, &[], &[]], is_left(LOG, 0)),
-        ([&TWELVE, &FLUSHED, &[]], is_left(FRAMES, 0)),
-        ([&many_callers, &BEGUN, &[]], is_left(JOURNAL, 37)),
-        // The log was closed after three keys: a record goes past them.
-        ([&SIX, &CLOSED, &[]], is_left(JOURNAL, 69)),
-        // And here the keys are missing.
-        ([&THREE[..32], &CLOSED, &[]], is_left(JOURNAL, 32)),
-    ];
-    check_answers(&rt, rt.alloc(), &rows);
+    check_all_made(&rt, rt.alloc());
+    check_all_left(&rt, rt.alloc());
+    check_others(&rt, rt.alloc());
+    check_missing(&rt, rt.alloc());
 }
 
 // The bay of the twelve keys once it was opened again, which made their flush.
@@ -124,38 +173,41 @@ fn flushed(rt: &impl Abort, alloc: Global) -> MemBay {
     bay
 }
 
+// With its frames the flush is read again, and with less than these it isn't.
+fn check_frames(rt: &impl Abort, alloc: Global, frames: &[u8]) {
+    let cut = frames.get(..10).expect(rt, "a frame was written");
+    let whole = ConeState::Running;
+    check_made(rt, alloc, &[&TWELVE, &FLUSHED, frames], whole, 12, 1);
+    check_left(rt, alloc, &[&TWELVE, &FLUSHED, cut], FRAMES, 10);
+}
+
 #[test]
 fn a_flush_that_the_run_did_not_come_to(rt: HostRuntime) {
     let first = flushed(&rt, rt.alloc());
-    let frames = first.bytes(FRAMES);
-    let cut = frames.get(..10).expect(&rt, "a frame was written");
     assert!(rt; first.bytes(LOG) == FLUSHED.as_slice());
-    let rows: [([&[u8]; 3], Answer); 2] = [
-        (
-            [&TWELVE, &FLUSHED, frames],
-            is_open(ConeState::Running, 12, 1),
-        ),
-        ([&TWELVE, &FLUSHED, cut], is_left(FRAMES, 10)),
-    ];
-    check_answers(&rt, rt.alloc(), &rows);
+    check_frames(&rt, rt.alloc(), first.bytes(FRAMES));
 }
 
-// The answer to a log that names this offset of the journal.
-fn answer_naming(rt: &impl Abort, alloc: Global, frames: &[u8], offset: u8) -> Answer {
-    let mut other = FLUSHED;
-    other[22] = offset;
-    answer_over(rt, alloc, &[&TWELVE, &other, frames])
+// Offsets of the journal that a log names, and where the journal leaves its format then. Byte 33 is no open gate and
+// 141 a closed one, before which the log's twelve keys are missing. There the journal ends.
+const NAMED: [(u8, u64); 4] = [(33, 33), (141, 141), (142, 142), (200, 142)];
+
+fn check_named(rt: &impl Abort, alloc: Global, frames: &[u8], offset: u8, at: u64) {
+    let log = changed(rt, alloc, &FLUSHED, &[(22, offset)]);
+    check_left(rt, alloc, &[&TWELVE, &log, frames], JOURNAL, at);
+}
+
+fn check_all_named(rt: &impl Abort, alloc: Global, frames: &[u8]) {
+    for row in &NAMED {
+        let (offset, at) = *row;
+        check_named(rt, alloc, frames, offset, at);
+    }
 }
 
 #[test]
 fn a_log_that_names_no_record_of_the_journal(rt: HostRuntime) {
     let first = flushed(&rt, rt.alloc());
-    // Byte 33 is no open gate and 141 a closed one, before which the log's twelve keys are missing. There the journal
-    // ends.
-    for (offset, at) in [(33, 33), (141, 141), (142, 142), (200, 142)] {
-        let answer = answer_naming(&rt, rt.alloc(), first.bytes(FRAMES), offset);
-        assert!(rt; answer == is_left(JOURNAL, at), "byte {offset}");
-    }
+    check_all_named(&rt, rt.alloc(), first.bytes(FRAMES));
 }
 
 fn check_failing(rt: &impl Abort, alloc: Global, call: u64) {

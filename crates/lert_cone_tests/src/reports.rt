@@ -3,7 +3,8 @@
 ghost use Rattle.std.specs.Prelude.{◌≡◌};
 
 use crate::cones::{
-    check_listed, check_state, created, empty_bay, end, give, give_all, sevens_at, small,
+    check_end, check_given, check_listed, check_state, created, empty_bay, give_all, sevens_at,
+    small,
 };
 use lert_base::{Report, Settings};
 use lert_bay::Bay;
@@ -12,12 +13,23 @@ use lert_plain::PlainTable;
 use std::alloc::Global;
 use std::process::Abort;
 
-// A cone over an empty bay takes these keys, one a packet. It has the first reports then, and the others behind its
-// end.
-fn reported(rt: &impl Abort, alloc: Global, keys: &[u64], early: &[Report], closing: &[Report]) {
+// A cone over this bay, which is empty, takes these keys, one a packet. It has the first reports then, and the others
+// behind its end. Answers the bay that it leaves.
+fn reported<B: Bay>(
+    rt: &impl Abort,
+    alloc: Global,
+    bay: B,
+    keys: &[u64],
+    early: &[Report],
+    closing: &[Report],
+) -> B
+where
+    B: Drop,
+{
     let settings = small(rt, 32);
-    let mut cone = created(rt, alloc, &settings, empty_bay(rt, alloc));
+    let mut cone = created(rt, alloc, &settings, bay);
     check_reports(rt, alloc, &settings, &mut cone, keys, early, closing);
+    cone.into_bay()
 }
 
 fn check_reports<B: Bay>(
@@ -35,7 +47,7 @@ fn check_reports<B: Bay>(
 {
     give_all(rt, alloc, settings, cone, keys);
     check_listed(rt, cone, early);
-    assert!(rt; end(cone) == Ok(closing.len() as u64));
+    check_end(rt, cone, Ok(closing.len() as u64));
     check_listed(rt, cone, closing);
 }
 
@@ -51,12 +63,14 @@ const ROWS: [(u64, &[u64], u64, &[Report]); 5] = [
 fn check_row(rt: &impl Abort, alloc: Global, last: u64, places: &[u64], at: u64, early: &[Report]) {
     assert!(rt; last < 1_000);
     let keys = sevens_at(rt, alloc, last, places);
-    reported(rt, alloc, &keys, early, &[Report { key: 7, at }]);
+    let bay = empty_bay(rt, alloc);
+    let _bay = reported(rt, alloc, bay, &keys, early, &[Report { key: 7, at }]);
 }
 
 #[test]
 fn a_key_is_reported_at_the_first_flush_whose_window_holds_it(rt: HostRuntime) {
-    for (last, places, at, early) in ROWS {
+    for row in &ROWS {
+        let (last, places, at, early) = *row;
         check_row(&rt, rt.alloc(), last, places, at, early);
     }
 }
@@ -68,14 +82,20 @@ fn reports_of_one_flush_stand_in_the_order_of_mixed_values(rt: HostRuntime) {
         1, 1, M, M, 1_001, 1_002, 1_003, 1_004, 1_005, 1_006, 1_007, 1_008, 1, M, 1_009, 1_010,
     ];
     let reports = [Report { key: M, at: 16 }, Report { key: 1, at: 16 }];
-    reported(&rt, rt.alloc(), &keys, &reports, &reports);
+    let bay = empty_bay(&rt, rt.alloc());
+    let _bay = reported(&rt, rt.alloc(), bay, &keys, &reports, &reports);
 }
 
-// A cone over an empty bay, with a room of so many reports, takes so many keys, one a packet, and no more.
-fn filled(rt: &impl Abort, alloc: Global, room: u64, keys: &[u64]) {
+// A cone over this bay, which is empty, with a room of so many reports, takes so many keys, one a packet, and no more.
+// Answers the bay that it leaves.
+fn filled<B: Bay>(rt: &impl Abort, alloc: Global, bay: B, room: u64, keys: &[u64]) -> B
+where
+    B: Drop,
+{
     let settings = small(rt, room);
-    let mut cone = created(rt, alloc, &settings, empty_bay(rt, alloc));
+    let mut cone = created(rt, alloc, &settings, bay);
     check_full(rt, alloc, &settings, &mut cone, keys);
+    cone.into_bay()
 }
 
 fn check_full<B: Bay>(
@@ -91,16 +111,25 @@ fn check_full<B: Bay>(
 {
     let n = keys.len() as u64;
     give_all(rt, alloc, settings, cone, keys);
-    let answer = give(rt, alloc, settings, cone, &[901]);
-    assert!(rt; answer == Err(ConeFault::CapacityFull { n, len: 1 }));
+    let full = ConeFault::CapacityFull { n, len: 1 };
+    check_given(rt, alloc, settings, cone, &[901], Err(full));
     check_state(rt, cone, ConeState::Running, n);
     check_listed(rt, cone, &[]);
 }
 
+// How many reports a room has, and how many keys a cone takes then.
+const ROOMS: [(u64, u64); 2] = [(32, 71), (16, 48)];
+
+fn check_room(rt: &impl Abort, alloc: Global, room: u64, most: u64) {
+    assert!(rt; most < 1_000);
+    let keys = sevens_at(rt, alloc, most, &[]);
+    let _bay = filled(rt, alloc, empty_bay(rt, alloc), room, &keys);
+}
+
 #[test]
 fn a_full_cone_refuses_the_next_packet(rt: HostRuntime) {
-    for (room, most) in [(32, 71), (16, 48)] {
-        let keys = sevens_at(&rt, rt.alloc(), most, &[]);
-        filled(&rt, rt.alloc(), room, &keys);
+    for row in &ROOMS {
+        let (room, most) = *row;
+        check_room(&rt, rt.alloc(), room, most);
     }
 }
