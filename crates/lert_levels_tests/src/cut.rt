@@ -36,4 +36,5 @@ fn a_cut_frame_is_found_before_a_bin_lands_behind_it(rt: HostRuntime) {
     let mut place = begun(&rt, rt.alloc());
     let Place { zero, levels, bay } = &mut place;
     assert!(rt; is_told(&rt, rt.alloc(), zero, levels, bay));
+    drop(place);
 }

@@ -77,7 +77,9 @@ pub(crate) fn directories(
 fn six_directories(rt: &impl Abort, alloc: Global) -> Vec<u8> {
     let mut place = begun(rt, alloc);
     let Place { zero, levels, bay } = &mut place;
-    directories(rt, alloc, zero, levels, bay, 6)
+    let seen = directories(rt, alloc, zero, levels, bay, 6);
+    drop(place);
+    seen
 }
 
 #[test]
@@ -129,7 +131,9 @@ fn directories_though(
 fn seen_though(rt: &impl Abort, alloc: Global, call: u64) -> Vec<u8> {
     let mut place = begun(rt, alloc);
     let Place { zero, levels, bay } = &mut place;
-    directories_though(rt, alloc, zero, levels, bay, call)
+    let seen = directories_though(rt, alloc, zero, levels, bay, call);
+    drop(place);
+    seen
 }
 
 // The first call of the flush stores the bin, the second syncs the file.
@@ -145,6 +149,11 @@ fn piece(tail: u64, count: u64) -> Piece {
     Piece { tail, count }
 }
 
+// Whether just these totals were taken.
+fn has_kept(totals: &Taken, pieces: &[Piece]) -> bool {
+    totals.kept.as_slice() == pieces
+}
+
 // Whether a scan behind two flushes counts the events of all levels.
 fn is_scanned(
     rt: &impl Abort,
@@ -158,7 +167,10 @@ fn is_scanned(
     let _behind = directories(rt, alloc, zero, levels, bay, 2);
     let mut totals = Taken::new(alloc);
     let all = [piece(1, 5), piece(2, 5), piece(3, 5), piece(4, 5)];
-    levels.scan(bay, zero, &mut totals).is_ok() && totals.kept.as_slice() == all.as_slice()
+    let is_scanned = levels.scan(bay, zero, &mut totals).is_ok();
+    let has_all = has_kept(&totals, &all);
+    drop(totals);
+    is_scanned && has_all
 }
 
 #[test]
@@ -166,6 +178,7 @@ fn a_scan_counts_the_events_of_all_levels(rt: HostRuntime) {
     let mut place = begun(&rt, rt.alloc());
     let Place { zero, levels, bay } = &mut place;
     assert!(rt; is_scanned(&rt, rt.alloc(), zero, levels, bay));
+    drop(place);
 }
 
 // What a reader gives next.
@@ -203,8 +216,18 @@ fn holds(
     gives(&mut reader, bay, pieces)
 }
 
+// Whether the bins of level 1 are the sums of their parts: the first two bins of level 0 joined in frame 1, and the
+// third one alone in frame 0.
+fn are_joined(rt: &impl Abort, alloc: Global, settings: &Settings, bay: &mut MemBay) -> bool
+    requires { settings.now ≡ small_numbers }
+{
+    let joined = [piece(1, 3), piece(4, 2), piece(5, 1), piece(9, 2)];
+    let alone = [piece(1, 1), piece(5, 3)];
+    holds(rt, alloc, settings, bay, 1, 8, &joined) && holds(rt, alloc, settings, bay, 0, 4, &alone)
+}
+
 // Whether the totals of a flush are the sums of the bins of level 0, and the bins of level 1 behind the third one those
-// of their parts: the first two bins of level 0 joined in frame 1, and the third one alone in frame 0.
+// of their parts.
 fn are_sums(
     rt: &impl Abort,
     alloc: Global,
@@ -218,13 +241,10 @@ fn are_sums(
     flush_into(&mut totals, zero, levels, bay, 0).expect(rt, "no fault");
     flush(alloc, zero, levels, bay, 1).expect(rt, "no fault");
     flush(alloc, zero, levels, bay, 2).expect(rt, "no fault");
-    let joined = [piece(1, 3), piece(4, 2), piece(5, 1), piece(9, 2)];
-    let alone = [piece(1, 1), piece(5, 3)];
     let sums = [piece(1, 4), piece(4, 2), piece(5, 4), piece(9, 2)];
-    let settings = zero.settings();
-    holds(rt, alloc, settings, bay, 1, 8, &joined)
-        && holds(rt, alloc, settings, bay, 0, 4, &alone)
-        && totals.kept.as_slice() == sums.as_slice()
+    let has_sums = has_kept(&totals, &sums);
+    drop(totals);
+    has_sums && are_joined(rt, alloc, zero.settings(), bay)
 }
 
 #[test]
@@ -233,6 +253,7 @@ fn totals_and_parts_are_sums_of_the_bins(rt: HostRuntime) {
     let mut place = begun_with(&rt, rt.alloc(), &tails);
     let Place { zero, levels, bay } = &mut place;
     assert!(rt; are_sums(&rt, rt.alloc(), zero, levels, bay));
+    drop(place);
 }
 
 // Puts the bins behind six flushes into the levels, by the directory alone.
@@ -274,7 +295,9 @@ fn are_restored(
     let _behind = directories(rt, alloc, zero, levels, bay, 6);
     let mut again: Levels<PlainTable> = Levels::new(alloc, zero.settings()).expect(rt, "memory");
     restore(&mut again);
-    are_same(&again, levels)
+    let same = are_same(&again, levels);
+    drop(again);
+    same
 }
 
 #[test]
@@ -282,6 +305,7 @@ fn a_directory_brings_the_bins_back(rt: HostRuntime) {
     let mut place = begun(&rt, rt.alloc());
     let Place { zero, levels, bay } = &mut place;
     assert!(rt; are_restored(&rt, rt.alloc(), zero, levels, bay));
+    drop(place);
 }
 
 // Where a check finds the first frame that leaves its format, once a byte of the file is another one.
@@ -327,6 +351,7 @@ fn a_check_stops_at_the_first_broken_byte(rt: HostRuntime) {
     let Place { zero, levels, bay } = &mut place;
     let places = places_left(&rt, rt.alloc(), zero, levels, bay);
     assert!(rt; places == [None, Some(600), Some(308)]);
+    drop(place);
 }
 
 // The fault of a check.
@@ -387,4 +412,5 @@ fn a_failed_call_is_told_as_one(rt: HostRuntime) {
     let Place { zero, levels, bay } = &mut place;
     let faults = faults_of_calls(&rt, rt.alloc(), zero, levels, bay);
     assert!(rt; faults == [failed, failed, failed, None, None, None]);
+    drop(place);
 }
