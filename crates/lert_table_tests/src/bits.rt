@@ -4,7 +4,7 @@ use lert_slotbits::Bits;
 use std::process::Abort;
 
 /// Asserts that exactly the bits at `places` are set.
-fn set_bits(rt: &impl Abort, bits: &Bits, places: &[u64]) {
+pub fn set_bits(rt: &impl Abort, bits: &Bits, places: &[u64]) {
     for i in 0..bits.len() {
         assert_eq!(rt; bits.get(i), places.contains(&i));
     }

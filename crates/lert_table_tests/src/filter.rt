@@ -3,10 +3,10 @@
 ghost use Rattle.std.specs.Prelude.{◌≡◌, ◌+◌, ◌^◌, ◌<◌, ◌≤◌};
 ghost use Rattle.lert_spec.specs.Table.{total};
 
+use crate::bits::set_bits;
 use lert_base::{CountTable, Piece};
 use lert_cqf::Cqf;
 use lert_plain::PlainTable;
-use lert_slotbits::Bits;
 use std::process::Abort;
 
 /// Asserts that the slots from 3 on are `values`, and all others 0.
@@ -18,13 +18,6 @@ fn slots_from_three(rt: &impl Abort, slots: &[u64], values: &[u64]) {
             values.get(i - 3).copied().unwrap_or(0)
         };
         assert_eq!(rt; slots[i], value);
-    }
-}
-
-/// Asserts that exactly the bits at `places` are set.
-fn set_bits(rt: &impl Abort, bits: &Bits, places: &[u64]) {
-    for i in 0..bits.len() {
-        assert_eq!(rt; bits.get(i), places.contains(&i));
     }
 }
 
@@ -48,6 +41,7 @@ fn a_run_that_grows_moves_the_run_behind_it(rt: HostRuntime) {
     assert_eq!(rt; [table.count(773), table.count(774)], [2, 0]);
     table.clear();
     has_rows(&rt, &table, &[], &[], &[]);
+    drop(table);
 }
 
 #[test]
@@ -81,6 +75,7 @@ fn a_cursor_gives_each_group_of_each_run(rt: HostRuntime) {
             None
         ]
     );
+    drop(table);
 }
 
 /// A tail below `limit`: of an even draw a skewed one, the seldomer the more bits it has, and of an odd one one of the
@@ -151,6 +146,7 @@ fn a_filter_counts_as_a_sorted_list_does(rt: HostRuntime) {
     add_drawn(&mut list, 1 << 18, 100_000);
     same_counts(&rt, &filter, &list, 1 << 18);
     same_pieces(&rt, &filter, &list);
+    drop(filter);
 }
 
 #[test]
@@ -163,4 +159,5 @@ fn so_does_one_of_a_million_quotients(rt: HostRuntime) {
     same_pieces(&rt, &filter, &list);
     let lens = (filter.slots().len(), filter.occupied().len());
     assert_eq!(rt; lens, ((1 << 20) + 40_000, 1 << 20));
+    drop(filter);
 }
