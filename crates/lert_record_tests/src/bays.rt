@@ -3,6 +3,7 @@
 ghost use Rattle.std.specs.Prelude.{◌≡◌, ◌+◌, ◌<◌, ◌≤◌, ◌^◌, List, ℕ, length};
 ghost use Rattle.lert_bay.specs.Files.{Files, IfTold, Holds};
 
+use crate::same::assert_same;
 use lert_bay::{Bay, FRAMES, JOURNAL, LOG, MemBay};
 use lert_io::Failed;
 use std::alloc::Global;
@@ -40,7 +41,13 @@ fn crashed(rt: &impl Abort, bay: MemBay, pick: u64) -> MemBay {
 }
 
 fn assert_journal(rt: &impl Abort, bay: &MemBay, want: &[u8]) {
-    assert_eq!(rt; bay.bytes(JOURNAL), want);
+    assert_same(rt, &bay.bytes(JOURNAL), &want, "a journal");
+}
+
+// Wants these bytes of a journal behind a crash by a pick.
+fn assert_journal_by(rt: &impl Abort, bay: &MemBay, pick: u64, want: &[u8]) {
+    let found = (pick, bay.bytes(JOURNAL));
+    assert_same(rt, &found, &(pick, want), "a journal by a pick");
 }
 
 // A bay whose journal holds "aaaa" durably, and then these bytes at a place.
@@ -61,11 +68,8 @@ fn copied(rt: &impl Abort, alloc: Global, bay: &MemBay) -> MemBay {
 fn assert_both_left(rt: &impl Abort, alloc: Global, bay: MemBay, pick: u64, want: &[u8]) {
     let copy = crashed(rt, copied(rt, alloc, &bay), pick);
     let bay = crashed(rt, bay, pick);
-    assert_eq!(rt;
-        [bay.bytes(JOURNAL), copy.bytes(JOURNAL)],
-        [want, want],
-        "by pick {pick}"
-    );
+    assert_journal_by(rt, &bay, pick, want);
+    assert_journal_by(rt, &copy, pick, want);
 }
 
 #[test]
@@ -85,7 +89,7 @@ fn a_crash_leaves_old_bytes_new_bytes_or_a_mix_of_a_copy_too(rt: HostRuntime) {
 // Wants these bytes of a journal behind a crash.
 fn assert_left(rt: &impl Abort, bay: MemBay, pick: u64, want: &[u8]) {
     let bay = crashed(rt, bay, pick);
-    assert_eq!(rt; bay.bytes(JOURNAL), want, "by pick {pick}");
+    assert_journal_by(rt, &bay, pick, want);
 }
 
 // A bay whose journal was synced behind a write of its own, and one of the log.
@@ -114,10 +118,9 @@ fn one_synced(rt: &impl Abort, alloc: Global) -> MemBay {
 }
 
 fn assert_log_alone(rt: &impl Abort, bay: &MemBay) {
-    assert_eq!(rt;
-        [bay.bytes(JOURNAL), bay.bytes(LOG), bay.bytes(FRAMES)],
-        [b"".as_slice(), b"new".as_slice(), b"".as_slice()]
-    );
+    assert_journal(rt, bay, b"");
+    assert_same(rt, &bay.bytes(LOG), &b"new".as_slice(), "a log");
+    assert_same(rt, &bay.bytes(FRAMES), &b"".as_slice(), "frames");
 }
 
 #[test]
@@ -170,7 +173,8 @@ fn five_syncs(bay: &mut MemBay) -> [bool; 5] {
 #[test]
 fn a_stopped_bay_fails_from_that_call_on(rt: HostRuntime) {
     let mut bay = empty(&rt, rt.alloc());
-    assert_eq!(rt; five_syncs(&mut bay), [true, true, false, false, false]);
+    let want = [true, true, false, false, false];
+    assert_same(&rt, &five_syncs(&mut bay), &want, "five syncs");
 }
 
 #[test]
@@ -179,7 +183,8 @@ fn a_crash_ends_the_failing(rt: HostRuntime) {
     bay.stop_at(0);
     assert!(rt; bay.len(LOG).is_err());
     let mut bay = crashed(&rt, bay, 0);
-    assert_eq!(rt; bay.len(LOG).expect(&rt, "no fault"), 0);
+    let len = bay.len(LOG).expect(&rt, "no fault");
+    assert_same(&rt, &len, &0, "the length of a log");
 }
 
 // Of every bay: after a write a crash may leave any other bytes in its range.
@@ -196,7 +201,7 @@ fn tears<B: Bay>(bay: &mut B, file: u8, at: u64, bytes: &[u8]) -> Result<(), Fai
 fn a_write_may_tear(rt: HostRuntime) {
     let mut bay = MemBay::new(rt.alloc()).expect(&rt, "memory");
     tears(&mut bay, LOG, 0, b"ab").expect(&rt, "no fault");
-    assert_eq!(rt; bay.bytes(LOG), b"ab".as_slice());
+    assert_same(&rt, &bay.bytes(LOG), &b"ab".as_slice(), "a log");
 }
 
 // Writes behind a gap, and syncs that.
@@ -227,7 +232,12 @@ fn a_gap_reads_as_zero_bytes(rt: HostRuntime) {
     let mut bay = empty(&rt, rt.alloc());
     write_behind_a_gap(&mut bay).expect(&rt, "no fault");
     let reads = [(4, *b"\0\0\0f\x09\x09"), (4, *b"rame\x09\x09")];
-    assert_eq!(rt; told(&rt, &mut bay), (8, reads, 0));
+    assert_same(
+        &rt,
+        &told(&rt, &mut bay),
+        &(8, reads, 0),
+        "all that is told",
+    );
 }
 
 // How many bytes of each file reads have handed out.
@@ -281,5 +291,5 @@ fn a_read_counts_the_bytes_that_it_hands_out(rt: HostRuntime) {
         (Some(2), [9, 2, 0]),
         (Some(0), [9, 2, 0]),
     ];
-    assert_eq!(rt; reads(&rt, rt.alloc()), want);
+    assert_same(&rt, &reads(&rt, rt.alloc()), &want, "reads in turn");
 }

@@ -1,5 +1,6 @@
 //! The header of one cone's journal, and bytes that begin as none.
 
+use crate::same::assert_same;
 use lert_base::{Kept, Numbers, Settings};
 use lert_journal::{HEADER_LEN, header_left, read_header, write_header};
 
@@ -22,12 +23,12 @@ fn a_header_is_written_and_read(rt: HostRuntime) {
     let settings = Settings::new(NUMBERS).expect(&rt, "settings");
     let mut bytes = [255; HEADER_LEN];
     write_header(&settings, 0, &mut bytes);
-    assert_eq!(rt; bytes, TEXT);
+    assert_same(&rt, &bytes, &TEXT, "a header");
     let kept = Kept {
         cone: 0,
         numbers: NUMBERS,
     };
-    assert_eq!(rt; read_header(&TEXT), Some(kept));
+    assert_same(&rt, &read_header(&TEXT), &Some(kept), "what is read of it");
 }
 
 #[test]
@@ -47,7 +48,7 @@ fn numbers_are_read_as_they_stand(rt: HostRuntime) {
             packet: 0xffff_ffff,
         },
     };
-    assert_eq!(rt; read_header(&bytes), Some(kept));
+    assert_same(&rt, &read_header(&bytes), &Some(kept), "numbers");
 }
 
 #[test]
@@ -55,7 +56,8 @@ fn other_first_bytes_begin_no_journal(rt: HostRuntime) {
     for place in 0..8 {
         let mut bytes = TEXT;
         bytes[place] = b'L' + 1;
-        assert_eq!(rt; read_header(&bytes), None, "at {place}");
+        let found = (place, read_header(&bytes));
+        assert_same(&rt, &found, &(place, None), "no header");
     }
 }
 
@@ -72,6 +74,6 @@ fn a_file_leaves_the_header_at_a_place(rt: HostRuntime) {
         (&TEXT, None),
     ];
     for (bytes, at) in broken {
-        assert_eq!(rt; header_left(bytes), at);
+        assert_same(&rt, &header_left(bytes), &at, "a place");
     }
 }

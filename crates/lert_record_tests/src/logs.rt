@@ -1,6 +1,7 @@
 //! The bytes of a log, what a stop at each call of an append leaves, and each place at which a file
 //! leaves the format.
 
+use crate::same::assert_same;
 use lert_bay::{LOG, MemBay};
 use lert_gatelog::{GateLog, LogFault};
 use std::alloc::Global;
@@ -70,58 +71,76 @@ fn read_two(bay: &mut MemBay) -> Result<Told, LogFault> {
     ))
 }
 
+// Wants the records "ab" and "c" of a log, and no other.
+fn assert_two(rt: &impl Abort, bay: &mut MemBay) {
+    let want = ([Some(2), Some(1), None], *b"ab\0\0\0\0\0\0", b'c', 17);
+    assert_same(rt, &read_two(bay), &Ok(want), "two records");
+}
+
+fn assert_log(rt: &impl Abort, bay: &MemBay, want: &[u8]) {
+    assert_same(rt, &bay.bytes(LOG), &want, "a log");
+}
+
 #[test]
 fn a_log_is_written_and_read(rt: HostRuntime) {
     let mut bay = MemBay::new(rt.alloc()).expect(&rt, "memory");
     let mut log = GateLog::create(&mut bay, LOG, b"head", MOST).expect(&rt, "no fault");
-    assert_eq!(rt; bay.bytes(LOG), b"head\0".as_slice());
+    assert_log(&rt, &bay, b"head\0");
     log.append(&mut bay, &FIRST).expect(&rt, "no fault");
     log.append(&mut bay, &SECOND).expect(&rt, "no fault");
-    assert_eq!(rt;
-        bay.bytes(LOG),
-        b"head\x01\x02\0\0\0ab\x01\x01\0\0\0c\0".as_slice()
-    );
-    assert_eq!(rt;
-        read_two(&mut bay),
-        Ok(([Some(2), Some(1), None], *b"ab\0\0\0\0\0\0", b'c', 17))
-    );
+    assert_log(&rt, &bay, b"head\x01\x02\0\0\0ab\x01\x01\0\0\0c\0");
+    assert_two(&rt, &mut bay);
+}
+
+// How many records stand in a log, or the fault of who counted them.
+type Count = Result<u32, LogFault>;
+
+// By call and pick. The gate is one byte, so a pick keeps it or takes it back.
+const LEFT: [(u64, [Count; 4]); 5] = [
+    (1, [Ok(1), Ok(1), Ok(1), Ok(1)]),
+    (2, [Ok(1), Ok(1), Ok(1), Ok(1)]),
+    (3, [Ok(1), Ok(1), Ok(1), Ok(1)]),
+    (4, [Ok(1), Ok(2), Ok(1), Ok(2)]),
+    (5, [Ok(2), Ok(2), Ok(2), Ok(2)]),
+];
+
+fn left_by(rt: &impl Abort, alloc: Global, call: u64, pick: u64) -> Count {
+    let mut bay = stopped(rt, alloc, call, pick);
+    records(&mut bay)
+}
+
+fn left_by_each_pick(rt: &impl Abort, alloc: Global, call: u64) -> [Count; 4] {
+    [
+        left_by(rt, alloc, call, 0),
+        left_by(rt, alloc, call, 1),
+        left_by(rt, alloc, call, 2),
+        left_by(rt, alloc, call, 3),
+    ]
 }
 
 #[test]
 fn a_stop_leaves_the_record_or_not(rt: HostRuntime) {
-    // By call and pick. The gate is one byte, so a pick keeps it or takes it back.
-    let left: [(u64, [u32; 4]); 5] = [
-        (1, [1, 1, 1, 1]),
-        (2, [1, 1, 1, 1]),
-        (3, [1, 1, 1, 1]),
-        (4, [1, 2, 1, 2]),
-        (5, [2, 2, 2, 2]),
-    ];
-    for (call, counts) in left {
-        for (pick, want) in counts.iter().enumerate() {
-            let mut bay = stopped(&rt, rt.alloc(), call, pick as u64);
-            assert_eq!(rt;
-                records(&mut bay),
-                Ok(*want),
-                "at call {call} by pick {pick}"
-            );
-        }
+    for (call, want) in LEFT {
+        let found = left_by_each_pick(&rt, rt.alloc(), call);
+        assert_same(&rt, &(call, found), &(call, want), "records by pick");
     }
 }
 
+// The bytes of a log, and the place at which they leave the format.
+const BROKEN: [(&[u8], u64); 6] = [
+    (b"hea", 3),
+    (b"head", 4),
+    (b"head\x01\x02\0", 7),
+    (b"head\x01\0\0\0\0\0", 5),
+    (b"head\x01\x09\0\0\0abcdefghi\0", 5),
+    (b"head\x01\x02\0\0\0a", 10),
+];
+
 #[test]
 fn a_file_leaves_the_format_at_a_place(rt: HostRuntime) {
-    let broken: [(&[u8], u64); 6] = [
-        (b"hea", 3),
-        (b"head", 4),
-        (b"head\x01\x02\0", 7),
-        (b"head\x01\0\0\0\0\0", 5),
-        (b"head\x01\x09\0\0\0abcdefghi\0", 5),
-        (b"head\x01\x02\0\0\0a", 10),
-    ];
-    for (bytes, at) in broken {
+    for &(bytes, at) in &BROKEN {
         let answer = records_of(&rt, rt.alloc(), bytes);
-        assert_eq!(rt; answer, Err(LogFault::Malformed { at }), "at {at}");
+        assert_same(&rt, &answer, &Err(LogFault::Malformed { at }), "a place");
     }
 }
 
@@ -129,17 +148,14 @@ fn a_file_leaves_the_format_at_a_place(rt: HostRuntime) {
 fn a_header_and_its_gate_are_one_write(rt: HostRuntime) {
     let mut bay = MemBay::new(rt.alloc()).expect(&rt, "memory");
     bay.stop_at(2);
-    assert_eq!(rt;
-        GateLog::create(&mut bay, LOG, b"head", MOST).is_err(),
-        true
-    );
-    assert_eq!(rt; bay.bytes(LOG), b"head\0".as_slice());
+    assert!(rt; GateLog::create(&mut bay, LOG, b"head", MOST).is_err());
+    assert_log(&rt, &bay, b"head\0");
 }
 
 #[test]
 fn a_failed_call_is_told(rt: HostRuntime) {
     let mut bay = loaded(&rt, rt.alloc(), b"head\0");
     bay.fail_at(2);
-    assert_eq!(rt; records(&mut bay), Err(LogFault::Failed));
-    assert_eq!(rt; records(&mut bay), Ok(0));
+    let answers = [records(&mut bay), records(&mut bay)];
+    assert_same(&rt, &answers, &[Err(LogFault::Failed), Ok(0)], "two counts");
 }

@@ -3,6 +3,7 @@
 
 ghost use Rattle.std.specs.Prelude.{◌≡◌, length};
 
+use crate::same::assert_same;
 use lert_base::{Entry, KeyList, Numbers, Settings};
 use lert_bay::{JOURNAL, MemBay};
 use lert_gatelog::{GateLog, LogFault};
@@ -77,20 +78,40 @@ fn stopped(rt: &impl Abort, alloc: Global, settings: &Settings, call: u64, pick:
     bay.crashed(pick).expect(rt, "memory")
 }
 
-// How many packets a journal with at most two of them has.
-fn packets(
-    rt: &impl Abort,
-    alloc: Global,
-    settings: &Settings,
-    bay: &mut MemBay,
-) -> Result<u32, LogFault>
+// How many packets a journal has, or the fault of who counted them.
+type Count = Result<u32, LogFault>;
+
+// By call and pick. Up to the write of the gate, the third call, the packet isn't there, and behind its
+// sync, the fourth, it is. Between the two the gate may be as it was.
+const LEFT: [(u64, [Count; 4]); 5] = [
+    (1, [Ok(1), Ok(1), Ok(1), Ok(1)]),
+    (2, [Ok(1), Ok(1), Ok(1), Ok(1)]),
+    (3, [Ok(1), Ok(1), Ok(1), Ok(1)]),
+    (4, [Ok(1), Ok(2), Ok(1), Ok(2)]),
+    (5, [Ok(2), Ok(2), Ok(2), Ok(2)]),
+];
+
+fn left_by(rt: &impl Abort, alloc: Global, settings: &Settings, call: u64, pick: u64) -> Count
     requires { settings.now.packet ≡ 8 }
 {
+    let mut bay = stopped(rt, alloc, settings, call, pick);
     let mut entry = blank(rt, alloc, 32);
-    count_packets(settings, bay, &mut entry)
+    count_packets(settings, &mut bay, &mut entry)
 }
 
-fn count_packets(settings: &Settings, bay: &mut MemBay, entry: &mut Entry) -> Result<u32, LogFault>
+fn left_by_each_pick(rt: &impl Abort, alloc: Global, settings: &Settings, call: u64) -> [Count; 4]
+    requires { settings.now.packet ≡ 8 }
+{
+    [
+        left_by(rt, alloc, settings, call, 0),
+        left_by(rt, alloc, settings, call, 1),
+        left_by(rt, alloc, settings, call, 2),
+        left_by(rt, alloc, settings, call, 3),
+    ]
+}
+
+// How many packets a journal with at most two of them has.
+fn count_packets(settings: &Settings, bay: &mut MemBay, entry: &mut Entry) -> Count
     requires packet { settings.now.packet ≡ 8 }
     requires room { entry.old.keys.room ≡ 32 }
 {
@@ -144,6 +165,17 @@ fn read_first(settings: &Settings, bay: &mut MemBay, entry: &mut Entry) -> Resul
     read_entry(&mut log, bay, settings, 0, entry, &mut buffer)
 }
 
+// Asserts that an entry is of caller 0 and trace 0, with three keys 7.
+fn assert_is_sevens(rt: &impl Abort, entry: &Entry) {
+    assert_same(rt, &(entry.by, entry.trace), &(0, 0), "whose it is");
+    assert_same(
+        rt,
+        &entry.keys.as_slice(),
+        &[7, 7, 7].as_slice(),
+        "its keys",
+    );
+}
+
 // Asserts that a journal has one packet of three keys 7, and its gate at 69.
 fn assert_sevens(rt: &impl Abort, alloc: Global, settings: &Settings, bay: &mut MemBay)
     requires { settings.now.packet ≡ 8 }
@@ -152,11 +184,10 @@ fn assert_sevens(rt: &impl Abort, alloc: Global, settings: &Settings, bay: &mut 
     let mut read = blank(rt, alloc, 32);
     let mut buffer = [255; MOST as usize];
     let answer = read_entry(&mut log, bay, settings, 0, &mut read, &mut buffer);
-    assert_eq!(rt; (answer, log.gate()), (Ok(true), 69));
-    assert_eq!(rt; (read.by, read.trace), (0, 0));
-    assert_eq!(rt; read.keys.as_slice(), [7, 7, 7].as_slice());
+    assert_same(rt, &(answer, log.gate()), &(Ok(true), 69), "a packet");
+    assert_is_sevens(rt, &read);
     let answer = read_entry(&mut log, bay, settings, 0, &mut read, &mut buffer);
-    assert_eq!(rt; answer, Ok(false));
+    assert_same(rt, &answer, &Ok(false), "a packet more");
 }
 
 #[test]
@@ -169,74 +200,64 @@ fn a_packet_is_written_and_read(rt: HostRuntime) {
     let entry = sevens(&rt, rt.alloc());
     let mut buffer = [255; MOST as usize + 5];
     append_entry(&mut log, &mut bay, &entry, &mut buffer).expect(&rt, "no fault");
-    assert_eq!(rt; bay.bytes(JOURNAL), TEXT.as_slice());
-    assert_eq!(rt; log.gate(), 69);
+    assert_same(&rt, &bay.bytes(JOURNAL), &TEXT.as_slice(), "a journal");
+    assert_same(&rt, &log.gate(), &69, "its gate");
     assert_sevens(&rt, rt.alloc(), &settings, &mut bay);
 }
 
 #[test]
 fn a_stop_leaves_the_packet_or_not(rt: HostRuntime) {
     let settings = settings_of(&rt, ALONE);
-    // By call and pick. Up to the write of the gate, the third call, the packet isn't there, and behind its
-    // sync, the fourth, it is. Between the two the gate may be as it was.
-    let left: [(u64, [u32; 4]); 5] = [
-        (1, [1, 1, 1, 1]),
-        (2, [1, 1, 1, 1]),
-        (3, [1, 1, 1, 1]),
-        (4, [1, 2, 1, 2]),
-        (5, [2, 2, 2, 2]),
-    ];
-    for (call, counts) in left {
-        for (pick, want) in counts.iter().enumerate() {
-            let mut bay = stopped(&rt, rt.alloc(), &settings, call, pick as u64);
-            let found = packets(&rt, rt.alloc(), &settings, &mut bay);
-            assert_eq!(rt; found, Ok(*want), "at call {call} by pick {pick}");
-        }
+    for (call, want) in LEFT {
+        let found = left_by_each_pick(&rt, rt.alloc(), &settings, call);
+        assert_same(&rt, &(call, found), &(call, want), "packets by pick");
     }
 }
+
+// The bytes behind a header of the first of two cones, the place at which they leave the format, and why.
+const BROKEN: [(&[u8], u64, &str); 11] = [
+    (b"", 32, "no gate"),
+    (b"\x01\x10\0", 35, "a cut length"),
+    (b"\x01\0\0\0\0\0", 33, "no payload"),
+    (b"\x01\x30\0\0\0", 33, "five keys where four are the most"),
+    (b"\x01\x08\0\0\0\0\0\0\0\0\0\0\0\0", 33, "no key"),
+    (
+        b"\x01\x14\0\0\0\x40\0\0\0\0\0\0\0\0\0\0\0\0\0\0\0\0\0\0\0\0",
+        33,
+        "half a key",
+    ),
+    (
+        b"\x01\x10\0\0\0\x40\0\0\0\0\0\0\0\0\0\0\0\0\0\0",
+        52,
+        "a cut payload",
+    ),
+    (
+        b"\x01\x10\0\0\0\x40\0\0\0\0\x04\0\0\0\0\0\0\0\0\0\0\0",
+        37,
+        "a caller past the last",
+    ),
+    (
+        b"\x01\x10\0\0\0\x3f\0\0\0\0\x04\0\0\x01\0\0\0\0\0\0\0\0",
+        41,
+        "a trace past the last",
+    ),
+    (
+        b"\x01\x10\0\0\0\x3f\0\0\0\xff\x03\0\0\x01\0\0\0\0\0\0\0\0",
+        45,
+        "a key of the other cone",
+    ),
+    (
+        b"\x01\x18\0\0\0\0\0\0\0\0\0\0\0\0\0\0\0\0\0\0\0\x01\0\0\0\0\0\0\0\0",
+        53,
+        "another one behind one of this cone",
+    ),
+];
 
 #[test]
 fn a_record_leaves_the_format_at_a_place(rt: HostRuntime) {
     let settings = settings_of(&rt, HALVES);
-    let broken: [(&[u8], u64, &str); 11] = [
-        (b"", 32, "no gate"),
-        (b"\x01\x10\0", 35, "a cut length"),
-        (b"\x01\0\0\0\0\0", 33, "no payload"),
-        (b"\x01\x30\0\0\0", 33, "five keys where four are the most"),
-        (b"\x01\x08\0\0\0\0\0\0\0\0\0\0\0\0", 33, "no key"),
-        (
-            b"\x01\x14\0\0\0\x40\0\0\0\0\0\0\0\0\0\0\0\0\0\0\0\0\0\0\0\0",
-            33,
-            "half a key",
-        ),
-        (
-            b"\x01\x10\0\0\0\x40\0\0\0\0\0\0\0\0\0\0\0\0\0\0",
-            52,
-            "a cut payload",
-        ),
-        (
-            b"\x01\x10\0\0\0\x40\0\0\0\0\x04\0\0\0\0\0\0\0\0\0\0\0",
-            37,
-            "a caller past the last",
-        ),
-        (
-            b"\x01\x10\0\0\0\x3f\0\0\0\0\x04\0\0\x01\0\0\0\0\0\0\0\0",
-            41,
-            "a trace past the last",
-        ),
-        (
-            b"\x01\x10\0\0\0\x3f\0\0\0\xff\x03\0\0\x01\0\0\0\0\0\0\0\0",
-            45,
-            "a key of the other cone",
-        ),
-        (
-            b"\x01\x18\0\0\0\0\0\0\0\0\0\0\0\0\0\0\0\0\0\0\0\x01\0\0\0\0\0\0\0\0",
-            53,
-            "another one behind one of this cone",
-        ),
-    ];
-    for (bytes, at, why) in broken {
+    for &(bytes, at, why) in &BROKEN {
         let answer = first_answer(&rt, rt.alloc(), &settings, bytes);
-        assert_eq!(rt; answer, Err(LogFault::Malformed { at }), "{why}");
+        assert_same(&rt, &answer, &Err(LogFault::Malformed { at }), why);
     }
 }

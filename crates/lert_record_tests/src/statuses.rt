@@ -2,6 +2,7 @@
 
 ghost use Rattle.std.specs.Prelude.{◌≤◌};
 
+use crate::same::assert_same;
 use lert_text::{LINE, status_line};
 use std::process::Abort;
 
@@ -13,7 +14,7 @@ fn assert_line(rt: &impl Abort, number: u8, fields: [u64; 3], text: &[u8])
     let mut line = [0; LINE];
     let [a, b, d] = fields;
     let len = status_line(number, a, b, d, &mut line);
-    assert_eq!(rt; &line[..len], text);
+    assert_same(rt, &&line[..len], &text, "a line");
 }
 
 #[test]

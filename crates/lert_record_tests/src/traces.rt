@@ -2,6 +2,7 @@
 
 ghost use Rattle.std.specs.Prelude.{◌≤◌, ◌^◌};
 
+use crate::same::assert_same;
 use lert_io::{CallList, MemSource, SteadySource};
 use lert_trace::{MOST_KEYS, TraceFault, TraceReader};
 use std::alloc::Global;
@@ -38,7 +39,12 @@ fn four_answers(rt: &impl Abort, alloc: Global, bytes: &[u8], most: u64) -> Answ
 fn assert_answers(rt: &impl Abort, alloc: Global, bytes: &[u8], most: u64, want: Answers)
     requires { (1 ≤ most) × (most ≤ 2 ^ 36) }
 {
-    assert_eq!(rt; four_answers(rt, alloc, bytes, most), want);
+    assert_same(
+        rt,
+        &four_answers(rt, alloc, bytes, most),
+        &want,
+        "four answers",
+    );
 }
 
 #[test]
@@ -51,17 +57,19 @@ fn the_limit_is_met_by_one_key_more(rt: HostRuntime) {
     }
 }
 
+// The bytes of a trace, and what refuses them.
+const BROKEN: [(&[u8], TraceFault); 6] = [
+    (b"", TraceFault::BadHeader { at: 0 }),
+    (b"LER", TraceFault::BadHeader { at: 3 }),
+    (b"LER\0\x01\0\0\0", TraceFault::BadHeader { at: 3 }),
+    (b"LERT\x09\0\0\0", TraceFault::BadHeader { at: 4 }),
+    (b"LERT\x01\0\0\0\x07", TraceFault::CutKey { at: 8 }),
+    (b"LERT\x01\0\0\x07", TraceFault::BadHeader { at: 7 }),
+];
+
 #[test]
 fn bytes_that_leave_the_format_are_named_by_their_place(rt: HostRuntime) {
-    let rows: [(&[u8], TraceFault); 6] = [
-        (b"", TraceFault::BadHeader { at: 0 }),
-        (b"LER", TraceFault::BadHeader { at: 3 }),
-        (b"LER\0\x01\0\0\0", TraceFault::BadHeader { at: 3 }),
-        (b"LERT\x09\0\0\0", TraceFault::BadHeader { at: 4 }),
-        (b"LERT\x01\0\0\0\x07", TraceFault::CutKey { at: 8 }),
-        (b"LERT\x01\0\0\x07", TraceFault::BadHeader { at: 7 }),
-    ];
-    for (bytes, fault) in rows {
+    for &(bytes, fault) in &BROKEN {
         assert_answers(&rt, rt.alloc(), bytes, MOST_KEYS, [Err(fault); 4]);
     }
 }
@@ -85,9 +93,9 @@ fn source_of(rt: &impl Abort, alloc: Global, bytes: &[u8], failing: u64) -> MemS
 // Wants the keys 1 to 1,000, and then this answer.
 fn assert_thousand(rt: &impl Abort, reader: &mut TraceReader<MemSource>, end: Answer) {
     for key in 1..1_001 {
-        assert_eq!(rt; reader.next(), Ok(Some(key)));
+        assert_same(rt, &reader.next(), &Ok(Some(key)), "a key");
     }
-    assert_eq!(rt; reader.next(), end);
+    assert_same(rt, &reader.next(), &end, "behind all keys");
 }
 
 // 8,008 bytes take two full blocks, and a third call finds the end: a fourth isn't made.
