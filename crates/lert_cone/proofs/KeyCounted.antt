@@ -1,5 +1,5 @@
 -- A key through the counts: its totals don't come to the reports, or a report finds no room, or it is counted.
-use Rattle.std.proofs.Common.{◌≡◌, ℕ, suc, ◌+◌, ◌^◌, ◌<◌, ◌-◌, ◌≢◌, true, false, List, [], ◌∷◌, ◌++◌, length, Some, Result, Ok, Err, refl, sym, ap}
+use Rattle.std.proofs.Common.{◌≡◌, ℕ, ◌+◌, ◌^◌, ◌<◌, ◌-◌, ◌≢◌, true, false, List, [], ◌∷◌, ◌++◌, length, Some, Result, Ok, Err, refl, sym, ap}
 use Rattle.std.proofs.Common.{◌∙◌, subst, arith}
 use Rattle.std.specs.Result.{IsErrAnd}
 use Rattle.lert_bay.specs.Files.{Files}
@@ -11,12 +11,11 @@ use Rattle.lert_rows.specs.Landing.{KeepsRest}
 use Rattle.lert_rows.specs.Loading.{OneBreaks}
 use Rattle.lert_levels.specs.OnDisk.{OnDisk}
 use Rattle.lert_rows.specs.Rows.{AreRows, HoldsBins}
-use Rattle.lert_rows.specs.Young.{Young, with_event}
+use Rattle.lert_rows.specs.Young.{Young}
 use Rattle.lert_spec.specs.declared.numbers.Numbers.{Numbers}
 use Rattle.lert_spec.specs.declared.report.Report.{Report}
-use Rattle.lert_spec.specs.Edges.{edge, capacity}
-use Rattle.lert_spec.specs.Limits.{IsValid}
-use Rattle.lert_spec.specs.Mix.{cone_of, tail_of}
+use Rattle.lert_spec.specs.Edges.{edge}
+use Rattle.lert_spec.specs.Mix.{cone_of}
 use Rattle.lert_cone.specs.declared.tally.TakeFault.{TakeFault}
 use Rattle.lert_cone.specs.declared.tally.TakeFault.TheVariants.{Failed, Unsound}
 use Rattle.lert_bay.specs.Kept.{Bays}
@@ -24,36 +23,34 @@ use Rattle.lert_bay.proofs.KeptLaws.{IsLawful, keeps_as}
 use Rattle.lert_cone.specs.Counts.{Brings, CountsKey}
 use Rattle.lert_cone.specs.Due.{Dues, started}
 use Rattle.lert_cone.specs.Framed.{HoldsSome}
-use Rattle.lert_cone.specs.Tally.{Tallied, AreYoung, IsCounted, IsHeld, take_fault}
-use Rattle.lert_cone.proofs.TakeLaws.{young_now, frames_now, others, others_long, others_young, others_frames, others_next, all_long, counted_next, held_next, never_full, sound_fault, shows_frame}
-use Rattle.lert_cone.proofs.TakeLaws.{shows_full, handed_on}
+use Rattle.lert_cone.specs.Tally.{Tallied, AreYoung, IsHeld, take_fault}
+use Rattle.lert_cone.proofs.TakeLaws.{IsTaking, young_now, frames_now, others, others_long, others_young, others_frames, others_next, all_long, counted_next, held_next, never_full}
+use Rattle.lert_cone.proofs.TakeLaws.{sound_fault, shows_frame, shows_full, handed_on}
 use Rattle.lert_cone.proofs.TallyLaws.{frames_more}
 
 pub failed_flush : (fault : FlushFault) → take_fault fault ≡ Failed → fault ≡ FlushFailed
 failed_flush FlushFailed same = refl
 failed_flush (Malformed at) same = absurd (let never : ⊥ = cc in never)
 
-module _ {B : Type 0} (bays : Bays B) (lawful : IsLawful bays) (t : Tallied) (ls : Numbers) (levels_are : ls ≡ t.listing.settings) (valid : IsValid t.listing.settings)
-    (named : t.listing.cone < 2 ^ t.listing.settings.cone_bits)
-    (young_settings : t.young.settings ≡ t.listing.settings) (counted : IsCounted t) (fits : length t.listing.events < capacity t.listing.settings)
-    (key tail m : ℕ) (tail_is : tail ≡ tail_of t.listing.settings key) (m_is : m ≡ suc (length t.listing.events)) (young : Young) (added : young ≡ with_event t.young tail m)
+module _ {B : Type 0} (bays : Bays B) (lawful : IsLawful bays) (t : Tallied) (ls : Numbers) (key tail m : ℕ) (young : Young) (taking : IsTaking t ls key tail m young)
     (start due : Dues) (start_is : start ≡ started t.due m) (bay bay_after : B) (young_after : Young) (levels_after : OnDisk) where
   abbrev all : List ℕ
   all = t.listing.events ++ key ∷ []
 
   long : length (t.listing.events ++ key ∷ []) ≡ m
-  long = all_long t ls levels_are valid named young_settings counted fits key tail m tail_is m_is young added
+  long = all_long t ls key tail m young taking
 
   now_young : AreYoung ls (t.listing.events ++ key ∷ []) young.from young.bins
-  now_young = young_now t ls levels_are valid named young_settings counted fits key tail m tail_is m_is young added
+  now_young = young_now t ls key tail m young taking
 
   now_frames : (seen : Files) → IsHeld t seen → HoldsBins ls (t.listing.events ++ key ∷ []) t.rows (seen 2)
-  now_frames = frames_now t ls levels_are valid named young_settings counted fits key tail m tail_is m_is young added
+  now_frames = frames_now t ls key tail m young taking
 
   -- an edge that stays, said of the levels and of the key's position
   levels_stay : edge t.listing.settings 0 (length t.listing.events + 1) ≡ edge t.listing.settings 0 (length t.listing.events) → edge ls 0 m ≡ edge ls 0 (m - 1)
-  levels_stay stays = ap (λ (s : Numbers). edge s 0 m) levels_are ∙ ap (edge t.listing.settings 0) (m_is ∙ omega arith) ∙ stays ∙ ap (edge t.listing.settings 0) (omega (arith, m_is))
-      ∙ ap (λ (s : Numbers). edge s 0 (m - 1)) (sym levels_are)
+  levels_stay stays = ap (λ (s : Numbers). edge s 0 m) taking.levels_are ∙ ap (edge t.listing.settings 0) (taking.m_is ∙ omega arith) ∙ stays
+      ∙ ap (edge t.listing.settings 0) (omega (arith, taking.m_is))
+      ∙ ap (λ (s : Numbers). edge s 0 (m - 1)) (sym taking.levels_are)
 
   module _ (result : Result (Unit {0}) FlushFault) (brings : Brings bays start m tail bay bay_after young young_after (record { settings = ls; rows = t.rows }) levels_after due result) where
     never_malformed_held : (seen : Files) → bays.files bay ≡ Some seen → IsHeld t seen → (at : ℕ) → result ≢ Err (Malformed at)
@@ -62,13 +59,13 @@ module _ {B : Type 0} (bays : Bays B) (lawful : IsLawful bays) (t : Tallied) (ls
     never_malformed_some : (seen : Files) → bays.files bay ≡ Some seen → HoldsSome t.listing.settings (length t.listing.events) t.rows (seen 2) → (at : ℕ) →
         result ≢ Err (Malformed at)
     never_malformed_some seen told some =
-        brings.sound (others t ls levels_are valid named young_settings counted fits key tail m tail_is m_is young added (seen 2) some)
-        (others_long t ls levels_are valid named young_settings counted fits key tail m tail_is m_is young added (seen 2) some)
-        (others_young t ls levels_are valid named young_settings counted fits key tail m tail_is m_is young added (seen 2) some) seen told
-        (others_frames t ls levels_are valid named young_settings counted fits key tail m tail_is m_is young added (seen 2) some)
+        brings.sound (others t ls key tail m young taking (seen 2) some)
+        (others_long t ls key tail m young taking (seen 2) some)
+        (others_young t ls key tail m young taking (seen 2) some) seen told
+        (others_frames t ls key tail m young taking (seen 2) some)
 
     rest_here : KeepsRest bays (InNamed t.listing.settings t.rows) bay bay_after
-    rest_here = subst (λ (s : Numbers). KeepsRest bays (InNamed s t.rows) bay bay_after) levels_are brings.rest
+    rest_here = subst (λ (s : Numbers). KeepsRest bays (InNamed s t.rows) bay bay_after) taking.levels_are brings.rest
 
     unflushed_here : edge t.listing.settings 0 (length t.listing.events + 1) ≡ edge t.listing.settings 0 (length t.listing.events) → bay_after ≡ bay
     unflushed_here stays = brings.unflushed (levels_stay stays)
@@ -88,7 +85,7 @@ module _ {B : Type 0} (bays : Bays B) (lawful : IsLawful bays) (t : Tallied) (ls
         sound_fault fault (λ place is. never_malformed_held (Err fault) brings seen told held place (ap Err is)) file at (let inner : take_fault fault ≡ Unsound file at = cc in inner);
     shows = λ seen told file at same.
         shows_frame (Err (take_fault fault)) fault refl t.listing.settings levels_after.rows due.reports (seen 2)
-        (λ place is. subst (λ (v : Numbers). OneBreaks v levels_after.rows (seen 2) place) (brings.settings ∙ levels_are) (brings.malformed_after seen told place (ap Err is)))
+        (λ place is. subst (λ (v : Numbers). OneBreaks v levels_after.rows (seen 2) place) (brings.settings ∙ taking.levels_are) (brings.malformed_after seen told place (ap Err is)))
         file at same;
     framed = λ seen told some. tt;
     whole = λ seen told some at same.
@@ -128,11 +125,11 @@ module _ {B : Type 0} (bays : Bays B) (lawful : IsLawful bays) (t : Tallied) (ls
       unflushed = unflushed_here (Ok tt) brings;
       held = λ seen told held. tt;
       sound = λ seen told held file at same.
-          never_full t ls levels_are valid named young_settings counted fits key tail m tail_is m_is young added below own start due start_is still seen held
+          never_full t ls key tail m young taking below own start due start_is still seen held
           (brings.totals (t.listing.events ++ key ∷ []) long now_young seen told (now_frames seen held)) full;
       shows = λ seen told file at same.
           shows_full t.listing.settings levels_after.rows due.reports (seen 2)
-          (filled ∙ ap (λ (s : Numbers). s.room) (brings.took.1.settings_are ∙ ap (λ (d : Dues). d.settings) start_is ∙ counted.due_settings)) file at same;
+          (filled ∙ ap (λ (s : Numbers). s.room) (brings.took.1.settings_are ∙ ap (λ (d : Dues). d.settings) start_is ∙ taking.counted.due_settings)) file at same;
       framed = λ seen told some. tt;
       whole = λ seen told some at same. (let never : ⊥ = cc in never);
       images = λ seen told held each. tt;
@@ -170,34 +167,34 @@ module _ {B : Type 0} (bays : Bays B) (lawful : IsLawful bays) (t : Tallied) (ls
         record {
           listing = refl;
           taken = events_are;
-          counted = counted_next t ls levels_are valid named young_settings counted fits key tail m tail_is m_is young added below own start due start_is young_after levels_after.rows after
+          counted = counted_next t ls key tail m young taking below own start due start_is young_after levels_after.rows after
               after_is
               brings.from brings.to (brings.bins (t.listing.events ++ key ∷ []) long now_young) brings.rows (brings.are (subst (λ (v : Numbers). AreRows v t.rows)
-              (sym levels_are) counted.are)) brings.took;
+              (sym taking.levels_are) taking.counted.are)) brings.took;
           grows = omega (arith, brings.took.1.grows, ap (λ (d : Dues). length d.before) start_is, ap (length {A = Report}) brings.took.1.before_is);
           still = λ stays. brings.still (levels_stay stays);
           unflushed = unflushed_here (Ok tt) brings;
           held = λ seen told held after_files told_after.
-              held_next t ls levels_are valid named young_settings counted fits key tail m tail_is m_is young added below own start due start_is still seen held
+              held_next t ls key tail m young taking below own start due start_is still seen held
               (brings.totals (t.listing.events ++ key ∷ []) long now_young seen told (now_frames seen held)) young_after levels_after.rows after after_files after_is room
               (brings.holds (t.listing.events ++ key ∷ []) long now_young seen told (now_frames seen held) after_files told_after);
           sound = λ seen told held file at same. (let never : ⊥ = cc in never);
           shows = λ seen told file at same. absurd (let never : ⊥ = cc in never);
           framed = λ seen told some after_files told_after.
               subst (λ (keys : List ℕ). HoldsSome t.listing.settings (length keys) levels_after.rows (after_files 2)) (sym events_are)
-              (others_next t ls levels_are valid named young_settings counted fits key tail m tail_is m_is young added (seen 2) some levels_after.rows (after_files 2) brings.rows
-              (brings.holds (others t ls levels_are valid named young_settings counted fits key tail m tail_is m_is young added (seen 2) some)
-              (others_long t ls levels_are valid named young_settings counted fits key tail m tail_is m_is young added (seen 2) some)
-              (others_young t ls levels_are valid named young_settings counted fits key tail m tail_is m_is young added (seen 2) some) seen told
-              (others_frames t ls levels_are valid named young_settings counted fits key tail m tail_is m_is young added (seen 2) some) after_files told_after));
+              (others_next t ls key tail m young taking (seen 2) some levels_after.rows (after_files 2) brings.rows
+              (brings.holds (others t ls key tail m young taking (seen 2) some)
+              (others_long t ls key tail m young taking (seen 2) some)
+              (others_young t ls key tail m young taking (seen 2) some) seen told
+              (others_frames t ls key tail m young taking (seen 2) some) after_files told_after));
           whole = λ seen told some at same. (let never : ⊥ = cc in never);
           images = λ seen told held each after_files told_after.
               let each_now : InEach (bays.leaves bay) 2 (HoldsBins ls (t.listing.events ++ key ∷ []) t.rows) =
-              λ image may. subst (λ (v : Numbers). HoldsBins v (t.listing.events ++ key ∷ []) t.rows (image 2)) (sym levels_are) (frames_more t.listing.settings valid t.listing.events
-              (key ∷ []) t.rows (image 2) counted.rows (each image may)) in
+              λ image may. subst (λ (v : Numbers). HoldsBins v (t.listing.events ++ key ∷ []) t.rows (image 2)) (sym taking.levels_are) (frames_more t.listing.settings taking.valid t.listing.events
+              (key ∷ []) t.rows (image 2) taking.counted.rows (each image may)) in
               let stay = brings.images (t.listing.events ++ key ∷ []) long now_young seen told (now_frames seen held) each_now in
               subst (λ (keys : List ℕ). InEach (bays.leaves bay_after) 2 (HoldsBins t.listing.settings keys levels_after.rows)) (sym events_are)
-              (subst (λ (v : Numbers). InEach (bays.leaves bay_after) 2 (HoldsBins v (t.listing.events ++ key ∷ []) levels_after.rows)) levels_are (stay after_files told_after));
+              (subst (λ (v : Numbers). InEach (bays.leaves bay_after) 2 (HoldsBins v (t.listing.events ++ key ∷ []) levels_after.rows)) taking.levels_are (stay after_files told_after));
           rest = rest_here (Ok tt) brings;
           kept = keeps_as bays lawful bay bay_after _ _ (λ same. absurd (let never : ⊥ = cc in never)) brings.kept;
         }

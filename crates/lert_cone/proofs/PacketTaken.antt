@@ -7,6 +7,7 @@ use Rattle.lert_base.specs.Packet.{Packet, events_of}
 use Rattle.lert_bay.specs.Files.{Files, IfTold, Turns}
 use Rattle.lert_gatelog.specs.Gated.{IsClosed, Log, next_gate}
 use Rattle.lert_gatelog.specs.Kept.{InEach, KeepsOthers, KeepsBefore, IsWhollySettled, OthersStay}
+use Rattle.lert_io.specs.declared.faulty.Failed.{Failed as Fault}
 use Rattle.lert_journal.specs.Journal.{HasPackets, HasPacketsOrOneMore}
 use Rattle.lert_journal.specs.Payload.{payload_of}
 use Rattle.lert_spec.specs.Edges.{capacity}
@@ -29,30 +30,32 @@ use Rattle.lert_cone.proofs.AppendLaws.{sound_appending, up_appended, records_th
 use Rattle.lert_cone.proofs.FaultLaws.{any_turn, turns_on}
 use Rattle.lert_cone.proofs.TakeLaws.{handed_on}
 
--- what the append of a packet says
-pub record AppendsPacket {B E : Type 0} (bays : Bays B) (packet : Packet) (bay bay_after : B) (old new : Log) (result : Result (Unit {0}) E) : Type 0 where
-  pub moved : OnOk result (new ≡ record old { gate = next_gate old.gate (payload_of packet) })
-  pub stayed : OnErr result (new ≡ old)
-  pub each_moment : IfTold (bays.files bay) (λ _. (first : ℕ) (packets : List Packet) → InEach (bays.leaves bay) old.file (λ bytes. HasPackets old.most bytes first packets old.gate) →
-      InEach (bays.left_since bay_after (bays.moment bay)) old.file (HasPacketsOrOneMore old.most first packets old.gate packet))
-  pub appended : IfTold (bays.files bay) (λ _. (first : ℕ) (packets : List Packet) → InEach (bays.leaves bay) old.file (λ bytes. HasPackets old.most bytes first packets old.gate) →
-      OnOk result (InEach (bays.leaves bay_after) old.file (λ bytes. HasPackets old.most bytes first (packets ++ packet ∷ []) new.gate)))
-  pub closed : IfTold (bays.files bay) (λ _. OnOk result (InEach (bays.leaves bay_after) old.file (λ bytes. IsClosed bytes new.gate)))
-  pub settled : OnOk result (IfTold (bays.files bay_after) (λ seen. IsWhollySettled (bays.leaves bay_after) seen old.file))
-  pub before : IfTold (bays.files bay) (λ seen. KeepsBefore (bays.leaves bay) (bays.left_since bay_after (bays.moment bay)) seen old.file old.gate)
-  pub others : IfTold (bays.files bay) (λ seen. KeepsOthers (bays.leaves bay) (bays.left_since bay_after (bays.moment bay)) seen old.file)
-  pub seen : Turns (OthersStay old.file) (bays.files bay) (bays.files bay_after)
-  pub kept : KeepsBay bays bay bay_after (IsErr result)
+-- what the append of a packet says: its clauses
+abbrev pub AppendsPacket : {B : Type 0} → Bays B → Packet → B → B → Log → Log → Result (Unit {0}) Fault → Type 0
+AppendsPacket bays packet bay bay_after old new result = record {
+  moved : OnOk result (new ≡ record old { gate = next_gate old.gate (payload_of packet) });
+  stayed : OnErr result (new ≡ old);
+  each_moment : IfTold (bays.files bay) (λ _. (first : ℕ) (packets : List Packet) → InEach (bays.leaves bay) old.file (λ bytes. HasPackets old.most bytes first packets old.gate) →
+      InEach (bays.left_since bay_after (bays.moment bay)) old.file (HasPacketsOrOneMore old.most first packets old.gate packet));
+  appended : IfTold (bays.files bay) (λ _. (first : ℕ) (packets : List Packet) → InEach (bays.leaves bay) old.file (λ bytes. HasPackets old.most bytes first packets old.gate) →
+      OnOk result (InEach (bays.leaves bay_after) old.file (λ bytes. HasPackets old.most bytes first (packets ++ packet ∷ []) new.gate)));
+  closed : IfTold (bays.files bay) (λ _. OnOk result (InEach (bays.leaves bay_after) old.file (λ bytes. IsClosed bytes new.gate)));
+  settled : OnOk result (IfTold (bays.files bay_after) (λ seen. IsWhollySettled (bays.leaves bay_after) seen old.file));
+  before : IfTold (bays.files bay) (λ seen. KeepsBefore (bays.leaves bay) (bays.left_since bay_after (bays.moment bay)) seen old.file old.gate);
+  others : IfTold (bays.files bay) (λ seen. KeepsOthers (bays.leaves bay) (bays.left_since bay_after (bays.moment bay)) seen old.file);
+  seen : Turns (OthersStay old.file) (bays.files bay) (bays.files bay_after);
+  kept : KeepsBay bays bay bay_after (IsErr result);
+}
 
-pub appends_ok : {B E : Type 0} (bays : Bays B) (packet : Packet) (bay bay_after : B) (old new : Log) (result : Result (Unit {0}) E) → result ≡ Ok tt →
+pub appends_ok : {B : Type 0} (bays : Bays B) (packet : Packet) (bay bay_after : B) (old new : Log) (result : Result (Unit {0}) Fault) → result ≡ Ok tt →
     AppendsPacket bays packet bay bay_after old new result →
-    AppendsPacket {E = E} bays packet bay bay_after old new (Ok tt)
-appends_ok {B} {E} bays packet bay bay_after old new result is appends = subst (λ (r : Result (Unit {0}) E). AppendsPacket bays packet bay bay_after old new r) is appends
+    AppendsPacket bays packet bay bay_after old new (Ok tt)
+appends_ok bays packet bay bay_after old new result is appends = subst (λ (r : Result (Unit {0}) Fault). AppendsPacket bays packet bay bay_after old new r) is appends
 
 module _ {B : Type 0} (bays : Bays B) (lawful : IsLawful bays) (old : Workplace B) (packet : Packet) (journal journal_after : Log) (can : CanTakePacket bays packet old journal) (fit : All
     (λ key. key < 2 ^ 64) packet.keys) (bay : B) where
   -- whatever comes of the append
-  module _ {E : Type 0} (result : Result (Unit {0}) E) (appends : AppendsPacket bays packet old.bay bay journal journal_after result) where
+  module _ (result : Result (Unit {0}) Fault) (appends : AppendsPacket bays packet old.bay bay journal journal_after result) where
     now : (image : Files) → bays.leaves bay image → bays.left_since bay (bays.moment old.bay) image
     now = now_since bays lawful old.bay bay appends.kept.time.later
 
@@ -84,7 +87,7 @@ module _ {B : Type 0} (bays : Bays B) (lawful : IsLawful bays) (old : Workplace 
     log_alone : LeavesAlone bays 1 old.bay bay
     log_alone = alone_others bays lawful journal.file 1 (λ same. absurd (omega (arith, same, can.file))) old.bay bay appends.seen appends.others appends.kept.time
 
-  refused_by : {E : Type 0} (failed : E) (room : ℕ) → AppendsPacket bays packet old.bay bay journal journal_after (Err failed) →
+  refused_by : (failed : Fault) (room : ℕ) → AppendsPacket bays packet old.bay bay journal journal_after (Err failed) →
       TakesPacket bays packet old (record { bay = bay; counts = old.counts; log = old.log; room = room }) journal journal_after (Err Failed)
   refused_by failed room appends = record {
     listing = refl;
@@ -105,7 +108,7 @@ module _ {B : Type 0} (bays : Bays B) (lawful : IsLawful bays) (old : Workplace 
   }
 
   -- it isn't appended
-  pub packet_refused : {E : Type 0} (result : Result (Unit {0}) E) (failed : E) → result ≡ Err failed → AppendsPacket bays packet old.bay bay journal journal_after result →
+  pub packet_refused : (result : Result (Unit {0}) Fault) (failed : Fault) → result ≡ Err failed → AppendsPacket bays packet old.bay bay journal journal_after result →
       (room : ℕ) →
       (given : Result (Unit {0}) TakeFault) → IsErrAnd given (λ fault. fault ≡ Failed) → TakesPacket bays packet old (record {
         bay = bay;
@@ -113,13 +116,13 @@ module _ {B : Type 0} (bays : Bays B) (lawful : IsLawful bays) (old : Workplace 
         log = old.log;
         room = room;
       }) journal journal_after given
-  packet_refused {E} result failed is appends room given given_is =
+  packet_refused result failed is appends room given given_is =
       subst (λ (r : Result (Unit {0}) TakeFault). TakesPacket bays packet old (record { bay = bay; counts = old.counts; log = old.log; room = room }) journal journal_after r)
       (handed_on given Failed given_is)
-      (refused_by failed room (subst (λ (r : Result (Unit {0}) E). AppendsPacket bays packet old.bay bay journal journal_after r) is appends))
+      (refused_by failed room (subst (λ (r : Result (Unit {0}) Fault). AppendsPacket bays packet old.bay bay journal journal_after r) is appends))
 
   -- it is appended
-  module _ {E : Type 0} (appends : AppendsPacket {E = E} bays packet old.bay bay journal journal_after (Ok tt)) where
+  module _ (appends : AppendsPacket bays packet old.bay bay journal journal_after (Ok tt)) where
     pub can_take_then : (room : ℕ) → room ≡ old.room → CanTake bays packet.keys (record { bay = bay; counts = old.counts; log = old.log; room = room })
     can_take_then room room_is = record {
       still = can.still;
@@ -150,7 +153,7 @@ module _ {B : Type 0} (bays : Bays B) (lawful : IsLawful bays) (old : Workplace 
     up_then : (seen : Files) → bays.files old.bay ≡ Some seen → (history : List Packet) → IsWholeAt bays old journal seen history → (mid : Files) → bays.files bay ≡ Some mid →
         IsInStep (bays.leaves bay) mid (history ++ packet ∷ []) old.counts.listing old.counts.rows old.counts.due.reports old.log
     up_then seen told history whole mid told_mid =
-        let appended_here = appended_there {T = Unit {0}} {E = E} (Ok tt) (bays.leaves old.bay) (bays.leaves bay) old.counts.listing.settings journal.file journal.most journal.gate
+        let appended_here = appended_there {T = Unit {0}} {E = Fault} (Ok tt) (bays.leaves old.bay) (bays.leaves bay) old.counts.listing.settings journal.file journal.most journal.gate
         journal_after.gate packet can.file can.most refl
         (appends.appended seen told) history (there (Ok tt) appends seen told history whole) in
         up_appended (bays.leaves old.bay) (bays.left_since bay (bays.moment old.bay)) seen old.counts old.log journal.gate history packet can.counted can.still (lawful.as_read old.bay seen told)

@@ -53,73 +53,101 @@ module _ (s : Numbers) (cone at : ℕ) (before all : List Report) (pieces : List
       let over = from.took.too_many table_there full in
       omega (arith, ap length shown, ap (λ (t : Numbers). t.room) (from.settings_are ∙ settings))
 
+-- the key that a cone takes next, as a piece of its level 0
+pub record IsTaking (t : Tallied) (ls : Numbers) (key tail m : ℕ) (young : Young) : Type 0 where
+  pub levels_are : ls ≡ t.listing.settings
+  pub valid : IsValid t.listing.settings
+  pub named : t.listing.cone < 2 ^ t.listing.settings.cone_bits
+  pub young_settings : t.young.settings ≡ t.listing.settings
+  pub counted : IsCounted t
+  pub fits : length t.listing.events < capacity t.listing.settings
+  pub tail_is : tail ≡ tail_of t.listing.settings key
+  pub m_is : m ≡ suc (length t.listing.events)
+  pub added : young ≡ with_event t.young tail m
+
+-- where the cone was asked for as it is seen
+pub to_take : (t seen : Tallied) (ls : Numbers) (key tail len : ℕ) (young : Young) → t ≡ seen → IsCounted seen → length seen.listing.events < capacity seen.listing.settings →
+    ls ≡ t.listing.settings → IsValid t.listing.settings → t.listing.cone < 2 ^ t.listing.settings.cone_bits → t.young.settings ≡ t.listing.settings →
+    tail ≡ tail_of t.listing.settings key → len ≡ length t.listing.events → young ≡ with_event t.young tail (len + 1) → IsTaking t ls key tail (len + 1) young
+to_take t seen ls key tail len young same counted fits levels_are valid named young_settings tail_is len_is added = record {
+  levels_are = levels_are;
+  valid = valid;
+  named = named;
+  young_settings = young_settings;
+  counted = subst (λ (v : Tallied). IsCounted v) (sym same) counted;
+  fits = subst (λ (v : Tallied). length v.listing.events < capacity v.listing.settings) (sym same) fits;
+  tail_is = tail_is;
+  m_is = omega (arith, len_is);
+  added = added;
+}
+
 -- the next key
-module _ (t : Tallied) (ls : Numbers) (levels_are : ls ≡ t.listing.settings) (valid : IsValid t.listing.settings) (named : t.listing.cone < 2 ^ t.listing.settings.cone_bits)
-    (young_settings : t.young.settings ≡ t.listing.settings) (counted : IsCounted t) (fits : length t.listing.events < capacity t.listing.settings)
-    (key tail m : ℕ) (tail_is : tail ≡ tail_of t.listing.settings key) (m_is : m ≡ suc (length t.listing.events)) (young : Young) (added : young ≡ with_event t.young tail m) where
+module _ (t : Tallied) (ls : Numbers) (key tail m : ℕ) (young : Young) (taking : IsTaking t ls key tail m young) where
   abbrev all : List ℕ
   all = t.listing.events ++ key ∷ []
 
   pub all_long : length all ≡ m
-  all_long = omega (arith, length-append t.listing.events (key ∷ []))
+  all_long = omega (arith, taking.m_is, length-append t.listing.events (key ∷ []))
 
   pub rows_before : IsAt ls (m - 1) t.rows
   rows_before =
-      let before : m - 1 ≡ length t.listing.events = omega arith in
-      subst (λ (v : Numbers). IsAt v (m - 1) t.rows) (sym levels_are) (subst (λ n. IsAt t.listing.settings n t.rows) (sym before) counted.rows)
+      let before : m - 1 ≡ length t.listing.events = omega (arith, taking.m_is) in
+      subst (λ (v : Numbers). IsAt v (m - 1) t.rows) (sym taking.levels_are) (subst (λ n. IsAt t.listing.settings n t.rows) (sym before) taking.counted.rows)
 
   added_here : young ≡ with_event t.young tail (suc (length t.listing.events))
-  added_here = added ∙ ap (with_event t.young tail) m_is
+  added_here = taking.added ∙ ap (with_event t.young tail) taking.m_is
 
   from_now : young.from ≡ edge t.listing.settings 0 (length t.listing.events)
-  from_now = ap (λ (y : Young). y.from) added_here ∙ next_from t.listing.settings valid t.young t.listing.events key young_settings counted.from counted.to counted.bins.is fits tail
+  from_now = ap (λ (y : Young). y.from) added_here
+      ∙ next_from t.listing.settings taking.valid t.young t.listing.events key taking.young_settings taking.counted.from taking.counted.to taking.counted.bins.is taking.fits tail
 
   pub young_now : AreYoung ls all young.from young.bins
   young_now =
       record {
         is = ap (λ (y : Young). y.bins) added_here
-            ∙ next_bins t.listing.settings valid t.young t.listing.events key young_settings counted.from counted.to counted.bins.is fits tail tail_is
-            ∙ ap₂ (λ (v : Numbers) (p : ℕ). young_bins v all p) (sym levels_are) (sym from_now);
+            ∙ next_bins t.listing.settings taking.valid t.young t.listing.events key taking.young_settings taking.counted.from taking.counted.to taking.counted.bins.is taking.fits tail taking.tail_is
+            ∙ ap₂ (λ (v : Numbers) (p : ℕ). young_bins v all p) (sym taking.levels_are) (sym from_now);
       }
 
   pub frames_now : (seen : Files) → IsHeld t seen → HoldsBins ls all t.rows (seen 2)
   frames_now seen held =
-      subst (λ (v : Numbers). HoldsBins v all t.rows (seen 2)) (sym levels_are)
-      (frames_more t.listing.settings valid t.listing.events (key ∷ []) t.rows (seen 2) counted.rows held.frames)
+      subst (λ (v : Numbers). HoldsBins v all t.rows (seen 2)) (sym taking.levels_are)
+      (frames_more t.listing.settings taking.valid t.listing.events (key ∷ []) t.rows (seen 2) taking.counted.rows held.frames)
 
   -- where the frames hold the bins of some events, whatever these are, level 0 has those of the same ones with the cone's newest
   -- behind them
   module _ (file : List ℕ) (some : HoldsSome t.listing.settings (length t.listing.events) t.rows file) where
     abbrev pub others : List ℕ
-    others = with_key t.listing.settings valid t.listing.events key t.rows file counted.rows some
+    others = with_key t.listing.settings taking.valid t.listing.events key t.rows file taking.counted.rows some
 
     pub others_long : length others ≡ m
-    others_long = with_key_len t.listing.settings valid t.listing.events key t.rows file counted.rows some ∙ sym m_is
+    others_long = with_key_len t.listing.settings taking.valid t.listing.events key t.rows file taking.counted.rows some ∙ sym taking.m_is
 
     pub others_young : AreYoung ls others young.from young.bins
     others_young = record {
       is = young_now.is
-          ∙ ap₂ (λ (v : Numbers) (p : ℕ). young_bins v all p) levels_are from_now
-          ∙ sym (with_key_young t.listing.settings valid t.listing.events key t.rows file counted.rows some)
-          ∙ ap₂ (λ (v : Numbers) (p : ℕ). young_bins v others p) (sym levels_are) (sym from_now);
+          ∙ ap₂ (λ (v : Numbers) (p : ℕ). young_bins v all p) taking.levels_are from_now
+          ∙ sym (with_key_young t.listing.settings taking.valid t.listing.events key t.rows file taking.counted.rows some)
+          ∙ ap₂ (λ (v : Numbers) (p : ℕ). young_bins v others p) (sym taking.levels_are) (sym from_now);
     }
 
     pub others_frames : HoldsBins ls others t.rows file
-    others_frames = subst (λ (v : Numbers). HoldsBins v others t.rows file) (sym levels_are) (with_key_holds t.listing.settings valid t.listing.events key t.rows file counted.rows some)
+    others_frames = subst (λ (v : Numbers). HoldsBins v others t.rows file) (sym taking.levels_are)
+        (with_key_holds t.listing.settings taking.valid t.listing.events key t.rows file taking.counted.rows some)
 
     pub others_next : (rows : List (List BinAt)) (after : List ℕ) → IsAt ls m rows → HoldsBins ls others rows after → HoldsSome t.listing.settings (length all) rows after
     others_next rows after at holds =
-        subst (λ n. HoldsSome t.listing.settings n rows after) (sym m_is ∙ sym all_long)
-        (with_key_some t.listing.settings valid t.listing.events key t.rows file counted.rows some rows after
-        (subst (λ n. IsAt t.listing.settings n rows) m_is (subst (λ (v : Numbers). IsAt v m rows) levels_are at))
-        (subst (λ (v : Numbers). HoldsBins v others rows after) levels_are holds))
+        subst (λ n. HoldsSome t.listing.settings n rows after) (sym taking.m_is ∙ sym all_long)
+        (with_key_some t.listing.settings taking.valid t.listing.events key t.rows file taking.counted.rows some rows after
+        (subst (λ n. IsAt t.listing.settings n rows) taking.m_is (subst (λ (v : Numbers). IsAt v m rows) taking.levels_are at))
+        (subst (λ (v : Numbers). HoldsBins v others rows after) taking.levels_are holds))
 
   module _ (below : key < 2 ^ 64) (own : cone_of t.listing.settings key ≡ t.listing.cone) (start due : Dues) (start_is : start ≡ started t.due m) where
     start_settings : start.settings ≡ t.listing.settings
-    start_settings = ap (λ (d : Dues). d.settings) start_is ∙ counted.due_settings
+    start_settings = ap (λ (d : Dues). d.settings) start_is ∙ taking.counted.due_settings
 
     start_cone : start.cone ≡ t.listing.cone
-    start_cone = ap (λ (d : Dues). d.cone) start_is ∙ counted.due_cone
+    start_cone = ap (λ (d : Dues). d.cone) start_is ∙ taking.counted.due_cone
 
     -- the parts after the step make a cone again
     pub counted_next : (next : Young) (rows : List (List BinAt)) (after : Tallied) → after ≡ record { listing = record t.listing { events = all }; young = next; rows = rows; due = due } →
@@ -127,15 +155,15 @@ module _ (t : Tallied) (ls : Numbers) (levels_are : ls ≡ t.listing.settings) (
         IsCounted after
     counted_next next rows after after_is from to bins at are took =
         subst (λ (v : Tallied). IsCounted v) (sym after_is) (record {
-          valid = valid;
-          fits = omega (arith, all_long, m_is);
-          keys = AreKeys-push t.listing.events key counted.keys below;
-          own = AreOfCone-push t.listing.settings t.listing.cone t.listing.events key counted.own own;
-          from = from ∙ ap₂ (λ (v : Numbers) (p : ℕ). edge v 0 p) levels_are (sym all_long);
+          valid = taking.valid;
+          fits = omega (arith, all_long, taking.m_is);
+          keys = AreKeys-push t.listing.events key taking.counted.keys below;
+          own = AreOfCone-push t.listing.settings t.listing.cone t.listing.events key taking.counted.own own;
+          from = from ∙ ap₂ (λ (v : Numbers) (p : ℕ). edge v 0 p) taking.levels_are (sym all_long);
           to = to ∙ sym all_long;
-          bins = record { is = bins.is ∙ ap₂ (λ (v : Numbers) (p : ℕ). young_bins v all (edge v 0 p)) levels_are (sym all_long) };
-          rows = subst (λ n. IsAt t.listing.settings n rows) (sym all_long) (subst (λ (v : Numbers). IsAt v m rows) levels_are at);
-          are = subst (λ (v : Numbers). AreRows v rows) levels_are are;
+          bins = record { is = bins.is ∙ ap₂ (λ (v : Numbers) (p : ℕ). young_bins v all (edge v 0 p)) taking.levels_are (sym all_long) };
+          rows = subst (λ n. IsAt t.listing.settings n rows) (sym all_long) (subst (λ (v : Numbers). IsAt v m rows) taking.levels_are at);
+          are = subst (λ (v : Numbers). AreRows v rows) taking.levels_are are;
           due_settings = took.1.settings_are ∙ start_settings;
           due_cone = took.1.cone_is ∙ start_cone;
         })
@@ -149,31 +177,31 @@ module _ (t : Tallied) (ls : Numbers) (levels_are : ls ≡ t.listing.settings) (
 
       took_here : TookFrom start due (totals_at t.listing.settings all (suc (length t.listing.events)) (tail_of t.listing.settings key))
       took_here = subst (λ (pieces : List Piece). TookFrom start due pieces)
-          ((λ i. totals_at (levels_are i) all (m_is i) (tail_is i))) took
+          ((λ i. totals_at (taking.levels_are i) all (taking.m_is i) (taking.tail_is i))) took
 
       table : IsTable (2 ^ (64 - t.listing.settings.cone_bits)) (totals_at t.listing.settings all (suc (length t.listing.events)) (tail_of t.listing.settings key))
-      table = totals_table t.listing.settings t.listing.cone t.listing.events valid named counted.keys counted.own key below own
+      table = totals_table t.listing.settings t.listing.cone t.listing.events taking.valid taking.named taking.counted.keys taking.counted.own key below own
 
       all_looked : look t.listing.settings all ≡ look t.listing.settings t.listing.events ++ due_reports t.listing.settings t.listing.cone (look t.listing.settings t.listing.events) (suc
           (length t.listing.events)) (totals_at t.listing.settings all (suc (length t.listing.events)) (tail_of t.listing.settings key))
-      all_looked = look_is t.listing.settings t.listing.cone t.listing.events valid named counted.keys counted.own key below own
+      all_looked = look_is t.listing.settings t.listing.cone t.listing.events taking.valid taking.named taking.counted.keys taking.counted.own key below own
 
       pub never_full : due.is_full ≡ true → ⊥
       never_full full =
           let over = too_many t.listing.settings t.listing.cone (suc (length t.listing.events)) (look t.listing.settings t.listing.events) (look t.listing.settings all)
           (totals_at t.listing.settings all (suc (length t.listing.events)) (tail_of t.listing.settings key)) start due
-          start_settings start_cone (ap (λ (d : Dues). d.before) start_is ∙ looked) (ap (λ (d : Dues). d.at) start_is ∙ m_is) table took_here all_looked full in
-          omega (arith, look_fits t.listing.settings all valid (omega (arith, all_long, m_is)))
+          start_settings start_cone (ap (λ (d : Dues). d.before) start_is ∙ looked) (ap (λ (d : Dues). d.at) start_is ∙ taking.m_is) table took_here all_looked full in
+          omega (arith, look_fits t.listing.settings all taking.valid (omega (arith, all_long, taking.m_is)))
 
       pub held_next : (next : Young) (rows : List (List BinAt)) (now : Tallied) (after : Files) →
           now ≡ record { listing = record t.listing { events = all }; young = next; rows = rows; due = due } →
           due.is_full ≡ false → HoldsBins ls all rows (after 2) → IsHeld now after
       held_next next rows now after now_is room frames =
           subst (λ (v : Tallied). IsHeld v after) (sym now_is) (record {
-            frames = subst (λ (v : Numbers). HoldsBins v all rows (after 2)) levels_are frames;
+            frames = subst (λ (v : Numbers). HoldsBins v all rows (after 2)) taking.levels_are frames;
             reports = reports_are t.listing.settings t.listing.cone (suc (length t.listing.events)) (look t.listing.settings t.listing.events) (look t.listing.settings all)
                 (totals_at t.listing.settings all (suc (length t.listing.events)) (tail_of t.listing.settings key)) start due
-                start_settings start_cone (ap (λ (d : Dues). d.before) start_is ∙ looked) (ap (λ (d : Dues). d.at) start_is ∙ m_is) table took_here all_looked room
+                start_settings start_cone (ap (λ (d : Dues). d.before) start_is ∙ looked) (ap (λ (d : Dues). d.at) start_is ∙ taking.m_is) table took_here all_looked room
                 ∙ sym (ap (λ b. cond b (closing t.listing.settings all) (look t.listing.settings all)) still);
           })
 

@@ -27,18 +27,27 @@ pub fn greatest_payload(settings: &Settings) -> u32
     8 + 32 * settings.numbers().packet as u32
 }
 
+// Whether a file is empty. It changes none.
+fn is_empty<B: Bay>(bay: &mut B, file: u8) -> Result<bool, Failed>
+    requires { file < 3 }
+    ensures told { IfTold (B.files bay.old) (λ seen. IfOk result (λ empty. IsTrue empty ↔ seen file ≡ [])) }
+    ensures only_reads { OnlyReads B.Bay bay.old bay.new (IsErr result) }
+{
+    Ok(bay.len(file)? == 0)
+}
+
 /// Whether all three files are empty. It changes none.
 pub fn is_fresh<B: Bay>(bay: &mut B) -> Result<bool, Failed>
     ensures fresh { IfTold (B.files bay.old) (λ seen. IfOk result (λ fresh. IsTrue fresh ↔ AreEmpty seen)) }
     ensures only_reads { OnlyReads B.Bay bay.old bay.new (IsErr result) }
 {
-    if bay.len(JOURNAL)? != 0 {
+    if !is_empty(bay, JOURNAL)? {
         return Ok(false);
     }
-    if bay.len(LOG)? != 0 {
+    if !is_empty(bay, LOG)? {
         return Ok(false);
     }
-    if bay.len(FRAMES)? != 0 {
+    if !is_empty(bay, FRAMES)? {
         return Ok(false);
     }
     Ok(true)

@@ -1,10 +1,8 @@
-use Rattle.std.proofs.Common.{◌∙◌, ap, length, refl, arith}
+use Rattle.std.proofs.Common.{◌≡◌, ◌∙◌, false, true, ap, refl, sym}
 use Rattle.std.specs.Result.{is_err}
 use Rattle.std.proofs.lemmas.Bool.{false≢true}
-use Rattle.std.proofs.lemmas.List.{nil_from_length}
-use Rattle.lert_bay.specs.Kept.{Bays}
-use Rattle.lert_bay.specs.declared.bay.TheConstants.{JOURNAL}
-use Rattle.lert_bay.proofs.KeptLaws.{IsLawful, reads_as, reads_call, reads_on}
+use Rattle.lert_bay.specs.Kept.{Bays, OnlyReads}
+use Rattle.lert_bay.proofs.KeptLaws.{IsLawful, reads_as, reads_on}
 use Rattle.lert_cone.proofs.headers.is_fresh.Given as given
 use Rattle.lert_cone.proofs.headers.is_fresh.Goals as goal
 
@@ -22,100 +20,75 @@ bays g = record {
 lawful : (g : given.Over) → IsLawful (bays g)
 lawful g = record { as_read = g.met.B.Bay.as_read; since_now = g.met.B.Bay.since_now; only_now = g.met.B.Bay.only_now; since_earlier = g.met.B.Bay.since_earlier }
 
-pub returns-then-branch-ne0-clause-fresh : goal.returns-then-branch-ne0-clause-fresh
-returns-then-branch-ne0-clause-fresh g c = λ seen told. (
-  (λ never. absurd (false≢true never)),
-  (λ empty. absurd (omega (arith, c.if-branch-ne0.true, c.in_ok-len.ensures.told seen told, ap length empty.journal))),
-)
+-- behind two looks and behind three
+both : (g : given.Over) (before one two : g.row.B.Denot) (First Second : Type 0) →
+    OnlyReads (bays g) before one First → OnlyReads (bays g) one two Second → OnlyReads (bays g) before two Second
+both g before one two First Second = reads_on (bays g) (lawful g) before one two First Second
 
-pub returns-then-branch-ne0-2-clause-fresh : goal.returns-then-branch-ne0-2-clause-fresh
-returns-then-branch-ne0-2-clause-fresh g c = λ seen told. (
-  (λ never. absurd (false≢true never)),
-  (λ empty. absurd (omega (arith, c.if-branch-ne0-2.true, c.in_ok-len-2.ensures.told seen (c.len.ensures.seen ∙ told), ap length empty.log))),
-)
+all : (g : given.Over) (before one two three : g.row.B.Denot) (First Second Third : Type 0) →
+    OnlyReads (bays g) before one First → OnlyReads (bays g) one two Second → OnlyReads (bays g) two three Third → OnlyReads (bays g) before three Third
+all g before one two three First Second Third is then last = both g before two three Second Third (both g before one two First Second is then) last
 
-pub returns-then-branch-ne0-3-clause-fresh : goal.returns-then-branch-ne0-3-clause-fresh
-returns-then-branch-ne0-3-clause-fresh g c = λ seen told. (
-  (λ never. absurd (false≢true never)),
-  (λ empty. absurd (omega (arith, c.if-branch-ne0-3.true, c.in_ok-len-3.ensures.told seen (c.len-2.ensures.seen ∙ (c.len.ensures.seen ∙ told)), ap length empty.frames))),
-)
+-- where the answer is no fault
+well : (g : given.Over) (before after : g.row.B.Denot) (First : Type 0) → OnlyReads (bays g) before after First → OnlyReads (bays g) before after (false ≡ true)
+well g before after First one = reads_as (bays g) (lawful g) before after First _ (λ failed. absurd (false≢true failed)) one
 
-pub returns-clause-fresh : goal.returns-clause-fresh
-returns-clause-fresh g c = λ seen told.
-    let told_then = c.len.ensures.seen ∙ told in
-    let told_later = c.len-2.ensures.seen ∙ told_then in (
-      (λ all. record {
-        journal = nil_from_length (seen 0) (omega (arith, c.if-branch-ne0.false, c.in_ok-len.ensures.told seen told));
-        log = nil_from_length (seen 1) (omega (arith, c.if-branch-ne0-2.false, c.in_ok-len-2.ensures.told seen told_then));
-        frames = nil_from_length (seen 2) (omega (arith, c.if-branch-ne0-3.false, c.in_ok-len-3.ensures.told seen told_later));
-      }),
-      (λ empty. refl),
-    )
+pub returns-in_err-is_empty-clause-only_reads : goal.returns-in_err-is_empty-clause-only_reads
+returns-in_err-is_empty-clause-only_reads g c =
+    reads_as (bays g) (lawful g) c.args.bay.now c.is_empty.new.bay _ _ (λ _. ap is_err c.in_err-is_empty.was) c.is_empty.ensures.only_reads
 
--- ---- none writes
+pub returns-in_err-is_empty-2-clause-only_reads : goal.returns-in_err-is_empty-2-clause-only_reads
+returns-in_err-is_empty-2-clause-only_reads g c =
+    reads_as (bays g) (lawful g) c.args.bay.now c.is_empty-2.new.bay _ _ (λ _. ap is_err c.in_err-is_empty-2.was)
+    (both g _ _ _ _ _ c.is_empty.ensures.only_reads c.is_empty-2.ensures.only_reads)
 
-pub returns-in_err-len-clause-only_reads : goal.returns-in_err-len-clause-only_reads
-returns-in_err-len-clause-only_reads g c =
-    let one = reads_call (bays g) (lawful g) c.args.bay.now c.len.new.self _ c.len.ensures.time c.len.ensures.cause.never_falls c.len.ensures.cause.failed
-    c.len.ensures.mark c.len.ensures.seen c.len.ensures.images (ap (λ handed. handed JOURNAL) c.len.ensures.handed) in
-    reads_as (bays g) (lawful g) c.args.bay.now c.len.new.self _ _ (λ _. ap is_err c.in_err-len.was) one
+pub returns-in_err-is_empty-3-clause-only_reads : goal.returns-in_err-is_empty-3-clause-only_reads
+returns-in_err-is_empty-3-clause-only_reads g c =
+    reads_as (bays g) (lawful g) c.args.bay.now c.is_empty-3.new.bay _ _ (λ _. ap is_err c.in_err-is_empty-3.was)
+    (all g _ _ _ _ _ _ _ c.is_empty.ensures.only_reads c.is_empty-2.ensures.only_reads c.is_empty-3.ensures.only_reads)
 
-pub returns-then-branch-ne0-clause-only_reads : goal.returns-then-branch-ne0-clause-only_reads
-returns-then-branch-ne0-clause-only_reads g c =
-    let one = reads_call (bays g) (lawful g) c.args.bay.now c.len.new.self _ c.len.ensures.time c.len.ensures.cause.never_falls c.len.ensures.cause.failed
-    c.len.ensures.mark c.len.ensures.seen c.len.ensures.images (ap (λ handed. handed JOURNAL) c.len.ensures.handed) in
-    reads_as (bays g) (lawful g) c.args.bay.now c.len.new.self _ _ (λ failed. absurd (false≢true failed)) one
+pub returns-then-not-branch : goal.returns-then-not-branch
+returns-then-not-branch g c = record {
+  fresh = λ seen told. (
+    (λ never. absurd (false≢true never)),
+    (λ empty. absurd (false≢true (sym c.if-not-branch.true ∙ (c.in_ok-is_empty.ensures.told seen told).1 empty.journal))),
+  );
+  only_reads = well g _ _ _ c.is_empty.ensures.only_reads;
+}
 
-pub returns-in_err-len-2-clause-only_reads : goal.returns-in_err-len-2-clause-only_reads
-returns-in_err-len-2-clause-only_reads g c =
-    let one = reads_call (bays g) (lawful g) c.args.bay.now c.len.new.self _ c.len.ensures.time c.len.ensures.cause.never_falls c.len.ensures.cause.failed
-    c.len.ensures.mark c.len.ensures.seen c.len.ensures.images (ap (λ handed. handed JOURNAL) c.len.ensures.handed) in
-    let two = reads_call (bays g) (lawful g) c.len.new.self c.len-2.new.self _ c.len-2.ensures.time c.len-2.ensures.cause.never_falls c.len-2.ensures.cause.failed
-    c.len-2.ensures.mark c.len-2.ensures.seen c.len-2.ensures.images (ap (λ handed. handed JOURNAL) c.len-2.ensures.handed) in
-    let to_two = reads_on (bays g) (lawful g) c.args.bay.now c.len.new.self c.len-2.new.self _ _ one two in
-    reads_as (bays g) (lawful g) c.args.bay.now c.len-2.new.self _ _ (λ _. ap is_err c.in_err-len-2.was) to_two
+pub returns-then-not-branch-2 : goal.returns-then-not-branch-2
+returns-then-not-branch-2 g c = record {
+  fresh = λ seen told. (
+    (λ never. absurd (false≢true never)),
+    (λ empty. absurd (false≢true (sym c.if-not-branch-2.true ∙ (c.in_ok-is_empty-2.ensures.told seen (c.is_empty.ensures.only_reads.seen ∙ told)).1 empty.log))),
+  );
+  only_reads = well g _ _ _ (both g _ _ _ _ _ c.is_empty.ensures.only_reads c.is_empty-2.ensures.only_reads);
+}
 
-pub returns-then-branch-ne0-2-clause-only_reads : goal.returns-then-branch-ne0-2-clause-only_reads
-returns-then-branch-ne0-2-clause-only_reads g c =
-    let one = reads_call (bays g) (lawful g) c.args.bay.now c.len.new.self _ c.len.ensures.time c.len.ensures.cause.never_falls c.len.ensures.cause.failed
-    c.len.ensures.mark c.len.ensures.seen c.len.ensures.images (ap (λ handed. handed JOURNAL) c.len.ensures.handed) in
-    let two = reads_call (bays g) (lawful g) c.len.new.self c.len-2.new.self _ c.len-2.ensures.time c.len-2.ensures.cause.never_falls c.len-2.ensures.cause.failed
-    c.len-2.ensures.mark c.len-2.ensures.seen c.len-2.ensures.images (ap (λ handed. handed JOURNAL) c.len-2.ensures.handed) in
-    let to_two = reads_on (bays g) (lawful g) c.args.bay.now c.len.new.self c.len-2.new.self _ _ one two in
-    reads_as (bays g) (lawful g) c.args.bay.now c.len-2.new.self _ _ (λ failed. absurd (false≢true failed)) to_two
+pub returns-then-not-branch-3 : goal.returns-then-not-branch-3
+returns-then-not-branch-3 g c =
+    let one = c.is_empty.ensures.only_reads in
+    let two = c.is_empty-2.ensures.only_reads in
+    record {
+      fresh = λ seen told. (
+        (λ never. absurd (false≢true never)),
+        (λ empty. absurd (false≢true (sym c.if-not-branch-3.true ∙ (c.in_ok-is_empty-3.ensures.told seen (two.seen ∙ (one.seen ∙ told))).1 empty.frames))),
+      );
+      only_reads = well g _ _ _ (all g _ _ _ _ _ _ _ one two c.is_empty-3.ensures.only_reads);
+    }
 
-pub returns-in_err-len-3-clause-only_reads : goal.returns-in_err-len-3-clause-only_reads
-returns-in_err-len-3-clause-only_reads g c =
-    let one = reads_call (bays g) (lawful g) c.args.bay.now c.len.new.self _ c.len.ensures.time c.len.ensures.cause.never_falls c.len.ensures.cause.failed
-    c.len.ensures.mark c.len.ensures.seen c.len.ensures.images (ap (λ handed. handed JOURNAL) c.len.ensures.handed) in
-    let two = reads_call (bays g) (lawful g) c.len.new.self c.len-2.new.self _ c.len-2.ensures.time c.len-2.ensures.cause.never_falls c.len-2.ensures.cause.failed
-    c.len-2.ensures.mark c.len-2.ensures.seen c.len-2.ensures.images (ap (λ handed. handed JOURNAL) c.len-2.ensures.handed) in
-    let to_two = reads_on (bays g) (lawful g) c.args.bay.now c.len.new.self c.len-2.new.self _ _ one two in
-    let three = reads_call (bays g) (lawful g) c.len-2.new.self c.len-3.new.self _ c.len-3.ensures.time c.len-3.ensures.cause.never_falls c.len-3.ensures.cause.failed
-    c.len-3.ensures.mark c.len-3.ensures.seen c.len-3.ensures.images (ap (λ handed. handed JOURNAL) c.len-3.ensures.handed) in
-    let to_three = reads_on (bays g) (lawful g) c.args.bay.now c.len-2.new.self c.len-3.new.self _ _ to_two three in
-    reads_as (bays g) (lawful g) c.args.bay.now c.len-3.new.self _ _ (λ _. ap is_err c.in_err-len-3.was) to_three
-
-pub returns-then-branch-ne0-3-clause-only_reads : goal.returns-then-branch-ne0-3-clause-only_reads
-returns-then-branch-ne0-3-clause-only_reads g c =
-    let one = reads_call (bays g) (lawful g) c.args.bay.now c.len.new.self _ c.len.ensures.time c.len.ensures.cause.never_falls c.len.ensures.cause.failed
-    c.len.ensures.mark c.len.ensures.seen c.len.ensures.images (ap (λ handed. handed JOURNAL) c.len.ensures.handed) in
-    let two = reads_call (bays g) (lawful g) c.len.new.self c.len-2.new.self _ c.len-2.ensures.time c.len-2.ensures.cause.never_falls c.len-2.ensures.cause.failed
-    c.len-2.ensures.mark c.len-2.ensures.seen c.len-2.ensures.images (ap (λ handed. handed JOURNAL) c.len-2.ensures.handed) in
-    let to_two = reads_on (bays g) (lawful g) c.args.bay.now c.len.new.self c.len-2.new.self _ _ one two in
-    let three = reads_call (bays g) (lawful g) c.len-2.new.self c.len-3.new.self _ c.len-3.ensures.time c.len-3.ensures.cause.never_falls c.len-3.ensures.cause.failed
-    c.len-3.ensures.mark c.len-3.ensures.seen c.len-3.ensures.images (ap (λ handed. handed JOURNAL) c.len-3.ensures.handed) in
-    let to_three = reads_on (bays g) (lawful g) c.args.bay.now c.len-2.new.self c.len-3.new.self _ _ to_two three in
-    reads_as (bays g) (lawful g) c.args.bay.now c.len-3.new.self _ _ (λ failed. absurd (false≢true failed)) to_three
-
-pub returns-clause-only_reads : goal.returns-clause-only_reads
-returns-clause-only_reads g c =
-    let one = reads_call (bays g) (lawful g) c.args.bay.now c.len.new.self _ c.len.ensures.time c.len.ensures.cause.never_falls c.len.ensures.cause.failed
-    c.len.ensures.mark c.len.ensures.seen c.len.ensures.images (ap (λ handed. handed JOURNAL) c.len.ensures.handed) in
-    let two = reads_call (bays g) (lawful g) c.len.new.self c.len-2.new.self _ c.len-2.ensures.time c.len-2.ensures.cause.never_falls c.len-2.ensures.cause.failed
-    c.len-2.ensures.mark c.len-2.ensures.seen c.len-2.ensures.images (ap (λ handed. handed JOURNAL) c.len-2.ensures.handed) in
-    let to_two = reads_on (bays g) (lawful g) c.args.bay.now c.len.new.self c.len-2.new.self _ _ one two in
-    let three = reads_call (bays g) (lawful g) c.len-2.new.self c.len-3.new.self _ c.len-3.ensures.time c.len-3.ensures.cause.never_falls c.len-3.ensures.cause.failed
-    c.len-3.ensures.mark c.len-3.ensures.seen c.len-3.ensures.images (ap (λ handed. handed JOURNAL) c.len-3.ensures.handed) in
-    let to_three = reads_on (bays g) (lawful g) c.args.bay.now c.len-2.new.self c.len-3.new.self _ _ to_two three in
-    reads_as (bays g) (lawful g) c.args.bay.now c.len-3.new.self _ _ (λ failed. absurd (false≢true failed)) to_three
+pub returns : goal.returns
+returns g c =
+    let one = c.is_empty.ensures.only_reads in
+    let two = c.is_empty-2.ensures.only_reads in
+    record {
+      fresh = λ seen told. (
+        (λ all. record {
+          journal = (c.in_ok-is_empty.ensures.told seen told).0 c.if-not-branch.false;
+          log = (c.in_ok-is_empty-2.ensures.told seen (one.seen ∙ told)).0 c.if-not-branch-2.false;
+          frames = (c.in_ok-is_empty-3.ensures.told seen (two.seen ∙ (one.seen ∙ told))).0 c.if-not-branch-3.false;
+        }),
+        (λ empty. refl),
+      );
+      only_reads = well g _ _ _ (all g _ _ _ _ _ _ _ one two c.is_empty-3.ensures.only_reads);
+    }

@@ -1,4 +1,4 @@
-use Rattle.std.proofs.Common.{ℕ, ◌≡◌, ◌∙◌, List, Err, refl, length, ap, sym, subst, inl, arith}
+use Rattle.std.proofs.Common.{ℕ, ◌≡◌, ◌∙◌, List, Err, true, refl, length, ap, sym, subst, inl, arith}
 use Rattle.std.specs.List.{length_refill}
 use Rattle.lert_base.specs.Packet.{Packet, events_of}
 use Rattle.lert_bay.specs.Files.{IfTold}
@@ -26,6 +26,7 @@ use Rattle.lert_cone.proofs.StateLaws.{broke_broken, broke_closed, passed_broken
 use Rattle.lert_cone.proofs.TimeLaws.{timely}
 use Rattle.lert_cone.proofs.cone.Cone.finish.Given as given
 use Rattle.lert_cone.proofs.cone.Cone.finish.Goals as goal
+use Rattle.lert_cone.proofs.cone.Cone.finish.Goals.{After-len}
 
 abbrev bays : (g : given.Over) → Bays g.row.B.Denot
 bays g = record {
@@ -92,19 +93,7 @@ returns-in_err-test_state g c =
 pub returns-in-Err-clause-stays : goal.returns-in-Err-clause-stays
 returns-in-Err-clause-stays g c = rw (← c.self.view_is) (λ h stands.
     let running : c.self.inside.state ≡ Running = subst (λ (v : Standing g.row.B.Denot). v.state ≡ Running) (sym c.self.view_is) c.in_ok-test_state.ensures.ok in
-    stands_broken g.B.Bay.files g.B.Bay.leaves g.B.Faulty.faults (record {
-      bay = c.self.inside.bay;
-      made = c.self.inside.made.value;
-      listing = c.self.inside.tally.listing;
-      rows = c.self.inside.tally.rows;
-      reports = c.self.inside.tally.due.reports;
-      events = c.self.inside.events;
-      state = c.self.inside.state;
-      over = over_of c.self.inside.over;
-      gate = c.self.inside.journal.gate;
-      log = c.self.inside.log;
-      last = c.self.inside.last;
-    }) _ h (record {
+    stands_broken g.B.Bay.files g.B.Bay.leaves g.B.Faulty.faults _ _ h (record {
       settings = ap (λ (l : Listing). l.settings) c.finish.ensures.listing;
       cone = ap (λ
           (l : Listing). l.cone) c.finish.ensures.listing;
@@ -131,19 +120,7 @@ returns-in-Err-clause-stays g c = rw (← c.self.view_is) (λ h stands.
 pub invariant_of-self : goal.invariant_of-self
 invariant_of-self g c =
     let len_is : c.self.inside.buffer.len ≡ length c.self.inside.buffer.items = omega (arith, c.self.inside.buffer.ok) in
-    broken_cone g.B.Bay.files g.B.Bay.leaves g.B.Faulty.faults g.B.Faulty.mark (record {
-      bay = c.self.inside.bay;
-      made = c.self.inside.made.value;
-      listing = c.self.inside.tally.listing;
-      rows = c.self.inside.tally.rows;
-      reports = c.self.inside.tally.due.reports;
-      events = c.self.inside.events;
-      state = c.self.inside.state;
-      over = over_of c.self.inside.over;
-      gate = c.self.inside.journal.gate;
-      log = c.self.inside.log;
-      last = c.self.inside.last;
-    }) _ c.self.inside.tally c.finish.new.tally c.self.inside.journal c.self.inside.journal _ _ _ _
+    broken_cone g.B.Bay.files g.B.Bay.leaves g.B.Faulty.faults g.B.Faulty.mark _ _ c.self.inside.tally c.finish.new.tally c.self.inside.journal c.self.inside.journal _ _ _ _
     (ap is_broken c.broken_by-self-inside.ensures ∙ is_broken_by c.in-Err.fault) (λ same. not_replaying_by c.in-Err.fault (sym c.broken_by-self-inside.ensures ∙ same)) (ap (λ
     (l : Listing). l.settings) c.finish.ensures.listing) refl refl refl refl (sym (length_refill c.self.inside.buffer.len c.self.inside.buffer.items c.finish.new.buffer len_is)
     ∙ len_is) refl c.finish.ensures.keeps.kept.never_falls
@@ -229,28 +206,28 @@ invariant_of-self-2 g c =
     (any_turn (λ old new. new 0 ≡ old 0) (g.B.Bay.files c.self.inside.bay) (g.B.Bay.files c.finish.new.bay) c.finish.ensures.keeps.journal.seen) c.finish.ensures.keeps.kept.mark
     c.self.invariant
 
+was_running : (g : given.Over) (c : After-len g) → c.self.inside.state ≡ Running
+was_running g c = subst (λ (v : Standing g.row.B.Denot). v.state ≡ Running) (sym c.self.view_is) c.in_ok-test_state.ensures.ok
+
+-- what its counts list now
+ended : (g : given.Over) (c : After-len g) → c.finish.new.tally.listing ≡ record {
+  settings = c.self.inside.tally.listing.settings;
+  cone = c.self.inside.tally.listing.cone;
+  events = c.self.inside.tally.listing.events;
+  closed = true;
+}
+ended g c = c.finish.ensures.listing ∙ ap (λ closed. record {
+  settings = c.self.inside.tally.listing.settings;
+  cone = c.self.inside.tally.listing.cone;
+  events = c.self.inside.tally.listing.events;
+  closed = closed;
+}) c.in_default.ensures.closed
+
 pub returns-clause-stands_for : goal.returns-clause-stands_for
 returns-clause-stands_for g c = rw (← c.self.view_is) (λ h stands.
-    let running : c.self.inside.state ≡ Running = subst (λ (v : Standing g.row.B.Denot). v.state ≡ Running) (sym c.self.view_is) c.in_ok-test_state.ensures.ok in
-    let is = (c.finish.ensures.listing ∙ ap (λ closed. record {
-      settings = c.self.inside.tally.listing.settings;
-      cone = c.self.inside.tally.listing.cone;
-      events = c.self.inside.tally.listing.events;
-      closed = closed;
-    }) c.in_default.ensures.closed) in
-    stands_whole g.B.Bay.files g.B.Bay.leaves g.B.Faulty.faults (record {
-      bay = c.self.inside.bay;
-      made = c.self.inside.made.value;
-      listing = c.self.inside.tally.listing;
-      rows = c.self.inside.tally.rows;
-      reports = c.self.inside.tally.due.reports;
-      events = c.self.inside.events;
-      state = c.self.inside.state;
-      over = over_of c.self.inside.over;
-      gate = c.self.inside.journal.gate;
-      log = c.self.inside.log;
-      last = c.self.inside.last;
-    }) _ h h (record {
+    let running = was_running g c in
+    let is = ended g c in
+    stands_whole g.B.Bay.files g.B.Bay.leaves g.B.Faulty.faults _ _ h h (record {
       settings = ap (λ (l : Listing). l.settings) is;
       cone = ap (λ
           (l : Listing). l.cone) is;
@@ -296,13 +273,8 @@ returns-clause-shows g c = λ file at same. absurd (no_fault same)
 
 pub returns-clause-answers : goal.returns-clause-answers
 returns-clause-answers g c = rw (← c.self.view_is) (λ h stands sound seen told.
-    let running : c.self.inside.state ≡ Running = subst (λ (v : Standing g.row.B.Denot). v.state ≡ Running) (sym c.self.view_is) c.in_ok-test_state.ensures.ok in
-    let is = (c.finish.ensures.listing ∙ ap (λ closed. record {
-      settings = c.self.inside.tally.listing.settings;
-      cone = c.self.inside.tally.listing.cone;
-      events = c.self.inside.tally.listing.events;
-      closed = closed;
-    }) c.in_default.ensures.closed) in
+    let running = was_running g c in
+    let is = ended g c in
     let then = c.finish.ensures.keeps.journal.seen.told seen told in
     let whole = stands.whole (ap is_broken running) sound seen told in
     let up = c.in_default.ensures.in_step seen told h whole.keys whole.in_step then.0 then.1 in
@@ -318,13 +290,8 @@ returns-clause-each_moment g c = rw (← c.self.view_is) (λ still sound seen to
 
 pub returns-clause-sound_closed : goal.returns-clause-sound_closed
 returns-clause-sound_closed g c = rw (← c.self.view_is) (λ sound seen told h stands.
-    let running : c.self.inside.state ≡ Running = subst (λ (v : Standing g.row.B.Denot). v.state ≡ Running) (sym c.self.view_is) c.in_ok-test_state.ensures.ok in
-    let is = (c.finish.ensures.listing ∙ ap (λ closed. record {
-      settings = c.self.inside.tally.listing.settings;
-      cone = c.self.inside.tally.listing.cone;
-      events = c.self.inside.tally.listing.events;
-      closed = closed;
-    }) c.in_default.ensures.closed) in
+    let running = was_running g c in
+    let is = ended g c in
     let was = turns_back (λ old new. new 0 ≡ old 0) (g.B.Bay.files c.self.inside.bay) (g.B.Bay.files c.finish.new.bay) c.finish.ensures.keeps.journal.seen seen told in
     let whole = stands.whole (ap is_broken running) sound was.0 was.1 in
     subst (λ (l : Listing). IsKept (g.B.Bay.leaves c.finish.new.bay) seen (IsSoundAs l.settings l.cone l.closed h)) is
@@ -347,25 +314,8 @@ returns-in-Err-clause-shows g c = λ file at same.
 
 pub returns-clause-in_time : goal.returns-clause-in_time
 returns-clause-in_time g c = λ h stands sound seen told.
-    let is = (c.finish.ensures.listing ∙ ap (λ closed. record {
-      settings = c.self.inside.tally.listing.settings;
-      cone = c.self.inside.tally.listing.cone;
-      events = c.self.inside.tally.listing.events;
-      closed = closed;
-    }) c.in_default.ensures.closed) in
-    let was : WasSound g.B.Bay.files (record {
-      bay = c.self.inside.bay;
-      made = c.self.inside.made.value;
-      listing = c.self.inside.tally.listing;
-      rows = c.self.inside.tally.rows;
-      reports = c.self.inside.tally.due.reports;
-      events = c.self.inside.events;
-      state = c.self.inside.state;
-      over = over_of c.self.inside.over;
-      gate = c.self.inside.journal.gate;
-      log = c.self.inside.log;
-      last = c.self.inside.last;
-    }) = subst (λ (v : Standing g.row.B.Denot). WasSound g.B.Bay.files v) (sym c.self.view_is) sound in
+    let is = ended g c in
+    let was = subst (λ (v : Standing g.row.B.Denot). WasSound g.B.Bay.files v) (sym c.self.view_is) sound in
     let after = (returns-clause-seen g c).told seen told in
     subst (λ (settings : Numbers). IsTimely settings.threshold settings.bins (events_of h) c.finish.new.tally.due.reports) (ap (λ (l : Listing). l.settings) is ∙ ap (λ
     (v : Standing g.row.B.Denot). v.listing.settings) c.self.view_is)

@@ -1,4 +1,4 @@
-use Rattle.std.proofs.Common.{◌≡◌, ◌++◌, false, Option, ap, refl, sym, ◌∙◌, subst}
+use Rattle.std.proofs.Common.{◌≡◌, false, Option, ap, refl, sym, ◌∙◌, subst}
 use Rattle.lert_bay.specs.Kept.{Bays}
 use Rattle.lert_bay.proofs.KeptLaws.{IsLawful}
 use Rattle.lert_levels.specs.OnDisk.{OnDisk}
@@ -24,67 +24,34 @@ lawful g = record { as_read = g.met.B.Bay.as_read; since_now = g.met.B.Bay.since
 
 pub returns-in_err-result : goal.returns-in_err-result
 returns-in_err-result g c =
-    let counted : IsCounted (record {
-      listing = record { settings = c.self.inside.settings; cone = c.self.inside.cone; events = c.self.inside.unread ++ c.self.inside.taken; closed = c.self.inside.closed };
-      young = c.self.inside.zero;
-      rows = c.self.inside.levels.rows;
-      due = due_in c.self.inside.due;
-    }) = subst (λ (v : Tallied). IsCounted v) (sym c.self.view_is) c.requires.counted in
+    let counted = subst (λ (v : Tallied). IsCounted v) (sym c.self.view_is) c.requires.counted in
     let start_is : c.begin.new.self ≡ started (due_in c.self.inside.due) c.self.inside.len =
     c.begin.ensures.begun ∙ ap (λ (d : Option Dues). started (due_in d) c.self.inside.len) (sym c.in-Some.is ∙ c.take.ensures.value) in
-    rw (← c.self.view_is) (not_ended (bays g) (lawful g)
-    (record {
-      listing = record { settings = c.self.inside.settings; cone = c.self.inside.cone; events = c.self.inside.unread ++ c.self.inside.taken; closed = c.self.inside.closed };
-      young = c.self.inside.zero;
-      rows = c.self.inside.levels.rows;
-      due = due_in c.self.inside.due;
-    })
+    rw (← c.self.view_is) (not_ended (bays g) (lawful g) _
     c.self.inside.levels.settings c.self.invariant.levels_settings c.self.invariant.valid c.self.invariant.named counted c.self.inside.len c.self.invariant.len_is
     c.begin.new.self c.scan_into-due.result.0 start_is c.args.bay.now c.scan_into-due.new.bay c.scan_into-due.new.levels
     c.scan_into-due.result.1 c.in_err-result.field-0.0 c.in_err-result.was c.scan_into-due.ensures c.from_residual.result c.from_residual.ensures.1)
 
 pub returns-then-is_full : goal.returns-then-is_full
 returns-then-is_full g c =
-    let counted : IsCounted (record {
-      listing = record { settings = c.self.inside.settings; cone = c.self.inside.cone; events = c.self.inside.unread ++ c.self.inside.taken; closed = c.self.inside.closed };
-      young = c.self.inside.zero;
-      rows = c.self.inside.levels.rows;
-      due = due_in c.self.inside.due;
-    }) = subst (λ (v : Tallied). IsCounted v) (sym c.self.view_is) c.requires.counted in
+    let counted = subst (λ (v : Tallied). IsCounted v) (sym c.self.view_is) c.requires.counted in
     let start_is : c.begin.new.self ≡ started (due_in c.self.inside.due) c.self.inside.len =
     c.begin.ensures.begun ∙ ap (λ (d : Option Dues). started (due_in d) c.self.inside.len) (sym c.in-Some.is ∙ c.take.ensures.value) in
     let still : c.self.inside.closed ≡ false = subst (λ (v : Tallied). v.listing.closed ≡ false) (sym c.self.view_is) c.requires.still in
     let scans = rw c.in_ok-result.was at c.scan_into-due.ensures in
-    rw (← c.self.view_is) (no_room_left (bays g) (lawful g)
-    (record {
-      listing = record { settings = c.self.inside.settings; cone = c.self.inside.cone; events = c.self.inside.unread ++ c.self.inside.taken; closed = c.self.inside.closed };
-      young = c.self.inside.zero;
-      rows = c.self.inside.levels.rows;
-      due = due_in c.self.inside.due;
-    })
+    rw (← c.self.view_is) (no_room_left (bays g) (lawful g) _
     c.self.inside.levels.settings c.self.invariant.levels_settings c.self.invariant.valid c.self.invariant.named counted c.self.inside.len c.self.invariant.len_is
     c.begin.new.self c.scan_into-due.result.0 start_is c.args.bay.now c.scan_into-due.new.bay c.scan_into-due.new.levels
     still scans (sym c.is_full-is_full.ensures.value ∙ c.if-is_full.true) (c.is_full-is_full.ensures.full c.if-is_full.true))
 
 pub returns : goal.returns
 returns g c =
-    let counted : IsCounted (record {
-      listing = record { settings = c.self.inside.settings; cone = c.self.inside.cone; events = c.self.inside.unread ++ c.self.inside.taken; closed = c.self.inside.closed };
-      young = c.self.inside.zero;
-      rows = c.self.inside.levels.rows;
-      due = due_in c.self.inside.due;
-    }) = subst (λ (v : Tallied). IsCounted v) (sym c.self.view_is) c.requires.counted in
+    let counted = subst (λ (v : Tallied). IsCounted v) (sym c.self.view_is) c.requires.counted in
     let start_is : c.begin.new.self ≡ started (due_in c.self.inside.due) c.self.inside.len =
     c.begin.ensures.begun ∙ ap (λ (d : Option Dues). started (due_in d) c.self.inside.len) (sym c.in-Some.is ∙ c.take.ensures.value) in
     let still : c.self.inside.closed ≡ false = subst (λ (v : Tallied). v.listing.closed ≡ false) (sym c.self.view_is) c.requires.still in
     let scans = rw c.in_ok-result.was at c.scan_into-due.ensures in
-    rw (← c.self.view_is) (all_counted (bays g) (lawful g)
-    (record {
-      listing = record { settings = c.self.inside.settings; cone = c.self.inside.cone; events = c.self.inside.unread ++ c.self.inside.taken; closed = c.self.inside.closed };
-      young = c.self.inside.zero;
-      rows = c.self.inside.levels.rows;
-      due = due_in c.self.inside.due;
-    })
+    rw (← c.self.view_is) (all_counted (bays g) (lawful g) _
     c.self.inside.levels.settings c.self.invariant.levels_settings c.self.invariant.valid c.self.invariant.named counted c.self.inside.len c.self.invariant.len_is
     c.begin.new.self c.scan_into-due.result.0 start_is c.args.bay.now c.scan_into-due.new.bay c.scan_into-due.new.levels
     still scans (sym c.is_full-is_full.ensures.value ∙ c.if-is_full.false))

@@ -3,11 +3,10 @@ use Rattle.lert_spec.specs.declared.numbers.Numbers.{Numbers}
 use Rattle.lert_spec.specs.Edges.{capacity}
 use Rattle.lert_spec.specs.Limits.{IsValid}
 use Rattle.lert_spec.specs.Mix.{cone_of}
-use Rattle.lert_cone.specs.Due.{started}
 use Rattle.lert_cone.specs.Tally.{Tallied, IsCounted, due_in}
 use Rattle.lert_cone.proofs.KeyCounted.{not_counted, no_room, key_counted}
 use Rattle.lert_cone.proofs.NextFlush.{flush_next, next_flushes, next_stays}
-use Rattle.lert_cone.proofs.TakeLaws.{rows_before}
+use Rattle.lert_cone.proofs.TakeLaws.{rows_before, to_take}
 use Rattle.lert_cone.proofs.TallyLaws.{next_position}
 use Rattle.lert_rows.specs.Young.{IsNextPosition, Young}
 use Rattle.lert_bay.specs.Kept.{Bays}
@@ -131,18 +130,9 @@ add-requires-clause-position g c =
 
 pub bring-requires-clause-rows : goal.bring-requires-clause-rows
 bring-requires-clause-rows g c =
-    let t : Tallied = record {
-      listing = record { settings = c.self.inside.settings; cone = c.self.inside.cone; events = c.self.inside.unread ++ c.self.inside.taken; closed = c.self.inside.closed };
-      young = c.self.inside.zero;
-      rows = c.self.inside.levels.rows;
-      due = due_in c.self.inside.due;
-    } in
-    let counted : IsCounted t = subst (λ (v : Tallied). IsCounted v) (sym c.self.view_is) c.requires.counted in
-    let fits : length (c.self.inside.unread ++ c.self.inside.taken) < capacity c.self.inside.settings =
-    subst (λ (v : Tallied). length v.listing.events < capacity v.listing.settings) (sym c.self.view_is) c.requires.fits in
-    let m_is : c.self.inside.len + 1 ≡ suc (length (c.self.inside.unread ++ c.self.inside.taken)) = omega (arith, c.self.invariant.len_is) in
-    rows_before t c.self.inside.levels.settings c.self.invariant.levels_settings c.self.invariant.valid c.self.invariant.named c.self.invariant.young_settings counted fits c.args.key
-    c.tail_of-tail.result (c.self.inside.len + 1) c.tail_of-tail.ensures.value m_is c.add.new.self c.add.ensures
+    let key = to_take _ c.args.self.now c.self.inside.levels.settings c.args.key c.tail_of-tail.result c.self.inside.len c.add.new.self c.self.view_is c.requires.counted c.requires.fits
+    c.self.invariant.levels_settings c.self.invariant.valid c.self.invariant.named c.self.invariant.young_settings c.tail_of-tail.ensures.value c.self.invariant.len_is c.add.ensures in
+    rows_before _ c.self.inside.levels.settings c.args.key c.tail_of-tail.result (c.self.inside.len + 1) c.add.new.self key
 
 pub bring-requires-clause-moves : goal.bring-requires-clause-moves
 bring-requires-clause-moves g c = next_flushes c.self.inside.settings c.self.inside.levels.settings c.self.invariant.levels_settings c.self.invariant.valid c.self.inside.len
@@ -154,85 +144,34 @@ bring-requires-clause-stays g c = next_stays c.self.inside.settings c.self.insid
 
 pub returns-in_err-bring : goal.returns-in_err-bring
 returns-in_err-bring g c =
-    let counted : IsCounted (record {
-      listing = record { settings = c.self.inside.settings; cone = c.self.inside.cone; events = c.self.inside.unread ++ c.self.inside.taken; closed = c.self.inside.closed };
-      young = c.self.inside.zero;
-      rows = c.self.inside.levels.rows;
-      due = due_in c.self.inside.due;
-    }) = subst (λ (v : Tallied). IsCounted v) (sym c.self.view_is) c.requires.counted in
-    let fits : length (c.self.inside.unread ++ c.self.inside.taken) < capacity c.self.inside.settings =
-    subst (λ (v : Tallied). length v.listing.events < capacity v.listing.settings) (sym c.self.view_is) c.requires.fits in
-    let m_is : c.self.inside.len + 1 ≡ suc (length (c.self.inside.unread ++ c.self.inside.taken)) = omega (arith, c.self.invariant.len_is) in
-    let start_is : (due_in c.begin.new.due) ≡ started (due_in c.self.inside.due) (c.self.inside.len + 1) =
-    c.begin.ensures.begun in
-    rw (← c.self.view_is) (not_counted (bays g) (lawful g)
-    (record {
-      listing = record { settings = c.self.inside.settings; cone = c.self.inside.cone; events = c.self.inside.unread ++ c.self.inside.taken; closed = c.self.inside.closed };
-      young = c.self.inside.zero;
-      rows = c.self.inside.levels.rows;
-      due = due_in c.self.inside.due;
-    })
-    c.self.inside.levels.settings c.self.invariant.levels_settings c.self.invariant.valid c.self.invariant.named c.self.invariant.young_settings counted fits
-    c.args.key c.tail_of-tail.result (c.self.inside.len + 1) c.tail_of-tail.ensures.value m_is c.add.new.self c.add.ensures
-    (due_in c.begin.new.due) (due_in c.bring.new.due) start_is c.args.bay.now c.bring.new.bay c.bring.new.zero c.bring.new.levels
+    let key = to_take _ c.args.self.now c.self.inside.levels.settings c.args.key c.tail_of-tail.result c.self.inside.len c.add.new.self c.self.view_is c.requires.counted c.requires.fits
+    c.self.invariant.levels_settings c.self.invariant.valid c.self.invariant.named c.self.invariant.young_settings c.tail_of-tail.ensures.value c.self.invariant.len_is c.add.ensures in
+    rw (← c.self.view_is) (not_counted (bays g) (lawful g) _ c.self.inside.levels.settings c.args.key c.tail_of-tail.result (c.self.inside.len + 1) c.add.new.self key
+    (due_in c.begin.new.due) (due_in c.bring.new.due) c.begin.ensures.begun c.args.bay.now c.bring.new.bay c.bring.new.zero c.bring.new.levels
     c.bring.result c.in_err-bring.field-0.0 c.in_err-bring.was c.bring.ensures.brings c.from_residual.result c.from_residual.ensures.1)
 
 pub returns-then-is_full : goal.returns-then-is_full
 returns-then-is_full g c =
-    let counted : IsCounted (record {
-      listing = record { settings = c.self.inside.settings; cone = c.self.inside.cone; events = c.self.inside.unread ++ c.self.inside.taken; closed = c.self.inside.closed };
-      young = c.self.inside.zero;
-      rows = c.self.inside.levels.rows;
-      due = due_in c.self.inside.due;
-    }) = subst (λ (v : Tallied). IsCounted v) (sym c.self.view_is) c.requires.counted in
-    let fits : length (c.self.inside.unread ++ c.self.inside.taken) < capacity c.self.inside.settings =
-    subst (λ (v : Tallied). length v.listing.events < capacity v.listing.settings) (sym c.self.view_is) c.requires.fits in
-    let m_is : c.self.inside.len + 1 ≡ suc (length (c.self.inside.unread ++ c.self.inside.taken)) = omega (arith, c.self.invariant.len_is) in
-    let start_is : (due_in c.begin.new.due) ≡ started (due_in c.self.inside.due) (c.self.inside.len + 1) =
-    c.begin.ensures.begun in
+    let key = to_take _ c.args.self.now c.self.inside.levels.settings c.args.key c.tail_of-tail.result c.self.inside.len c.add.new.self c.self.view_is c.requires.counted c.requires.fits
+    c.self.invariant.levels_settings c.self.invariant.valid c.self.invariant.named c.self.invariant.young_settings c.tail_of-tail.ensures.value c.self.invariant.len_is c.add.ensures in
     let own : cone_of c.self.inside.settings c.args.key ≡ c.self.inside.cone =
     subst (λ (v : Tallied). cone_of v.listing.settings c.args.key ≡ v.listing.cone) (sym c.self.view_is) c.requires.own in
     let still : c.self.inside.closed ≡ false = subst (λ (v : Tallied). v.listing.closed ≡ false) (sym c.self.view_is) c.requires.still in
     let brings = rw c.in_ok-bring.was at c.bring.ensures.brings in
-    rw (← c.self.view_is) (no_room (bays g) (lawful g)
-    (record {
-      listing = record { settings = c.self.inside.settings; cone = c.self.inside.cone; events = c.self.inside.unread ++ c.self.inside.taken; closed = c.self.inside.closed };
-      young = c.self.inside.zero;
-      rows = c.self.inside.levels.rows;
-      due = due_in c.self.inside.due;
-    })
-    c.self.inside.levels.settings c.self.invariant.levels_settings c.self.invariant.valid c.self.invariant.named c.self.invariant.young_settings counted fits
-    c.args.key c.tail_of-tail.result (c.self.inside.len + 1) c.tail_of-tail.ensures.value m_is c.add.new.self c.add.ensures
-    (due_in c.begin.new.due) (due_in c.bring.new.due) start_is c.args.bay.now c.bring.new.bay c.bring.new.zero c.bring.new.levels
+    rw (← c.self.view_is) (no_room (bays g) (lawful g) _ c.self.inside.levels.settings c.args.key c.tail_of-tail.result (c.self.inside.len + 1) c.add.new.self key
+    (due_in c.begin.new.due) (due_in c.bring.new.due) c.begin.ensures.begun c.args.bay.now c.bring.new.bay c.bring.new.zero c.bring.new.levels
     c.ranges.key.fits own still brings (sym c.is_full.ensures.value ∙ c.if-is_full.true) (c.is_full.ensures.full c.if-is_full.true))
 
 pub returns : goal.returns
 returns g c =
-    let counted : IsCounted (record {
-      listing = record { settings = c.self.inside.settings; cone = c.self.inside.cone; events = c.self.inside.unread ++ c.self.inside.taken; closed = c.self.inside.closed };
-      young = c.self.inside.zero;
-      rows = c.self.inside.levels.rows;
-      due = due_in c.self.inside.due;
-    }) = subst (λ (v : Tallied). IsCounted v) (sym c.self.view_is) c.requires.counted in
-    let fits : length (c.self.inside.unread ++ c.self.inside.taken) < capacity c.self.inside.settings =
-    subst (λ (v : Tallied). length v.listing.events < capacity v.listing.settings) (sym c.self.view_is) c.requires.fits in
-    let m_is : c.self.inside.len + 1 ≡ suc (length (c.self.inside.unread ++ c.self.inside.taken)) = omega (arith, c.self.invariant.len_is) in
-    let start_is : (due_in c.begin.new.due) ≡ started (due_in c.self.inside.due) (c.self.inside.len + 1) =
-    c.begin.ensures.begun in
+    let key = to_take _ c.args.self.now c.self.inside.levels.settings c.args.key c.tail_of-tail.result c.self.inside.len c.add.new.self c.self.view_is c.requires.counted c.requires.fits
+    c.self.invariant.levels_settings c.self.invariant.valid c.self.invariant.named c.self.invariant.young_settings c.tail_of-tail.ensures.value c.self.invariant.len_is c.add.ensures in
     let own : cone_of c.self.inside.settings c.args.key ≡ c.self.inside.cone =
     subst (λ (v : Tallied). cone_of v.listing.settings c.args.key ≡ v.listing.cone) (sym c.self.view_is) c.requires.own in
     let still : c.self.inside.closed ≡ false = subst (λ (v : Tallied). v.listing.closed ≡ false) (sym c.self.view_is) c.requires.still in
     let brings = rw c.in_ok-bring.was at c.bring.ensures.brings in
-    rw (← c.self.view_is) (key_counted (bays g) (lawful g)
-    (record {
-      listing = record { settings = c.self.inside.settings; cone = c.self.inside.cone; events = c.self.inside.unread ++ c.self.inside.taken; closed = c.self.inside.closed };
-      young = c.self.inside.zero;
-      rows = c.self.inside.levels.rows;
-      due = due_in c.self.inside.due;
-    })
-    c.self.inside.levels.settings c.self.invariant.levels_settings c.self.invariant.valid c.self.invariant.named c.self.invariant.young_settings counted fits
-    c.args.key c.tail_of-tail.result (c.self.inside.len + 1) c.tail_of-tail.ensures.value m_is c.add.new.self c.add.ensures
-    (due_in c.begin.new.due) (due_in c.bring.new.due) start_is c.args.bay.now c.bring.new.bay c.bring.new.zero c.bring.new.levels
+    rw (← c.self.view_is) (key_counted (bays g) (lawful g) _ c.self.inside.levels.settings c.args.key c.tail_of-tail.result (c.self.inside.len + 1) c.add.new.self key
+    (due_in c.begin.new.due) (due_in c.bring.new.due) c.begin.ensures.begun c.args.bay.now c.bring.new.bay c.bring.new.zero c.bring.new.levels
     c.ranges.key.fits own still brings (c.self.inside.unread ++ c.push.new.self)
     (ap (λ keys. c.self.inside.unread ++ keys) c.push.ensures ∙ sym (append_assoc c.self.inside.unread c.self.inside.taken (c.args.key ∷ [])))
     (sym c.is_full.ensures.value ∙ c.if-is_full.false))
