@@ -1,7 +1,7 @@
 -- What a merge is given and what it made, of streams that were begun and landings that were started.
-use Rattle.std.proofs.Common.{ℕ, ◌≡◌, ◌+◌, ◌<◌, ◌≤◌, List, [], ◌∷◌, length, map, get_or, Option, Some, None, refl, ap, sym, ◌∙◌, arith, subst, sum_by, Result}
+use Rattle.std.proofs.Common.{ℕ, ◌≡◌, ◌+◌, ◌<◌, ◌≤◌, List, [], ◌∷◌, length, map, get_or, take, Option, Some, None, refl, ap, sym, ◌∙◌, arith, subst, sum_by, Result}
 use Rattle.std.specs.Prelude.{Ok, Err, OnOk, sum}
-use Rattle.std.proofs.lemmas.List.{length-map, take_all}
+use Rattle.std.proofs.lemmas.List.{length-map, length-take, take_all}
 use Rattle.lert_bay.specs.declared.bay.TheConstants.{FRAMES}
 use Rattle.lert_bay.specs.Files.{Files, IfTold}
 use Rattle.lert_flush.specs.Merged.{AreParts, picked}
@@ -31,6 +31,7 @@ use Rattle.lert_levels.proofs.FlushLaws.{made_at}
 use Rattle.lert_levels.proofs.PartLaws.{some_streams}
 use Rattle.lert_levels.proofs.PickLaws.{picked_part}
 use Rattle.lert_levels.proofs.PlacedLaws.{begun_reads}
+use Rattle.lert_levels.proofs.ReadyLaws.{first_landings, first_started}
 use Rattle.lert_levels.proofs.SourceLaws.{begun_length, begun_limit, begun_width, begun_told, sources_length, sources_pieces, sources_widths, sources_stand, bins_from}
 use Rattle.lert_rows.specs.Rows.{IsRow}
 
@@ -98,39 +99,50 @@ item_at : (landings : List Landing) (k : ℕ) → k < length landings → Landin
 item_at [] k below = absurd (omega (arith, below))
 item_at (l ∷ landings) k below = l
 
--- parts as they were laid, by other words for the settings and the streams
-pub laid_parts : (s t : Numbers) (m young count : ℕ) (rows : List (List BinAt)) (n : ℕ) (parts : List (Option ℕ)) → t ≡ s → count ≡ young → length rows ≡ n →
-    ArePartsOf t m count rows (streams_to count rows n) n parts → ArePartsOf s m young rows (streams_to young rows (length rows)) (length rows) parts
-laid_parts s t m young count rows n parts settings same number are =
-    subst (λ (k : ℕ). ArePartsOf s m young rows (streams_to young rows k) k parts) (sym number)
-    (subst (λ (y : ℕ). ArePartsOf s m y rows (streams_to y rows n) n parts) same
-    (subst (λ (r : Numbers). ArePartsOf r m count rows (streams_to count rows n) n parts) settings are))
+-- the parts and the landings of a merge, once they are laid and started
+pub record AreLaid (s : Numbers) (m : ℕ) (young : List Bin) (rows : List (List BinAt)) (parts : List (Option ℕ)) (landings : List Landing) : Type 0 where
+  pub of_parts : ArePartsOf s m (length young) rows (streams_to (length young) rows (length rows)) (length rows) parts
+  pub are : AreLandings s landings
+  pub started : AreStarted s m rows landings
+  pub count : length landings ≡ length rows
 
-module _ (s : Numbers) (m : ℕ) (young : List Bin) (rows : List (List BinAt)) (reached : AreReached s m young rows) (parts : List (Option ℕ))
-    (of_parts : ArePartsOf s m (length young) rows (streams_to (length young) rows (length rows)) (length rows) parts) (landings : List Landing) (are : AreLandings s landings)
-    (started : AreStarted s m rows landings) (count : length landings ≡ length rows) where
+-- by other words for the settings and the numbers, of the first ones of all landings
+pub laid : (s t : Numbers) (m count : ℕ) (young : List Bin) (rows : List (List BinAt)) (n : ℕ) (parts : List (Option ℕ)) (all : List Landing) → t ≡ s → count ≡ length young →
+    length rows ≡ n → n ≤ length all → ArePartsOf t m count rows (streams_to count rows n) n parts → AreLandings t all → AreStarted t m rows all →
+    AreLaid s m young rows parts (take n all)
+laid s t m count young rows n parts all settings same number enough are landings started = record {
+  of_parts = subst (λ (k : ℕ). ArePartsOf s m (length young) rows (streams_to (length young) rows k) k parts) (sym number)
+      (subst (λ (y : ℕ). ArePartsOf s m y rows (streams_to y rows n) n parts) same
+      (subst (λ (r : Numbers). ArePartsOf r m count rows (streams_to count rows n) n parts) settings are));
+  are = first_landings s n all (subst (λ (r : Numbers). AreLandings r all) settings landings);
+  started = first_started s m rows n all (omega (arith, number)) (subst (λ (r : Numbers). AreStarted r m rows all) settings started);
+  count = omega (arith, length-take n all, enough, number);
+}
+
+module _ (s : Numbers) (m : ℕ) (young : List Bin) (rows : List (List BinAt)) (reached : AreReached s m young rows) (parts : List (Option ℕ)) (landings : List Landing)
+    (laid : AreLaid s m young rows parts landings) where
   pub parts_are : (streams : ℕ) → streams ≡ streams_to (length young) rows (length rows) → AreParts parts streams (length landings)
   parts_are streams number = record {
-    len = of_parts.len ∙ sym number;
+    len = laid.of_parts.len ∙ sym number;
     within = λ k below. some_streams (get_or parts k None) (get_or parts k None) (λ part. part < length landings) refl
-        (λ part is. omega (arith, (of_parts.no_other k part is).0, count));
+        (λ part is. omega (arith, (laid.of_parts.no_other k part is).0, laid.count));
   }
 
   pub part_fits : (part : ℕ) → part < length landings → sum (picked parts part (widths_of young rows)) ≤ span s (part + 1)
   part_fits part below =
-      let within : part < length rows = omega (arith, below, count) in
+      let within : part < length rows = omega (arith, below, laid.count) in
       subst (λ ws. sum ws ≤ span s (part + 1))
-      (sym (picked_part s m (length young) rows reached.some reached.parts parts (widths_of young rows) 0 of_parts (widths_number young rows) part within)) (reached.fits part within)
+      (sym (picked_part s m (length young) rows reached.some reached.parts parts (widths_of young rows) 0 laid.of_parts (widths_number young rows) part within)) (reached.fits part within)
 
   -- a range apart from the rows' new frames is apart from the landings
   pub apart_landings : (from to : ℕ) → RowsApart s m rows from to → AreApart landings from to
   apart_landings from to apart k d below =
-      let within : k < length rows = omega (arith, below, count) in
-      let is = are k d below in
+      let within : k < length rows = omega (arith, below, laid.count) in
+      let is = laid.are k d below in
       let l = get_or landings k d in
       subst (λ (t : Numbers). IsApart t l.writer.level l.frame from to) (sym is.settings)
       (subst (λ (level : ℕ). IsApart s level l.frame from to) (sym is.level_is)
-      (subst (λ (frame : ℕ). IsApart s (k + 1) frame from to) (sym (started.frame k d within)) (apart k within)))
+      (subst (λ (frame : ℕ). IsApart s (k + 1) frame from to) (sym (laid.started.frame k d within)) (apart k within)))
 
   pub reads_apart : (bins : List Stream) → AreBegun s (sources young rows) bins → (from to : ℕ) → Reads bins from to → AreApart landings from to
   reads_apart bins begun from to reads = apart_landings from to (reached.apart from to (begun_reads s young rows bins from to reached.few begun reads))
@@ -145,11 +157,11 @@ module _ (s : Numbers) (m : ℕ) (young : List Bin) (rows : List (List BinAt)) (
     made = map (part_table lists) (parts_at s m (length young) rows);
     is = is;
     landed = λ seen told k below. (
-        let within : k < length landings = omega (arith, below, count) in
+        let within : k < length landings = omega (arith, below, laid.count) in
         let part_is : get_or (map (part_table lists) (parts_at s m (length young) rows)) k [] ≡ sums_of (picked parts k lists) =
         made_at lists s m (length young) rows (map (part_table lists) (parts_at s m (length young) rows)) refl k below
-        ∙ ap sums_of (sym (picked_part s m (length young) rows reached.some reached.parts parts lists [] of_parts number k below)) in
+        ∙ ap sums_of (sym (picked_part s m (length young) rows reached.some reached.parts parts lists [] laid.of_parts number k below)) in
         let some = item_at landings k within in
         subst (HoldsFrame s (k + 1) (landing_frame s m rows k) (seen FRAMES)) (sym part_is)
-        (subst (λ (frame : ℕ). HoldsFrame s (k + 1) frame (seen FRAMES) (sums_of (picked parts k lists))) (started.frame k some below) (stand seen told k some within)));
+        (subst (λ (frame : ℕ). HoldsFrame s (k + 1) frame (seen FRAMES) (sums_of (picked parts k lists))) (laid.started.frame k some below) (stand seen told k some within)));
   }

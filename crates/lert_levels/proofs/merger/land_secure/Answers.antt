@@ -1,27 +1,30 @@
-use Rattle.std.proofs.Common.{ℕ, ◌≡◌, ◌+◌, ◌*◌, ◌≤◌, ◌∙◌, List, vec_capacity, map, take, length, length-take, get_or, sym, subst, arith, Option, []}
+use Rattle.std.proofs.Common.{ℕ, ◌≡◌, ◌+◌, ◌*◌, ◌≤◌, ◌∙◌, List, vec_capacity, map, take, length, get_or, sym, subst, arith, Option, Some, []}
 use Rattle.std.proofs.lemmas.List.{length-map, length-take-le}
 use Rattle.lert_bay.specs.declared.bay.TheConstants.{FRAMES}
+use Rattle.lert_bay.specs.Files.{Files}
 use Rattle.lert_bay.specs.Kept.{Bays}
 use Rattle.lert_bay.proofs.KeptLaws.{IsLawful}
 use Rattle.lert_frames.specs.Frame.{HoldsFrame}
 use Rattle.lert_landing.specs.Summed.{sums_of}
 use Rattle.lert_spec.specs.Edges.{span, capacity}
-use Rattle.std.specs.Prelude.{sum}
+use Rattle.std.specs.Prelude.{IsErrOf, sum}
 use Rattle.lert_flush.specs.Merged.{AreParts, picked}
 use Rattle.lert_landing.specs.Landings.{AreLandings, AreApart}
 use Rattle.lert_frames.proofs.WriteLaws.{turns_back}
 use Rattle.lert_rows.specs.Landing.{LeavesRest, AreApart as RowsApart}
+use Rattle.lert_rows.specs.declared.fault.FlushFault.TheVariants.{Malformed}
+use Rattle.lert_rows.specs.Loading.{OneBreaks}
 use Rattle.lert_rows.specs.Rows.{IsRow}
 use Rattle.lert_rows.proofs.LandLaws.{rest_fewer}
 use Rattle.lert_spec.specs.Limits.{IsValid}
 use Rattle.lert_spec.specs.declared.numbers.Numbers.{Numbers}
 use Rattle.lert_levels.specs.Merged.{widths_of}
-use Rattle.lert_levels.specs.Parts.{streams_to, parts_at, ArePartsOf}
-use Rattle.lert_levels.specs.Ready.{AreStarted, HasMade}
+use Rattle.lert_levels.specs.Parts.{parts_at}
+use Rattle.lert_levels.specs.Ready.{HasMade}
 use Rattle.lert_levels.specs.Sources.{sources}
-use Rattle.lert_levels.proofs.LandedLaws.{on_ok, laid_parts, begun_number, widths_number, begun_wide, made_of, parts_are, part_fits, apart_landings, reads_apart, has_made}
+use Rattle.lert_levels.proofs.LandedLaws.{on_ok, laid, begun_number, widths_number, begun_wide, made_of, parts_are, part_fits, apart_landings, reads_apart, has_made}
 use Rattle.lert_levels.proofs.PlacedLaws.{begun_breaks, begun_sure, breaks_stay}
-use Rattle.lert_levels.proofs.ReadyLaws.{landings_same, same_count, first_landings, first_started, rest_landings, rest_count}
+use Rattle.lert_levels.proofs.ReadyLaws.{landings_same, same_count, rest_landings, rest_count}
 use Rattle.lert_levels.proofs.SourceLaws.{begun_given, begun_limit, widths_small}
 use Rattle.lert_levels.proofs.merger.land_secure.Given as given
 use Rattle.lert_levels.proofs.merger.land_secure.Goals as goal
@@ -55,267 +58,6 @@ lay_parts-requires-clause-rows g c k below =
 
 pub begin_order-order-requires-clause-rows : goal.begin_order-order-requires-clause-rows
 begin_order-order-requires-clause-rows g c k below = c.requires.reached.are k (omega (arith, below, length-map c.args.rows.now (λ row. row.items)))
-
-pub land_bins-landed-requires-clause-unread : goal.land_bins-landed-requires-clause-unread
-land_bins-landed-requires-clause-unread g c =
-    let s = c.args.zero.now.settings in
-    let m = c.args.m in
-    let young = c.args.zero.now.bins in
-    let rows = map (λ row. row.items) c.args.rows.now in
-    record {
-      given = λ k below. begun_given s (sources young rows) c.begin_order-order.result.streams.bins k c.begin_order-order.ensures.begun;
-      counts = c.begin_order-order.ensures.counts;
-      last = c.begin_order-order.ensures.last;
-    }
-
-pub land_bins-landed-requires-clause-parts : goal.land_bins-landed-requires-clause-parts
-land_bins-landed-requires-clause-parts g c =
-    let s = c.args.zero.now.settings in
-    let m = c.args.m in
-    let young = c.args.zero.now.bins in
-    let rows = map (λ row. row.items) c.args.rows.now in
-    let bins = c.begin_order-order.result.streams.bins in
-    let begun = c.begin_order-order.ensures.begun in
-    let counted = length-map c.args.rows.now (λ row. row.items) in
-    let parts : ArePartsOf s m (length young) rows (streams_to (length young) rows (length rows)) (length rows) c.lay_parts.new.parts.items =
-    laid_parts s c.settings-settings.result.now m (length young) c.len.result rows (length c.args.rows.now) c.lay_parts.new.parts.items c.settings-settings.ensures c.len.ensures.count counted
-    c.lay_parts.ensures.parts in
-    let all = c.start_landings.new.landings in
-    let landings = take (length c.args.rows.now) all in
-    let are_all : AreLandings s all = subst (λ (t : Numbers). AreLandings t all) c.settings-settings.ensures c.start_landings.ensures.landings in
-    let are : AreLandings s landings = first_landings s (length c.args.rows.now) all are_all in
-    let started : AreStarted s m rows landings = first_started s m rows (length c.args.rows.now) all (omega (arith, counted))
-    (subst (λ (t : Numbers). AreStarted t m rows all) c.settings-settings.ensures c.start_landings.ensures.started) in
-    let count : length landings ≡ length rows = omega (arith, length-take (length c.args.rows.now) all, c.start_landings.ensures.len, c.requires.enough, counted) in
-    let reached = c.requires.reached in
-    subst (λ ps. AreParts ps (length bins) (length landings)) (sym c.deref.ensures.value)
-    (parts_are s m young rows reached c.lay_parts.new.parts.items parts landings are started count (length bins) (begun_number s young rows bins begun))
-
-pub land_bins-landed-requires-clause-room : goal.land_bins-landed-requires-clause-room
-land_bins-landed-requires-clause-room g c =
-    let s = c.args.zero.now.settings in
-    let m = c.args.m in
-    let young = c.args.zero.now.bins in
-    let rows = map (λ row. row.items) c.args.rows.now in
-    let bins = c.begin_order-order.result.streams.bins in
-    let begun = c.begin_order-order.ensures.begun in
-    let counted = length-map c.args.rows.now (λ row. row.items) in
-    let parts : ArePartsOf s m (length young) rows (streams_to (length young) rows (length rows)) (length rows) c.lay_parts.new.parts.items =
-    laid_parts s c.settings-settings.result.now m (length young) c.len.result rows (length c.args.rows.now) c.lay_parts.new.parts.items c.settings-settings.ensures c.len.ensures.count counted
-    c.lay_parts.ensures.parts in
-    let all = c.start_landings.new.landings in
-    let landings = take (length c.args.rows.now) all in
-    let are_all : AreLandings s all = subst (λ (t : Numbers). AreLandings t all) c.settings-settings.ensures c.start_landings.ensures.landings in
-    let are : AreLandings s landings = first_landings s (length c.args.rows.now) all are_all in
-    let started : AreStarted s m rows landings = first_started s m rows (length c.args.rows.now) all (omega (arith, counted))
-    (subst (λ (t : Numbers). AreStarted t m rows all) c.settings-settings.ensures c.start_landings.ensures.started) in
-    let count : length landings ≡ length rows = omega (arith, length-take (length c.args.rows.now) all, c.start_landings.ensures.len, c.requires.enough, counted) in
-    let reached = c.requires.reached in
-    let valid : IsValid s = subst IsValid (c.numbers-valid.ensures.value ∙ c.settings-settings.ensures) c.numbers-valid.ensures.valid in
-    record {
-      settings = s;
-      landings_are = are;
-      limits = λ k below. omega (arith, begun_limit s (sources young rows) bins k begun below);
-      widths = widths_of young rows;
-      wide = record {
-        len = widths_number young rows ∙ sym (begun_number s young rows bins begun);
-        each = λ k below. begun_wide s young rows bins k begun;
-        all = widths_small s valid young rows (omega (arith, c.len.ensures.few, c.len.ensures.count)) reached.few reached.narrow reached.are;
-      };
-      fits = λ part below. subst (λ (ps : List (Option ℕ)). sum (picked ps part (widths_of young rows)) ≤ span s (part + 1)) (sym c.deref.ensures.value)
-          (part_fits s m young rows reached c.lay_parts.new.parts.items parts landings are started count part below);
-      empty = λ part d below. started.empty part d (omega (arith, below, count));
-    }
-
-pub land_bins-landed-requires-clause-apart : goal.land_bins-landed-requires-clause-apart
-land_bins-landed-requires-clause-apart g c =
-    let s = c.args.zero.now.settings in
-    let m = c.args.m in
-    let young = c.args.zero.now.bins in
-    let rows = map (λ row. row.items) c.args.rows.now in
-    let bins = c.begin_order-order.result.streams.bins in
-    let begun = c.begin_order-order.ensures.begun in
-    let counted = length-map c.args.rows.now (λ row. row.items) in
-    let parts : ArePartsOf s m (length young) rows (streams_to (length young) rows (length rows)) (length rows) c.lay_parts.new.parts.items =
-    laid_parts s c.settings-settings.result.now m (length young) c.len.result rows (length c.args.rows.now) c.lay_parts.new.parts.items c.settings-settings.ensures c.len.ensures.count counted
-    c.lay_parts.ensures.parts in
-    let all = c.start_landings.new.landings in
-    let landings = take (length c.args.rows.now) all in
-    let are_all : AreLandings s all = subst (λ (t : Numbers). AreLandings t all) c.settings-settings.ensures c.start_landings.ensures.landings in
-    let are : AreLandings s landings = first_landings s (length c.args.rows.now) all are_all in
-    let started : AreStarted s m rows landings = first_started s m rows (length c.args.rows.now) all (omega (arith, counted))
-    (subst (λ (t : Numbers). AreStarted t m rows all) c.settings-settings.ensures c.start_landings.ensures.started) in
-    let count : length landings ≡ length rows = omega (arith, length-take (length c.args.rows.now) all, c.start_landings.ensures.len, c.requires.enough, counted) in
-    let reached = c.requires.reached in
-    reads_apart s m young rows reached c.lay_parts.new.parts.items parts landings are started count bins begun
-
-pub land_bins-landed-requires-clause-sure : goal.land_bins-landed-requires-clause-sure
-land_bins-landed-requires-clause-sure g c seen told =
-    let s = c.args.zero.now.settings in
-    let m = c.args.m in
-    let young = c.args.zero.now.bins in
-    let rows = map (λ row. row.items) c.args.rows.now in
-    begun_sure s (seen FRAMES) young rows c.begin_order-order.result.streams.bins c.begin_order-order.ensures.begun (c.requires.secure seen told)
-
-pub land_bins-landed-requires-clause-landing : goal.land_bins-landed-requires-clause-landing
-land_bins-landed-requires-clause-landing g c seen told k d below =
-    let s = c.args.zero.now.settings in
-    let m = c.args.m in
-    let young = c.args.zero.now.bins in
-    let rows = map (λ row. row.items) c.args.rows.now in
-    let bins = c.begin_order-order.result.streams.bins in
-    let begun = c.begin_order-order.ensures.begun in
-    let counted = length-map c.args.rows.now (λ row. row.items) in
-    let parts : ArePartsOf s m (length young) rows (streams_to (length young) rows (length rows)) (length rows) c.lay_parts.new.parts.items =
-    laid_parts s c.settings-settings.result.now m (length young) c.len.result rows (length c.args.rows.now) c.lay_parts.new.parts.items c.settings-settings.ensures c.len.ensures.count counted
-    c.lay_parts.ensures.parts in
-    let all = c.start_landings.new.landings in
-    let landings = take (length c.args.rows.now) all in
-    let are_all : AreLandings s all = subst (λ (t : Numbers). AreLandings t all) c.settings-settings.ensures c.start_landings.ensures.landings in
-    let are : AreLandings s landings = first_landings s (length c.args.rows.now) all are_all in
-    let started : AreStarted s m rows landings = first_started s m rows (length c.args.rows.now) all (omega (arith, counted))
-    (subst (λ (t : Numbers). AreStarted t m rows all) c.settings-settings.ensures c.start_landings.ensures.started) in
-    let count : length landings ≡ length rows = omega (arith, length-take (length c.args.rows.now) all, c.start_landings.ensures.len, c.requires.enough, counted) in
-    let reached = c.requires.reached in
-    started.landing k d (omega (arith, below, count)) (seen FRAMES)
-
-pub returns-clause-landings : goal.returns-clause-landings
-returns-clause-landings g c =
-    let s = c.args.zero.now.settings in
-    let m = c.args.m in
-    let young = c.args.zero.now.bins in
-    let rows = map (λ row. row.items) c.args.rows.now in
-    let bins = c.begin_order-order.result.streams.bins in
-    let begun = c.begin_order-order.ensures.begun in
-    let counted = length-map c.args.rows.now (λ row. row.items) in
-    let parts : ArePartsOf s m (length young) rows (streams_to (length young) rows (length rows)) (length rows) c.lay_parts.new.parts.items =
-    laid_parts s c.settings-settings.result.now m (length young) c.len.result rows (length c.args.rows.now) c.lay_parts.new.parts.items c.settings-settings.ensures c.len.ensures.count counted
-    c.lay_parts.ensures.parts in
-    let all = c.start_landings.new.landings in
-    let landings = take (length c.args.rows.now) all in
-    let are_all : AreLandings s all = subst (λ (t : Numbers). AreLandings t all) c.settings-settings.ensures c.start_landings.ensures.landings in
-    let are : AreLandings s landings = first_landings s (length c.args.rows.now) all are_all in
-    let started : AreStarted s m rows landings = first_started s m rows (length c.args.rows.now) all (omega (arith, counted))
-    (subst (λ (t : Numbers). AreStarted t m rows all) c.settings-settings.ensures c.start_landings.ensures.started) in
-    let count : length landings ≡ length rows = omega (arith, length-take (length c.args.rows.now) all, c.start_landings.ensures.len, c.requires.enough, counted) in
-    let reached = c.requires.reached in
-    let new = c.land_bins-landed.new.landings in
-    let same = same_count landings new c.land_bins-landed.ensures.homes in
-    rest_landings s (length c.args.rows.now) new all (omega (arith, same, count, counted)) (landings_same landings new c.land_bins-landed.ensures.homes s are) are_all
-
-pub returns-clause-count : goal.returns-clause-count
-returns-clause-count g c =
-    let s = c.args.zero.now.settings in
-    let m = c.args.m in
-    let young = c.args.zero.now.bins in
-    let rows = map (λ row. row.items) c.args.rows.now in
-    let bins = c.begin_order-order.result.streams.bins in
-    let begun = c.begin_order-order.ensures.begun in
-    let counted = length-map c.args.rows.now (λ row. row.items) in
-    let parts : ArePartsOf s m (length young) rows (streams_to (length young) rows (length rows)) (length rows) c.lay_parts.new.parts.items =
-    laid_parts s c.settings-settings.result.now m (length young) c.len.result rows (length c.args.rows.now) c.lay_parts.new.parts.items c.settings-settings.ensures c.len.ensures.count counted
-    c.lay_parts.ensures.parts in
-    let all = c.start_landings.new.landings in
-    let landings = take (length c.args.rows.now) all in
-    let are_all : AreLandings s all = subst (λ (t : Numbers). AreLandings t all) c.settings-settings.ensures c.start_landings.ensures.landings in
-    let are : AreLandings s landings = first_landings s (length c.args.rows.now) all are_all in
-    let started : AreStarted s m rows landings = first_started s m rows (length c.args.rows.now) all (omega (arith, counted))
-    (subst (λ (t : Numbers). AreStarted t m rows all) c.settings-settings.ensures c.start_landings.ensures.started) in
-    let count : length landings ≡ length rows = omega (arith, length-take (length c.args.rows.now) all, c.start_landings.ensures.len, c.requires.enough, counted) in
-    let reached = c.requires.reached in
-    let new = c.land_bins-landed.new.landings in
-    let same = same_count landings new c.land_bins-landed.ensures.homes in
-    rest_count (length c.args.rows.now) new all (omega (arith, same, count, counted)) (omega (arith, c.start_landings.ensures.len, c.requires.enough)) ∙ c.start_landings.ensures.len
-
-pub returns-clause-malformed : goal.returns-clause-malformed
-returns-clause-malformed g c seen told at is =
-    let s = c.args.zero.now.settings in
-    let m = c.args.m in
-    let young = c.args.zero.now.bins in
-    let rows = map (λ row. row.items) c.args.rows.now in
-    let breaks = c.land_bins-landed.ensures.malformed at is in
-    begun_breaks s young rows c.begin_order-order.result.streams.bins breaks.stream at (g.B.Bay.files c.args.bay.now) seen told c.begin_order-order.ensures.begun breaks.at_it
-
-pub returns-clause-malformed_after : goal.returns-clause-malformed_after
-returns-clause-malformed_after g c later told at is =
-    let s = c.args.zero.now.settings in
-    let m = c.args.m in
-    let young = c.args.zero.now.bins in
-    let rows = map (λ row. row.items) c.args.rows.now in
-    let bins = c.begin_order-order.result.streams.bins in
-    let begun = c.begin_order-order.ensures.begun in
-    let counted = length-map c.args.rows.now (λ row. row.items) in
-    let parts : ArePartsOf s m (length young) rows (streams_to (length young) rows (length rows)) (length rows) c.lay_parts.new.parts.items =
-    laid_parts s c.settings-settings.result.now m (length young) c.len.result rows (length c.args.rows.now) c.lay_parts.new.parts.items c.settings-settings.ensures c.len.ensures.count counted
-    c.lay_parts.ensures.parts in
-    let all = c.start_landings.new.landings in
-    let landings = take (length c.args.rows.now) all in
-    let are_all : AreLandings s all = subst (λ (t : Numbers). AreLandings t all) c.settings-settings.ensures c.start_landings.ensures.landings in
-    let are : AreLandings s landings = first_landings s (length c.args.rows.now) all are_all in
-    let started : AreStarted s m rows landings = first_started s m rows (length c.args.rows.now) all (omega (arith, counted))
-    (subst (λ (t : Numbers). AreStarted t m rows all) c.settings-settings.ensures c.start_landings.ensures.started) in
-    let count : length landings ≡ length rows = omega (arith, length-take (length c.args.rows.now) all, c.start_landings.ensures.len, c.requires.enough, counted) in
-    let reached = c.requires.reached in
-    let back = turns_back (LeavesRest (AreApart landings)) (g.B.Bay.files c.args.bay.now) (g.B.Bay.files c.land_bins-landed.new.bay) later c.land_bins-landed.ensures.rest.seen told in
-    breaks_stay s rows back.0 later at (c.requires.secure back.0 back.1) (AreApart landings)
-    (λ from to inside. apart_landings s m young rows reached c.lay_parts.new.parts.items parts landings are started count from to (reached.apart from to inside)) reached.few
-    back.2 (returns-clause-malformed g c back.0 back.1 at is)
-
-pub returns-clause-made : goal.returns-clause-made
-returns-clause-made g c =
-    let s = c.args.zero.now.settings in
-    let m = c.args.m in
-    let young = c.args.zero.now.bins in
-    let rows = map (λ row. row.items) c.args.rows.now in
-    let bins = c.begin_order-order.result.streams.bins in
-    let begun = c.begin_order-order.ensures.begun in
-    let counted = length-map c.args.rows.now (λ row. row.items) in
-    let parts : ArePartsOf s m (length young) rows (streams_to (length young) rows (length rows)) (length rows) c.lay_parts.new.parts.items =
-    laid_parts s c.settings-settings.result.now m (length young) c.len.result rows (length c.args.rows.now) c.lay_parts.new.parts.items c.settings-settings.ensures c.len.ensures.count counted
-    c.lay_parts.ensures.parts in
-    let all = c.start_landings.new.landings in
-    let landings = take (length c.args.rows.now) all in
-    let are_all : AreLandings s all = subst (λ (t : Numbers). AreLandings t all) c.settings-settings.ensures c.start_landings.ensures.landings in
-    let are : AreLandings s landings = first_landings s (length c.args.rows.now) all are_all in
-    let started : AreStarted s m rows landings = first_started s m rows (length c.args.rows.now) all (omega (arith, counted))
-    (subst (λ (t : Numbers). AreStarted t m rows all) c.settings-settings.ensures c.start_landings.ensures.started) in
-    let count : length landings ≡ length rows = omega (arith, length-take (length c.args.rows.now) all, c.start_landings.ensures.len, c.requires.enough, counted) in
-    let reached = c.requires.reached in
-    let valid : IsValid s = subst IsValid (c.numbers-valid.ensures.value ∙ c.settings-settings.ensures) c.numbers-valid.ensures.valid in
-    let took = g.O.Totals.took c.land_bins-landed.new.totals in
-    let before = g.B.Bay.files c.args.bay.now in
-    let after = g.B.Bay.files c.land_bins-landed.new.bay in
-    on_ok c.land_bins-landed.result _ (HasMade s m young rows took before after)
-    (λ landed. has_made s m young rows reached c.lay_parts.new.parts.items parts landings are started count took before after landed.lists
-    (landed.all.len ∙ begun_number s young rows bins begun)
-    (made_of s valid young rows reached.few reached.are bins begun took before landed.lists landed.all.len landed.all.given landed.all.fits landed.all.totals_are
-    (λ all len told. landed.all.told all (record { len = len; told = told })) (parts_at s m (length young) rows))
-    (λ seen told k d below. subst (λ (ps : List (Option ℕ)). HoldsFrame s (k + 1) (get_or landings k d).frame (seen FRAMES) (sums_of (picked ps k landed.lists))) c.deref.ensures.value
-    (landed.stand s are seen told k d below)))
-    c.land_bins-landed.ensures.landed
-
-pub returns-clause-rest : goal.returns-clause-rest
-returns-clause-rest g c =
-    let s = c.args.zero.now.settings in
-    let m = c.args.m in
-    let young = c.args.zero.now.bins in
-    let rows = map (λ row. row.items) c.args.rows.now in
-    let bins = c.begin_order-order.result.streams.bins in
-    let begun = c.begin_order-order.ensures.begun in
-    let counted = length-map c.args.rows.now (λ row. row.items) in
-    let parts : ArePartsOf s m (length young) rows (streams_to (length young) rows (length rows)) (length rows) c.lay_parts.new.parts.items =
-    laid_parts s c.settings-settings.result.now m (length young) c.len.result rows (length c.args.rows.now) c.lay_parts.new.parts.items c.settings-settings.ensures c.len.ensures.count counted
-    c.lay_parts.ensures.parts in
-    let all = c.start_landings.new.landings in
-    let landings = take (length c.args.rows.now) all in
-    let are_all : AreLandings s all = subst (λ (t : Numbers). AreLandings t all) c.settings-settings.ensures c.start_landings.ensures.landings in
-    let are : AreLandings s landings = first_landings s (length c.args.rows.now) all are_all in
-    let started : AreStarted s m rows landings = first_started s m rows (length c.args.rows.now) all (omega (arith, counted))
-    (subst (λ (t : Numbers). AreStarted t m rows all) c.settings-settings.ensures c.start_landings.ensures.started) in
-    let count : length landings ≡ length rows = omega (arith, length-take (length c.args.rows.now) all, c.start_landings.ensures.len, c.requires.enough, counted) in
-    let reached = c.requires.reached in
-    rest_fewer (bays g) (AreApart landings) (RowsApart s m rows) c.args.bay.now c.land_bins-landed.new.bay
-    (apart_landings s m young rows reached c.lay_parts.new.parts.items parts landings are started count) c.land_bins-landed.ensures.rest
 
 pub start_landings-requires-clause-first : goal.start_landings-requires-clause-first
 start_landings-requires-clause-first g c = c.requires.first
@@ -359,20 +101,107 @@ begin_order-order-requires-clause-few g c =
 pub slice_bounds-first-end : goal.slice_bounds-first-end
 slice_bounds-first-end g c = subst (λ n. length c.args.rows.now ≤ n) (sym c.start_landings.ensures.len) c.requires.enough
 
-pub land_bins-landed-requires-clause-totals : goal.land_bins-landed-requires-clause-totals
-land_bins-landed-requires-clause-totals g c = c.requires.none_taken
-
-pub returns-clause-room : goal.returns-clause-room
-returns-clause-room g c = c.end_order.ensures.room ∙ c.land_bins-landed.ensures.streams.settings ∙ c.begin_order-order.ensures.settings
-
-pub returns-clause-ahead : goal.returns-clause-ahead
-returns-clause-ahead g c = c.end_order.ensures.ahead ∙ c.land_bins-landed.ensures.ahead ∙ c.begin_order-order.ensures.room
-
-pub returns-clause-parts : goal.returns-clause-parts
-returns-clause-parts g c = c.lay_parts.ensures.room
-
-pub returns-clause-kept : goal.returns-clause-kept
-returns-clause-kept g c = c.land_bins-landed.ensures.kept
-
 pub slice_bounds-first-end-2 : goal.slice_bounds-first-end-2
 slice_bounds-first-end-2 g c = sym (length-take-le _ c.start_landings.new.landings (omega (arith, c.start_landings.ensures.len, c.requires.enough)))
+
+-- ---- what the merge is given
+
+pub land_bins-landed-requires : goal.land_bins-landed-requires
+land_bins-landed-requires g c =
+    let s = c.args.zero.now.settings in
+    let m = c.args.m in
+    let young = c.args.zero.now.bins in
+    let rows = map (λ row. row.items) c.args.rows.now in
+    let bins = c.begin_order-order.result.streams.bins in
+    let begun = c.begin_order-order.ensures.begun in
+    let settings = c.settings-settings.ensures in
+    let counted = length-map c.args.rows.now (λ row. row.items) in
+    let reached = c.requires.reached in
+    let valid : IsValid s = subst IsValid (c.numbers-valid.ensures.value ∙ settings) c.numbers-valid.ensures.valid in
+    let parts = c.lay_parts.new.parts.items in
+    let all = c.start_landings.new.landings in
+    let n = length c.args.rows.now in
+    let landings = take n all in
+    let laid = laid s c.settings-settings.result.now m c.len.result young rows n parts all settings c.len.ensures.count counted
+    (omega (arith, c.start_landings.ensures.len, c.requires.enough)) c.lay_parts.ensures.parts c.start_landings.ensures.landings c.start_landings.ensures.started in
+    record {
+      unread = record {
+        given = λ k below. begun_given s (sources young rows) bins k begun;
+        counts = c.begin_order-order.ensures.counts;
+        last = c.begin_order-order.ensures.last;
+      };
+      parts = subst (λ ps. AreParts ps (length bins) (length landings)) (sym c.deref.ensures.value)
+          (parts_are s m young rows reached parts landings laid (length bins) (begun_number s young rows bins begun));
+      room = record {
+        settings = s;
+        landings_are = laid.are;
+        limits = λ k below. omega (arith, begun_limit s (sources young rows) bins k begun below);
+        widths = widths_of young rows;
+        wide = record {
+          len = widths_number young rows ∙ sym (begun_number s young rows bins begun);
+          each = λ k below. begun_wide s young rows bins k begun;
+          all = widths_small s valid young rows (omega (arith, c.len.ensures.few, c.len.ensures.count)) reached.few reached.narrow reached.are;
+        };
+        fits = λ part below. subst (λ (ps : List (Option ℕ)). sum (picked ps part (widths_of young rows)) ≤ span s (part + 1)) (sym c.deref.ensures.value)
+            (part_fits s m young rows reached parts landings laid part below);
+        empty = λ part d below. laid.started.empty part d (omega (arith, below, laid.count));
+      };
+      apart = reads_apart s m young rows reached parts landings laid bins begun;
+      sure = λ seen told. begun_sure s (seen FRAMES) young rows bins begun (c.requires.secure seen told);
+      totals = c.requires.none_taken;
+      landing = λ seen told k d below. laid.started.landing k d (omega (arith, below, laid.count)) (seen FRAMES);
+    }
+
+-- ---- what it leaves
+
+pub returns : goal.returns
+returns g c =
+    let s = c.args.zero.now.settings in
+    let m = c.args.m in
+    let young = c.args.zero.now.bins in
+    let rows = map (λ row. row.items) c.args.rows.now in
+    let bins = c.begin_order-order.result.streams.bins in
+    let begun = c.begin_order-order.ensures.begun in
+    let settings = c.settings-settings.ensures in
+    let counted = length-map c.args.rows.now (λ row. row.items) in
+    let reached = c.requires.reached in
+    let valid : IsValid s = subst IsValid (c.numbers-valid.ensures.value ∙ settings) c.numbers-valid.ensures.valid in
+    let parts = c.lay_parts.new.parts.items in
+    let all = c.start_landings.new.landings in
+    let n = length c.args.rows.now in
+    let landings = take n all in
+    let laid = laid s c.settings-settings.result.now m c.len.result young rows n parts all settings c.len.ensures.count counted
+    (omega (arith, c.start_landings.ensures.len, c.requires.enough)) c.lay_parts.ensures.parts c.start_landings.ensures.landings c.start_landings.ensures.started in
+    let new = c.land_bins-landed.new.landings in
+    let same = same_count landings new c.land_bins-landed.ensures.homes in
+    let took = g.O.Totals.took c.land_bins-landed.new.totals in
+    let before = g.B.Bay.files c.args.bay.now in
+    let after = g.B.Bay.files c.land_bins-landed.new.bay in
+    let malformed : (seen : Files) → before ≡ Some seen → (at : ℕ) → IsErrOf c.land_bins-landed.result (Malformed at) → OneBreaks s rows (seen FRAMES) at = λ seen told at is.
+    let breaks = c.land_bins-landed.ensures.malformed at is in
+    begun_breaks s young rows bins breaks.stream at before seen told begun breaks.at_it in
+    record {
+      room = c.end_order.ensures.room ∙ c.land_bins-landed.ensures.streams.settings ∙ c.begin_order-order.ensures.settings;
+      ahead = c.end_order.ensures.ahead ∙ c.land_bins-landed.ensures.ahead ∙ c.begin_order-order.ensures.room;
+      landings = rest_landings s n new all (omega (arith, same, laid.count, counted)) (landings_same landings new c.land_bins-landed.ensures.homes s laid.are)
+          (subst (λ (t : Numbers). AreLandings t all) settings c.start_landings.ensures.landings);
+      count = rest_count n new all (omega (arith, same, laid.count, counted)) (omega (arith, c.start_landings.ensures.len, c.requires.enough)) ∙ c.start_landings.ensures.len;
+      parts = c.lay_parts.ensures.room;
+      made = on_ok c.land_bins-landed.result _ (HasMade s m young rows took before after)
+          (λ landed. has_made s m young rows reached parts landings laid took before after landed.lists
+          (landed.all.len ∙ begun_number s young rows bins begun)
+          (made_of s valid young rows reached.few reached.are bins begun took before landed.lists landed.all.len landed.all.given landed.all.fits landed.all.totals_are
+          (λ all len told. landed.all.told all (record { len = len; told = told })) (parts_at s m (length young) rows))
+          (λ seen told k d below. subst (λ (ps : List (Option ℕ)). HoldsFrame s (k + 1) (get_or landings k d).frame (seen FRAMES) (sums_of (picked ps k landed.lists)))
+          c.deref.ensures.value (landed.stand s laid.are seen told k d below)))
+          c.land_bins-landed.ensures.landed;
+      malformed = malformed;
+      malformed_after = λ later told at is.
+          let back = turns_back (LeavesRest (AreApart landings)) before after later c.land_bins-landed.ensures.rest.seen told in
+          breaks_stay s rows back.0 later at (c.requires.secure back.0 back.1) (AreApart landings)
+          (λ from to inside. apart_landings s m young rows reached parts landings laid from to (reached.apart from to inside)) reached.few
+          back.2 (malformed back.0 back.1 at is);
+      rest = rest_fewer (bays g) (AreApart landings) (RowsApart s m rows) c.args.bay.now c.land_bins-landed.new.bay
+          (apart_landings s m young rows reached parts landings laid) c.land_bins-landed.ensures.rest;
+      kept = c.land_bins-landed.ensures.kept;
+    }

@@ -1,5 +1,6 @@
-use Rattle.std.proofs.Common.{ℕ, ◌≡◌, ◌+◌, ◌*◌, ◌-◌, ◌≤◌, ◌∙◌, List, Vec, Global, [], map, take, length, get_or, ap, sym, subst, arith, refl}
+use Rattle.std.proofs.Common.{ℕ, ◌≡◌, ◌+◌, ◌*◌, ◌-◌, ◌≤◌, ◌∙◌, List, Option, Vec, Global, [], map, take, length, get_or, ap, sym, subst, arith, refl}
 use Rattle.std.proofs.lemmas.List.{take_all, length-map}
+use Rattle.lert_bay.specs.Files.{Files}
 use Rattle.lert_bay.specs.declared.bay.TheConstants.{FRAMES}
 use Rattle.lert_frames.specs.Place.{tail_limit}
 use Rattle.lert_spec.specs.Table.{IsTable}
@@ -18,7 +19,9 @@ use Rattle.lert_levels.proofs.HoldLaws.{rows_stand}
 use Rattle.lert_levels.proofs.LandedLaws.{on_ok}
 use Rattle.lert_levels.proofs.LevelLaws.{lent_seen}
 use Rattle.lert_levels.proofs.ReachLaws.{held, turned, no_break, sound_by, matched_by, at_ok}
+use Rattle.lert_levels.proofs.levels.Levels.scan.Given as given
 use Rattle.lert_levels.proofs.levels.Levels.scan.Goals as goal
+use Rattle.lert_levels.proofs.levels.Levels.scan.Goals.{Joined-self}
 
 pub count_rows-reading-requires-clause-rows : goal.count_rows-reading-requires-clause-rows
 count_rows-reading-requires-clause-rows g c k below =
@@ -26,76 +29,71 @@ count_rows-reading-requires-clause-rows g c k below =
     subst (λ (s : Numbers). IsRow s (k + 1) (get_or (map (λ row. row.items) c.deref.result.now) k [])) settings_is
     (lent_rows (λ row. row.items) c.self.inside.settings c.self.inside.rows.items c.deref.result.now c.self.invariant.0.are c.deref.ensures.value k below)
 
-pub returns-clause-malformed : goal.returns-clause-malformed
-returns-clause-malformed g c seen told at is =
-    let s = c.args.self.now.settings in
-    let rows = c.args.self.now.rows in
-    let lent = map (λ row. row.items) c.deref.result.now in
-    let young = c.args.zero.now.bins in
-    let settings_is : c.self.inside.settings ≡ s = ap (λ (v : OnDisk). v.settings) c.self.view_is in
-    let valid : IsValid s = subst IsValid (c.numbers-valid.ensures.value ∙ settings_is) c.numbers-valid.ensures.valid in
+-- ---- behind the merge
+
+valid : (g : given.Over) (c : Joined-self g) → IsValid c.args.self.now.settings
+valid g c = subst IsValid (c.numbers-valid.ensures.value ∙ ap (λ (v : OnDisk). v.settings) c.self.view_is) c.numbers-valid.ensures.valid
+
+are : (g : given.Over) (c : Joined-self g) → AreRows c.args.self.now.settings c.args.self.now.rows
+are g c = subst (λ (v : OnDisk). AreRows v.settings v.rows) c.self.view_is c.self.invariant.0.are
+
+-- what the merge says of the rows as they were lent it says of these
+said : (g : given.Over) (c : Joined-self g) (P : Numbers → List (List BinAt) → Type 0) → P c.args.zero.now.settings (map (λ row. row.items) c.deref.result.now) →
+    P c.args.self.now.settings c.args.self.now.rows
+said g c P is =
     let seen_is = lent_seen (λ row. row.items) c.self.inside.settings c.self.inside.rows.items c.deref.result.now c.args.self.now c.self.view_is c.deref.ensures.value in
-    let lent_is : lent ≡ rows = ap (λ (v : OnDisk). v.rows) seen_is in
-    let are : AreRows s rows = subst (λ (v : OnDisk). AreRows v.settings v.rows) c.self.view_is c.self.invariant.0.are in
-    turned (λ t rs. OneBreaks t rs (seen FRAMES) at) s c.args.zero.now.settings rows lent c.requires.same lent_is (c.count_rows-reading.ensures.malformed seen told at is)
+    turned P c.args.self.now.settings c.args.zero.now.settings c.args.self.now.rows _ c.requires.same (ap (λ (v : OnDisk). v.rows) seen_is) is
+
+-- and of all of them
+whole : (g : given.Over) (c : Joined-self g) → take c.args.self.now.settings.levels c.args.self.now.rows ≡ c.args.self.now.rows
+whole g c = take_all c.args.self.now.settings.levels c.args.self.now.rows (omega (arith, (are g c).levels))
+
+made : (g : given.Over) (c : Joined-self g) (took : List Piece → Type 0) (before : Option Files) →
+    IsMade c.args.zero.now.settings c.args.zero.now.bins (map (λ row. row.items) c.deref.result.now) [] took (IsFrames before) [] →
+    IsMade c.args.self.now.settings c.args.zero.now.bins (take c.args.self.now.settings.levels c.args.self.now.rows) [] took (IsFrames before) []
+made g c took before is =
+    subst (λ (rs : List (List BinAt)). IsMade c.args.self.now.settings c.args.zero.now.bins rs [] took (IsFrames before) []) (sym (whole g c))
+    (said g c (λ t rs. IsMade t c.args.zero.now.bins rs [] took (IsFrames before) []) is)
+
+-- rows that hold something aren't broken
+unbroken : (g : given.Over) (c : Joined-self g) (file : List ℕ) (held : BinAt → List Piece) (at : ℕ) → AllStand c.args.self.now.settings file held c.args.self.now.rows →
+    OneBreaks c.args.self.now.settings c.args.self.now.rows file at → ⊥
+unbroken g c file held at stand breaks =
+    let rows = c.args.self.now.rows in
+    let is = are g c in
+    no_break c.args.self.now.settings (valid g c) rows file held at (omega (arith, is.levels))
+    (λ k below. (let place : k + 1 - 1 ≡ k = omega arith in
+    subst (λ (j : ℕ). IsRow c.args.self.now.settings (k + 1) (get_or rows j [])) place (is.each (k + 1) (omega arith) (omega (arith, below, is.levels)))))
+    stand breaks
+
+pub returns-clause-malformed : goal.returns-clause-malformed
+returns-clause-malformed g c seen told at is = said g c (λ t rs. OneBreaks t rs (seen FRAMES) at) (c.count_rows-reading.ensures.malformed seen told at is)
 
 pub returns-clause-sound : goal.returns-clause-sound
 returns-clause-sound g c seen told hold stand =
-    let s = c.args.self.now.settings in
-    let rows = c.args.self.now.rows in
-    let lent = map (λ row. row.items) c.deref.result.now in
-    let young = c.args.zero.now.bins in
-    let settings_is : c.self.inside.settings ≡ s = ap (λ (v : OnDisk). v.settings) c.self.view_is in
-    let valid : IsValid s = subst IsValid (c.numbers-valid.ensures.value ∙ settings_is) c.numbers-valid.ensures.valid in
-    let seen_is = lent_seen (λ row. row.items) c.self.inside.settings c.self.inside.rows.items c.deref.result.now c.args.self.now c.self.view_is c.deref.ensures.value in
-    let lent_is : lent ≡ rows = ap (λ (v : OnDisk). v.rows) seen_is in
-    let are : AreRows s rows = subst (λ (v : OnDisk). AreRows v.settings v.rows) c.self.view_is c.self.invariant.0.are in
-    sound_by c.count_rows-reading.result.1 (λ at is. no_break s valid rows (seen FRAMES) hold at (omega (arith, are.levels))
-    (λ k below. (let place : k + 1 - 1 ≡ k = omega arith in subst (λ (j : ℕ). IsRow s (k + 1) (get_or rows j [])) place (are.each (k + 1) (omega arith) (omega (arith, below, are.levels)))))
-    stand (returns-clause-malformed g c seen told at is))
+    sound_by c.count_rows-reading.result.1 (λ at is. unbroken g c (seen FRAMES) hold at stand (returns-clause-malformed g c seen told at is))
 
 pub returns-clause-took : goal.returns-clause-took
 returns-clause-took g c =
     let s = c.args.self.now.settings in
-    let rows = c.args.self.now.rows in
-    let lent = map (λ row. row.items) c.deref.result.now in
-    let young = c.args.zero.now.bins in
-    let settings_is : c.self.inside.settings ≡ s = ap (λ (v : OnDisk). v.settings) c.self.view_is in
-    let valid : IsValid s = subst IsValid (c.numbers-valid.ensures.value ∙ settings_is) c.numbers-valid.ensures.valid in
-    let seen_is = lent_seen (λ row. row.items) c.self.inside.settings c.self.inside.rows.items c.deref.result.now c.args.self.now c.self.view_is c.deref.ensures.value in
-    let lent_is : lent ≡ rows = ap (λ (v : OnDisk). v.rows) seen_is in
-    let are : AreRows s rows = subst (λ (v : OnDisk). AreRows v.settings v.rows) c.self.view_is c.self.invariant.0.are in
     let took = g.O.Totals.took c.count_rows-reading.new.totals in
     let before = g.B.Bay.files c.args.bay.now in
-    let whole : take s.levels rows ≡ rows = take_all s.levels rows (omega (arith, are.levels)) in
     on_ok c.count_rows-reading.result.1 _ ((list : List Piece) × took list × IsTable (tail_limit s) list)
-    (λ made. scan_took s valid rows young [] took (IsFrames before) [] (subst (λ (rs : List (List BinAt)). IsMade s young rs [] took (IsFrames before) []) (sym whole)
-    (turned (λ t rs. IsMade t young rs [] took (IsFrames before) []) s c.args.zero.now.settings rows lent c.requires.same lent_is made)))
+    (λ is. scan_took s (valid g c) c.args.self.now.rows c.args.zero.now.bins [] took (IsFrames before) [] (made g c took before is))
     c.count_rows-reading.ensures.made
 
 pub returns-clause-told : goal.returns-clause-told
 returns-clause-told g c seen told events of =
     let s = c.args.self.now.settings in
     let rows = c.args.self.now.rows in
-    let lent = map (λ row. row.items) c.deref.result.now in
-    let young = c.args.zero.now.bins in
-    let settings_is : c.self.inside.settings ≡ s = ap (λ (v : OnDisk). v.settings) c.self.view_is in
-    let valid : IsValid s = subst IsValid (c.numbers-valid.ensures.value ∙ settings_is) c.numbers-valid.ensures.valid in
-    let seen_is = lent_seen (λ row. row.items) c.self.inside.settings c.self.inside.rows.items c.deref.result.now c.args.self.now c.self.view_is c.deref.ensures.value in
-    let lent_is : lent ≡ rows = ap (λ (v : OnDisk). v.rows) seen_is in
-    let are : AreRows s rows = subst (λ (v : OnDisk). AreRows v.settings v.rows) c.self.view_is c.self.invariant.0.are in
     let took = g.O.Totals.took c.count_rows-reading.new.totals in
     let before = g.B.Bay.files c.args.bay.now in
-    let whole : take s.levels rows ≡ rows = take_all s.levels rows (omega (arith, are.levels)) in
     let here : IsFrames before (seen FRAMES) = record { seen = seen; told = told; is = refl } in
-    let stand = rows_stand s events (length events) rows (seen FRAMES) of.at are (omega arith) of.held s.levels (omega arith) in
+    let stand = rows_stand s events (length events) rows (seen FRAMES) of.at (are g c) (omega arith) of.held s.levels (omega arith) in
     matched_by (λ _. took (tallied s events)) c.count_rows-reading.result.1
-    (λ value is. scan_taken s valid rows young [] took (IsFrames before) [] (subst (λ (rs : List (List BinAt)). IsMade s young rs [] took (IsFrames before) []) (sym whole)
-    (turned (λ t rs. IsMade t young rs [] took (IsFrames before) []) s c.args.zero.now.settings rows lent c.requires.same lent_is
-    (at_ok _ c.count_rows-reading.result.1 value is c.count_rows-reading.ensures.made))) (seen FRAMES) events here are of)
-    (λ at is. no_break s valid rows (seen FRAMES) (tallied_in s events) at (omega (arith, are.levels))
-    (λ k below. (let place : k + 1 - 1 ≡ k = omega arith in subst (λ (j : ℕ). IsRow s (k + 1) (get_or rows j [])) place (are.each (k + 1) (omega arith) (omega (arith, below, are.levels)))))
-    (subst (AllStand s (seen FRAMES) (tallied_in s events)) whole stand) (returns-clause-malformed g c seen told at is))
+    (λ value is. scan_taken s (valid g c) rows c.args.zero.now.bins [] took (IsFrames before) []
+    (made g c took before (at_ok _ c.count_rows-reading.result.1 value is c.count_rows-reading.ensures.made)) (seen FRAMES) events here (are g c) of)
+    (λ at is. unbroken g c (seen FRAMES) (tallied_in s events) at (subst (AllStand s (seen FRAMES) (tallied_in s events)) (whole g c) stand) (returns-clause-malformed g c seen told at is))
 
 -- ---- the other clauses
 
