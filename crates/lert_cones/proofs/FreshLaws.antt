@@ -13,27 +13,34 @@ use Rattle.lert_cones.specs.Unmade.{IsUnmade}
 use Rattle.lert_ingest.proofs.BayLaws.{are_more, later_set, slice_get-set_other, slice_get-set_same}
 use Rattle.lert_ingest.proofs.EachLaws.{kept_more, kept_set, kept_unused, unused_but}
 
-module _ {B : Type 0} (files : B → Option Files) (faults mark : B → ℕ) (bays now : List B) (cone : ℕ) (old new : B)
-    (later : AreLater files faults mark bays now) (rest : (other : ℕ) → cone ≤ other → slice_get now other ≡ slice_get bays other)
-    (found : slice_get now cone ≡ Some old) (same : files new ≡ files old) (falls : faults old ≤ faults new) (marked : mark new ≡ mark old) where
+-- a look at a bay, behind looks at those below it
+pub record IsLooked {B : Type 0} (files : B → Option Files) (faults mark : B → ℕ) (bays now : List B) (cone : ℕ) (old new : B) : Type 0 where
+  pub later : AreLater files faults mark bays now
+  pub rest : (other : ℕ) → cone ≤ other → slice_get now other ≡ slice_get bays other
+  pub found : slice_get now cone ≡ Some old
+  pub same : files new ≡ files old
+  pub falls : faults old ≤ faults new
+  pub marked : mark new ≡ mark old
+
+module _ {B : Type 0} (files : B → Option Files) (faults mark : B → ℕ) (bays now : List B) (cone : ℕ) (old new : B) (at : IsLooked files faults mark bays now cone old new) where
   here : slice_get bays cone ≡ Some old
-  here = sym (rest cone (omega arith)) ∙ found
+  here = sym (at.rest cone (omega arith)) ∙ at.found
 
   call_later : IsLater files faults mark old new
   call_later = record {
-    marked = marked;
-    never_falls = falls;
-    tells = record { told = λ seen was. (seen, same ∙ was, tt); untold = λ was. same ∙ was };
+    marked = at.marked;
+    never_falls = at.falls;
+    tells = record { told = λ seen was. (seen, at.same ∙ was, tt); untold = λ was. at.same ∙ was };
   }
 
   pub looked_later : AreLater files faults mark bays (set now cone new)
-  looked_later = are_more files faults mark bays now (set now cone new) later (later_set files faults mark now cone old new found call_later)
+  looked_later = are_more files faults mark bays now (set now cone new) at.later (later_set files faults mark now cone old new at.found call_later)
 
   pub looked_kept : AreKept files bays now → AreKept files bays (set now cone new)
-  looked_kept kept = kept_more files bays now (set now cone new) (length-set now cone new) kept (kept_set files now cone old new found same)
+  looked_kept kept = kept_more files bays now (set now cone new) (length-set now cone new) kept (kept_set files now cone old new at.found at.same)
 
   pub looked_rest : (other : ℕ) → cone + 1 ≤ other → slice_get (set now cone new) other ≡ slice_get bays other
-  looked_rest other above = slice_get-set_other now cone other new (λ equal. absurd (omega (arith, above, equal))) ∙ rest other (omega (arith, above))
+  looked_rest other above = slice_get-set_other now cone other new (λ equal. absurd (omega (arith, above, equal))) ∙ at.rest other (omega (arith, above))
 
   pub looked_fresh : ((other : ℕ) → other < cone → IfHeld files bays other AreEmpty) → IfTold (files old) AreEmpty → (other : ℕ) → other < cone + 1 →
       IfHeld files bays other AreEmpty
@@ -48,8 +55,8 @@ module _ {B : Type 0} (files : B → Option Files) (faults mark : B → ℕ) (ba
   looked_fresh_now lower empty other below =
       elim (cases_eq other cone) [
         | inl equal ↦ λ bay there seen told.
-            let is = same_Some new bay (sym (slice_get-set_same now cone new (slice_get_within now cone old found)) ∙ (ap (slice_get (set now cone new)) (sym equal) ∙ there)) in
-            empty seen (sym same ∙ (ap files is ∙ told))
+            let is = same_Some new bay (sym (slice_get-set_same now cone new (slice_get_within now cone old at.found)) ∙ (ap (slice_get (set now cone new)) (sym equal) ∙ there)) in
+            empty seen (sym at.same ∙ (ap files is ∙ told))
         | inr differs ↦ λ bay there. lower other (omega arith) bay (sym (slice_get-set_other now cone other new differs) ∙ there)
       ]
 
@@ -61,7 +68,7 @@ module _ {B : Type 0} (files : B → Option Files) (faults mark : B → ℕ) (ba
   }
 
   looked_failed : HasRisen (faults old) (faults new) → HasFailed faults bays (set now cone new) cone
-  looked_failed rose = record { before = old; now = new; was = here; is = slice_get-set_same now cone new (slice_get_within now cone old found); rose = rose }
+  looked_failed rose = record { before = old; now = new; was = here; is = slice_get-set_same now cone new (slice_get_within now cone old at.found); rose = rose }
 
   -- why no cones are made over the bays
   pub stale_unmade : AreKept files bays now → AreFreshBelow files bays cone → IfTold (files old) (λ seen. AreEmpty seen → ⊥) → (s : Numbers) →

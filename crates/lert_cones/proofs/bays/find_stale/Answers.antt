@@ -1,108 +1,78 @@
-use Rattle.std.proofs.Common.{◌≡◌, ◌<◌, length, Some, refl, arith, rules}
+use Rattle.std.proofs.Common.{◌≡◌, ◌<◌, ◌≤◌, ℕ, List, length, slice_get, Some, refl, arith, rules}
 use Rattle.std.proofs.lemmas.Option.{slice_get_read}
 use Rattle.lert_bay.specs.Files.{Files}
+use Rattle.lert_bay.specs.Kept.{Bays, OnlyReads}
+use Rattle.lert_ingest.specs.Bays.{AreLater}
 use Rattle.lert_ingest.proofs.BayLaws.{are_same}
 use Rattle.lert_ingest.proofs.EachLaws.{kept_same}
-use Rattle.lert_cones.proofs.FreshLaws.{failed_unmade, looked_all, looked_fresh, looked_fresh_now, looked_kept, looked_later, looked_rest, stale_unmade}
+use Rattle.lert_cones.proofs.FreshLaws.{IsLooked, failed_unmade, looked_all, looked_fresh, looked_fresh_now, looked_kept, looked_later, looked_rest, stale_unmade}
+use Rattle.lert_cones.proofs.bays.find_stale.Given as given
 use Rattle.lert_cones.proofs.bays.find_stale.Goals as goal
 
-pub returns-in-Ok-false-clause-room : goal.returns-in-Ok-false-clause-room
-returns-in-Ok-false-clause-room g c = c.loop-cone.invariant.room
+abbrev seen_by : (g : given.Over) → Bays g.row.B.Denot
+seen_by g = record {
+  faults = g.B.Faulty.faults;
+  mark = g.B.Faulty.mark;
+  files = g.B.Bay.files;
+  leaves = g.B.Bay.leaves;
+  moment = g.B.Bay.moment;
+  left_since = g.B.Bay.left_since;
+  handed_out = g.B.Bay.handed_out;
+}
 
-pub returns-in-Ok-false-clause-later : goal.returns-in-Ok-false-clause-later
-returns-in-Ok-false-clause-later g c =
+-- one more look, behind those at the bays below
+looked : (g : given.Over) (first bays : List g.row.B.Denot) (cone : ℕ) (old new : g.row.B.Denot) {Failed : Type 0} → AreLater g.B.Bay.files g.B.Faulty.faults g.B.Faulty.mark first bays →
+    ((other : ℕ) → cone ≤ other → slice_get bays other ≡ slice_get first other) → slice_get bays cone ≡ Some old → OnlyReads (seen_by g) old new Failed →
+    IsLooked g.B.Bay.files g.B.Faulty.faults g.B.Faulty.mark first bays cone old new
+looked g first bays cone old new later rest found reads = record {
+  later = later;
+  rest = rest;
+  found = found;
+  same = reads.seen;
+  falls = reads.kept.never_falls;
+  marked = reads.kept.mark;
+}
+
+pub returns-in-Ok-false : goal.returns-in-Ok-false
+returns-in-Ok-false g c =
     let here = c.loop-cone.invariant in
     let first = c.args.bays.now.items in
     let bays = c.loop-cone.bays.items in
     let cone = c.loop-cone.cone in
     let old = c.index_mut.result.now in
     let new = c.is_fresh.new.bay in
-    let seen = c.is_fresh.ensures.only_reads.seen in
-    let falls = c.is_fresh.ensures.only_reads.kept.never_falls in
-    let mark = c.is_fresh.ensures.only_reads.kept.mark in
     let inside : cone < length bays = omega (arith, c.loop-cone-test.true, c.loop-cone.auto.cone-end, c.len-cone-end.ensures, here.later.number) in
     let found = slice_get_read bays (length bays) cone old refl inside c.index_mut.ensures.value in
-    looked_later g.B.Bay.files g.B.Faulty.faults g.B.Faulty.mark first bays cone old new here.later here.rest found seen falls mark
+    let at = looked g first bays cone old new here.later here.rest found c.is_fresh.ensures.only_reads in
+    record {
+      room = here.room;
+      later = looked_later g.B.Bay.files g.B.Faulty.faults g.B.Faulty.mark first bays cone old new at;
+      kept = looked_kept g.B.Bay.files g.B.Faulty.faults g.B.Faulty.mark first bays cone old new at here.kept;
+      unmade = stale_unmade g.B.Bay.files g.B.Faulty.faults g.B.Faulty.mark first bays cone old new at here.kept here.fresh
+          (λ files told empty. let is = (c.in-Ok-false.ensures.fresh files told).1 empty in let not = c.in-Ok-false.field-0-test in cc);
+      fresh = tt;
+      fresh_now = tt;
+    }
 
-pub returns-in-Ok-false-clause-kept : goal.returns-in-Ok-false-clause-kept
-returns-in-Ok-false-clause-kept g c =
+pub returns-in-Err : goal.returns-in-Err
+returns-in-Err g c =
     let here = c.loop-cone.invariant in
     let first = c.args.bays.now.items in
     let bays = c.loop-cone.bays.items in
     let cone = c.loop-cone.cone in
     let old = c.index_mut.result.now in
     let new = c.is_fresh.new.bay in
-    let seen = c.is_fresh.ensures.only_reads.seen in
-    let falls = c.is_fresh.ensures.only_reads.kept.never_falls in
-    let mark = c.is_fresh.ensures.only_reads.kept.mark in
     let inside : cone < length bays = omega (arith, c.loop-cone-test.true, c.loop-cone.auto.cone-end, c.len-cone-end.ensures, here.later.number) in
     let found = slice_get_read bays (length bays) cone old refl inside c.index_mut.ensures.value in
-    looked_kept g.B.Bay.files g.B.Faulty.faults g.B.Faulty.mark first bays cone old new here.later here.rest found seen falls mark here.kept
-
-pub returns-in-Ok-false-clause-unmade : goal.returns-in-Ok-false-clause-unmade
-returns-in-Ok-false-clause-unmade g c =
-    let here = c.loop-cone.invariant in
-    let first = c.args.bays.now.items in
-    let bays = c.loop-cone.bays.items in
-    let cone = c.loop-cone.cone in
-    let old = c.index_mut.result.now in
-    let new = c.is_fresh.new.bay in
-    let seen = c.is_fresh.ensures.only_reads.seen in
-    let falls = c.is_fresh.ensures.only_reads.kept.never_falls in
-    let mark = c.is_fresh.ensures.only_reads.kept.mark in
-    let inside : cone < length bays = omega (arith, c.loop-cone-test.true, c.loop-cone.auto.cone-end, c.len-cone-end.ensures, here.later.number) in
-    let found = slice_get_read bays (length bays) cone old refl inside c.index_mut.ensures.value in
-    stale_unmade g.B.Bay.files g.B.Faulty.faults g.B.Faulty.mark first bays cone old new here.later here.rest found seen falls mark here.kept here.fresh
-    (λ files told empty. let is = (c.in-Ok-false.ensures.fresh files told).1 empty in let not = c.in-Ok-false.field-0-test in cc)
-
-pub returns-in-Err-clause-room : goal.returns-in-Err-clause-room
-returns-in-Err-clause-room g c = c.loop-cone.invariant.room
-
-pub returns-in-Err-clause-later : goal.returns-in-Err-clause-later
-returns-in-Err-clause-later g c =
-    let here = c.loop-cone.invariant in
-    let first = c.args.bays.now.items in
-    let bays = c.loop-cone.bays.items in
-    let cone = c.loop-cone.cone in
-    let old = c.index_mut.result.now in
-    let new = c.is_fresh.new.bay in
-    let seen = c.is_fresh.ensures.only_reads.seen in
-    let falls = c.is_fresh.ensures.only_reads.kept.never_falls in
-    let mark = c.is_fresh.ensures.only_reads.kept.mark in
-    let inside : cone < length bays = omega (arith, c.loop-cone-test.true, c.loop-cone.auto.cone-end, c.len-cone-end.ensures, here.later.number) in
-    let found = slice_get_read bays (length bays) cone old refl inside c.index_mut.ensures.value in
-    looked_later g.B.Bay.files g.B.Faulty.faults g.B.Faulty.mark first bays cone old new here.later here.rest found seen falls mark
-
-pub returns-in-Err-clause-kept : goal.returns-in-Err-clause-kept
-returns-in-Err-clause-kept g c =
-    let here = c.loop-cone.invariant in
-    let first = c.args.bays.now.items in
-    let bays = c.loop-cone.bays.items in
-    let cone = c.loop-cone.cone in
-    let old = c.index_mut.result.now in
-    let new = c.is_fresh.new.bay in
-    let seen = c.is_fresh.ensures.only_reads.seen in
-    let falls = c.is_fresh.ensures.only_reads.kept.never_falls in
-    let mark = c.is_fresh.ensures.only_reads.kept.mark in
-    let inside : cone < length bays = omega (arith, c.loop-cone-test.true, c.loop-cone.auto.cone-end, c.len-cone-end.ensures, here.later.number) in
-    let found = slice_get_read bays (length bays) cone old refl inside c.index_mut.ensures.value in
-    looked_kept g.B.Bay.files g.B.Faulty.faults g.B.Faulty.mark first bays cone old new here.later here.rest found seen falls mark here.kept
-
-pub returns-in-Err-clause-unmade : goal.returns-in-Err-clause-unmade
-returns-in-Err-clause-unmade g c =
-    let here = c.loop-cone.invariant in
-    let first = c.args.bays.now.items in
-    let bays = c.loop-cone.bays.items in
-    let cone = c.loop-cone.cone in
-    let old = c.index_mut.result.now in
-    let new = c.is_fresh.new.bay in
-    let seen = c.is_fresh.ensures.only_reads.seen in
-    let falls = c.is_fresh.ensures.only_reads.kept.never_falls in
-    let mark = c.is_fresh.ensures.only_reads.kept.mark in
-    let inside : cone < length bays = omega (arith, c.loop-cone-test.true, c.loop-cone.auto.cone-end, c.len-cone-end.ensures, here.later.number) in
-    let found = slice_get_read bays (length bays) cone old refl inside c.index_mut.ensures.value in
-    failed_unmade g.B.Bay.files g.B.Faulty.faults g.B.Faulty.mark first bays cone old new here.later here.rest found seen falls mark
-    here.kept here.fresh (c.is_fresh.ensures.only_reads.kept.failed (search rules))
+    let at = looked g first bays cone old new here.later here.rest found c.is_fresh.ensures.only_reads in
+    record {
+      room = here.room;
+      later = looked_later g.B.Bay.files g.B.Faulty.faults g.B.Faulty.mark first bays cone old new at;
+      kept = looked_kept g.B.Bay.files g.B.Faulty.faults g.B.Faulty.mark first bays cone old new at here.kept;
+      unmade = failed_unmade g.B.Bay.files g.B.Faulty.faults g.B.Faulty.mark first bays cone old new at here.kept here.fresh (c.is_fresh.ensures.only_reads.kept.failed (search rules));
+      fresh = tt;
+      fresh_now = tt;
+    }
 
 pub loop-cone-preserved : goal.loop-cone-preserved
 loop-cone-preserved g c =
@@ -112,19 +82,17 @@ loop-cone-preserved g c =
     let cone = c.loop-cone.cone in
     let old = c.index_mut.result.now in
     let new = c.is_fresh.new.bay in
-    let seen = c.is_fresh.ensures.only_reads.seen in
-    let falls = c.is_fresh.ensures.only_reads.kept.never_falls in
-    let mark = c.is_fresh.ensures.only_reads.kept.mark in
     let inside : cone < length bays = omega (arith, c.loop-cone-test.true, c.loop-cone.auto.cone-end, c.len-cone-end.ensures, here.later.number) in
     let found = slice_get_read bays (length bays) cone old refl inside c.index_mut.ensures.value in
+    let at = looked g first bays cone old new here.later here.rest found c.is_fresh.ensures.only_reads in
     let empty = λ (files : Files) (told : g.B.Bay.files old ≡ Some files). (c.in-Ok-true.ensures.fresh files told).0 c.in-Ok-true.field-0-test in
     record {
       room = here.room;
-      later = looked_later g.B.Bay.files g.B.Faulty.faults g.B.Faulty.mark first bays cone old new here.later here.rest found seen falls mark;
-      kept = looked_kept g.B.Bay.files g.B.Faulty.faults g.B.Faulty.mark first bays cone old new here.later here.rest found seen falls mark here.kept;
-      rest = looked_rest g.B.Bay.files g.B.Faulty.faults g.B.Faulty.mark first bays cone old new here.later here.rest found seen falls mark;
-      fresh = looked_fresh g.B.Bay.files g.B.Faulty.faults g.B.Faulty.mark first bays cone old new here.later here.rest found seen falls mark here.fresh empty;
-      fresh_now = looked_fresh_now g.B.Bay.files g.B.Faulty.faults g.B.Faulty.mark first bays cone old new here.later here.rest found seen falls mark here.fresh_now empty;
+      later = looked_later g.B.Bay.files g.B.Faulty.faults g.B.Faulty.mark first bays cone old new at;
+      kept = looked_kept g.B.Bay.files g.B.Faulty.faults g.B.Faulty.mark first bays cone old new at here.kept;
+      rest = looked_rest g.B.Bay.files g.B.Faulty.faults g.B.Faulty.mark first bays cone old new at;
+      fresh = looked_fresh g.B.Bay.files g.B.Faulty.faults g.B.Faulty.mark first bays cone old new at here.fresh empty;
+      fresh_now = looked_fresh_now g.B.Bay.files g.B.Faulty.faults g.B.Faulty.mark first bays cone old new at here.fresh_now empty;
     }
 
 pub loop-cone-init : goal.loop-cone-init
