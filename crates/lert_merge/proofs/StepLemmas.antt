@@ -1,10 +1,14 @@
 -- What a step of the order says, and what it leaves to come.
 use Rattle.std.proofs.Common.{◌≡◌, ℕ, ◌<◌, ◌≤◌, ◌^◌, Option, Some, None, IfSome, MatchOption, List, [], ◌∷◌, ◌++◌, length, set, get_or, All}
-use Rattle.std.proofs.Common.{arith, sym, ap, ◌∙◌, refl, subst, inl, inr, length-set, get_or-set_same, get_or-set_other}
+use Rattle.std.proofs.Common.{Result, Ok, Err, IfOk, OnOk, arith, sym, ap, ◌∙◌, refl, subst, inl, inr, length-set, get_or-set_same, get_or-set_other}
 use Rattle.std.proofs.lemmas.Bool.{cases_eq}
+use Rattle.std.specs.Prelude.{OnErr}
+use Rattle.lert_base.specs.declared.pieces.PieceFault.{PieceFault}
+use Rattle.lert_base.specs.declared.pieces.PieceFault.TheVariants.{Failed, Malformed}
+use Rattle.lert_io.specs.Fault.{HasRisen}
 use Rattle.lert_spec.specs.declared.piece.Piece.{Piece}
 use Rattle.lert_spec.specs.Table.{AreGiven}
-use Rattle.lert_order.specs.Ordering.{Ordering, AreOver, AreKnown, AreSame, Tells, HasTaken, AreEnded, IsNext, IsNotBelow, IsBelow, part_in}
+use Rattle.lert_order.specs.Ordering.{Ordering, AreOver, AreKnown, AreSame, Tells, HasTaken, AreEnded, IsNext, IsNotBelow, IsBelow, IsNothingGiven, Breaks, part_in}
 use Rattle.lert_order.specs.declared.streams.Streams.{Ghosts as StreamsOf}
 use Rattle.lert_order.proofs.GiveLemmas.{part_here, part_else}
 
@@ -27,6 +31,53 @@ pub record HasStepped {S C : Type 0} (members : StreamsOf S C) (faults mark : C 
   pub rises : faults a ≤ faults b
   pub marked : mark b ≡ mark a
   pub kept : members.keeps a b
+
+-- a step that went well, as its contract says it
+abbrev pub StepSays : {S C : Type 0} → StreamsOf S C → (C → ℕ) → (C → ℕ) → C → Ordering S → C → Ordering S → Result (Option (ℕ × Piece)) PieceFault → Type 0
+StepSays members faults mark a x b y result = record {
+  told : (lists : List (List Piece)) → Tells members a x lists → IfOk result (λ given. MatchOption given (AreOver lists × Tells members b y lists)
+      (λ g. (rest : List Piece) × (IsNext lists g.0 g.1 rest × Tells members b y (set lists g.0 rest))));
+  untold : (k : ℕ) → k < members.count x.streams → members.to_come x.streams k a ≡ None → members.to_come y.streams k b ≡ None;
+  known : OnOk result (AreKnown members a x b y);
+  above : IfOk result (λ given. IfSome given (λ g. IsNotBelow x.last g.1.tail));
+  below : IfOk result (λ given. IfSome given (λ g. IsBelow members y.streams g.0 g.1.tail));
+  last : IfOk result (λ given. IfSome given (λ g. y.last ≡ Some g.1.tail));
+  small : IfOk result (λ given. IfSome given (λ g. (1 ≤ g.1.count) × (g.1.count ≤ 2 ^ 47)));
+  ascending : IfOk result (λ given. IfSome given (λ g. (pieces : List Piece) → HasTaken members x g.0 pieces → AreGiven (members.limit y.streams g.0) (pieces ++ g.1 ∷ [])));
+  taken : IfOk result (λ given. (k : ℕ) (pieces : List Piece) → k < members.count x.streams → HasTaken members x k pieces → HasTaken members y k (pieces ++ part_in given k));
+  refused : OnErr result ((k : ℕ) (pieces : List Piece) → k < members.count x.streams → HasTaken members x k pieces → HasTaken members y k pieces);
+  held : (k : ℕ) → k < members.count x.streams → (pieces : List Piece) × HasTaken members x k pieces;
+  over : result ≡ Ok None → AreEnded members y;
+  nothing_given : IsNothingGiven result → y.last ≡ x.last;
+  failed : result ≡ Err Failed → HasRisen (faults a) (faults b);
+  malformed : (at : ℕ) → result ≡ Err (Malformed at) → Breaks members a x.streams at;
+  same : AreSame members a x b y;
+  kept : members.same x.streams y.streams;
+  faults : faults a ≤ faults b;
+  mark : mark b ≡ mark a;
+  keeps : members.keeps a b;
+}
+
+pub stepped : {S C : Type 0} (members : StreamsOf S C) (faults mark : C → ℕ) (a : C) (x : Ordering S) (b : C) (y : Ordering S) (taken given : Option (ℕ × Piece)) →
+    taken ≡ given → StepSays members faults mark a x b y (Ok taken) → HasStepped members faults mark a x b y given
+stepped members faults mark a x b y taken given is says = subst (HasStepped members faults mark a x b y) is (record {
+  told = says.told;
+  untold = says.untold;
+  known = says.known;
+  above = says.above;
+  below = says.below;
+  last = says.last;
+  small = says.small;
+  ascending = says.ascending;
+  taken = says.taken;
+  held = says.held;
+  over = λ none. says.over (ap Ok none);
+  same = says.same;
+  set = says.kept;
+  rises = says.faults;
+  marked = says.mark;
+  kept = says.keeps;
+})
 
 -- what is to come behind a step: of each stream its part of what was given, and then this
 pub record ComesThen {S C : Type 0} (members : StreamsOf S C) (b : C) (y : Ordering S) (given : Option (ℕ × Piece)) (lists : List (List Piece)) : Type 0 where

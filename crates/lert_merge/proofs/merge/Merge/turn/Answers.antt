@@ -1,6 +1,6 @@
-use Rattle.std.proofs.Common.{◌≡◌, ◌<◌, false, Some, None, Ok, length, ap, sym, subst}
+use Rattle.std.proofs.Common.{◌≡◌, ◌<◌, false, Some, None, length, sym, subst}
 use Rattle.lert_merge.specs.Merging.{Merging}
-use Rattle.lert_merge.proofs.StepLemmas.{HasStepped}
+use Rattle.lert_merge.proofs.StepLemmas.{HasStepped, stepped}
 use Rattle.lert_merge.proofs.TakeLemmas.{has_room}
 use Rattle.lert_merge.proofs.TurnLemmas.{turned_taken, taken_stands, taken_goes, turned_given, given_stands, turned_over, ended_stands, none_is}
 use Rattle.lert_merge.proofs.merge.Merge.turn.Given as given
@@ -9,25 +9,9 @@ use Rattle.lert_merge.proofs.merge.Merge.turn.Goals as goal
 -- what the step says, before its piece is taken
 before : (g : given.Over) (c : goal.After-add-arg-1 g) →
     HasStepped g.S.Streams g.C.Faulty.faults g.C.Faulty.mark c.args.ctx.now c.self.inside.order c.step.new.ctx c.step.new.self (Some (c.in-Some.stream, c.in-Some.piece))
-before g c = subst (HasStepped g.S.Streams g.C.Faulty.faults g.C.Faulty.mark c.args.ctx.now c.self.inside.order c.step.new.ctx c.step.new.self) c.in-Some.is
-    (record {
-      told = c.in_ok-taken.ensures.told;
-      untold = c.step.ensures.untold;
-      known = c.in_ok-taken.ensures.known;
-      above = c.in_ok-taken.ensures.above;
-      below = c.in_ok-taken.ensures.below;
-      last = c.in_ok-taken.ensures.last;
-      small = c.in_ok-taken.ensures.small;
-      ascending = c.in_ok-taken.ensures.ascending;
-      taken = c.in_ok-taken.ensures.taken;
-      held = c.step.ensures.held;
-      over = λ none. c.in_ok-taken.ensures.over (ap Ok none);
-      same = c.step.ensures.same;
-      set = c.step.ensures.kept;
-      rises = c.step.ensures.faults;
-      marked = c.step.ensures.mark;
-      kept = c.step.ensures.keeps;
-    })
+before g c =
+    stepped g.S.Streams g.C.Faulty.faults g.C.Faulty.mark c.args.ctx.now c.self.inside.order c.step.new.ctx c.step.new.self _ (Some (c.in-Some.stream, c.in-Some.piece))
+    c.in-Some.is c.in_ok-taken.ensures
 
 room : (g : given.Over) (c : goal.After-add-arg-1 g) → (length c.self.inside.sums.taken < c.self.inside.sums.room) × (length c.self.inside.sums.taken < 65535)
 room g c = has_room g.S.Streams g.C.Faulty.faults g.C.Faulty.mark c.args.ctx.now c.step.new.ctx _
@@ -42,25 +26,9 @@ add-requires-clause-room g c = (room g c).0
 -- and behind it
 taken : (g : given.Over) (c : goal.After-add g) →
     HasStepped g.S.Streams g.C.Faulty.faults g.C.Faulty.mark c.args.ctx.now c.self.inside.order c.step.new.ctx c.step.new.self (Some (c.in-Some.stream, c.in-Some.piece))
-taken g c = subst (HasStepped g.S.Streams g.C.Faulty.faults g.C.Faulty.mark c.args.ctx.now c.self.inside.order c.step.new.ctx c.step.new.self) c.in-Some.is
-    (record {
-      told = c.in_ok-taken.ensures.told;
-      untold = c.step.ensures.untold;
-      known = c.in_ok-taken.ensures.known;
-      above = c.in_ok-taken.ensures.above;
-      below = c.in_ok-taken.ensures.below;
-      last = c.in_ok-taken.ensures.last;
-      small = c.in_ok-taken.ensures.small;
-      ascending = c.in_ok-taken.ensures.ascending;
-      taken = c.in_ok-taken.ensures.taken;
-      held = c.step.ensures.held;
-      over = λ none. c.in_ok-taken.ensures.over (ap Ok none);
-      same = c.step.ensures.same;
-      set = c.step.ensures.kept;
-      rises = c.step.ensures.faults;
-      marked = c.step.ensures.mark;
-      kept = c.step.ensures.keeps;
-    })
+taken g c =
+    stepped g.S.Streams g.C.Faulty.faults g.C.Faulty.mark c.args.ctx.now c.self.inside.order c.step.new.ctx c.step.new.self _ (Some (c.in-Some.stream, c.in-Some.piece))
+    c.in-Some.is c.in_ok-taken.ensures
 
 pub invariant_of-self-then-is_of : goal.invariant_of-self-then-is_of
 invariant_of-self-then-is_of g c =
@@ -83,25 +51,9 @@ returns-then-is_of-clause-goes_on g c is =
 -- of a piece of another tail
 other : (g : given.Over) (c : goal.After-add-2 g) →
     HasStepped g.S.Streams g.C.Faulty.faults g.C.Faulty.mark c.args.ctx.now c.self.inside.order c.step.new.ctx c.step.new.self (Some (c.in-Some.stream, c.in-Some.piece))
-other g c = subst (HasStepped g.S.Streams g.C.Faulty.faults g.C.Faulty.mark c.args.ctx.now c.self.inside.order c.step.new.ctx c.step.new.self) c.in-Some.is
-    (record {
-      told = c.in_ok-taken.ensures.told;
-      untold = c.step.ensures.untold;
-      known = c.in_ok-taken.ensures.known;
-      above = c.in_ok-taken.ensures.above;
-      below = c.in_ok-taken.ensures.below;
-      last = c.in_ok-taken.ensures.last;
-      small = c.in_ok-taken.ensures.small;
-      ascending = c.in_ok-taken.ensures.ascending;
-      taken = c.in_ok-taken.ensures.taken;
-      held = c.step.ensures.held;
-      over = λ none. c.in_ok-taken.ensures.over (ap Ok none);
-      same = c.step.ensures.same;
-      set = c.step.ensures.kept;
-      rises = c.step.ensures.faults;
-      marked = c.step.ensures.mark;
-      kept = c.step.ensures.keeps;
-    })
+other g c =
+    stepped g.S.Streams g.C.Faulty.faults g.C.Faulty.mark c.args.ctx.now c.self.inside.order c.step.new.ctx c.step.new.self _ (Some (c.in-Some.stream, c.in-Some.piece))
+    c.in-Some.is c.in_ok-taken.ensures
 
 pub invariant_of-self-2 : goal.invariant_of-self-2
 invariant_of-self-2 g c =
@@ -120,25 +72,9 @@ returns-clause-turned g c =
 -- of the end
 ended : (g : given.Over) (c : goal.After-give-rest g) →
     HasStepped g.S.Streams g.C.Faulty.faults g.C.Faulty.mark c.args.ctx.now c.self.inside.order c.step.new.ctx c.step.new.self None
-ended g c = subst (HasStepped g.S.Streams g.C.Faulty.faults g.C.Faulty.mark c.args.ctx.now c.self.inside.order c.step.new.ctx c.step.new.self) (none_is c.in_ok-taken.taken c.in_default.not-Some)
-    (record {
-      told = c.in_ok-taken.ensures.told;
-      untold = c.step.ensures.untold;
-      known = c.in_ok-taken.ensures.known;
-      above = c.in_ok-taken.ensures.above;
-      below = c.in_ok-taken.ensures.below;
-      last = c.in_ok-taken.ensures.last;
-      small = c.in_ok-taken.ensures.small;
-      ascending = c.in_ok-taken.ensures.ascending;
-      taken = c.in_ok-taken.ensures.taken;
-      held = c.step.ensures.held;
-      over = λ none. c.in_ok-taken.ensures.over (ap Ok none);
-      same = c.step.ensures.same;
-      set = c.step.ensures.kept;
-      rises = c.step.ensures.faults;
-      marked = c.step.ensures.mark;
-      kept = c.step.ensures.keeps;
-    })
+ended g c =
+    stepped g.S.Streams g.C.Faulty.faults g.C.Faulty.mark c.args.ctx.now c.self.inside.order c.step.new.ctx c.step.new.self _ None
+    (none_is c.in_ok-taken.taken c.in_default.not-Some) c.in_ok-taken.ensures
 
 pub invariant_of-self-in_default : goal.invariant_of-self-in_default
 invariant_of-self-in_default g c =
