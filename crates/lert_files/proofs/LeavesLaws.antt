@@ -155,3 +155,16 @@ module _ (s : Numbers) (payload : List ℕ) (start : ℕ) (start_is : start ≡ 
     | inl at ↦ omega (arith, at, reports.there)
     | inr at ↦ omega (arith, at.0, reports.there)
   ]
+
+-- ---- a place where the fields break that lies behind the reports' beginning
+
+pub record BreaksBehind (s : Numbers) (payload : List ℕ) (start cone : ℕ) (before : LogBefore) (place : ℕ) : Type 0 where
+  pub start_is : start ≡ reports_place s (n0_in payload) + 4
+  pub is : log_left s cone before payload ≡ Some place
+  pub reports : ReportsBefore s cone before payload place ((place - start) / 16)
+
+pub breaks_behind : (s : Numbers) (payload : List ℕ) (start n0 cone : ℕ) (before : LogBefore) (place : ℕ) → start ≡ reports_place s n0 + 4 → n0 ≡ n0_in payload → start ≤ place →
+    log_left s cone before payload ≡ Some place → BreaksBehind s payload start cone before place
+breaks_behind s payload start n0 cone before place start_is n0_is behind is =
+    let begins = start_is ∙ ap (λ n. reports_place s n + 4) n0_is in
+    record { start_is = begins; is = is; reports = before_there s payload start begins cone before place is behind }

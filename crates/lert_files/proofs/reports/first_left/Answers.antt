@@ -5,10 +5,9 @@ use Rattle.lert_spec.specs.Edges.{capacity}
 use Rattle.lert_spec.specs.Look.{is_listed}
 use Rattle.lert_spec.specs.Mix.{cone_of}
 use Rattle.lert_reports.specs.Log.{before_of}
-use Rattle.lert_reports.specs.LogText.{reports_place}
 use Rattle.lert_files.specs.Repeated.{reports_from, IsListedThere, AreNewThere}
 use Rattle.lert_files.proofs.LeftLaws.{long_enough, within_capacity}
-use Rattle.lert_files.proofs.LeavesLaws.{before_there, behind_new, at_key, among, all_of_cone, key_of_cone, next_key, place_small}
+use Rattle.lert_files.proofs.LeavesLaws.{breaks_behind, behind_new, at_key, among, all_of_cone, key_of_cone, next_key, place_small}
 use Rattle.lert_files.proofs.reports.first_left.Goals as goal
 
 pub number_in-requires : goal.number_in-requires
@@ -26,29 +25,29 @@ pub put_reports-requires-clause-whole : goal.put_reports-requires-clause-whole
 put_reports-requires-clause-whole g c =
     let s = c.args.settings.now in
     let left = c.requires.left in
-    let start_is = c.reports_start-start.ensures.value ∙ ap (λ n. reports_place s n + 4) c.number_in.ensures in
-    let reports = before_there s c.args.payload.now c.reports_start-start.result start_is left.0 left.1 c.args.place left.2 c.if-place-start.false in
-    omega (arith, reports.there, start_is)
+    let at = breaks_behind s c.args.payload.now c.reports_start-start.result c.number_in.result left.0 left.1 c.args.place
+    c.reports_start-start.ensures.value c.number_in.ensures c.if-place-start.false left.2 in
+    omega (arith, at.reports.there, at.start_is)
 
 pub put_reports-requires-clause-room : goal.put_reports-requires-clause-room
 put_reports-requires-clause-room g c =
     let s = c.args.settings.now in
     let left = c.requires.left in
-    let start_is = c.reports_start-start.ensures.value ∙ ap (λ n. reports_place s n + 4) c.number_in.ensures in
-    let reports = before_there s c.args.payload.now c.reports_start-start.result start_is left.0 left.1 c.args.place left.2 c.if-place-start.false in
-    omega (arith, reports.few, reports.room, left.3, ap (λ (n : Numbers). n.room) c.requires.same)
+    let at = breaks_behind s c.args.payload.now c.reports_start-start.result c.number_in.result left.0 left.1 c.args.place
+    c.reports_start-start.ensures.value c.number_in.ensures c.if-place-start.false left.2 in
+    omega (arith, at.reports.few, at.reports.room, left.3, ap (λ (n : Numbers). n.room) c.requires.same)
 
 pub put_reports-requires-clause-of_cone : goal.put_reports-requires-clause-of_cone
 put_reports-requires-clause-of_cone g c =
     let s = c.args.settings.now in
     let left = c.requires.left in
-    let start_is = c.reports_start-start.ensures.value ∙ ap (λ n. reports_place s n + 4) c.number_in.ensures in
-    let n = (c.args.place - c.reports_start-start.result) / 16 in
-    let reports = before_there s c.args.payload.now c.reports_start-start.result start_is left.0 left.1 c.args.place left.2 c.if-place-start.false in (
+    let at = breaks_behind s c.args.payload.now c.reports_start-start.result c.number_in.result left.0 left.1 c.args.place
+    c.reports_start-start.ensures.value c.number_in.ensures c.if-place-start.false left.2 in
+    let n = (c.args.place - c.reports_start-start.result) / 16 in (
       left.0,
       subst (λ (numbers : Numbers). All (λ report. cone_of numbers report.key ≡ left.0)
           (c.args.store.now.reports ++ reports_from c.args.payload.now c.reports_start-start.result n)) (sym c.requires.same)
-          (all_of_cone s c.args.payload.now c.reports_start-start.result start_is left.0 left.1 c.args.store.now.reports n left.4 reports.keys),
+          (all_of_cone s c.args.payload.now c.reports_start-start.result at.start_is left.0 left.1 c.args.store.now.reports n left.4 at.reports.keys),
     )
 
 pub returns-in-Some-clause-first : goal.returns-in-Some-clause-first
@@ -56,11 +55,11 @@ returns-in-Some-clause-first g c cone records is listed_is =
     let s = c.args.settings.now in
     let payload = c.args.payload.now in
     let start = c.reports_start-start.result in
-    let start_is = c.reports_start-start.ensures.value ∙ ap (λ n. reports_place s n + 4) c.number_in.ensures in
+    let at = breaks_behind s payload start c.number_in.result cone (before_of records) c.args.place
+    c.reports_start-start.ensures.value c.number_in.ensures c.if-place-start.false is in
     let n = (c.args.place - start) / 16 in
-    let reports = before_there s payload start start_is cone (before_of records) c.args.place is c.if-place-start.false in
     let found = c.in-Some.ensures.found in
-    among s payload start start_is cone records c.args.place is n c.in-Some.number reports found.0
+    among s payload start at.start_is cone records c.args.place is n c.in-Some.number at.reports found.0
     (subst (λ listed. IsListedThere listed payload start c.in-Some.number) listed_is found.1)
     (subst (λ listed. AreNewThere listed payload start c.in-Some.number) listed_is found.2)
 
@@ -68,39 +67,39 @@ pub returns-in-Some-clause-within : goal.returns-in-Some-clause-within
 returns-in-Some-clause-within g c =
     let s = c.args.settings.now in
     let left = c.requires.left in
-    let start_is = c.reports_start-start.ensures.value ∙ ap (λ n. reports_place s n + 4) c.number_in.ensures in
-    let reports = before_there s c.args.payload.now c.reports_start-start.result start_is left.0 left.1 c.args.place left.2 c.if-place-start.false in
-    omega (arith, reports.there, start_is, c.in-Some.ensures.found.0, c.requires.short)
+    let at = breaks_behind s c.args.payload.now c.reports_start-start.result c.number_in.result left.0 left.1 c.args.place
+    c.reports_start-start.ensures.value c.number_in.ensures c.if-place-start.false left.2 in
+    omega (arith, at.reports.there, at.start_is, c.in-Some.ensures.found.0, c.requires.short)
 
 pub overflow_add-next-2 : goal.overflow_add-next-2
 overflow_add-next-2 g c =
     let s = c.args.settings.now in
     let left = c.requires.left in
-    let start_is = c.reports_start-start.ensures.value ∙ ap (λ n. reports_place s n + 4) c.number_in.ensures in
-    let reports = before_there s c.args.payload.now c.reports_start-start.result start_is left.0 left.1 c.args.place left.2 c.if-place-start.false in
-    omega (arith, reports.there, start_is, c.requires.short)
+    let at = breaks_behind s c.args.payload.now c.reports_start-start.result c.number_in.result left.0 left.1 c.args.place
+    c.reports_start-start.ensures.value c.number_in.ensures c.if-place-start.false left.2 in
+    omega (arith, at.reports.there, at.start_is, c.requires.short)
 
 pub returns-then-place-next-clause-first : goal.returns-then-place-next-clause-first
 returns-then-place-next-clause-first g c cone records is listed_is =
     let s = c.args.settings.now in
     let payload = c.args.payload.now in
     let start = c.reports_start-start.result in
-    let start_is = c.reports_start-start.ensures.value ∙ ap (λ n. reports_place s n + 4) c.number_in.ensures in
+    let at = breaks_behind s payload start c.number_in.result cone (before_of records) c.args.place
+    c.reports_start-start.ensures.value c.number_in.ensures c.if-place-start.false is in
     let n = (c.args.place - start) / 16 in
-    let reports = before_there s payload start start_is cone (before_of records) c.args.place is c.if-place-start.false in
-    behind_new s payload start start_is cone records c.args.place is n reports
+    behind_new s payload start at.start_is cone records c.args.place is n at.reports
     (subst (λ listed. AreNewThere listed payload start n) listed_is c.in_default.ensures.found.1)
-    (λ at. absurd (c.if-place-next.true at))
+    (λ here. absurd (c.if-place-next.true here))
 
 pub returns-then-place-next-clause-within : goal.returns-then-place-next-clause-within
 returns-then-place-next-clause-within g c =
     let s = c.args.settings.now in
     let left = c.requires.left in
-    let start_is = c.reports_start-start.ensures.value ∙ ap (λ n. reports_place s n + 4) c.number_in.ensures in
-    let reports = before_there s c.args.payload.now c.reports_start-start.result start_is left.0 left.1 c.args.place left.2 c.if-place-start.false in
+    let at = breaks_behind s c.args.payload.now c.reports_start-start.result c.number_in.result left.0 left.1 c.args.place
+    c.reports_start-start.ensures.value c.number_in.ensures c.if-place-start.false left.2 in
     omega (
       arith,
-      place_small s c.args.payload.now c.reports_start-start.result start_is left.0 left.1 c.args.place ((c.args.place - c.reports_start-start.result) / 16) reports,
+      place_small s c.args.payload.now c.reports_start-start.result at.start_is left.0 left.1 c.args.place ((c.args.place - c.reports_start-start.result) / 16) at.reports,
       c.requires.short,
     )
 
@@ -109,22 +108,22 @@ number_in-requires-2 g c =
     let s = c.args.settings.now in
     let left = c.requires.left in
     let start = c.reports_start-start.result in
-    let start_is = c.reports_start-start.ensures.value ∙ ap (λ n. reports_place s n + 4) c.number_in.ensures in
+    let at = breaks_behind s c.args.payload.now start c.number_in.result left.0 left.1 c.args.place
+    c.reports_start-start.ensures.value c.number_in.ensures c.if-place-start.false left.2 in
     let n = (c.args.place - start) / 16 in
-    let reports = before_there s c.args.payload.now start start_is left.0 left.1 c.args.place left.2 c.if-place-start.false in
-    omega (arith, (next_key s c.args.payload.now start start_is left.0 left.1 c.args.place n reports c.if-place-next.false).long, start_is)
+    omega (arith, (next_key s c.args.payload.now start at.start_is left.0 left.1 c.args.place n at.reports c.if-place-next.false).long, at.start_is)
 
 pub has-requires : goal.has-requires
 has-requires g c =
     let s = c.args.settings.now in
     let left = c.requires.left in
     let start = c.reports_start-start.result in
-    let start_is = c.reports_start-start.ensures.value ∙ ap (λ n. reports_place s n + 4) c.number_in.ensures in
+    let at = breaks_behind s c.args.payload.now start c.number_in.result left.0 left.1 c.args.place
+    c.reports_start-start.ensures.value c.number_in.ensures c.if-place-start.false left.2 in
     let n = (c.args.place - start) / 16 in
-    let reports = before_there s c.args.payload.now start start_is left.0 left.1 c.args.place left.2 c.if-place-start.false in
-    let key = next_key s c.args.payload.now start start_is left.0 left.1 c.args.place n reports c.if-place-next.false in
-    let key_is = key_of_cone s c.args.payload.now start start_is left.0 left.1 n key in
-    let those = all_of_cone s c.args.payload.now start start_is left.0 left.1 c.args.store.now.reports n left.4 reports.keys in
+    let key = next_key s c.args.payload.now start at.start_is left.0 left.1 c.args.place n at.reports c.if-place-next.false in
+    let key_is = key_of_cone s c.args.payload.now start at.start_is left.0 left.1 n key in
+    let those = all_of_cone s c.args.payload.now start at.start_is left.0 left.1 c.args.store.now.reports n left.4 at.reports.keys in
     let same = c.in_default.ensures.settings ∙ c.requires.same in
     let cone_is : left.0 ≡ cone_of s c.number_in-2.result = sym (ap (cone_of s) c.number_in-2.ensures ∙ key_is) in
     subst (λ (numbers : Numbers). All (λ report. cone_of numbers report.key ≡ cone_of numbers c.number_in-2.result) c.put_reports.new.store.reports) (sym same)
@@ -136,12 +135,12 @@ returns-then-has-clause-first g c cone records is listed_is =
     let s = c.args.settings.now in
     let payload = c.args.payload.now in
     let start = c.reports_start-start.result in
-    let start_is = c.reports_start-start.ensures.value ∙ ap (λ n. reports_place s n + 4) c.number_in.ensures in
+    let at = breaks_behind s payload start c.number_in.result cone (before_of records) c.args.place
+    c.reports_start-start.ensures.value c.number_in.ensures c.if-place-start.false is in
     let n = (c.args.place - start) / 16 in
-    let reports = before_there s payload start start_is cone (before_of records) c.args.place is c.if-place-start.false in
     let found = c.in_default.ensures.found in
     let there : IsListedThere c.args.store.now.reports payload start n = ap₂ is_listed (sym c.number_in-2.ensures) (sym found.0) ∙ (sym c.has.ensures ∙ c.if-has.true) in
-    at_key s payload start start_is cone records c.args.place is n reports
+    at_key s payload start at.start_is cone records c.args.place is n at.reports
     (subst (λ listed. AreNewThere listed payload start n) listed_is found.1)
     c.if-place-next.false
     (subst (λ listed. IsListedThere listed payload start n) listed_is there)
@@ -150,31 +149,31 @@ pub returns-then-has-clause-within : goal.returns-then-has-clause-within
 returns-then-has-clause-within g c =
     let s = c.args.settings.now in
     let left = c.requires.left in
-    let start_is = c.reports_start-start.ensures.value ∙ ap (λ n. reports_place s n + 4) c.number_in.ensures in
-    let reports = before_there s c.args.payload.now c.reports_start-start.result start_is left.0 left.1 c.args.place left.2 c.if-place-start.false in
-    omega (arith, reports.there, start_is, c.requires.short)
+    let at = breaks_behind s c.args.payload.now c.reports_start-start.result c.number_in.result left.0 left.1 c.args.place
+    c.reports_start-start.ensures.value c.number_in.ensures c.if-place-start.false left.2 in
+    omega (arith, at.reports.there, at.start_is, c.requires.short)
 
 pub returns-clause-first : goal.returns-clause-first
 returns-clause-first g c cone records is listed_is =
     let s = c.args.settings.now in
     let payload = c.args.payload.now in
     let start = c.reports_start-start.result in
-    let start_is = c.reports_start-start.ensures.value ∙ ap (λ n. reports_place s n + 4) c.number_in.ensures in
+    let at = breaks_behind s payload start c.number_in.result cone (before_of records) c.args.place
+    c.reports_start-start.ensures.value c.number_in.ensures c.if-place-start.false is in
     let n = (c.args.place - start) / 16 in
-    let reports = before_there s payload start start_is cone (before_of records) c.args.place is c.if-place-start.false in
     let found = c.in_default.ensures.found in
-    behind_new s payload start start_is cone records c.args.place is n reports
+    behind_new s payload start at.start_is cone records c.args.place is n at.reports
     (subst (λ listed. AreNewThere listed payload start n) listed_is found.1)
-    (λ at. ap₂ is_listed (sym c.number_in-2.ensures) (sym (found.0 ∙ ap (λ listed. listed ++ reports_from payload start n) listed_is)) ∙ (sym c.has.ensures ∙ c.if-has.false))
+    (λ here. ap₂ is_listed (sym c.number_in-2.ensures) (sym (found.0 ∙ ap (λ listed. listed ++ reports_from payload start n) listed_is)) ∙ (sym c.has.ensures ∙ c.if-has.false))
 
 pub returns-clause-within : goal.returns-clause-within
 returns-clause-within g c =
     let s = c.args.settings.now in
     let left = c.requires.left in
-    let start_is = c.reports_start-start.ensures.value ∙ ap (λ n. reports_place s n + 4) c.number_in.ensures in
-    let reports = before_there s c.args.payload.now c.reports_start-start.result start_is left.0 left.1 c.args.place left.2 c.if-place-start.false in
+    let at = breaks_behind s c.args.payload.now c.reports_start-start.result c.number_in.result left.0 left.1 c.args.place
+    c.reports_start-start.ensures.value c.number_in.ensures c.if-place-start.false left.2 in
     omega (
       arith,
-      place_small s c.args.payload.now c.reports_start-start.result start_is left.0 left.1 c.args.place ((c.args.place - c.reports_start-start.result) / 16) reports,
+      place_small s c.args.payload.now c.reports_start-start.result at.start_is left.0 left.1 c.args.place ((c.args.place - c.reports_start-start.result) / 16) at.reports,
       c.requires.short,
     )
