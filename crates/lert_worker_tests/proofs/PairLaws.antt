@@ -34,6 +34,12 @@ none_left old new (Some first) one given = empty new.traces (omega (arith, one, 
     empty [] none = refl
     empty (trace ∷ traces) none = absurd (omega (arith, none))
 
+-- which keeps all else
+pub kept_back : {S H : Type 0} (old new : Working S H) (result : Option (ℕ × Reading S))
+    → MatchOption result ((old.traces ≡ []) × (old.readers ≡ []) × (new ≡ old)) (λ first. IsGivenBack first.0 first.1 old new) → (new.end ≡ old.end) × (new.pass ≡ old.pass)
+kept_back {S} {H} old new None given = (ap (λ (w : Working S H). w.end) given.2, ap (λ (w : Working S H). w.pass) given.2)
+kept_back {S} {H} old new (Some first) given = (ap (λ (w : Working S H). w.end) given.others_are, ap (λ (w : Working S H). w.pass) given.others_are)
+
 module _ {H T R : Type 0} (held : HeldOf H T R ConeFault) (fleet : FleetSight H) (first second : FleetPassSight H ConeFault) (passes : ArePasses fleet first second) where
   -- joined, they have all numbers
   pub whole : (joined : FleetPassSight H ConeFault) → JoinsEach first second joined → IsWhole joined fleet

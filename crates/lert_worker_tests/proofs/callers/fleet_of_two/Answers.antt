@@ -1,4 +1,5 @@
-use Rattle.std.proofs.Common.{◌∙◌, ap, length, sym}
+use Rattle.std.proofs.Common.{◌∙◌, ap, arith, length, sym}
+use Rattle.std.proofs.lemmas.List.{length-map}
 use Rattle.std.proofs.lemmas.Result.{IfOk-at_ok}
 use Rattle.lert_worker_tests.proofs.callers.fleet_of_two.Goals as goal
 
@@ -16,3 +17,20 @@ returns-clause-passes g c =
       other_hi_is = ap (λ pass. pass.hi) cut ∙ ap (λ pass. pass.hi) pass;
       all = c.in-Ok.ensures.locks.numbers_are;
     }
+
+pub new-requires-clause-cones : goal.new-requires-clause-cones
+new-requires-clause-cones g c = λ lifetimes outlive. c.requires.few
+
+pub new-requires-clause-opened : goal.new-requires-clause-opened
+new-requires-clause-opened g c = λ lifetimes outlive. c.requires.opened
+
+pub split-requires-clause-belongs : goal.split-requires-clause-belongs
+split-requires-clause-belongs g c = c.in-Ok.ensures.belongs
+
+pub split-requires-clause-within : goal.split-requires-clause-within
+split-requires-clause-within g c =
+    let pass = c.in-Ok.ensures.pass in
+    (omega (arith, ap (λ pass. pass.lo) pass), omega (arith, ap (λ pass. pass.hi) pass))
+
+pub returns-clause-cones : goal.returns-clause-cones
+returns-clause-cones g c = sym (length-map _ _) ∙ ap length c.in-Ok.ensures.locks.firsts
