@@ -117,7 +117,10 @@ pub(crate) fn stopped(rt: &impl Abort, alloc: Global, keys: &[u64], call: u64) -
                 finished,
             })
         }
-        Err(_) => None,
+        Err(refused) => {
+            drop(refused);
+            None
+        }
     }
 }
 
@@ -133,7 +136,10 @@ pub(crate) fn go_on(
 ) {
     let room = ConeRoom::new(alloc, &settings(rt)).expect(rt, "memory");
     match reopen(room, 0, image) {
-        Ok(mut cone) => check_rest(rt, alloc, &mut cone, keys, taken, more, reports),
+        Ok(mut cone) => {
+            check_rest(rt, alloc, &mut cone, keys, taken, more, reports);
+            drop(cone);
+        }
         Err(_) => panic!(rt; "what a crash leaves is sound"),
     }
 }
