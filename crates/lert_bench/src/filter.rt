@@ -24,7 +24,9 @@ fn count_tails<R: Clock + AllocGlobal>(rt: &R, workload: Workload, tails: &[u64]
         .prepare(rt.alloc(), tails)
         .ok()
         .context("out of memory")?;
-    time_counts(rt, &mut ready, tails)
+    let timed = time_counts(rt, &mut ready, tails);
+    drop(ready);
+    timed
 }
 
 fn time_counts<R: Clock>(rt: &R, ready: &mut Ready, tails: &[u64]) -> Result<Timed> {

@@ -65,9 +65,9 @@ pub fn read_frame<B: Bay>(
         .ok()
         .context("out of memory")?;
     reader.start(0, width);
-    sum_up(&mut reader, bay, most)
-        .ok()
-        .context("a frame that isn't one")
+    let sum = sum_up(&mut reader, bay, most);
+    drop(reader);
+    sum.ok().context("a frame that isn't one")
 }
 
 // Puts pieces into a frame that a writer began, and ends it.
