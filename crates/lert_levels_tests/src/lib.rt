@@ -11,4 +11,6 @@ mod levels;
 #[cfg(test)]
 mod samples;
 #[cfg(test)]
+mod totals;
+#[cfg(test)]
 mod zero;
