@@ -8,13 +8,14 @@
 //! as the program's workers do: a whole packet, or two or three, where the cone isn't held, and four whatever
 //! it waits. It keeps no log and no frames. It is the yardstick of `bench/run`, and ends at the first fault.
 
+mod counted_keys;
 mod mixer;
 
+use counted_keys::{Counted, print};
 use mixer::mix;
-use std::collections::HashMap;
 use std::env;
 use std::fs::{self, File};
-use std::io::{self, BufReader, BufWriter, ErrorKind, Read, Write};
+use std::io::{self, BufReader, BufWriter, ErrorKind, Read};
 use std::os::unix::fs::FileExt;
 use std::path::Path;
 use std::sync::Mutex;
@@ -97,32 +98,20 @@ impl Journal {
 
 struct Cone {
     journal: Journal,
-    counts: HashMap<u64, u64>,
-    events: u64,
-    reports: Vec<(u64, u64)>,
+    counted: Counted,
 }
 
 impl Cone {
     fn create(dir: &Path, settings: &Settings, number: u32) -> io::Result<Cone> {
         let path = dir.join(format!("cone-{number:03}.journal"));
-        Ok(Cone {
-            journal: Journal::create(&path, settings.header(number))?,
-            counts: HashMap::new(),
-            events: 0,
-            reports: Vec::new(),
-        })
+        Ok(Cone { journal: Journal::create(&path, settings.header(number))?, counted: Counted::default() })
     }
 
     /// Writes keys as a packet, and then counts them.
     fn admit(&mut self, threshold: u64, by: u32, trace: u32, keys: &[u64]) -> io::Result<()> {
         self.journal.append(by, trace, keys)?;
         for &key in keys {
-            self.events += 1;
-            let count = self.counts.entry(key).or_insert(0);
-            *count += 1;
-            if *count == threshold {
-                self.reports.push((key, self.events));
-            }
+            self.counted.take(threshold, key);
         }
         Ok(())
     }
@@ -210,24 +199,6 @@ fn route(workers: u32, settings: &Settings, cones: &[Mutex<Cone>], traces: &[Str
     })
 }
 
-fn print(out: &mut impl Write, cones: &[Cone]) -> io::Result<()> {
-    for (number, cone) in cones.iter().enumerate() {
-        writeln!(
-            out,
-            "cone {number} events {} reports {} closed",
-            cone.events,
-            cone.reports.len()
-        )?;
-        for (key, at) in &cone.reports {
-            writeln!(out, "{key} {at}")?;
-        }
-    }
-    let events: u64 = cones.iter().map(|cone| cone.events).sum();
-    let reports: usize = cones.iter().map(|cone| cone.reports.len()).sum();
-    writeln!(out, "total events {events} reports {reports}")?;
-    out.flush()
-}
-
 fn main() -> io::Result<()> {
     let wrong = || {
         io::Error::new(ErrorKind::InvalidInput, "the words are THRESHOLD ROOM BASE CONE_BITS WORKERS DIR TRACE..")
@@ -252,7 +223,7 @@ fn main() -> io::Result<()> {
         .map(|cone| Cone::create(Path::new(dir), &settings, cone).map(Mutex::new))
         .collect::<io::Result<_>>()?;
     route(workers, &settings, &cones, traces)?;
-    let cones: Vec<Cone> = cones.into_iter().filter_map(|cone| cone.into_inner().ok()).collect();
+    let cones: Vec<Counted> = cones.into_iter().filter_map(|cone| Some(cone.into_inner().ok()?.counted)).collect();
     let mut out = BufWriter::with_capacity(BUFFER_LEN, io::stdout().lock());
-    print(&mut out, &cones)
+    print(&mut out, &cones, "closed")
 }

@@ -5,10 +5,12 @@
 //! Words: DIR. The threshold and the number of cones stand in the first journal; journals alone are read. It is the
 //! yardstick of `bench/reopen`, and ends at the first fault.
 
-use std::collections::HashMap;
+mod counted_keys;
+
+use counted_keys::{Counted, print};
 use std::env;
 use std::fs::File;
-use std::io::{self, BufReader, BufWriter, ErrorKind, Read, Write};
+use std::io::{self, BufReader, BufWriter, ErrorKind, Read};
 use std::path::Path;
 
 const JOURNAL_MAGIC: [u8; 8] = *b"LERTJ\x01\0\0";
@@ -21,40 +23,19 @@ const OPEN: u8 = 1;
 /// Before its keys a payload says who brought them, and their trace.
 const KEYS_AT: usize = 8;
 
-struct Cone {
-    threshold: u64,
-    counts: HashMap<u64, u64>,
-    events: u64,
-    reports: Vec<(u64, u64)>,
-}
-
-impl Cone {
-    fn new(threshold: u64) -> Cone {
-        Cone { threshold, counts: HashMap::new(), events: 0, reports: Vec::new() }
-    }
-
-    fn take(&mut self, key: u64) {
-        self.events += 1;
-        let count = self.counts.entry(key).or_insert(0);
-        *count += 1;
-        if *count == self.threshold {
-            self.reports.push((key, self.events));
+/// Takes the keys of all packets, up to the closed gate behind them.
+fn replay(journal: &mut impl Read, threshold: u64) -> io::Result<Counted> {
+    let mut counted = Counted::default();
+    let mut payload = Vec::new();
+    while let [OPEN] = bytes(journal)? {
+        payload.resize(u32::from_le_bytes(bytes(journal)?) as usize, 0);
+        journal.read_exact(&mut payload)?;
+        let keys = payload.get(KEYS_AT..).ok_or_else(|| bad("a packet has no key"))?;
+        for key in keys.chunks_exact(8) {
+            counted.take(threshold, u64::from_le_bytes(key.try_into().expect("eight bytes")));
         }
     }
-
-    /// Takes the keys of all packets, up to the closed gate behind them.
-    fn replay(&mut self, journal: &mut impl Read) -> io::Result<()> {
-        let mut payload = Vec::new();
-        while let [OPEN] = bytes(journal)? {
-            payload.resize(u32::from_le_bytes(bytes(journal)?) as usize, 0);
-            journal.read_exact(&mut payload)?;
-            let keys = payload.get(KEYS_AT..).ok_or_else(|| bad("a packet has no key"))?;
-            for key in keys.chunks_exact(8) {
-                self.take(u64::from_le_bytes(key.try_into().expect("eight bytes")));
-            }
-        }
-        Ok(())
-    }
+    Ok(counted)
 }
 
 fn bad(text: &str) -> io::Error {
@@ -79,25 +60,10 @@ fn open(dir: &Path, number: u32) -> io::Result<([u8; HEADER_LEN], BufReader<File
     Ok((header, journal))
 }
 
-fn reopen(dir: &Path, number: u32) -> io::Result<Cone> {
+fn reopen(dir: &Path, number: u32) -> io::Result<Counted> {
     let (header, mut journal) = open(dir, number)?;
     let threshold: [u8; 4] = header[THRESHOLD_AT..][..4].try_into().expect("four bytes");
-    let mut cone = Cone::new(u64::from(u32::from_le_bytes(threshold)));
-    cone.replay(&mut journal)?;
-    Ok(cone)
-}
-
-fn print(out: &mut impl Write, cones: &[Cone]) -> io::Result<()> {
-    for (number, cone) in cones.iter().enumerate() {
-        writeln!(out, "cone {number} events {} reports {} open", cone.events, cone.reports.len())?;
-        for (key, at) in &cone.reports {
-            writeln!(out, "{key} {at}")?;
-        }
-    }
-    let events: u64 = cones.iter().map(|cone| cone.events).sum();
-    let reports: usize = cones.iter().map(|cone| cone.reports.len()).sum();
-    writeln!(out, "total events {events} reports {reports}")?;
-    out.flush()
+    replay(&mut journal, u64::from(u32::from_le_bytes(threshold)))
 }
 
 fn main() -> io::Result<()> {
@@ -111,7 +77,7 @@ fn main() -> io::Result<()> {
     if cone_bits > MOST_CONE_BITS {
         return Err(bad("the journal has too many cone bits"));
     }
-    let cones: Vec<Cone> = (0..1 << cone_bits).map(|number| reopen(dir, number)).collect::<io::Result<_>>()?;
+    let cones: Vec<Counted> = (0..1 << cone_bits).map(|number| reopen(dir, number)).collect::<io::Result<_>>()?;
     let mut out = BufWriter::with_capacity(BUFFER_LEN, io::stdout().lock());
-    print(&mut out, &cones)
+    print(&mut out, &cones, "open")
 }
