@@ -1,5 +1,5 @@
 -- Calls of writers in turn.
-use Rattle.std.proofs.Common.{◌≡◌, ℕ, ◌-◌, ◌≤◌, Some, Result, length}
+use Rattle.std.proofs.Common.{◌≡◌, ℕ, ◌-◌, ◌≤◌, Option, Some, Result, length}
 use Rattle.std.specs.Prelude.{Ok, Err, OnOk}
 use Rattle.lert_bay.specs.Files.{Files, Changes, LeftByFailure}
 use Rattle.lert_bay.specs.declared.bay.TheConstants.{FRAMES}
@@ -28,6 +28,10 @@ module _ {B : Type 0} (bays : Bays B) (lawful : IsLawful bays) (begin end : ℕ)
   -- the same calls, seen as failed in other words
   pub writes_as : (before after : B) (First Failed : Type 0) → (Failed → First) → Writes bays begin end before after First → Writes bays begin end before after Failed
   writes_as before after First Failed turned one = record { within = one.within; kept = keeps_as bays lawful before after First Failed turned one.kept }
+
+-- a bay tells the same files each time
+pub same_files : (seen later : Files) → ◌≡◌ {A = Option Files} (Some seen) (Some later) → seen ≡ later
+same_files seen later is = cc
 
 -- a bay that tells its files tells them behind the calls
 pub told_then : {B : Type 0} (bays : Bays B) (begin end : ℕ) (before after : B) (seen : Files) → WritesWithin bays begin end before after → bays.files before ≡ Some seen →

@@ -1,4 +1,4 @@
-use Rattle.std.proofs.Common.{◌≡◌, ◌+◌, ◌≤◌, ◌∙◌, List, ℕ, Option, Some, length, length-take, take, ap, sym, subst, refl, arith}
+use Rattle.std.proofs.Common.{◌≡◌, ◌+◌, ◌≤◌, ◌∙◌, List, ℕ, length, length-take, take, ap, sym, subst, refl, arith}
 use Rattle.std.proofs.lemmas.Bool.{false≢true}
 use Rattle.std.proofs.lemmas.Result.{err_from_is_err_and}
 use Rattle.lert_bay.specs.declared.bay.TheConstants.{FRAMES}
@@ -6,6 +6,7 @@ use Rattle.lert_bay.specs.Files.{Changes, Files, Holds}
 use Rattle.lert_bay.specs.Kept.{Bays}
 use Rattle.lert_bay.proofs.KeptLaws.{IsLawful, keeps_none}
 use Rattle.lert_frames.specs.Outlet.{IsOut}
+use Rattle.lert_frames.proofs.CallLaws.{same_files}
 use Rattle.lert_frames.proofs.OutletLaws.{out_flushed}
 use Rattle.lert_frames.proofs.OrderLaws.{here}
 use Rattle.lert_frames.proofs.WithinLaws.{turns_to, within_same}
@@ -36,9 +37,6 @@ later_at at len = omega arith
 
 within_end : (at len end : ℕ) (bytes : List ℕ) → at + len ≤ end → at + length (take len bytes) ≤ end
 within_end at len end bytes high = omega (arith, length-take len bytes, high)
-
-same_files : (seen later : Files) → ◌≡◌ {A = Option Files} (Some seen) (Some later) → seen ≡ later
-same_files seen later is = cc
 
 pub returns-then-self-eq0 : goal.returns-then-self-eq0
 returns-then-self-eq0 g c =
