@@ -153,6 +153,10 @@ read_whole count head file long few is whole =
     sym (take_all 32 head (omega (arith, long)))
     ∙ (ap (λ n. take n head) (let same : 32 ≡ count = omega (arith, whole, few, length-take count head) in same) ∙ is)
 
+-- its first bytes were read, too
+pub front_read : (count : ℕ) (head : List ℕ) → 32 ≤ length (take count head) → take 8 head ≡ take 8 (take count head)
+front_read count head whole = sym (take-take 8 count head (omega (arith, whole, length-take count head)))
+
 -- its file has as many bytes
 pub whole_file : (count : ℕ) (head file : List ℕ) → take count head ≡ take 32 file → 32 ≤ length (take count head) → 32 ≤ length file
 whole_file count head file is whole = omega (arith, whole, ap (λ (xs : List ℕ). length xs) is, length-take 32 file)

@@ -110,11 +110,11 @@ fn read_in_order<B: Bay, T: CountTable>(
     ensures quiet { WritesNothing B.Bay bay.old bay.new (IsErrOf result ReopenFault.Failed) }
     ensures handed { B.handed_out bay.new JOURNAL ≤ B.handed_out bay.old JOURNAL + 32 }
 {
-    let mut directory = Directory::new();
     // Durable first: a second stop takes nothing back of what is read here.
     sync_files(bay)?;
     // In the order in which a place comes first; the directory before the frames that it names.
     read_journal_header(bay, settings, cone)?;
+    let mut directory = Directory::new();
     let end = read_whole_log(bay, settings, cone, store, &mut directory, buffer)?;
     levels.restore(end.n0, directory.bytes());
     levels.check(bay)?;

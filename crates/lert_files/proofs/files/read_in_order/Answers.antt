@@ -1,9 +1,11 @@
-use Rattle.std.proofs.Common.{ℕ, Err, refl, ap, sym, ◌∙◌, subst, arith}
+use Rattle.std.proofs.Common.{ℕ, ◌≤◌, Err, refl, ap, sym, ◌∙◌, subst, arith}
 use Rattle.std.proofs.lemmas.Result.{err_from_is_err_and}
 use Rattle.lert_rows.specs.Checked.{EachStands}
 use Rattle.lert_levels.specs.OnDisk.{OnDisk}
+use Rattle.lert_rows.specs.Named.{IsDirectory}
 use Rattle.lert_rows.specs.Rows.{IsAt, AreRows}
 use Rattle.lert_spec.specs.declared.numbers.Numbers.{Numbers}
+use Rattle.lert_spec.specs.Edges.{capacity}
 use Rattle.lert_bay.specs.declared.bay.TheConstants.{JOURNAL, FRAMES}
 use Rattle.lert_bay.specs.Kept.{Bays}
 use Rattle.lert_bay.proofs.KeptLaws.{IsLawful, reading_as, reads_as}
@@ -27,6 +29,16 @@ bays g = record {
 
 lawful : (g : given.Over) → IsLawful (bays g)
 lawful g = record { as_read = g.met.B.Bay.as_read; since_now = g.met.B.Bay.since_now; only_now = g.met.B.Bay.only_now; since_earlier = g.met.B.Bay.since_earlier }
+
+pub restore-requires-clause-within : goal.restore-requires-clause-within
+restore-requires-clause-within g c =
+    subst (λ (numbers : Numbers). c.in_ok-end.end.n0 ≤ capacity numbers) (sym c.requires.levels) c.in_ok-end.ensures.point.within
+
+pub restore-requires-clause-directory : goal.restore-requires-clause-directory
+restore-requires-clause-directory g c =
+    let n0 = c.in_ok-end.end.n0 in
+    subst (IsDirectory c.args.levels.now.settings n0) (sym c.bytes.ensures)
+    (subst (λ (numbers : Numbers). IsDirectory numbers n0 c.read_whole_log.new.directory) (sym c.requires.levels) c.in_ok-end.ensures.directory)
 
 pub returns-in_err-sync_files : goal.returns-in_err-sync_files
 returns-in_err-sync_files g c =
