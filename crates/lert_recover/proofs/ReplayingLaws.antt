@@ -1,5 +1,5 @@
 -- A cone that replays one packet more, or stops.
-use Rattle.std.proofs.Common.{ℕ, ◌≡◌, ◌+◌, ◌≤◌, Some, Option, List, ◌++◌, length, max, refl, ap, sym, ◌∙◌, subst, arith}
+use Rattle.std.proofs.Common.{ℕ, ◌≡◌, ◌+◌, ◌-◌, ◌*◌, ◌^◌, ◌<◌, ◌≤◌, Some, Option, List, ◌++◌, length, max, refl, ap, sym, ◌∙◌, subst, arith, length-append}
 use Rattle.lert_base.specs.Packet.{Packet}
 use Rattle.lert_bay.specs.declared.bay.TheConstants.{JOURNAL, FRAMES}
 use Rattle.lert_bay.specs.Files.{Files, IfTold}
@@ -9,7 +9,7 @@ use Rattle.lert_cone.specs.Framed.{HoldsSome, last_flush}
 use Rattle.lert_cone.specs.History.{most_payload}
 use Rattle.lert_cone.specs.Listing.{Listing}
 use Rattle.lert_cone.specs.Replay.{MayFollow, ReplayLeavesAt}
-use Rattle.lert_cone.specs.Replays.{BringsNoFlush, IsUnwritten}
+use Rattle.lert_cone.specs.Replays.{BringsNoFlush, HasTaken, IsUnwritten}
 use Rattle.lert_cone.specs.Sound.{IsSound}
 use Rattle.lert_cone.specs.Stands.{IsSameCone, Standing}
 use Rattle.lert_files.specs.Opened.{WritesNothing}
@@ -18,6 +18,7 @@ use Rattle.lert_journal.specs.Journal.{HoldsPacket}
 use Rattle.lert_journal.specs.Payload.{payload_of}
 use Rattle.lert_rows.specs.declared.bin_at.BinAt.{BinAt}
 use Rattle.lert_spec.specs.declared.numbers.Numbers.{Numbers}
+use Rattle.lert_spec.specs.Edges.{capacity}
 use Rattle.lert_recover.specs.Replayed.{FlushesNothing, HasReplayed, IsJournalSame}
 use Rattle.lert_recover.proofs.ReplayedLaws.{none_flushed, replayed_more}
 
@@ -125,6 +126,38 @@ module _ {B : Type 0} (files : B → Option Files) (start old new : Standing B) 
         let none = none_flushed s start.listing.cone start.last.n0 start.last.closed (seen JOURNAL) start.listing.events first gate old.listing.events packet has nothing opened in
         subst (λ (t : Numbers). last_flush t (n + length packet.keys) ≤ max old.last.n0 n) (sym same.settings)
         (omega (arith, none, ap (λ (last : LogPoint). last.n0) same.last))
+
+-- each packet has a key, so fewer are left
+pub fewer_left : (most count keys : ℕ) → 0 < keys → count + keys ≤ most → most - (count + keys) < most - count
+fewer_left most count keys some within = omega (arith, some, within)
+
+-- what one packet more makes of a cone's counts and its gate
+pub record HasGrown {B : Type 0} (start old new : Standing B) (next : ℕ) : Type 0 where
+  pub state : new.state ≡ old.state
+  pub closed : new.listing.closed ≡ old.listing.closed
+  pub gate_is : new.gate ≡ next
+  pub counted : new.events ≡ length new.listing.events
+  pub within : length new.listing.events ≤ capacity start.listing.settings
+  pub near : next ≤ 2 ^ 46 + 65536 * length new.listing.events
+  pub fewer : capacity start.listing.settings - length new.listing.events < capacity start.listing.settings - length old.listing.events
+
+pub has_grown : {B : Type 0} (files : B → Option Files) (start old new : Standing B) (gate next : ℕ) → IsSameCone start old → old.events ≡ length old.listing.events →
+    gate ≤ 2 ^ 46 + 65536 * length old.listing.events → HasTaken files old new gate next → next ≤ gate + 65536 → HasGrown start old new next
+has_grown {B = B} files start old new gate next same counted near took forward =
+    let n = length old.listing.events in
+    let keys = took.packet.keys in
+    let count : length new.listing.events ≡ n + length keys = ap (λ (k : Standing B). length k.listing.events) took.is ∙ length-append old.listing.events keys in
+    let within : n + length keys ≤ capacity start.listing.settings = subst (λ (s : Numbers). n + length keys ≤ capacity s) same.settings took.follows.within in
+    record {
+      state = ap (λ (k : Standing B). k.state) took.is;
+      closed = ap (λ (k : Standing B). k.listing.closed) took.is;
+      gate_is = ap (λ (k : Standing B). k.gate) took.is;
+      counted = omega (arith, ap (λ (k : Standing B). k.events) took.is, counted, count);
+      within = omega (arith, within, count);
+      near = omega (arith, near, forward, took.journaled.some, count);
+      fewer = subst (λ (m : ℕ). capacity start.listing.settings - m < capacity start.listing.settings - n) (sym count)
+          (fewer_left (capacity start.listing.settings) n (length keys) took.journaled.some within);
+    }
 
 -- what is told of soundness in the words of the cone as it is, in those of the cone as it was
 pub sound_on : {B : Type 0} (start old : Standing B) (told : Option Files) (h : List Packet) → IsSameCone start old →

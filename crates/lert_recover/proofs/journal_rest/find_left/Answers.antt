@@ -6,6 +6,7 @@ use Rattle.lert_gatelog.specs.Gated.{Log}
 use Rattle.lert_spec.specs.Limits.{IsValid}
 use Rattle.lert_recover.specs.Replayed.{JournalEnds, JournalLeavesAt}
 use Rattle.lert_recover.proofs.ReplayedLaws.{ends_here, here}
+use Rattle.lert_recover.proofs.ReplayingLaws.{fewer_left}
 use Rattle.lert_recover.proofs.RestLaws.{ends_packet, onward_packet}
 use Rattle.lert_recover.proofs.journal_rest.find_left.Given as given
 use Rattle.lert_recover.proofs.journal_rest.find_left.Invariants.{bays}
@@ -37,6 +38,16 @@ records-preserved g c =
       only_reads = reading_on (bays g) (lawful g) c.args.bay.now c.records.bay c.find_here.new.bay ⊥ ⊥ now.only_reads
           (reading_as (bays g) (lawful g) c.records.bay c.find_here.new.bay _ ⊥ (λ never. absurd never) found.only_reads);
     }
+
+pub records-smaller : goal.records-smaller
+records-smaller g c =
+    let goes = rw c.in-Packet.is at c.in_ok-keys.ensures.forward in fewer_left _ _ _ goes.0 goes.1
+
+pub overflow_add-count : goal.overflow_add-count
+overflow_add-count g c =
+    let valid = subst IsValid c.numbers.ensures.value c.numbers.ensures.valid in
+    let goes = rw c.in-Packet.is at c.in_ok-keys.ensures.forward in
+    record { fits = omega (arith, goes.1, valid.positions_fit) }
 
 pub returns-in-Left-clause-told : goal.returns-in-Left-clause-told
 returns-in-Left-clause-told g c seen told =

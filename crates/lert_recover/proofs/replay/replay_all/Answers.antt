@@ -1,9 +1,7 @@
-use Rattle.std.proofs.Common.{◌≡◌, ◌+◌, ◌-◌, ◌<◌, ◌≤◌, [], ◌∷◌, ◌++◌, length, refl, ap, sym, ◌∙◌, subst, arith, length-append, Err, List, ℕ}
+use Rattle.std.proofs.Common.{[], ◌∷◌, ◌++◌, length, refl, ap, sym, ◌∙◌, subst, arith, Err, List, ℕ}
 use Rattle.lert_bay.specs.declared.bay.TheConstants.{JOURNAL}
 use Rattle.lert_bay.specs.Kept.{CallsBay}
 use Rattle.lert_bay.proofs.KeptLaws.{IsLawful, calls_as, calls_none, calls_on, reading_none}
-use Rattle.lert_spec.specs.declared.numbers.Numbers.{Numbers}
-use Rattle.lert_spec.specs.Edges.{capacity}
 use Rattle.lert_spec.proofs.LimitLaws.{capacity_to}
 use Rattle.lert_reports.specs.declared.log_point.LogPoint.{LogPoint}
 use Rattle.lert_cone.specs.declared.refusal.ReplayFault.TheVariants.{Unsound}
@@ -12,7 +10,7 @@ use Rattle.lert_cone.specs.Replays.{Replays, WhyRefused}
 use Rattle.lert_cone.specs.Stands.{Standing}
 use Rattle.lert_files.proofs.QuietLaws.{quiet_on, quiet_reading}
 use Rattle.lert_recover.specs.Replayed.{HasReplayed}
-use Rattle.lert_recover.proofs.ReplayingLaws.{framed_none, journal_none, journal_on, left_on, quiet_of, read_on, same_none, same_on, shut_on, sound_on, still_on}
+use Rattle.lert_recover.proofs.ReplayingLaws.{framed_none, has_grown, journal_none, journal_on, left_on, quiet_of, read_on, same_none, same_on, shut_on, sound_on, still_on}
 use Rattle.lert_recover.proofs.RestBytes.{past_ahead}
 use Rattle.lert_recover.proofs.ReplayedLaws.{replayed_none}
 use Rattle.lert_recover.proofs.MomentLaws.{stays_none, stays_replayed}
@@ -55,19 +53,9 @@ replay-requires g c =
 
 pub packets-smaller : goal.packets-smaller
 packets-smaller g c =
-    let start = c.args.cone.now in
-    let old = c.packets.cone in
-    let new = c.replay.new.self in
     let now = c.packets.invariant in
-    let took = rw c.in-Ok-Some.field-0-is at c.in-Ok-Some.ensures.taken in
-    let keys = took.packet.keys in
-    let count : length new.listing.events ≡ length old.listing.events + length keys = ap (λ (k : Standing g.row.B.Denot). length k.listing.events) took.is ∙ length-append
-    old.listing.events keys in
-    let within : length old.listing.events + length keys ≤ capacity start.listing.settings = subst (λ (s : Numbers). length old.listing.events + length keys ≤ capacity s)
-    now.same.settings took.follows.within in
-    let falls : capacity start.listing.settings - length new.listing.events < capacity start.listing.settings - length old.listing.events =
-    omega (arith, count, within, took.journaled.some) in
-    falls
+    (has_grown g.B.Bay.files c.args.cone.now c.packets.cone c.replay.new.self c.packets.gate c.in-Ok-Some.next now.same now.counted now.near
+    (rw c.in-Ok-Some.field-0-is at c.in-Ok-Some.ensures.taken) (rw c.in-Ok-Some.field-0-is at c.in-Ok-Some.ensures.forward).1).fewer
 
 pub packets-preserved : goal.packets-preserved
 packets-preserved g c =
@@ -81,19 +69,15 @@ packets-preserved g c =
     let took = rw c.in-Ok-Some.field-0-is at c.in-Ok-Some.ensures.taken in
     let next = rw c.in-Ok-Some.field-0-is at c.in-Ok-Some.ensures.forward in
     let cost = rw c.in-Ok-Some.field-0-is at c.in-Ok-Some.ensures.handed in
-    let keys = took.packet.keys in
-    let count : length new.listing.events ≡ length old.listing.events + length keys = ap (λ (k : Standing g.row.B.Denot). length k.listing.events) took.is ∙ length-append
-    old.listing.events keys in
-    let within : length old.listing.events + length keys ≤ capacity start.listing.settings = subst (λ (s : Numbers). length old.listing.events + length keys ≤ capacity s)
-    now.same.settings took.follows.within in
+    let grown = has_grown files start old new c.packets.gate c.in-Ok-Some.next now.same now.counted now.near took next.1 in
     record {
-      state = ap (λ (k : Standing g.row.B.Denot). k.state) took.is ∙ now.state;
+      state = grown.state ∙ now.state;
       same = same_on files start old new now.same c.replay.ensures.same_cone;
-      closed = ap (λ (k : Standing g.row.B.Denot). k.listing.closed) took.is ∙ now.closed;
-      gate_is = ap (λ (k : Standing g.row.B.Denot). k.gate) took.is;
-      counted = omega (arith, ap (λ (k : Standing g.row.B.Denot). k.events) took.is, now.counted, count);
-      within = omega (arith, within, count);
-      near = omega (arith, now.near, next.1, took.journaled.some, count);
+      closed = grown.closed ∙ now.closed;
+      gate_is = grown.gate_is;
+      counted = grown.counted;
+      within = grown.within;
+      near = grown.near;
       read = λ seen told. read_on files start old new seen told now.same now.journal c.args.first c.packets.gate c.in-Ok-Some.next (now.read seen told)
           (λ there told_there. (took.packet, took.stands there told_there, took.follows, took.next_is, ap (λ (k : Standing g.row.B.Denot). k.listing) took.is));
       sound = λ seen told h begun.
