@@ -197,7 +197,7 @@ check_places() {
 # A command that ends with status 3, and below it one with the words of a check of the tests of lert_io.
 measured() {
     "$top/tools/measure" -- bash -c \
-        '(exec -a rattle bash -c "sleep 1; true" rattle check --crate-name lert_io src/lib.rt --test); exit 3' >"$work/tables"
+        '(exec -a rattle bash -c "sleep 3; true" rattle check --crate-name lert_io src/lib.rt --test); exit 3' >"$work/tables"
     local status=$?
     sed -n 's/^\(| `lert_[a-z]*` |\).*/\1/p; s/.*\(Status [0-9]*\).*/\1/p' "$work/tables"
     return $status
