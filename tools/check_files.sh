@@ -208,6 +208,8 @@ check_measure() {
     gives 'measures what a command does' 3 'Status 3\n| `lert_io` |\n' '' measured
     gives 'measures no crate that is not there' 1 '' 'measure: crates.txt has no lert_nowhere\n' \
         "$top/tools/measure" --functions lert_nowhere
+    gives 'tells no steps of a crate that is not there' 1 '' 'goals: crates.txt has no lert_nowhere\n' \
+        "$top/tools/goals" lert_nowhere
 }
 
 # --- README.md and docs
