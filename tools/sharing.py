@@ -13,10 +13,23 @@ from contextlib import suppress
 from pathlib import Path
 from typing import Iterator, Protocol, Sequence
 
+from cones import FRAMES
 from formats import TRACE_MAGIC
 from outside import KEYS, PLACE_FAULT, SMALL, Outside, Trial, some_keys, write_folder
 from piped import KEY_LEN, LOOKS_A_SECOND, Piped, text_due, usual_signals
-from recovery import DONE, HANGS, MALFORMED, Answer, Folder, changes_of, file_name, folder_at, write_trace
+from recovery import (
+    DONE,
+    HANGS,
+    MALFORMED,
+    Answer,
+    Folder,
+    Opened,
+    changes_of,
+    dues_of,
+    file_name,
+    folder_at,
+    write_trace,
+)
 
 NOT_FRESH = 6
 REFUSED = Answer(PLACE_FAULT, "", "lert: place fault\n")
@@ -92,16 +105,20 @@ class Printing:
         self.process = begun(outside, words, write)
         os.close(write)
 
-    def open_files(self) -> set[str]:
+    def has_last_file(self) -> bool:
+        """The last file of the last cone is open."""
+        last = file_name(SMALL.cones()[-1], FRAMES)
         place = Path(f"/proc/{self.process.pid}/fd")
-        return {os.path.basename(os.readlink(link)) for link in place.iterdir()}
+        return last in {os.path.basename(os.readlink(link)) for link in place.iterdir()}
+
+    def is_closed(self) -> bool:
+        return all(isinstance(due, Opened) and due.closed for due in dues_of(folder_at(self.folder), SMALL))
 
     def has_begun(self) -> bool:
-        """Waits until it has opened the last file of the last cone."""
-        last = file_name(SMALL.cones()[-1], 2)
+        """Waits until it has all files open, and nothing to write to them."""
         for _ in range(int(self.outside.clock.seconds * LOOKS_A_SECOND)):
             with suppress(FileNotFoundError):
-                if last in self.open_files():
+                if self.has_last_file() and self.is_closed():
                     return True
             time.sleep(1 / LOOKS_A_SECOND)
         return False
