@@ -1,4 +1,5 @@
-# Checks what the program does where open files are few, and where there is no /dev. tools/check reads it.
+# Checks what the program does where open files are few or memory is little, and where there is no /dev. tools/check
+# reads it.
 
 # --- few open files
 
@@ -35,6 +36,22 @@ check_open_files() {
     fi
     mapfile -t many < <(yes no_key | head -n 1024)
     gives 'more open files than the soft limit' 0 'total events 0 reports 0\n' '' many_files "${many[@]}"
+}
+
+# --- little memory
+
+# 64 workers over one trace in 256 cones, where the rings of all of them, 512 MiB, don't fit.
+few_rings() {
+    rm -rf d
+    (
+        export MALLOC_ARENA_MAX=1
+        ulimit -s 256 && ulimit -v 300000 &&
+            "$program" run --workers 64 --cone-bits 8 --room 16 --base 64 --levels 2 --threshold 3 d "$1" | tail -n 1
+    )
+}
+
+check_rings() {
+    gives 'workers without a trace' 0 'total events 3 reports 1\n' '' few_rings sevens
 }
 
 # --- no /dev
@@ -82,5 +99,6 @@ check_system() {
     local program
     program=$("$top/tools/program")
     check_open_files
+    check_rings
     has chroot ldd && check_no_devices
 }
