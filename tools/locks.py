@@ -1,7 +1,7 @@
-"""Whether somebody has the journals of a run open, by the locks on them: the program holds one on each journal, as flock
-makes it, from its opening to its end, however that comes.
+"""Whether somebody has the journals of a run open, by the locks on them: the program holds one on each journal, as
+flock makes it, from its opening to its end, however that comes.
 
-The system's list of locks is looked at, which takes none: a lock of ours would have a recovery refused that begins then.
+The system's list of locks is looked at, which takes none: for a lock of ours a recovery that begins then is refused.
 """
 
 from __future__ import annotations
@@ -36,8 +36,8 @@ def can_lock(journal: Path) -> bool:
 def are_left(journals: Sequence[Path]) -> bool:
     """Whether nobody has the journals of a run open any more. False where the system doesn't tell.
 
-    The list lacks the locks of other machines and of processes that aren't seen from here. So where it has none of these
-    journals, each is tried besides, at the very end of a run."""
+    The list lacks the locks of other machines and of processes that aren't seen from here. So where it has none of
+    these journals, each is tried besides, at the very end of a run."""
     locked = locked_files()
     if locked is None or any(journal.stat().st_ino in locked for journal in journals):
         return False
