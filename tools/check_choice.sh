@@ -201,10 +201,37 @@ check_mixed_runs() {
     rm -rf d cone-001.journal
 }
 
+# All programs of this machine but python3.
+check_without_python() {
+    run_of_two >report
+    rm -rf bare && mkdir bare && ln -s /usr/bin/* /bin/* bare/ 2>"$work/kept_err"
+    rm -f bare/python3*
+    gives 'a recovery without python3' 10 '' \
+        "lert: there is no python3 to read the run's settings with: those that are left out are the usual ones
+lert: cone 0 has other settings\n" env PATH="$work/bare" "$top/lert" recover d
+    gives 'the files after it' 0 "$(grep '^cone' report)\n" '' \
+        eval "sound d | sed 's/ n0 [0-9]*//'"
+    rm -rf bare d
+}
+
 check_settings() {
     check_options
     has mkfifo && check_places_of_runs
     check_mixed_runs
+    check_without_python
+}
+
+# --- what ./lert says of itself
+
+usual_by_help() { lert --help | sed -n 's/^\(--[a-z-]*\) [A-Z] *\([0-9]*\) .*/\1 \2/p' | sort; }
+usual_by_formats() { sed -n 's/^| `\(--[a-z-]*\)` | .* | \([0-9]*\).*/\1 \2/p' "$top/docs/FORMATS.md" | sort; }
+
+check_help() {
+    gives 'eleven options in FORMATS.md' 0 '11\n' '' eval 'usual_by_formats | wc -l'
+    gives 'help tells each option and what is usual' 0 '' '' cmp <(usual_by_formats) <(usual_by_help)
+    gives 'the same by its short word' 0 '' '' cmp <(lert --help) <(lert -h)
+    gives 'the version' 0 "lert, of the sources $("$top/tools/digest")\n" '' lert --version
+    gives 'help with more words' 1 '' 'lert: usage rule 0\n' lert --help run
 }
 
 # --- the program in dist/

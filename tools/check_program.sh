@@ -332,6 +332,7 @@ check_program() {
         return
     fi
     check_words
+    check_help
     check_bad_traces
     check_capacity
     check_files
