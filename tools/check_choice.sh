@@ -1,4 +1,5 @@
-# Checks which program ./lert takes, with which settings a recovery, and that the one in dist/ is made of these sources.
+# Checks which program ./lert takes, with which settings a recovery and with how many open files, and that the one in
+# dist/ is made of these sources.
 # tools/check reads it.
 
 # --- ./lert in a small repository, with stand-ins for the kit and the programs
@@ -107,6 +108,33 @@ check_choice() {
     rm "$kept"
     gives 'a build that fails' 126 '' "$small_builds$small_none" small_lert run
     gives 'the program after it' 1 '' '' test -e "$out/lert_program"
+    rm -rf small
+}
+
+# --- the limit of open files
+
+# limited SOFT HARD WORD..: ./lert under these limits, with a program that says its soft one.
+limited() {
+    local soft=$1 hard=$2
+    shift 2
+    (ulimit -Sn "$soft" && ulimit -Hn "$hard" && small_lert "$@")
+}
+
+check_limits() {
+    local out=small/crates/lert_program/out
+    make_small
+    mkdir -p $out && printf '#!/bin/sh\nulimit -Sn\n' >$out/lert_program
+    chmod +x $out/lert_program && note_made $out/lert_program
+    gives 'a limit that is enough' 0 '65\n' '' limited 65 900 run d a
+    gives 'a limit that is raised for a trace more' 0 '66\n' '' limited 65 900 run d a b
+    gives 'a limit that is raised for more cones' 0 '785\n' '' limited 65 900 run --cone-bits 8 d --workers 1 a
+    gives 'the same for an option in one word' 0 '785\n' '' limited 65 900 run d a --cone-bits=08
+    gives 'a limit of fewer cones' 0 '22\n' '' limited 21 900 run --cone-bits=0 d -- a --cone-bits=8 b
+    gives 'a limit that is raised for a recovery' 0 '112\n' '' limited 65 900 recover --cone-bits 5 d
+    gives 'a limit that nothing asks for' 0 '30\n' '' limited 30 900 drill --cone-bits 8
+    gives 'a hard limit that is too low' 0 '700\n' \
+        'lert: 785 files may have to be open at once, and the limit is 700 (ulimit -Hn)\n' \
+        limited 65 700 run --cone-bits 8 d a
     rm -rf small
 }
 

@@ -13,13 +13,14 @@
 #include <stdio.h>
 #include <stdlib.h>
 #include <string.h>
+#include <sys/file.h>
 #include <sys/mman.h>
 #include <sys/stat.h>
 #include <sys/syscall.h>
 #include <unistd.h>
 
 enum { MOST_FILES = 1024, MOST_CONES = 16 };
-enum kind { OPEN, MKDIR, STAT_PATH, STAT_FILE, READ, PREAD, PWRITE, SYNC, WRITE, THREAD, KINDS };
+enum kind { OPEN, MKDIR, STAT_PATH, STAT_FILE, READ, PREAD, PWRITE, SYNC, WRITE, THREAD, LOCK, KINDS };
 
 // Numbers of 8 bytes, which tools/outside.py writes and reads. The first seven say what is to be done, the others what
 // came of it.
@@ -30,7 +31,7 @@ struct tally {
   uint64_t limited;      // whether the files may get longer by `room` bytes alone
   uint64_t room;
   uint64_t halved;       // whether reads and writes move half of their bytes
-  uint64_t interrupted;  // whether each other one of them, and of the syncs, is broken off by a signal
+  uint64_t interrupted;  // whether each other one of them, and of syncs and locks, is broken off by a signal
   uint64_t failed;       // calls that failed, also by themselves
   uint64_t cut;          // writes of which the room took a part
   uint64_t grown;        // by how many bytes files got longer
@@ -84,7 +85,7 @@ static void note(const struct known *of) {
 }
 
 static bool may_be_interrupted(enum kind kind) {
-  return kind == READ || kind == PREAD || kind == PWRITE || kind == SYNC || kind == WRITE;
+  return kind == READ || kind == PREAD || kind == PWRITE || kind == SYNC || kind == WRITE || kind == LOCK;
 }
 
 // Counts a call, and gives the error with which it is to fail, or 0.
@@ -151,6 +152,8 @@ int open(const char *path, int flags, ...) {
   *known(file) = of;
   return file;
 }
+
+int flock(int file, int how) { return fails(LOCK, &unknown) ? -1 : (int)syscall(SYS_flock, file, how); }
 
 int mkdir(const char *path, mode_t mode) {
   return fails(MKDIR, &unknown) ? -1 : (int)syscall(SYS_mkdir, path, mode);

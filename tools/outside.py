@@ -93,6 +93,7 @@ class Kind(IntEnum):
     SYNC = 7
     WRITE = 8
     THREAD = 9
+    LOCK = 10
 
 
 class Wanted(NamedTuple):

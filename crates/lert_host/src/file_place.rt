@@ -1,6 +1,6 @@
 //! The files of the machine as a place of traces and bays.
 
-ghost use Rattle.std.specs.Prelude.{◌≡◌, ◌<◌, ◌≤◌, ◌++◌, ◌∷◌, [], false, length, string_bytes, IfSome, IfOk};
+ghost use Rattle.std.specs.Prelude.{◌≡◌, ◌<◌, ◌≤◌, ◌++◌, ◌∷◌, [], false, true, length, string_bytes, IfSome, IfOk};
 ghost use Rattle.std.specs.Path.{path_buf_bytes, path_join};
 ghost use Rattle.lert_io.specs.Fault.{HasRisen};
 ghost use Rattle.lert_host.specs.Name.{cone_file};
@@ -23,9 +23,13 @@ const BLOCK: usize = 65_536;
 
 /// The files of the machine. It opens traces by their paths, and of a cone the three files in a directory,
 /// which it makes, with its missing parents, where they aren't there. It keeps nothing of what is put back.
+///
+/// A cone's files are of one program at a time, and of one bay: an opening locks the journal, and the lock lasts as long as
+/// the bay. Where another one holds it, or the file system has no locks, the opening is refused.
 #[derive(Drop)]
 pub struct FilePlace<'a, R: Files<File = File> + AllocGlobal> {
     rt: &'a R,
+    refuses: bool,
     faults: u64,
     asked: Seen<Opening>,
     traces: Handed<FileSource<File>>,
@@ -43,6 +47,7 @@ impl<'a, R: Files<File = File> + AllocGlobal> FilePlace<'a, R> {
     {
         FilePlace {
             rt,
+            refuses: false,
             faults: 0,
             asked: Seen::new(),
             traces: Handed::new(),
@@ -50,12 +55,26 @@ impl<'a, R: Files<File = File> + AllocGlobal> FilePlace<'a, R> {
         }
     }
 
+    /// A place that refuses each opening, and so opens no file: for a program with a standard stream that is closed, whose
+    /// number the first file would get.
+    pub fn refusing(rt: &'a R) -> FilePlace<'a, R>
+        ensures asked { result.asked ≡ [] }
+        ensures traces { result.traces.objects ≡ [] }
+        ensures bays { result.bays.objects ≡ [] }
+        ensures refuses { result.refuses ≡ true }
+    {
+        let mut place = FilePlace::new(rt);
+        place.refuses = true;
+        place
+    }
+
     // The file of this path, with a buffer of its own.
     fn trace(&self, path: &str) -> Option<FileSource<File>>
         ensures mark { IfSome result (λ source. source.mark ≡ length self.now.traces.objects) }
         ensures room { IfSome result (λ source. self.now.traces.count < 4294967295) }
+        ensures opens { IfSome result (λ source. self.now.refuses ≡ false) }
     {
-        let number = self.traces.next()?;
+        let number = self.next_of(&self.traces)?;
         let file = File::open(self.rt, path).ok()?;
         let reader = BufReader::with_capacity(self.rt.alloc(), BLOCK, file).ok()?;
         Some(FileSource::new(reader, number))
@@ -65,13 +84,29 @@ impl<'a, R: Files<File = File> + AllocGlobal> FilePlace<'a, R> {
     fn bay(&self, dir: &str, cone: u32) -> Option<FileBay>
         ensures mark { IfSome result (λ bay. bay.mark ≡ length self.now.bays.objects) }
         ensures room { IfSome result (λ bay. self.now.bays.count < 4294967295) }
+        ensures opens { IfSome result (λ bay. self.now.refuses ≡ false) }
     {
-        let number = self.bays.next()?;
+        let number = self.next_of(&self.bays)?;
         fs::create_dir_all(self.rt, dir).ok()?;
         let journal = open_file(self.rt, dir, cone, ".journal").ok()?;
+        // Before the other two are opened, so that of a cone that another program has no file is made. The lock is the file's, and
+        // goes with the bay, or with the program.
+        journal.try_lock().ok()?;
         let log = open_file(self.rt, dir, cone, ".log").ok()?;
         let frames = open_file(self.rt, dir, cone, ".frames").ok()?;
         Some(FileBay::new([journal, log, frames], number))
+    }
+
+    // The number of the next object of a kind, unless there are too many, or each opening is refused.
+    fn next_of<T: Drop>(&self, handed: &Handed<T>) -> Option<u32>
+        ensures number { IfSome result (λ number. number ≡ length handed.now.objects) }
+        ensures room { IfSome result (λ number. handed.now.count < 4294967295) }
+        ensures opens { IfSome result (λ number. self.now.refuses ≡ false) }
+    {
+        if self.refuses {
+            return None;
+        }
+        handed.next()
     }
 
     // Notes an opening that failed, and counts it.

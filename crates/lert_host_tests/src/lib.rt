@@ -1,5 +1,5 @@
-//! Tests of places: bays over real files, in folders of their own where they run, and bays in memory; and of words that
-//! are no text.
+//! Tests of places: bays over real files, in folders of their own where they run, openings that are refused, and bays
+//! in memory; and of words that are no text.
 //!
 //! No crate stands on this one.
 #![tactic(auto)]
@@ -10,5 +10,7 @@ mod memory;
 mod openings;
 #[cfg(test)]
 mod places;
+#[cfg(test)]
+mod refused;
 #[cfg(test)]
 mod words;

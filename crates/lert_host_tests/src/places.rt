@@ -14,21 +14,23 @@ use std::os::unix::fs::symlink;
 use std::process::Abort;
 use std::rt::Files;
 
-// Removes what an earlier run may have left.
-fn clear<R: Files<File = File> + AllocGlobal>(rt: &R, dir: &str) {
+/// Removes what an earlier run may have left.
+pub fn clear<R: Files<File = File> + AllocGlobal>(rt: &R, dir: &str) {
     let _ = fs::remove_dir_all(rt, dir);
 }
 
-// Whether a folder was there, and is removed.
-fn removes<R: Files<File = File> + AllocGlobal>(rt: &R, dir: &str) -> bool {
+/// Whether a folder was there, and is removed.
+pub fn removes<R: Files<File = File> + AllocGlobal>(rt: &R, dir: &str) -> bool {
     fs::remove_dir_all(rt, dir).is_ok()
 }
 
-fn makes_folder<R: Files<File = File> + AllocGlobal>(rt: &R, dir: &str) -> bool {
+/// Whether a folder is made.
+pub fn makes_folder<R: Files<File = File> + AllocGlobal>(rt: &R, dir: &str) -> bool {
     fs::create_dir_all(rt, dir).is_ok()
 }
 
-fn writes<R: Files<File = File> + AllocGlobal>(rt: &R, path: &str, bytes: &[u8]) -> bool {
+/// Whether a file of these bytes is written.
+pub fn writes<R: Files<File = File> + AllocGlobal>(rt: &R, path: &str, bytes: &[u8]) -> bool {
     fs::write(rt, path, bytes).is_ok()
 }
 
@@ -56,16 +58,23 @@ fn open_write_open<P: Place>(rt: &impl Abort, place: &mut P) -> Told
 where
     P::Bay: Drop,
 {
-    let mut bay = open(rt, place, "bay_made/with/parents", 7);
-    write_some(rt, &mut bay);
-    let lens = lens_of(rt, &mut bay);
-    let reads = read_thrice(rt, &mut bay);
+    let (lens, reads) = open_write(rt, place);
     let mut again = open(rt, place, "bay_made/with/parents", 7);
     Told {
         lens,
         reads,
         again: len_of(rt, &mut again, JOURNAL),
     }
+}
+
+// The bay is let go as this ends, so that it can be opened again.
+fn open_write<P: Place>(rt: &impl Abort, place: &mut P) -> ((u64, u64, u64), [(usize, [u8; 8]); 3])
+where
+    P::Bay: Drop,
+{
+    let mut bay = open(rt, place, "bay_made/with/parents", 7);
+    write_some(rt, &mut bay);
+    (lens_of(rt, &mut bay), read_thrice(rt, &mut bay))
 }
 
 fn write_some<B: Bay>(rt: &impl Abort, bay: &mut B) {

@@ -11,6 +11,7 @@ use lert_top::{Status, run};
 use std::fs::File;
 use std::io;
 use std::io::Write;
+use std::os::fd::{AsFd, BorrowedFd};
 use std::process::ExitCode;
 use std::rt::Files;
 
@@ -20,7 +21,12 @@ fn main(rt: HostRuntime) -> ExitCode {
     let _streams = [null_device(&rt), null_device(&rt), null_device(&rt)];
     let status = match read_words(&rt, rt.alloc()) {
         Ok(words) => {
-            let mut place = FilePlace::new(&rt);
+            // Where there is no null device, a closed stream is still closed.
+            let mut place = if has_streams(&rt) {
+                FilePlace::new(&rt)
+            } else {
+                FilePlace::refusing(&rt)
+            };
             let mut out = TextSink::new(io::writer(&rt));
             run(&rt, rt.alloc(), &words, &mut place, &mut out)
         }
@@ -35,6 +41,15 @@ fn main(rt: HostRuntime) -> ExitCode {
 // A file that takes nothing: it is opened for reading alone.
 fn null_device<R: Files<File = File> + AllocGlobal>(rt: &R) -> Option<File> {
     File::open(rt, "/dev/null").ok()
+}
+
+// Whether each standard stream is open, which the system tells where it is to be opened once more.
+fn has_streams(rt: &HostRuntime) -> bool {
+    is_open(rt.stdin().as_fd()) && is_open(rt.stdout().as_fd()) && is_open(rt.stderr().as_fd())
+}
+
+fn is_open(stream: BorrowedFd<'_>) -> bool {
+    stream.try_clone_to_owned().is_ok()
 }
 
 // Prints the line of a status on standard error. `Done` has none.
