@@ -46,7 +46,8 @@ make_small() {
     printf '#!/bin/sh\n[ $1 != version ] || { echo toy-kit 1; exit; }\n. "$(dirname "$0")/answer"\n' >small/bin/rt
     cp small/bin/rt small/bin/rattle
     printf '#!/bin/sh\nwhile [ "$1" != -o ]; do shift; done\ncp "$(dirname "$0")/program" "$2"\n' >small/bin/rattle-link
-    chmod +x small/bin/rt small/bin/rattle small/bin/rattle-link
+    printf '#!/bin/sh\n' >small/tools/settings
+    chmod +x small/bin/rt small/bin/rattle small/bin/rattle-link small/tools/settings
     rt_fails
     stand_in built small/bin/program
     stand_in kept small/dist/lert-x86_64-linux-gnu
