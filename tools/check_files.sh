@@ -149,6 +149,8 @@ check_made() {
         'sound: cone-001: cone not made\n' sound files
     empty_cones files 000
     gives 'a run of which no cone was made' 1 '' 'sound: cone-000: cone not made\n' sound files
+    rm files/*
+    gives 'an empty directory' 1 '' 'sound: files: there are no files of a cone\n' sound files
     rm -r files
 }
 
