@@ -1,4 +1,5 @@
-# Checks which program ./lert takes, how many files it lets it open, and that the one in dist/ is made of these sources.
+# Checks which program ./lert takes, with which settings a recovery and with how many open files, and that the one in
+# dist/ is made of these sources.
 # tools/check reads it.
 
 # --- ./lert in a small repository, with stand-ins for the kit and the programs
@@ -45,7 +46,8 @@ make_small() {
     printf '#!/bin/sh\n[ $1 != version ] || { echo toy-kit 1; exit; }\n. "$(dirname "$0")/answer"\n' >small/bin/rt
     cp small/bin/rt small/bin/rattle
     printf '#!/bin/sh\nwhile [ "$1" != -o ]; do shift; done\ncp "$(dirname "$0")/program" "$2"\n' >small/bin/rattle-link
-    chmod +x small/bin/rt small/bin/rattle small/bin/rattle-link
+    printf '#!/bin/sh\n' >small/tools/settings
+    chmod +x small/bin/rt small/bin/rattle small/bin/rattle-link small/tools/settings
     rt_fails
     stand_in built small/bin/program
     stand_in kept small/dist/lert-x86_64-linux-gnu
@@ -153,6 +155,112 @@ check_gate() {
     gives 'a release' 0 "$(small_digest --made small/bin/program)\n" "$small_builds" small_release
     gives 'the kept program that it leaves' 0 '' '' fault_of_kept small
     rm -rf small
+}
+
+# --- the settings of a recovery
+
+# lert_still WORDS..: a recovery by ./lert, and a line where it made or changed something.
+lert_still() {
+    local before status
+    before=$(find . -path './*d*' -exec ls -ld --time-style=+ {} + -type f -exec cksum {} +)
+    lert recover "$@"
+    status=$?
+    [ "$(find . -path './*d*' -exec ls -ld --time-style=+ {} + -type f -exec cksum {} +)" = "$before" ] || echo changed
+    return $status
+}
+
+# refuses_recovery NAME STATUS LINE WORDS..: a recovery by these words ends so and leaves all files as they are.
+refuses_recovery() { gives "a recovery $1" "$2" '' "lert: $3\n" lert_still "${@:4}"; }
+
+# A run of two cones, with other settings than the usual.
+run_of_two() { run_long 3 3 2 4 2 1 32 8 three_each; }
+
+check_options() {
+    local left_out='lert: settings that are left out are those of the run'
+    run_of_two >report
+    gives 'a recovery by the settings of the run' 0 "$(cat report)\n" '' lert_still d
+    gives 'a recovery by some of them' 0 "$(cat report)\n" '' lert_still --threshold 3 d --cone-bits=01
+    gives 'a recovery behind the end of options' 0 "$(cat report)\n" '' lert_still -- d
+    refuses_recovery 'by another threshold' 10 "--threshold 4: the run was made with 3\n$left_out" --threshold=4 d
+    refuses_recovery 'by the usual settings' 10 \
+        "--bins 4: the run was made with 3\nlert: --cone-bits 4: the run was made with 1\n$left_out" \
+        d --cone-bits 4 --threshold 3 --bins 4
+    refuses_recovery 'by a broken setting' 1 'usage rule 2' --bins 1 d
+    refuses_recovery 'by settings that together are broken' 1 'usage rule 11' --ratio 16 --levels 8 --base 65536 d
+    refuses_recovery 'by other words' 1 'usage rule 0' d d
+    refuses_recovery 'by no UTF-8' 1 'usage rule 0' $'d\xff'
+}
+
+check_places_of_runs() {
+    rm -rf d && mkdir d
+    refuses_recovery 'of a mistyped directory' 2 'dd: No such file or directory' dd
+    refuses_recovery 'of it by a broken setting' 1 'usage rule 1' --threshold 0 dd
+    refuses_recovery 'of a file' 2 'sevens: Not a directory' sevens
+    refuses_recovery 'of an empty directory' 2 'd holds no run: no journal there has a header' d
+    empty_cones d 000 001
+    refuses_recovery 'of empty files' 2 'd holds no run: no journal there has a header' d
+    printf LER >d/cone-001.journal
+    refuses_recovery 'of a journal of three bytes' 9 'cone 1 file 0 malformed at 3' d
+    printf 'LERTL\1\0\0\0' >d/cone-001.journal
+    refuses_recovery 'of a log as a journal' 9 'cone 1 file 0 malformed at 4' d
+    rm d/cone-001.journal && mkfifo d/cone-001.journal
+    refuses_recovery 'of a named pipe' 2 'd/cone-001.journal is no file' d
+}
+
+# Directories in which something of a run is missing, or is another run's.
+check_mixed_runs() {
+    local made='is missing or empty; 1 of 2 journals have a header'
+    run_of_two >report && rm d/cone-001.*
+    refuses_recovery 'without a cone' 9 "cone 1 isn't whole: d/cone-001.journal $made" d
+    empty_cones d 001
+    refuses_recovery 'of a run that did not make a cone' 9 "cone 1 isn't whole: d/cone-001.journal $made" d
+    run_of_two >report && rm d/cone-001.log
+    refuses_recovery 'without a log' 9 "cone 1 isn't whole: d/cone-001.log ${made/1 of/2 of}" d
+    run_of_two >report && printf M | dd of=d/cone-000.journal conv=notrunc status=none
+    refuses_recovery 'of a damaged journal beside a whole one' 9 'cone 0 file 0 malformed at 0' d
+    cp d/cone-001.journal d/cone-000.journal
+    refuses_recovery 'of another cone' 10 'd/cone-000.journal: the header is that of cone 1' d
+    run_of_two >report && cp d/cone-001.journal . && run_long 4 3 2 4 2 1 32 8 three_each >report
+    cp cone-001.journal d/
+    refuses_recovery 'of two runs' 10 \
+        'd/cone-001.journal is of another run: threshold 3, and 4 in cone-000.journal' d
+    printf '\377' | dd of=d/cone-000.journal bs=1 seek=27 conv=notrunc status=none
+    refuses_recovery 'of settings that there are not' 10 \
+        "d/cone-000.journal: the header's numbers break rule 6 of the settings" d
+    rm -rf d cone-001.journal
+}
+
+# All programs of this machine but python3.
+check_without_python() {
+    run_of_two >report
+    rm -rf bare && mkdir bare && ln -s /usr/bin/* /bin/* bare/ 2>"$work/kept_err"
+    rm -f bare/python3*
+    gives 'a recovery without python3' 10 '' \
+        "lert: there is no python3 to read the run's settings with: those that are left out are the usual ones
+lert: cone 0 has other settings\n" env PATH="$work/bare" "$top/lert" recover d
+    gives 'the files after it' 0 "$(grep '^cone' report)\n" '' \
+        eval "sound d | sed 's/ n0 [0-9]*//'"
+    rm -rf bare d
+}
+
+check_settings() {
+    check_options
+    has mkfifo && check_places_of_runs
+    check_mixed_runs
+    check_without_python
+}
+
+# --- what ./lert says of itself
+
+usual_by_help() { lert --help | sed -n 's/^\(--[a-z-]*\) [A-Z] *\([0-9]*\) .*/\1 \2/p' | sort; }
+usual_by_formats() { sed -n 's/^| `\(--[a-z-]*\)` | .* | \([0-9]*\).*/\1 \2/p' "$top/docs/FORMATS.md" | sort; }
+
+check_help() {
+    gives 'eleven options in FORMATS.md' 0 '11\n' '' eval 'usual_by_formats | wc -l'
+    gives 'help tells each option and what is usual' 0 '' '' cmp <(usual_by_formats) <(usual_by_help)
+    gives 'the same by its short word' 0 '' '' cmp <(lert --help) <(lert -h)
+    gives 'the version' 0 "lert, of the sources $("$top/tools/digest")\n" '' lert --version
+    gives 'help with more words' 1 '' 'lert: usage rule 0\n' lert --help run
 }
 
 # --- the program in dist/

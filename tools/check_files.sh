@@ -121,6 +121,39 @@ check_sound() {
     rm -rf files other_cone no_settings
 }
 
+# empty_cones DIR CONE..: empty files of these cones.
+empty_cones() {
+    local cone
+    for cone in "${@:2}"; do
+        : >"$1/cone-$cone.journal" && : >"$1/cone-$cone.log" && : >"$1/cone-$cone.frames"
+    done
+}
+
+# Runs whose cones aren't all made, and a whole one beside files that mean nothing.
+check_made() {
+    local head='LERTJ\1\0\0\3\0\0\0\40\0\0\0\4\0\0\0\10\0\0\0\3\2\2'
+    has python3 || return
+    mkdir files && printf "$head"'\0\0\0\0\0\0' >files/cone-000.journal
+    printf 'LERTL\1\0\0\0' >files/cone-000.log && : >files/cone-000.frames
+    empty_cones files 001 002
+    gives 'a run beside empty files' 0 'cone 0 events 0 n0 0 reports 0 open\n' '' sound files
+    gives 'its weave' 0 'cone 0 packets 0 keys 0\n' '' journal --weave 1 files no_key
+    printf x >files/cone-002.frames
+    gives 'a run beside other files' 1 'cone 0 events 0 n0 0 reports 0 open\n' \
+        'sound: cone-002: file 0 is broken at byte 0\n' sound files
+    rm files/cone-002.* && printf "$head"'\1\0\0\0\0\0' >files/cone-000.journal
+    gives 'a run of which one cone was not made' 1 'cone 0 events 0 n0 0 reports 0 open\n' \
+        'sound: cone-001: cone not made\n' sound files
+    rm files/cone-001.*
+    gives 'the same without its files' 1 'cone 0 events 0 n0 0 reports 0 open\n' \
+        'sound: cone-001: cone not made\n' sound files
+    empty_cones files 000
+    gives 'a run of which no cone was made' 1 '' 'sound: cone-000: cone not made\n' sound files
+    rm files/*
+    gives 'an empty directory' 1 '' 'sound: files: there are no files of a cone\n' sound files
+    rm -r files
+}
+
 # Writes a frame of one piece: its number of slots, its word of run ends, and its slots.
 one_block() { printf '\0\0\0\0\0\40\0\0'"$1"'\0\0\0'"$2"'\0\0\0\0\0\0\0'"$3" >files/cone-000.frames; }
 

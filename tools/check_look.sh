@@ -1,7 +1,7 @@
 # Checks the way from records of any kind to labelled reports, to a run that is watched, and to its picture.
 # tools/check reads it.
 
-# A run that fails closes no log, and would be watched for ever.
+# A watch that doesn't end behind its run is ended.
 watch() { timeout 120 "$top/tools/watch" "$@"; }
 
 # Puts Debian's own python3 first, where another one lacks the package; the check is skipped where that one does too.
@@ -184,8 +184,61 @@ watched_fifo() {
         cmp <(grep '^[0-9]' watched | cut -d' ' -f4- | sort) <(cut -d' ' -f2- due | sort)
 }
 
+# until_passes COMMAND..: waits until the command passes, for at most 30 seconds.
+until_passes() {
+    local tries
+    for tries in {1..300}; do
+        ! "$@" || return 0
+        sleep 0.1
+    done
+    echo "never: $*"
+}
+
+# watched_until COMMAND..: watches the run in d, which is over with this command, and not before.
+watched_until() {
+    local status watching
+    : >watched
+    watch --wait 60 d >watched 2>watched_err &
+    watching=$!
+    until_passes test -s watched
+    sleep 1
+    kill -0 $watching || echo 'it ended before the run'
+    "$@"
+    wait $watching
+    status=$?
+    cat watched && cat watched_err >&2
+    return $status
+}
+
+twelve_sevens() { printf 'LERT\1\0\0\0' && printf '\7\0\0\0\0\0\0\0%.0s' {1..12}; }
+# Each key is a packet, and each fourth one from the eighth on comes with a flush.
+small_words=(run --threshold 3 --cone-bits 0 --bins 2 --base 4 --packet 1 d)
+
+# A run over a pipe that stays open, until it is killed.
+watched_killed() {
+    local status
+    rm -rf d pipe && mkfifo pipe && exec 9<>pipe
+    # It is no job of this shell, which would tell that it was killed.
+    (exec 9>&- && { "$top/lert" "${small_words[@]}" pipe & } && echo $! >run_id)
+    twelve_sevens >&9
+    watched_until kill -9 "$(cat run_id)"
+    status=$?
+    exec 9>&-
+    return $status
+}
+
+# What a run left that was refused, while another process has the journal locked.
+watched_held() {
+    rm -rf d held let_go && { twelve_sevens && printf x; } >cut_late
+    lert "${small_words[@]}" cut_late
+    flock d/cone-000.journal "$BASH" -c ': >held; until [ -e let_go ]; do sleep 0.1; done' &
+    until_passes test -e held
+    watched_until touch let_go
+}
+
 check_watch() {
-    local report='cone 0 events 13 reports 1 closed\n' key total='total events 13 reports 1\n'
+    local report='cone 0 events 13 reports 1 closed\n' key total='total events 13 reports 1\n' stopped
+    stopped='watch: d: the run was stopped: killed, refused or full, and `./lert recover d` prints what it left\n'
     has python3 || return
     key=$(echo the | keys pack --hash packed && keys unpack packed)
     gives 'refuses the run over a refused stream' 4 '' \
@@ -193,11 +246,16 @@ check_watch() {
     gives 'watches a run while it goes on' 0 \
         "$report$key 3\n${total}0 $key 3 the\n0 $key 3 the\n$report$total" '' watched_run /dev/stdin
     has mkfifo && gives 'watches a run of two cones from a named pipe' 0 '' '' watched_fifo
+    has mkfifo /proc/locks && gives 'watches a run until it is killed' 1 '0 7 3\n' "$stopped" watched_killed
+    has flock /proc/locks && gives 'watches a run until nobody has it open' 1 '0 7 3\n' \
+        "lert: trace 0 bad at 104\n$stopped" watched_held
+    has /proc/locks && gives 'shows how far a run came that was stopped' 1 \
+        'events 12 a second 0 fullest 12 of 9555\n' "$stopped" watch --progress d
     gives 'watches no directory' 1 '' 'watch: nowhere: there are no logs of a run: no cone-000.journal\n' \
         watch --wait 0 nowhere
     run sevens >"$work/out"
-    gives 'shows the progress of a run' 0 'events 3 a second 0 share 100.0%%\ntotal events 3 reports 1\n' '' \
-        watch --progress d sevens
+    gives 'shows the progress of a run' 0 \
+        'events 3 a second 0 fullest 3 of 786432 share 100.0%%\ntotal events 3 reports 1\n' '' watch --progress d sevens
     rm d/cone-000.log
     gives 'watches no run without its logs' 1 '' 'watch: d: there are no logs of a run: no cone-000.log\n' \
         watch --wait 0 d
@@ -247,6 +305,20 @@ END
 
 pictured() { drawn_run "$1" && picture --names names d && judged $((1 << $1)); }
 
+# A run that was refused at the end of its trace: what the page says is what stands in the logs, a plain count of the
+# journals, and what a recovery prints.
+pictured_stopped() {
+    local logged often recovered
+    rm -rf d && { lert gen --events 30000 && printf x; } >packed
+    lert run --threshold 10 --bins 2 --cone-bits 1 --packet 64 d packed
+    picture d || return
+    logged=$(watch d 2>"$work/kept_err" | grep -c .)
+    often=$(for cone in 0 1; do journal --keys d/cone-00$cone.journal; done | sort | uniq -c | awk '$1 >= 10' | wc -l)
+    recovered=$(lert recover d | sed -n 's/^total.* //p')
+    [ "$logged" -lt "$recovered" ] && [ "$recovered" -lt "$often" ] && tr '\n' ' ' <d/picture.html |
+        grep -q "so far: $logged keys .* By the journals $often keys .* and a recovery reports $recovered of them"
+}
+
 # What is left where there is no picture.
 left_by_picture() {
     local status
@@ -263,6 +335,7 @@ check_picture() {
     gives 'a picture without matplotlib' 2 '' "$told" env PYTHONPATH=hidden "$top/tools/picture" d
     python_with matplotlib || return
     gives 'a picture of sixteen cones' 0 '' '' pictured 4
+    has /proc/locks && gives 'a picture of a stopped run' 0 '' 'lert: trace 0 bad at 240008\n' pictured_stopped
     gives 'a picture of one cone' 0 '' '' pictured 0
     key=$(keys unpack packed | sort | uniq -c | sort -n | tail -n 1 | sed 's/.* //')
     echo a | keys pack --hash --names other packed

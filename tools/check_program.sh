@@ -239,9 +239,9 @@ run_twice() {
 
 # --- recovery
 
-# The eight settings in their order, then the directory.
+# The eight settings in their order, then the directory. The program itself: ./lert looks at the settings before.
 recover() {
-    lert recover --threshold "$1" --bins "$2" --ratio "$3" --base "$4" --levels "$5" --cone-bits "$6" \
+    "$program" recover --threshold "$1" --bins "$2" --ratio "$3" --base "$4" --levels "$5" --cone-bits "$6" \
         --room "$7" --packet "$8" "$9"
 }
 recover_run() { recover 3 3 2 4 2 0 32 8 d; }
@@ -278,6 +278,7 @@ check_recovery() {
     rm -rf d
     check_recovered
     has python3 || return
+    check_settings
     gives 'recovery of damaged files' 0 '' '' passes "$top/tools/damage" "$program" --changes 500 --seconds 20
     gives 'recovery of killed runs' 0 '' '' passes "$top/tools/kill" "$program" --times 5 --keys 200000
 }
@@ -331,6 +332,7 @@ check_program() {
         return
     fi
     check_words
+    check_help
     check_bad_traces
     check_capacity
     check_files

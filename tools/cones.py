@@ -6,12 +6,10 @@ some seconds.
 
 from __future__ import annotations
 
-import re
 from bisect import bisect_right
 from collections import Counter, defaultdict
 from functools import cache, cached_property
 from itertools import accumulate
-from pathlib import Path
 from typing import Callable, Iterator, NamedTuple, Sequence, TypeVar
 
 from formats import (
@@ -32,7 +30,6 @@ from slots import Piece, Shape, frame_len, pieces_at, shape_of
 
 SUFFIXES = (".journal", ".log", ".frames")
 JOURNAL, LOG, FRAMES = range(3)
-NAME = re.compile(r"cone-[0-9]{3}")
 FLUSH, CLOSING = 1, 2
 MOST_OFFSET = 1 << 46
 
@@ -254,23 +251,6 @@ class Log:
     def begins(self) -> tuple[int, int]:
         """The journal's record that the last one names: its gate, and the position of its first key."""
         return (self.records[-1].offset, self.records[-1].first) if self.records else (HEADER_LEN, 1)
-
-
-def cones_in(folder: Path) -> list[Path]:
-    """The cones of a directory, by their files without suffix, where at least one of the three is there."""
-    names = {path.name for path in folder.iterdir()}
-    found = {name.removesuffix(suffix) for name in names for suffix in SUFFIXES if name.endswith(suffix)}
-    return [folder / name for name in sorted(found) if NAME.fullmatch(name)]
-
-
-def number_of(cone: Path) -> int:
-    """The number that a cone's files are named by."""
-    return int(cone.name.removeprefix("cone-"))
-
-
-def files_of(cone: Path) -> list[bytes]:
-    """The three files of a cone."""
-    return [cone.with_suffix(suffix).read_bytes() for suffix in SUFFIXES]
 
 
 class Cone:
