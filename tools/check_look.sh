@@ -95,9 +95,73 @@ check_records() {
         keys pack --from nowhere packed
 }
 
+# --- records that are bad
+
+# streamed WORDS..: the keys that reach the reader of a stream of `bad` that is packed by these words.
+streamed() {
+    local status
+    keys pack "$@" - <bad | keys unpack /dev/stdin 2>"$work/said"
+    status=${PIPESTATUS[0]}
+    return $status
+}
+
+# skips NAME FIRST KEYS FORMAT WORDS..: of a file with this text, `bad`, a stream that is packed by these words ends at a
+# first bad record, and has handed on those before, the first of these keys; with --skip-bad it has all of them.
+skips() {
+    local before
+    printf "$4" >bad
+    before=$(printf "$3" | head -n 1)
+    gives "hands on what comes before $1" 1 "$before\n" "keys: standard input, ${2#* }\n" streamed "${@:5}"
+    gives "skips $1" 0 "$3" "keys: standard input: ${2%% *} records were skipped, the first at ${2#* }\n" \
+        streamed --skip-bad "${@:5}"
+}
+
+# A run over a stream with a bad line that comes behind a good one and before two others.
+skipping_run() {
+    rm -rf d
+    printf '7\n7\nx\n7\n' | keys pack --skip-bad - | lert run --threshold 3 --cone-bits 0 d /dev/stdin
+}
+
+check_skipping() {
+    local number='no decimal number below 2^64' long
+    has python3 || return
+    skips 'lines that are no numbers' "2 line 2: $number" '7\n8\n9\n' '7\nx\n8\n-1\n9\n'
+    skips 'a row without the column' '1 line 3: the row has no column b' '7\n8\n' 'a,b\n1,7\n1\n1,8\n' --csv b
+    skips 'a row of a CSV that is none' "1 line 3: no CSV: ',' expected after '\"'" '7\n8\n' 'b\n7\n"x"y\n8\n' --csv b
+    skips 'a quote that stays open' '1 line 4: no CSV: unexpected end of data' '7\n8\n' 'b\n7\n"x\n8\n' --csv b
+    skips 'lines that are no JSON' '2 line 2: no JSON object' '7\n8\n' '{"a":7}\n{\n[7]\n{"a":"8"}\n' --json a
+    skips 'a line without the field' '1 line 2: no field a' '7\n8\n' '{"a":7}\n{"b":7}\n{"a":"8"}\n' --json a
+    long=$(yes x | head -n 1100000 | tr -d '\n')
+    skips 'a line that is too long' "2 byte 2: a line of more than 1048576 bytes" '7\n8\n' "7\n$long\n8\nx\n"
+    printf '7\nx\n' >bad
+    gives 'packs a file but its bad lines' 0 '7\n' "keys: bad: 1 records were skipped, the first at line 2: $number\n" \
+        eval 'keys pack --skip-bad --from bad packed && keys unpack packed'
+    gives 'tells that nothing was skipped' 0 '' 'keys: standard input: 0 records were skipped\n' \
+        keys pack --skip-bad packed < <(echo 7)
+    gives 'a run over a stream with a bad line' 0 \
+        'cone 0 events 3 reports 1 closed\n7 3\ntotal events 3 reports 1\n' \
+        "keys: standard input: 1 records were skipped, the first at line 3: $number\n" skipping_run
+}
+
 # --- names
 
 label_visits() { printf 'cone 0 events 1 reports 1 closed\n7 1\n' | keys label --names "$1"; }
+
+# A run whose names are new is labelled, though there are none when it begins.
+late_names() (
+    set -o pipefail
+    rm -rf d names
+    { sleep 1 && printf 'the\nthe\nthe\n'; } | keys pack --hash --names names - |
+        lert run --threshold 3 --cone-bits 0 d /dev/stdin | keys label --names names
+)
+
+# A run whose report is labelled by a file that isn't there, and its status.
+unnamed_run() {
+    run_of_three | keys label --names nowhere
+    echo "${PIPESTATUS[@]}"
+}
+
+run_of_three() { rm -rf d && lert run --threshold 3 --cone-bits 0 d sevens; }
 
 # The names of before and those of a refused packing are the same.
 names_kept() {
@@ -121,7 +185,8 @@ END
 }
 
 check_names() {
-    local other='has the hash of another name in names'
+    local other='has the hash of another name in names' unnamed='cone 0 events 1 reports 1 closed\n7 1\n'
+    local nowhere="keys: [Errno 2] No such file or directory: 'nowhere'\n"
     has python3 || return
     rm -f names && printf 'the\n' | keys pack --hash --names names packed
     printf 'a\n' | keys pack --hash --names names second
@@ -129,15 +194,21 @@ check_names() {
         eval "{ keys unpack packed; keys unpack second; } | sed 's/\$/ 1/' | keys label --names names | cut -d' ' -f2-"
     printf '{"who":"new"}\n{"who":0}\n{}\n' >bad
     gives 'adds no names of what is refused' 1 '' 'keys: standard input, line 3: no field who\n' names_kept bad
-    gives 'labels by no names of another trace' 1 '' \
+    gives 'labels by names that come late' 0 \
+        "cone 0 events 3 reports 1 closed\n$(keys unpack packed) 3 the\ntotal events 3 reports 1\n" '' late_names
+    gives 'takes the report of a run that it has no names for' 0 \
+        'cone 0 events 3 reports 1 closed\n7 3\ntotal events 3 reports 1\n0 2\n' "$nowhere" unnamed_run
+    gives 'labels by no names of another trace' 1 "$unnamed" \
         'keys: standard input, line 2: key 7 has no name in names, which has those of another trace\n' \
         label_visits names
     printf '\x1b[31m \xc2\x9b\x7f\n' | keys pack --hash --names names third
     gives 'labels with nothing that a terminal obeys' 0 '1 \\x1b[31m \\xc2\\x9b\\x7f\n' '' \
         eval "keys unpack third | sed 's/\$/ 1/' | keys label --names names | cut -d' ' -f2-"
-    gives 'labels by no other file' 1 '' 'keys: due, byte 0: no file of names: file is not a database\n' \
+    gives 'labels by no other file' 1 "$unnamed" 'keys: due, byte 0: no file of names: file is not a database\n' \
         label_visits due
-    gives 'labels by no file' 2 '' "keys: [Errno 2] No such file or directory: 'nowhere'\n" label_visits nowhere
+    gives 'labels by no file' 2 "$unnamed" "$nowhere" label_visits nowhere
+    gives 'wants no names where there is no report' 0 'cone 0 events 0 reports 0 closed\n' '' \
+        eval 'echo cone 0 events 0 reports 0 closed | keys label --names nowhere'
     take_key
     gives 'refuses two names of one key' 1 '' "keys: standard input, at the end: the $other\n" \
         keys pack --hash --names names packed < <(echo the)
@@ -189,7 +260,7 @@ check_watch() {
     has python3 || return
     key=$(echo the | keys pack --hash packed && keys unpack packed)
     gives 'refuses the run over a refused stream' 4 '' \
-        'keys: standard input, line 4: no decimal number below 2^64\nlert: trace 0 bad at 8\n' refused_stream
+        'keys: standard input, line 4: no decimal number below 2^64\nlert: trace 0 bad at 32\n' refused_stream
     gives 'watches a run while it goes on' 0 \
         "$report$key 3\n${total}0 $key 3 the\n0 $key 3 the\n$report$total" '' watched_run /dev/stdin
     has mkfifo && gives 'watches a run of two cones from a named pipe' 0 '' '' watched_fifo
@@ -285,6 +356,7 @@ check_look() {
     says watch 'Shows a run while it goes on, by the files that it writes.'
     says picture 'Makes a page with pictures of a run, of one that goes on too.'
     check_records
+    check_skipping
     check_names
     check_packets
     check_watch
