@@ -73,6 +73,12 @@ check_records() {
     gives 'reports names of a column by its number' 0 '' '' \
         cmp due <(due_of --csv 2 --delimiter '\t' --from visits.tsv)
     gives 'reports names of JSON lines' 0 '' '' cmp due <(due_of --json who <visits.json)
+    gives 'reports names of a packed CSV' 0 '' '' cmp due <(gzip <visits.csv | due_of --csv who)
+    { gzip <visits.csv && gzip </dev/null && echo 2001,7,x | gzip; } >visits.gz
+    keys pack --csv at --from visits.gz packed
+    gives 'packs numbers of a CSV that is packed in parts' 0 '' '' cmp <(seq 2001) <(keys unpack packed)
+    seq 50 | sed 's/.*/ a \t& b/' | keys pack --field 2 packed
+    gives 'packs numbers of words' 0 '' '' cmp <(seq 50) <(keys unpack packed)
     keys pack --json at --from visits.json packed
     gives 'packs numbers of JSON lines' 0 '' '' cmp <(seq 2000) <(keys unpack packed)
     keys pack --csv at packed <visits.csv
@@ -88,59 +94,16 @@ check_records() {
     refuses 'JSON that is no object' 'line 1: no JSON object' '["a"]\n' --json a
     refuses 'JSON without the field' 'line 2: no field a' '{"a":"b"}\n{"b":"a"}\n' --json a
     refuses 'a field of another kind' 'line 1: the field a is no text and no number' '{"a":true}\n' --json a
+    refuses 'a line without the word' 'line 2: the line has no word 3' '1 2 3\n 1 2 \n' --field 3
+    gzip <visits.json | head -c 15 >cut.gz
+    gives 'refuses a gzip file that is cut' 1 '' \
+        'keys: cut.gz, byte 0 of what is unpacked: a broken gzip file: it ends before its end\n' \
+        keys pack --hash --from cut.gz packed
     yes | tr -d '\n' | head -c 1300000 >bad
     gives 'refuses a line without end' 1 'bad\nbefore\n' \
         'keys: bad, byte 0: a line of more than 1048576 bytes\n' left_of_bad
     gives 'refuses no file' 2 '' "keys: [Errno 2] No such file or directory: 'nowhere'\n" \
         keys pack --from nowhere packed
-}
-
-# --- records that are bad
-
-# streamed WORDS..: the keys that reach the reader of a stream of `bad` that is packed by these words.
-streamed() {
-    local status
-    keys pack "$@" - <bad | keys unpack /dev/stdin 2>"$work/said"
-    status=${PIPESTATUS[0]}
-    return $status
-}
-
-# skips NAME FIRST KEYS FORMAT WORDS..: of a file with this text, `bad`, a stream that is packed by these words ends at a
-# first bad record, and has handed on those before, the first of these keys; with --skip-bad it has all of them.
-skips() {
-    local before
-    printf "$4" >bad
-    before=$(printf "$3" | head -n 1)
-    gives "hands on what comes before $1" 1 "$before\n" "keys: standard input, ${2#* }\n" streamed "${@:5}"
-    gives "skips $1" 0 "$3" "keys: standard input: ${2%% *} records were skipped, the first at ${2#* }\n" \
-        streamed --skip-bad "${@:5}"
-}
-
-# A run over a stream with a bad line that comes behind a good one and before two others.
-skipping_run() {
-    rm -rf d
-    printf '7\n7\nx\n7\n' | keys pack --skip-bad - | lert run --threshold 3 --cone-bits 0 d /dev/stdin
-}
-
-check_skipping() {
-    local number='no decimal number below 2^64' long
-    has python3 || return
-    skips 'lines that are no numbers' "2 line 2: $number" '7\n8\n9\n' '7\nx\n8\n-1\n9\n'
-    skips 'a row without the column' '1 line 3: the row has no column b' '7\n8\n' 'a,b\n1,7\n1\n1,8\n' --csv b
-    skips 'a row of a CSV that is none' "1 line 3: no CSV: ',' expected after '\"'" '7\n8\n' 'b\n7\n"x"y\n8\n' --csv b
-    skips 'a quote that stays open' '1 line 4: no CSV: unexpected end of data' '7\n8\n' 'b\n7\n"x\n8\n' --csv b
-    skips 'lines that are no JSON' '2 line 2: no JSON object' '7\n8\n' '{"a":7}\n{\n[7]\n{"a":"8"}\n' --json a
-    skips 'a line without the field' '1 line 2: no field a' '7\n8\n' '{"a":7}\n{"b":7}\n{"a":"8"}\n' --json a
-    long=$(yes x | head -n 1100000 | tr -d '\n')
-    skips 'a line that is too long' "2 byte 2: a line of more than 1048576 bytes" '7\n8\n' "7\n$long\n8\nx\n"
-    printf '7\nx\n' >bad
-    gives 'packs a file but its bad lines' 0 '7\n' "keys: bad: 1 records were skipped, the first at line 2: $number\n" \
-        eval 'keys pack --skip-bad --from bad packed && keys unpack packed'
-    gives 'tells that nothing was skipped' 0 '' 'keys: standard input: 0 records were skipped\n' \
-        keys pack --skip-bad packed < <(echo 7)
-    gives 'a run over a stream with a bad line' 0 \
-        'cone 0 events 3 reports 1 closed\n7 3\ntotal events 3 reports 1\n' \
-        "keys: standard input: 1 records were skipped, the first at line 3: $number\n" skipping_run
 }
 
 # --- names
@@ -330,11 +293,19 @@ left_by_picture() {
 check_picture() {
     local PATH=$PATH told key
     has python3 || return
+    check_spared
+    rm -rf d
     told="picture: $(hint_of matplotlib)\n"
     gives 'a picture without matplotlib' 2 '' "$told" env PYTHONPATH=hidden "$top/tools/picture" d
     python_with matplotlib || return
     gives 'a picture of sixteen cones' 0 '' '' pictured 4
     gives 'a picture of one cone' 0 '' '' pictured 0
+    if mknod page_device c 1 3 2>"$work/said"; then
+        gives 'draws behind a link and into a device' 0 \
+            '<title>LERT: d</title>\nsymbolic link\ncharacter special file\n' '' drawn_into
+    else
+        echo "skipped: no device can be made here"
+    fi
     key=$(keys unpack packed | sort | uniq -c | sort -n | tail -n 1 | sed 's/.* //')
     echo a | keys pack --hash --names other packed
     gives 'a picture by names of another trace' 1 '' \

@@ -11,12 +11,16 @@ import csv
 import io
 import json
 import select
+import zlib
 from contextlib import suppress
 from typing import Callable, Generator, Iterator, NamedTuple, Sequence
 
 CHUNK = 1 << 18
 MOST_LINE = 1 << 20
 MOST_SHOWN = 200
+# The first bytes of a gzip file, and its form as zlib names it.
+GZIP = b"\x1f\x8b"
+GZIP_FORM = 16 + zlib.MAX_WBITS
 
 
 class BadInput(Exception):
@@ -31,8 +35,43 @@ class Batch(NamedTuple):
     unit: str = "line"
 
 
+class Unpacked:
+    """What a gzip file holds, of one member or several."""
+
+    def __init__(self, read: Callable[[], bytes], begin: bytes) -> None:
+        self.more = read
+        self.data = begin
+        self.member = zlib.decompressobj(GZIP_FORM)
+        # Whether the member may have more of what it was given.
+        self.is_full = False
+
+    def read(self) -> bytes:
+        """What comes next, at most a chunk; nothing at the end."""
+        while not (out := self.member.decompress(self.data, CHUNK)):
+            if self.member.eof:
+                if not self.has_next():
+                    return b""
+            elif not (data := self.more()):
+                raise EOFError("it ends before its end")
+            else:
+                self.data = data
+        # Behind a member's end the rest stands in `unused_data`, and may stand here too.
+        self.data = b"" if self.member.eof else self.member.unconsumed_tail
+        self.is_full = len(out) == CHUNK
+        return out
+
+    def has_next(self) -> bool:
+        """Begins the next member, before which zeros may stand."""
+        data = self.member.unused_data
+        while not (data := data.lstrip(b"\0")):
+            if not (data := self.more()):
+                return False
+        self.data, self.member = data, zlib.decompressobj(GZIP_FORM)
+        return True
+
+
 class Source:
-    """A file, or standard input where there is no path."""
+    """A file, or standard input where there is no path. What begins as a gzip file does is unpacked."""
 
     def __init__(self, path: str | None, skips_bad: bool = False) -> None:
         self.name = "standard input" if path is None else path
@@ -40,6 +79,8 @@ class Source:
         # How many bytes were read, but those that were put back.
         self.taken = 0
         self.back = b""
+        self.is_begun = False
+        self.unpacked: Unpacked | None = None
         self.skips_bad = skips_bad
         self.skipped = 0
         self.first_skipped = ""
@@ -47,10 +88,32 @@ class Source:
     def read(self) -> bytes:
         """What is there, at most a chunk; waits where nothing is, and gives nothing at the end."""
         data, self.back = self.back, b""
-        while not data and (data := self.file.read(CHUNK)) is None:
-            self.is_ready(None)
+        if not data:
+            data = self.more() if self.is_begun else self.begun()
         self.taken += len(data)
         return data
+
+    def raw(self) -> bytes:
+        while (data := self.file.read(CHUNK)) is None:
+            self.is_ready(None)
+        return data
+
+    def begun(self) -> bytes:
+        """The first read, which finds out whether it is a gzip file."""
+        self.is_begun = True
+        data = self.raw()
+        if data == GZIP[:1]:
+            data += self.raw()
+        if not data.startswith(GZIP):
+            return data
+        self.unpacked = Unpacked(self.raw, data)
+        return self.more()
+
+    def more(self) -> bytes:
+        try:
+            return self.raw() if self.unpacked is None else self.unpacked.read()
+        except (zlib.error, EOFError) as fault:
+            raise self.refusal(f"byte {self.taken} of what is unpacked", f"a broken gzip file: {fault}") from None
 
     def put_back(self, data: bytes) -> None:
         """The next read gives these bytes again."""
@@ -59,7 +122,8 @@ class Source:
 
     def is_ready(self, seconds: float | None) -> bool:
         """Whether a read wouldn't wait any more, within so many seconds."""
-        return bool(self.back or select.select([self.file], [], [], seconds)[0])
+        is_full = self.unpacked is not None and self.unpacked.is_full
+        return bool(self.back or is_full or select.select([self.file], [], [], seconds)[0])
 
     def refusal(self, place: str, why: str) -> BadInput:
         return BadInput(f"{self.name}, {place}: {why}")
@@ -115,8 +179,8 @@ def lines(source: Source) -> Iterator[Batch]:
 def stretches(
     source: Source, values: Sequence[bytes | None], places: Sequence[int], lack: Callable[[int], str]
 ) -> Iterator[Batch]:
-    """The values of lines but those that are None, which are refused, each behind the values before it. `lack` says what
-    is amiss with one by its place among these."""
+    """The values of lines but those that are None, which are refused, each behind the values before it. `lack` says
+    what is amiss with one by its place among these."""
     begin = 0
     for at in [at for at, value in enumerate(values) if value is None] if None in values else ():
         if begin < at:
@@ -125,6 +189,14 @@ def stretches(
         begin = at + 1
     if begin < len(values):
         yield Batch(values[begin:], places[begin:])
+
+
+def word(source: Source, number: int) -> Iterator[Batch]:
+    """A word of each line, by its number, from 1. Words are parted by blanks."""
+    for batch in lines(source):
+        parted = [line.split(None, number) for line in batch.values]
+        values = [words[number - 1] if len(words) >= number else None for words in parted]
+        yield from stretches(source, values, batch.places, lambda _: f"the line has no word {number}")
 
 
 def place_of(wanted: str, header: list[str], source: Source) -> int:
@@ -181,8 +253,8 @@ def rows_of(source: Source, delimiter: str) -> Iterator[tuple[list[list[str]], S
 def rows_in(
     source: Source, texts: list[str], before: int, delimiter: str, is_last: bool
 ) -> Generator[tuple[list[list[str]], Sequence[int]], None, tuple[list[str], int]]:
-    """The rows of lines behind so many lines. It gives the lines that may go on in the next one, and how many are before
-    them. Behind the first line of a row that is skipped the next row begins."""
+    """The rows of lines behind so many lines. It gives the lines that may go on in the next one, and how many are
+    before them. Behind the first line of a row that is skipped the next row begins."""
     while texts:
         rows, ends, fault, at = parsed(texts, delimiter)
         whole = ends[-1] if ends else 0

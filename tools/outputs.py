@@ -124,8 +124,8 @@ def keep_owner(file: int, before: os.stat_result) -> None:
 
 @contextmanager
 def replacing(place: Place) -> Iterator[BinaryIO]:
-    """A file to be written. It replaces what stands at a place at the block's end, but not after an exception. From here
-    on signals are exceptions."""
+    """A file to be written. It replaces what stands at a place at the block's end, but not after an exception. From
+    here on signals are exceptions."""
     target = place.target
     part = f"{target}.{os.getpid()}.part"
     catch_signals()
