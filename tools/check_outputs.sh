@@ -100,7 +100,8 @@ without_room() (
 
 check_outputs() {
     local same='is not written, since it is the same file as' other='since what stands there is no trace'
-    local told='keys: standard input, line 1: no JSON object\n' modes='777 symbolic link kept/dangling\n777 symbolic link kept/link\n' signal number
+    local told='keys: standard input, line 1: no JSON object\n' signal number
+    local modes='777 symbolic link kept/dangling\n777 symbolic link kept/link\n'
     has python3 || return
     keeps 'the input' "mine $same mine" --from mine mine
     keeps 'standard input' "mine $same standard input" mine
@@ -167,8 +168,9 @@ streamed() {
     return $status
 }
 
-# skips NAME COUNT_AND_FIRST KEYS FORMAT WORDS..: of a file with this text, `bad`, a stream that is packed by these words
-# ends at the first bad record, and has handed on the first of these keys before it; with --skip-bad it has all of them.
+# skips NAME BAD KEYS FORMAT WORDS..: of a file with this text, `bad`, a stream that is packed by these words ends at
+# the first bad record, and has handed on the first of these keys; with --skip-bad it has all of them. BAD is the number
+# of such records and the first.
 skips() {
     local before
     printf "$4" >bad

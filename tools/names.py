@@ -11,7 +11,7 @@ import re
 import sqlite3
 import time
 from contextlib import closing, contextmanager
-from itertools import chain, islice
+from itertools import chain
 from typing import Iterable, Iterator, Sequence
 from urllib.parse import quote
 
@@ -108,14 +108,15 @@ class Names:
         row = self.file.execute(FIND, (key,)).fetchone()
         return None if row is None else row[0]
 
-    def several(self, keys: Iterable[int]) -> Iterator[tuple[int, bytes]]:
-        """The keys that have a name, each with it."""
+    def several(self, keys: Iterable[int]) -> dict[int, bytes]:
+        """The names of those keys that have one."""
         # In their order, each page of the table is met once.
-        due = iter(sorted(map(signed, keys)))
-        while some := list(islice(due, KEYS_AT_ONCE)):
-            places = ", ".join("?" * len(some))
-            for key, name in self.file.execute(FIND_SEVERAL.format(places), some).fetchall():
-                yield key % (1 << 64), name
+        due = sorted(key - (key >> 63 << 64) for key in keys if not key >> 64)
+        found: dict[int, bytes] = {}
+        for begin in range(0, len(due), KEYS_AT_ONCE):
+            some = due[begin : begin + KEYS_AT_ONCE]
+            found.update(self.file.execute(FIND_SEVERAL.format(", ".join("?" * len(some))), some))
+        return {key % (1 << 64): name for key, name in found.items()}
 
     def due(self, key: int, place: str) -> bytes:
         """The name of a key as it is printed. A key without one is refused, with the place that it comes from."""
