@@ -9,6 +9,7 @@ import errno
 import os
 import re
 import sqlite3
+import struct
 import time
 from contextlib import closing, contextmanager
 from itertools import chain
@@ -111,7 +112,8 @@ class Names:
     def several(self, keys: Iterable[int]) -> dict[int, bytes]:
         """The names of those keys that have one."""
         # In their order, each page of the table is met once.
-        due = sorted(key - (key >> 63 << 64) for key in keys if not key >> 64)
+        several = [key for key in keys if not key >> 64]
+        due = sorted(struct.unpack(f"<{len(several)}q", struct.pack(f"<{len(several)}Q", *several)))
         found: dict[int, bytes] = {}
         for begin in range(0, len(due), KEYS_AT_ONCE):
             some = due[begin : begin + KEYS_AT_ONCE]
