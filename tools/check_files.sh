@@ -53,6 +53,7 @@ check_keys() {
     has b2sum || return
     gives 'hashes as b2sum' 0 "4c45525401000000\n$(printf the | b2sum -l 64 | cut -d' ' -f1)\n" '' \
         pack_bytes --hash < <(echo the)
+    check_outputs
 }
 
 check_unpacking() {

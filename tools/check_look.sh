@@ -73,6 +73,12 @@ check_records() {
     gives 'reports names of a column by its number' 0 '' '' \
         cmp due <(due_of --csv 2 --delimiter '\t' --from visits.tsv)
     gives 'reports names of JSON lines' 0 '' '' cmp due <(due_of --json who <visits.json)
+    gives 'reports names of a packed CSV' 0 '' '' cmp due <(gzip <visits.csv | due_of --csv who)
+    { gzip <visits.csv && gzip </dev/null && echo 2001,7,x | gzip; } >visits.gz
+    keys pack --csv at --from visits.gz packed
+    gives 'packs numbers of a CSV that is packed in parts' 0 '' '' cmp <(seq 2001) <(keys unpack packed)
+    seq 50 | sed 's/.*/ a \t& b/' | keys pack --field 2 packed
+    gives 'packs numbers of words' 0 '' '' cmp <(seq 50) <(keys unpack packed)
     keys pack --json at --from visits.json packed
     gives 'packs numbers of JSON lines' 0 '' '' cmp <(seq 2000) <(keys unpack packed)
     keys pack --csv at packed <visits.csv
@@ -88,6 +94,11 @@ check_records() {
     refuses 'JSON that is no object' 'line 1: no JSON object' '["a"]\n' --json a
     refuses 'JSON without the field' 'line 2: no field a' '{"a":"b"}\n{"b":"a"}\n' --json a
     refuses 'a field of another kind' 'line 1: the field a is no text and no number' '{"a":true}\n' --json a
+    refuses 'a line without the word' 'line 2: the line has no word 3' '1 2 3\n 1 2 \n' --field 3
+    gzip <visits.json | head -c 15 >cut.gz
+    gives 'refuses a gzip file that is cut' 1 '' \
+        'keys: cut.gz, byte 0 of what is unpacked: a broken gzip file: it ends before its end\n' \
+        keys pack --hash --from cut.gz packed
     yes | tr -d '\n' | head -c 1300000 >bad
     gives 'refuses a line without end' 1 'bad\nbefore\n' \
         'keys: bad, byte 0: a line of more than 1048576 bytes\n' left_of_bad
@@ -98,6 +109,22 @@ check_records() {
 # --- names
 
 label_visits() { printf 'cone 0 events 1 reports 1 closed\n7 1\n' | keys label --names "$1"; }
+
+# A run whose names are new is labelled, though there are none when it begins.
+late_names() (
+    set -o pipefail
+    rm -rf d names
+    { sleep 1 && printf 'the\nthe\nthe\n'; } | keys pack --hash --names names - |
+        lert run --threshold 3 --cone-bits 0 d /dev/stdin | keys label --names names
+)
+
+# A run whose report is labelled by a file that isn't there, and its status.
+unnamed_run() {
+    run_of_three | keys label --names nowhere
+    echo "${PIPESTATUS[@]}"
+}
+
+run_of_three() { rm -rf d && lert run --threshold 3 --cone-bits 0 d sevens; }
 
 # The names of before and those of a refused packing are the same.
 names_kept() {
@@ -121,7 +148,8 @@ END
 }
 
 check_names() {
-    local other='has the hash of another name in names'
+    local other='has the hash of another name in names' unnamed='cone 0 events 1 reports 1 closed\n7 1\n'
+    local nowhere="keys: [Errno 2] No such file or directory: 'nowhere'\n"
     has python3 || return
     rm -f names && printf 'the\n' | keys pack --hash --names names packed
     printf 'a\n' | keys pack --hash --names names second
@@ -129,15 +157,21 @@ check_names() {
         eval "{ keys unpack packed; keys unpack second; } | sed 's/\$/ 1/' | keys label --names names | cut -d' ' -f2-"
     printf '{"who":"new"}\n{"who":0}\n{}\n' >bad
     gives 'adds no names of what is refused' 1 '' 'keys: standard input, line 3: no field who\n' names_kept bad
-    gives 'labels by no names of another trace' 1 '' \
+    gives 'labels by names that come late' 0 \
+        "cone 0 events 3 reports 1 closed\n$(keys unpack packed) 3 the\ntotal events 3 reports 1\n" '' late_names
+    gives 'takes the report of a run that it has no names for' 0 \
+        'cone 0 events 3 reports 1 closed\n7 3\ntotal events 3 reports 1\n0 2\n' "$nowhere" unnamed_run
+    gives 'labels by no names of another trace' 1 "$unnamed" \
         'keys: standard input, line 2: key 7 has no name in names, which has those of another trace\n' \
         label_visits names
     printf '\x1b[31m \xc2\x9b\x7f\n' | keys pack --hash --names names third
     gives 'labels with nothing that a terminal obeys' 0 '1 \\x1b[31m \\xc2\\x9b\\x7f\n' '' \
         eval "keys unpack third | sed 's/\$/ 1/' | keys label --names names | cut -d' ' -f2-"
-    gives 'labels by no other file' 1 '' 'keys: due, byte 0: no file of names: file is not a database\n' \
+    gives 'labels by no other file' 1 "$unnamed" 'keys: due, byte 0: no file of names: file is not a database\n' \
         label_visits due
-    gives 'labels by no file' 2 '' "keys: [Errno 2] No such file or directory: 'nowhere'\n" label_visits nowhere
+    gives 'labels by no file' 2 "$unnamed" "$nowhere" label_visits nowhere
+    gives 'wants no names where there is no report' 0 'cone 0 events 0 reports 0 closed\n' '' \
+        eval 'echo cone 0 events 0 reports 0 closed | keys label --names nowhere'
     take_key
     gives 'refuses two names of one key' 1 '' "keys: standard input, at the end: the $other\n" \
         keys pack --hash --names names packed < <(echo the)
@@ -242,7 +276,7 @@ check_watch() {
     has python3 || return
     key=$(echo the | keys pack --hash packed && keys unpack packed)
     gives 'refuses the run over a refused stream' 4 '' \
-        'keys: standard input, line 4: no decimal number below 2^64\nlert: trace 0 bad at 8\n' refused_stream
+        'keys: standard input, line 4: no decimal number below 2^64\nlert: trace 0 bad at 32\n' refused_stream
     gives 'watches a run while it goes on' 0 \
         "$report$key 3\n${total}0 $key 3 the\n0 $key 3 the\n$report$total" '' watched_run /dev/stdin
     has mkfifo && gives 'watches a run of two cones from a named pipe' 0 '' '' watched_fifo
@@ -331,12 +365,20 @@ left_by_picture() {
 check_picture() {
     local PATH=$PATH told key
     has python3 || return
+    check_spared
+    rm -rf d
     told="picture: $(hint_of matplotlib)\n"
     gives 'a picture without matplotlib' 2 '' "$told" env PYTHONPATH=hidden "$top/tools/picture" d
     python_with matplotlib || return
     gives 'a picture of sixteen cones' 0 '' '' pictured 4
     has /proc/locks && gives 'a picture of a stopped run' 0 '' 'lert: trace 0 bad at 240008\n' pictured_stopped
     gives 'a picture of one cone' 0 '' '' pictured 0
+    if mknod page_device c 1 3 2>"$work/said"; then
+        gives 'draws behind a link and into a device' 0 \
+            '<title>LERT: d</title>\nsymbolic link\ncharacter special file\n' '' drawn_into
+    else
+        echo "skipped: no device can be made here"
+    fi
     key=$(keys unpack packed | sort | uniq -c | sort -n | tail -n 1 | sed 's/.* //')
     echo a | keys pack --hash --names other packed
     gives 'a picture by names of another trace' 1 '' \
@@ -358,6 +400,7 @@ check_look() {
     says watch 'Shows a run while it goes on, by the files that it writes.'
     says picture 'Makes a page with pictures of a run, of one that goes on too.'
     check_records
+    check_skipping
     check_names
     check_packets
     check_watch

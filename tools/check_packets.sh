@@ -37,6 +37,11 @@ for _ in range(1500):
         packets.append(b"\x08\x06" + bytes(28))
 open("flows.pcap", "wb").writelines(pcap((bytes(12) + one for one in packets), 1))
 open("raw.pcap", "wb").writelines(pcap((one[2:] for one in packets if one[0] != 8 or one[1] != 6), 101))
+raw = [one[2:] for one in packets if one[:2] != b"\x08\x06"]
+three = b"".join(pcap(raw[:3], 101))
+open("cut.pcap", "wb").write(three[:-1])
+open("cut_at", "w").write(f"{len(three) - 16 - len(raw[2])}\n")
+open("cut_due", "w").writelines(f"{flow[1]}\n" for flow in flows[:2])
 open("other.pcap", "wb").writelines(pcap([], 105))
 open("left_out", "w").write(f"{len(packets) - len(flows)}\n")
 values = {
@@ -100,6 +105,14 @@ refuses_packets() {
     gives "refuses $1" 1 'bad\nbefore\n' "keys: bad, byte $3\n" left_of_bad --packets source
 }
 
+# The sources that reach the reader of a stream of three packets of which the last one is cut.
+cut_packets() {
+    rm -f names
+    keys pack --packets source --names names "$@" - <cut.pcap | keys unpack /dev/stdin 2>"$work/said" |
+        sed 's/$/ 1/' | keys label --names names | cut -d' ' -f3-
+    return "${PIPESTATUS[0]}"
+}
+
 check_packets() {
     local what told PATH=$PATH
     has python3 || return
@@ -122,6 +135,10 @@ check_packets() {
     refuses_packets 'a pcap that ends in the header of a packet' 30 '24: the file ends inside a packet'
     refuses_packets 'a pcap that ends behind the header of a packet' 40 '24: the file ends inside a packet'
     refuses_packets 'a pcap that ends in a packet' 60 '24: the file ends inside a packet'
+    told="byte $(cat cut_at): the file ends inside a packet\n"
+    gives 'hands on the packets before a cut one' 1 "$(cat cut_due)\n" "keys: standard input, $told" cut_packets
+    gives 'skips a cut packet' 0 "$(cat cut_due)\n" \
+        "keys: standard input: 1 records were skipped, the first at $told" cut_packets --skip-bad
     cp other.pcap bad
     gives 'refuses packets of another link' 1 'bad\nbefore\n' \
         "keys: bad, byte 20: packets of the link type 105, which isn't known\n" left_of_bad --packets pair

@@ -11,12 +11,16 @@ import csv
 import io
 import json
 import select
+import zlib
 from contextlib import suppress
-from typing import Iterator, NamedTuple, Sequence
+from typing import Callable, Generator, Iterator, NamedTuple, Sequence
 
 CHUNK = 1 << 18
 MOST_LINE = 1 << 20
 MOST_SHOWN = 200
+# The first bytes of a gzip file, and its form as zlib names it.
+GZIP = b"\x1f\x8b"
+GZIP_FORM = 16 + zlib.MAX_WBITS
 
 
 class BadInput(Exception):
@@ -31,56 +35,168 @@ class Batch(NamedTuple):
     unit: str = "line"
 
 
-class Source:
-    """A file, or standard input where there is no path."""
+class Unpacked:
+    """What a gzip file holds, of one member or several."""
 
-    def __init__(self, path: str | None) -> None:
+    def __init__(self, read: Callable[[], bytes], begin: bytes) -> None:
+        self.more = read
+        self.data = begin
+        self.member = zlib.decompressobj(GZIP_FORM)
+        # Whether the member may have more of what it was given.
+        self.is_full = False
+
+    def read(self) -> bytes:
+        """What comes next, at most a chunk; nothing at the end."""
+        while not (out := self.member.decompress(self.data, CHUNK)):
+            if self.member.eof:
+                if not self.has_next():
+                    return b""
+            elif not (data := self.more()):
+                raise EOFError("it ends before its end")
+            else:
+                self.data = data
+        # Behind a member's end the rest stands in `unused_data`, and may stand here too.
+        self.data = b"" if self.member.eof else self.member.unconsumed_tail
+        self.is_full = len(out) == CHUNK
+        return out
+
+    def has_next(self) -> bool:
+        """Begins the next member, before which zeros may stand."""
+        data = self.member.unused_data
+        while not (data := data.lstrip(b"\0")):
+            if not (data := self.more()):
+                return False
+        self.data, self.member = data, zlib.decompressobj(GZIP_FORM)
+        return True
+
+
+class Source:
+    """A file, or standard input where there is no path. What begins as a gzip file does is unpacked."""
+
+    def __init__(self, path: str | None, skips_bad: bool = False) -> None:
         self.name = "standard input" if path is None else path
         self.file = open(0 if path is None else path, "rb", buffering=0, closefd=path is not None)
-        # How many bytes were read.
+        # How many bytes were read, but those that were put back.
         self.taken = 0
+        self.back = b""
+        self.is_begun = False
+        self.unpacked: Unpacked | None = None
+        self.skips_bad = skips_bad
+        self.skipped = 0
+        self.first_skipped = ""
 
     def read(self) -> bytes:
         """What is there, at most a chunk; waits where nothing is, and gives nothing at the end."""
-        while (data := self.file.read(CHUNK)) is None:
-            self.is_ready(None)
+        data, self.back = self.back, b""
+        if not data:
+            data = self.more() if self.is_begun else self.begun()
         self.taken += len(data)
         return data
 
+    def raw(self) -> bytes:
+        while (data := self.file.read(CHUNK)) is None:
+            self.is_ready(None)
+        return data
+
+    def begun(self) -> bytes:
+        """The first read, which finds out whether it is a gzip file."""
+        self.is_begun = True
+        data = self.raw()
+        if data == GZIP[:1]:
+            data += self.raw()
+        if not data.startswith(GZIP):
+            return data
+        self.unpacked = Unpacked(self.raw, data)
+        return self.more()
+
+    def more(self) -> bytes:
+        try:
+            return self.raw() if self.unpacked is None else self.unpacked.read()
+        except (zlib.error, EOFError) as fault:
+            raise self.refusal(f"byte {self.taken} of what is unpacked", f"a broken gzip file: {fault}") from None
+
+    def put_back(self, data: bytes) -> None:
+        """The next read gives these bytes again."""
+        self.back = data
+        self.taken -= len(data)
+
     def is_ready(self, seconds: float | None) -> bool:
         """Whether a read wouldn't wait any more, within so many seconds."""
-        return bool(select.select([self.file], [], [], seconds)[0])
+        is_full = self.unpacked is not None and self.unpacked.is_full
+        return bool(self.back or is_full or select.select([self.file], [], [], seconds)[0])
 
     def refusal(self, place: str, why: str) -> BadInput:
         return BadInput(f"{self.name}, {place}: {why}")
 
+    def refuse(self, place: str, why: str) -> None:
+        """Ends the input at a bad record, or skips and counts it. The values before it are handed out by then."""
+        if not self.skips_bad:
+            raise self.refusal(place, why)
+        self.skipped += 1
+        self.first_skipped = self.first_skipped or f", the first at {place}: {why}"
 
-def blocks(source: Source) -> Iterator[bytes]:
-    """Whole lines as they come, several in one. The last one may lack its line break."""
-    rest = b""
+
+def blocks(source: Source) -> Iterator[tuple[int, bytes]]:
+    """Whole lines as they come, several in one, behind the number of lines that were skipped just before. The last one
+    may lack its line break."""
+    rest, skipped = b"", 0
     while data := source.read():
-        end = data.rfind(b"\n") + 1
-        if end:
-            yield rest + data[:end]
-            rest = data[end:]
+        first, end = data.find(b"\n"), data.rfind(b"\n") + 1
+        if len(rest) + (first if end else len(data)) > MOST_LINE:
+            source.put_back(data)
+            source.refuse(f"byte {source.taken - len(rest)}", f"a line of more than {MOST_LINE} bytes")
+            leave_line(source)
+            rest, skipped = b"", skipped + 1
+        elif end:
+            yield skipped, rest + data[:end]
+            rest, skipped = data[end:], 0
         else:
             rest += data
-        if len(rest) > MOST_LINE:
-            raise source.refusal(f"byte {source.taken - len(rest)}", f"a line of more than {MOST_LINE} bytes")
     if rest:
-        yield rest
+        yield skipped, rest
+
+
+def leave_line(source: Source) -> None:
+    """Reads to the end of a line."""
+    while (data := source.read()) and b"\n" not in data:
+        pass
+    source.put_back(data.partition(b"\n")[2])
 
 
 def lines(source: Source) -> Iterator[Batch]:
     """The lines, without byte 10."""
     first = 1
-    for block in blocks(source):
+    for skipped, block in blocks(source):
+        first += skipped
         values = block.split(b"\n")
         # Behind the last line break there is no line.
         if not values[-1]:
             values.pop()
         yield Batch(values, range(first, first + len(values)))
         first += len(values)
+
+
+def stretches(
+    source: Source, values: Sequence[bytes | None], places: Sequence[int], lack: Callable[[int], str]
+) -> Iterator[Batch]:
+    """The values of lines but those that are None, which are refused, each behind the values before it. `lack` says
+    what is amiss with one by its place among these."""
+    begin = 0
+    for at in [at for at, value in enumerate(values) if value is None] if None in values else ():
+        if begin < at:
+            yield Batch(values[begin:at], places[begin:at])
+        source.refuse(f"line {places[at]}", lack(at))
+        begin = at + 1
+    if begin < len(values):
+        yield Batch(values[begin:], places[begin:])
+
+
+def word(source: Source, number: int) -> Iterator[Batch]:
+    """A word of each line, by its number, from 1. Words are parted by blanks."""
+    for batch in lines(source):
+        parted = [line.split(None, number) for line in batch.values]
+        values = [words[number - 1] if len(words) >= number else None for words in parted]
+        yield from stretches(source, values, batch.places, lambda _: f"the line has no word {number}")
 
 
 def place_of(wanted: str, header: list[str], source: Source) -> int:
@@ -125,25 +241,35 @@ def rows_of(source: Source, delimiter: str) -> Iterator[tuple[list[list[str]], S
     mark = "\ufeff"
     rest: list[str] = []
     before = 0
-    for block in blocks(source):
+    for skipped, block in blocks(source):
         # Bytes that are no UTF-8 come back as they were.
         text = block.decode("utf-8", "surrogateescape").removeprefix(mark)
         mark = ""
-        texts = rest + list(io.StringIO(text, newline=""))
+        rest, before = rest + list(io.StringIO(text, newline="")), before + skipped
+        rest, before = yield from rows_in(source, rest, before, delimiter, is_last=False)
+    yield from rows_in(source, rest, before, delimiter, is_last=True)
+
+
+def rows_in(
+    source: Source, texts: list[str], before: int, delimiter: str, is_last: bool
+) -> Generator[tuple[list[list[str]], Sequence[int]], None, tuple[list[str], int]]:
+    """The rows of lines behind so many lines. It gives the lines that may go on in the next one, and how many are
+    before them. Behind the first line of a row that is skipped the next row begins."""
+    while texts:
         rows, ends, fault, at = parsed(texts, delimiter)
-        if fault and at < len(texts):
-            raise source.refusal(f"line {before + at}", f"no CSV: {fault}")
-        # What the last line leaves open may go on in the next one.
         whole = ends[-1] if ends else 0
-        rest = texts[whole:] if fault else []
         places = range(before + 1, before + whole + 1) if len(rows) == whole else [before + end for end in ends]
-        before += whole
         if not all(rows):
             places = [place for row, place in zip(rows, places) if row]
             rows = [row for row in rows if row]
         yield rows, places
-    if rest:
-        raise source.refusal(f"line {before + len(rest)}", f"no CSV: {fault}")
+        texts, before = texts[whole:] if fault else [], before + whole
+        if fault and whole + len(texts) == at and not is_last:
+            break
+        if fault:
+            source.refuse(f"line {before - whole + at}", f"no CSV: {fault}")
+            texts, before = texts[1:], before + 1
+    return texts, before
 
 
 def column(source: Source, wanted: str, delimiter: str) -> Iterator[Batch]:
@@ -156,10 +282,8 @@ def column(source: Source, wanted: str, delimiter: str) -> Iterator[Batch]:
         try:
             values = [row[at].encode("utf-8", "surrogateescape") for row in rows]
         except IndexError:
-            place = next(place for row, place in zip(rows, places) if len(row) <= at)
-            raise source.refusal(f"line {place}", f"the row has no column {wanted}") from None
-        if values:
-            yield Batch(values, places)
+            values = [row[at].encode("utf-8", "surrogateescape") if at < len(row) else None for row in rows]
+        yield from stretches(source, values, places, lambda _: f"the row has no column {wanted}")
     if at is None:
         place_of(wanted, [], source)
 
@@ -168,7 +292,7 @@ def field(source: Source, wanted: str) -> Iterator[Batch]:
     """The values of one field of the JSON object that each line is: a text, or a number as it is written there."""
     scan = json.JSONDecoder(parse_int=str, parse_float=str).scan_once
     for batch in lines(source):
-        values: list[bytes] = []
+        values: list[bytes | None] = []
         for line in batch.values:
             try:
                 text = line.decode().strip(" \t\r")
@@ -176,11 +300,9 @@ def field(source: Source, wanted: str) -> Iterator[Batch]:
                 value = fields[wanted]
             except (ValueError, StopIteration, RecursionError, TypeError, KeyError):
                 value = None
-            if not isinstance(value, str) or end != len(text):
-                place = f"line {batch.places[len(values)]}"
-                raise source.refusal(place, lack_of(line, wanted))
-            values.append(value.encode("utf-8", "surrogatepass"))
-        yield Batch(values, batch.places)
+            is_whole = isinstance(value, str) and end == len(text)
+            values.append(value.encode("utf-8", "surrogatepass") if is_whole else None)
+        yield from stretches(source, values, batch.places, lambda at: lack_of(batch.values[at], wanted))
 
 
 def lack_of(line: bytes, wanted: str) -> str:

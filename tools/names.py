@@ -9,12 +9,15 @@ import errno
 import os
 import re
 import sqlite3
+import struct
+import time
 from contextlib import closing, contextmanager
 from itertools import chain
-from typing import Iterator, Sequence
+from typing import Iterable, Iterator, Sequence
 from urllib.parse import quote
 
 from inputs import BadInput
+from outputs import Place, Refused
 
 TABLE = "CREATE TABLE IF NOT EXISTS names (key INTEGER PRIMARY KEY, name BLOB NOT NULL)"
 # Of another name for a key that is there the row would have none, which the table refuses.
@@ -22,9 +25,16 @@ ADD = "INSERT INTO names VALUES {} ON CONFLICT (key) DO UPDATE SET name = NULL W
 ROW = "(?, ?)"
 # Several rows in one statement take two thirds of the time.
 ROWS_AT_ONCE = 20
+KEYS_AT_ONCE = 1000
+FIND_SEVERAL = "SELECT key, CAST(name AS BLOB) FROM names WHERE key IN ({})"
 FIND = "SELECT CAST(name AS BLOB) FROM names WHERE key = ?"
-# Others may write the names meanwhile, and a whole file's are one step. In seconds.
+TABLES = "SELECT name FROM sqlite_master WHERE type = 'table'"
+COLUMNS = "SELECT name, type, pk FROM pragma_table_info('names')"
+OWN_COLUMNS = [("key", "INTEGER", 1), ("name", "BLOB", 0)]
+# Others may write the names meanwhile, and a whole file's are one step. In seconds, and by steps between which a signal
+# is heard.
 MOST_WAIT = 600
+STEP = 0.25
 CACHE_KIB = 16_384
 CONTROL = re.compile(rb"[\x00-\x1f\x7f]|\xc2[\x80-\x9f]")
 
@@ -63,9 +73,33 @@ class Names:
             raise BadInput(f"{place}: {shown(twice)} has the hash of another name in {self.path}") from None
 
     def begin(self) -> None:
-        if not self.file.in_transaction:
+        if self.file.in_transaction:
+            return
+        until = time.monotonic() + MOST_WAIT
+        self.wait_at_most(STEP)
+        while not self.has_turn():
+            if time.monotonic() >= until:
+                raise OSError(f"{self.path}: others write it for more than {MOST_WAIT} seconds")
+        self.wait_at_most(MOST_WAIT)
+        self.file.execute(TABLE)
+
+    def wait_at_most(self, seconds: float) -> None:
+        self.file.execute(f"PRAGMA busy_timeout = {round(1000 * seconds)}")
+
+    def has_turn(self) -> bool:
+        try:
             self.file.execute("BEGIN IMMEDIATE")
-            self.file.execute(TABLE)
+        except sqlite3.OperationalError as fault:
+            if "locked" not in str(fault):
+                raise
+            return False
+        return True
+
+    def check_own(self) -> None:
+        """Refuses what has something else than names in it."""
+        tables = {name for (name,) in self.file.execute(TABLES)}
+        if tables and (tables != {"names"} or self.file.execute(COLUMNS).fetchall() != OWN_COLUMNS):
+            raise BadInput(f"{self.path}, byte 0: no file of names: there are other tables")
 
     def commit(self) -> None:
         self.file.execute("COMMIT")
@@ -74,6 +108,17 @@ class Names:
         """The name of a signed key."""
         row = self.file.execute(FIND, (key,)).fetchone()
         return None if row is None else row[0]
+
+    def several(self, keys: Iterable[int]) -> dict[int, bytes]:
+        """The names of those keys that have one."""
+        # In their order, each page of the table is met once.
+        several = [key for key in keys if not key >> 64]
+        due = sorted(struct.unpack(f"<{len(several)}q", struct.pack(f"<{len(several)}Q", *several)))
+        found: dict[int, bytes] = {}
+        for begin in range(0, len(due), KEYS_AT_ONCE):
+            some = due[begin : begin + KEYS_AT_ONCE]
+            found.update(self.file.execute(FIND_SEVERAL.format(", ".join("?" * len(some))), some))
+        return {key % (1 << 64): name for key, name in found.items()}
 
     def due(self, key: int, place: str) -> bytes:
         """The name of a key as it is printed. A key without one is refused, with the place that it comes from."""
@@ -111,6 +156,15 @@ def reading(path: str) -> Iterator[Names]:
         yield names
 
 
+def check_names(place: Place) -> None:
+    """Refuses to add names to what is no file of names, where something stands there."""
+    if place.is_straight:
+        raise Refused(f"{place.path} takes no names, since it is no regular file")
+    if place.status is not None:
+        with opened(place.path, "rw") as names:
+            names.check_own()
+
+
 @contextmanager
 def adding(path: str) -> Iterator[Names]:
     """Names that may be added. What isn't committed before an exception ends the block is as if it had never come."""
@@ -124,5 +178,5 @@ def adding(path: str) -> Iterator[Names]:
     except BaseException:
         # Closed without a commit, a file that was made here has nothing in it.
         if is_new and os.path.isfile(path) and os.path.getsize(path) == 0:
-            os.remove(path)
+            os.remove(os.path.realpath(path))
         raise

@@ -106,26 +106,32 @@ class Pcap:
         """The packets as they come, many at once."""
         data, place = self.data[HEADER_LEN:], HEADER_LEN
         while True:
-            several, at = self.whole(data, place)
+            several, at = self.whole(data)
             if several:
                 yield several
             data, place = data[at:], place + at
+            self.check_length(data, place)
             more = self.source.read()
             if not more:
                 break
             data += more
         if data:
-            raise self.source.refusal(f"byte {place}", "the file ends inside a packet")
+            self.source.refuse(f"byte {place}", "the file ends inside a packet")
 
-    def whole(self, data: bytes, place: int) -> tuple[list[bytes], int]:
-        """The packets that are whole at the front of these bytes, which stand at a place of the file, and their end."""
+    def check_length(self, data: bytes, place: int) -> None:
+        """Where a packet is longer than any, nothing says where the next one begins, so that it can't be skipped."""
+        if len(data) >= RECORD_LEN:
+            (length,) = self.length.unpack_from(data)
+            if length > MOST_PACKET:
+                raise self.source.refusal(f"byte {place}", f"a packet of {length} bytes")
+
+    def whole(self, data: bytes) -> tuple[list[bytes], int]:
+        """The packets that are whole at the front of these bytes, and their end."""
         several, at = [], 0
         while len(data) - at >= RECORD_LEN:
             (length,) = self.length.unpack_from(data, at)
-            if length > MOST_PACKET:
-                raise self.source.refusal(f"byte {place + at}", f"a packet of {length} bytes")
             end = at + RECORD_LEN + length
-            if end > len(data):
+            if end > len(data) or length > MOST_PACKET:
                 break
             several.append(data[at + RECORD_LEN : end])
             at = end
