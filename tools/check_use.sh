@@ -35,4 +35,5 @@ check_use() {
     has python3 || return
     says fit 'usage: fit [-h] --events N [--threshold T] [--hottest SHARE] [--memory BYTES]'
     check_fit
+    gives 'the commands of docs/USE.md' 0 '' '' commands "$top/docs/USE.md"
 }
