@@ -1,0 +1,391 @@
+"""The service of tools/live: what it does with what comes, and when."""
+
+from __future__ import annotations
+
+import os
+import sys
+import time
+from contextlib import ExitStack, suppress
+from pathlib import Path
+from typing import NamedTuple, Sequence
+
+from capacity import capacity
+from inputs import MOST_LINE, BadInput
+from metrics import Metric, text_of, write
+from names import Names, reading
+from recovery import Settings
+from service import Directory, Ended, Ends, StateFile, directories, ended_in, remove_old, reported_in, settle, wait_for
+from sieve import Lines, Sifted
+from sources import Command, File, Pipe
+
+CHUNK = 1 << 18
+# A block of input has at most so much of a cone's room.
+BLOCKS_A_CONE = 8
+WAIT = 0.5
+BETWEEN_LOOKS = 0.5
+BETWEEN_METRICS = 5.0
+BETWEEN_BAD = 10.0
+# So many runs may fail one after the other.
+MOST_FAILURES = 5
+DONE, DISK_IS_FULL = 0, 3
+
+
+class Wanted(NamedTuple):
+    """What a service was asked for."""
+
+    folder: Path
+    settings: Settings
+    packing: Sequence[str]
+    named: bool
+    period: int
+    full: float
+    keep: int
+    reserve: int
+    metrics: Path | None
+    stall: float | None
+    pause: float
+    again: bool
+    stops_at_bad: bool
+
+
+class Shown:
+    """The reports of a directory that were printed, and its names."""
+
+    def __init__(self, place: Path, is_named: bool) -> None:
+        self.place = place
+        self.is_named = is_named
+        self.keys: set[int] = set()
+        self.opened = ExitStack()
+        self.names: Names | None = None
+        self.is_deaf = False
+
+    def name_of(self, key: int) -> str:
+        with suppress(BadInput, OSError):
+            if self.is_named:
+                self.names = self.names or self.opened.enter_context(reading(str(self.place / "names")))
+                return " " + self.names.due(key, "").decode(errors="replace")
+        return ""
+
+    def show(self, cone: int, key: int, at: int) -> None:
+        if key in self.keys:
+            return
+        self.keys.add(key)
+        try:
+            print(f"{self.place.name} {cone} {key} {at}{self.name_of(key)}", flush=True)
+        except BrokenPipeError:
+            # Nobody reads it any more.
+            os.dup2(os.open(os.devnull, os.O_WRONLY), sys.stdout.fileno())
+            self.is_deaf = True
+
+
+class Service:
+    def __init__(self, wanted: Wanted, sieve: Lines, head: Path) -> None:
+        sys.stdout.reconfigure(encoding="utf-8", errors="replace")
+        self.wanted = wanted
+        self.sieve = sieve
+        self.head = head
+        self.file = StateFile(wanted.folder / "state")
+        self.state = self.file.state
+        self.source: Command | File | Pipe
+        self.directory: Directory | None = None
+        self.shown: Shown | None = None
+        self.rest = b""
+        self.is_skipping = False
+        self.is_stopping = False
+        self.is_full = False
+        self.is_stalled = False
+        self.failures = 0
+        self.came = self.looked = self.measured = time.monotonic()
+        self.bad_told, self.bad_untold = 0.0, 0
+        self.chunk = min(CHUNK, max(1, capacity(wanted.settings) // BLOCKS_A_CONE))
+
+    def stop(self) -> None:
+        self.is_stopping = True
+
+    def tell(self, text: str) -> None:
+        print(f"live: {text}", file=sys.stderr, flush=True)
+
+    # --- the stream
+
+    def serve(self) -> int:
+        self.settle_left()
+        self.begin_line()
+        while not self.is_stopping and self.has_place():
+            data = self.source.read(self.chunk, WAIT)
+            if self.source.is_new:
+                self.source.is_new = False
+                self.end_line()
+            self.tick()
+            if data is None:
+                self.stall()
+            elif data:
+                self.take(data)
+            elif not self.begin_again():
+                self.end_line()
+                break
+        return self.close()
+
+    def take(self, data: bytes) -> None:
+        self.came = time.monotonic()
+        if self.is_stalled:
+            self.is_stalled = False
+            self.tell("the source goes on")
+        whole = self.rest + data
+        if self.is_skipping:
+            _, found, whole = whole.partition(b"\n")
+            self.is_skipping = not found
+        cut = whole.rfind(b"\n") + 1
+        self.rest = whole[cut:]
+        if len(self.rest) > MOST_LINE:
+            self.rest, self.is_skipping = b"", True
+            self.count_bad(1, f"a line of more than {MOST_LINE} bytes")
+        if cut:
+            self.sift(whole[:cut])
+
+    def begin_line(self) -> None:
+        """A named pipe may go on inside a line whose beginning the last service had read."""
+        state = self.state
+        if not isinstance(self.source, Pipe) or not self.source.path:
+            return
+        if state.cut:
+            self.tell("the first line is left out, since its beginning may be missing")
+            self.is_skipping = True
+            state.records += not state.cut_is_counted
+            state.lost += not state.cut_is_counted
+        state.cut, state.cut_is_counted = True, False
+        self.file.save(synced=True)
+
+    def end_line(self) -> None:
+        """What the source ends with is a line, too."""
+        if self.rest:
+            whole, self.rest = self.rest + b"\n", b""
+            self.sift(whole)
+
+    def sift(self, data: bytes) -> None:
+        had_head = bool(self.sieve.head)
+        sifted = self.sieve.sift(data)
+        if self.sieve.head and not had_head:
+            self.head.write_bytes(self.sieve.head)
+        self.count_bad(sifted.bad, sifted.why)
+        if sifted.records:
+            self.hand_on(sifted)
+        else:
+            self.save()
+
+    def count_bad(self, count: int, why: str) -> None:
+        self.state.bad += count
+        self.bad_untold += count
+        now = time.monotonic()
+        if self.bad_untold and (now >= self.bad_told + BETWEEN_BAD or self.wanted.stops_at_bad):
+            self.tell(f"{self.bad_untold} lines are no records, the last ones: {why}")
+            self.bad_untold, self.bad_told = 0, now
+        if count and self.wanted.stops_at_bad:
+            self.is_stopping = True
+
+    def save(self) -> None:
+        place = dict(self.source.place)
+        if place:
+            place["at"] = max(0, place["at"] - len(self.rest) - self.sieve.held())
+        self.state.place = place
+        self.file.save()
+
+    def hand_on(self, sifted: Sifted) -> None:
+        records, directory = sifted.records, self.directory
+        if directory is not None and directory.given and not directory.has_room(records, self.wanted.full):
+            self.end("its fullest cone is full enough")
+        if self.directory is None:
+            self.begin(records)
+        else:
+            self.count(records)
+        if self.directory is not None and not self.directory.give(sifted.data, self.show):
+            self.recover()
+
+    def count(self, records: int) -> None:
+        """Writes down records that are handed on next: in one step that they were read, and to which directory they go."""
+        self.state.records += records
+        self.state.given += records
+        if self.directory is not None:
+            self.directory.given = self.state.given
+        self.save()
+
+    def stall(self) -> None:
+        if self.wanted.stall is not None and not self.is_stalled and time.monotonic() >= self.came + self.wanted.stall:
+            self.is_stalled = True
+            self.tell(f"nothing came for {self.wanted.stall:g} seconds")
+
+    def begin_again(self) -> bool:
+        """Behind the end of the source: whether it was begun again."""
+        self.tell(f"{self.source.what} has ended")
+        until = time.monotonic() + self.wanted.pause
+        while self.wanted.again and not self.is_stopping:
+            if time.monotonic() >= until:
+                self.end_line()
+                self.source.again()
+                return True
+            time.sleep(BETWEEN_LOOKS)
+            self.tick()
+        return False
+
+    # --- directories
+
+    def begin(self, records: int) -> None:
+        """Begins a directory, to which so many records go first."""
+        self.state.serial += 1
+        name = f"run-{self.state.serial:06}-{time.strftime('%Y%m%dT%H%M%SZ', time.gmtime())}"
+        place = self.wanted.folder / name
+        self.state.folder, self.state.given = name, 0
+        self.count(records)
+        self.directory = Directory(place, self.wanted.settings, self.wanted.packing, self.wanted.named)
+        self.directory.given = records
+        self.shown = Shown(place, self.wanted.named)
+        self.tell(f"{name}: begun")
+        if self.sieve.head:
+            self.directory.give(self.sieve.head, self.show)
+
+    def end(self, why: str) -> None:
+        """Ends the run in order."""
+        if self.directory is not None:
+            self.show()
+            self.settle(self.directory.end(), why)
+
+    def recover(self) -> None:
+        """Behind a crash of the run or of its packer."""
+        directory = self.directory
+        if directory is None:
+            return
+        self.settle(directory.stop(), "its run has ended by itself")
+        # The first one may fail for what is over by now.
+        self.failures = self.failures + 1 if not directory.counts or not sum(directory.counts) else 1
+        if self.failures >= MOST_FAILURES:
+            raise Ends(f"{MOST_FAILURES} runs failed one after the other: see {directory.place}/said")
+        time.sleep(min(2**self.failures / 4, 10))
+
+    def settle(self, how: str, why: str) -> None:
+        directory, self.directory = self.directory, None
+        if directory is not None:
+            directory.count()
+            self.note(directory.place, settle(directory.place, directory.given, how), why)
+            if how == "closed":
+                self.failures = 0
+
+    def note(self, place: Path, ended: Ended, why: str) -> None:
+        shown = self.shown if self.shown is not None and self.shown.place == place else Shown(place, self.wanted.named)
+        for report in reported_in(place):
+            shown.show(*report)
+        shown.opened.close()
+        self.state.lost += ended.lost
+        self.state.folder, self.state.given = "", 0
+        self.file.save(synced=True)
+        recovered = {None: "", 0: ", recovered"}.get(ended.recovered, f", not recovered: status {ended.recovered}")
+        self.tell(f"{place.name}: {why}; {ended.how}{recovered}: {ended.events} events, {ended.lost} records in no journal")
+        for old in remove_old(self.wanted.folder, self.wanted.keep):
+            self.tell(f"{old.name}: removed")
+        self.measure()
+
+    def settle_left(self) -> None:
+        """What the last service left."""
+        self.count_ended()
+        for place in directories(self.wanted.folder):
+            if (place / "ended").exists():
+                continue
+            if not wait_for(place):
+                self.tell(f"{place.name}: its run doesn't end, and is left")
+                continue
+            given = self.state.given if place.name == self.state.folder else 0
+            if (place / "options").exists():
+                self.note(place, settle(place, given, "left"), "the service had ended")
+            else:
+                place.rename(place.with_name(f"unbegun-{place.name}"))
+
+    def count_ended(self) -> None:
+        """A directory may have ended, and the service before it could count what that had lost."""
+        if self.state.folder and (ended := ended_in(self.wanted.folder / self.state.folder)) is not None:
+            self.state.lost += ended.lost
+            self.state.folder, self.state.given = "", 0
+            self.file.save(synced=True)
+
+    # --- what is looked at again and again
+
+    def tick(self) -> None:
+        now = time.monotonic()
+        if now < self.looked + BETWEEN_LOOKS:
+            return
+        self.looked = now
+        if self.directory is not None:
+            self.show()
+            if self.shown is not None and self.shown.is_deaf:
+                self.stop()
+            if not self.directory.is_alive():
+                self.recover()
+            elif self.directory.given and self.is_over(self.directory.begun):
+                self.end("its time is over")
+        if now >= self.measured + BETWEEN_METRICS:
+            self.measure()
+
+    def is_over(self, begun: float) -> bool:
+        return int(time.time()) // self.wanted.period != int(begun) // self.wanted.period
+
+    def show(self) -> None:
+        run = self.directory.look() if self.directory is not None else None
+        for cone in run.cones if run is not None and self.shown is not None else []:
+            for report in cone.log.reports:
+                self.shown.show(cone.header.cone, report.key, report.at)
+
+    def free(self) -> int:
+        found = os.statvfs(self.wanted.folder)
+        return found.f_bavail * found.f_frsize
+
+    def has_place(self) -> bool:
+        self.is_full = self.free() < self.wanted.reserve
+        return not self.is_full
+
+    def measure(self) -> None:
+        self.measured = time.monotonic()
+        if self.wanted.metrics is not None:
+            with suppress(OSError):
+                write(self.wanted.metrics, text_of(self.metrics()))
+
+    def metrics(self) -> list[Metric]:
+        state, directory = self.state, self.directory
+        counts = directory.count() if directory is not None else []
+        several = [
+            ("lert_live_up", "gauge", "Whether the service reads.", int(not self.is_stopping and not self.is_full)),
+            ("lert_live_records_total", "counter", "Records that were read.", state.records),
+            ("lert_live_bad_total", "counter", "Lines that are no records.", state.bad),
+            ("lert_live_lost_total", "counter", "Records that are in no journal.", state.lost),
+            ("lert_live_runs_total", "counter", "Directories that were begun.", state.serial),
+            ("lert_live_stalled", "gauge", "Whether nothing comes.", int(self.is_stalled)),
+            ("lert_live_free_bytes", "gauge", "What is free on the disk.", self.free()),
+            ("lert_events", "gauge", "Events in the journals of the run.", sum(counts)),
+            ("lert_reports", "gauge", "Reports of the run.", len(self.shown.keys) if directory and self.shown else 0),
+            ("lert_full_ratio", "gauge", "How full the fullest cone is.", max(counts, default=0) / directory.capacity if directory else 0),
+        ]
+        made = []
+        for name, kind, what, value in several:
+            metric = Metric(name, kind, what)
+            metric.put(value)
+            made.append(metric)
+        return made
+
+    # --- the end
+
+    def close(self) -> int:
+        self.source.end()
+        if isinstance(self.source, Command) and not self.is_full:
+            while data := self.source.read(self.chunk, WAIT):
+                self.take(data)
+        is_cut = bool(self.rest) and not isinstance(self.source, File)
+        if is_cut:
+            self.state.records += 1
+            self.state.lost += 1
+            self.tell("the last line had no end, and is in no journal")
+        self.state.cut = self.state.cut_is_counted = is_cut or self.is_skipping
+        if self.is_full:
+            self.tell(f"the disk has {self.free()} bytes free, less than {self.wanted.reserve}: ending the run in order")
+        self.end("the disk is full" if self.is_full else "the service ends")
+        self.is_stopping = True
+        self.file.save(synced=True)
+        self.measure()
+        state = self.state
+        self.tell(f"ended: {state.records} records, {state.bad} lines that are none, {state.lost} records in no journal")
+        return DISK_IS_FULL if self.is_full else DONE
