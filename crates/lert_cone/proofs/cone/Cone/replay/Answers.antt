@@ -1,4 +1,4 @@
-use Rattle.std.proofs.Common.{◌≡◌, ◌∙◌, ℕ, ◌+◌, ◌*◌, ◌<◌, ◌++◌, ◌∷◌, [], All, List, length, max, Err, IsFalse}
+use Rattle.std.proofs.Common.{◌≡◌, ◌∙◌, ℕ, ◌+◌, ◌*◌, ◌<◌, ◌++◌, ◌∷◌, [], All, List, length, max, Some, Err, Ok, IsFalse}
 use Rattle.std.proofs.Common.{◌≤◌, le_refl, refl, sym, ap, subst, arith}
 use Rattle.lert_base.specs.Entries.{packet_of}
 use Rattle.lert_base.specs.Packet.{events_of}
@@ -9,7 +9,7 @@ use Rattle.lert_journal.specs.Payload.{payload_of}
 use Rattle.lert_reports.specs.Log.{most_record}
 use Rattle.lert_spec.specs.Mix.{cone_of}
 use Rattle.lert_cone.specs.declared.refusal.ReplayFault.{ReplayFault}
-use Rattle.lert_cone.specs.declared.refusal.ReplayFault.TheVariants.{Failed, Unsound}
+use Rattle.lert_cone.specs.declared.refusal.ReplayFault.TheVariants.{Failed, Malformed, Unsound}
 use Rattle.lert_cone.specs.declared.state.ConeState.TheVariants.{Replaying}
 use Rattle.lert_cone.specs.Framed.{HoldsSome}
 use Rattle.lert_cone.specs.History.{most_payload}
@@ -25,8 +25,8 @@ use Rattle.lert_cone.proofs.ReplayLaws.{never_on_way}
 use Rattle.lert_cone.proofs.ReadCosts.{broken_read, ended_read, refused_read, taken_read}
 use Rattle.lert_cone.proofs.Calls.{alone_reading}
 use Rattle.lert_cone.proofs.ReplayCalls.{alone_behind, calls_behind, ended_at, ended_replays, held_at, keys_stay, keys_unwritten, length_more, listing_more, moved_on, read_stays}
-use Rattle.lert_cone.proofs.ReplayCalls.{read_unwritten, refilled, seen_as, with_keys}
-use Rattle.lert_cone.proofs.ReplayStands.{leaves_listing, never_unsound, failed_keys, failed_record, unsound_keys, only_by_bay, only_failed, read_shut, refused_keys}
+use Rattle.lert_cone.proofs.ReplayCalls.{logged_behind, read_logged, read_unwritten, refilled, seen_as, with_keys}
+use Rattle.lert_cone.proofs.ReplayStands.{keys_never_malformed, leaves_listing, never_unsound, failed_keys, failed_record, unsound_keys, only_by_bay, only_failed, read_shut, refused_keys}
 use Rattle.lert_cone.proofs.ReplayStands.{refused_record}
 use Rattle.lert_cone.proofs.ReplayStep.{told_once}
 use Rattle.lert_cone.proofs.Refusals.{no_fault, one_fault}
@@ -154,7 +154,14 @@ returns-in-Err-replay_keys g c =
           (length c.self.inside.tally.listing.events) c.self.inside.last.n0 (packet_of c.read_packet.new.entry) c.keys_of.result.now _
           c.keys_of.ensures.value
           (none (packet_of c.read_packet.new.entry) (held_at c.at_gate-self-inside.ensures (c.in-Ok-true.ensures.found seen told
-          c.in-Ok-true.field-0-test))) c.replay_keys.ensures.unflushed;
+          c.in-Ok-true.field-0-test)) (c.in-Ok-true.ensures.follows c.in-Ok-true.field-0-test)) c.replay_keys.ensures.unflushed;
+      malformed = λ at same.
+          let answer : c.from.result ≡ Malformed at = one_fault same in
+          absurd (keys_never_malformed c.in-Err-replay_keys.fault at (sym c.from.ensures ∙ answer));
+      log = let replaying : c.self.inside.state ≡ Replaying = subst (λ (v : Standing g.row.B.Denot). v.state ≡ Replaying) (sym c.self.view_is) c.requires.replaying in
+          logged_behind (bays g) (lawful g) c.self.inside.bay c.read_packet.new.bay _ _ _ _ _ c.read_packet.ensures.keeps c.self.inside.tally.listing.settings _ _
+          c.replay_keys.new.bay c.replay_keys.result (Err c.from.result) (c.self.invariant.replaying replaying).log_shut c.replay_keys.ensures.keeps.journal (λ P holds. tt)
+          c.replay_keys.ensures.log;
       framed = λ seen told some. tt;
       whole = λ seen told some at same.
           let answer : c.from.result ≡ Unsound 2 at = one_fault same in
@@ -267,7 +274,12 @@ returns-in_default g c =
           (length c.self.inside.tally.listing.events) c.self.inside.last.n0 (packet_of c.read_packet.new.entry) c.keys_of.result.now _
           c.keys_of.ensures.value
           (none (packet_of c.read_packet.new.entry) (held_at c.at_gate-self-inside.ensures (c.in-Ok-true.ensures.found seen told
-          c.in-Ok-true.field-0-test))) c.replay_keys.ensures.unflushed;
+          c.in-Ok-true.field-0-test)) (c.in-Ok-true.ensures.follows c.in-Ok-true.field-0-test)) c.replay_keys.ensures.unflushed;
+      malformed = λ at same. absurd (no_fault same);
+      log = let replaying : c.self.inside.state ≡ Replaying = subst (λ (v : Standing g.row.B.Denot). v.state ≡ Replaying) (sym c.self.view_is) c.requires.replaying in
+          logged_behind (bays g) (lawful g) c.self.inside.bay c.read_packet.new.bay _ _ _ _ _ c.read_packet.ensures.keeps c.self.inside.tally.listing.settings _ _
+          c.replay_keys.new.bay _ (Ok (Some c.gate.result)) (c.self.invariant.replaying replaying).log_shut c.replay_keys.ensures.keeps.journal (λ P holds. holds)
+          c.in_default.ensures.log;
       framed = λ seen told some. c.in_default.ensures.framed seen (c.read_packet.ensures.keeps.reads.seen ∙ told) some;
       whole = λ seen told some at same. no_fault same;
       unsound = λ file at same. absurd (no_fault same);
@@ -327,6 +339,10 @@ returns-in-Ok-false g c =
           seen told h done c.args.gate (way.on_way seen told) (subst (λ g. IsPast h done c.self.inside.tally.listing.events g)
           (sym gate_same) way.past) (c.self.invariant.replaying way.state_is).recounted;
       unflushed = λ seen told none. read_unwritten (bays g) (lawful g) c.self.inside.bay c.read_packet.new.bay _ _ _ _ _ c.read_packet.ensures.keeps;
+      malformed = λ at same. absurd (no_fault same);
+      log = let replaying : c.self.inside.state ≡ Replaying = subst (λ (v : Standing g.row.B.Denot). v.state ≡ Replaying) (sym c.self.view_is) c.requires.replaying in
+          read_logged (bays g) (lawful g) c.self.inside.bay c.read_packet.new.bay _ _ _ _ _ c.read_packet.ensures.keeps c.self.inside.tally.listing.settings _ _
+          (c.self.invariant.replaying replaying).log_shut;
       framed = λ seen told some after told_after.
           subst (λ (files : Files). HoldsSome c.self.inside.tally.listing.settings (max c.self.inside.last.n0 (length
           c.self.inside.tally.listing.events)) c.self.inside.tally.rows (files 2))
@@ -383,6 +399,10 @@ returns-in-Err g c =
           seen told h done c.args.gate (way.on_way seen told) (subst (λ g. IsPast h done c.self.inside.tally.listing.events g)
           (sym gate_same) way.past) (c.self.invariant.replaying way.state_is).recounted;
       unflushed = λ seen told none. read_unwritten (bays g) (lawful g) c.self.inside.bay c.read_packet.new.bay _ _ _ _ _ c.read_packet.ensures.keeps;
+      malformed = λ at same. read_unwritten (bays g) (lawful g) c.self.inside.bay c.read_packet.new.bay _ _ _ _ _ c.read_packet.ensures.keeps;
+      log = let replaying : c.self.inside.state ≡ Replaying = subst (λ (v : Standing g.row.B.Denot). v.state ≡ Replaying) (sym c.self.view_is) c.requires.replaying in
+          read_logged (bays g) (lawful g) c.self.inside.bay c.read_packet.new.bay _ _ _ _ _ c.read_packet.ensures.keeps c.self.inside.tally.listing.settings _ _
+          (c.self.invariant.replaying replaying).log_shut;
       framed = λ seen told some. tt;
       whole = λ seen told some at same.
           let answer : c.from-fault.result ≡ Unsound 2 at = one_fault same in never_unsound c.in-Err.fault 2 at (sym c.from-fault.ensures ∙ answer);
