@@ -10,3 +10,4 @@ pub mod RestLaws
 pub mod ShownLaws
 pub mod SomeEvents
 pub mod StopLaws
+pub mod UnharmedLaws

@@ -17,9 +17,10 @@ ghost use Rattle.lert_files.specs.Opened.{WritesNothing};
 ghost use Rattle.lert_recover.specs.Moments.{AreSound};
 ghost use Rattle.lert_recover.specs.Reopened.{IsReadOn, IsReopened, IsReopenRefused, IsStopped, IsUnsoundAt, most_read};
 ghost use Rattle.lert_recover.specs.Replayed.{FirstLeaves, FlushesNothing, HasReplayed, IsJournalSame, ReadsRest, ReplaysSome};
-ghost use Rattle.lert_reports.specs.Log.{is_closed, last_first, last_n0, last_offset, HasLog};
+ghost use Rattle.lert_reports.specs.Log.{is_closed, HasLog};
 ghost use Rattle.lert_reports.specs.LogText.{LogRecord};
 ghost use Rattle.lert_recover.specs.Shown.{reports_for};
+ghost use Rattle.lert_recover.specs.Unharmed.{IsUnharmed};
 ghost use Rattle.lert_spec.specs.declared.report.Report.{Report};
 ghost use Rattle.lert_spec.specs.Edges.{capacity};
 ghost use Rattle.lert_spec.specs.Limits.{IsValid};
@@ -32,7 +33,8 @@ use lert_bay::Bay;
 use lert_cone::{Cone, ConeRoom, ConeState, LogPoint};
 use lert_files::{ReopenFault, read_files};
 
-/// A cone that wasn't reopened. Its journal reads as before, and files that were sound for a list are sound for it.
+/// A cone that wasn't reopened. Its journal reads as before, files that were sound for a list are sound for it, and files of other
+/// settings, or that leave their format before the records of the journal, are as they were.
 #[derive(Drop)]
 pub struct ReopenRefused<B: Bay> {
     pub fault: ReopenFault,
@@ -115,12 +117,11 @@ pub fn reopen<B: Bay, T: CountTable>(
         (λ now. StaysSound B.Bay room.settings cone h bay now.bay)
         (λ refused. StaysSound B.Bay room.settings cone h bay refused.bay)) }
 
-    // Where no flush position above the log's last record lies among the keys from the named record on, nothing is written, whatever
-    // it answers: the files are as they were, byte for byte.
-    ensures unflushed { IfTold (B.files bay) (λ seen.
-        ((records : List LogRecord) (log_end : ℕ) → HasLog room.settings cone (seen LOG) records log_end →
-        FlushesNothing room.settings (last_n0 records) (seen JOURNAL) (last_first records - 1) (last_offset records)) →
-        MatchResult result (λ now. WritesNothing B.Bay bay now.bay ⊥) (λ refused. WritesNothing B.Bay bay refused.bay ⊥)) }
+    // Whatever it answers, nothing is written over files that leave their format before the records of the journal, or begin with
+    // other numbers, nor where no flush position above the log's last record lies among the keys from the named record on: they
+    // are as they were, byte for byte. Where other settings are the answer, nothing was written.
+    ensures unharmed { MatchResult result (λ now. IsUnharmed B.Bay room.settings cone bay now.bay) (λ refused. IsUnharmed B.Bay room.settings cone bay refused.bay) }
+    ensures other_untouched { IfErr result (λ refused. (kept : KeptOf) → refused.fault ≡ ReopenFault.OtherSettings kept → WritesNothing B.Bay bay refused.bay ⊥) }
 
     // Told or not, what it is.
     ensures own { IfOk result (λ now. (now.listing.settings ≡ room.settings) × (now.listing.cone ≡ cone) × (now.events ≡ length now.listing.events)
@@ -156,10 +157,7 @@ fn reopen_in_order<B: Bay, T: CountTable>(
     ensures each_moment { IfTold (B.files bay) (λ _. (h : List Packet) → AreSound (B.leaves bay) room.settings cone h → MatchResult result
         (λ now. StaysSound B.Bay room.settings cone h bay now.bay)
         (λ refused. StaysSound B.Bay room.settings cone h bay refused.bay)) }
-    ensures unflushed { IfTold (B.files bay) (λ seen.
-        ((records : List LogRecord) (log_end : ℕ) → HasLog room.settings cone (seen LOG) records log_end →
-        FlushesNothing room.settings (last_n0 records) (seen JOURNAL) (last_first records - 1) (last_offset records)) →
-        MatchResult result (λ now. WritesNothing B.Bay bay now.bay ⊥) (λ refused. WritesNothing B.Bay bay refused.bay ⊥)) }
+    ensures unharmed { MatchResult result (λ now. IsUnharmed B.Bay room.settings cone bay now.bay) (λ refused. IsUnharmed B.Bay room.settings cone bay refused.bay) }
     ensures own { IfOk result (λ now. (now.listing.settings ≡ room.settings) × (now.listing.cone ≡ cone) × (now.events ≡ length now.listing.events)
         × (now.state ≡ if now.listing.closed then ConeState.Finished else ConeState.Running)) }
     ensures made { IfOk result (λ now. (B.files now.made ≡ B.files bay) × (B.faults bay ≤ B.faults now.made) × (B.mark now.made ≡ B.mark bay)) }

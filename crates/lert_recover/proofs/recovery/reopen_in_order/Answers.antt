@@ -32,6 +32,7 @@ use Rattle.lert_recover.proofs.MomentLaws.{stays_made, stays_quiet}
 use Rattle.lert_recover.proofs.ReplayingLaws.{journal_same}
 use Rattle.lert_recover.proofs.ReopenLaws.{fails_on, frames_settled, journal_settled, last_of, log_shut, ok_on, read_before, refused_before, reopened_of, sound_opened, stands_on}
 use Rattle.lert_recover.proofs.SomeEvents.{some_events}
+use Rattle.lert_recover.proofs.UnharmedLaws.{unharmed_opened, unharmed_quiet}
 use Rattle.lert_recover.proofs.recovery.reopen_in_order.Given as given
 use Rattle.lert_recover.proofs.recovery.reopen_in_order.Goals as goal
 
@@ -145,7 +146,8 @@ returns-in-Err g c =
       kept = calls_as (bays g) (lawful g) c.args.bay c.read_files.new.bay _ _ (λ is. ap Err is) read.quiet.kept;
       stays_sound = λ seen told h sound now is. subst (IsSound c.args.room.settings c.args.cone h) (same_Some seen now (sym (read.quiet.seen ∙ told) ∙ is)) sound;
       each_moment = λ seen told h each. stays_quiet (bays g) (lawful g) h c.args.room.settings c.args.cone c.args.bay c.read_files.new.bay _ read.quiet seen told each;
-      unflushed = λ seen told nothing. quiet_as (bays g) (lawful g) c.args.bay c.read_files.new.bay _ ⊥ (λ never. absurd never) read.quiet;
+      unharmed = unharmed_quiet (bays g) c.args.room.settings c.args.cone c.args.bay c.read_files.new.bay
+          (quiet_as (bays g) (lawful g) c.args.bay c.read_files.new.bay _ ⊥ (λ never. absurd never) read.quiet);
       bounded = λ seen told h sound. omega (arith, c.read_files.ensures.handed);
     }
 
@@ -253,7 +255,10 @@ returns-in-Ok g c =
           stays_made (bays g) (lawful g) h bay_in (λ (refused : ReopenRefused g.row.B.Denot). refused.fault ≡ Failed) s cone start c.args.bay
           (ap (λ (k : Standing g.row.B.Denot). k.listing.settings) made) (ap (λ (k : Standing g.row.B.Denot). k.listing.cone) made) before seen told each result replayed.kept
           (replayed.each_moment seen (there seen told) h (begun seen told h (each seen ((lawful g).as_read c.args.bay seen told))));
-      unflushed = λ seen told nothing.
+      unharmed =
+          unharmed_opened (bays g) s c.args.cone c.args.bay c.requires.room.valid c.ranges.cone.fits
+          (λ seen told. let opened = c.in-Ok.ensures.opened seen told in (opened.0, c.in-Ok.end.log_end, c.read_files.new.levels.rows, opened.2)) bay_in result
+          (λ seen told nothing.
           let opened = c.in-Ok.ensures.opened seen told in
           let end = c.in-Ok.end in
           let n0_is = ap (λ (k : Standing g.row.B.Denot). k.last.n0) made ∙ opened.1.n0_is in
@@ -266,7 +271,7 @@ returns-in-Ok g c =
           (subst (λ (n : ℕ). FlushesNothing s (last_n0 opened.0) (seen JOURNAL) n end.offset) (sym count_is)
           (subst (λ (gate : ℕ). FlushesNothing s (last_n0 opened.0) (seen JOURNAL) (last_first opened.0 - 1) gate) (sym opened.1.offset_is)
           (nothing opened.0 end.log_end opened.2.log)))) in
-          quiet_before (bays g) (lawful g) bay_in c.args.bay start.bay ⊥ before result (replayed.unflushed seen (there seen told) none);
+          quiet_before (bays g) (lawful g) bay_in c.args.bay start.bay ⊥ before result (replayed.unflushed seen (there seen told) none));
       bounded = λ seen told h sound.
           let handed = g.B.Bay.handed_out in
           let opened = c.in-Ok.ensures.opened seen told in
