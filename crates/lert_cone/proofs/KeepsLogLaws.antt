@@ -1,8 +1,8 @@
 -- A cone's log through calls in turn, and the frames that it names, whether or not the files are sound for a list.
-use Rattle.std.proofs.Common.{◌≡◌, ℕ, ◌+◌, ◌-◌, ◌≤◌, List, [], ◌∷◌, ◌++◌, All, length, map, get_or, Option, Some, Result, Ok, Err, OnOk, refl, sym, ap, ◌∙◌, subst, inl, inr}
+use Rattle.std.proofs.Common.{◌≡◌, ℕ, suc, ◌+◌, ◌-◌, ◌<◌, ◌≤◌, List, [], ◌∷◌, ◌++◌, All, length, map, get_or, Option, Some, Result, Ok, Err, OnOk, refl, sym, ap, ◌∙◌, subst, inl, inr}
 use Rattle.std.proofs.Common.{append_assoc, append-nil, arith}
 use Rattle.std.specs.Prelude.{slice_index_or, Contains}
-use Rattle.std.proofs.lemmas.List.{get_or-map}
+use Rattle.std.proofs.lemmas.List.{get_or-map, length-map}
 use Rattle.std.proofs.lemmas.List.Elements.{All-append, All-cons, All-nil, Contains-get_or}
 use Rattle.std.proofs.lemmas.Option.{same_Some}
 use Rattle.lert_bay.specs.Files.{Files, IfTold, Turns}
@@ -39,12 +39,14 @@ frame_of bin = bin.frame
 -- bins with the same frames and the same positions are the same
 row_same : (row other : List BinAt) → map frame_of row ≡ map frame_of other → map range_of row ≡ map range_of other → row ≡ other
 row_same [] [] frames positions = refl
-row_same [] (bin ∷ other) frames positions = (let never : 0 ≡ length other + 1 = ap (length {A = ℕ}) frames in absurd (omega (arith, never)))
-row_same (bin ∷ row) [] frames positions = (let never : length row + 1 ≡ 0 = ap (length {A = ℕ}) frames in absurd (omega (arith, never)))
+row_same [] (bin ∷ other) frames positions = (let never : 0 ≡ suc (length (map frame_of other)) = ap (length {A = ℕ}) frames in absurd (omega (arith, never)))
+row_same (bin ∷ row) [] frames positions = (let never : suc (length (map frame_of row)) ≡ 0 = ap (length {A = ℕ}) frames in absurd (omega (arith, never)))
 row_same (bin ∷ row) (bin_too ∷ other) frames positions =
     let frame_is : bin.frame ≡ bin_too.frame = cc in
     let range_is : range_of bin ≡ range_of bin_too = cc in
-    let rest = row_same row other cc cc in
+    let frames_rest : map frame_of row ≡ map frame_of other = cc in
+    let positions_rest : map range_of row ≡ map range_of other = cc in
+    let rest = row_same row other frames_rest positions_rest in
     λ i. record { from = (range_is i).from; to = (range_is i).to; frame = frame_is i } ∷ rest i
 
 -- the frames of a level
@@ -130,9 +132,9 @@ records_on s records gate between first middle last one end_is two = record {
 
 -- ---- the files
 
-none_came : (more : List LogRecord) (others : List LogRecord) → more ++ others ≡ [] → (more ≡ []) × (others ≡ [])
+pub none_came : (more : List LogRecord) (others : List LogRecord) → more ++ others ≡ [] → (more ≡ []) × (others ≡ [])
 none_came [] others is = (refl, is)
-none_came (one ∷ more) others is = (let never : length (more ++ others) + 1 ≡ 0 = ap (length {A = LogRecord}) is in absurd (omega (arith, never)))
+none_came (one ∷ more) others is = (let never : suc (length (more ++ others)) ≡ 0 = ap (length {A = LogRecord}) is in absurd (omega (arith, never)))
 
 abbrev pub keeps_log_on : (s : Numbers) (records : List LogRecord) (gate between : ℕ) (first middle last : Files) (one : KeepsLog s records gate first middle) → one.log.end ≡ between →
     KeepsLog s (records ++ one.log.more) between middle last → KeepsLog s records gate first last
@@ -147,9 +149,18 @@ keeps_log_on s records gate between first middle last one end_is two = record {
   frames = λ holds. subst (λ (rs : List LogRecord). HoldsNamed s rs (last 2)) (append_assoc records one.log.more two.log.more) (two.frames (one.frames holds));
 }
 
+-- the same files
+abbrev pub keeps_log_none : (s : Numbers) (records : List LogRecord) (gate : ℕ) (seen : Files) → HasRecords s (seen 1) records gate → KeepsLog s records gate seen seen
+keeps_log_none s records gate seen stand = record {
+  log = records_same s records gate (seen 1) (seen 1) refl stand;
+  longer = omega arith;
+  same = λ nothing from to named within. refl;
+  frames = λ holds. subst (λ (rs : List LogRecord). HoldsNamed s rs (seen 2)) (sym (append-nil records)) holds;
+}
+
 -- a gate that is closed in every image, and the records before it
 module _ (s : Numbers) (records : List LogRecord) (gate : ℕ) (leaves : Files → Type 0) (seen : Files) (shut : IsShut leaves seen 1 gate) (read : leaves seen) where
-  gate_within : gate ≤ length (seen 1)
+  pub gate_within : gate ≤ length (seen 1)
   gate_within = omega (arith, (shut.closed seen read).within)
 
   pub begins_each : (image : Files) → part (image 1) 0 (length (seen 1)) ≡ part (seen 1) 0 (length (seen 1)) → part (image 1) 0 gate ≡ part (seen 1) 0 gate

@@ -31,7 +31,7 @@ use Rattle.lert_cone.specs.Record.{LogPlace, payload_at}
 use Rattle.lert_cone.specs.Replays.{IsUnwritten}
 use Rattle.lert_cone.specs.Wrote.{IsShutIfTold}
 use Rattle.lert_cone.proofs.Calls.{now_since}
-use Rattle.lert_cone.proofs.KeepsLogLaws.{begins_each, gate_within, in_named, keeps_log_on, named_some, one_end, records_each, records_on, records_push, records_same}
+use Rattle.lert_cone.proofs.KeepsLogLaws.{begins_each, gate_within, in_named, keeps_log_none, keeps_log_on, named_some, one_end, records_each, records_on, records_push, records_same}
 use Rattle.lert_cone.proofs.LogLaws.{directory_is}
 use Rattle.lert_cone.proofs.RecordLaws.{payload_is_at}
 use Rattle.lert_cone.proofs.StepLaws.{frames_since}
@@ -56,15 +56,8 @@ module _ {B : Type 0} (bays : Bays B) (lawful : IsLawful bays) (s : Numbers) whe
       let read = lawful.as_read before seen told in
       record {
         read = λ now told_now. subst (λ (files : Files). (kept : KeepsLog s records head.gate seen files) × OnOk result (IsHeadOf s (records ++ kept.log.more) head (files 1)))
-            (same_Some seen now (sym told ∙ sym none.seen ∙ told_now)) (
-              record {
-                log = records_same s records head.gate (seen 1) (seen 1) refl is.stand;
-                longer = omega arith;
-                same = λ nothing from to named within. refl;
-                frames = λ holds. subst (λ (rs : List LogRecord). HoldsNamed s rs (seen 2)) (sym (append-nil records)) holds;
-              },
-              ok_holds result (head_nil s records head (seen 1) is),
-            );
+            (same_Some seen now (sym told ∙ sym none.seen ∙ told_now))
+            (keeps_log_none s records head.gate seen is.stand, ok_holds result (head_nil s records head (seen 1) is));
         each_moment = λ image may.
             let same = shut_here.settled.same image (none.moments image may) in
             records_same s records head.gate (seen 1) (image 1) (begins_each s records head.gate (bays.leaves before) seen shut_here read image same)
@@ -72,7 +65,7 @@ module _ {B : Type 0} (bays : Bays B) (lawful : IsLawful bays) (s : Numbers) whe
       }
 
   -- no call
-  pub log_none : {E : Type 0} (head : LogHead) (bay : B) → IsShutIfTold (bays.files bay) (bays.leaves bay) 1 head.gate → KeepsLogOf {E = E} bays s head head bay bay (Ok tt)
+  pub log_none : {E : Type 0} (head : LogHead) (bay : B) → IsShutIfTold (bays.files bay) (bays.leaves bay) 1 head.gate → KeepsLogOf {T = Unit {0}} {E = E} bays s head head bay bay (Ok tt)
   log_none head bay shut =
       log_unwritten head bay bay (Ok tt) (record { seen = refl; images = λ image. (λ may. may, λ may. may); moments = λ image may. lawful.only_now bay image may }) shut
 
@@ -117,7 +110,7 @@ module _ {B : Type 0} (bays : Bays B) (lawful : IsLawful bays) (s : Numbers) whe
       abbrev head : LogHead
       head = record { rows = rows; events = n; gate = gate }
 
-      apart : 1 ≢ 2
+      apart : ◌≢◌ {A = ℕ} 1 2
       apart same = absurd (omega (arith, same))
 
       module _ (seen : Files) (told : bays.files old ≡ Some seen) (records : List LogRecord) (is : IsHeadOf s records head (seen 1)) where
@@ -313,7 +306,7 @@ module _ {B : Type 0} (bays : Bays B) (lawful : IsLawful bays) (s : Numbers) whe
           (reports : List Report) (log : LogPlace) (gate_is : log.gate ≡ gate) (most_is : log.most ≡ most_record s) {E : Type 0} (bay_after : B) (log_after : LogPlace)
           (appends : AppendsRecord {E = E} bays LogKind.Flush n0 (directory_text moved) reports bay bay_after log log_after (Ok tt))
         where
-          pub log_flushed : {F : Type 0} → KeepsLogOf {E = F} bays s head (record { rows = moved; events = n0; gate = log_after.gate }) old bay_after (Ok tt)
+          pub log_flushed : {F : Type 0} → KeepsLogOf {T = Unit {0}} {E = F} bays s head (record { rows = moved; events = n0; gate = log_after.gate }) old bay_after (Ok tt)
           log_flushed seen told records is =
               let mid = rest.seen.told seen told in
               let new = one later shut_then moved n0 at framed reports log gate_is most_is (Ok tt) bay_after log_after appends in

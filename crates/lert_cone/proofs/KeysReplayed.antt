@@ -127,7 +127,7 @@ module _ {B : Type 0} (bays : Bays B) (lawful : IsLawful bays) (mark : Mark) (ol
             let heads_are : replayed_head n0 old ≡ record { rows = counts.rows; events = max n0 (length counts.listing.events); gate = old.log.gate } =
             λ i. record { rows = (sym rows_are) i; events = same i; gate = old.log.gate } in
             log_as bays lawful old.counts.listing.settings (replayed_head n0 old) (replayed_head n0 old) _ old.bay old.bay (Ok tt) (Ok tt) (λ P holds. subst P heads_are holds)
-            (log_none bays lawful old.counts.listing.settings (replayed_head n0 old) old.bay can.can_log.log_shut);
+            (log_none bays lawful old.counts.listing.settings {E = TakeFault} (replayed_head n0 old) old.bay can.can_log.log_shut);
         keeps = record {
           shows = λ seen told file at same. absurd (let never : ⊥ = cc in never);
           journal = alone_none bays lawful 0 old.bay;

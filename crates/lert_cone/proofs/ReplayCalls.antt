@@ -150,7 +150,7 @@ module _ {B : Type 0} (bays : Bays B) (lawful : IsLawful bays) where
         ((P : LogHead → Type 0) → OnOk result (P new) → OnOk answer (P new)) → KeepsLogOf bays s old new bay_read after result → KeepsLogOf bays s old new bay after answer
     logged_behind s old new after result answer shut left goes did =
         log_as bays lawful s old new new bay after result answer goes
-        (log_on bays lawful s old old new bay bay_read after tt result (alone_reading bays lawful 0 bay bay_read _ read.reads).seen read.reads.kept.time.later left.time
+        (log_on bays lawful s {U = Unit {0}} {F = Unit {0}} old old new bay bay_read after tt result (alone_reading bays lawful 0 bay bay_read _ read.reads).seen read.reads.kept.time.later left.time
         (read_logged s old (Ok tt) shut) did)
 
     -- no flush comes with its keys

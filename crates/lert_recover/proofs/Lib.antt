@@ -1,6 +1,7 @@
 pub mod BayLaws
 pub mod BoundLaws
 pub mod FinalLaws
+pub mod LoggedLaws
 pub mod MomentLaws
 pub mod ReopenLaws
 pub mod ReplayedLaws

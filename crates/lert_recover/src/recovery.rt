@@ -11,6 +11,7 @@ ghost use Rattle.lert_cone.specs.Marks.{IsMarkOf, last_mark};
 ghost use Rattle.lert_cone.specs.Room.{IsRoom};
 ghost use Rattle.lert_cone.specs.Sound.{IsSound, IsJournal, StaysSound};
 ghost use Rattle.lert_cone.specs.Stands.{IsSameCone, StandsFor, WasSound};
+ghost use Rattle.lert_cone.specs.Wrote.{IsShutIfTold};
 ghost use Rattle.lert_gatelog.specs.Gated.{IsClosed};
 ghost use Rattle.lert_files.specs.Headed.{HasOther};
 ghost use Rattle.lert_files.specs.Opened.{WritesNothing};
@@ -20,7 +21,7 @@ ghost use Rattle.lert_recover.specs.Replayed.{FirstLeaves, FlushesNothing, HasRe
 ghost use Rattle.lert_reports.specs.Log.{is_closed, HasLog};
 ghost use Rattle.lert_reports.specs.LogText.{LogRecord};
 ghost use Rattle.lert_recover.specs.Shown.{reports_for};
-ghost use Rattle.lert_recover.specs.Unharmed.{IsUnharmed};
+ghost use Rattle.lert_recover.specs.Unharmed.{IsUnharmed, KeepsLogFrom};
 ghost use Rattle.lert_spec.specs.declared.report.Report.{Report};
 ghost use Rattle.lert_spec.specs.Edges.{capacity};
 ghost use Rattle.lert_spec.specs.Limits.{IsValid};
@@ -119,7 +120,8 @@ pub fn reopen<B: Bay, T: CountTable>(
 
     // Whatever it answers, nothing is written over files that leave their format before the records of the journal, or begin with
     // other numbers, nor where no flush position above the log's last record lies among the keys from the named record on: they
-    // are as they were, byte for byte. Where other settings are the answer, nothing was written.
+    // are as they were, byte for byte. In any case the log keeps its records as a beginning, and what the frames hold that its last
+    // one names. Where other settings are the answer, nothing was written.
     ensures unharmed { MatchResult result (λ now. IsUnharmed B.Bay room.settings cone bay now.bay) (λ refused. IsUnharmed B.Bay room.settings cone bay refused.bay) }
     ensures other_untouched { IfErr result (λ refused. (kept : KeptOf) → refused.fault ≡ ReopenFault.OtherSettings kept → WritesNothing B.Bay bay refused.bay ⊥) }
 
@@ -197,6 +199,7 @@ fn replay_journal<B: Bay, T: CountTable>(
     requires begun { (cone.gate ≡ last.now.offset) × (cone.events ≡ length cone.listing.events) }
     requires few { cone.events ≤ last.now.n0 }
     requires near { last.now.offset ≤ 2 ^ 46 }
+    requires log_shut { IsShutIfTold (B.files cone.bay) (B.leaves cone.bay) LOG cone.log.gate }
     ensures told { IfTold (B.files cone.bay) (λ seen. HoldsSome cone.listing.settings cone.last.n0 cone.rows (seen FRAMES) → MatchResult result
         (λ now. HasReplayed cone.listing.settings cone.listing.cone cone.last.n0 cone.last.closed (seen JOURNAL) cone.listing.events last.now.offset
         now.gate now.listing.events × IsClosed (seen JOURNAL) now.gate)
@@ -219,6 +222,7 @@ fn replay_journal<B: Bay, T: CountTable>(
         (λ refused. StaysSound B.Bay cone.listing.settings cone.listing.cone h cone.bay refused.bay)) }
     ensures unflushed { IfTold (B.files cone.bay) (λ seen. FlushesNothing cone.listing.settings cone.last.n0 (seen JOURNAL) (length cone.listing.events) last.now.offset →
         MatchResult result (λ now. WritesNothing B.Bay cone.bay now.bay ⊥) (λ refused. WritesNothing B.Bay cone.bay refused.bay ⊥)) }
+    ensures log { MatchResult result (λ now. KeepsLogFrom B.Bay cone now.bay) (λ refused. KeepsLogFrom B.Bay cone refused.bay) }
     ensures rest { IfTold (B.files cone.bay) (λ _. (h : List Packet) → ReplaysSome B.files B.leaves cone h → MatchResult result
         (λ now. ReadsRest cone.listing.settings last.now.offset h (B.handed_out cone.bay JOURNAL) (B.handed_out now.bay JOURNAL))
         (λ refused. ReadsRest cone.listing.settings last.now.offset h (B.handed_out cone.bay JOURNAL) (B.handed_out refused.bay JOURNAL))) }

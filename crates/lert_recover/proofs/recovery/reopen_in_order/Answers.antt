@@ -4,7 +4,7 @@ use Rattle.std.proofs.lemmas.Option.{same_Some}
 use Rattle.std.proofs.lemmas.Result.{IfErr-weaker}
 use Rattle.std.specs.Prelude.{All, IfOk, MatchResult, if◌then◌else◌}
 use Rattle.lert_base.specs.Packet.{Packet, events_of}
-use Rattle.lert_bay.specs.declared.bay.TheConstants.{JOURNAL, FRAMES}
+use Rattle.lert_bay.specs.declared.bay.TheConstants.{JOURNAL, LOG, FRAMES}
 use Rattle.lert_bay.specs.Files.{Files}
 use Rattle.lert_bay.specs.Kept.{Bays}
 use Rattle.lert_bay.proofs.KeptLaws.{IsLawful, calls_as}
@@ -13,6 +13,7 @@ use Rattle.lert_cone.specs.declared.state.ConeState.TheVariants.{Finished, Runni
 use Rattle.lert_cone.specs.Framed.{HoldsSome}
 use Rattle.lert_cone.specs.Sound.{IsSound}
 use Rattle.lert_cone.specs.Stands.{Standing, StandsFor, WasSound}
+use Rattle.lert_cone.specs.Wrote.{IsShutIfTold}
 use Rattle.lert_cone.proofs.TotalLaws.{edge_within}
 use Rattle.lert_cone.proofs.UnreadLaws.{length_unread}
 use Rattle.lert_files.specs.declared.fault.ReopenFault.TheVariants.{Failed}
@@ -28,6 +29,7 @@ use Rattle.lert_reports.specs.Stored.{Stored}
 use Rattle.lert_spec.specs.declared.numbers.Numbers.{Numbers}
 use Rattle.lert_spec.specs.Limits.{IsValid}
 use Rattle.lert_recover.proofs.BayLaws.{bay_before, made_of, own_of, quiet_before}
+use Rattle.lert_recover.proofs.LoggedLaws.{logs_in}
 use Rattle.lert_recover.proofs.MomentLaws.{stays_made, stays_quiet}
 use Rattle.lert_recover.proofs.ReplayingLaws.{journal_same}
 use Rattle.lert_recover.proofs.ReopenLaws.{fails_on, frames_settled, journal_settled, last_of, log_shut, ok_on, read_before, refused_before, reopened_of, sound_opened, stands_on}
@@ -123,6 +125,8 @@ replay_journal-requires g c =
       valid = subst IsValid (sym settings_are) c.requires.room.valid;
       begun = (ap (λ (k : Standing g.row.B.Denot). k.gate) made, events_are ∙ sym count);
       few = omega (arith, events_are, point.first_from, point.first_to, edge_within c.args.room.settings 0 end.n0);
+      log_shut = subst (λ (k : Standing g.row.B.Denot). IsShutIfTold (g.B.Bay.files k.bay) (g.B.Bay.leaves k.bay) LOG k.log.gate) (sym made)
+          (adopt-begun-requires-clause-log_shut g c);
       near = point.offset_to;
     }
 
@@ -271,7 +275,15 @@ returns-in-Ok g c =
           (subst (λ (n : ℕ). FlushesNothing s (last_n0 opened.0) (seen JOURNAL) n end.offset) (sym count_is)
           (subst (λ (gate : ℕ). FlushesNothing s (last_n0 opened.0) (seen JOURNAL) (last_first opened.0 - 1) gate) (sym opened.1.offset_is)
           (nothing opened.0 end.log_end opened.2.log)))) in
-          quiet_before (bays g) (lawful g) bay_in c.args.bay start.bay ⊥ before result (replayed.unflushed seen (there seen told) none));
+          quiet_before (bays g) (lawful g) bay_in c.args.bay start.bay ⊥ before result (replayed.unflushed seen (there seen told) none))
+          (logs_in (bays g) (lawful g) start s cone c.requires.room.valid c.args.bay c.in-Ok.end.log_end (ap (λ (k : Standing g.row.B.Denot). k.listing.settings) made)
+          (ap (λ (k : Standing g.row.B.Denot). k.log.gate) made) there
+          (λ seen told.
+          let opened = c.in-Ok.ensures.opened seen told in
+          let end = c.in-Ok.end in
+          (opened.0, opened.2.log, c.adopt-begun.ensures.log seen (read.quiet.seen ∙ told) opened.0 opened.2.log
+          (last_of s cone end.n0 end.offset end.first end.closed c.read_files.new.store.reports c.read_files.new.levels.rows opened.0 opened.1 opened.2.named)))
+          bay_in result replayed.log);
       bounded = λ seen told h sound.
           let handed = g.B.Bay.handed_out in
           let opened = c.in-Ok.ensures.opened seen told in
