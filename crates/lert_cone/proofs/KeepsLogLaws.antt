@@ -1,33 +1,25 @@
 -- A cone's log through calls in turn, and the frames that it names, whether or not the files are sound for a list.
-use Rattle.std.proofs.Common.{◌≡◌, ℕ, suc, ◌+◌, ◌-◌, ◌<◌, ◌≤◌, List, [], ◌∷◌, ◌++◌, All, length, map, get_or, Option, Some, Result, Ok, Err, OnOk, refl, sym, ap, ◌∙◌, subst, inl, inr}
+use Rattle.std.proofs.Common.{◌≡◌, ℕ, suc, ◌+◌, ◌-◌, ◌<◌, ◌≤◌, List, [], ◌∷◌, ◌++◌, All, length, map, get_or, refl, sym, ap, ◌∙◌, subst}
 use Rattle.std.proofs.Common.{append_assoc, append-nil, arith}
 use Rattle.std.specs.Prelude.{slice_index_or, Contains}
 use Rattle.std.proofs.lemmas.List.{get_or-map, length-map}
 use Rattle.std.proofs.lemmas.List.Elements.{All-append, All-cons, All-nil, Contains-get_or}
-use Rattle.std.proofs.lemmas.Option.{same_Some}
-use Rattle.lert_bay.specs.Files.{Files, IfTold, Turns}
-use Rattle.lert_bay.specs.Images.{Lasts}
-use Rattle.lert_bay.specs.Kept.{Bays}
+use Rattle.lert_bay.specs.Files.{Files}
 use Rattle.lert_bay.specs.Settled.{part}
-use Rattle.lert_bay.proofs.KeptLaws.{IsLawful}
 use Rattle.lert_frames.specs.Frame.{HoldsFrame}
-use Rattle.lert_frames.specs.Place.{frame_place, frame_len}
-use Rattle.lert_gatelog.specs.Kept.{InEach}
+use Rattle.lert_frames.specs.Place.{frame_place}
 use Rattle.lert_gatelog.proofs.Deciding.{one_list}
 use Rattle.lert_gatelog.proofs.GatedLaws.{gated_behind}
 use Rattle.lert_levels.specs.Flushed.{InNamed}
 use Rattle.lert_rows.specs.declared.bin_at.BinAt.{BinAt}
-use Rattle.lert_rows.specs.Ranges.{Range}
-use Rattle.lert_rows.specs.Rows.{row_of, range_of, tallied_in, IsAt}
+use Rattle.lert_rows.specs.Rows.{row_of, range_of, tallied_in}
 use Rattle.lert_reports.specs.declared.log.LogKind.{LogKind}
 use Rattle.lert_reports.specs.Log.{HasRecords, last_directory, last_n0, most_record}
 use Rattle.lert_reports.specs.LogText.{LogRecord, log_payload_of}
 use Rattle.lert_spec.specs.declared.numbers.Numbers.{Numbers}
-use Rattle.lert_spec.specs.Edges.{edge}
 use Rattle.lert_cone.specs.Framed.{HoldsSome}
-use Rattle.lert_cone.specs.KeepsLog.{InDirectory, NamesRows, HoldsNamed, KeepsRecords, KeepsLog, LogHead, IsHeadOf, StaysLogged, KeepsLogOf}
-use Rattle.lert_cone.specs.Logged.{frames_of}
-use Rattle.lert_cone.specs.Wrote.{IsShut, Anything}
+use Rattle.lert_cone.specs.KeepsLog.{InDirectory, NamesRows, HoldsNamed, KeepsRecords, KeepsLog}
+use Rattle.lert_cone.specs.Wrote.{IsShut}
 use Rattle.lert_cone.proofs.StepLaws.{first_same}
 use Rattle.lert_cone.proofs.WroteLaws.{torn_behind}
 

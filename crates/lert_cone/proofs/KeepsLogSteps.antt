@@ -1,5 +1,5 @@
 -- A cone's log through the calls of a bay: reads, calls in turn, a flush, and the record behind a flush.
-use Rattle.std.proofs.Common.{◌≡◌, ◌≢◌, ℕ, ◌+◌, ◌≤◌, List, [], ◌∷◌, ◌++◌, length, map, drop, Option, Some, Result, Ok, Err, OnOk, refl, sym, ap, ◌∙◌, subst, inl, inr, ◌⊎◌}
+use Rattle.std.proofs.Common.{◌≡◌, ◌≢◌, ℕ, ◌≤◌, List, [], ◌∷◌, ◌++◌, length, map, drop, Option, Some, Result, Ok, Err, OnOk, refl, sym, ap, ◌∙◌, subst, inl, inr}
 use Rattle.std.proofs.Common.{append_assoc, append-nil, arith}
 use Rattle.std.proofs.lemmas.List.{map-append}
 use Rattle.std.proofs.lemmas.Option.{same_Some}
@@ -15,7 +15,7 @@ use Rattle.lert_rows.specs.declared.bin_at.BinAt.{BinAt}
 use Rattle.lert_rows.specs.Landing.{KeepsRest, LeavesRest}
 use Rattle.lert_rows.specs.Rows.{AreRows, HoldsBins, IsAt, directory_text}
 use Rattle.lert_reports.specs.declared.log.LogKind.{LogKind}
-use Rattle.lert_reports.specs.Log.{HasRecords, last_directory, last_n0, most_record}
+use Rattle.lert_reports.specs.Log.{HasRecords, last_n0, most_record}
 use Rattle.lert_reports.specs.LogText.{LogRecord, log_payload, log_payload_of}
 use Rattle.lert_reports.proofs.LogLaws.{last_directory-push, last_n0-push}
 use Rattle.lert_spec.specs.declared.numbers.Numbers.{Numbers}
@@ -24,7 +24,7 @@ use Rattle.lert_spec.specs.Edges.{edge}
 use Rattle.lert_spec.specs.Limits.{IsValid}
 use Rattle.lert_cone.specs.Appends.{AppendsRecord}
 use Rattle.lert_cone.specs.Framed.{HoldsSome}
-use Rattle.lert_cone.specs.KeepsLog.{InDirectory, NamesRows, HoldsNamed, KeepsRecords, KeepsLog, LogHead, IsHeadOf, StaysLogged, KeepsLogOf}
+use Rattle.lert_cone.specs.KeepsLog.{NamesRows, HoldsNamed, KeepsRecords, KeepsLog, LogHead, IsHeadOf, KeepsLogOf}
 use Rattle.lert_cone.specs.Logged.{frames_of}
 use Rattle.lert_cone.specs.Marks.{oldest_mark}
 use Rattle.lert_cone.specs.Record.{LogPlace, payload_at}
@@ -83,9 +83,10 @@ module _ {B : Type 0} (bays : Bays B) (lawful : IsLawful bays) (s : Numbers) whe
       let two = second came.0 came.1 (records ++ kept.log.more) going in
       record {
         read = λ now told_now.
-            let then = two.read now told_now in
-            (keeps_log_on s records old.gate between.gate seen came.0 now kept end_is then.0,
-            subst (λ (rs : List LogRecord). OnOk result (IsHeadOf s rs new (now 1))) (append_assoc records kept.log.more then.0.log.more) then.1);
+            let then = two.read now told_now in (
+              keeps_log_on s records old.gate between.gate seen came.0 now kept end_is then.0,
+              subst (λ (rs : List LogRecord). OnOk result (IsHeadOf s rs new (now 1))) (append_assoc records kept.log.more then.0.log.more) then.1,
+            );
         each_moment = λ image may. elim (time.known (bays.moment before) image later may) [
           | inl past ↦ one.each_moment image past
           | inr here ↦ records_on s records old.gate between.gate (seen 1) (came.0 1) (image 1) kept.log end_is (two.each_moment image here)
@@ -315,13 +316,14 @@ module _ {B : Type 0} (bays : Bays B) (lawful : IsLawful bays) (s : Numbers) whe
                     let stand = with_one later shut_then moved n0 at framed reports log gate_is most_is (Ok tt) bay_after log_after appends seen told records is mid.0 mid.1 (now 1) log_after.gate
                     (appends.appended mid.0 mid.1 8 (map log_payload_of records)
                     (all later shut_then moved n0 at framed reports log gate_is most_is (Ok tt) bay_after log_after appends seen told records is mid.0 mid.1) now
-                    (lawful.as_read bay_after now told_now)) in
-                    (kept_with later shut_then moved n0 at framed reports log gate_is most_is (Ok tt) bay_after log_after appends seen told records is mid.0 mid.1 now told_now log_after.gate
-                        (omega (arith, gate_is, ap (λ (l : LogPlace). l.gate) appends.moved)) stand,
-                    record {
-                      stand = stand;
-                      names = names_moved later shut_then moved n0 at framed reports log gate_is most_is (Ok tt) bay_after log_after appends seen told records is mid.0 mid.1;
-                      newest = ap (edge s 0) (last_n0-push records new);
-                    });
+                    (lawful.as_read bay_after now told_now)) in (
+                      kept_with later shut_then moved n0 at framed reports log gate_is most_is (Ok tt) bay_after log_after appends seen told records is mid.0 mid.1 now told_now log_after.gate
+                          (omega (arith, gate_is, ap (λ (l : LogPlace). l.gate) appends.moved)) stand,
+                      record {
+                        stand = stand;
+                        names = names_moved later shut_then moved n0 at framed reports log gate_is most_is (Ok tt) bay_after log_after appends seen told records is mid.0 mid.1;
+                        newest = ap (edge s 0) (last_n0-push records new);
+                      },
+                    );
                 each_moment = each later shut_then moved n0 at framed reports log gate_is most_is (Ok tt) bay_after log_after appends seen told records is mid.0 mid.1;
               }

@@ -12,7 +12,8 @@ use Rattle.lert_ingest.specs.Bays.{EachBay}
 
 -- From one state of a cone's bay to another time goes on, and told files stay told. Where they are told and every image is sound
 -- for a list, so is every image of each moment between, and so are the files as they are read then. And files for which there is no
--- such list are unharmed, where they leave their format before the records of the journal, or begin with other numbers.
+-- such list are unharmed: where they leave their format before the records of the journal, or begin with other numbers, nothing is
+-- written over them, and else a log in its format keeps its records.
 pub record IsSpared {B : Type 0} (bays : Bays B) (s : Numbers) (cone : ℕ) (before now : B) : Type 0 where
   pub time : Lasts (bays.moment before) (bays.moment now) (bays.left_since before) (bays.left_since now)
   pub told : (seen : Files) → bays.files before ≡ Some seen → (there : Files) × (bays.files now ≡ Some there)

@@ -280,9 +280,12 @@ returns-in-Ok g c =
           (ap (λ (k : Standing g.row.B.Denot). k.log.gate) made) there
           (λ seen told.
           let opened = c.in-Ok.ensures.opened seen told in
-          let end = c.in-Ok.end in
-          (opened.0, opened.2.log, c.adopt-begun.ensures.log seen (read.quiet.seen ∙ told) opened.0 opened.2.log
-          (last_of s cone end.n0 end.offset end.first end.closed c.read_files.new.store.reports c.read_files.new.levels.rows opened.0 opened.1 opened.2.named)))
+          let end = c.in-Ok.end in (
+            opened.0,
+            opened.2.log,
+            c.adopt-begun.ensures.log seen (read.quiet.seen ∙ told) opened.0 opened.2.log
+                (last_of s cone end.n0 end.offset end.first end.closed c.read_files.new.store.reports c.read_files.new.levels.rows opened.0 opened.1 opened.2.named),
+          ))
           bay_in result replayed.log);
       bounded = λ seen told h sound.
           let handed = g.B.Bay.handed_out in
