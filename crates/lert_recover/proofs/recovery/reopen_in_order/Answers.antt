@@ -118,6 +118,11 @@ replay_journal-requires g c =
     let events_are = ap (λ (k : Standing g.row.B.Denot). k.events) made in
     let count = ap (λ (k : Standing g.row.B.Denot). length k.listing.events) made
     ∙ length_unread c.args.room.settings c.args.cone (end.first - 1) (g.B.Bay.files c.read_files.new.bay) in
+    let shut : IsShutIfTold (g.B.Bay.files c.read_files.new.bay) (g.B.Bay.leaves c.read_files.new.bay) LOG end.log_end =
+    λ seen told.
+    let before = sym c.read_files.ensures.quiet.seen ∙ told in
+    let opened = (c.in-Ok.ensures.opened seen before).2 in
+    log_shut (g.B.Bay.leaves c.read_files.new.bay) seen (c.in-Ok.ensures.durable seen before) end.log_end opened.log.records_stand.closed in
     record {
       own = (settings_are, ap (λ (k : Standing g.row.B.Denot). k.listing.cone) made, ap (λ (k : Standing g.row.B.Denot). k.last) made);
       place = c.in-Ok.ensures.point.within;
@@ -125,8 +130,7 @@ replay_journal-requires g c =
       valid = subst IsValid (sym settings_are) c.requires.room.valid;
       begun = (ap (λ (k : Standing g.row.B.Denot). k.gate) made, events_are ∙ sym count);
       few = omega (arith, events_are, point.first_from, point.first_to, edge_within c.args.room.settings 0 end.n0);
-      log_shut = subst (λ (k : Standing g.row.B.Denot). IsShutIfTold (g.B.Bay.files k.bay) (g.B.Bay.leaves k.bay) LOG k.log.gate) (sym made)
-          (adopt-begun-requires-clause-log_shut g c);
+      log_shut = subst (λ (k : Standing g.row.B.Denot). IsShutIfTold (g.B.Bay.files k.bay) (g.B.Bay.leaves k.bay) LOG k.log.gate) (sym made) shut;
       near = point.offset_to;
     }
 
