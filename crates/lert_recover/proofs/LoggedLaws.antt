@@ -1,5 +1,5 @@
 -- The log of a cone that replays its journal, from packet to packet, and what becomes of it through a whole reopening.
-use Rattle.std.proofs.Common.{◌≡◌, ◌<◌, ◌^◌, ℕ, List, Some, Result, Ok, Err, OnOk, sym, ◌∙◌, subst}
+use Rattle.std.proofs.Common.{◌≡◌, ℕ, List, Some, Result, Ok, Err, OnOk, sym, ◌∙◌, subst}
 use Rattle.std.specs.Prelude.{MatchResult}
 use Rattle.lert_bay.specs.declared.bay.TheConstants.{LOG}
 use Rattle.lert_bay.specs.Files.{Files}
