@@ -1,5 +1,5 @@
 -- What sound files and what was read of their log make of a cone that goes through the journal anew.
-use Rattle.std.proofs.Common.{◌≡◌, ℕ, ◌+◌, ◌-◌, ◌^◌, ◌<◌, ◌≤◌, Bool, true, false, cond, List, [], ◌∷◌, ◌++◌, length, take, get_or, map, max, All, Option, Some, refl, sym, ap, ◌∙◌, subst, inl, inr}
+use Rattle.std.proofs.Common.{◌≡◌, ℕ, ◌+◌, ◌-◌, ◌^◌, ◌<◌, ◌≤◌, Bool, true, false, cond, List, [], ◌∷◌, length, take, get_or, map, max, All, Option, Some, refl, sym, ap, ◌∙◌, subst, inl, inr}
 use Rattle.std.proofs.Common.{arith}
 use Rattle.std.specs.Prelude.{slice_index_or}
 use Rattle.std.proofs.lemmas.Bool.{cases_Bool, cases_eq}
@@ -29,7 +29,6 @@ use Rattle.lert_cone.specs.Framed.{last_flush, flushed}
 use Rattle.lert_cone.specs.InStep.{IsInStep}
 use Rattle.lert_cone.specs.Logged.{IsLogOf, frames_of}
 use Rattle.lert_cone.specs.declared.marks.Mark.{Mark}
-use Rattle.lert_cone.specs.History.{end_of}
 use Rattle.lert_cone.specs.Marks.{HoldsPosition, IsMarkOf, NamesRecord, first_mark, last_mark, marked_from}
 use Rattle.lert_cone.specs.Replay.{IsLastOf, IsOnWay, IsPast}
 use Rattle.lert_cone.specs.Sound.{IsSound, HoldFrames, HoldsDirectory}

@@ -1,22 +1,26 @@
 -- A cone as it is adopted: what is so of it, and that it is on its way through its journal.
-use Rattle.std.proofs.Common.{◌≡◌, ℕ, ◌*◌, ◌^◌, ◌≤◌, List, length, Option, Some, None, refl, sym, ap, ◌∙◌, subst, arith}
+use Rattle.std.proofs.Common.{◌≡◌, ℕ, ◌*◌, ◌^◌, ◌≤◌, Bool, List, length, Option, Some, None, refl, sym, ap, ◌∙◌, subst, arith}
 use Rattle.lert_base.specs.Packet.{Packet}
 use Rattle.lert_bay.specs.Files.{Files, IfTold}
 use Rattle.lert_gatelog.specs.Gated.{Log}
 use Rattle.lert_gatelog.specs.Kept.{IsWhollySettled}
 use Rattle.lert_rows.specs.declared.bin_at.BinAt.{BinAt}
-use Rattle.lert_reports.specs.Log.{most_record}
+use Rattle.lert_rows.specs.Rows.{IsAt}
+use Rattle.lert_reports.specs.Log.{HasLog, HasRecords, last_n0, most_record}
+use Rattle.lert_reports.specs.LogText.{LogRecord}
 use Rattle.lert_reports.specs.declared.log_point.LogPoint.{LogPoint}
 use Rattle.lert_spec.specs.declared.numbers.Numbers.{Numbers}
 use Rattle.lert_spec.specs.declared.report.Report.{Report}
-use Rattle.lert_spec.specs.Edges.{capacity}
+use Rattle.lert_spec.specs.Edges.{capacity, edge}
 use Rattle.lert_spec.specs.Limits.{IsValid}
 use Rattle.lert_cone.specs.declared.state.ConeState.TheVariants.{Replaying}
 use Rattle.lert_cone.specs.History.{most_payload}
+use Rattle.lert_cone.specs.KeepsLog.{IsHeadOf, LogHead}
 use Rattle.lert_cone.specs.Listing.{Listing}
+use Rattle.lert_cone.specs.Logged.{frames_of}
 use Rattle.lert_cone.specs.Marks.{marked_from}
 use Rattle.lert_cone.specs.Record.{LogPlace}
-use Rattle.lert_cone.specs.Replay.{IsOnWay, IsPast}
+use Rattle.lert_cone.specs.Replay.{IsLastOf, IsOnWay, IsPast}
 use Rattle.lert_cone.specs.Replays.{Replays}
 use Rattle.lert_cone.specs.Room.{room_of}
 use Rattle.lert_cone.specs.Stands.{IsCone}
@@ -25,6 +29,19 @@ use Rattle.lert_cone.specs.Wrote.{IsShutIfTold}
 use Rattle.lert_cone.proofs.FaultLaws.{turns_as}
 use Rattle.lert_cone.proofs.ReplayStands.{replaying_cone}
 use Rattle.lert_cone.proofs.ReplayStep.{told_once}
+
+-- its memory goes on with the records of the log that was read
+pub adopted_head : (s : Numbers) (cone n0 offset first : ℕ) (closed : Bool) (rows : List (List BinAt)) (reports : List Report) (records : List LogRecord) (log_end : ℕ) (bytes : List ℕ)
+    (head : LogHead) → IsAt s n0 rows → HasLog s cone bytes records log_end → IsLastOf s n0 offset first closed rows reports records → head.rows ≡ rows → head.events ≡ n0 →
+    head.gate ≡ log_end → IsHeadOf s records head bytes
+adopted_head s cone n0 offset first closed rows reports records log_end bytes head at log last rows_is events_is gate_is = record {
+  stand = subst (λ gate. HasRecords s bytes records gate) (sym gate_is) log.records_stand;
+  names = record {
+    directory = last.directory_is ∙ ap frames_of (sym rows_is);
+    at = subst (λ (rs : List (List BinAt)). IsAt s (last_n0 records) rs) (sym rows_is) (subst (λ n. IsAt s n rows) last.n0_is at);
+  };
+  newest = ap (edge s 0) (sym last.n0_is ∙ sym events_is);
+}
 
 module _ {B : Type 0} (files : B → Option Files) (leaves : B → Files → Type 0) (faults : B → ℕ) where
   -- as it is adopted: it has the keys that it doesn't read

@@ -6,7 +6,8 @@ use Rattle.lert_bay.specs.Files.{Files, IfTold}
 use Rattle.lert_gatelog.specs.Gated.{IsGated}
 use Rattle.lert_gatelog.specs.Kept.{InEach, IsWithOrWithout, OthersStay}
 use Rattle.lert_levels.specs.Flushed.{InNamed}
-use Rattle.lert_rows.specs.Rows.{directory_text}
+use Rattle.lert_rows.specs.declared.bin_at.BinAt.{BinAt}
+use Rattle.lert_rows.specs.Rows.{IsAt, directory_text}
 use Rattle.lert_reports.specs.declared.log.LogKind.{LogKind}
 use Rattle.lert_reports.specs.Log.{most_record}
 use Rattle.lert_reports.specs.LogText.{log_payload_of}
@@ -20,6 +21,7 @@ use Rattle.lert_cone.specs.Appends.{AppendsRecord}
 use Rattle.lert_cone.specs.Counts.{CountsKey}
 use Rattle.lert_cone.specs.Framed.{HoldsSome, last_flush}
 use Rattle.lert_cone.specs.InStep.{IsLogging, IsPartway}
+use Rattle.lert_cone.specs.KeepsLog.{NamesRows}
 use Rattle.lert_cone.specs.Listing.{Listing}
 use Rattle.lert_cone.specs.Marks.{AreMarked, HasPassed, Marked}
 use Rattle.lert_cone.specs.Record.{LogPlace, payload_at}
@@ -29,6 +31,7 @@ use Rattle.lert_cone.specs.Tally.{Tallied, IsHeld}
 use Rattle.lert_bay.proofs.KeptLaws.{IsLawful, keeps_as, keeps_on}
 use Rattle.lert_cone.proofs.Calls.{now_since, alone_on, alone_rest, alone_others, settled_alone, shut_alone}
 use Rattle.lert_cone.proofs.FlushLaws.{flush_passed}
+use Rattle.lert_cone.proofs.KeepsLogSteps.{log_failed, log_flushed, log_rest}
 use Rattle.lert_cone.proofs.KeyStep.{IsTaken, held_of, sound_rest, taken_of, up_between, sound_append, up_flushed}
 use Rattle.lert_cone.proofs.MarkLaws.{record_part}
 use Rattle.lert_cone.proofs.RecordLaws.{record_fits, logging_more}
@@ -62,6 +65,9 @@ module _ {B : Type 0} (bays : Bays B) (lawful : IsLawful bays) (mark : Mark) (ol
     framed = λ seen told some. tt;
     whole = did.whole;
     unflushed = λ passed. did.unflushed (flush_passed old.counts.listing.settings (length old.counts.listing.events) passed);
+    log = log_rest bays lawful old.counts.listing.settings can.counted.valid old.counts.rows can.counted.are (length old.counts.listing.events) old.log.gate old.bay bay did.rest
+        can.can_log.log_shut
+        (record { rows = counts.rows; events = length counts.listing.events; gate = old.log.gate }) (Err fault) (λ records bytes is. tt);
     keeps = record {
       shows = did.shows;
       journal = alone_rest bays lawful (InNamed old.counts.listing.settings old.counts.rows) 0 (λ same. absurd (omega (arith, same))) old.bay bay did.rest did.kept.time;
@@ -120,6 +126,15 @@ module _ {B : Type 0} (bays : Bays B) (lawful : IsLawful bays) (mark : Mark) (ol
       passed = over.passed;
     }
 
+    -- the rows and the frames after it, by the settings of before
+    at_then : IsAt old.counts.listing.settings (length counts.listing.events) counts.rows
+    at_then = subst (λ (s : Numbers). IsAt s (length counts.listing.events) counts.rows) settings_are did.counted.rows
+
+    framed_then : IfTold (bays.files old.bay) (λ seen. HoldsSome old.counts.listing.settings (length old.counts.listing.events) old.counts.rows (seen 2) →
+        IfTold (bays.files bay) (λ after. HoldsSome old.counts.listing.settings (length counts.listing.events) counts.rows (after 2)))
+    framed_then seen told some after told_after =
+        subst (λ (s : Numbers). HoldsSome s (length counts.listing.events) counts.rows (after 2)) settings_are (did.framed seen told some after told_after)
+
     -- where it stands then the log's next record may be appended
     pub can_log_then : CanLog bays (record { bay = bay; counts = counts; log = record old.log { marks = marks }; room = old.room })
     can_log_then = record {
@@ -149,6 +164,14 @@ module _ {B : Type 0} (bays : Bays B) (lawful : IsLawful bays) (mark : Mark) (ol
           framed = did.framed;
           whole = did.whole;
           unflushed = λ passed. did.unflushed (flush_passed old.counts.listing.settings (length old.counts.listing.events) passed);
+          log = log_rest bays lawful old.counts.listing.settings can.counted.valid old.counts.rows can.counted.are (length old.counts.listing.events) old.log.gate old.bay bay did.rest
+              can.can_log.log_shut
+              (record { rows = counts.rows; events = length counts.listing.events; gate = old.log.gate }) (Ok tt)
+              (λ records bytes head. record {
+                stand = head.stand;
+                names = subst (λ (rows : List (List BinAt)). NamesRows old.counts.listing.settings records rows) (sym rows_are) head.names;
+                newest = head.newest ∙ sym (stays ∙ ap (edge old.counts.listing.settings 0) before);
+              });
           keeps = record {
             shows = did.shows;
             journal = alone_rest bays lawful (InNamed old.counts.listing.settings old.counts.rows) 0 (λ same. absurd (omega (arith, same))) old.bay bay did.rest did.kept.time;
@@ -229,6 +252,9 @@ module _ {B : Type 0} (bays : Bays B) (lawful : IsLawful bays) (mark : Mark) (ol
       framed = λ seen told some. tt;
       whole = λ seen told some at same. (let never : ⊥ = cc in never);
       unflushed = λ passed. absurd (never_passed moves_now few (Err failed) bay_after log_after appends passed);
+      log = log_failed bays lawful old.counts.listing.settings can.counted.valid old.counts.rows can.counted.are (length old.counts.listing.events) old.log.gate old.bay bay did.rest
+          can.can_log.log_shut did.kept.time.later can_log_then.log_shut counts.rows (length counts.listing.events) at_then framed_then counts.due.reports log_then refl
+          can.can_log.logging.most (Err failed) bay_after log_after appends (record { rows = counts.rows; events = length counts.listing.events; gate = log_after.gate }) Failed;
       keeps = record {
         shows = λ seen told file at same. absurd (let never : ⊥ = cc in never);
         journal = journal_then moves_now few (Err failed) bay_after log_after appends;
@@ -284,6 +310,9 @@ module _ {B : Type 0} (bays : Bays B) (lawful : IsLawful bays) (mark : Mark) (ol
           (did.framed seen told some was.0 was.1);
       whole = did.whole;
       unflushed = λ passed. absurd (never_passed moves_now few (Ok tt) bay_after log_after appends passed);
+      log = log_flushed bays lawful old.counts.listing.settings can.counted.valid old.counts.rows can.counted.are (length old.counts.listing.events) old.log.gate old.bay bay did.rest
+          can.can_log.log_shut did.kept.time.later can_log_then.log_shut counts.rows (length counts.listing.events) at_then framed_then counts.due.reports log_then refl
+          can.can_log.logging.most bay_after log_after appends;
       keeps = record {
         shows = λ seen told file at same. absurd (let never : ⊥ = cc in never);
         journal = journal_then moves_now few (Ok tt) bay_after log_after appends;

@@ -15,15 +15,17 @@ use Rattle.lert_cone.specs.declared.marks.Mark.{Mark}
 use Rattle.lert_cone.specs.declared.tally.TakeFault.{TakeFault}
 use Rattle.lert_bay.specs.Kept.{Bays}
 use Rattle.lert_cone.specs.Due.{Dues}
+use Rattle.lert_cone.specs.KeepsLog.{KeepsLogOf, LogHead}
 use Rattle.lert_cone.specs.Framed.{HoldsSome, last_flush}
 use Rattle.lert_cone.specs.Listing.{Listing}
 use Rattle.lert_cone.specs.Marks.{AreMarked, AreOfRecord, HasPassed, Marked}
 use Rattle.lert_cone.specs.Record.{LogPlace}
 use Rattle.lert_cone.specs.Replay.{IsOnWay}
-use Rattle.lert_cone.specs.Takes.{Workplace, AreNext, CanLog, CanTake, CanReplay, TakesKeys, ReplaysKeys}
+use Rattle.lert_cone.specs.Takes.{Workplace, AreNext, CanLog, CanTake, CanReplay, TakesKeys, ReplaysKeys, replayed_head, taken_head}
 use Rattle.lert_cone.specs.Tally.{Tallied, IsRecounted}
 use Rattle.lert_bay.proofs.KeptLaws.{IsLawful, keeps_none}
 use Rattle.lert_cone.proofs.Calls.{alone_none}
+use Rattle.lert_cone.proofs.KeepsLogSteps.{log_as, log_none}
 use Rattle.lert_cone.proofs.KeysTaken.{map_ok}
 use Rattle.lert_cone.proofs.KeyStep.{sound_behind}
 use Rattle.lert_cone.proofs.MarkLaws.{record_part}
@@ -120,6 +122,12 @@ module _ {B : Type 0} (bays : Bays B) (lawful : IsLawful bays) (mark : Mark) (ol
             (subst (λ (files : Files). HoldsSome old.counts.listing.settings (max n0 (length old.counts.listing.events)) old.counts.rows (files 2)) (told_once
             (bays.files old.bay) seen after told told_after) some)));
         whole = λ seen told some at same. (let never : ⊥ = cc in never);
+        log = let same : max n0 (length old.counts.listing.events) ≡ max n0 (length counts.listing.events) =
+            omega (arith, count_is, counted, none, length-take count keys, length-drop count keys) in
+            let heads_are : replayed_head n0 old ≡ record { rows = counts.rows; events = max n0 (length counts.listing.events); gate = old.log.gate } =
+            λ i. record { rows = (sym rows_are) i; events = same i; gate = old.log.gate } in
+            log_as bays lawful old.counts.listing.settings (replayed_head n0 old) (replayed_head n0 old) _ old.bay old.bay (Ok tt) (Ok tt) (λ P holds. subst P heads_are holds)
+            (log_none bays lawful old.counts.listing.settings {E = TakeFault} (replayed_head n0 old) old.bay can.can_log.log_shut);
         keeps = record {
           shows = λ seen told file at same. absurd (let never : ⊥ = cc in never);
           journal = alone_none bays lawful 0 old.bay;
@@ -204,6 +212,16 @@ module _ {B : Type 0} (bays : Bays B) (lawful : IsLawful bays) (mark : Mark) (ol
               (λ again (took : new.counts.listing.events ≡ counts.listing.events ++ drop count keys) after told_after.
               subst (λ n. HoldsSome new.counts.listing.settings n new.counts.rows (after 2)) (then_most new.counts.listing.events took) (again after told_after));
           whole = λ seen told holds. did.whole seen told (some_counted old.counts counts (max n0 (length old.counts.listing.events)) (seen 2) settings_are rows_are up_to holds);
+          log = let heads_are : ◌≡◌ {A = LogHead} (record { rows = counts.rows; events = length counts.listing.events; gate = old.log.gate }) (replayed_head n0 old) =
+              λ i. record { rows = rows_are i; events = (sym up_to) i; gate = old.log.gate } in
+              subst (λ (head : LogHead). KeepsLogOf bays old.counts.listing.settings head (replayed_head n0 new) old.bay new.bay result) heads_are
+              (subst (λ (s : Numbers). KeepsLogOf bays s (record { rows = counts.rows; events = length counts.listing.events; gate = old.log.gate }) (replayed_head n0 new) old.bay new.bay result)
+              settings_are
+              (log_as bays lawful counts.listing.settings (record { rows = counts.rows; events = length counts.listing.events; gate = old.log.gate }) (taken_head new)
+              (replayed_head n0 new) old.bay new.bay result
+              result (λ P holds. on_ok _ _ (P (replayed_head n0 new)) result holds did.taken
+              (λ here (took : new.counts.listing.events ≡ counts.listing.events ++ drop count keys).
+              subst P (λ i. record { rows = new.counts.rows; events = (then_most new.counts.listing.events took) i; gate = new.log.gate }) here)) did.log));
           keeps = record {
             shows = did.keeps.shows;
             journal = did.keeps.journal;

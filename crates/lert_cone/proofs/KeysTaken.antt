@@ -16,10 +16,12 @@ use Rattle.lert_cone.specs.declared.tally.TakeFault.{TakeFault}
 use Rattle.lert_bay.specs.Kept.{Bays}
 use Rattle.lert_cone.specs.Framed.{HoldsSome, last_flush}
 use Rattle.lert_cone.specs.InStep.{IsPartway}
+use Rattle.lert_cone.specs.KeepsLog.{KeepsLogOf}
 use Rattle.lert_cone.specs.Listing.{Listing}
-use Rattle.lert_cone.specs.Takes.{Workplace, CanTake, AreInStep, AreNext, TakesKeys}
+use Rattle.lert_cone.specs.Takes.{Workplace, CanTake, AreInStep, AreNext, TakesKeys, taken_head}
 use Rattle.lert_bay.proofs.KeptLaws.{IsLawful, keeps_none, keeps_on}
 use Rattle.lert_cone.proofs.Calls.{alone_none, alone_on}
+use Rattle.lert_cone.proofs.KeepsLogSteps.{log_none, log_on}
 use Rattle.lert_cone.proofs.KeyStep.{sound_now, sound_behind}
 use Rattle.lert_cone.proofs.FlushLaws.{last_flush_grows}
 use Rattle.lert_cone.proofs.MarkLaws.{record_part}
@@ -29,11 +31,6 @@ use Rattle.lert_cone.proofs.TakeLaws.{handed_on}
 pub map_ok : {T E A C : Type 0} (result : Result T E) → (A → C) → OnOk result A → OnOk result C
 map_ok (Ok done) goes holds = goes holds
 map_ok (Err fault) goes holds = tt
-
--- what holds in any case
-pub ok_holds : {T E A : Type 0} (result : Result T E) → A → OnOk result A
-ok_holds (Ok done) holds = holds
-ok_holds (Err fault) holds = tt
 
 -- ---- keys still to come
 
@@ -71,6 +68,7 @@ module _ {B : Type 0} (bays : Bays B) (lawful : IsLawful bays) (mark : Mark) whe
         subst (λ (files : Files). HoldsSome at.counts.listing.settings (length at.counts.listing.events) at.counts.rows (files 2)) (same_Some seen after (sym told ∙ told_after)) some;
     whole = λ seen told some at same. (let never : ⊥ = cc in never);
     unflushed = λ passed. refl;
+    log = log_none bays lawful at.counts.listing.settings (taken_head at) at.bay can.can_log.log_shut;
     keeps = record {
       shows = λ seen told file at same. absurd (let never : ⊥ = cc in never);
       journal = alone_none bays lawful 0 at.bay;
@@ -139,6 +137,9 @@ module _ {B : Type 0} (bays : Bays B) (lawful : IsLawful bays) (mark : Mark) whe
             let came = first.keeps.journal.seen.told seen told in
             second.whole came.0 came.1 (first.framed seen told some came.0 came.1);
         unflushed = λ passed. second.unflushed (back_passed passed) ∙ first.unflushed (front_passed old.counts.listing.settings (length old.counts.listing.events) front back passed);
+        log = log_on bays lawful old.counts.listing.settings (taken_head old) (taken_head mid) (taken_head new) old.bay mid.bay new.bay tt result first.keeps.journal.seen
+            first.keeps.journal.time.later second.keeps.journal.time first.log
+            (subst (λ (s : Numbers). KeepsLogOf bays s (taken_head mid) (taken_head new) mid.bay new.bay result) (ap (λ (l : Listing). l.settings) first.listing) second.log);
         keeps = record {
           shows = second.keeps.shows;
           journal = alone_on bays lawful 0 old.bay mid.bay new.bay first.keeps.journal second.keeps.journal;
@@ -161,6 +162,7 @@ module _ {B : Type 0} (bays : Bays B) (lawful : IsLawful bays) (mark : Mark) whe
     framed = λ seen told some. tt;
     whole = did.whole;
     unflushed = λ passed. did.unflushed (front_passed old.counts.listing.settings (length old.counts.listing.events) front back passed);
+    log = did.log;
     keeps = did.keeps;
   }
 

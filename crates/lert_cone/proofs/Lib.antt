@@ -19,6 +19,8 @@ pub mod GateLaws
 pub mod HeldLaws
 pub mod KeyCounted
 pub mod KeyLemmas
+pub mod KeepsLogLaws
+pub mod KeepsLogSteps
 pub mod KeyStep
 pub mod KeyTaken
 pub mod KeysRecounted

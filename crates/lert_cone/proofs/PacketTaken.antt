@@ -23,12 +23,11 @@ use Rattle.lert_cone.specs.Takes.{Workplace, CanTake, CanTakePacket, IsWholeAt, 
 use Rattle.lert_cone.specs.Wrote.{IsShutIfTold, LeavesAlone}
 use Rattle.lert_bay.proofs.KeptLaws.{IsLawful, keeps_on}
 use Rattle.lert_cone.proofs.Calls.{now_since, alone_others, settled_alone, shut_alone}
-use Rattle.lert_cone.proofs.KeysTaken.{ok_holds}
 use Rattle.lert_cone.proofs.MarkLaws.{last_holds}
 use Rattle.lert_cone.proofs.SoundLaws.{turns_back}
 use Rattle.lert_cone.proofs.AppendLaws.{sound_appending, up_appended, records_there, each_there, partway_packet, appended_there}
 use Rattle.lert_cone.proofs.FaultLaws.{any_turn, turns_on}
-use Rattle.lert_cone.proofs.TakeLaws.{handed_on}
+use Rattle.lert_cone.proofs.TakeLaws.{handed_on, ok_holds}
 
 -- what the append of a packet says: its clauses
 abbrev pub AppendsPacket : {B : Type 0} → Bays B → Packet → B → B → Log → Log → Result (Unit {0}) Fault → Type 0

@@ -1,5 +1,5 @@
 -- A record of the journal through the calls that a cone makes for it: it is read, and then its keys are taken.
-use Rattle.std.proofs.Common.{◌≡◌, ℕ, ◌+◌, ◌≤◌, List, ◌++◌, length, take, drop, max, Option, Some, Result, sym, ap, ◌∙◌, subst, inl, inr, arith, length-append}
+use Rattle.std.proofs.Common.{◌≡◌, ℕ, ◌+◌, ◌≤◌, List, ◌++◌, length, take, drop, max, Option, Some, Result, Ok, OnOk, sym, ap, ◌∙◌, subst, inl, inr, arith, length-append}
 use Rattle.std.specs.List.{length_refill}
 use Rattle.lert_base.specs.Packet.{Packet, events_of}
 use Rattle.lert_bay.specs.Files.{Files, IfTold}
@@ -17,6 +17,7 @@ use Rattle.lert_cone.specs.declared.state.ConeState.TheVariants.{Replaying}
 use Rattle.lert_cone.specs.declared.tally.TakeFault.{TakeFault}
 use Rattle.lert_cone.specs.Framed.{last_flush}
 use Rattle.lert_cone.specs.History.{most_payload}
+use Rattle.lert_cone.specs.KeepsLog.{KeepsLogOf, LogHead}
 use Rattle.lert_cone.specs.Listing.{Listing}
 use Rattle.lert_cone.specs.Reads.{OnlyReadsJournal}
 use Rattle.lert_cone.specs.Record.{LogPlace}
@@ -26,9 +27,10 @@ use Rattle.lert_cone.specs.Sound.{IsSound, StaysSound}
 use Rattle.lert_cone.specs.Stands.{Standing}
 use Rattle.lert_cone.specs.Takes.{Workplace, ReplaysKeys}
 use Rattle.lert_cone.specs.Tally.{Tallied, IsRecounted}
-use Rattle.lert_cone.specs.Wrote.{LeavesAlone}
+use Rattle.lert_cone.specs.Wrote.{IsShutIfTold, LeavesAlone}
 use Rattle.lert_cone.proofs.Calls.{now_since, alone_on, alone_reading}
 use Rattle.lert_cone.proofs.GateLaws.{ends_there, keys_past, keys_next}
+use Rattle.lert_cone.proofs.KeepsLogSteps.{log_as, log_on, log_unwritten}
 use Rattle.lert_cone.proofs.MarkLaws.{next_holds}
 use Rattle.lert_cone.proofs.ReplayLaws.{journal_on_way, on_way_read, sound_recounted}
 use Rattle.lert_cone.proofs.ReplayStands.{next_there, read_settled, shut_there}
@@ -136,6 +138,20 @@ module _ {B : Type 0} (bays : Bays B) (lawful : IsLawful bays) where
     alone_behind file after left =
         alone_on bays lawful file bay bay_read after
         (alone_reading bays lawful file bay bay_read _ read.reads) left
+
+    -- a log whose gate is closed stays through the reading
+    pub read_logged : {U F : Type 0} (s : Numbers) (head : LogHead) (answer : Result U F) → IsShutIfTold (bays.files bay) (bays.leaves bay) 1 head.gate →
+        KeepsLogOf bays s head head bay bay_read answer
+    read_logged s head answer shut = log_unwritten bays lawful s head bay bay_read answer read_unwritten shut
+
+    -- and so through calls behind
+    pub logged_behind : {T E U F : Type 0} (s : Numbers) (old new : LogHead) (after : B) (result : Result T E) (answer : Result U F) →
+        IsShutIfTold (bays.files bay) (bays.leaves bay) 1 old.gate → LeavesAlone bays 0 bay_read after →
+        ((P : LogHead → Type 0) → OnOk result (P new) → OnOk answer (P new)) → KeepsLogOf bays s old new bay_read after result → KeepsLogOf bays s old new bay after answer
+    logged_behind s old new after result answer shut left goes did =
+        log_as bays lawful s old new new bay after result answer goes
+        (log_on bays lawful s {U = Unit {0}} {F = Unit {0}} old old new bay bay_read after tt result (alone_reading bays lawful 0 bay bay_read _ read.reads).seen read.reads.kept.time.later left.time
+        (read_logged s old (Ok tt) shut) did)
 
     -- no flush comes with its keys
     pub keys_unwritten : (s : Numbers) (n n0 : ℕ) (packet : Packet) (keys : List ℕ) (new : B) → keys ≡ packet.keys → last_flush s (n + length packet.keys) ≤ max n0 n →

@@ -20,7 +20,7 @@ use Rattle.lert_spec.specs.declared.report.Report.{Report}
 use Rattle.lert_spec.specs.Edges.{capacity}
 use Rattle.lert_spec.specs.Limits.{IsValid}
 use Rattle.lert_reports.specs.declared.log_point.LogPoint.{LogPoint}
-use Rattle.lert_cone.specs.declared.refusal.ReplayFault.TheVariants.{Failed, Unsound}
+use Rattle.lert_cone.specs.declared.refusal.ReplayFault.TheVariants.{Failed, Malformed, Unsound}
 use Rattle.lert_cone.specs.declared.state.ConeState.{ConeState}
 use Rattle.lert_cone.specs.declared.state.ConeState.TheVariants.{Running, Finished, Replaying}
 use Rattle.lert_cone.specs.declared.tally.TakeFault.{TakeFault}
@@ -97,6 +97,10 @@ only_by_bay (TakeUnsound file at) never = absurd (never file at refl)
 pub unsound_keys : (fault : TakeFault) (file at : ℕ) → of_take_fault fault ≡ Unsound file at → fault ≡ TakeUnsound file at
 unsound_keys TakeFailed file at same = absurd (let never : ⊥ = cc in never)
 unsound_keys (TakeUnsound other place) file at same = (let is : TakeUnsound other place ≡ TakeUnsound file at = cc in is)
+
+pub keys_never_malformed : (fault : TakeFault) (at : ℕ) → of_take_fault fault ≡ Malformed at → ⊥
+keys_never_malformed TakeFailed at same = (let never : ⊥ = cc in never)
+keys_never_malformed (TakeUnsound file place) at same = (let never : ⊥ = cc in never)
 
 pub failed_keys : (fault : TakeFault) → of_take_fault fault ≡ Failed → fault ≡ TakeFailed
 failed_keys TakeFailed same = refl

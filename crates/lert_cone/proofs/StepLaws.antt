@@ -43,7 +43,7 @@ use Rattle.lert_cone.proofs.WroteLaws.{torn_behind}
 -- ---- what stays
 
 -- the first bytes of what is the same
-first_same : (image read : List ℕ) (all few : ℕ) → few ≤ all → part image 0 all ≡ part read 0 all → part image 0 few ≡ part read 0 few
+pub first_same : (image read : List ℕ) (all few : ℕ) → few ≤ all → part image 0 all ≡ part read 0 all → part image 0 few ≡ part read 0 few
 first_same image read all few less same = sym (take-take few all image less) ∙ ap (take few) same ∙ take-take few all read less
 
 pub journal_since : (since : Files → Type 0) (seen : Files) (s : Numbers) (cone : ℕ) (history : List Packet) → IsJournal s cone history (seen 0) →

@@ -320,6 +320,11 @@ pub ok_of : {E : Type 0} (A : Type 0) (B : E → Type 0) (result : Result (Unit 
 ok_of A B (Ok done) holds = holds
 ok_of A B (Err fault) holds = tt
 
+-- what holds in any case
+pub ok_holds : {T E A : Type 0} (result : Result T E) → A → OnOk result A
+ok_holds (Ok done) holds = holds
+ok_holds (Err fault) holds = tt
+
 pub on_ok : {T E : Type 0} (A B C : Type 0) (result : Result T E) → OnOk result A → OnOk result B → (A → B → C) → OnOk result C
 on_ok A B C (Ok done) one two goes = goes one two
 on_ok A B C (Err fault) one two goes = tt

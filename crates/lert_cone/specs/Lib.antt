@@ -4,6 +4,7 @@ pub mod Due
 pub mod Framed
 pub mod History
 pub mod InStep
+pub mod KeepsLog
 pub mod Listing
 pub mod Locked
 pub mod Logged

@@ -74,10 +74,10 @@ pub record HasEnded {B : Type 0} (files : B → Option Files) (leaves : B → Fi
   pub images : KeepsImages (leaves old.bay) (leaves new.bay)
   pub is : new ≡ record old { bay = new.bay; gate = gate }
 
--- No flush comes with what stands at a gate of told files: behind the keys of a packet there the last flush position is n0 at
--- most, or one of the keys so far.
+-- No flush comes with what stands at a gate of told files: behind the keys of a packet there that the cone may take the last flush
+-- position is n0 at most, or one of the keys so far.
 abbrev pub BringsNoFlush : {B : Type 0} → Standing B → List ℕ → ℕ → Type 0
-BringsNoFlush cone bytes gate = (packet : Packet) → HoldsNext cone bytes gate packet →
+BringsNoFlush cone bytes gate = (packet : Packet) → HoldsNext cone bytes gate packet → MayTake cone packet →
     last_flush cone.listing.settings (length cone.listing.events + length packet.keys) ≤ max cone.last.n0 (length cone.listing.events)
 
 -- from one state of a bay to another the files are as they were, byte for byte, and so are the images, also at each moment

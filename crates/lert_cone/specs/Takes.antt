@@ -15,6 +15,7 @@ use Rattle.lert_cone.specs.declared.tally.TakeFault.TheVariants.{Failed, Unsound
 use Rattle.lert_cone.specs.Framed.{HoldsSome, last_flush}
 use Rattle.lert_cone.specs.History.{most_payload}
 use Rattle.lert_cone.specs.InStep.{IsInStep, IsLogging, IsPartway}
+use Rattle.lert_cone.specs.KeepsLog.{LogHead, KeepsLogOf}
 use Rattle.lert_cone.specs.Marks.{AreOfRecord}
 use Rattle.lert_cone.specs.Record.{LogPlace}
 use Rattle.lert_cone.specs.Replay.{IsOnWay}
@@ -34,6 +35,13 @@ pub record Workplace (B : Type 0) : Type 0 where
 pub record CanLog {B : Type 0} (bays : Bays B) (at : Workplace B) : Type 0 where
   pub logging : IsLogging at.counts at.log at.room
   pub log_shut : IsShutIfTold (bays.files at.bay) (bays.leaves at.bay) LOG at.log.gate
+
+-- what memory goes on with there, and so while keys come again up to n0
+abbrev pub taken_head : {B : Type 0} → Workplace B → LogHead
+taken_head at = record { rows = at.counts.rows; events = length at.counts.listing.events; gate = at.log.gate }
+
+abbrev pub replayed_head : {B : Type 0} → ℕ → Workplace B → LogHead
+replayed_head n0 at = record { rows = at.counts.rows; events = max n0 (length at.counts.listing.events); gate = at.log.gate }
 
 -- these keys may be taken: the cone isn't closed, they are its own and no more than it takes, and no call broke off
 pub record CanTake {B : Type 0} (bays : Bays B) (keys : List ℕ) (at : Workplace B) : Type 0 where
@@ -65,8 +73,8 @@ pub record KeepsJournal {B : Type 0} (bays : Bays B) (old new : Workplace B) (re
 
 -- Keys are taken, of the journal's record at a mark. Where the bay tells its files, and these went together with memory, for a
 -- list of which that record holds the keys, they do so again, and they are sound in each image of each moment; no frame is found
--- malformed then, nor where the frames hold the bins of some events, whatever these are, as they do again. Where no flush position
--- lies among the keys no call of the bay is made.
+-- malformed then, nor where the frames hold the bins of some events, whatever these are, as they do again. The log keeps its records,
+-- also where the files are sound for no list. Where no flush position lies among the keys no call of the bay is made.
 pub record TakesKeys {B : Type 0} (bays : Bays B) (mark : Mark) (keys : List ℕ) (old new : Workplace B) (result : Result (Unit {0}) TakeFault) : Type 0 where
   pub listing : new.counts.listing ≡ record old.counts.listing { events = new.counts.listing.events }
   pub taken : OnOk result (new.counts.listing.events ≡ old.counts.listing.events ++ keys)
@@ -84,6 +92,7 @@ pub record TakesKeys {B : Type 0} (bays : Bays B) (mark : Mark) (keys : List ℕ
   pub whole : IfTold (bays.files old.bay) (λ seen. HoldsSome old.counts.listing.settings (length old.counts.listing.events) old.counts.rows (seen FRAMES) → (at : ℕ) →
       result ≢ Err (Unsound FRAMES at))
   pub unflushed : last_flush old.counts.listing.settings (length old.counts.listing.events + length keys) ≤ length old.counts.listing.events → new.bay ≡ old.bay
+  pub log : KeepsLogOf bays old.counts.listing.settings (taken_head old) (taken_head new) old.bay new.bay result
   pub keeps : KeepsJournal bays old new result
 
 -- a packet may be taken: the journal may hold it, its gate is closed in every image, and its keys may be taken
@@ -132,8 +141,8 @@ pub record CanReplay {B : Type 0} (bays : Bays B) (n0 : ℕ) (keys : List ℕ) (
 
 -- They are taken, of the journal's record at a mark. Where the bay tells its files, and these and memory were on their way through
 -- a journal that has these keys next, in that record, they are so behind them, the files are sound for its packets in each image
--- of each moment, and no frame is found malformed; nor is one where the frames hold the bins of some events. Where no flush position
--- behind n0 lies among the keys no call of the bay is made.
+-- of each moment, and no frame is found malformed; nor is one where the frames hold the bins of some events. The log keeps its records,
+-- also where the files are sound for no list. Where no flush position behind n0 lies among the keys no call of the bay is made.
 pub record ReplaysKeys {B : Type 0} (bays : Bays B) (n0 : ℕ) (mark : Mark) (keys : List ℕ) (old new : Workplace B) (result : Result (Unit {0}) TakeFault) : Type 0 where
   pub listing : new.counts.listing ≡ record old.counts.listing { events = new.counts.listing.events }
   pub taken : OnOk result (new.counts.listing.events ≡ old.counts.listing.events ++ keys)
@@ -155,6 +164,7 @@ pub record ReplaysKeys {B : Type 0} (bays : Bays B) (n0 : ℕ) (mark : Mark) (ke
       OnOk result (IfTold (bays.files new.bay) (λ after. HoldsSome new.counts.listing.settings (max n0 (length new.counts.listing.events)) new.counts.rows (after FRAMES))))
   pub whole : IfTold (bays.files old.bay) (λ seen. HoldsSome old.counts.listing.settings (max n0 (length old.counts.listing.events)) old.counts.rows (seen FRAMES) →
       (at : ℕ) → result ≢ Err (Unsound FRAMES at))
+  pub log : KeepsLogOf bays old.counts.listing.settings (replayed_head n0 old) (replayed_head n0 new) old.bay new.bay result
   pub keeps : KeepsJournal bays old new result
 
 -- The end: all levels are scanned, the reports listed that are left, and the closing record appended.

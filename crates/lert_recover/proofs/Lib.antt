@@ -1,6 +1,7 @@
 pub mod BayLaws
 pub mod BoundLaws
 pub mod FinalLaws
+pub mod LoggedLaws
 pub mod MomentLaws
 pub mod ReopenLaws
 pub mod ReplayedLaws
@@ -10,3 +11,4 @@ pub mod RestLaws
 pub mod ShownLaws
 pub mod SomeEvents
 pub mod StopLaws
+pub mod UnharmedLaws

@@ -116,7 +116,7 @@ module _ {B : Type 0} (files : B → Option Files) (start old new : Standing B) 
     -- and where no flush comes with what stands at the gate
     pub still_on : Read gate old.listing.events → FlushesNothing start.listing.settings start.last.n0 (seen JOURNAL) (length start.listing.events) first →
         BringsNoFlush old ((journal.told seen told).0 JOURNAL) gate
-    still_on has nothing packet holds =
+    still_on has nothing packet holds may =
         let there = journal.told seen told in
         let s = start.listing.settings in
         let n = length old.listing.events in

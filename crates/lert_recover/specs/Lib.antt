@@ -3,3 +3,4 @@ pub mod Replayed
 pub mod Reopened
 pub mod Rest
 pub mod Shown
+pub mod Unharmed

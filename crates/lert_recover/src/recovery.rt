@@ -11,15 +11,17 @@ ghost use Rattle.lert_cone.specs.Marks.{IsMarkOf, last_mark};
 ghost use Rattle.lert_cone.specs.Room.{IsRoom};
 ghost use Rattle.lert_cone.specs.Sound.{IsSound, IsJournal, StaysSound};
 ghost use Rattle.lert_cone.specs.Stands.{IsSameCone, StandsFor, WasSound};
+ghost use Rattle.lert_cone.specs.Wrote.{IsShutIfTold};
 ghost use Rattle.lert_gatelog.specs.Gated.{IsClosed};
 ghost use Rattle.lert_files.specs.Headed.{HasOther};
 ghost use Rattle.lert_files.specs.Opened.{WritesNothing};
 ghost use Rattle.lert_recover.specs.Moments.{AreSound};
 ghost use Rattle.lert_recover.specs.Reopened.{IsReadOn, IsReopened, IsReopenRefused, IsStopped, IsUnsoundAt, most_read};
 ghost use Rattle.lert_recover.specs.Replayed.{FirstLeaves, FlushesNothing, HasReplayed, IsJournalSame, ReadsRest, ReplaysSome};
-ghost use Rattle.lert_reports.specs.Log.{is_closed, last_first, last_n0, last_offset, HasLog};
+ghost use Rattle.lert_reports.specs.Log.{is_closed, HasLog};
 ghost use Rattle.lert_reports.specs.LogText.{LogRecord};
 ghost use Rattle.lert_recover.specs.Shown.{reports_for};
+ghost use Rattle.lert_recover.specs.Unharmed.{IsUnharmed, KeepsLogFrom};
 ghost use Rattle.lert_spec.specs.declared.report.Report.{Report};
 ghost use Rattle.lert_spec.specs.Edges.{capacity};
 ghost use Rattle.lert_spec.specs.Limits.{IsValid};
@@ -32,7 +34,8 @@ use lert_bay::Bay;
 use lert_cone::{Cone, ConeRoom, ConeState, LogPoint};
 use lert_files::{ReopenFault, read_files};
 
-/// A cone that wasn't reopened. Its journal reads as before, and files that were sound for a list are sound for it.
+/// A cone that wasn't reopened. Its journal reads as before, files that were sound for a list are sound for it, and files of other
+/// settings, or that leave their format before the records of the journal, are as they were.
 #[derive(Drop)]
 pub struct ReopenRefused<B: Bay> {
     pub fault: ReopenFault,
@@ -115,12 +118,12 @@ pub fn reopen<B: Bay, T: CountTable>(
         (λ now. StaysSound B.Bay room.settings cone h bay now.bay)
         (λ refused. StaysSound B.Bay room.settings cone h bay refused.bay)) }
 
-    // Where no flush position above the log's last record lies among the keys from the named record on, nothing is written, whatever
-    // it answers: the files are as they were, byte for byte.
-    ensures unflushed { IfTold (B.files bay) (λ seen.
-        ((records : List LogRecord) (log_end : ℕ) → HasLog room.settings cone (seen LOG) records log_end →
-        FlushesNothing room.settings (last_n0 records) (seen JOURNAL) (last_first records - 1) (last_offset records)) →
-        MatchResult result (λ now. WritesNothing B.Bay bay now.bay ⊥) (λ refused. WritesNothing B.Bay bay refused.bay ⊥)) }
+    // Whatever it answers, nothing is written over files that leave their format before the records of the journal, or begin with
+    // other numbers, nor where no flush position above the log's last record lies among the keys from the named record on: they
+    // are as they were, byte for byte. In any case the log keeps its records as a beginning, and what the frames hold that its last
+    // one names. Where other settings are the answer, nothing was written.
+    ensures unharmed { MatchResult result (λ now. IsUnharmed B.Bay room.settings cone bay now.bay) (λ refused. IsUnharmed B.Bay room.settings cone bay refused.bay) }
+    ensures other_untouched { IfErr result (λ refused. (kept : KeptOf) → refused.fault ≡ ReopenFault.OtherSettings kept → WritesNothing B.Bay bay refused.bay ⊥) }
 
     // Told or not, what it is.
     ensures own { IfOk result (λ now. (now.listing.settings ≡ room.settings) × (now.listing.cone ≡ cone) × (now.events ≡ length now.listing.events)
@@ -156,10 +159,7 @@ fn reopen_in_order<B: Bay, T: CountTable>(
     ensures each_moment { IfTold (B.files bay) (λ _. (h : List Packet) → AreSound (B.leaves bay) room.settings cone h → MatchResult result
         (λ now. StaysSound B.Bay room.settings cone h bay now.bay)
         (λ refused. StaysSound B.Bay room.settings cone h bay refused.bay)) }
-    ensures unflushed { IfTold (B.files bay) (λ seen.
-        ((records : List LogRecord) (log_end : ℕ) → HasLog room.settings cone (seen LOG) records log_end →
-        FlushesNothing room.settings (last_n0 records) (seen JOURNAL) (last_first records - 1) (last_offset records)) →
-        MatchResult result (λ now. WritesNothing B.Bay bay now.bay ⊥) (λ refused. WritesNothing B.Bay bay refused.bay ⊥)) }
+    ensures unharmed { MatchResult result (λ now. IsUnharmed B.Bay room.settings cone bay now.bay) (λ refused. IsUnharmed B.Bay room.settings cone bay refused.bay) }
     ensures own { IfOk result (λ now. (now.listing.settings ≡ room.settings) × (now.listing.cone ≡ cone) × (now.events ≡ length now.listing.events)
         × (now.state ≡ if now.listing.closed then ConeState.Finished else ConeState.Running)) }
     ensures made { IfOk result (λ now. (B.files now.made ≡ B.files bay) × (B.faults bay ≤ B.faults now.made) × (B.mark now.made ≡ B.mark bay)) }
@@ -199,6 +199,7 @@ fn replay_journal<B: Bay, T: CountTable>(
     requires begun { (cone.gate ≡ last.now.offset) × (cone.events ≡ length cone.listing.events) }
     requires few { cone.events ≤ last.now.n0 }
     requires near { last.now.offset ≤ 2 ^ 46 }
+    requires log_shut { IsShutIfTold (B.files cone.bay) (B.leaves cone.bay) LOG cone.log.gate }
     ensures told { IfTold (B.files cone.bay) (λ seen. HoldsSome cone.listing.settings cone.last.n0 cone.rows (seen FRAMES) → MatchResult result
         (λ now. HasReplayed cone.listing.settings cone.listing.cone cone.last.n0 cone.last.closed (seen JOURNAL) cone.listing.events last.now.offset
         now.gate now.listing.events × IsClosed (seen JOURNAL) now.gate)
@@ -221,6 +222,7 @@ fn replay_journal<B: Bay, T: CountTable>(
         (λ refused. StaysSound B.Bay cone.listing.settings cone.listing.cone h cone.bay refused.bay)) }
     ensures unflushed { IfTold (B.files cone.bay) (λ seen. FlushesNothing cone.listing.settings cone.last.n0 (seen JOURNAL) (length cone.listing.events) last.now.offset →
         MatchResult result (λ now. WritesNothing B.Bay cone.bay now.bay ⊥) (λ refused. WritesNothing B.Bay cone.bay refused.bay ⊥)) }
+    ensures log { MatchResult result (λ now. KeepsLogFrom B.Bay cone now.bay) (λ refused. KeepsLogFrom B.Bay cone refused.bay) }
     ensures rest { IfTold (B.files cone.bay) (λ _. (h : List Packet) → ReplaysSome B.files B.leaves cone h → MatchResult result
         (λ now. ReadsRest cone.listing.settings last.now.offset h (B.handed_out cone.bay JOURNAL) (B.handed_out now.bay JOURNAL))
         (λ refused. ReadsRest cone.listing.settings last.now.offset h (B.handed_out cone.bay JOURNAL) (B.handed_out refused.bay JOURNAL))) }

@@ -6,6 +6,7 @@ ghost use Rattle.lert_bay.specs.declared.bay.TheConstants.{JOURNAL, LOG, FRAMES}
 ghost use Rattle.lert_bay.specs.Files.{Files, IfTold, Turns};
 ghost use Rattle.lert_bay.specs.Kept.{CallsBay};
 ghost use Rattle.lert_cone.specs.Framed.{HoldsSome};
+ghost use Rattle.lert_cone.specs.KeepsLog.{KeepsLogOf, head_of};
 ghost use Rattle.lert_cone.specs.Replay.{ReplayLeavesAt};
 ghost use Rattle.lert_cone.specs.Replays.{Replays};
 ghost use Rattle.lert_cone.specs.Sound.{IsSound, StaysSound};
@@ -37,6 +38,7 @@ pub fn replay_all<B: Bay, T: CountTable>(cone: &mut Cone<B, T>, first: u64) -> R
     requires begun { (cone.old.gate ≡ first) × (cone.old.events ≡ length cone.old.listing.events) }
     requires few { (cone.old.events ≤ cone.old.last.n0) × (cone.old.last.n0 ≤ capacity cone.old.listing.settings) }
     requires near { first ≤ 2 ^ 46 }
+    requires log_shut { IsShutIfTold (B.files cone.old.bay) (B.leaves cone.old.bay) LOG cone.old.log.gate }
 
     // Where the files are told, these are the packets that stand there, up to a closed gate or to where it stopped.
     ensures told { IfTold (B.files cone.old.bay) (λ seen. MatchResult result
@@ -66,6 +68,9 @@ pub fn replay_all<B: Bay, T: CountTable>(cone: &mut Cone<B, T>, first: u64) -> R
         StaysSound B.Bay cone.old.listing.settings cone.old.listing.cone h cone.old.bay cone.new.bay) }
     ensures unflushed { IfTold (B.files cone.old.bay) (λ seen. FlushesNothing cone.old.listing.settings cone.old.last.n0 (seen JOURNAL) (length cone.old.listing.events) first →
         WritesNothing B.Bay cone.old.bay cone.new.bay ⊥) }
+
+    // The log keeps its records, whatever it answers, and whether or not the files are sound for a list.
+    ensures log { KeepsLogOf B.Bay cone.old.listing.settings (head_of cone.old) (head_of cone.new) cone.old.bay cone.new.bay result }
 
     // On that way it reads each record once.
     ensures reads { IfTold (B.files cone.old.bay) (λ _. (h : List Packet) → ReplaysSome B.files B.leaves cone.old h →

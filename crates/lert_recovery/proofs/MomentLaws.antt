@@ -1,73 +1,79 @@
--- Bays that stay sound at each moment of a recovery.
-use Rattle.std.proofs.Common.{◌≡◌, ℕ, ◌<◌, List, [], ◌∷◌, ◌++◌, length, Option, slice_get, sym, ◌∙◌, subst, arith, length-append}
+-- Bays at each moment of a recovery.
+use Rattle.std.proofs.Common.{◌≡◌, ℕ, ◌<◌, List, [], ◌∷◌, ◌++◌, length, Option, Some, slice_get, ap, sym, ◌∙◌, subst, inl, inr, arith}
 use Rattle.std.proofs.lemmas.List.{length-map}
-use Rattle.std.proofs.lemmas.Option.{slice_get_within}
+use Rattle.std.proofs.lemmas.Bool.{cases_eq}
+use Rattle.std.proofs.lemmas.Option.{same_Some, slice_get_within}
 use Rattle.lert_base.specs.Packet.{Packet}
 use Rattle.lert_bay.specs.Files.{IfTold}
 use Rattle.lert_bay.specs.Kept.{Bays, CallsBay}
 use Rattle.lert_bay.proofs.KeptLaws.{IsLawful}
-use Rattle.lert_bay.proofs.Lasting.{lasts_none, lasts_on}
+use Rattle.lert_bay.proofs.Lasting.{lasts_none}
 use Rattle.lert_cone.specs.Sound.{StaysSound}
 use Rattle.lert_cone.specs.Stands.{Standing}
-use Rattle.lert_cone.proofs.Calls.{now_since}
-use Rattle.lert_cone.proofs.ReplayCalls.{stays_on}
 use Rattle.lert_recover.specs.Moments.{AreSound}
 use Rattle.lert_recover.specs.Replayed.{IsJournalSame}
+use Rattle.lert_recover.specs.Unharmed.{IsUnharmed}
 use Rattle.lert_recover.proofs.MomentLaws.{stays_none}
+use Rattle.lert_recover.proofs.UnharmedLaws.{unharmed_none}
 use Rattle.lert_spec.specs.declared.numbers.Numbers.{Numbers}
-use Rattle.lert_ingest.specs.Bays.{bays_of}
-use Rattle.lert_ingest.proofs.BayLaws.{bays_of-push}
-use Rattle.lert_ingest.proofs.EachLaws.{each_more, each_same, each_seam}
-use Rattle.lert_recovery.specs.Moments.{AreReturnedSound, AreSoundThroughout, IsSoundThroughout}
+use Rattle.lert_ingest.specs.Bays.{EachBay, bays_of}
+use Rattle.lert_ingest.proofs.BayLaws.{bays_of-push, set-seam, slice_get-seam, slice_get-set_other}
+use Rattle.lert_ingest.proofs.EachLaws.{each_same}
+use Rattle.lert_recovery.specs.Moments.{AreReturnedSpared, AreSpared, IsSpared}
 
 -- a bay over which a cone was opened, or wasn't
 pub throughout_by : {B : Type 0} (bays : Bays B) (s : Numbers) (cone : ℕ) (bay back : B) (Failed : Type 0) → CallsBay bays bay back Failed →
     IsJournalSame (bays.files bay) (bays.files back) →
     IfTold (bays.files bay) (λ _. (history : List Packet) → AreSound (bays.leaves bay) s cone history → StaysSound bays s cone history bay back) →
-    IsSoundThroughout bays s cone bay back
-throughout_by bays s cone bay back Failed kept same stays = record {
+    IsUnharmed bays s cone bay back → IsSpared bays s cone bay back
+throughout_by bays s cone bay back Failed kept same stays unharmed = record {
   time = kept.time;
   told = λ seen told. let now = same.told seen told in (now.0, now.1);
   stays = stays;
+  unharmed = unharmed;
 }
 
+-- the bay at hand, which is as it was handed out, is another in its place
+each_back : {B : Type 0} (R : ℕ → B → B → Type 0) (first xs : List B) (old new : B) (ys : List B) → slice_get first (length xs) ≡ Some old → R (length xs) old new →
+    EachBay R first (xs ++ old ∷ ys) → EachBay R first (xs ++ new ∷ ys)
+each_back R first xs old new ys there here each = λ cone before now was is.
+    elim (cases_eq cone (length xs)) [
+      | inl same ↦
+          let old_is : old ≡ before = same_Some old before (sym there ∙ (ap (slice_get first) (sym same) ∙ was)) in
+          let new_is : new ≡ now = same_Some new now (sym (slice_get-seam xs new ys) ∙ (ap (slice_get (xs ++ new ∷ ys)) (sym same) ∙ is)) in
+          subst (λ k. R k before now) (sym same) (subst (R (length xs) before) new_is (subst (λ o. R (length xs) o new) old_is here))
+      | inr other ↦
+          each cone before now was
+          (sym (slice_get-set_other (xs ++ old ∷ ys) (length xs) cone new other) ∙ (ap (λ l. slice_get l cone) (set-seam xs old new ys) ∙ is))
+    ]
+
 module _ {B : Type 0} (bays : Bays B) (lawful : IsLawful bays) (s : Numbers) where
-  still : (cone : ℕ) (bay : B) → IsSoundThroughout bays s cone bay bay
+  still : (cone : ℕ) (bay : B) → IsSpared bays s cone bay bay
   still cone bay = record {
     time = lasts_none (bays.moment bay) (bays.left_since bay);
     told = λ seen told. (seen, told);
     stays = λ seen told history each. stays_none bays lawful history s cone bay each;
+    unharmed = unharmed_none bays s cone bay lawful;
   }
 
-  joins : (cone : ℕ) (a b c : B) → IsSoundThroughout bays s cone a b → IsSoundThroughout bays s cone b c → IsSoundThroughout bays s cone a c
-  joins cone a b c one two = record {
-    time = lasts_on (bays.moment a) (bays.moment b) (bays.moment c) (bays.left_since a) (bays.left_since b) (bays.left_since c) one.time two.time (lawful.since_earlier c);
-    told = λ seen told. let mid = one.told seen told in two.told mid.0 mid.1;
-    stays = λ seen told history each.
-        let first = one.stays seen told history each in
-        let mid = one.told seen told in
-        stays_on bays lawful s cone history a b c one.time.later two.time first
-        (two.stays mid.0 mid.1 history (λ image may. first.each_moment image (now_since bays lawful a b one.time.later image may)));
-  }
+  pub throughout_same : (first : List B) → AreSpared bays s first first
+  throughout_same first = each_same (IsSpared bays s) still first
 
-  pub throughout_same : (first : List B) → AreSoundThroughout bays s first first
-  throughout_same first = each_same (IsSoundThroughout bays s) still first
+module _ {B : Type 0} (bays : Bays B) (s : Numbers) (first : List B) (cones : List (Standing B)) (bay : B) (rest : List B) (there : slice_get first (length cones) ≡ Some bay)
+    (so_far : AreSpared bays s first (bays_of cones ++ bay ∷ rest)) where
+  -- the bay at hand is handed back
+  pub throughout_back : (back : B) → IsSpared bays s (length cones) bay back → AreSpared bays s first (bays_of cones ++ back ∷ rest)
+  throughout_back back one =
+      let number = sym (length-map cones (λ (c : Standing B). c.bay)) in
+      each_back (IsSpared bays s) first (bays_of cones) bay back rest (subst (λ k. slice_get first k ≡ Some bay) number there)
+      (subst (λ k. IsSpared bays s k bay back) number one) so_far
 
-  module _ (first : List B) (cones : List (Standing B)) (bay : B) (rest : List B) (so_far : AreSoundThroughout bays s first (bays_of cones ++ bay ∷ rest)) where
-    -- the bay at hand is handed back
-    pub throughout_back : (back : B) → IsSoundThroughout bays s (length cones) bay back → AreSoundThroughout bays s first (bays_of cones ++ back ∷ rest)
-    throughout_back back one =
-        let number = sym (length-map cones (λ (c : Standing B). c.bay)) in
-        each_more (IsSoundThroughout bays s) joins first (bays_of cones ++ bay ∷ rest) (bays_of cones ++ back ∷ rest)
-        (length-append (bays_of cones) (back ∷ rest) ∙ sym (length-append (bays_of cones) (bay ∷ rest))) so_far
-        (each_seam (IsSoundThroughout bays s) still (bays_of cones) bay back rest (subst (λ k. IsSoundThroughout bays s k bay back) number one))
-
-    -- a cone is opened over it
-    pub throughout_made : (cone : Standing B) → IsSoundThroughout bays s (length cones) bay cone.bay → AreSoundThroughout bays s first (bays_of (cones ++ cone ∷ []) ++ rest)
-    throughout_made cone one = subst (AreSoundThroughout bays s first) (sym (bays_of-push cones cone rest)) (throughout_back cone.bay one)
+  -- a cone is opened over it
+  pub throughout_made : (cone : Standing B) → IsSpared bays s (length cones) bay cone.bay → AreSpared bays s first (bays_of (cones ++ cone ∷ []) ++ rest)
+  throughout_made cone one = subst (AreSpared bays s first) (sym (bays_of-push cones cone rest)) (throughout_back cone.bay one)
 
 -- bays that are put back
 pub returned_sound : {B : Type 0} (bays : Bays B) (s : Numbers) (handed later : List B) (returned : ℕ → Option B) → length later ≡ length handed →
-    ((cone : ℕ) → cone < length later → returned cone ≡ slice_get later cone) → AreSoundThroughout bays s handed later → AreReturnedSound bays s handed returned
+    ((cone : ℕ) → cone < length later → returned cone ≡ slice_get later cone) → AreSpared bays s handed later → AreReturnedSpared bays s handed returned
 returned_sound bays s handed later returned number back throughout cone before now was is =
     throughout cone before now was (sym (back cone (omega (arith, slice_get_within handed cone before was, number))) ∙ is)

@@ -42,7 +42,7 @@ module _ {K B : Type 0} (taken : K → Option (List ℕ)) (sink_faults : K → �
   shows_unopened (Malformed cone file at) same unopened = (unopened, same)
   shows_unopened (OtherSettings cone) same unopened = (unopened, same)
   shows_unopened OutFault same unopened = absurd unopened
-  shows_unopened OutOfMemory same unopened = same
+  shows_unopened OutOfMemory same unopened = (same, unopened)
 
   -- a cone below a number isn't one whose files are sound for no list
   sound_or_not : (number cone : ℕ) → AreSoundBelow files s bays number → cone < number → cone < length bays → IfHeld files bays cone (NoneIsSound s cone) → ⊥

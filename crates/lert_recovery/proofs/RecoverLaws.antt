@@ -16,6 +16,7 @@ use Rattle.lert_io.specs.Fault.{HasRisen}
 use Rattle.lert_files.specs.declared.fault.ReopenFault.{ReopenFault}
 use Rattle.lert_files.specs.declared.fault.ReopenFault.TheVariants as fault
 use Rattle.lert_files.specs.Headed.{HasOther}
+use Rattle.lert_files.specs.Opened.{LeaveAt}
 use Rattle.lert_recover.specs.Reopened.{IsReadOn, IsUnsoundAt}
 use Rattle.lert_recover.specs.Replayed.{AreReplayed, FirstLeaves}
 use Rattle.lert_reports.specs.Log.{is_closed, last_first, last_n0, last_offset, HasLog}
@@ -24,7 +25,7 @@ use Rattle.lert_spec.specs.declared.numbers.Numbers.{Numbers}
 use Rattle.lert_ingest.specs.Bays.{AreLater, AreUntouched, IfHeld, bays_of}
 use Rattle.lert_cones.specs.Print.{state_of}
 use Rattle.lert_cones.specs.Print.{ArePrintable, printed_as}
-use Rattle.lert_recovery.specs.Recovered.{AreCounted, AreOpenOver, AreRecovered, IsOpenOver, IsRecovered, IsUnopened, LowerAreFormed, printed_for, reopen_status}
+use Rattle.lert_recovery.specs.Recovered.{AreCounted, AreOpenOver, AreRecovered, IsOpenOver, IsRecovered, IsUnopened, LowerAreFormed, OfBay, printed_for, reopen_status}
 use Rattle.lert_ingest.proofs.BayLaws.{bay_at, bay_is, slice_get-seam, slice_get-some}
 use Rattle.lert_cones.proofs.EndLaws.{printed_at}
 
@@ -66,7 +67,7 @@ counted_on s cone seen events gate count count_is read =
     }
 
 -- what a cone that isn't reopened says of its files
-pub record WasRefused {B : Type 0} (files : B → Option Files) (s : Numbers) (cone : ℕ) (bay : B) (refusal : ReopenFault) : Type 0 where
+pub record WasRefused {B : Type 0} (files : B → Option Files) (s : Numbers) (cone : ℕ) (bay back : B) (refusal : ReopenFault) : Type 0 where
   pub malformed : IfTold (files bay) (λ seen. (file at : ℕ) → refusal ≡ fault.Malformed file at → FirstLeaves s cone seen file at ⊎ IsUnsoundAt s cone seen file at)
   pub other_is : IfTold (files bay) (λ seen. (kept : Kept) → refusal ≡ fault.OtherSettings kept → HasOther s cone (seen 0) kept)
   pub refuses : IfTold (files bay) (λ seen. (file at : ℕ) → FirstLeaves s cone seen file at →
@@ -74,6 +75,8 @@ pub record WasRefused {B : Type 0} (files : B → Option Files) (s : Numbers) (c
   pub differs : IfTold (files bay) (λ seen. (kept : Kept) → HasOther s cone (seen 0) kept →
       (refusal ≡ fault.Failed) ⊎ (refusal ≡ fault.OtherSettings kept))
   pub opens : IfTold (files bay) (λ seen. (history : List Packet) → IsSound s cone history seen → refusal ≡ fault.Failed)
+  pub unread : IfTold (files bay) (λ seen. (file at : ℕ) → LeaveAt s cone seen file at → files back ≡ files bay)
+  pub untouched : (kept : Kept) → refusal ≡ fault.OtherSettings kept → files back ≡ files bay
 
 module _ {B : Type 0} (files : B → Option Files) (leaves : B → Files → Type 0) (faults mark : B → ℕ) where
   -- a cone that was reopened over a bay
@@ -118,7 +121,7 @@ module _ {B : Type 0} (files : B → Option Files) (leaves : B → Files → Typ
         let opened = open_so_far other cone.0 cone.1 held found in
         (opened.formed seen told, opened.own seen told)
 
-    module _ (back : B) (refusal : ReopenFault) (why : WasRefused files s (length cones) bay refusal) (failed : refusal ≡ fault.Failed → HasRisen (faults bay) (faults back))
+    module _ (back : B) (refusal : ReopenFault) (why : WasRefused files s (length cones) bay back refusal) (failed : refusal ≡ fault.Failed → HasRisen (faults bay) (faults back))
         (untouched : AreUntouched (length cones) bays (bays_of cones ++ back ∷ rest)) where
       abbrev later : List B
       later = bays_of cones ++ back ∷ rest
@@ -128,6 +131,10 @@ module _ {B : Type 0} (files : B → Option Files) (leaves : B → Files → Typ
 
       of_bay : (P : Files → Type 0) → IfTold (files bay) P → IfHeld files bays (length cones) P
       of_bay P holds = λ other found. subst (λ b. IfTold (files b) P) (same_Some bay other (sym there ∙ found)) holds
+
+      of_back : (R : B → B → Type 0) → R bay back → OfBay (length cones) R bays later
+      of_back R holds = λ before now was is.
+          subst (λ b. R b now) (same_Some bay before (sym there ∙ was)) (subst (R bay) (same_Some back now (sym back_there ∙ is)) holds)
 
       unopened_as : (f : ReopenFault) → refusal ≡ f → IsUnopened files faults s bays later (reopen_status (length cones) f)
       unopened_as fault.Failed is = (record { before = bay; now = back; was = there; is = back_there; rose = failed is }, lower, untouched)
@@ -144,6 +151,7 @@ module _ {B : Type 0} (files : B → Option Files) (leaves : B → Files → Typ
             | inl failed_is ↦ let clash = sym is ∙ failed_is in cc
             | inr same ↦ let clash = sym is ∙ same in cc
           ]);
+          kept = of_back _ (λ seen told leaves_there. why.unread seen told file at leaves_there);
         },
         lower,
         untouched,
@@ -157,6 +165,7 @@ module _ {B : Type 0} (files : B → Option Files) (leaves : B → Files → Typ
             | inl failed_is ↦ let clash = sym is ∙ failed_is in cc
             | inr same ↦ let clash = sym is ∙ same in cc
           ]);
+          kept = of_back _ (why.untouched kept is);
         },
         lower,
         untouched,

@@ -1,4 +1,4 @@
--- What a stop inside a recovery leaves of its bays.
+-- What a recovery leaves of its bays, and a stop inside it.
 use Rattle.std.specs.Prelude.{◌≡◌, ℕ, List, Option, Some, slice_get}
 use Rattle.lert_base.specs.Packet.{Packet}
 use Rattle.lert_bay.specs.Files.{Files, IfTold}
@@ -6,20 +6,24 @@ use Rattle.lert_bay.specs.Images.{Lasts}
 use Rattle.lert_bay.specs.Kept.{Bays}
 use Rattle.lert_cone.specs.Sound.{StaysSound}
 use Rattle.lert_recover.specs.Moments.{AreSound}
+use Rattle.lert_recover.specs.Unharmed.{IsUnharmed}
 use Rattle.lert_spec.specs.declared.numbers.Numbers.{Numbers}
 use Rattle.lert_ingest.specs.Bays.{EachBay}
 
 -- From one state of a cone's bay to another time goes on, and told files stay told. Where they are told and every image is sound
--- for a list, so is every image of each moment between, and so are the files as they are read then.
-pub record IsSoundThroughout {B : Type 0} (bays : Bays B) (s : Numbers) (cone : ℕ) (before now : B) : Type 0 where
+-- for a list, so is every image of each moment between, and so are the files as they are read then. And files for which there is no
+-- such list are unharmed: where they leave their format before the records of the journal, or begin with other numbers, nothing is
+-- written over them, and else a log in its format keeps its records.
+pub record IsSpared {B : Type 0} (bays : Bays B) (s : Numbers) (cone : ℕ) (before now : B) : Type 0 where
   pub time : Lasts (bays.moment before) (bays.moment now) (bays.left_since before) (bays.left_since now)
   pub told : (seen : Files) → bays.files before ≡ Some seen → (there : Files) × (bays.files now ≡ Some there)
   pub stays : IfTold (bays.files before) (λ _. (history : List Packet) → AreSound (bays.leaves before) s cone history → StaysSound bays s cone history before now)
+  pub unharmed : IsUnharmed bays s cone before now
 
 -- that of each bay
-abbrev pub AreSoundThroughout : {B : Type 0} → Bays B → Numbers → List B → List B → Type 0
-AreSoundThroughout bays s first later = EachBay (IsSoundThroughout bays s) first later
+abbrev pub AreSpared : {B : Type 0} → Bays B → Numbers → List B → List B → Type 0
+AreSpared bays s first later = EachBay (IsSpared bays s) first later
 
 -- that of each bay that was handed out and put back
-abbrev pub AreReturnedSound : {B : Type 0} → Bays B → Numbers → List B → (ℕ → Option B) → Type 0
-AreReturnedSound {B = B} bays s handed returned = (cone : ℕ) (before now : B) → slice_get handed cone ≡ Some before → returned cone ≡ Some now → IsSoundThroughout bays s cone before now
+abbrev pub AreReturnedSpared : {B : Type 0} → Bays B → Numbers → List B → (ℕ → Option B) → Type 0
+AreReturnedSpared {B = B} bays s handed returned = (cone : ℕ) (before now : B) → slice_get handed cone ≡ Some before → returned cone ≡ Some now → IsSpared bays s cone before now

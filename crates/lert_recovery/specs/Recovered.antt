@@ -1,5 +1,5 @@
 -- What a recovery says of the bays that it opened, and of the text that it wrote.
-use Rattle.std.specs.Prelude.{◌≡◌, ◌≢◌, ◌⊎◌, ℕ, ◌+◌, ◌-◌, Bool, ◌^◌, ◌<◌, List, ◌++◌, length, Option, Some, slice_get, ⊤, if◌then◌else◌}
+use Rattle.std.specs.Prelude.{◌≡◌, ◌≢◌, ◌⊎◌, ℕ, ◌+◌, ◌-◌, Bool, ◌^◌, ◌<◌, List, ◌++◌, length, Option, Some, slice_get, if◌then◌else◌}
 use Rattle.lert_base.specs.declared.kept.Kept.{Kept}
 use Rattle.lert_base.specs.Packet.{Packet, events_of}
 use Rattle.lert_bay.specs.Files.{Files, IfTold}
@@ -11,6 +11,7 @@ use Rattle.lert_io.specs.Reading as reading
 use Rattle.lert_files.specs.declared.fault.ReopenFault.{ReopenFault}
 use Rattle.lert_files.specs.declared.fault.ReopenFault.TheVariants as fault
 use Rattle.lert_files.specs.Headed.{HasOther}
+use Rattle.lert_files.specs.Opened.{LeaveAt}
 use Rattle.lert_recover.specs.Reopened.{IsReadOn, IsUnsoundAt}
 use Rattle.lert_recover.specs.Replayed.{FirstLeaves, IsJournalSame, JournalEnds}
 use Rattle.lert_reports.specs.Log.{is_closed, last_first, last_n0, last_offset, HasLog}
@@ -91,21 +92,29 @@ AreOpenOver {B = B} files leaves faults s bays cones = (number : ℕ) (cone : St
 abbrev pub NoneIsSound : Numbers → ℕ → Files → Type 0
 NoneIsSound s cone seen = (history : List Packet) → IsSound s cone history seen → ⊥
 
+-- what is so of the bay of a cone, as it was and as it is
+abbrev pub OfBay : {B : Type 0} → ℕ → (B → B → Type 0) → List B → List B → Type 0
+OfBay {B = B} cone R bays later = (before now : B) → slice_get bays cone ≡ Some before → slice_get later cone ≡ Some now → R before now
+
 -- The files of a cone are sound for no list. They first leave their format at this place, or, where they leave it nowhere, it is the
--- start of the log. They don't begin with other numbers.
-pub record IsSpoiled {B : Type 0} (files : B → Option Files) (s : Numbers) (bays : List B) (cone file at : ℕ) : Type 0 where
+-- start of the log. They don't begin with other numbers. Where the place stands before the records of the journal, they are as they were,
+-- byte for byte.
+pub record IsSpoiled {B : Type 0} (files : B → Option Files) (s : Numbers) (bays later : List B) (cone file at : ℕ) : Type 0 where
   pub named : cone < length bays
   pub told : IfHeld files bays cone (λ seen. FirstLeaves s cone seen file at ⊎ IsUnsoundAt s cone seen file at)
   pub first : IfHeld files bays cone (λ seen. (other place : ℕ) → FirstLeaves s cone seen other place → (file ≡ other) × (at ≡ place))
   pub unsound : IfHeld files bays cone (NoneIsSound s cone)
   pub own : IfHeld files bays cone (λ seen. (kept : Kept) → HasOther s cone (seen 0) kept → ⊥)
+  pub kept : OfBay cone (λ before now. IfTold (files before) (λ seen. LeaveAt s cone seen file at → files now ≡ files before)) bays later
 
--- the journal of a cone begins with other numbers, and so the files are sound for no list and leave no format
-pub record IsOther {B : Type 0} (files : B → Option Files) (s : Numbers) (bays : List B) (cone : ℕ) : Type 0 where
+-- The journal of a cone begins with other numbers, and so the files are sound for no list and leave no format. They are as they were,
+-- byte for byte.
+pub record IsOther {B : Type 0} (files : B → Option Files) (s : Numbers) (bays later : List B) (cone : ℕ) : Type 0 where
   pub named : cone < length bays
   pub told : IfHeld files bays cone (λ seen. (kept : Kept) × HasOther s cone (seen 0) kept)
   pub unsound : IfHeld files bays cone (NoneIsSound s cone)
   pub formed : IfHeld files bays cone (λ seen. (file at : ℕ) → FirstLeaves s cone seen file at → ⊥)
+  pub kept : OfBay cone (λ before now. files now ≡ files before) bays later
 
 -- no cone below one leaves its format, or begins with other numbers
 abbrev pub LowerAreFormed : {B : Type 0} → (B → Option Files) → Numbers → List B → ℕ → Type 0
@@ -119,7 +128,8 @@ reopen_status cone (fault.Malformed file at) = Malformed cone file at
 reopen_status cone (fault.OtherSettings kept) = OtherSettings cone
 
 -- Why it stops, by the bays as they were opened and as they are put back. A cone that is named is the first that isn't opened:
--- those below it were, and the bays behind it are as they were handed out.
+-- those below it were, and the bays behind it are as they were handed out. With want of memory no cone is opened, and all bays are as
+-- they were handed out.
 abbrev pub IsUnopened : {B : Type 0} → (B → Option Files) → (B → ℕ) → Numbers → List B → List B → Status → Type 0
 IsUnopened files faults s bays later Done = ⊥
 IsUnopened files faults s bays later (Usage rule) = ⊥
@@ -130,10 +140,10 @@ IsUnopened files faults s bays later (TooLong trace) = ⊥
 IsUnopened files faults s bays later (NotFresh cone) = ⊥
 IsUnopened files faults s bays later (BayFault cone) = HasFailed faults bays later cone × LowerAreFormed files s bays cone × AreUntouched cone bays later
 IsUnopened files faults s bays later (CapacityFull cone n len) = ⊥
-IsUnopened files faults s bays later (Malformed cone file at) = IsSpoiled files s bays cone file at × LowerAreFormed files s bays cone × AreUntouched cone bays later
-IsUnopened files faults s bays later (OtherSettings cone) = IsOther files s bays cone × LowerAreFormed files s bays cone × AreUntouched cone bays later
+IsUnopened files faults s bays later (Malformed cone file at) = IsSpoiled files s bays later cone file at × LowerAreFormed files s bays cone × AreUntouched cone bays later
+IsUnopened files faults s bays later (OtherSettings cone) = IsOther files s bays later cone × LowerAreFormed files s bays cone × AreUntouched cone bays later
 IsUnopened files faults s bays later OutFault = ⊥
-IsUnopened files faults s bays later OutOfMemory = ⊤
+IsUnopened files faults s bays later OutOfMemory = later ≡ bays
 
 -- ---- the whole
 
@@ -169,11 +179,11 @@ module _ {K B : Type 0} (taken : K → Option (List ℕ)) (sink_faults : K → �
   RecoveryShows (NotFresh cone) = ⊥
   RecoveryShows (BayFault cone) = (HasFailed bay_faults bays later cone × LowerAreFormed files s bays cone × AreUntouched cone bays later) × (after ≡ before)
   RecoveryShows (CapacityFull cone n len) = ⊥
-  RecoveryShows (Malformed cone file at) = (IsSpoiled files s bays cone file at × LowerAreFormed files s bays cone × AreUntouched cone bays later) × (after ≡ before)
-  RecoveryShows (OtherSettings cone) = (IsOther files s bays cone × LowerAreFormed files s bays cone × AreUntouched cone bays later) × (after ≡ before)
+  RecoveryShows (Malformed cone file at) = (IsSpoiled files s bays later cone file at × LowerAreFormed files s bays cone × AreUntouched cone bays later) × (after ≡ before)
+  RecoveryShows (OtherSettings cone) = (IsOther files s bays later cone × LowerAreFormed files s bays cone × AreUntouched cone bays later) × (after ≡ before)
   RecoveryShows OutFault = HasRisen (sink_faults before) (sink_faults after) × LowerAreFormed files s bays (length bays)
       × ((cones : List Printed) × AreRecovered files s bays later cones × IsCut (taken before) (taken after) (lines cones))
-  RecoveryShows OutOfMemory = after ≡ before
+  RecoveryShows OutOfMemory = (after ≡ before) × (later ≡ bays)
 
   -- A recovery over bays that were opened: what its status says, and which one comes where no fault was counted. Bays that all
   -- tell sound files are answered with the text; and where those below a cone do, and that one's files leave their format or

@@ -6,7 +6,7 @@ ghost use Rattle.lert_io.specs.Fault.{HasRisen};
 ghost use Rattle.lert_cones.specs.Asked.{IsAskedForBays};
 ghost use Rattle.lert_place.specs.Openings.{AreReturned, AreReturnedSame, bays_granted};
 ghost use Rattle.lert_ingest.specs.Bays.{AreLater};
-ghost use Rattle.lert_recovery.specs.Moments.{AreReturnedSound, AreSoundThroughout};
+ghost use Rattle.lert_recovery.specs.Moments.{AreReturnedSpared, AreSpared};
 ghost use Rattle.lert_recovery.specs.Recovered.{AreJournalsSame, AreSoundStill, HasRecovered, RecoveryShows};
 
 use crate::reopened_cones::reopen_cones;
@@ -22,9 +22,10 @@ use std::collections::VecDeque;
 
 /// Opens what runs with these settings left of all cones in a directory, and prints it. It opens the bays, takes the memory of
 /// all cones, reopens these in ascending order, up to the first that is refused, prints, and puts the bays back, whatever the
-/// status. It finishes no cone, changes no journal, and leaves files sound that were so. Of a journal it reads the header and the
-/// records from the one on that the cone's log names; damage before that isn't found. Nothing is written to the sink before all
-/// cones are open.
+/// status. It finishes no cone, changes no journal, and leaves files sound that were so. Files of other settings, and files that
+/// leave their format before the records of the journal, it leaves as they were, byte for byte, and where the memory is wanting all
+/// bays; in any case a log in its format keeps its records as a beginning. Of a journal it reads the header and the records from the one on that the cone's log names; damage before that isn't
+/// found. Nothing is written to the sink before all cones are open.
 pub fn recover_to<P: Place, K: Sink>(
     alloc: Global,
     settings: &Settings,
@@ -43,8 +44,9 @@ pub fn recover_to<P: Place, K: Sink>(
         ((cone : ℕ) → cone < length backs → P.returned_bay place.new cone ≡ slice_get backs cone)
         × AreLater P.Bay.files P.Bay.faults P.Bay.mark (P.handed_bays place.new) backs
         × HasRecovered K.taken K.faults P.Bay.files P.Bay.faults settings.now out.old out.new (P.handed_bays place.new) backs result }
-    // A stop at any moment of it leaves what another recovery may open.
-    ensures each_moment { result ≢ Status.PlaceFault → AreReturnedSound P.Bay.Bay settings.now (P.handed_bays place.new) (P.returned_bay place.new) }
+    // A stop at any moment of it leaves what another recovery may open, and, of files that are refused before the records of their
+    // journal, what was there.
+    ensures each_moment { result ≢ Status.PlaceFault → AreReturnedSpared P.Bay.Bay settings.now (P.handed_bays place.new) (P.returned_bay place.new) }
     ensures no_usage { (rule : ℕ) → result ≡ Status.Usage rule → ⊥ }
     ensures traces { P.handed_traces place.new ≡ P.handed_traces place.old }
 {
@@ -69,7 +71,7 @@ fn recover_bays<B: Bay, K: Sink>(
     ensures later { AreLater B.files B.faults B.mark bays.old.items bays.new.items }
     ensures journals { AreJournalsSame B.files bays.old.items bays.new.items }
     ensures stays_sound { AreSoundStill B.files settings.now bays.old.items bays.new.items }
-    ensures each_moment { AreSoundThroughout B.Bay settings.now bays.old.items bays.new.items }
+    ensures each_moment { AreSpared B.Bay settings.now bays.old.items bays.new.items }
     ensures shows { RecoveryShows K.taken K.faults B.files B.faults settings.now out.old out.new bays.old.items bays.new.items result }
 {
     // Its clause says that the numbers are valid.

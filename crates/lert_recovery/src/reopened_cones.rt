@@ -4,7 +4,7 @@ ghost use Rattle.std.specs.Prelude.{◌≡◌, ℕ, ◌+◌, ◌^◌, ◌<◌, �
 ghost use Rattle.std.specs.VecDeque.{deque_capacity};
 ghost use Rattle.lert_ingest.specs.Bays.{AreLater, bays_of};
 ghost use Rattle.lert_ingest.specs.Cones.{IsNewRoom};
-ghost use Rattle.lert_recovery.specs.Moments.{AreSoundThroughout};
+ghost use Rattle.lert_recovery.specs.Moments.{AreSpared};
 ghost use Rattle.lert_recovery.specs.Recovered.{AreJournalsSame, AreOpenOver, AreSoundStill, IsUnopened, reopen_status};
 
 use lert_base::Settings;
@@ -18,7 +18,7 @@ use std::alloc::Global;
 use std::collections::VecDeque;
 
 /// Opens cones over the files of all bays, in ascending order, for which the memory is taken first, up to the first that is
-/// refused. A refusal leaves the bays, and Ok an emptied list with room for them.
+/// refused. A refusal leaves the bays, just as they were where the memory is wanting, and Ok an emptied list with room for them.
 pub fn reopen_cones<B: Bay>(
     alloc: Global,
     settings: &Settings,
@@ -36,8 +36,8 @@ pub fn reopen_cones<B: Bay>(
     ensures journals_kept { OnErr result (AreJournalsSame B.files bays.old.items bays.new.items) }
     ensures stays_sound { IfOk result (λ cones. AreSoundStill B.files settings.now bays.old.items (bays_of cones.items)) }
     ensures stays_sound_kept { OnErr result (AreSoundStill B.files settings.now bays.old.items bays.new.items) }
-    ensures each_moment { IfOk result (λ cones. AreSoundThroughout B.Bay settings.now bays.old.items (bays_of cones.items)) }
-    ensures each_moment_kept { OnErr result (AreSoundThroughout B.Bay settings.now bays.old.items bays.new.items) }
+    ensures each_moment { IfOk result (λ cones. AreSpared B.Bay settings.now bays.old.items (bays_of cones.items)) }
+    ensures each_moment_kept { OnErr result (AreSpared B.Bay settings.now bays.old.items bays.new.items) }
     ensures unopened { IfErr result (IsUnopened B.files B.faults settings.now bays.old.items bays.new.items) }
 {
     let mut rooms = make_rooms_alone(alloc, settings, settings.cones())?;
@@ -74,7 +74,7 @@ fn reopen_rooms<B: Bay>(
     ensures later { AreLater B.files B.faults B.mark bays.old.items (bays_of cones.new.items ++ bays.new.items) }
     ensures journals { AreJournalsSame B.files bays.old.items (bays_of cones.new.items ++ bays.new.items) }
     ensures stays_sound { AreSoundStill B.files settings.now bays.old.items (bays_of cones.new.items ++ bays.new.items) }
-    ensures each_moment { AreSoundThroughout B.Bay settings.now bays.old.items (bays_of cones.new.items ++ bays.new.items) }
+    ensures each_moment { AreSpared B.Bay settings.now bays.old.items (bays_of cones.new.items ++ bays.new.items) }
     ensures unopened { IfErr result (IsUnopened B.files B.faults settings.now bays.old.items (bays_of cones.new.items ++ bays.new.items)) }
 {
     for number in 0..settings.cones() {

@@ -11,7 +11,7 @@ use Rattle.lert_ingest.specs.declared.status.Status.TheVariants.{OutOfMemory, Pl
 use Rattle.lert_recovery.proofs.JournalLaws.{journals_same}
 use Rattle.lert_recovery.proofs.RecoverEnding.{has_recovered}
 use Rattle.lert_recovery.proofs.SoundLaws.{sound_same}
-use Rattle.lert_recovery.specs.Moments.{AreReturnedSound}
+use Rattle.lert_recovery.specs.Moments.{AreReturnedSpared}
 use Rattle.lert_recovery.specs.Recovered.{HasRecovered}
 use Rattle.lert_run.specs.Ran.{HasPutBack}
 use Rattle.lert_spec.specs.declared.numbers.Numbers.{Numbers}
@@ -27,7 +27,7 @@ pub below_none : {P : Type 0} (number : ℕ) → number < 0 → P
 below_none number within = absurd (omega (arith, within))
 
 module _ {B : Type 0} (handed : List B) (none : handed ≡ []) where
-  pub sound_none : (bays : Bays B) (s : Numbers) (returned : ℕ → Option B) → AreReturnedSound bays s handed returned
+  pub sound_none : (bays : Bays B) (s : Numbers) (returned : ℕ → Option B) → AreReturnedSpared bays s handed returned
   sound_none bays s returned cone before now was is =
       below_none cone (subst (λ (xs : List B). cone < length xs) none (slice_get_within handed cone before was))
 
@@ -39,7 +39,7 @@ module _ {B : Type 0} (handed : List B) (none : handed ≡ []) where
         HasRecovered taken sink_faults files faults s out out handed [] OutOfMemory
     recovered_none taken sink_faults s out =
         subst (λ (bays : List B). HasRecovered taken sink_faults files faults s out out bays [] OutOfMemory) (sym none)
-        (has_recovered taken sink_faults files faults s out out [] [] OutOfMemory refl
+        (has_recovered taken sink_faults files faults s out out [] [] OutOfMemory (refl, refl)
         (λ other. absurd (other refl)) (journals_same files []) (sound_same files s []))
 
     pub put_back_none : {S : Type 0} (trace_faults trace_mark : S → ℕ) (traces : List S) → traces ≡ [] →

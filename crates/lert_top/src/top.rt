@@ -14,7 +14,7 @@ ghost use Rattle.lert_run.specs.Ran.{HasPutBack};
 ghost use Rattle.lert_run.specs.Run.{HasRun};
 ghost use Rattle.lert_spec.specs.declared.numbers.Numbers.{Numbers};
 ghost use Rattle.lert_top.specs.Generated.{TraceShows};
-ghost use Rattle.lert_recovery.specs.Moments.{AreReturnedSound};
+ghost use Rattle.lert_recovery.specs.Moments.{AreReturnedSpared};
 ghost use Rattle.lert_recovery.specs.Recovered.{HasRecovered};
 
 use crate::generate::gen_to;
@@ -78,7 +78,7 @@ pub fn run<P: Place, K: Sink, R: Threads + Wait + Sync>(
         × AreLater P.Bay.files P.Bay.faults P.Bay.mark (P.handed_bays place.new) backs
         × HasRecovered K.taken K.faults P.Bay.files P.Bay.faults settings out.old out.new (P.handed_bays place.new) backs result }
     ensures each_moment { (settings : Numbers) (dir : ℕ) → command words.now ≡ Some (Line.Recover settings dir) → usage words.now ≡ None →
-        result ≢ Status.PlaceFault → AreReturnedSound P.Bay.Bay settings (P.handed_bays place.new) (P.returned_bay place.new) }
+        result ≢ Status.PlaceFault → AreReturnedSpared P.Bay.Bay settings (P.handed_bays place.new) (P.returned_bay place.new) }
     // The lines that generate keys ask for nothing.
     ensures generated { (seed events : ℕ) → command words.now ≡ Some (Line.Gen seed events) → usage words.now ≡ None → (place.new ≡ place.old)
         × (((result ≡ Status.OutOfMemory) × (out.new ≡ out.old)) ⊎ TraceShows K.taken K.faults seed events out.old out.new result) }

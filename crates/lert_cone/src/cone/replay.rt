@@ -11,6 +11,7 @@ ghost use Rattle.lert_levels.specs.Flushed.{InNamed};
 ghost use Rattle.lert_reports.specs.Log.{HasLog, most_record};
 ghost use Rattle.lert_reports.specs.LogText.{LogRecord};
 ghost use Rattle.lert_cone.specs.Framed.{HoldsSome};
+ghost use Rattle.lert_cone.specs.KeepsLog.{IsHeadOf, KeepsLogOf, head_of};
 ghost use Rattle.lert_cone.specs.Marks.{marked_from};
 ghost use Rattle.lert_cone.specs.Reads.{replay_cost};
 ghost use Rattle.lert_cone.specs.Replay.{IsLastOf};
@@ -67,6 +68,11 @@ impl<B: Bay, T: CountTable> Cone<B, T> {
           last = last;
         } }
 
+        // Where the point and the room say what the log of these files does, the cone goes on with its records.
+        ensures log { IfTold (B.files bay) (λ seen. (records : List LogRecord) → HasLog room.settings cone (seen LOG) records last.log_end →
+            IsLastOf room.settings last.n0 last.offset last.first last.closed room.levels.rows room.store.reports records →
+            IsHeadOf room.settings records (head_of result) (seen LOG)) }
+
         // Where these files are sound for a list, and the point and the room say what their log does, the cone is on its way
         // through that list's journal: it has the keys of the first packets.
         ensures replays { IfTold (B.files bay) (λ seen. (records : List LogRecord) → HasLog room.settings cone (seen LOG) records last.log_end →
@@ -111,7 +117,8 @@ impl<B: Bay, T: CountTable> Cone<B, T> {
     /// closed gate with as many keys before it as the log's last record has. The keys up to that record's place are only counted
     /// again, and the others are taken as those of a packet that is admitted, with the calls of the bay that they cost there;
     /// nothing is written to the journal. After a refusal the cone is broken, and is good for its bay alone: files that were sound
-    /// for a list are so still, and they are as they were where no flush position lies among the record's keys.
+    /// for a list are so still, and they are as they were where no flush position lies among the record's keys, or where the record
+    /// leaves the format. The log keeps its records in any case, also of files that are sound for no list.
     pub fn replay(&mut self, gate: u64) -> Result<Option<u64>, ReplayFault>
         requires replaying { self.old.state ≡ ConeState.Replaying }
         requires reach { gate ≤ 2 ^ 62 }
@@ -135,10 +142,17 @@ impl<B: Bay, T: CountTable> Cone<B, T> {
             GoesOn B.files B.leaves self.new h done result) }
 
         // Whatever it answers, the files stay sound for that list, at each moment of the call and as the bay then reads them; and
-        // they are as they were where no packet stands at the gate that brings a flush, also where it refuses.
+        // they are as they were where no packet stands at the gate that the cone may take and that brings a flush.
         ensures stays_sound { IfTold (B.files self.old.bay) (λ _. (h done : List Packet) → Replays B.files B.leaves self.old h done → gate ≡ self.old.gate →
             StaysSound B.Bay self.old.listing.settings self.old.listing.cone h self.old.bay self.new.bay) }
         ensures unflushed { IfTold (B.files self.old.bay) (λ seen. BringsNoFlush self.old (seen JOURNAL) gate → IsUnwritten B.Bay self.old.bay self.new.bay) }
+
+        // Told or not, a record that leaves the format is only read.
+        ensures malformed { (at : ℕ) → IsErrOf result (ReplayFault.Malformed at) → IsUnwritten B.Bay self.old.bay self.new.bay }
+
+        // Whatever it answers, and whether or not the files are sound for a list, the log keeps its records, and what the frames
+        // hold that its last one names.
+        ensures log { KeepsLogOf B.Bay self.old.listing.settings (head_of self.old) (head_of self.new) self.old.bay self.new.bay result }
 
         // Where the frames hold the bins of some events, whatever these are, they do so again, and none is found malformed.
         ensures framed { IfTold (B.files self.old.bay) (λ seen. HoldsSome self.old.listing.settings (max self.old.last.n0 (length self.old.listing.events)) self.old.rows (seen FRAMES) →

@@ -1,4 +1,6 @@
 use Rattle.std.proofs.Common.{◌≡◌, ◌++◌, Bool, length}
+use Rattle.lert_bay.specs.Kept.{Bays}
+use Rattle.lert_bay.proofs.KeptLaws.{IsLawful}
 use Rattle.lert_cone.specs.declared.state.ConeState.TheVariants.{Finished, Running}
 use Rattle.lert_cone.specs.Stands.{Standing, StandsFor}
 use Rattle.std.specs.Prelude.{if◌then◌else◌}
@@ -8,7 +10,23 @@ use Rattle.lert_recover.specs.declared.recovery.ReopenRefused.{ReopenRefused}
 use Rattle.lert_recover.proofs.FinalLaws.{closed_told, differs_told, journal_told, malformed_told, other_told, refuses_told, sound_told, whole_told}
 use Rattle.lert_recover.proofs.ReopenLaws.{ok_on}
 use Rattle.lert_recover.proofs.ShownLaws.{reports_told, shown_told}
+use Rattle.lert_recover.proofs.UnharmedLaws.{other_quiet}
+use Rattle.lert_recover.proofs.recovery.reopen.Given as given
 use Rattle.lert_recover.proofs.recovery.reopen.Goals as goal
+
+abbrev bays : (g : given.Over) → Bays g.row.B.Denot
+bays g = record {
+  faults = g.B.Faulty.faults;
+  mark = g.B.Faulty.mark;
+  files = g.B.Bay.files;
+  leaves = g.B.Bay.leaves;
+  moment = g.B.Bay.moment;
+  left_since = g.B.Bay.left_since;
+  handed_out = g.B.Bay.handed_out;
+}
+
+lawful : (g : given.Over) → IsLawful (bays g)
+lawful g = record { as_read = g.met.B.Bay.as_read; since_now = g.met.B.Bay.since_now; only_now = g.met.B.Bay.only_now; since_earlier = g.met.B.Bay.since_earlier }
 
 pub returns-clause-journal : goal.returns-clause-journal
 returns-clause-journal g c seen told =
@@ -39,6 +57,12 @@ returns-clause-other g c seen told =
     other_told c.args.room.settings c.args.cone c.requires.room.valid c.requires.named c.ranges.cone.fits seen
     (λ (now : Standing g.row.B.Denot). now.listing.closed) (λ (now : Standing g.row.B.Denot). now.listing.events) (λ (now : Standing g.row.B.Denot). now.gate)
     (λ (refused : ReopenRefused g.row.B.Denot). refused.fault) c.reopen_in_order.result (c.reopen_in_order.ensures.told seen told)
+
+pub returns-clause-other_untouched : goal.returns-clause-other_untouched
+returns-clause-other_untouched g c =
+    other_quiet (bays g) c.args.room.settings c.args.cone c.args.bay (lawful g) (λ (refused : ReopenRefused g.row.B.Denot). refused.bay)
+    (λ (refused : ReopenRefused g.row.B.Denot). refused.fault) c.reopen_in_order.result
+    (record { reads = c.reopen_in_order.ensures.reads; kept = c.reopen_in_order.ensures.kept }) (returns-clause-other g c) c.reopen_in_order.ensures.unharmed
 
 pub returns-clause-refuses : goal.returns-clause-refuses
 returns-clause-refuses g c seen told =

@@ -4,7 +4,7 @@ use Rattle.std.proofs.lemmas.Option.{same_Some}
 use Rattle.std.proofs.lemmas.Result.{IfErr-weaker}
 use Rattle.std.specs.Prelude.{All, IfOk, MatchResult, if◌then◌else◌}
 use Rattle.lert_base.specs.Packet.{Packet, events_of}
-use Rattle.lert_bay.specs.declared.bay.TheConstants.{JOURNAL, FRAMES}
+use Rattle.lert_bay.specs.declared.bay.TheConstants.{JOURNAL, LOG, FRAMES}
 use Rattle.lert_bay.specs.Files.{Files}
 use Rattle.lert_bay.specs.Kept.{Bays}
 use Rattle.lert_bay.proofs.KeptLaws.{IsLawful, calls_as}
@@ -13,6 +13,7 @@ use Rattle.lert_cone.specs.declared.state.ConeState.TheVariants.{Finished, Runni
 use Rattle.lert_cone.specs.Framed.{HoldsSome}
 use Rattle.lert_cone.specs.Sound.{IsSound}
 use Rattle.lert_cone.specs.Stands.{Standing, StandsFor, WasSound}
+use Rattle.lert_cone.specs.Wrote.{IsShutIfTold}
 use Rattle.lert_cone.proofs.TotalLaws.{edge_within}
 use Rattle.lert_cone.proofs.UnreadLaws.{length_unread}
 use Rattle.lert_files.specs.declared.fault.ReopenFault.TheVariants.{Failed}
@@ -28,10 +29,12 @@ use Rattle.lert_reports.specs.Stored.{Stored}
 use Rattle.lert_spec.specs.declared.numbers.Numbers.{Numbers}
 use Rattle.lert_spec.specs.Limits.{IsValid}
 use Rattle.lert_recover.proofs.BayLaws.{bay_before, made_of, own_of, quiet_before}
+use Rattle.lert_recover.proofs.LoggedLaws.{logs_in}
 use Rattle.lert_recover.proofs.MomentLaws.{stays_made, stays_quiet}
 use Rattle.lert_recover.proofs.ReplayingLaws.{journal_same}
 use Rattle.lert_recover.proofs.ReopenLaws.{fails_on, frames_settled, journal_settled, last_of, log_shut, ok_on, read_before, refused_before, reopened_of, sound_opened, stands_on}
 use Rattle.lert_recover.proofs.SomeEvents.{some_events}
+use Rattle.lert_recover.proofs.UnharmedLaws.{unharmed_opened, unharmed_quiet}
 use Rattle.lert_recover.proofs.recovery.reopen_in_order.Given as given
 use Rattle.lert_recover.proofs.recovery.reopen_in_order.Goals as goal
 
@@ -115,6 +118,11 @@ replay_journal-requires g c =
     let events_are = ap (λ (k : Standing g.row.B.Denot). k.events) made in
     let count = ap (λ (k : Standing g.row.B.Denot). length k.listing.events) made
     ∙ length_unread c.args.room.settings c.args.cone (end.first - 1) (g.B.Bay.files c.read_files.new.bay) in
+    let shut : IsShutIfTold (g.B.Bay.files c.read_files.new.bay) (g.B.Bay.leaves c.read_files.new.bay) LOG end.log_end =
+    λ seen told.
+    let before = sym c.read_files.ensures.quiet.seen ∙ told in
+    let opened = (c.in-Ok.ensures.opened seen before).2 in
+    log_shut (g.B.Bay.leaves c.read_files.new.bay) seen (c.in-Ok.ensures.durable seen before) end.log_end opened.log.records_stand.closed in
     record {
       own = (settings_are, ap (λ (k : Standing g.row.B.Denot). k.listing.cone) made, ap (λ (k : Standing g.row.B.Denot). k.last) made);
       place = c.in-Ok.ensures.point.within;
@@ -122,6 +130,7 @@ replay_journal-requires g c =
       valid = subst IsValid (sym settings_are) c.requires.room.valid;
       begun = (ap (λ (k : Standing g.row.B.Denot). k.gate) made, events_are ∙ sym count);
       few = omega (arith, events_are, point.first_from, point.first_to, edge_within c.args.room.settings 0 end.n0);
+      log_shut = subst (λ (k : Standing g.row.B.Denot). IsShutIfTold (g.B.Bay.files k.bay) (g.B.Bay.leaves k.bay) LOG k.log.gate) (sym made) shut;
       near = point.offset_to;
     }
 
@@ -145,7 +154,8 @@ returns-in-Err g c =
       kept = calls_as (bays g) (lawful g) c.args.bay c.read_files.new.bay _ _ (λ is. ap Err is) read.quiet.kept;
       stays_sound = λ seen told h sound now is. subst (IsSound c.args.room.settings c.args.cone h) (same_Some seen now (sym (read.quiet.seen ∙ told) ∙ is)) sound;
       each_moment = λ seen told h each. stays_quiet (bays g) (lawful g) h c.args.room.settings c.args.cone c.args.bay c.read_files.new.bay _ read.quiet seen told each;
-      unflushed = λ seen told nothing. quiet_as (bays g) (lawful g) c.args.bay c.read_files.new.bay _ ⊥ (λ never. absurd never) read.quiet;
+      unharmed = unharmed_quiet (bays g) c.args.room.settings c.args.cone c.args.bay c.read_files.new.bay
+          (quiet_as (bays g) (lawful g) c.args.bay c.read_files.new.bay _ ⊥ (λ never. absurd never) read.quiet);
       bounded = λ seen told h sound. omega (arith, c.read_files.ensures.handed);
     }
 
@@ -253,7 +263,10 @@ returns-in-Ok g c =
           stays_made (bays g) (lawful g) h bay_in (λ (refused : ReopenRefused g.row.B.Denot). refused.fault ≡ Failed) s cone start c.args.bay
           (ap (λ (k : Standing g.row.B.Denot). k.listing.settings) made) (ap (λ (k : Standing g.row.B.Denot). k.listing.cone) made) before seen told each result replayed.kept
           (replayed.each_moment seen (there seen told) h (begun seen told h (each seen ((lawful g).as_read c.args.bay seen told))));
-      unflushed = λ seen told nothing.
+      unharmed =
+          unharmed_opened (bays g) s c.args.cone c.args.bay c.requires.room.valid c.ranges.cone.fits
+          (λ seen told. let opened = c.in-Ok.ensures.opened seen told in (opened.0, c.in-Ok.end.log_end, c.read_files.new.levels.rows, opened.2)) bay_in result
+          (λ seen told nothing.
           let opened = c.in-Ok.ensures.opened seen told in
           let end = c.in-Ok.end in
           let n0_is = ap (λ (k : Standing g.row.B.Denot). k.last.n0) made ∙ opened.1.n0_is in
@@ -266,7 +279,18 @@ returns-in-Ok g c =
           (subst (λ (n : ℕ). FlushesNothing s (last_n0 opened.0) (seen JOURNAL) n end.offset) (sym count_is)
           (subst (λ (gate : ℕ). FlushesNothing s (last_n0 opened.0) (seen JOURNAL) (last_first opened.0 - 1) gate) (sym opened.1.offset_is)
           (nothing opened.0 end.log_end opened.2.log)))) in
-          quiet_before (bays g) (lawful g) bay_in c.args.bay start.bay ⊥ before result (replayed.unflushed seen (there seen told) none);
+          quiet_before (bays g) (lawful g) bay_in c.args.bay start.bay ⊥ before result (replayed.unflushed seen (there seen told) none))
+          (logs_in (bays g) (lawful g) start s cone c.requires.room.valid c.args.bay c.in-Ok.end.log_end (ap (λ (k : Standing g.row.B.Denot). k.listing.settings) made)
+          (ap (λ (k : Standing g.row.B.Denot). k.log.gate) made) there
+          (λ seen told.
+          let opened = c.in-Ok.ensures.opened seen told in
+          let end = c.in-Ok.end in (
+            opened.0,
+            opened.2.log,
+            c.adopt-begun.ensures.log seen (read.quiet.seen ∙ told) opened.0 opened.2.log
+                (last_of s cone end.n0 end.offset end.first end.closed c.read_files.new.store.reports c.read_files.new.levels.rows opened.0 opened.1 opened.2.named),
+          ))
+          bay_in result replayed.log);
       bounded = λ seen told h sound.
           let handed = g.B.Bay.handed_out in
           let opened = c.in-Ok.ensures.opened seen told in

@@ -18,6 +18,7 @@ use Rattle.lert_files.proofs.QuietLaws.{quiet_on, quiet_reading}
 use Rattle.lert_recover.specs.Replayed.{HasReplayed, IsJournalSame, ReadsRest}
 use Rattle.lert_recover.specs.Reopened.{IsWhy}
 use Rattle.lert_recover.proofs.ReplayingLaws.{journal_on, journal_same, same_on}
+use Rattle.lert_recover.proofs.LoggedLaws.{logged_from}
 use Rattle.lert_recover.proofs.MomentLaws.{stays_read}
 use Rattle.lert_recover.proofs.StopLaws.{outside_of, stopped_of, was_before}
 use Rattle.lert_recover.proofs.recovery.replay_journal.Given as given
@@ -48,6 +49,7 @@ replay_all-requires g c =
         omega (arith, c.requires.few, n0_is),
         subst (λ (s : Numbers). c.args.cone.last.n0 ≤ capacity s) (sym c.requires.own.0) (omega (arith, c.requires.place, n0_is)),
       );
+      log_shut = c.requires.log_shut;
       near = c.requires.near;
     }
 
@@ -121,6 +123,7 @@ returns-in-Ok g c =
       each_moment = λ seen told h begun each. subst (λ (bay : g.row.B.Denot). StaysSound (bays g) start.listing.settings start.listing.cone h start.bay bay) (sym bay_is)
           (all.each_moment seen told h begun each);
       unflushed = λ seen told nothing. subst (λ (bay : g.row.B.Denot). WritesNothing (bays g) start.bay bay ⊥) (sym bay_is) (all.unflushed seen told nothing);
+      log = logged_from (bays g) (lawful g) start c.replay_all.new.cone now.bay _ all.log (ap files bay_is);
       rest = λ seen told h begun.
           subst (λ (bay : g.row.B.Denot). ReadsRest start.listing.settings c.args.last.now.offset h (handed start.bay JOURNAL) (handed bay JOURNAL)) (sym bay_is)
           (c.replay_all.ensures.reads seen told h begun);
@@ -183,6 +186,7 @@ returns-in-Err g c =
           (all.each_moment seen told h begun each) behind;
       unflushed = λ seen told nothing. quiet_on (bays g) (lawful g) start.bay end.bay last ⊥ ⊥ (all.unflushed seen told nothing)
           (quiet_reading (bays g) (lawful g) end.bay last ⊥ behind);
+      log = logged_from (bays g) (lawful g) start end last _ all.log behind.seen;
       rest = λ seen told h begun.
           let handed = g.B.Bay.handed_out in
           let unread = ap (λ (out : ℕ → ℕ). out JOURNAL) (why.unread (all.replays seen told h begun)) in

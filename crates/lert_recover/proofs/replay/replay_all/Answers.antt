@@ -1,4 +1,4 @@
-use Rattle.std.proofs.Common.{[], ◌∷◌, ◌++◌, length, refl, ap, sym, ◌∙◌, subst, arith, Err, List, ℕ}
+use Rattle.std.proofs.Common.{[], ◌∷◌, ◌++◌, length, refl, ap, sym, ◌∙◌, subst, arith, Ok, Err, List, ℕ}
 use Rattle.lert_bay.specs.declared.bay.TheConstants.{JOURNAL}
 use Rattle.lert_bay.specs.Kept.{CallsBay}
 use Rattle.lert_bay.proofs.KeptLaws.{IsLawful, calls_as, calls_none, calls_on, reading_none}
@@ -6,11 +6,14 @@ use Rattle.lert_spec.proofs.LimitLaws.{capacity_to}
 use Rattle.lert_reports.specs.declared.log_point.LogPoint.{LogPoint}
 use Rattle.lert_cone.specs.declared.refusal.ReplayFault.TheVariants.{Unsound}
 use Rattle.lert_cone.specs.History.{most_payload}
+use Rattle.lert_cone.specs.KeepsLog.{head_of}
 use Rattle.lert_cone.specs.Replays.{Replays, WhyRefused}
 use Rattle.lert_cone.specs.Stands.{Standing}
+use Rattle.lert_cone.proofs.KeepsLogSteps.{log_none}
 use Rattle.lert_files.proofs.QuietLaws.{quiet_on, quiet_reading}
 use Rattle.lert_recover.specs.Replayed.{HasReplayed}
 use Rattle.lert_recover.proofs.ReplayingLaws.{framed_none, has_grown, journal_none, journal_on, left_on, quiet_of, read_on, same_none, same_on, shut_on, sound_on, still_on}
+use Rattle.lert_recover.proofs.LoggedLaws.{logged_on}
 use Rattle.lert_recover.proofs.RestBytes.{past_ahead}
 use Rattle.lert_recover.proofs.ReplayedLaws.{replayed_none}
 use Rattle.lert_recover.proofs.MomentLaws.{stays_none, stays_replayed}
@@ -43,6 +46,7 @@ packets-init g c =
       journal = journal_none (g.B.Bay.files start.bay);
       kept = calls_none (bays g) (lawful g) start.bay ⊥ (λ never. never);
       unwritten = λ seen told nothing. quiet_reading (bays g) (lawful g) start.bay start.bay ⊥ (reading_none (bays g) (lawful g) start.bay ⊥ (λ never. never));
+      logged = log_none (bays g) (lawful g) start.listing.settings (head_of start) start.bay c.requires.log_shut;
       handed = omega arith;
     }
 
@@ -100,6 +104,7 @@ packets-preserved g c =
           quiet_on (bays g) (lawful g) start.bay old.bay new.bay ⊥ ⊥ (now.unwritten seen told nothing)
           (quiet_of (bays g) old.bay new.bay ⊥ step
           (c.replay.ensures.unflushed there.0 there.1 (still_on files start old new seen told now.same now.journal c.args.first c.packets.gate (now.read seen told) nothing)));
+      logged = logged_on (bays g) (lawful g) start old new _ (Ok tt) ⊥ ⊥ now.same now.journal now.kept step (λ P holds. holds) now.logged c.in-Ok-Some.ensures.log;
       handed = omega (arith, now.handed, cost, next.0);
     }
 
@@ -155,6 +160,7 @@ returns-in-Ok-None g c =
           quiet_on (bays g) (lawful g) start.bay old.bay new.bay ⊥ ⊥ (now.unwritten seen told nothing)
           (quiet_of (bays g) old.bay new.bay ⊥ step
           (c.replay.ensures.unflushed there.0 there.1 (still_on files start old new seen told now.same now.journal c.args.first c.packets.gate (now.read seen told) nothing)));
+      log = logged_on (bays g) (lawful g) start old new _ (Ok c.packets.gate) ⊥ ⊥ now.same now.journal now.kept step (λ P holds. holds) now.logged c.in-Ok-None.ensures.log;
       kept = calls_on (bays g) (lawful g) start.bay old.bay new.bay ⊥ ⊥ now.kept step;
     }
 
@@ -212,6 +218,7 @@ returns-in-Err g c =
           quiet_on (bays g) (lawful g) start.bay old.bay new.bay ⊥ ⊥ (now.unwritten seen told nothing)
           (quiet_of (bays g) old.bay new.bay ⊥ step
           (c.replay.ensures.unflushed there.0 there.1 (still_on files start old new seen told now.same now.journal c.args.first c.packets.gate (now.read seen told) nothing)));
+      log = logged_on (bays g) (lawful g) start old new _ (Err _) ⊥ ⊥ now.same now.journal now.kept step (λ P holds. tt) now.logged c.in-Err.ensures.log;
       kept = calls_on (bays g) (lawful g) start.bay old.bay new.bay ⊥ _ now.kept
           (calls_as (bays g) (lawful g) old.bay new.bay _ _ (λ is. c.in-Err.is ∙ ap Err is) c.replay.ensures.kept);
     }

@@ -1,10 +1,11 @@
-use Rattle.std.proofs.Common.{◌≡◌, ◌+◌, ◌-◌, ◌*◌, ◌^◌, ◌≤◌, max, Some, List, length}
+use Rattle.std.proofs.Common.{◌≡◌, ◌+◌, ◌-◌, ◌*◌, ◌^◌, ◌≤◌, max, Some, Ok, List, length}
 use Rattle.lert_base.specs.Packet.{Packet}
 use Rattle.lert_bay.specs.declared.bay.TheConstants.{JOURNAL, FRAMES}
 use Rattle.lert_bay.specs.Files.{Files}
 use Rattle.lert_bay.specs.Kept.{Bays, CallsBay}
 use Rattle.lert_cone.specs.declared.state.ConeState.TheVariants.{Replaying}
 use Rattle.lert_cone.specs.Framed.{HoldsSome}
+use Rattle.lert_cone.specs.KeepsLog.{KeepsLogOf, head_of}
 use Rattle.lert_cone.specs.Sound.{StaysSound}
 use Rattle.lert_cone.specs.Stands.{IsSameCone}
 use Rattle.lert_files.specs.Opened.{WritesNothing}
@@ -47,6 +48,7 @@ invariant-packets g l = record {
   kept : CallsBay (bays g) l.fn.cone.bay l.cone.bay ⊥;
   unwritten : (seen : Files) → g.B.Bay.files l.fn.cone.bay ≡ Some seen → FlushesNothing l.fn.cone.listing.settings l.fn.cone.last.n0 (seen JOURNAL)
       (length l.fn.cone.listing.events) l.fn.first → WritesNothing (bays g) l.fn.cone.bay l.cone.bay ⊥;
+  logged : KeepsLogOf {T = Unit {0}} {E = Unit {0}} (bays g) l.fn.cone.listing.settings (head_of l.fn.cone) (head_of l.cone) l.fn.cone.bay l.cone.bay (Ok tt);
   handed : g.B.Bay.handed_out l.cone.bay JOURNAL + l.fn.first ≤ g.B.Bay.handed_out l.fn.cone.bay JOURNAL + l.gate;
 }
 

@@ -14,7 +14,7 @@ use Rattle.lert_recovery.proofs.RecoverLaws.{all_formed, open_printable, open_re
 use Rattle.lert_recovery.proofs.SoundLaws.{sound_same}
 use Rattle.lert_bay.specs.Kept.{Bays}
 use Rattle.lert_bay.proofs.KeptLaws.{IsLawful}
-use Rattle.lert_recovery.specs.Moments.{AreSoundThroughout}
+use Rattle.lert_recovery.specs.Moments.{AreSpared}
 use Rattle.lert_recovery.proofs.MomentLaws.{throughout_same}
 use Rattle.lert_recovery.proofs.recover.recover_bays.Given as given
 use Rattle.lert_recovery.proofs.recover.recover_bays.Goals as goal
@@ -170,10 +170,10 @@ pub returns-in-Ok-printed-clause-each_moment : goal.returns-in-Ok-printed-clause
 returns-in-Ok-printed-clause-each_moment g c =
     let cones = c.in-Ok-reopen_cones.cones.items in
     let back = c.bring_back.ensures.bays ∙ (ap (λ xs. bays_of cones ++ xs) c.in-Ok-reopen_cones.ensures.emptied ∙ append-nil (bays_of cones)) in
-    subst (AreSoundThroughout (bays_in g) c.args.settings.now c.args.bays.now.items) (sym back) c.in-Ok-reopen_cones.ensures.each_moment
+    subst (AreSpared (bays_in g) c.args.settings.now c.args.bays.now.items) (sym back) c.in-Ok-reopen_cones.ensures.each_moment
 
 pub returns-clause-each_moment : goal.returns-clause-each_moment
 returns-clause-each_moment g c =
     let cones = c.in-Ok-reopen_cones.cones.items in
     let back = c.bring_back.ensures.bays ∙ (ap (λ xs. bays_of cones ++ xs) c.in-Ok-reopen_cones.ensures.emptied ∙ append-nil (bays_of cones)) in
-    subst (AreSoundThroughout (bays_in g) c.args.settings.now c.args.bays.now.items) (sym back) c.in-Ok-reopen_cones.ensures.each_moment
+    subst (AreSpared (bays_in g) c.args.settings.now c.args.bays.now.items) (sym back) c.in-Ok-reopen_cones.ensures.each_moment

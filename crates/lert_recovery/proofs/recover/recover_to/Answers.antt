@@ -12,7 +12,7 @@ use Rattle.lert_recovery.proofs.JournalLaws.{journals_same}
 use Rattle.lert_recovery.proofs.SoundLaws.{sound_same}
 use Rattle.lert_recovery.proofs.RecoverEnding.{has_recovered, recovery_not_place_fault, recovery_not_usage}
 use Rattle.lert_bay.specs.Kept.{Bays}
-use Rattle.lert_recovery.specs.Moments.{AreSoundThroughout}
+use Rattle.lert_recovery.specs.Moments.{AreSpared}
 use Rattle.lert_recovery.proofs.MomentLaws.{returned_sound}
 use Rattle.lert_recovery.proofs.recover.recover_to.Given as given
 use Rattle.lert_recovery.proofs.recover.recover_to.Goals as goal
@@ -73,7 +73,7 @@ returns-in-Err-clause-recovered g c = λ differs.
                 (subst (λ (st : Status). HasRecovered {K = g.row.K.Denot} {B = g.row.P-Bay.Denot} g.K.Sink.taken g.K.Faulty.faults g.P.Bay.Bay.files g.P.Bay.Faulty.faults s out out [] [] st)
                 (sym none.0)
                 (has_recovered {K = g.row.K.Denot} {B = g.row.P-Bay.Denot} g.K.Sink.taken g.K.Faulty.faults g.P.Bay.Bay.files g.P.Bay.Faulty.faults s
-                out out [] [] OutOfMemory refl (λ other. absurd (other refl)) (journals_same g.P.Bay.Bay.files []) (sound_same g.P.Bay.Bay.files s []))),
+                out out [] [] OutOfMemory (refl, refl) (λ other. absurd (other refl)) (journals_same g.P.Bay.Bay.files []) (sound_same g.P.Bay.Bay.files s []))),
           )
       | inr bay ↦ absurd (differs bay.0)
     ]
@@ -173,4 +173,4 @@ returns-clause-each_moment g c = λ differs.
     let now = c.recover_bays-status.new.bays.items in
     returned_sound (bays_in g) c.args.settings.now (g.P.Place.handed_bays c.put_back_bays.new.place) now (g.P.Place.returned_bay c.put_back_bays.new.place)
     (c.recover_bays-status.ensures.later.number ∙ ap length (sym same)) c.put_back_bays.ensures.returned
-    (subst (λ (xs : List g.row.P-Bay.Denot). AreSoundThroughout (bays_in g) c.args.settings.now xs now) (sym same) c.recover_bays-status.ensures.each_moment)
+    (subst (λ (xs : List g.row.P-Bay.Denot). AreSpared (bays_in g) c.args.settings.now xs now) (sym same) c.recover_bays-status.ensures.each_moment)

@@ -5,7 +5,7 @@ use Rattle.lert_recovery.specs.Recovered.{AreJournalsSame, AreSoundStill, IsUnop
 use Rattle.lert_cones.proofs.ConeLaws.{cones_and_left}
 use Rattle.lert_bay.specs.Kept.{Bays}
 use Rattle.lert_bay.proofs.KeptLaws.{IsLawful}
-use Rattle.lert_recovery.specs.Moments.{AreSoundThroughout}
+use Rattle.lert_recovery.specs.Moments.{AreSpared}
 use Rattle.lert_recovery.proofs.MomentLaws.{throughout_same}
 use Rattle.lert_recovery.proofs.reopened_cones.reopen_cones.Given as given
 use Rattle.lert_recovery.proofs.reopened_cones.reopen_cones.Goals as goal
@@ -67,12 +67,12 @@ returns-clause-stays_sound_kept g c =
 pub returns-in-Ok-reopen_rooms-clause-each_moment : goal.returns-in-Ok-reopen_rooms-clause-each_moment
 returns-in-Ok-reopen_rooms-clause-each_moment g c =
     let made = bays_of c.reopen_rooms.new.cones.items in
-    subst (AreSoundThroughout (bays g) c.args.settings.now c.args.bays.now.items)
+    subst (AreSpared (bays g) c.args.settings.now c.args.bays.now.items)
     (ap (λ xs. made ++ xs) c.in-Ok-reopen_rooms.ensures.emptied ∙ append-nil made) c.reopen_rooms.ensures.each_moment
 
 pub returns-clause-each_moment_kept : goal.returns-clause-each_moment_kept
 returns-clause-each_moment_kept g c =
-    subst (AreSoundThroughout (bays g) c.args.settings.now c.args.bays.now.items) (sym c.bring_back.ensures.bays) c.reopen_rooms.ensures.each_moment
+    subst (AreSpared (bays g) c.args.settings.now c.args.bays.now.items) (sym c.bring_back.ensures.bays) c.reopen_rooms.ensures.each_moment
 
 on_err : {T E : Type 0} (r : Result T E) (P : Type 0) → P → OnErr r P
 on_err (Ok done) P is = tt

@@ -13,7 +13,7 @@ use Rattle.lert_recovery.proofs.JournalLaws.{journals_back, journals_made, journ
 use Rattle.lert_recovery.proofs.RecoverLaws.{WasRefused, open_over, unopened_by}
 use Rattle.lert_recovery.proofs.SoundLaws.{sound_back, sound_made, sound_same, stays_by, stays_open}
 use Rattle.lert_bay.proofs.KeptLaws.{IsLawful}
-use Rattle.lert_recovery.specs.Moments.{AreSoundThroughout, IsSoundThroughout}
+use Rattle.lert_recovery.specs.Moments.{AreSpared, IsSpared}
 use Rattle.lert_recovery.proofs.MomentLaws.{throughout_back, throughout_by, throughout_made, throughout_same}
 use Rattle.lert_recovery.proofs.reopened_cones.reopen_rooms.Given as given
 use Rattle.lert_recovery.proofs.reopened_cones.reopen_rooms.Invariants.{bays as bays_in}
@@ -57,15 +57,17 @@ returns-in-Err-clause-unopened g c =
     let there = bay_there g.B.Bay.files g.B.Faulty.faults g.B.Faulty.mark bays front bay rest cones split here.split.1 later in
     let is = ap (λ xs. bays_of cones ++ xs) c.push_front_reserved.ensures.items in
     let popped = All-pop (IsNewRoom s) c.loop-number.rooms.items c.pop.new.self.items (Some c.in-Some-pop.room) c.in-Some-pop.ensures.items here.rooms in
-    let why : WasRefused g.B.Bay.files c.in-Some-pop.room.settings c.loop-number.number bay fault = record {
+    let why : WasRefused g.B.Bay.files c.in-Some-pop.room.settings c.loop-number.number bay back fault = record {
       malformed = c.in-Err.ensures.malformed;
       other_is = c.in-Err.ensures.other;
       refuses = c.in-Err.ensures.refuses;
       differs = c.in-Err.ensures.differs;
       opens = c.in-Err.ensures.sound_opens;
+      unread = λ seen told file at leaves. (c.in-Err.ensures.unharmed.left seen told file at leaves).seen;
+      untouched = λ kept is. (c.in-Err.ensures.other_untouched kept is).seen;
     } in
-    let why_here = subst (λ (n : Numbers). WasRefused g.B.Bay.files n (length cones) bay fault) popped.1.0
-    (subst (λ (n : ℕ). WasRefused g.B.Bay.files c.in-Some-pop.room.settings n bay fault) (sym here.number) why) in
+    let why_here = subst (λ (n : Numbers). WasRefused g.B.Bay.files n (length cones) bay back fault) popped.1.0
+    (subst (λ (n : ℕ). WasRefused g.B.Bay.files c.in-Some-pop.room.settings n bay back fault) (sym here.number) why) in
     let unopened = unopened_by g.B.Bay.files g.B.Bay.leaves g.B.Faulty.faults g.B.Faulty.mark s bays front bay rest cones there here.open_cones back fault why_here c.in-Err.ensures.kept.failed
     (λ other behind. let sizes = length-map cones (λ (x : Standing g.row.B.Denot). x.bay) in
     slice_get-behind (bays_of cones) front back bay rest other (sizes ∙ sym here.split.1) (omega (arith, behind, sizes)) ∙ ap (λ xs. slice_get xs other) split) in
@@ -110,13 +112,19 @@ returns-in-Err-clause-each_moment g c =
     let cones = c.loop-number.cones.items in
     let room = c.in-Some-pop.room in
     let back = c.in-Err.refused.bay in
-    let so_far = subst (λ xs. AreSoundThroughout (bays_in g) s first (bays_of cones ++ xs)) c.in-Some.ensures.items here.throughout in
+    let items = c.in-Some.ensures.items in
+    let front = here.split.0 in
+    let rest = c.pop_front.new.self.items in
+    let later = subst (λ xs. AreLater g.B.Bay.files g.B.Faulty.faults g.B.Faulty.mark first (bays_of cones ++ xs)) items here.later in
+    let there = bay_there g.B.Bay.files g.B.Faulty.faults g.B.Faulty.mark first front bay rest cones (ap (λ xs. front ++ xs) (sym items) ∙ here.split.2) here.split.1 later in
+    let so_far = subst (λ xs. AreSpared (bays_in g) s first (bays_of cones ++ xs)) items here.throughout in
     let popped = All-pop (IsNewRoom s) c.loop-number.rooms.items c.pop.new.self.items (Some room) c.in-Some-pop.ensures.items here.rooms in
-    let one = throughout_by (bays_in g) room.settings c.loop-number.number bay back _ c.in-Err.ensures.kept c.in-Err.ensures.reads c.in-Err.ensures.each_moment in
-    let one_here = subst (λ (n : Numbers). IsSoundThroughout (bays_in g) n (length cones) bay back) popped.1.0
-    (subst (λ (n : ℕ). IsSoundThroughout (bays_in g) room.settings n bay back) (sym here.number) one) in
-    subst (AreSoundThroughout (bays_in g) s first) (ap (λ xs. bays_of cones ++ xs) (sym c.push_front_reserved.ensures.items))
-    (throughout_back (bays_in g) (lawful g) s first cones bay c.pop_front.new.self.items so_far back one_here)
+    let one = throughout_by (bays_in g) room.settings c.loop-number.number bay back _ c.in-Err.ensures.kept c.in-Err.ensures.reads c.in-Err.ensures.each_moment
+    c.in-Err.ensures.unharmed in
+    let one_here = subst (λ (n : Numbers). IsSpared (bays_in g) n (length cones) bay back) popped.1.0
+    (subst (λ (n : ℕ). IsSpared (bays_in g) room.settings n bay back) (sym here.number) one) in
+    subst (AreSpared (bays_in g) s first) (ap (λ xs. bays_of cones ++ xs) (sym c.push_front_reserved.ensures.items))
+    (throughout_back (bays_in g) s first cones bay rest there so_far back one_here)
 
 pub returns-clause-each_moment : goal.returns-clause-each_moment
 returns-clause-each_moment g c = c.loop-number.invariant.throughout
@@ -186,12 +194,13 @@ loop-number-preserved g c =
           (sound_made g.B.Bay.files s bays cones bay rest (subst (λ xs. AreSoundStill g.B.Bay.files s bays (bays_of cones ++ xs)) items here.stays_sound) cone
           (stays_open g.B.Bay.files g.B.Bay.leaves g.B.Faulty.faults s (length cones) bay cone opened_here c.in-Ok.ensures.reads));
       throughout =
-          let so_far = subst (λ xs. AreSoundThroughout (bays_in g) s bays (bays_of cones ++ xs)) items here.throughout in
-          let moments = throughout_by (bays_in g) room.settings c.loop-number.number bay cone.bay ⊥ c.in-Ok.ensures.kept c.in-Ok.ensures.reads c.in-Ok.ensures.each_moment in
-          let moments_here = subst (λ (n : Numbers). IsSoundThroughout (bays_in g) n (length cones) bay cone.bay) popped.1.0
-          (subst (λ (n : ℕ). IsSoundThroughout (bays_in g) room.settings n bay cone.bay) (sym here.number) moments) in
-          subst (λ xs. AreSoundThroughout (bays_in g) s bays (bays_of xs ++ rest)) (sym pushed)
-          (throughout_made (bays_in g) (lawful g) s bays cones bay rest so_far cone moments_here);
+          let so_far = subst (λ xs. AreSpared (bays_in g) s bays (bays_of cones ++ xs)) items here.throughout in
+          let moments = throughout_by (bays_in g) room.settings c.loop-number.number bay cone.bay ⊥ c.in-Ok.ensures.kept c.in-Ok.ensures.reads c.in-Ok.ensures.each_moment
+          c.in-Ok.ensures.unharmed in
+          let moments_here = subst (λ (n : Numbers). IsSpared (bays_in g) n (length cones) bay cone.bay) popped.1.0
+          (subst (λ (n : ℕ). IsSpared (bays_in g) room.settings n bay cone.bay) (sym here.number) moments) in
+          subst (λ xs. AreSpared (bays_in g) s bays (bays_of xs ++ rest)) (sym pushed)
+          (throughout_made (bays_in g) s bays cones bay rest there so_far cone moments_here);
       open_cones = λ place found is.
           each-push (λ (k : ℕ) (x : Standing g.row.B.Denot). (held : g.row.B.Denot) → slice_get bays k ≡ Some held → IsOpenOver g.B.Bay.files g.B.Bay.leaves g.B.Faulty.faults s k held x)
           cones cone here.open_cones
@@ -214,7 +223,7 @@ loop-number-init g c =
       journals = subst (λ (xs : List (Standing g.row.B.Denot)). AreJournalsSame g.B.Bay.files bays (bays_of xs ++ bays)) (sym c.requires.none) (journals_same g.B.Bay.files bays);
       stays_sound = subst (λ (xs : List (Standing g.row.B.Denot)). AreSoundStill g.B.Bay.files c.args.settings.now bays (bays_of xs ++ bays)) (sym c.requires.none)
           (sound_same g.B.Bay.files c.args.settings.now bays);
-      throughout = subst (λ (xs : List (Standing g.row.B.Denot)). AreSoundThroughout (bays_in g) c.args.settings.now bays (bays_of xs ++ bays)) (sym c.requires.none)
+      throughout = subst (λ (xs : List (Standing g.row.B.Denot)). AreSpared (bays_in g) c.args.settings.now bays (bays_of xs ++ bays)) (sym c.requires.none)
           (throughout_same (bays_in g) (lawful g) c.args.settings.now bays);
       open_cones = λ place cone is _ _. absurd (omega (arith, slice_get_within c.args.cones.now.items place cone is, ap length c.requires.none));
       room = refl;

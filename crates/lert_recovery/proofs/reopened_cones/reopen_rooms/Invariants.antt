@@ -4,7 +4,7 @@ use Rattle.std.specs.VecDeque.{deque_capacity}
 use Rattle.lert_bay.specs.Kept.{Bays}
 use Rattle.lert_ingest.specs.Bays.{AreLater, bays_of}
 use Rattle.lert_ingest.specs.Cones.{IsNewRoom}
-use Rattle.lert_recovery.specs.Moments.{AreSoundThroughout}
+use Rattle.lert_recovery.specs.Moments.{AreSpared}
 use Rattle.lert_recovery.specs.Recovered.{AreJournalsSame, AreOpenOver, AreSoundStill}
 use Rattle.lert_recovery.proofs.reopened_cones.reopen_rooms.Given as goal
 
@@ -29,7 +29,7 @@ invariant-loop-number g l = record {
   later : AreLater g.B.Bay.files g.B.Faulty.faults g.B.Faulty.mark l.fn.bays.items (bays_of l.cones.items ++ l.bays.items);
   journals : AreJournalsSame g.B.Bay.files l.fn.bays.items (bays_of l.cones.items ++ l.bays.items);
   stays_sound : AreSoundStill g.B.Bay.files l.settings l.fn.bays.items (bays_of l.cones.items ++ l.bays.items);
-  throughout : AreSoundThroughout (bays g) l.settings l.fn.bays.items (bays_of l.cones.items ++ l.bays.items);
+  throughout : AreSpared (bays g) l.settings l.fn.bays.items (bays_of l.cones.items ++ l.bays.items);
   open_cones : AreOpenOver g.B.Bay.files g.B.Bay.leaves g.B.Faulty.faults l.settings l.fn.bays.items l.cones.items;
   room : deque_capacity l.bays ≡ deque_capacity l.fn.bays;
   cones_room : 2 ^ l.settings.cone_bits ≤ vec_capacity l.cones;

@@ -24,7 +24,7 @@ use Rattle.lert_place.specs.Openings.{AreReturned, bays_granted, traces_granted}
 use Rattle.lert_top.specs.Generated.{TraceShows}
 use Rattle.lert_top.proofs.NoLine.{below_none, later_none, put_back_none, recovered_none, rule_is, sound_none, usage_not_place}
 use Rattle.lert_top.proofs.OtherLines.{none_back, none_back_same, of_another, of_no_rule}
-use Rattle.lert_recovery.specs.Moments.{AreReturnedSound}
+use Rattle.lert_recovery.specs.Moments.{AreReturnedSpared}
 use Rattle.lert_top.proofs.top.run.Given as given
 use Rattle.lert_top.proofs.top.run.Goals.{In-Err-Usage}
 use Rattle.lert_top.proofs.top.run.Goals as goal
@@ -113,7 +113,7 @@ returns-in-Recover-clause-recovered g c = λ settings dir spelled sound.
 pub returns-in-Recover-clause-each_moment : goal.returns-in-Recover-clause-each_moment
 returns-in-Recover-clause-each_moment g c = λ settings dir spelled sound.
     along_recover (command c.args.words.now) c.in-Ok.line c.in-Ok.ensures.line
-    (λ (s : Numbers) (d : ℕ). c.recover_to.result ≢ PlaceFault → AreReturnedSound (bays_in g) s (g.P.Place.handed_bays c.recover_to.new.place) (g.P.Place.returned_bay c.recover_to.new.place))
+    (λ (s : Numbers) (d : ℕ). c.recover_to.result ≢ PlaceFault → AreReturnedSpared (bays_in g) s (g.P.Place.handed_bays c.recover_to.new.place) (g.P.Place.returned_bay c.recover_to.new.place))
     c.in-Recover.settings settings c.in-Recover.dir dir c.in-Recover.is spelled c.recover_to.ensures.each_moment
 
 pub returns-in-Drill-clause-drilled : goal.returns-in-Drill-clause-drilled

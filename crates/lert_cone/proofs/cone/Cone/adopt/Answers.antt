@@ -9,10 +9,12 @@ use Rattle.lert_spec.specs.declared.report.Report.{Report}
 use Rattle.lert_spec.specs.Edges.{capacity, edge, offset, span}
 use Rattle.lert_spec.proofs.LookLaws.{AreKeys}
 use Rattle.lert_spec.proofs.TailLaws.{AreOfCone}
+use Rattle.lert_cone.specs.Listing.{Listing}
 use Rattle.lert_cone.specs.Marks.{marked_from}
+use Rattle.lert_cone.specs.Record.{LogPlace}
 use Rattle.lert_cone.specs.Unread.{unread}
 use Rattle.lert_cone.proofs.AdoptLaws.{adopted, before, past}
-use Rattle.lert_cone.proofs.AdoptStands.{adopted_cone, adopted_replays}
+use Rattle.lert_cone.proofs.AdoptStands.{adopted_cone, adopted_head, adopted_replays}
 use Rattle.lert_cone.proofs.UnreadLaws.{length_unread, unread_keys, unread_own}
 use Rattle.lert_cone.proofs.cone.Cone.adopt.Goals as goal
 
@@ -72,6 +74,16 @@ invariant_of-result g c =
     (ap (λ (j : Log). j.file) c.at_gate-journal.ensures) (ap (λ (j : Log). j.most) c.at_gate-journal.ensures ∙ c.greatest_payload.ensures.value)
     (omega (arith, ap (λ (j : Log). j.gate) c.at_gate-journal.ensures, c.requires.point.names.offset_to)) c.requires.point.reach log_is
     c.requires.room.roomy (ap (λ (keys : Keys). keys.room) c.requires.room.keys_are) c.of.ensures c.requires.journal c.requires.log_shut
+
+pub returns-clause-log : goal.returns-clause-log
+returns-clause-log g c = λ seen told records log last.
+    let s = c.args.room.settings in
+    let n = c.args.last.first - 1 in
+    let less = few s c.args.last.n0 c.args.last.first c.requires.point.names.first_to in
+    let long : length c.adopted-tally.result.listing.events ≡ n =
+    ap (λ (l : Listing). length l.events) c.adopted-tally.ensures.listing ∙ ap (length {A = ℕ}) c.of-unread.ensures ∙ length_unread s c.args.cone n (g.B.Bay.files c.args.bay) in
+    adopted_head s c.args.cone c.args.last.n0 c.args.last.offset c.args.last.first c.args.last.closed c.args.room.levels.rows c.args.room.store.reports records c.args.last.log_end (seen 1) _
+    c.requires.room.at log last c.adopted-tally.ensures.rows (omega (arith, long, less.1)) (ap (λ (l : LogPlace). l.gate) c.at-log.ensures)
 
 pub returns-clause-replays : goal.returns-clause-replays
 returns-clause-replays g c = λ seen told records log last history sound.

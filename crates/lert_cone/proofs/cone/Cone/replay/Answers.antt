@@ -1,4 +1,4 @@
-use Rattle.std.proofs.Common.{◌≡◌, ◌∙◌, ℕ, ◌+◌, ◌*◌, ◌<◌, ◌++◌, ◌∷◌, [], All, List, length, max, Err, IsFalse}
+use Rattle.std.proofs.Common.{◌≡◌, ◌∙◌, ℕ, ◌+◌, ◌*◌, ◌<◌, ◌++◌, ◌∷◌, [], All, List, length, max, Some, Err, Ok, IsFalse}
 use Rattle.std.proofs.Common.{◌≤◌, le_refl, refl, sym, ap, subst, arith}
 use Rattle.lert_base.specs.Entries.{packet_of}
 use Rattle.lert_base.specs.Packet.{events_of}
@@ -9,7 +9,7 @@ use Rattle.lert_journal.specs.Payload.{payload_of}
 use Rattle.lert_reports.specs.Log.{most_record}
 use Rattle.lert_spec.specs.Mix.{cone_of}
 use Rattle.lert_cone.specs.declared.refusal.ReplayFault.{ReplayFault}
-use Rattle.lert_cone.specs.declared.refusal.ReplayFault.TheVariants.{Failed, Unsound}
+use Rattle.lert_cone.specs.declared.refusal.ReplayFault.TheVariants.{Failed, Malformed, Unsound}
 use Rattle.lert_cone.specs.declared.state.ConeState.TheVariants.{Replaying}
 use Rattle.lert_cone.specs.Framed.{HoldsSome}
 use Rattle.lert_cone.specs.History.{most_payload}
@@ -25,15 +25,17 @@ use Rattle.lert_cone.proofs.ReplayLaws.{never_on_way}
 use Rattle.lert_cone.proofs.ReadCosts.{broken_read, ended_read, refused_read, taken_read}
 use Rattle.lert_cone.proofs.Calls.{alone_reading}
 use Rattle.lert_cone.proofs.ReplayCalls.{alone_behind, calls_behind, ended_at, ended_replays, held_at, keys_stay, keys_unwritten, length_more, listing_more, moved_on, read_stays}
-use Rattle.lert_cone.proofs.ReplayCalls.{read_unwritten, refilled, seen_as, with_keys}
-use Rattle.lert_cone.proofs.ReplayStands.{leaves_listing, never_unsound, failed_keys, failed_record, unsound_keys, only_by_bay, only_failed, read_shut, refused_keys}
+use Rattle.lert_cone.proofs.ReplayCalls.{logged_behind, read_logged, read_unwritten, refilled, seen_as, with_keys}
+use Rattle.lert_cone.proofs.ReplayStands.{keys_never_malformed, leaves_listing, never_unsound, failed_keys, failed_record, unsound_keys, only_by_bay, only_failed, read_shut, refused_keys}
 use Rattle.lert_cone.proofs.ReplayStands.{refused_record}
 use Rattle.lert_cone.proofs.ReplayStep.{told_once}
 use Rattle.lert_cone.proofs.Refusals.{no_fault, one_fault}
 use Rattle.lert_cone.proofs.cone.Cone.replay.Given as given
 use Rattle.lert_cone.proofs.cone.Cone.replay.Goals as goal
 use Rattle.lert_cone.proofs.cone.Cone.replay.Answers.Kept.{bays, lawful, broken_keys_kept, broken_record_kept, ended_kept, taken_kept}
+use Rattle.lert_cone.proofs.cone.Cone.replay.Answers.Refused.{record_refused}
 mod Kept
+mod Refused
 
 pub read_packet-requires-clause-most : goal.read_packet-requires-clause-most
 read_packet-requires-clause-most g c = ap (λ (j : Log). j.most) c.at_gate-self-inside.ensures ∙ c.greatest_payload-most.ensures.value
@@ -154,7 +156,14 @@ returns-in-Err-replay_keys g c =
           (length c.self.inside.tally.listing.events) c.self.inside.last.n0 (packet_of c.read_packet.new.entry) c.keys_of.result.now _
           c.keys_of.ensures.value
           (none (packet_of c.read_packet.new.entry) (held_at c.at_gate-self-inside.ensures (c.in-Ok-true.ensures.found seen told
-          c.in-Ok-true.field-0-test))) c.replay_keys.ensures.unflushed;
+          c.in-Ok-true.field-0-test)) (c.in-Ok-true.ensures.follows c.in-Ok-true.field-0-test)) c.replay_keys.ensures.unflushed;
+      malformed = λ at same.
+          let answer : c.from.result ≡ Malformed at = one_fault same in
+          absurd (keys_never_malformed c.in-Err-replay_keys.fault at (sym c.from.ensures ∙ answer));
+      log = let replaying : c.self.inside.state ≡ Replaying = subst (λ (v : Standing g.row.B.Denot). v.state ≡ Replaying) (sym c.self.view_is) c.requires.replaying in
+          logged_behind (bays g) (lawful g) c.self.inside.bay c.read_packet.new.bay _ _ _ _ _ c.read_packet.ensures.keeps c.self.inside.tally.listing.settings _ _
+          c.replay_keys.new.bay c.replay_keys.result (Err c.from.result) (c.self.invariant.replaying replaying).log_shut c.replay_keys.ensures.keeps.journal (λ P holds. tt)
+          c.replay_keys.ensures.log;
       framed = λ seen told some. tt;
       whole = λ seen told some at same.
           let answer : c.from.result ≡ Unsound 2 at = one_fault same in
@@ -267,7 +276,12 @@ returns-in_default g c =
           (length c.self.inside.tally.listing.events) c.self.inside.last.n0 (packet_of c.read_packet.new.entry) c.keys_of.result.now _
           c.keys_of.ensures.value
           (none (packet_of c.read_packet.new.entry) (held_at c.at_gate-self-inside.ensures (c.in-Ok-true.ensures.found seen told
-          c.in-Ok-true.field-0-test))) c.replay_keys.ensures.unflushed;
+          c.in-Ok-true.field-0-test)) (c.in-Ok-true.ensures.follows c.in-Ok-true.field-0-test)) c.replay_keys.ensures.unflushed;
+      malformed = λ at same. absurd (no_fault same);
+      log = let replaying : c.self.inside.state ≡ Replaying = subst (λ (v : Standing g.row.B.Denot). v.state ≡ Replaying) (sym c.self.view_is) c.requires.replaying in
+          logged_behind (bays g) (lawful g) c.self.inside.bay c.read_packet.new.bay _ _ _ _ _ c.read_packet.ensures.keeps c.self.inside.tally.listing.settings _ _
+          c.replay_keys.new.bay _ (Ok (Some c.gate.result)) (c.self.invariant.replaying replaying).log_shut c.replay_keys.ensures.keeps.journal (λ P holds. holds)
+          c.in_default.ensures.log;
       framed = λ seen told some. c.in_default.ensures.framed seen (c.read_packet.ensures.keeps.reads.seen ∙ told) some;
       whole = λ seen told some at same. no_fault same;
       unsound = λ file at same. absurd (no_fault same);
@@ -327,6 +341,10 @@ returns-in-Ok-false g c =
           seen told h done c.args.gate (way.on_way seen told) (subst (λ g. IsPast h done c.self.inside.tally.listing.events g)
           (sym gate_same) way.past) (c.self.invariant.replaying way.state_is).recounted;
       unflushed = λ seen told none. read_unwritten (bays g) (lawful g) c.self.inside.bay c.read_packet.new.bay _ _ _ _ _ c.read_packet.ensures.keeps;
+      malformed = λ at same. absurd (no_fault same);
+      log = let replaying : c.self.inside.state ≡ Replaying = subst (λ (v : Standing g.row.B.Denot). v.state ≡ Replaying) (sym c.self.view_is) c.requires.replaying in
+          read_logged (bays g) (lawful g) c.self.inside.bay c.read_packet.new.bay _ _ _ _ _ c.read_packet.ensures.keeps c.self.inside.tally.listing.settings _ _
+          (c.self.invariant.replaying replaying).log_shut;
       framed = λ seen told some after told_after.
           subst (λ (files : Files). HoldsSome c.self.inside.tally.listing.settings (max c.self.inside.last.n0 (length
           c.self.inside.tally.listing.events)) c.self.inside.tally.rows (files 2))
@@ -346,54 +364,4 @@ invariant_of-self-in-Err = broken_record_kept
 
 -- what stands there isn't taken
 pub returns-in-Err : goal.returns-in-Err
-returns-in-Err g c =
-    rw (← c.self.view_is) (record {
-      taken = tt;
-      forward = tt;
-      ended = tt;
-      refused = let cone = seen_as c.self.inside.bay c.self.inside.made.value c.self.inside.tally c.self.inside.events c.self.inside.state
-          (over_of c.self.inside.over) c.self.inside.journal.gate c.self.inside.log c.self.inside.last in
-          λ seen told. subst (λ (fault : ReplayFault). WhyRefused cone (seen 0) c.args.gate fault) (sym c.from-fault.ensures)
-          (refused_record cone (seen 0) c.args.gate c.in-Err.fault (λ at same.
-          subst (λ (j : Log). ReplayLeavesAt c.self.inside.tally.listing.settings c.self.inside.tally.listing.cone c.self.inside.last.n0
-          c.self.inside.last.closed
-          (length c.self.inside.tally.listing.events) (seen 0) j.gate at) c.at_gate-self-inside.ensures (c.in-Err.ensures.malformed seen told at
-          (ap Err same))));
-      broke = λ i. seen_as c.read_packet.new.bay c.self.inside.made.value c.self.inside.tally c.self.inside.events
-          (c.broken_after-self-inside.ensures i) (over_of c.self.inside.over) c.read_packet.new.journal.gate c.self.inside.log c.self.inside.last;
-      replays = λ seen told h done way gate_same.
-          let past : IsPast h done c.self.inside.tally.listing.events c.args.gate = subst (λ g. IsPast h done c.self.inside.tally.listing.events g)
-          (sym gate_same) way.past in
-          let on_way = way.on_way seen told in
-          let read = g.met.B.Bay.as_read c.self.inside.bay seen told in
-          c.from-fault.ensures ∙ only_failed c.in-Err.fault (λ at same.
-          never_on_way (g.B.Bay.leaves c.self.inside.bay) seen h c.self.inside.tally.listing c.self.inside.tally.rows
-          c.self.inside.tally.due.reports c.self.inside.log c.self.inside.last.n0 on_way read
-          done c.args.gate at past
-          (leaves_listing c.self.inside.tally.listing.settings c.self.inside.tally.listing.cone c.self.inside.last.n0 (length
-          c.self.inside.tally.listing.events) c.args.gate at
-          c.self.inside.tally.listing.closed c.self.inside.last.closed (seen 0) (c.self.invariant.replaying way.state_is).closed
-          (subst (λ (j : Log). ReplayLeavesAt c.self.inside.tally.listing.settings c.self.inside.tally.listing.cone c.self.inside.last.n0
-          c.self.inside.last.closed
-          (length c.self.inside.tally.listing.events) (seen 0) j.gate at) c.at_gate-self-inside.ensures (c.in-Err.ensures.malformed seen told at
-          (ap Err same)))));
-      stays_sound = λ seen told h done way gate_same.
-          read_stays (bays g) (lawful g) c.self.inside.bay c.read_packet.new.bay _ _ _ _ _ c.read_packet.ensures.keeps c.self.inside.tally
-          c.self.inside.log c.self.inside.last
-          seen told h done c.args.gate (way.on_way seen told) (subst (λ g. IsPast h done c.self.inside.tally.listing.events g)
-          (sym gate_same) way.past) (c.self.invariant.replaying way.state_is).recounted;
-      unflushed = λ seen told none. read_unwritten (bays g) (lawful g) c.self.inside.bay c.read_packet.new.bay _ _ _ _ _ c.read_packet.ensures.keeps;
-      framed = λ seen told some. tt;
-      whole = λ seen told some at same.
-          let answer : c.from-fault.result ≡ Unsound 2 at = one_fault same in never_unsound c.in-Err.fault 2 at (sym c.from-fault.ensures ∙ answer);
-      unsound = λ file at same.
-          let answer : c.from-fault.result ≡ Unsound file at = one_fault same in
-          absurd (never_unsound c.in-Err.fault file at (sym c.from-fault.ensures ∙ answer));
-      same_cone = record { settings = refl; cone = refl; made = refl; last = refl };
-      journal = alone_reading (bays g) (lawful g) 0 c.self.inside.bay c.read_packet.new.bay _ c.read_packet.ensures.keeps.reads;
-      kept = calls_as (bays g) (lawful g) c.self.inside.bay c.read_packet.new.bay _ _ (λ same.
-          let answer : c.from-fault.result ≡ Failed = one_fault same in
-          c.in-Err.is ∙ ap Err (failed_record c.in-Err.fault (sym c.from-fault.ensures ∙ answer))) c.read_packet.ensures.keeps.reads.kept;
-      handed = refused_read c.self.inside.tally.listing.settings (packet_of c.read_packet.new.entry) _ _
-          (g.B.Bay.handed_out c.read_packet.new.bay) refl c.in-Err.fault c.in-Err.ensures.handed;
-    })
+returns-in-Err = record_refused
