@@ -20,3 +20,4 @@ pub mod Assembling
 pub mod Manning
 pub mod Crewing
 pub mod Finishing
+pub mod Fewer

@@ -18,6 +18,10 @@ pub record IsShare (workers count number : ℕ) (traces : List ℕ) : Type 0 whe
   pub once : (place other trace : ℕ) → slice_get traces place ≡ Some trace → slice_get traces other ≡ Some trace → place ≡ other
   pub ascend : (place other trace later : ℕ) → slice_get traces place ≡ Some trace → slice_get traces other ≡ Some later → trace < later → place < other
 
+-- each of so many traces is read by the worker of one number, whether there are so many workers or so many
+abbrev pub AreReadBySame : ℕ → ℕ → ℕ → Type 0
+AreReadBySame workers others count = (trace : ℕ) → trace < count → trace % workers ≡ trace % others
+
 -- packets of a worker to a cone, of which those of each trace join to the cone's part of what was read of it, or to a beginning of
 -- that part, in whatever order the traces are
 pub record HasAll (s : Numbers) (number cone : ℕ) (share : List ℕ) (reads : List (List ℕ)) (packets : List Packet) : Type 0 where

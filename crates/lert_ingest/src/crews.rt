@@ -10,6 +10,7 @@ ghost use Rattle.lert_ingest.specs.Bays.{AreLater, bays_of};
 ghost use Rattle.lert_ingest.specs.Cones.{AreNew};
 ghost use Rattle.lert_ingest.specs.Crew.{IsPassFrom, IsQuiet};
 ghost use Rattle.lert_ingest.specs.Ingest.{HasIngested, firsts_of};
+ghost use Rattle.lert_ingest.specs.Shares.{AreReadBySame};
 ghost use Rattle.lert_ingest.specs.Stops.{AreIngested, IsExact, StopShows};
 ghost use Rattle.lert_ingest.specs.Traces.{AreTracesLater};
 
@@ -36,7 +37,7 @@ pub type Ingested<S, B, T> = (VecDeque<S>, Vec<Cone<B, T>>, Result<(), Status>);
 
 /// Reads 1 to 1,024 traces into cones that were just made, one for each number of the settings, by 1 to 64 workers on several threads.
 ///
-/// Trace t is read by worker t modulo their number. Answers the traces and the cones in their order. With Ok all was read, and
+/// Trace t is read by worker t modulo their number; those that would read none aren't made. Answers the traces and the cones in their order. With Ok all was read, and
 /// the cones take more packets. Of several faults that of the lowest trace is answered; else the lowest bad trace; else the lowest
 /// trace with more than 2^36 keys; else the lowest cone that its bay or a read broke; else the lowest cone that is full; and want of
 /// memory before them all. The memory of locks, workers and rings is taken before the first byte of a trace is read.
@@ -67,12 +68,30 @@ where
     let Ok(room) = VecDeque::with_capacity(alloc, traces.len()) else {
         return (traces, cones, Err(Status::OutOfMemory));
     };
-    match lock_cones(alloc, cones, workers) {
-        Ok((fleet, pass)) => ingest_fleet(rt, alloc, settings, workers, fleet, pass, traces, room),
+    let crew = busy_workers(workers, traces.len());
+    match lock_cones(alloc, cones, crew) {
+        Ok((fleet, pass)) => ingest_fleet(rt, alloc, settings, crew, fleet, pass, traces, room),
         Err(cones) => {
             room.destroy_empty();
             (traces, cones, Err(Status::OutOfMemory))
         }
+    }
+}
+
+// How many of the workers have a trace to read.
+fn busy_workers(workers: u32, traces: usize) -> u32
+    requires least { 1 ≤ workers }
+    requires most { workers ≤ 64 }
+    requires some { 1 ≤ traces }
+    ensures least { 1 ≤ result }
+    ensures most { result ≤ 64 }
+    ensures few { result ≤ traces }
+    ensures same { AreReadBySame result workers traces }
+{
+    if traces < workers as usize {
+        traces as u32
+    } else {
+        workers
     }
 }
 

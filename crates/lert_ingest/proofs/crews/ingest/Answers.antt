@@ -4,6 +4,7 @@ use Rattle.lert_cone.specs.Stands.{Standing}
 use Rattle.lert_ingest.specs.Ingest.{HasIngested}
 use Rattle.lert_ingest.specs.declared.status.Status.TheVariants.{OutOfMemory}
 use Rattle.lert_ingest.proofs.Assembling.{untouched}
+use Rattle.lert_ingest.proofs.Fewer.{ingested_fewer}
 use Rattle.lert_ingest.proofs.Starting.{all_opened, as_many, few_cones, first_from, first_quiet, firsts_new}
 use Rattle.lert_ingest.proofs.crews.ingest.Given as given
 use Rattle.lert_ingest.proofs.crews.ingest.Goals as goal
@@ -17,26 +18,26 @@ lock_cones-requires-clause-opened g c κs within = all_opened g.B.Bay.files g.B.
 
 pub ingest_fleet-requires-clause-number : goal.ingest_fleet-requires-clause-number
 ingest_fleet-requires-clause-number g c κs within =
-    as_many g.B.Bay.files g.B.Bay.leaves g.B.Faulty.faults c.args.settings.now c.args.cones.items c.requires.number c.requires.new_cones c.args.workers
+    as_many g.B.Bay.files g.B.Bay.leaves g.B.Faulty.faults c.args.settings.now c.args.cones.items c.requires.number c.requires.new_cones c.busy_workers-crew.result
     c.in-Ok-lock_cones.fleet c.in-Ok-lock_cones.ensures.locks ∙ c.requires.number
 
 pub ingest_fleet-requires-clause-cones : goal.ingest_fleet-requires-clause-cones
 ingest_fleet-requires-clause-cones g c κs within =
     let few = (few_cones g.B.Bay.files g.B.Bay.leaves g.B.Faulty.faults c.args.settings.now c.args.cones.items c.requires.number c.requires.new_cones).1 in
-    let same = as_many g.B.Bay.files g.B.Bay.leaves g.B.Faulty.faults c.args.settings.now c.args.cones.items c.requires.number c.requires.new_cones c.args.workers
+    let same = as_many g.B.Bay.files g.B.Bay.leaves g.B.Faulty.faults c.args.settings.now c.args.cones.items c.requires.number c.requires.new_cones c.busy_workers-crew.result
     c.in-Ok-lock_cones.fleet c.in-Ok-lock_cones.ensures.locks in omega (arith, few, same)
 
 pub ingest_fleet-requires-clause-new_cones : goal.ingest_fleet-requires-clause-new_cones
 ingest_fleet-requires-clause-new_cones g c κs within =
-    firsts_new g.B.Bay.files g.B.Bay.leaves g.B.Faulty.faults c.args.settings.now c.args.cones.items c.requires.number c.requires.new_cones c.args.workers
+    firsts_new g.B.Bay.files g.B.Bay.leaves g.B.Faulty.faults c.args.settings.now c.args.cones.items c.requires.number c.requires.new_cones c.busy_workers-crew.result
     c.in-Ok-lock_cones.fleet c.in-Ok-lock_cones.ensures.locks
 
 pub ingest_fleet-requires-clause-pass : goal.ingest_fleet-requires-clause-pass
 ingest_fleet-requires-clause-pass g c κs within =
-    first_from c.args.workers c.in-Ok-lock_cones.fleet c.in-Ok-lock_cones.pass c.in-Ok-lock_cones.ensures.pass c.in-Ok-lock_cones.ensures.belongs
+    first_from c.busy_workers-crew.result c.in-Ok-lock_cones.fleet c.in-Ok-lock_cones.pass c.in-Ok-lock_cones.ensures.pass c.in-Ok-lock_cones.ensures.belongs
 
 pub ingest_fleet-requires-clause-quiet : goal.ingest_fleet-requires-clause-quiet
-ingest_fleet-requires-clause-quiet g c κs within = first_quiet c.args.workers c.in-Ok-lock_cones.fleet c.in-Ok-lock_cones.pass c.in-Ok-lock_cones.ensures.pass
+ingest_fleet-requires-clause-quiet g c κs within = first_quiet c.busy_workers-crew.result c.in-Ok-lock_cones.fleet c.in-Ok-lock_cones.pass c.in-Ok-lock_cones.ensures.pass
 
 -- ---- where no worker began, all is as it was
 
@@ -89,9 +90,13 @@ returns-in_default-clause-read g c = tt
 ingested : (g : given.Over) (c : After-ingest_fleet g) → HasIngested g.S.Source.remaining g.S.Faulty.faults g.S.Faulty.mark g.B.Bay.files g.B.Bay.leaves g.B.Faulty.faults
     g.B.Faulty.mark c.args.settings.now c.args.workers c.args.traces.items c.ingest_fleet.result.0.items c.args.cones.items c.ingest_fleet.result.1.items c.ingest_fleet.result.2
 ingested g c =
-    subst (λ (firsts : List (Standing _)). HasIngested g.S.Source.remaining g.S.Faulty.faults g.S.Faulty.mark g.B.Bay.files g.B.Bay.leaves g.B.Faulty.faults g.B.Faulty.mark
-    c.args.settings.now c.args.workers c.args.traces.items c.ingest_fleet.result.0.items firsts c.ingest_fleet.result.1.items c.ingest_fleet.result.2)
-    c.in-Ok-lock_cones.ensures.locks.firsts c.ingest_fleet.ensures
+    ingested_fewer c.args.settings.now c.busy_workers-crew.result c.args.workers g.S.Source.remaining g.S.Faulty.faults g.S.Faulty.mark g.B.Bay.files g.B.Bay.leaves
+    g.B.Faulty.faults g.B.Faulty.mark c.args.traces.items c.ingest_fleet.result.0.items
+    (λ trace below. c.busy_workers-crew.ensures.same trace (let n = c.len-2.ensures in let o = c.args.traces.ok in omega (arith, n, o, below)))
+    c.args.cones.items c.ingest_fleet.result.1.items c.ingest_fleet.result.2
+    (subst (λ (firsts : List (Standing _)). HasIngested g.S.Source.remaining g.S.Faulty.faults g.S.Faulty.mark g.B.Bay.files g.B.Bay.leaves g.B.Faulty.faults g.B.Faulty.mark
+    c.args.settings.now c.busy_workers-crew.result c.args.traces.items c.ingest_fleet.result.0.items firsts c.ingest_fleet.result.1.items c.ingest_fleet.result.2)
+    c.in-Ok-lock_cones.ensures.locks.firsts c.ingest_fleet.ensures)
 
 pub returns-in-Ok-lock_cones-clause-later : goal.returns-in-Ok-lock_cones-clause-later
 returns-in-Ok-lock_cones-clause-later g c = (ingested g c).later
@@ -109,7 +114,7 @@ pub returns-in-Ok-lock_cones-clause-exact : goal.returns-in-Ok-lock_cones-clause
 returns-in-Ok-lock_cones-clause-exact g c = (ingested g c).exact
 
 pub lock_cones-requires-clause-numbers : goal.lock_cones-requires-clause-numbers
-lock_cones-requires-clause-numbers g c κs within = (c.requires.least, c.requires.most)
+lock_cones-requires-clause-numbers g c κs within = (c.busy_workers-crew.ensures.least, c.busy_workers-crew.ensures.most)
 
 pub with_capacity-requires : goal.with_capacity-requires
 with_capacity-requires g c κs within = (within, ⊑_static κs.1.0)
@@ -131,10 +136,10 @@ pub ingest_fleet-requires-clause-numbers : goal.ingest_fleet-requires-clause-num
 ingest_fleet-requires-clause-numbers g c κs within = c.in-Ok-lock_cones.ensures.locks.numbers_are
 
 pub ingest_fleet-requires-clause-least : goal.ingest_fleet-requires-clause-least
-ingest_fleet-requires-clause-least g c κs within = c.requires.least
+ingest_fleet-requires-clause-least g c κs within = c.busy_workers-crew.ensures.least
 
 pub ingest_fleet-requires-clause-most : goal.ingest_fleet-requires-clause-most
-ingest_fleet-requires-clause-most g c κs within = c.requires.most
+ingest_fleet-requires-clause-most g c κs within = c.busy_workers-crew.ensures.most
 
 pub ingest_fleet-requires-clause-some : goal.ingest_fleet-requires-clause-some
 ingest_fleet-requires-clause-some g c κs within = c.requires.some

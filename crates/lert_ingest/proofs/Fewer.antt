@@ -1,0 +1,126 @@
+-- What fewer workers leave is what more of them leave, where each trace has the same worker in both crews.
+use Rattle.std.proofs.Common.{◌≡◌, ◌∙◌, ℕ, List, length, Option, Result, Ok, Err, sym, subst}
+use Rattle.std.specs.Prelude.{IfErr, OnOk}
+use Rattle.lert_base.specs.Packet.{Packet}
+use Rattle.lert_base.specs.Weave.{IsBrought, IsPartWoven, IsWoven}
+use Rattle.lert_bay.specs.Files.{Files}
+use Rattle.lert_cone.specs.Stands.{Standing}
+use Rattle.lert_spec.specs.declared.numbers.Numbers.{Numbers}
+use Rattle.lert_ingest.specs.Bays.{ArePartWoven, HoldsOpen, HoldsPart, bays_of}
+use Rattle.lert_ingest.specs.Ingest.{HasIngested}
+use Rattle.lert_ingest.specs.Shares.{AreReadBySame}
+use Rattle.lert_ingest.specs.Stops.{AreIngested, AreOpenPartly, ArePartly, StopShows}
+use Rattle.lert_ingest.specs.declared.status.Status.{Status}
+use Rattle.lert_ingest.specs.declared.status.Status.TheVariants as status
+
+module _ (s : Numbers) (fewer workers : ℕ) where
+  -- ---- the journal of a cone
+
+  module _ (cone : ℕ) (traces : List (List ℕ)) (same : AreReadBySame fewer workers (length traces)) where
+    brought : (packet : Packet) → IsBrought s fewer (length traces) packet → IsBrought s workers (length traces) packet
+    brought packet by = record {
+      some = by.some;
+      few = by.few;
+      of_them = by.of_them;
+      by_is = by.by_is ∙ same packet.trace by.of_them;
+    }
+
+    woven : (history : List Packet) → IsWoven s cone fewer traces history → IsWoven s cone workers traces history
+    woven history is = record { each = λ k d below. brought _ (is.each k d below); joined = is.joined; cut = is.cut }
+
+    part_woven : (history : List Packet) → IsPartWoven s cone fewer traces history → IsPartWoven s cone workers traces history
+    part_woven history is = record { each = λ k d below. brought _ (is.each k d below); joined = is.joined; cut = is.cut }
+
+    part_held : (seen : Files) → HoldsPart s fewer traces cone seen → HoldsPart s workers traces cone seen
+    part_held seen holds = record { history = holds.history; woven = part_woven holds.history holds.woven; sound = holds.sound }
+
+    open_held : (still : ℕ → ℕ → Type 0) (seen : Files) → HoldsOpen s fewer traces still cone seen → HoldsOpen s workers traces still cone seen
+    open_held still seen holds = record {
+      history = holds.history;
+      woven = part_woven holds.history holds.woven;
+      sound = holds.sound;
+      no_rest = holds.no_rest;
+    }
+
+  -- ---- all cones
+
+  module _ {S B : Type 0} (remaining : S → Option (List ℕ)) (faults mark : S → ℕ) (files : B → Option Files) (leaves : B → Files → Type 0)
+      (bay_faults bay_mark : B → ℕ) (opened now : List S) (same : AreReadBySame fewer workers (length opened)) where
+    -- of as many keys as there are traces
+    of_keys : (traces : List (List ℕ)) → length traces ≡ length opened → AreReadBySame fewer workers (length traces)
+    of_keys traces number = subst (AreReadBySame fewer workers) (sym number) same
+
+    ingested_by : (cones : List (Standing B)) → AreIngested remaining files leaves bay_faults s fewer opened now cones →
+        AreIngested remaining files leaves bay_faults s workers opened now cones
+    ingested_by cones are = record {
+      traces = are.traces;
+      keys = are.keys;
+      read = are.read;
+      weaving = λ number cone there. let one = are.weaving number cone there in record {
+        history = one.history;
+        woven = woven number are.traces (of_keys are.traces are.keys.number) one.history one.woven;
+        stands = one.stands;
+        sound = one.sound;
+        settings_are = one.settings_are;
+        number_is = one.number_is;
+        state_is = one.state_is;
+      };
+      fits = are.fits;
+    }
+
+    module _ (bays later : List B) where
+      held_partly : (traces : List (List ℕ)) → length traces ≡ length opened → ArePartWoven files s fewer later traces → ArePartWoven files s workers later traces
+      held_partly traces number are cone bay there seen told = part_held cone traces (of_keys traces number) seen (are cone bay there seen told)
+
+      partly_by : ArePartly remaining faults files bay_faults s fewer opened now bays later → ArePartly remaining faults files bay_faults s workers opened now bays later
+      partly_by are = record { traces = are.traces; keys = are.keys; woven = held_partly are.traces are.keys.number are.woven }
+
+      open_by : (still : ℕ → ℕ → Type 0) → AreOpenPartly remaining faults files bay_faults s fewer opened now bays later still →
+          AreOpenPartly remaining faults files bay_faults s workers opened now bays later still
+      open_by still are = record {
+        traces = are.traces;
+        keys = are.keys;
+        woven = held_partly are.traces are.keys.number are.woven;
+        still = λ cone before after was is faultless seen told.
+            open_held cone are.traces (of_keys are.traces are.keys.number) still seen (are.still cone before after was is faultless seen told);
+      }
+
+      stops_by : (answer : Status) → StopShows remaining faults files bay_faults s fewer opened now bays later answer →
+          StopShows remaining faults files bay_faults s workers opened now bays later answer
+      stops_by status.Done shows = shows
+      stops_by (status.Usage rule) shows = shows
+      stops_by status.PlaceFault shows = shows
+      stops_by (status.TraceFault trace) shows = (shows.0, open_by _ shows.1)
+      stops_by (status.BadTrace trace at) shows = (shows.0, open_by _ shows.1)
+      stops_by (status.TooLong trace) shows = (shows.0, open_by _ shows.1)
+      stops_by (status.NotFresh cone) shows = shows
+      stops_by (status.BayFault cone) shows = (shows.0, partly_by shows.1)
+      stops_by (status.CapacityFull cone n len) shows =
+          let enough = shows.1 in
+          (shows.0, record { traces = enough.traces; keys = enough.keys; enough = enough.enough }, (shows.2.0, open_by _ shows.2.1))
+      stops_by (status.Malformed cone file at) shows = (shows.0, partly_by shows.1)
+      stops_by (status.OtherSettings cone) shows = shows
+      stops_by status.OutFault shows = shows
+      stops_by status.OutOfMemory shows = shows
+
+    -- what a crew of fewer leaves, said of more
+    pub ingested_fewer : (firsts backs : List (Standing B)) (result : Result (Unit {0}) Status) →
+        HasIngested remaining faults mark files leaves bay_faults bay_mark s fewer opened now firsts backs result →
+        HasIngested remaining faults mark files leaves bay_faults bay_mark s workers opened now firsts backs result
+    ingested_fewer firsts backs result has = record {
+      later = has.later;
+      traces_later = has.traces_later;
+      read = reads result has.read;
+      stopped = stopped result has.stopped;
+      exact = record { bad = has.exact.bad; full = has.exact.full; complete = has.exact.complete };
+    }
+      where
+        reads : (answer : Result (Unit {0}) Status) → OnOk answer (AreIngested remaining files leaves bay_faults s fewer opened now backs) →
+            OnOk answer (AreIngested remaining files leaves bay_faults s workers opened now backs)
+        reads (Ok done) are = ingested_by backs are
+        reads (Err status) are = tt
+
+        stopped : (answer : Result (Unit {0}) Status) → IfErr answer (StopShows remaining faults files bay_faults s fewer opened now (bays_of firsts) (bays_of backs)) →
+            IfErr answer (StopShows remaining faults files bay_faults s workers opened now (bays_of firsts) (bays_of backs))
+        stopped (Ok done) shows = tt
+        stopped (Err status) shows = stops_by (bays_of firsts) (bays_of backs) status shows
