@@ -215,8 +215,9 @@ check_live() {
     local key metrics again
     has mkfifo pgrep || return
     key=$(echo 1 | keys pack --hash packed && keys unpack packed)
-    metrics='lert_full_ratio 0\nlert_live_bad_total 2\nlert_live_lost_total 0\nlert_live_records_total 3\n'
-    metrics+='lert_live_runs_total 1\nlert_live_up 0\n'
+    metrics='lert_live_bad_total{service="l"} 2\nlert_live_full_ratio{service="l"} 0\n'
+    metrics+='lert_live_lost_total{service="l"} 0\nlert_live_records_total{service="l"} 3\n'
+    metrics+='lert_live_runs_total{service="l"} 1\nlert_live_up{service="l"} 0\n'
     again="0 $(echo 7 | keys pack --hash packed && keys unpack packed) 3 7\nlive: run-000001: begun\n"
     again="status 0\n${again}live: the command, with status 0, has ended\nlive: nothing came for 1 seconds\n"
     again+='live: run-000001: the service ends; closed: 3 events, 0 records in no journal\n'

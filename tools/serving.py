@@ -356,14 +356,14 @@ class Service:
             ("lert_live_runs_total", "counter", "Directories that were begun.", state.serial),
             ("lert_live_stalled", "gauge", "Whether nothing comes.", int(self.is_stalled)),
             ("lert_live_free_bytes", "gauge", "What is free on the disk.", self.free()),
-            ("lert_events", "gauge", "Events in the journals of the run.", sum(counts)),
-            ("lert_reports", "gauge", "Reports of the run.", len(self.shown.keys) if directory and self.shown else 0),
-            ("lert_full_ratio", "gauge", "How full the fullest cone is.", max(counts, default=0) / directory.capacity if directory else 0),
+            ("lert_live_events", "gauge", "Events in the journals of the run.", sum(counts)),
+            ("lert_live_reports", "gauge", "Reports of the run.", len(self.shown.keys) if directory and self.shown else 0),
+            ("lert_live_full_ratio", "gauge", "How full the fullest cone is.", max(counts, default=0) / directory.capacity if directory else 0),
         ]
         made = []
         for name, kind, what, value in several:
             metric = Metric(name, kind, what)
-            metric.put(value)
+            metric.put(value, service=self.wanted.folder.name)
             made.append(metric)
         return made
 
