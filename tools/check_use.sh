@@ -125,7 +125,7 @@ shown = Counter(tuple(line.split()[:4:1])[:1] + tuple(line.split()[2:4]) for lin
 assert set(shown.values()) <= {1}, shown.most_common(1)
 state = json.loads(Path("l/state").read_text())
 places = sorted(Path("l").glob("run-*"))
-events = lost = 0
+events = 0
 for place in places:
     ended = json.loads((place / "ended").read_text())
     cones = [line.split() for line in asked(place)]
@@ -135,8 +135,8 @@ for place in places:
     assert sum(int(cone[3]) for cone in cones) == ended["events"] == ended["given"] - ended["lost"], ended
     assert printed == due, place
     assert {one[1:] for one in shown if one[0] == place.name} == set(due), place
-    events, lost = events + ended["events"], lost + ended["lost"]
-assert not state["folder"] and state["records"] == events + state["lost"] and lost <= state["lost"], state
+    events += ended["events"]
+assert not state["folder"] and state["records"] == events + state["lost"], state
 print(f"{events} {state['lost']} {len(places)}")
 END
 }
@@ -179,15 +179,17 @@ live_killed() {
     judged_live | (read -r events lost count && echo "$((events + lost >= 199000 && events + lost <= 200001)) $((count >= 4))")
 }
 
-# A file that is followed, over its rotation, and over an end of the service.
+# A file that is followed, over a crash of its run, its rotation, and an end of the service: no line is lost.
 live_followed() {
     local service
     rm -rf l log* && : >said && seq 1 1000 | sed 's/$/ a/' >log
     "$top/tools/live" --follow log --threshold 3 l >shown 2>said &
     service=$!
     for _ in {1..100}; do grep -q begun said && break || sleep 0.1; done
+    command kill -9 $(pgrep -P $service | tail -n 1)
+    for _ in {1..100}; do grep -q '000002.*begun' said && break || sleep 0.1; done
     mv log log.1 && echo last >>log.1 && seq 1 500 | sed 's/$/ a/' >log
-    for _ in {1..100}; do grep -q 'another file' said && break || sleep 0.1; done
+    for _ in {1..100}; do grep -q 'log: another file' said && break || sleep 0.1; done
     sleep 1 && command kill -TERM $service && wait $service
     echo "status $?" && seq 1 250 | sed 's/$/ a/' >>log
     "$top/tools/live" --follow log --threshold 3 --every 2 l >>shown 2>>said &
@@ -215,15 +217,16 @@ check_live() {
     local key metrics again
     has mkfifo pgrep || return
     key=$(echo 1 | keys pack --hash packed && keys unpack packed)
-    metrics='lert_full_ratio 0\nlert_live_bad_total 2\nlert_live_lost_total 0\nlert_live_records_total 3\n'
-    metrics+='lert_live_runs_total 1\nlert_live_up 0\n'
+    metrics='lert_live_bad_total{service="l"} 2\nlert_live_full_ratio{service="l"} 0\n'
+    metrics+='lert_live_lost_total{service="l"} 0\nlert_live_records_total{service="l"} 3\n'
+    metrics+='lert_live_runs_total{service="l"} 1\nlert_live_up{service="l"} 0\n'
     again="0 $(echo 7 | keys pack --hash packed && keys unpack packed) 3 7\nlive: run-000001: begun\n"
     again="status 0\n${again}live: the command, with status 0, has ended\nlive: nothing came for 1 seconds\n"
     again+='live: run-000001: the service ends; closed: 3 events, 0 records in no journal\n'
     again+='live: ended: 3 records, 0 lines that are none, 0 records in no journal\n'
     gives 'a service over 200,000 lines' 0 '2\n200000 0 3\n' '' live_full
     gives 'a service that is killed' 0 'status 0\n1 1\n' '' eval 'live_killed 2>killed'
-    gives 'a service that follows a file' 0 'status 0\nstatus 0\n1751 0 2\n' '' live_followed
+    gives 'a service that follows a file' 0 'status 0\nstatus 0\n1751 0 3\n' '' live_followed
     gives 'a service over lines that are no records' 0 "0 $key 3 1\n$metrics" '' eval 'live_bad 2>said'
     gives 'a service that is stopped by such lines' 0 'live: 1 lines are no records, the last ones: no field a\n' '' \
         eval "echo {} | live --json a --bad stop l 2>&1 | head -n 1"

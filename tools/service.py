@@ -55,7 +55,14 @@ class State:
     records: int = 0
     bad: int = 0
     lost: int = 0
+    # Of a file that is followed: the place behind what was handed on; that in which the directory's first records stand,
+    # and how many of these went to another one; and up to which place records are read again, and how many of them stand
+    # in a journal.
     place: dict[str, int] = field(default_factory=dict)
+    start: dict[str, int] = field(default_factory=dict)
+    start_skip: int = 0
+    upto: dict[str, int] = field(default_factory=dict)
+    skip: int = 0
     # Of a named pipe: whether it may begin inside a line whose beginning was read, and whether that line is counted.
     cut: bool = False
     cut_is_counted: bool = False

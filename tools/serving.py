@@ -95,6 +95,8 @@ class Service:
         self.is_full = False
         self.is_stalled = False
         self.failures = 0
+        # Of the last records: how many were read again and stand in a journal.
+        self.skipped = 0
         self.came = self.looked = self.measured = time.monotonic()
         self.bad_told, self.bad_untold = 0.0, 0
         self.chunk = min(CHUNK, max(1, capacity(wanted.settings) // BLOCKS_A_CONE))
@@ -111,11 +113,12 @@ class Service:
         self.settle_left()
         self.begin_line()
         while not self.is_stopping and self.has_place():
-            data = self.source.read(self.chunk, WAIT)
+            # It may send the source back.
+            self.tick()
+            data = self.source.read(self.most(), WAIT)
             if self.source.is_new:
                 self.source.is_new = False
                 self.end_line()
-            self.tick()
             if data is None:
                 self.stall()
             elif data:
@@ -162,15 +165,34 @@ class Service:
             self.sift(whole)
 
     def sift(self, data: bytes) -> None:
-        had_head = bool(self.sieve.head)
+        had_head, self.skipped = bool(self.sieve.head), 0
         sifted = self.sieve.sift(data)
         if self.sieve.head and not had_head:
             self.head.write_bytes(self.sieve.head)
+        if self.state.upto:
+            # What was read before was counted, too.
+            sifted = self.unskipped(sifted)
         self.count_bad(sifted.bad, sifted.why)
         if sifted.records:
             self.hand_on(sifted)
         else:
             self.save()
+
+    def unskipped(self, sifted: Sifted) -> Sifted:
+        """Those of records that are read again which stand in no journal."""
+        self.skipped = min(self.state.skip, sifted.records)
+        self.state.skip -= self.skipped
+        return Sifted(self.sieve.behind(sifted.data, self.skipped), sifted.records - self.skipped)
+
+    def most(self) -> int:
+        """How much is read at once: not beyond the place up to which it is read again."""
+        upto, place = self.state.upto, self.source.place
+        if not upto or place.get("inode") != upto["inode"]:
+            return self.chunk
+        if place["at"] < upto["at"]:
+            return min(self.chunk, upto["at"] - place["at"])
+        self.state.upto, self.state.skip = {}, 0
+        return self.chunk
 
     def count_bad(self, count: int, why: str) -> None:
         self.state.bad += count
@@ -202,7 +224,7 @@ class Service:
 
     def count(self, records: int) -> None:
         """Writes down records that are handed on next: in one step that they were read, and to which directory they go."""
-        self.state.records += records
+        self.state.records += 0 if self.state.upto else records
         self.state.given += records
         if self.directory is not None:
             self.directory.given = self.state.given
@@ -234,6 +256,9 @@ class Service:
         name = f"run-{self.state.serial:06}-{time.strftime('%Y%m%dT%H%M%SZ', time.gmtime())}"
         place = self.wanted.folder / name
         self.state.folder, self.state.given = name, 0
+        if isinstance(self.source, File):
+            self.state.start = dict(self.state.place) or {**self.source.place, "at": 0}
+            self.state.start_skip, self.skipped = self.skipped, 0
         self.count(records)
         self.directory = Directory(place, self.wanted.settings, self.wanted.packing, self.wanted.named)
         self.directory.given = records
@@ -273,11 +298,14 @@ class Service:
         for report in reported_in(place):
             shown.show(*report)
         shown.opened.close()
-        self.state.lost += ended.lost
+        is_again = self.goes_back(place, ended)
+        self.state.lost += 0 if is_again else ended.lost
         self.state.folder, self.state.given = "", 0
         self.file.save(synced=True)
         recovered = {None: "", 0: ", recovered"}.get(ended.recovered, f", not recovered: status {ended.recovered}")
         self.tell(f"{place.name}: {why}; {ended.how}{recovered}: {ended.events} events, {ended.lost} records in no journal")
+        if is_again:
+            self.tell("these are read again")
         for old in remove_old(self.wanted.folder, self.wanted.keep):
             self.tell(f"{old.name}: removed")
         self.measure()
@@ -297,10 +325,27 @@ class Service:
             else:
                 place.rename(place.with_name(f"unbegun-{place.name}"))
 
+    def goes_back(self, place: Path, ended: Ended) -> bool:
+        """Whether the records that a directory lost are read again: of a file that is still there, where the journal of
+        one cone has the first ones of those that were handed on."""
+        state, source = self.state, self.source
+        if not ended.lost or not isinstance(source, File) or place.name != state.folder or not state.start:
+            return False
+        if "--cone-bits 0" not in (place / "options").read_text() or source.name_of(state.start) is None:
+            return False
+        state.upto = state.upto or dict(state.place)
+        state.skip = state.start_skip + ended.events
+        state.place = dict(state.start)
+        source.go_on(state.start)
+        self.sieve.forget()
+        self.rest, self.is_skipping = b"", False
+        return True
+
     def count_ended(self) -> None:
         """A directory may have ended, and the service before it could count what that had lost."""
-        if self.state.folder and (ended := ended_in(self.wanted.folder / self.state.folder)) is not None:
-            self.state.lost += ended.lost
+        place = self.wanted.folder / self.state.folder
+        if self.state.folder and (ended := ended_in(place)) is not None:
+            self.state.lost += 0 if self.goes_back(place, ended) else ended.lost
             self.state.folder, self.state.given = "", 0
             self.file.save(synced=True)
 
@@ -356,14 +401,14 @@ class Service:
             ("lert_live_runs_total", "counter", "Directories that were begun.", state.serial),
             ("lert_live_stalled", "gauge", "Whether nothing comes.", int(self.is_stalled)),
             ("lert_live_free_bytes", "gauge", "What is free on the disk.", self.free()),
-            ("lert_events", "gauge", "Events in the journals of the run.", sum(counts)),
-            ("lert_reports", "gauge", "Reports of the run.", len(self.shown.keys) if directory and self.shown else 0),
-            ("lert_full_ratio", "gauge", "How full the fullest cone is.", max(counts, default=0) / directory.capacity if directory else 0),
+            ("lert_live_events", "gauge", "Events in the journals of the run.", sum(counts)),
+            ("lert_live_reports", "gauge", "Reports of the run.", len(self.shown.keys) if directory and self.shown else 0),
+            ("lert_live_full_ratio", "gauge", "How full the fullest cone is.", max(counts, default=0) / directory.capacity if directory else 0),
         ]
         made = []
         for name, kind, what, value in several:
             metric = Metric(name, kind, what)
-            metric.put(value)
+            metric.put(value, service=self.wanted.folder.name)
             made.append(metric)
         return made
 

@@ -8,6 +8,7 @@ from __future__ import annotations
 
 import csv
 import io
+from contextlib import suppress
 from typing import Callable, Iterator, NamedTuple
 
 from inputs import MOST_LINE, BadInput, Batch, column, field
@@ -72,6 +73,16 @@ class Lines:
     def held(self) -> int:
         """How many bytes wait for more: those of a row that isn't at its end."""
         return 0
+
+    def forget(self) -> None:
+        """Lets them go."""
+
+    def behind(self, data: bytes, records: int) -> bytes:
+        """What stands behind so many records of those that were sifted."""
+        at = 0
+        for _ in range(records):
+            at = data.index(b"\n", at) + 1
+        return data[at:]
 
 
 class Checked(Lines):
@@ -162,6 +173,19 @@ class Rows(Lines):
 
     def held(self) -> int:
         return sum(map(len, self.waiting))
+
+    def forget(self) -> None:
+        self.waiting = []
+
+    def behind(self, data: bytes, records: int) -> bytes:
+        row, at = b"", 0
+        for line in lines_of(data) if records else []:
+            row, at = row + line, at + len(line)
+            with suppress(BadInput):
+                records, row = records - self.counted(row), b""
+                if not records:
+                    break
+        return data[at:]
 
 
 def sieve_of(wanted_column: str | None, delimiter: str, wanted_field: str | None, hashes: bool, head: bytes) -> Lines:

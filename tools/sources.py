@@ -5,11 +5,13 @@ A read waits at most so long, gives None where nothing came, and nothing at the 
 
 from __future__ import annotations
 
+import glob
 import os
 import select
 import stat
 import subprocess
 import time
+from contextlib import suppress
 from pathlib import Path
 from typing import Callable, Sequence
 
@@ -18,6 +20,8 @@ BETWEEN_LOOKS = 0.1
 TO_END = 5.0
 # So long the last lines of a file may come behind its rotation.
 TO_TURN = 2.0
+# Files that a rotation packed can't be followed.
+PACKED = {".gz", ".bz2", ".xz", ".zst"}
 
 Tell = Callable[[str], None]
 
@@ -107,13 +111,22 @@ class File:
         if place:
             self.go_on(place)
 
-    def go_on(self, place: dict[str, int]) -> None:
-        """Opens the file that was read before, under whatever name it has by now."""
+    def name_of(self, place: dict[str, int]) -> str | None:
+        """The name that the file has by now which was read up to this place."""
         folder = Path(self.path).resolve().parent
         for one in [Path(self.path), *sorted(folder.iterdir())]:
-            if one.is_file() and one.stat().st_ino == place["inode"] and one.stat().st_size >= place["at"]:
-                self.open(str(one), place["at"])
-                return
+            with suppress(OSError):
+                found = one.stat()
+                if one.is_file() and found.st_ino == place["inode"] and found.st_size >= place["at"]:
+                    return str(one)
+        return None
+
+    def go_on(self, place: dict[str, int]) -> None:
+        """Reads on from there."""
+        name = self.name_of(place)
+        if name is not None:
+            self.open(name, place["at"])
+            return
         self.tell(f"{self.path}: what was read before isn't there any more: reading from its beginning")
         self.place = {}
 
@@ -132,7 +145,8 @@ class File:
                 self.place["at"] += len(data)
                 self.turned = None
                 return data
-            if not self.turns() and time.monotonic() >= until:
+            # Who reads has to end the last line of a file before it gets the next one's.
+            if self.turns() and self.is_new or time.monotonic() >= until:
                 return None
             time.sleep(min(BETWEEN_LOOKS, seconds))
 
@@ -152,10 +166,24 @@ class File:
         self.turned = self.turned or time.monotonic()
         if is_other and time.monotonic() < self.turned + TO_TURN:
             return False
-        self.tell(f"{self.path}: {'another file stands there' if is_other else 'it was cut'}: reading it from its beginning")
-        self.open(self.path, 0)
+        name = self.next_name() if is_other else self.path
+        self.tell(f"{name}: {'another file' if is_other else 'it was cut'}: reading it from its beginning")
+        self.open(name, 0)
         self.is_new = True
         return True
+
+    def next_name(self) -> str:
+        """The file behind the one that was read to its end: it may have been rotated itself by now. The one that was written
+        to its end first comes first."""
+        ended = os.fstat(self.file)
+        found: list[tuple[int, str]] = []
+        for one in Path(self.path).parent.glob(f"{glob.escape(Path(self.path).name)}.*"):
+            with suppress(OSError):
+                state = one.stat()
+                is_later = state.st_mtime_ns > ended.st_mtime_ns and state.st_ino != ended.st_ino
+                if is_later and one.is_file() and one.suffix not in PACKED:
+                    found.append((state.st_mtime_ns, str(one)))
+        return min(found)[1] if found else self.path
 
     def end(self) -> None:
         """Nothing more is read."""
