@@ -1,5 +1,6 @@
--- Which fault of several is answered: want of memory of a cone; else the fault of the lowest trace, the lowest bad trace, the lowest trace
--- too long; else the lowest cone that its bay or a read broke; else the lowest cone that is full.
+-- Which fault of several is answered: that of the lowest trace; else the lowest bad trace; else the lowest trace too long; else the
+-- lowest cone that its bay broke; else the lowest that a read broke; else the lowest that is full. Want of memory goes before all,
+-- and comes before any of these can.
 use Rattle.std.specs.Prelude.{◌≡◌, ℕ, zero, suc, ◌==◌, nat_lt, ◌&&◌, ◌||◌, Bool, List, Option, Some, None, slice_get, if◌then◌else◌}
 use Rattle.lert_cone.specs.Stands.{Standing}
 use Rattle.lert_base.specs.declared.cone_fault.ConeFault.{ConeFault}

@@ -37,10 +37,11 @@ pub type Ingested<S, B, T> = (VecDeque<S>, Vec<Cone<B, T>>, Result<(), Status>);
 
 /// Reads 1 to 1,024 traces into cones that were just made, one for each number of the settings, by 1 to 64 workers on several threads.
 ///
-/// Trace t is read by worker t modulo their number; those that would read none aren't made. Answers the traces and the cones in their order. With Ok all was read, and
-/// the cones take more packets. Of several faults that of the lowest trace is answered; else the lowest bad trace; else the lowest
-/// trace with more than 2^36 keys; else the lowest cone that its bay or a read broke; else the lowest cone that is full; and want of
-/// memory before them all. The memory of locks, workers and rings is taken before the first byte of a trace is read.
+/// Trace t is read by worker t modulo their number; those that would read none aren't made. Answers the traces and the cones in
+/// their order. With Ok all was read, and the cones take more packets. Of several faults that of the lowest trace is answered; else
+/// the lowest bad trace; else the lowest trace with more than 2^36 keys; else the lowest cone that its bay broke; else the lowest
+/// that a read broke; else the lowest that is full. The memory of locks, workers and rings is taken before the first byte of a trace
+/// is read, and where it is wanting none is.
 pub fn ingest<S: Source + Send, B: Bay + Send, T: CountTable + Send, R: Threads + Wait + Sync>(
     rt: &R,
     alloc: Global,

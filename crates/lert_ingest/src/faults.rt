@@ -25,8 +25,8 @@ pub fn first_of_ends<S: Source, H: Held<Refusal = ConeFault>>(
     first
 }
 
-/// The fault that is answered of what cones may still do: want of memory; else the lowest that its bay broke; else the lowest that a
-/// read broke. None exactly where none is broken.
+/// The fault that is answered of what cones may still do: that of the lowest that its bay broke; else that of the lowest that a read
+/// broke. None exactly where none is broken.
 pub fn first_of_cones<B: Bay, T: CountTable>(cones: &[Cone<B, T>]) -> Option<Status>
     requires { length cones.now ≤ 256 }
     ensures first { result ≡ earliest (fault_at cones.now) (length cones.now) }

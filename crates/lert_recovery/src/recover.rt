@@ -24,8 +24,8 @@ use std::collections::VecDeque;
 /// all cones, reopens these in ascending order, up to the first that is refused, prints, and puts the bays back, whatever the
 /// status. It finishes no cone, changes no journal, and leaves files sound that were so. Files of other settings, and files that
 /// leave their format before the records of the journal, it leaves as they were, byte for byte, and where the memory is wanting all
-/// bays; in any case a log in its format keeps its records as a beginning. Of a journal it reads the header and the records from the one on that the cone's log names; damage before that isn't
-/// found. Nothing is written to the sink before all cones are open.
+/// bays; in any case a log in its format keeps its records as a beginning. Of a journal it reads the header and the records from
+/// the one on that the cone's log names; damage before that isn't found. Nothing is written to the sink before all cones are open.
 pub fn recover_to<P: Place, K: Sink>(
     alloc: Global,
     settings: &Settings,
