@@ -1,9 +1,9 @@
 -- A cone's log through calls in turn, and the frames that it names, whether or not the files are sound for a list.
 use Rattle.std.proofs.Common.{◌≡◌, ℕ, suc, ◌+◌, ◌-◌, ◌<◌, ◌≤◌, List, [], ◌∷◌, ◌++◌, All, length, map, get_or, refl, sym, ap, ◌∙◌, subst}
 use Rattle.std.proofs.Common.{append_assoc, append-nil, arith}
-use Rattle.std.specs.Prelude.{slice_index_or, Contains}
+use Rattle.std.specs.Prelude.{fold, slice_index_or, Contains}
 use Rattle.std.proofs.lemmas.List.{get_or-map, length-map}
-use Rattle.std.proofs.lemmas.List.Elements.{All-append, All-cons, All-nil, Contains-get_or}
+use Rattle.std.proofs.lemmas.List.Elements.{Contains-get_or}
 use Rattle.lert_bay.specs.Files.{Files}
 use Rattle.lert_bay.specs.Settled.{part}
 use Rattle.lert_frames.specs.Frame.{HoldsFrame}
@@ -18,7 +18,7 @@ use Rattle.lert_reports.specs.Log.{HasRecords, last_directory, last_n0, most_rec
 use Rattle.lert_reports.specs.LogText.{LogRecord, log_payload_of}
 use Rattle.lert_spec.specs.declared.numbers.Numbers.{Numbers}
 use Rattle.lert_cone.specs.Framed.{HoldsSome}
-use Rattle.lert_cone.specs.KeepsLog.{InDirectory, NamesRows, HoldsNamed, KeepsRecords, KeepsLog}
+use Rattle.lert_cone.specs.KeepsLog.{AreNextFlushes, IsNextFlush, InDirectory, NamesRows, HoldsNamed, KeepsRecords, KeepsLog}
 use Rattle.lert_cone.specs.Wrote.{IsShut}
 use Rattle.lert_cone.proofs.StepLaws.{first_same}
 use Rattle.lert_cone.proofs.WroteLaws.{torn_behind}
@@ -92,23 +92,36 @@ module _ (s : Numbers) (records : List LogRecord) (gate : ℕ) (before after : L
     stand = subst (λ (rs : List LogRecord). HasRecords s after rs gate) (sym (append-nil records)) stand;
     forward = omega arith;
     beginning = beginning;
-    flushes = All-nil (λ (one : LogRecord). one.kind ≡ LogKind.Flush);
+    flushes = tt;
   }
 
   -- one came
-  abbrev pub records_push : (one : LogRecord) (end : ℕ) → one.kind ≡ LogKind.Flush → gate ≤ end → HasRecords s after (records ++ one ∷ []) end → KeepsRecords s records gate before after
+  abbrev pub records_push : (one : LogRecord) (end : ℕ) → IsNextFlush s (last_n0 records) one → gate ≤ end → HasRecords s after (records ++ one ∷ []) end → KeepsRecords s records gate before after
   records_push one end is forward stand = record {
     more = one ∷ [];
     end = end;
     stand = stand;
     forward = forward;
     beginning = beginning;
-    flushes = All-cons (λ (r : LogRecord). r.kind ≡ LogKind.Flush) one [] is (All-nil (λ (r : LogRecord). r.kind ≡ LogKind.Flush));
+    flushes = (is, tt);
   }
 
 -- the records up to a gate are one list
 pub one_end : (s : Numbers) (bytes : List ℕ) (records : List LogRecord) (end too : ℕ) → HasRecords s bytes records end → HasRecords s bytes records too → end ≡ too
 one_end s bytes records end too one other = (one_list (most_record s) bytes 8 (map log_payload_of records) (map log_payload_of records) end too one other).1
+
+-- after how many events the last of some records was written, where others stand before them
+pub last_after : (n0 : ℕ) (records more : List LogRecord) →
+    fold (λ (earlier : ℕ) (record_ : LogRecord). record_.n0) n0 (records ++ more)
+    ≡ fold (λ (earlier : ℕ) (record_ : LogRecord). record_.n0) (fold (λ (earlier : ℕ) (record_ : LogRecord). record_.n0) n0 records) more
+last_after n0 [] more = refl
+last_after n0 (one ∷ records) more = last_after one.n0 records more
+
+-- flushes in turn, and then others
+pub flushes_on : (s : Numbers) (n0 : ℕ) (more others : List LogRecord) → AreNextFlushes s n0 more →
+    AreNextFlushes s (fold (λ (earlier : ℕ) (record_ : LogRecord). record_.n0) n0 more) others → AreNextFlushes s n0 (more ++ others)
+flushes_on s n0 [] others first second = second
+flushes_on s n0 (one ∷ more) others first second = (first.0, flushes_on s one.n0 more others first.1 second)
 
 -- some came, and then others
 abbrev pub records_on : (s : Numbers) (records : List LogRecord) (gate between : ℕ) (first middle last : List ℕ) (one : KeepsRecords s records gate first middle) → one.end ≡ between →
@@ -119,7 +132,7 @@ records_on s records gate between first middle last one end_is two = record {
   stand = subst (λ (rs : List LogRecord). HasRecords s last rs two.end) (append_assoc records one.more two.more) two.stand;
   forward = omega (arith, one.forward, two.forward, end_is);
   beginning = first_same last middle between gate (omega (arith, one.forward, end_is)) two.beginning ∙ one.beginning;
-  flushes = All-append (λ (r : LogRecord). r.kind ≡ LogKind.Flush) one.more two.more one.flushes two.flushes;
+  flushes = flushes_on s (last_n0 records) one.more two.more one.flushes (subst (λ n. AreNextFlushes s n two.more) (last_after 0 records one.more) two.flushes);
 }
 
 -- ---- the files

@@ -1,7 +1,7 @@
 -- A cone's log through the calls of a bay: reads, calls in turn, a flush, and the record behind a flush.
-use Rattle.std.proofs.Common.{◌≡◌, ◌≢◌, ℕ, ◌≤◌, List, [], ◌∷◌, ◌++◌, length, map, drop, Option, Some, Result, Ok, Err, OnOk, refl, sym, ap, ◌∙◌, subst, inl, inr}
+use Rattle.std.proofs.Common.{◌≡◌, ◌≢◌, ℕ, ◌-◌, ◌≤◌, List, [], ◌∷◌, ◌++◌, length, map, drop, Option, Some, Result, Ok, Err, OnOk, refl, sym, ap, ◌∙◌, subst, inl, inr}
 use Rattle.std.proofs.Common.{append_assoc, append-nil, arith}
-use Rattle.std.proofs.lemmas.List.{map-append}
+use Rattle.std.proofs.lemmas.List.{length-map, map-append}
 use Rattle.std.proofs.lemmas.Option.{same_Some}
 use Rattle.lert_bay.specs.Files.{Files, IfTold, Turns}
 use Rattle.lert_bay.specs.Images.{Lasts}
@@ -20,11 +20,11 @@ use Rattle.lert_reports.specs.LogText.{LogRecord, log_payload, log_payload_of}
 use Rattle.lert_reports.proofs.LogLaws.{last_directory-push, last_n0-push}
 use Rattle.lert_spec.specs.declared.numbers.Numbers.{Numbers}
 use Rattle.lert_spec.specs.declared.report.Report.{Report}
-use Rattle.lert_spec.specs.Edges.{edge}
+use Rattle.lert_spec.specs.Edges.{edge, capacity}
 use Rattle.lert_spec.specs.Limits.{IsValid}
 use Rattle.lert_cone.specs.Appends.{AppendsRecord}
 use Rattle.lert_cone.specs.Framed.{HoldsSome}
-use Rattle.lert_cone.specs.KeepsLog.{NamesRows, HoldsNamed, KeepsRecords, KeepsLog, LogHead, IsHeadOf, KeepsLogOf}
+use Rattle.lert_cone.specs.KeepsLog.{IsNextFlush, NamesRows, HoldsNamed, KeepsRecords, KeepsLog, LogHead, IsHeadOf, KeepsLogOf}
 use Rattle.lert_cone.specs.Logged.{frames_of}
 use Rattle.lert_cone.specs.Marks.{oldest_mark}
 use Rattle.lert_cone.specs.Record.{LogPlace, payload_at}
@@ -32,7 +32,7 @@ use Rattle.lert_cone.specs.Replays.{IsUnwritten}
 use Rattle.lert_cone.specs.Wrote.{IsShutIfTold}
 use Rattle.lert_cone.proofs.Calls.{now_since}
 use Rattle.lert_cone.proofs.KeepsLogLaws.{begins_each, gate_within, in_named, keeps_log_none, keeps_log_on, named_some, one_end, records_each, records_on, records_push, records_same}
-use Rattle.lert_cone.proofs.LogLaws.{directory_is}
+use Rattle.lert_cone.proofs.LogLaws.{directory_is, frames_are}
 use Rattle.lert_cone.proofs.RecordLaws.{payload_is_at}
 use Rattle.lert_cone.proofs.StepLaws.{frames_since}
 use Rattle.lert_cone.proofs.TakeLaws.{ok_holds}
@@ -42,6 +42,14 @@ pub step_of : (step : Files → Files → Type 0) (before after : Option Files) 
 step_of step before after turns seen told now told_now =
     let came = turns.told seen told in
     subst (step seen) (same_Some came.0 now (sym came.1 ∙ told_now)) came.2
+
+-- after a flush at position n0, behind n events: the rows are those after it, level 0's edge moves there, and not before
+pub record IsFlushed (s : Numbers) (n n0 : ℕ) (moved : List (List BinAt)) : Type 0 where
+  pub at : IsAt s n0 moved
+  pub are : AreRows s moved
+  pub fits : n0 ≤ capacity s
+  pub moves : edge s 0 n0 ≢ edge s 0 (n0 - 1)
+  pub behind : edge s 0 n ≡ edge s 0 (n0 - 1)
 
 -- memory goes on with the same records
 pub head_nil : (s : Numbers) (records : List LogRecord) (head : LogHead) (bytes : List ℕ) → IsHeadOf s records head bytes → IsHeadOf s (records ++ []) head bytes
@@ -163,7 +171,7 @@ module _ {B : Type 0} (bays : Bays B) (lawful : IsLawful bays) (s : Numbers) whe
 
       -- ---- the record of a flush, appended or not
 
-      module _ (later : bays.moment old ≤ bays.moment bay) (shut_then : IsShutIfTold (bays.files bay) (bays.leaves bay) 1 gate) (moved : List (List BinAt)) (n0 : ℕ) (at : IsAt s n0 moved)
+      module _ (later : bays.moment old ≤ bays.moment bay) (shut_then : IsShutIfTold (bays.files bay) (bays.leaves bay) 1 gate) (moved : List (List BinAt)) (n0 : ℕ) (flushed : IsFlushed s n n0 moved)
           (framed : IfTold (bays.files old) (λ seen. HoldsSome s n rows (seen 2) → IfTold (bays.files bay) (λ now. HoldsSome s n0 moved (now 2))))
           (reports : List Report) (log : LogPlace) (gate_is : log.gate ≡ gate) (most_is : log.most ≡ most_record s)
           {E : Type 0} (wrote : Result (Unit {0}) E) (bay_after : B) (log_after : LogPlace)
@@ -193,6 +201,16 @@ module _ {B : Type 0} (bays : Bays B) (lawful : IsLawful bays) (s : Numbers) whe
 
             read_mid : bays.leaves bay mid
             read_mid = lawful.as_read bay mid told_mid
+
+            next : IsNextFlush s (last_n0 records) one
+            next = record {
+              flush = refl;
+              moves = flushed.moves;
+              next = is.newest ∙ flushed.behind;
+              within = flushed.fits;
+              levels = length-map moved (λ (row : List BinAt). map (λ (bin : BinAt). bin.frame) row) ∙ flushed.at.levels;
+              frames = frames_are s n0 moved flushed.at flushed.are;
+            }
 
             -- with the record
             with_one : (bytes : List ℕ) (end : ℕ) → IsGated log.most bytes 8 (map log_payload_of records ++ payload_at log LogKind.Flush n0 (directory_text moved) reports ∷ []) end →
@@ -229,7 +247,7 @@ module _ {B : Type 0} (bays : Bays B) (lawful : IsLawful bays) (s : Numbers) whe
             append_each : InEach (bays.left_since bay_after (bays.moment bay)) 1 (KeepsRecords s records gate (seen 1))
             append_each image here = elim (appends.each_moment mid told_mid 8 (map log_payload_of records) all image here) [
               | inl without ↦ records_same s records gate (seen 1) (image 1) (begins image here) (without_one (image 1) without)
-              | inr with ↦ records_push s records gate (seen 1) (image 1) (begins image here) one (next_gate log.gate (payload_at log LogKind.Flush n0 (directory_text moved) reports)) refl
+              | inr with ↦ records_push s records gate (seen 1) (image 1) (begins image here) one (next_gate log.gate (payload_at log LogKind.Flush n0 (directory_text moved) reports)) next
                   forward (with_one (image 1) _ with)
             ]
 
@@ -240,28 +258,28 @@ module _ {B : Type 0} (bays : Bays B) (lawful : IsLawful bays) (s : Numbers) whe
             ]
 
             names_moved : NamesRows s (records ++ one ∷ []) moved
-            names_moved = record { directory = last_directory-push s records one; at = subst (λ k. IsAt s k moved) (sym (last_n0-push records one)) at }
+            names_moved = record { directory = last_directory-push s records one; at = subst (λ k. IsAt s k moved) (sym (last_n0-push records one)) flushed.at }
 
             -- the frames behind the append
             module _ (now : Files) (told_now : bays.files bay_after ≡ Some now) where
               stays : OthersStay 1 mid now
               stays = step_of (OthersStay 1) (bays.files bay) (bays.files bay_after) appends.seen mid told_mid now told_now
 
-              frames_are : now 2 ≡ mid 2
-              frames_are = stays 2 (λ same. absurd (omega (arith, same)))
+              frames_same : now 2 ≡ mid 2
+              frames_same = stays 2 (λ same. absurd (omega (arith, same)))
 
               since : bays.left_since bay_after (bays.moment bay) now
               since = now_since bays lawful bay bay_after appends.kept.time.later now (lawful.as_read bay_after now told_now)
 
               longer_now : length (seen 2) ≤ length (now 2)
-              longer_now = omega (arith, leaves_mid.longer, ap (length {A = ℕ}) frames_are)
+              longer_now = omega (arith, leaves_mid.longer, ap (length {A = ℕ}) frames_same)
 
               abbrev kept_without : HasRecords s (now 1) records gate → KeepsLog s records gate seen now
               kept_without stand = record {
                 log = records_same s records gate (seen 1) (now 1) (begins now since) stand;
                 longer = longer_now;
-                same = λ nothing from to named within. ap (λ (bytes : List ℕ). part bytes from to) frames_are ∙ leaves_mid.rest from to (in_named s records rows from to is.names named) within;
-                frames = λ holds. subst (λ (file : List ℕ). HoldsNamed s (records ++ []) file) (sym frames_are) (named_stays seen told records is mid leaves_mid holds);
+                same = λ nothing from to named within. ap (λ (bytes : List ℕ). part bytes from to) frames_same ∙ leaves_mid.rest from to (in_named s records rows from to is.names named) within;
+                frames = λ holds. subst (λ (file : List ℕ). HoldsNamed s (records ++ []) file) (sym frames_same) (named_stays seen told records is mid leaves_mid holds);
               }
 
               moved_holds : HoldsNamed s records (seen 2) → HoldsNamed s (records ++ one ∷ []) (now 2)
@@ -275,12 +293,12 @@ module _ {B : Type 0} (bays : Bays B) (lawful : IsLawful bays) (s : Numbers) whe
                     rows = moved;
                     names = names_moved;
                     some = subst (λ k. HoldsSome s k moved (now 2)) (sym (last_n0-push records one))
-                        (subst (λ (file : List ℕ). HoldsSome s n0 moved file) (sym frames_are) (framed seen told some mid told_mid));
+                        (subst (λ (file : List ℕ). HoldsSome s n0 moved file) (sym frames_same) (framed seen told some mid told_mid));
                   }
 
               abbrev kept_with : (end : ℕ) → gate ≤ end → HasRecords s (now 1) (records ++ one ∷ []) end → KeepsLog s records gate seen now
               kept_with end on stand = record {
-                log = records_push s records gate (seen 1) (now 1) (begins now since) one end refl on stand;
+                log = records_push s records gate (seen 1) (now 1) (begins now since) one end next on stand;
                 longer = longer_now;
                 same = λ nothing. (let never : 1 ≡ 0 = ap (length {A = LogRecord}) nothing in absurd (omega (arith, never)));
                 frames = moved_holds;
@@ -302,7 +320,7 @@ module _ {B : Type 0} (bays : Bays B) (lawful : IsLawful bays) (s : Numbers) whe
               }
 
       -- it didn't fail
-      module _ (later : bays.moment old ≤ bays.moment bay) (shut_then : IsShutIfTold (bays.files bay) (bays.leaves bay) 1 gate) (moved : List (List BinAt)) (n0 : ℕ) (at : IsAt s n0 moved)
+      module _ (later : bays.moment old ≤ bays.moment bay) (shut_then : IsShutIfTold (bays.files bay) (bays.leaves bay) 1 gate) (moved : List (List BinAt)) (n0 : ℕ) (flushed : IsFlushed s n n0 moved)
           (framed : IfTold (bays.files old) (λ seen. HoldsSome s n rows (seen 2) → IfTold (bays.files bay) (λ now. HoldsSome s n0 moved (now 2))))
           (reports : List Report) (log : LogPlace) (gate_is : log.gate ≡ gate) (most_is : log.most ≡ most_record s) {E : Type 0} (bay_after : B) (log_after : LogPlace)
           (appends : AppendsRecord {E = E} bays LogKind.Flush n0 (directory_text moved) reports bay bay_after log log_after (Ok tt))
@@ -310,20 +328,20 @@ module _ {B : Type 0} (bays : Bays B) (lawful : IsLawful bays) (s : Numbers) whe
           pub log_flushed : {F : Type 0} → KeepsLogOf {T = Unit {0}} {E = F} bays s head (record { rows = moved; events = n0; gate = log_after.gate }) old bay_after (Ok tt)
           log_flushed seen told records is =
               let mid = rest.seen.told seen told in
-              let new = one later shut_then moved n0 at framed reports log gate_is most_is (Ok tt) bay_after log_after appends in
+              let new = one later shut_then moved n0 flushed framed reports log gate_is most_is (Ok tt) bay_after log_after appends in
               record {
                 read = λ now told_now.
-                    let stand = with_one later shut_then moved n0 at framed reports log gate_is most_is (Ok tt) bay_after log_after appends seen told records is mid.0 mid.1 (now 1) log_after.gate
+                    let stand = with_one later shut_then moved n0 flushed framed reports log gate_is most_is (Ok tt) bay_after log_after appends seen told records is mid.0 mid.1 (now 1) log_after.gate
                     (appends.appended mid.0 mid.1 8 (map log_payload_of records)
-                    (all later shut_then moved n0 at framed reports log gate_is most_is (Ok tt) bay_after log_after appends seen told records is mid.0 mid.1) now
+                    (all later shut_then moved n0 flushed framed reports log gate_is most_is (Ok tt) bay_after log_after appends seen told records is mid.0 mid.1) now
                     (lawful.as_read bay_after now told_now)) in (
-                      kept_with later shut_then moved n0 at framed reports log gate_is most_is (Ok tt) bay_after log_after appends seen told records is mid.0 mid.1 now told_now log_after.gate
+                      kept_with later shut_then moved n0 flushed framed reports log gate_is most_is (Ok tt) bay_after log_after appends seen told records is mid.0 mid.1 now told_now log_after.gate
                           (omega (arith, gate_is, ap (λ (l : LogPlace). l.gate) appends.moved)) stand,
                       record {
                         stand = stand;
-                        names = names_moved later shut_then moved n0 at framed reports log gate_is most_is (Ok tt) bay_after log_after appends seen told records is mid.0 mid.1;
+                        names = names_moved later shut_then moved n0 flushed framed reports log gate_is most_is (Ok tt) bay_after log_after appends seen told records is mid.0 mid.1;
                         newest = ap (edge s 0) (last_n0-push records new);
                       },
                     );
-                each_moment = each later shut_then moved n0 at framed reports log gate_is most_is (Ok tt) bay_after log_after appends seen told records is mid.0 mid.1;
+                each_moment = each later shut_then moved n0 flushed framed reports log gate_is most_is (Ok tt) bay_after log_after appends seen told records is mid.0 mid.1;
               }

@@ -7,12 +7,12 @@ use Rattle.lert_gatelog.specs.Gated.{IsGated}
 use Rattle.lert_gatelog.specs.Kept.{InEach, IsWithOrWithout, OthersStay}
 use Rattle.lert_levels.specs.Flushed.{InNamed}
 use Rattle.lert_rows.specs.declared.bin_at.BinAt.{BinAt}
-use Rattle.lert_rows.specs.Rows.{IsAt, directory_text}
+use Rattle.lert_rows.specs.Rows.{AreRows, IsAt, directory_text}
 use Rattle.lert_reports.specs.declared.log.LogKind.{LogKind}
 use Rattle.lert_reports.specs.Log.{most_record}
 use Rattle.lert_reports.specs.LogText.{log_payload_of}
 use Rattle.lert_spec.specs.declared.numbers.Numbers.{Numbers}
-use Rattle.lert_spec.specs.Edges.{edge}
+use Rattle.lert_spec.specs.Edges.{edge, capacity}
 use Rattle.lert_base.specs.Packet.{Packet}
 use Rattle.lert_cone.specs.declared.marks.Mark.{Mark}
 use Rattle.lert_cone.specs.declared.tally.TakeFault.{TakeFault}
@@ -31,7 +31,7 @@ use Rattle.lert_cone.specs.Tally.{Tallied, IsHeld}
 use Rattle.lert_bay.proofs.KeptLaws.{IsLawful, keeps_as, keeps_on}
 use Rattle.lert_cone.proofs.Calls.{now_since, alone_on, alone_rest, alone_others, settled_alone, shut_alone}
 use Rattle.lert_cone.proofs.FlushLaws.{flush_passed}
-use Rattle.lert_cone.proofs.KeepsLogSteps.{log_failed, log_flushed, log_rest}
+use Rattle.lert_cone.proofs.KeepsLogSteps.{IsFlushed, log_failed, log_flushed, log_rest}
 use Rattle.lert_cone.proofs.KeyStep.{IsTaken, held_of, sound_rest, taken_of, up_between, sound_append, up_flushed}
 use Rattle.lert_cone.proofs.MarkLaws.{record_part}
 use Rattle.lert_cone.proofs.RecordLaws.{record_fits, logging_more}
@@ -127,8 +127,15 @@ module _ {B : Type 0} (bays : Bays B) (lawful : IsLawful bays) (mark : Mark) (ol
     }
 
     -- the rows and the frames after it, by the settings of before
-    at_then : IsAt old.counts.listing.settings (length counts.listing.events) counts.rows
-    at_then = subst (λ (s : Numbers). IsAt s (length counts.listing.events) counts.rows) settings_are did.counted.rows
+    flushed_then : edge old.counts.listing.settings 0 (length counts.listing.events) ≢ edge old.counts.listing.settings 0 (length counts.listing.events - 1) →
+        IsFlushed old.counts.listing.settings (length old.counts.listing.events) (length counts.listing.events) counts.rows
+    flushed_then moves = record {
+      at = subst (λ (s : Numbers). IsAt s (length counts.listing.events) counts.rows) settings_are did.counted.rows;
+      are = subst (λ (s : Numbers). AreRows s counts.rows) settings_are did.counted.are;
+      fits = subst (λ (s : Numbers). length counts.listing.events ≤ capacity s) settings_are did.counted.fits;
+      moves = moves;
+      behind = ap (edge old.counts.listing.settings 0) (let before : length old.counts.listing.events ≡ length counts.listing.events - 1 = omega (arith, long) in before);
+    }
 
     framed_then : IfTold (bays.files old.bay) (λ seen. HoldsSome old.counts.listing.settings (length old.counts.listing.events) old.counts.rows (seen 2) →
         IfTold (bays.files bay) (λ after. HoldsSome old.counts.listing.settings (length counts.listing.events) counts.rows (after 2)))
@@ -253,7 +260,7 @@ module _ {B : Type 0} (bays : Bays B) (lawful : IsLawful bays) (mark : Mark) (ol
       whole = λ seen told some at same. (let never : ⊥ = cc in never);
       unflushed = λ passed. absurd (never_passed moves_now few (Err failed) bay_after log_after appends passed);
       log = log_failed bays lawful old.counts.listing.settings can.counted.valid old.counts.rows can.counted.are (length old.counts.listing.events) old.log.gate old.bay bay did.rest
-          can.can_log.log_shut did.kept.time.later can_log_then.log_shut counts.rows (length counts.listing.events) at_then framed_then counts.due.reports log_then refl
+          can.can_log.log_shut did.kept.time.later can_log_then.log_shut counts.rows (length counts.listing.events) (flushed_then (moves moves_now few (Err failed) bay_after log_after appends)) framed_then counts.due.reports log_then refl
           can.can_log.logging.most (Err failed) bay_after log_after appends (record { rows = counts.rows; events = length counts.listing.events; gate = log_after.gate }) Failed;
       keeps = record {
         shows = λ seen told file at same. absurd (let never : ⊥ = cc in never);
@@ -311,7 +318,7 @@ module _ {B : Type 0} (bays : Bays B) (lawful : IsLawful bays) (mark : Mark) (ol
       whole = did.whole;
       unflushed = λ passed. absurd (never_passed moves_now few (Ok tt) bay_after log_after appends passed);
       log = log_flushed bays lawful old.counts.listing.settings can.counted.valid old.counts.rows can.counted.are (length old.counts.listing.events) old.log.gate old.bay bay did.rest
-          can.can_log.log_shut did.kept.time.later can_log_then.log_shut counts.rows (length counts.listing.events) at_then framed_then counts.due.reports log_then refl
+          can.can_log.log_shut did.kept.time.later can_log_then.log_shut counts.rows (length counts.listing.events) (flushed_then (moves moves_now few (Ok tt) bay_after log_after appends)) framed_then counts.due.reports log_then refl
           can.can_log.logging.most bay_after log_after appends;
       keeps = record {
         shows = λ seen told file at same. absurd (let never : ⊥ = cc in never);

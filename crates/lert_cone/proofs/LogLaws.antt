@@ -93,7 +93,7 @@ bins_are s level n =
     ∙ sym (length-filter some (map (range_at width low high) intervals) ∙ count_map (range_at width low high) some intervals)
 
 -- the frames of rows are those of a record
-frames_are : (s : Numbers) (n : ℕ) (rows : List (List BinAt)) → IsAt s n rows → AreRows s rows → (k : ℕ) → k < s.levels → AreFrames s (k + 1) n (slice_index_or (frames_of rows) k [])
+pub frames_are : (s : Numbers) (n : ℕ) (rows : List (List BinAt)) → IsAt s n rows → AreRows s rows → (k : ℕ) → k < s.levels → AreFrames s (k + 1) n (slice_index_or (frames_of rows) k [])
 frames_are s n rows at are k below =
     let frame : BinAt → ℕ = λ bin. bin.frame in
     let frames : List BinAt → List ℕ = λ row. map frame row in

@@ -1,5 +1,5 @@
 -- What a reopening keeps of a cone's log and of the frames that it names, whether or not the files are sound for a list.
-use Rattle.std.specs.Prelude.{◌≡◌, ℕ, ◌+◌, ◌-◌, ◌≤◌, max, List, [], ◌++◌, All, Contains, length, slice_index_or, Result, OnOk}
+use Rattle.std.specs.Prelude.{◌≡◌, ◌≢◌, ℕ, ◌+◌, ◌-◌, ◌<◌, ◌≤◌, max, List, [], ◌∷◌, ◌++◌, Contains, length, slice_index_or, Result, OnOk}
 use Rattle.lert_bay.specs.Files.{Files, IfTold}
 use Rattle.lert_bay.specs.Kept.{Bays}
 use Rattle.lert_bay.specs.Settled.{part}
@@ -10,9 +10,10 @@ use Rattle.lert_rows.specs.declared.bin_at.BinAt.{BinAt}
 use Rattle.lert_rows.specs.Rows.{IsAt}
 use Rattle.lert_reports.specs.declared.log.LogKind.{LogKind}
 use Rattle.lert_reports.specs.Log.{HasRecords, last_n0, last_directory}
+use Rattle.lert_reports.specs.LogRules.{AreFrames}
 use Rattle.lert_reports.specs.LogText.{LogRecord}
 use Rattle.lert_spec.specs.declared.numbers.Numbers.{Numbers}
-use Rattle.lert_spec.specs.Edges.{edge}
+use Rattle.lert_spec.specs.Edges.{edge, capacity}
 use Rattle.lert_cone.specs.Framed.{HoldsSome}
 use Rattle.lert_cone.specs.Logged.{frames_of}
 use Rattle.lert_cone.specs.Stands.{Standing}
@@ -42,15 +43,30 @@ pub record HoldsNamed (s : Numbers) (records : List LogRecord) (file : List ℕ)
 
 -- ---- what is kept
 
+-- a record of the next flush behind n0 events: it stands at a flush position, and none lies between; and its frames are as those of
+-- a log's record
+pub record IsNextFlush (s : Numbers) (n0 : ℕ) (one : LogRecord) : Type 0 where
+  pub flush : one.kind ≡ LogKind.Flush
+  pub moves : edge s 0 one.n0 ≢ edge s 0 (one.n0 - 1)
+  pub next : edge s 0 n0 ≡ edge s 0 (one.n0 - 1)
+  pub within : one.n0 ≤ capacity s
+  pub levels : length one.directory ≡ s.levels
+  pub frames : (k : ℕ) → k < s.levels → AreFrames s (k + 1) one.n0 (slice_index_or one.directory k [])
+
+-- records of the flushes behind n0 events, in turn
+abbrev pub AreNextFlushes : Numbers → ℕ → List LogRecord → Type 0
+AreNextFlushes s n0 [] = Unit {0}
+AreNextFlushes s n0 (one ∷ rest) = IsNextFlush s n0 one × AreNextFlushes s one.n0 rest
+
 -- Where a log had some records up to a gate, it has these bytes now: up to that gate they are as they were, the records are the
--- first of those that stand there, and those behind them are records of flushes.
+-- first of those that stand there, and those behind them are records of the next flushes.
 pub record KeepsRecords (s : Numbers) (records : List LogRecord) (gate : ℕ) (before after : List ℕ) : Type 0 where
   pub more : List LogRecord
   pub end : ℕ
   pub stand : HasRecords s after (records ++ more) end
   pub forward : gate ≤ end
   pub beginning : part after 0 gate ≡ part before 0 gate
-  pub flushes : All (λ one. one.kind ≡ LogKind.Flush) more
+  pub flushes : AreNextFlushes s (last_n0 records) more
 
 -- From some files to others the log keeps its records, to which others may have come. As long as none came, the frames that the
 -- last one names are as they were, byte for byte. And where those hold the bins of some events, whatever these are, so do the
