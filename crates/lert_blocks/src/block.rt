@@ -9,9 +9,9 @@ ghost use Rattle.lert_spec.specs.declared.piece.Piece.{Piece};
 ghost use Rattle.lert_blocks.specs.Text.{block_text, ends_of, numbers_text, word_count, words_of};
 
 use byteorder::{ByteOrder, LittleEndian};
-use lert_base::Piece;
 use lert_counter::write_group;
 use lert_io::OutOfMemory;
+use lert_spec::Piece;
 use std::alloc::Global;
 
 /// The slots of a block that fit its memory.

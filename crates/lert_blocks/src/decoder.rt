@@ -6,8 +6,8 @@ ghost use Rattle.lert_spec.specs.declared.piece.Piece.{Piece};
 ghost use Rattle.lert_blocks.specs.Decoding.{AreSlots, GoesOn, IsPieceOf, floor_of, rest_found, with_front};
 
 use crate::step::{Step, are_whole, next_step};
-use lert_base::Piece;
 use lert_counter::Group;
+use lert_spec::Piece;
 
 /// Where a walk over the slots of a block stands.
 #[derive(Clone, Copy, Debug, PartialEq, Eq)]

@@ -7,8 +7,7 @@ use crate::count::{count_before, place_of};
 use crate::gap::open;
 use crate::row::{bit_in, put_bit};
 use crate::scan::first_bit;
-use lert_io::OutOfMemory;
-use std::alloc::Global;
+use std::alloc::{AllocError, Global};
 use std::marker::Model;
 
 /// More bits than any machine has memory for.
@@ -33,12 +32,12 @@ impl Model for Bits {
 }
 
 impl Bits {
-    /// `len` bits, all false.
-    pub fn new(alloc: Global, len: u64) -> Result<Bits, OutOfMemory>
+    /// `len` bits, all false. Its only error is want of memory.
+    pub fn new(alloc: Global, len: u64) -> Result<Bits, AllocError>
         ensures { IfOk result (λ b. b ≡ replicate len false) }
     {
         if len >= TOO_MANY {
-            return Err(OutOfMemory);
+            return Err(AllocError);
         }
         let words = vec![in alloc; 0; (len / 64) as usize + 1]?;
         Ok(Bits { words, len })
