@@ -9,7 +9,7 @@ use Rattle.lert_bay.specs.Files.{IfTold}
 use Rattle.lert_bay.specs.Kept.{Bays}
 use Rattle.lert_bay.proofs.KeptLaws.{IsLawful}
 use Rattle.lert_landing.specs.Landed.{taken}
-use Rattle.lert_landing.specs.Landings.{AreApart}
+use Rattle.lert_landing.specs.Landings.{IsOutside}
 use Rattle.lert_landing.specs.Summed.{sums_of}
 use Rattle.lert_landing.specs.Whole.{AreUpTo, Takes}
 use Rattle.lert_landing.specs.declared.landing.Landing.{Landing}
@@ -54,7 +54,7 @@ module _ {S B T : Type 0} (members : StreamsOf S B) (took : T → List Piece →
       (new : Ordering S) (middle : B) (next : ℕ × Piece) (step : HasGiven members now bay new middle next) → members.keeps bay middle →
       (totals_then : T) (sums_then : Sum) →
       ((list : List Piece) → Takes took totals sums list → AreUpTo next.1.tail list → Takes took totals_then sums_then (plus list next.1.tail next.1.count)) →
-      length parts ≡ members.count first.streams → ((from to : ℕ) → reads first.streams from to → AreApart landings from to) →
+      length parts ≡ members.count first.streams → ((from to : ℕ) → reads first.streams from to → IsOutside landings from to) →
       (landings_then : List Landing) (after : B) (Failed : Type 0) → length landings_then ≡ length landings_now →
       ((own : ℕ) (d : Landing) → own < length landings_now →
       taken (get_or landings_then own d) ≡ with_piece (is_of (get_or parts next.0 None) own) next.1 (taken (get_or landings_now own d))) →
@@ -64,7 +64,7 @@ module _ {S B T : Type 0} (members : StreamsOf S B) (took : T → List Piece →
       let read = steady.reading bay middle kept in
       let gathered = gathering_more members took first start was.lists now bay totals sums was.gathering new middle next step steady.same_on totals_then sums_then takes in
       let surely = sure_stepped members bays width reads sure steady now new bay middle read.seen step.kept step.same was.surely in
-      let turned = turns_fewer (AreApart landings_now) (reads new.streams) (bays.files middle) (bays.files after)
+      let turned = turns_fewer (IsOutside landings_now) (reads new.streams) (bays.files middle) (bays.files after)
       (λ from to reading. apart_same landings landings_now was.writes.homes from to (apart from to (steady.reads_same first.streams new.streams gathered.kept from to reading))) writes.rest.seen in
       record {
         lists = more members took first start was.lists now bay totals sums was.gathering new middle next step;

@@ -7,7 +7,7 @@ use Rattle.lert_bay.specs.Kept.{Bays, OnlyReads}
 use Rattle.lert_bay.proofs.KeptLaws.{IsLawful, keeps_none, keeps_on, keeps_as}
 use Rattle.lert_frames.proofs.WriteLaws.{turns_back}
 use Rattle.lert_io.specs.Fault.{HasRisen}
-use Rattle.lert_landing.specs.Landings.{Home, home, AreLandings, AreLanding, AreApart}
+use Rattle.lert_landing.specs.Landings.{Home, home, AreLandings, AreLanding, IsOutside}
 use Rattle.lert_landing.specs.declared.landing.Landing.{Landing}
 use Rattle.lert_order.specs.Ordering.{Ordering, AreSame}
 use Rattle.lert_order.specs.declared.streams.Streams.{Ghosts as StreamsOf}
@@ -82,7 +82,7 @@ module _ (old new : List Landing) (homes : map home new ≡ map home old) where
         level_is = ap (λ (h : Home). h.level) (home_at k d below) ∙ is.level_is;
       }
 
-  pub apart_same : (from to : ℕ) → AreApart old from to → AreApart new from to
+  pub apart_same : (from to : ℕ) → IsOutside old from to → IsOutside new from to
   apart_same from to apart k d below =
       subst (λ (h : Home). IsApart h.settings h.level h.frame from to) (sym (home_at k d below)) (apart k d (omega (arith, below, same_len)))
 
@@ -101,7 +101,7 @@ module _ {B : Type 0} (bays : Bays B) (lawful : IsLawful bays) where
   writes_none landings bay = record {
     homes = refl;
     landing = λ s are. landing_same landings bay bay refl;
-    rest = rest_none bays lawful (AreApart landings) bay;
+    rest = rest_none bays lawful (IsOutside landings) bay;
     kept = keeps_none bays lawful bay ⊥ (λ none. none);
   }
 
@@ -110,7 +110,7 @@ module _ {B : Type 0} (bays : Bays B) (lawful : IsLawful bays) where
   writes_read landings before after Failed read = record {
     homes = refl;
     landing = λ s are. landing_same landings before after read.seen;
-    rest = read_rest bays (AreApart landings) before after Failed read;
+    rest = read_rest bays (IsOutside landings) before after Failed read;
     kept = read.kept;
   }
 
@@ -120,10 +120,10 @@ module _ {B : Type 0} (bays : Bays B) (lawful : IsLawful bays) where
   writes_on first middle last a b c First Failed one two = record {
     homes = two.homes ∙ one.homes;
     landing = λ s are seen told landing later told_later. (
-        let back = turns_back (LeavesRest (AreApart middle)) (bays.files b) (bays.files c) later two.rest.seen told_later in
+        let back = turns_back (LeavesRest (IsOutside middle)) (bays.files b) (bays.files c) later two.rest.seen told_later in
         two.landing s (landings_same first middle one.homes s are) back.0 back.1 (one.landing s are seen told landing back.0 back.1) later told_later);
-    rest = rest_on bays lawful (AreApart first) a b c First Failed one.kept two.kept one.rest
-        (rest_fewer bays (AreApart middle) (AreApart first) b c (apart_same first middle one.homes) two.rest);
+    rest = rest_on bays lawful (IsOutside first) a b c First Failed one.kept two.kept one.rest
+        (rest_fewer bays (IsOutside middle) (IsOutside first) b c (apart_same first middle one.homes) two.rest);
     kept = keeps_on bays lawful a b c First Failed one.kept two.kept;
   }
 

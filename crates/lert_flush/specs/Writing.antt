@@ -3,7 +3,7 @@ use Rattle.std.specs.Prelude.{◌≡◌, List, map}
 use Rattle.lert_bay.specs.declared.bay.TheConstants.{FRAMES}
 use Rattle.lert_bay.specs.Files.{IfTold}
 use Rattle.lert_bay.specs.Kept.{Bays, KeepsBay}
-use Rattle.lert_landing.specs.Landings.{home, AreLandings, AreLanding, AreApart}
+use Rattle.lert_landing.specs.Landings.{home, AreLandings, AreLanding, IsOutside}
 use Rattle.lert_landing.specs.declared.landing.Landing.{Landing}
 use Rattle.lert_rows.specs.Landing.{KeepsRest}
 use Rattle.lert_spec.specs.declared.numbers.Numbers.{Numbers}
@@ -13,5 +13,5 @@ pub record LandingsWrite {B : Type 0} (bays : Bays B) (old : List Landing) (befo
   pub homes : map home new ≡ map home old
   pub landing : (s : Numbers) → AreLandings s old → IfTold (bays.files before) (λ seen. AreLanding old (seen FRAMES) →
       IfTold (bays.files after) (λ later. AreLanding new (later FRAMES)))
-  pub rest : KeepsRest bays (AreApart old) before after
+  pub rest : KeepsRest bays (IsOutside old) before after
   pub kept : KeepsBay bays before after Failed

@@ -5,7 +5,7 @@ ghost use Rattle.lert_bay.specs.declared.bay.TheConstants.{FRAMES};
 ghost use Rattle.lert_bay.specs.Files.{IfTold};
 ghost use Rattle.lert_bay.specs.Kept.{KeepsBay};
 ghost use Rattle.lert_frames.specs.Place.{tail_limit};
-ghost use Rattle.lert_landing.specs.Landings.{home, AreLandings, AreLanding, AreApart};
+ghost use Rattle.lert_landing.specs.Landings.{home, AreLandings, AreLanding, IsOutside};
 ghost use Rattle.lert_order.specs.Ordering.{Breaks};
 ghost use Rattle.lert_rows.specs.Landing.{KeepsRest};
 ghost use Rattle.lert_spec.specs.declared.numbers.Numbers.{Numbers};
@@ -35,7 +35,7 @@ pub fn merge_bins<B: Bay, S: Bins<B>, O: Totals>(
     requires unread { IsUnread S.Streams order.old }
     requires parts { AreParts parts.now (S.count order.old.streams) (length landings.old) }
     requires room { HaveRoom S.Streams S.width order.old.streams parts.now landings.old }
-    requires apart { (from to : ℕ) → S.reads order.old.streams from to → AreApart landings.old from to }
+    requires apart { (from to : ℕ) → S.reads order.old.streams from to → IsOutside landings.old from to }
     requires sure { IfTold (B.files bay.old) (λ seen. S.sure order.old.streams (seen FRAMES)) }
     requires totals { O.took totals.old [] }
     ensures merged { OnOk result (IsMerged S.Streams S.width O.took order.old.streams bay.old parts.now landings.new totals.new) }
@@ -53,7 +53,7 @@ pub fn merge_bins<B: Bay, S: Bins<B>, O: Totals>(
         ¬ IsErrOf result (PieceFault.Malformed at) }
     ensures malformed { (at : ℕ) → result ≡ Err (PieceFault.Malformed at) → Breaks S.Streams bay.old order.old.streams at }
 
-    ensures rest { KeepsRest B.Bay (AreApart landings.old) bay.old bay.new }
+    ensures rest { KeepsRest B.Bay (IsOutside landings.old) bay.old bay.new }
     ensures kept { KeepsBay B.Bay bay.old bay.new (IsErrOf result PieceFault.Failed) }
     ensures streams { S.same order.old.streams order.new.streams }
     ensures count { S.count order.new.streams ≡ S.count order.old.streams }

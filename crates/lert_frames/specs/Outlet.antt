@@ -12,8 +12,8 @@ abbrev pub next_place : Outlet → ℕ
 next_place o = o.at + o.len
 
 -- for how many bytes more the buffer has room
-abbrev pub room_of : Outlet → ℕ
-room_of o = o.bytes.len - o.len
+abbrev pub room_left : Outlet → ℕ
+room_left o = o.bytes.len - o.len
 
 -- how many it has room for once all are written
 abbrev pub size_of : Outlet → ℕ

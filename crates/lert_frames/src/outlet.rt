@@ -32,11 +32,11 @@ pub struct Outlet {
 
 impl Outlet {
     ghost use Rattle.std.specs.Prelude.{[], IfOk, OnErr};
-    ghost use Rattle.lert_frames.specs.Outlet.{IsOut, unwritten, next_place, room_of, size_of};
+    ghost use Rattle.lert_frames.specs.Outlet.{IsOut, unwritten, next_place, room_left, size_of};
 
     /// An outlet with a buffer of `len` bytes, at the file's begin. Its only error is want of memory.
     pub fn new(alloc: Global, len: usize) -> Result<Outlet, OutOfMemory>
-        ensures { IfOk result (λ o. (size_of o ≡ len) × (room_of o ≡ len)) }
+        ensures { IfOk result (λ o. (size_of o ≡ len) × (room_left o ≡ len)) }
     {
         let bytes = vec![in alloc; 0; len]?;
         Ok(Outlet {
@@ -51,7 +51,7 @@ impl Outlet {
         requires { at < 2 ^ 63 }
         ensures out { (file : List ℕ) → IsOut at [] file self.new }
         ensures place { next_place self.new ≡ at }
-        ensures room { room_of self.new ≡ size_of self.old }
+        ensures room { room_left self.new ≡ size_of self.old }
         ensures size { size_of self.new ≡ size_of self.old }
         ensures at { self.new.at ≡ at }
     {
@@ -61,7 +61,7 @@ impl Outlet {
 
     /// For how many bytes more there is room.
     pub fn room(&self) -> usize
-        ensures { result ≡ room_of self.now }
+        ensures { result ≡ room_left self.now }
     {
         self.bytes.len() - self.len
     }
@@ -75,12 +75,12 @@ impl Outlet {
 
     /// Puts bytes behind those so far.
     pub fn put(&mut self, bytes: &[u8])
-        requires room { length bytes.now ≤ room_of self.old }
+        requires room { length bytes.now ≤ room_left self.old }
         requires reach { next_place self.old + length bytes.now < 2 ^ 63 }
         ensures out { (begin : ℕ) (text file : List ℕ) → IsOut begin text file self.old → IsOut begin (text ++ bytes.now) file self.new }
         ensures unwritten { unwritten self.new ≡ unwritten self.old ++ bytes.now }
         ensures place { next_place self.new ≡ next_place self.old + length bytes.now }
-        ensures room { room_of self.new + length bytes.now ≡ room_of self.old }
+        ensures room { room_left self.new + length bytes.now ≡ room_left self.old }
         ensures size { size_of self.new ≡ size_of self.old }
         ensures at { self.new.at ≡ self.old.at }
     {
@@ -90,11 +90,11 @@ impl Outlet {
 
     /// Puts numbers behind the bytes so far, in eight bytes each.
     pub fn put_numbers(&mut self, numbers: &[u64])
-        requires room { 8 * length numbers.now ≤ room_of self.old }
+        requires room { 8 * length numbers.now ≤ room_left self.old }
         requires reach { next_place self.old + 8 * length numbers.now < 2 ^ 63 }
         ensures out { (begin : ℕ) (text file : List ℕ) → IsOut begin text file self.old → IsOut begin (text ++ numbers_text numbers.now) file self.new }
         ensures place { next_place self.new ≡ next_place self.old + 8 * length numbers.now }
-        ensures room { room_of self.new + 8 * length numbers.now ≡ room_of self.old }
+        ensures room { room_left self.new + 8 * length numbers.now ≡ room_left self.old }
         ensures size { size_of self.new ≡ size_of self.old }
         ensures at { self.new.at ≡ self.old.at }
     {
@@ -105,12 +105,12 @@ impl Outlet {
 
     /// Puts the text of a block behind the bytes so far.
     pub fn put_block(&mut self, block: &Block)
-        requires room { laid_len block.now ≤ room_of self.old }
+        requires room { laid_len block.now ≤ room_left self.old }
         requires reach { next_place self.old + laid_len block.now < 2 ^ 63 }
         ensures out { (width number : ℕ) (pieces : List Piece) → IsFilled width number 0 pieces block.now →
             (begin : ℕ) (text file : List ℕ) → IsOut begin text file self.old → IsOut begin (text ++ block_text width number pieces) file self.new }
         ensures place { next_place self.new ≡ next_place self.old + laid_len block.now }
-        ensures room { room_of self.new + laid_len block.now ≡ room_of self.old }
+        ensures room { room_left self.new + laid_len block.now ≡ room_left self.old }
         ensures size { size_of self.new ≡ size_of self.old }
         ensures at { self.new.at ≡ self.old.at }
     {
@@ -146,7 +146,7 @@ impl Outlet {
         requires { count ≤ size_of self.old }
         ensures out { IfTold (B.files bay.old) (λ before. IfTold (B.files bay.new) (λ after. (begin : ℕ) (text : List ℕ) →
             IsOut begin text (before FRAMES) self.old → OnOk result (IsOut begin text (after FRAMES) self.new))) }
-        ensures room { OnOk result (count ≤ room_of self.new) }
+        ensures room { OnOk result (count ≤ room_left self.new) }
         ensures place { next_place self.new ≡ next_place self.old }
         ensures size { size_of self.new ≡ size_of self.old }
         ensures at { self.old.at ≤ self.new.at }
@@ -161,7 +161,7 @@ impl Outlet {
     /// Puts bytes that stand in the file from a place on behind the bytes so far. Where they don't stand there, it
     /// puts any bytes.
     pub fn copy<B: Bay>(&mut self, bay: &mut B, from: u64, count: usize) -> Result<(), Failed>
-        requires room { count ≤ room_of self.old }
+        requires room { count ≤ room_left self.old }
         requires reach { next_place self.old + count < 2 ^ 63 }
         ensures out { IfTold (B.files bay.old) (λ seen. from + count ≤ length (seen FRAMES) → (begin : ℕ) (text : List ℕ) →
             IsOut begin text (seen FRAMES) self.old → OnOk result (IsOut begin (text ++ part (seen FRAMES) from (from + count)) (seen FRAMES) self.new)) }

@@ -13,7 +13,7 @@ use Rattle.lert_rows.proofs.LandLaws.{rest_none, rest_on, rest_fewer}
 use Rattle.lert_spec.specs.declared.numbers.Numbers.{Numbers}
 use Rattle.lert_landing.specs.declared.landing.Landing.{Landing}
 use Rattle.lert_landing.specs.Landed.{taken, IsLanding, IsLandingOf, SameLanding, Lands}
-use Rattle.lert_landing.specs.Landings.{home, AreLandings, AreLanding, AreApart, HaveLanded}
+use Rattle.lert_landing.specs.Landings.{home, AreLandings, AreLanding, IsOutside, HaveEnded}
 use Rattle.lert_landing.proofs.ApartLaws.{same_place, frame_within, landing_stays, landed_stays}
 use Rattle.lert_landing.proofs.LandingLaws.{holds_turned}
 
@@ -30,9 +30,9 @@ leaves_turned s level l old new is leaves =
 
 -- ranges apart from all places are apart from that of one of them
 pub apart_one : {B : Type 0} (bays : Bays B) (landings : List Landing) (i : ℕ) (l : Landing) (before after : B) → i < length landings → l ≡ get_or landings i l →
-    KeepsRest bays (IsApart l.writer.settings l.writer.level l.frame) before after → KeepsRest bays (AreApart landings) before after
+    KeepsRest bays (IsApart l.writer.settings l.writer.level l.frame) before after → KeepsRest bays (IsOutside landings) before after
 apart_one bays landings i l before after below l_is rest =
-    rest_fewer bays (IsApart l.writer.settings l.writer.level l.frame) (AreApart landings) before after
+    rest_fewer bays (IsApart l.writer.settings l.writer.level l.frame) (IsOutside landings) before after
     (λ from to apart. subst (λ (x : Landing). IsApart x.writer.settings x.writer.level x.frame from to) (sym l_is) (apart i l below)) rest
 
 -- another one in its place
@@ -82,7 +82,7 @@ pub record AreEnding {B : Type 0} (bays : Bays B) (landings now : List Landing) 
   pub left : (k : ℕ) (d : Landing) → count ≤ k → get_or now k d ≡ get_or landings k d
   pub stand : (s : Numbers) → AreLandings s landings →
       IfTold (bays.files before) (λ seen. AreLanding landings (seen FRAMES) → IfTold (bays.files after) (λ later. AreHalfLanded s landings count (later FRAMES)))
-  pub rest : KeepsRest bays (AreApart landings) before after
+  pub rest : KeepsRest bays (IsOutside landings) before after
   pub kept : KeepsBay bays before after ⊥
 
 -- none yet
@@ -96,7 +96,7 @@ ending_none bays lawful landings bay = record {
       let same : seen ≡ later = cc in
       subst (λ (files : Files). AreHalfLanded s landings 0 (files FRAMES)) same
       (record { landed = λ k d below. absurd (omega (arith, below)); landing = λ k d past below. landing k d below }));
-  rest = rest_none bays lawful (AreApart landings) bay;
+  rest = rest_none bays lawful (IsOutside landings) bay;
   kept = keeps_none bays lawful bay ⊥ (λ none. none);
 }
 
@@ -151,9 +151,9 @@ module _ {B : Type 0} (bays : Bays B) (lawful : IsLawful bays) (landings now : L
   within : i < length landings
   within = omega (arith, below, was.len)
 
-  pub rest_more : (Failed : Type 0) → Lands bays l after middle last Failed → KeepsRest bays (AreApart landings) first last
+  pub rest_more : (Failed : Type 0) → Lands bays l after middle last Failed → KeepsRest bays (IsOutside landings) first last
   rest_more Failed lands =
-      rest_on bays lawful (AreApart landings) first middle last ⊥ Failed was.kept lands.kept was.rest (apart_one bays landings i l middle last within here lands.rest)
+      rest_on bays lawful (IsOutside landings) first middle last ⊥ Failed was.kept lands.kept was.rest (apart_one bays landings i l middle last within here lands.rest)
 
   pub homes_more : (Failed : Type 0) → Lands bays l after middle last Failed → map home (set now i after) ≡ map home landings
   homes_more Failed lands = homes_set now i l after below l_is lands.same ∙ was.homes
@@ -174,5 +174,5 @@ module _ {B : Type 0} (bays : Bays B) (lawful : IsLawful bays) (landings now : L
   }
 
 -- all of them ended
-pub ended_all : (s : Numbers) (landings : List Landing) (count : ℕ) (file : List ℕ) → length landings ≤ count → AreHalfLanded s landings count file → HaveLanded s landings file
+pub ended_all : (s : Numbers) (landings : List Landing) (count : ℕ) (file : List ℕ) → length landings ≤ count → AreHalfLanded s landings count file → HaveEnded s landings file
 ended_all s landings count file all half k d below = half.landed k d (omega (arith, all, below))

@@ -24,10 +24,10 @@ abbrev pub AreLanding : List Landing → List ℕ → Type 0
 AreLanding landings file = All (λ l. IsLanding l file) landings
 
 -- a range of the file of frames apart from the places of all of them
-abbrev pub AreApart : List Landing → ℕ → ℕ → Type 0
-AreApart landings from to = All (λ l. IsApart l.writer.settings l.writer.level l.frame from to) landings
+abbrev pub IsOutside : List Landing → ℕ → ℕ → Type 0
+IsOutside landings from to = All (λ l. IsApart l.writer.settings l.writer.level l.frame from to) landings
 
 -- what each of them took stands in its frame
-abbrev pub HaveLanded : Numbers → List Landing → List ℕ → Type 0
-HaveLanded s landings file = (k : ℕ) (d : Landing) → k < length landings →
+abbrev pub HaveEnded : Numbers → List Landing → List ℕ → Type 0
+HaveEnded s landings file = (k : ℕ) (d : Landing) → k < length landings →
     HoldsFrame s (k + 1) (slice_index_or landings k d).frame file (taken (slice_index_or landings k d))

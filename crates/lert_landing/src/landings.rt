@@ -9,7 +9,7 @@ ghost use Rattle.lert_spec.specs.Table.{plus};
 ghost use Rattle.lert_spec.specs.declared.numbers.Numbers.{Numbers};
 ghost use Rattle.lert_landing.specs.declared.landing.Landing.{Landing};
 ghost use Rattle.lert_landing.specs.Landed.{taken, CanTake};
-ghost use Rattle.lert_landing.specs.Landings.{home, AreLandings, AreLanding, AreApart, HaveLanded};
+ghost use Rattle.lert_landing.specs.Landings.{home, AreLandings, AreLanding, IsOutside, HaveEnded};
 
 use crate::landing::Landing;
 use lert_base::Piece;
@@ -35,7 +35,7 @@ pub fn add_to<B: Bay>(
     ensures landing { (s : Numbers) → AreLandings s landings.old →
         IfTold (B.files bay.old) (λ seen. AreLanding landings.old (seen FRAMES) →
         IfTold (B.files bay.new) (λ after. AreLanding landings.new (after FRAMES))) }
-    ensures rest { KeepsRest B.Bay (AreApart landings.old) bay.old bay.new }
+    ensures rest { KeepsRest B.Bay (IsOutside landings.old) bay.old bay.new }
     ensures kept { KeepsBay B.Bay bay.old bay.new (IsErr result) }
 {
     let landing = &mut landings[part];
@@ -46,9 +46,9 @@ pub fn add_to<B: Bay>(
 pub fn end_all<B: Bay>(landings: &mut [Landing], bay: &mut B) -> Result<(), Failed>
     ensures stand { OnOk result ((s : Numbers) → AreLandings s landings.old →
         IfTold (B.files bay.old) (λ seen. AreLanding landings.old (seen FRAMES) →
-        IfTold (B.files bay.new) (λ after. HaveLanded s landings.old (after FRAMES)))) }
+        IfTold (B.files bay.new) (λ after. HaveEnded s landings.old (after FRAMES)))) }
     ensures homes { map home landings.new ≡ map home landings.old }
-    ensures rest { KeepsRest B.Bay (AreApart landings.old) bay.old bay.new }
+    ensures rest { KeepsRest B.Bay (IsOutside landings.old) bay.old bay.new }
     ensures kept { KeepsBay B.Bay bay.old bay.new (IsErr result) }
 {
     for landing in landings.iter_mut() {

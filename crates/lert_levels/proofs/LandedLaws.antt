@@ -7,12 +7,12 @@ use Rattle.lert_bay.specs.Files.{Files, IfTold}
 use Rattle.lert_flush.specs.Merged.{AreParts, picked}
 use Rattle.lert_frames.specs.Frame.{HoldsFrame}
 use Rattle.lert_frames.specs.Place.{tail_limit}
-use Rattle.lert_landing.specs.Landings.{AreLandings, AreApart}
+use Rattle.lert_landing.specs.Landings.{AreLandings, IsOutside}
 use Rattle.lert_landing.specs.Summed.{sums_of}
 use Rattle.lert_landing.specs.declared.landing.Landing.{Landing}
 use Rattle.lert_order.specs.Members.{limit_at}
 use Rattle.lert_rows.specs.declared.bin_at.BinAt.{BinAt}
-use Rattle.lert_rows.specs.Landing.{IsApart, landing_frame, AreApart as RowsApart}
+use Rattle.lert_rows.specs.Landing.{IsApart, landing_frame, AreApart}
 use Rattle.lert_rows.specs.Loading.{AllStand}
 use Rattle.lert_spec.specs.Bins.{Bin}
 use Rattle.lert_spec.specs.Edges.{span}
@@ -20,13 +20,13 @@ use Rattle.lert_spec.specs.Limits.{IsValid}
 use Rattle.lert_spec.specs.Table.{total, AreGiven}
 use Rattle.lert_spec.specs.declared.numbers.Numbers.{Numbers}
 use Rattle.lert_spec.specs.declared.piece.Piece.{Piece}
-use Rattle.lert_streams.specs.Bin.{Bin as Stream, limit_of, width_of as wide_of}
+use Rattle.lert_streams.specs.Bin.{Bin as Stream, limit_of, wide_of}
 use Rattle.lert_streams.specs.BinSet.{Reads}
 use Rattle.lert_streams.specs.SetLaws.{to_come_at}
 use Rattle.lert_levels.specs.Merged.{IsMade, IsFrames, Fills, streams_of, widths_of}
 use Rattle.lert_levels.specs.Parts.{Part, streams_to, parts_at, part_table, ArePartsOf}
 use Rattle.lert_levels.specs.Ready.{AreStarted, AreReached, HasMade}
-use Rattle.lert_levels.specs.Sources.{sources, pieces_in, width_in, AreBegun}
+use Rattle.lert_levels.specs.Sources.{sources, pieces_from, width_in, AreBegun}
 use Rattle.lert_levels.proofs.FlushLaws.{made_at}
 use Rattle.lert_levels.proofs.PartLaws.{some_streams}
 use Rattle.lert_levels.proofs.PickLaws.{picked_part}
@@ -80,7 +80,7 @@ module _ (s : Numbers) (valid : IsValid s) (young : List Bin) (rows : List (List
       let hold = sources_stand s (here.seen FRAMES) held young rows few are there in
       let pieces = sources_pieces held young rows in
       told (streams_of young held rows)
-      (sym (ap (length {A = List Piece}) pieces) ∙ length-map (sources young rows) (pieces_in held) ∙ sym (begun_length s (sources young rows) bins begun))
+      (sym (ap (length {A = List Piece}) pieces) ∙ length-map (sources young rows) (pieces_from held) ∙ sym (begun_length s (sources young rows) bins begun))
       (λ k below. begun_told s valid (sources young rows) bins k before here.seen held here.told begun hold below ∙ ap (λ (ls : List (List Piece)). Some (get_or ls k [])) pieces)
 
   pub made_of : (parts : List Part) → IsMade s young rows parts took (IsFrames before) (map (part_table lists) parts)
@@ -135,7 +135,7 @@ module _ (s : Numbers) (m : ℕ) (young : List Bin) (rows : List (List BinAt)) (
       (sym (picked_part s m (length young) rows reached.some reached.parts parts (widths_of young rows) 0 laid.of_parts (widths_number young rows) part within)) (reached.fits part within)
 
   -- a range apart from the rows' new frames is apart from the landings
-  pub apart_landings : (from to : ℕ) → RowsApart s m rows from to → AreApart landings from to
+  pub apart_landings : (from to : ℕ) → AreApart s m rows from to → IsOutside landings from to
   apart_landings from to apart k d below =
       let within : k < length rows = omega (arith, below, laid.count) in
       let is = laid.are k d below in
@@ -144,7 +144,7 @@ module _ (s : Numbers) (m : ℕ) (young : List Bin) (rows : List (List BinAt)) (
       (subst (λ (level : ℕ). IsApart s level l.frame from to) (sym is.level_is)
       (subst (λ (frame : ℕ). IsApart s (k + 1) frame from to) (sym (laid.started.frame k d within)) (apart k within)))
 
-  pub reads_apart : (bins : List Stream) → AreBegun s (sources young rows) bins → (from to : ℕ) → Reads bins from to → AreApart landings from to
+  pub reads_apart : (bins : List Stream) → AreBegun s (sources young rows) bins → (from to : ℕ) → Reads bins from to → IsOutside landings from to
   reads_apart bins begun from to reads = apart_landings from to (reached.apart from to (begun_reads s young rows bins from to reached.few begun reads))
 
   -- what stands in the landings' frames are the new bins

@@ -10,7 +10,7 @@ use Rattle.lert_bay.specs.Kept.{Bays}
 use Rattle.lert_flush.specs.Merged.{picked}
 use Rattle.lert_frames.specs.Frame.{HoldsFrame}
 use Rattle.lert_frames.proofs.WriteLaws.{turns_back}
-use Rattle.lert_landing.specs.Landings.{Home, home, AreLandings, AreLanding, AreApart, HaveLanded}
+use Rattle.lert_landing.specs.Landings.{Home, home, AreLandings, AreLanding, IsOutside, HaveEnded}
 use Rattle.lert_landing.specs.Summed.{sums_of}
 use Rattle.lert_landing.specs.declared.landing.Landing.{Landing}
 use Rattle.lert_rows.specs.declared.bin_at.BinAt.{BinAt}
@@ -64,7 +64,7 @@ module _ (old new : List Landing) (homes : map home new ≡ map home old) where
       ∙ get_or-map home old k d (home d) below
 
   -- are apart from the same ranges
-  pub apart_same : (from to : ℕ) → AreApart old from to → AreApart new from to
+  pub apart_same : (from to : ℕ) → IsOutside old from to → IsOutside new from to
   apart_same from to apart k d below =
       let within : k < length old = omega (arith, below, same_count) in
       subst (λ (h : Home). IsApart h.settings h.level h.frame from to) (sym (home_at k d within)) (apart k d within)
@@ -77,15 +77,15 @@ module _ (old new : List Landing) (homes : map home new ≡ map home old) where
 
 -- what a merge took stands, once all landings ended
 pub stand_all : {B : Type 0} (bays : Bays B) (old new : List Landing) (before middle after : B) (s : Numbers) (parts : List (Option ℕ)) (lists : List (List Piece)) (seen : Files) →
-    map home new ≡ map home old → AreLandings s old → KeepsRest bays (AreApart old) before middle → KeepsRest bays (AreApart new) middle after →
+    map home new ≡ map home old → AreLandings s old → KeepsRest bays (IsOutside old) before middle → KeepsRest bays (IsOutside new) middle after →
     IfTold (bays.files before) (λ seen. AreLanding old (seen FRAMES)) →
     ((s : Numbers) → AreLandings s old → IfTold (bays.files before) (λ seen. AreLanding old (seen FRAMES) → IfTold (bays.files middle) (λ after. AreLanding new (after FRAMES)))) →
-    ((s : Numbers) → AreLandings s new → IfTold (bays.files middle) (λ seen. AreLanding new (seen FRAMES) → IfTold (bays.files after) (λ after. HaveLanded s new (after FRAMES)))) →
+    ((s : Numbers) → AreLandings s new → IfTold (bays.files middle) (λ seen. AreLanding new (seen FRAMES) → IfTold (bays.files after) (λ after. HaveEnded s new (after FRAMES)))) →
     ((k : ℕ) (d : Landing) → k < length new → taken (get_or new k d) ≡ sums_of (picked parts k lists)) → bays.files after ≡ Some seen →
     (k : ℕ) (d : Landing) → k < length old → HoldsFrame s (k + 1) (get_or old k d).frame (seen FRAMES) (sums_of (picked parts k lists))
 stand_all bays old new before middle after s parts lists seen homes are rest_one rest_two landing merged ended took told k d below =
-    let last = turns_back (LeavesRest (AreApart new)) (bays.files middle) (bays.files after) seen rest_two.seen told in
-    let first = turns_back (LeavesRest (AreApart old)) (bays.files before) (bays.files middle) last.0 rest_one.seen last.1 in
+    let last = turns_back (LeavesRest (IsOutside new)) (bays.files middle) (bays.files after) seen rest_two.seen told in
+    let first = turns_back (LeavesRest (IsOutside old)) (bays.files before) (bays.files middle) last.0 rest_one.seen last.1 in
     let there = merged s are first.0 first.1 (landing first.0 first.1) last.0 last.1 in
     let within : k < length new = omega (arith, below, same_count old new homes) in
     let stands = ended s (landings_same old new homes s are) last.0 last.1 there seen told k d within in

@@ -23,12 +23,12 @@ use Rattle.lert_spec.specs.Limits.{IsValid}
 use Rattle.lert_spec.specs.Table.{total, AreGiven}
 use Rattle.lert_spec.specs.declared.numbers.Numbers.{Numbers}
 use Rattle.lert_spec.specs.declared.piece.Piece.{Piece}
-use Rattle.lert_streams.specs.Bin.{Bin as Stream, of_table, of_frame, to_come_of, given_of, limit_of, width_of as wide_of}
+use Rattle.lert_streams.specs.Bin.{Bin as Stream, of_table, of_frame, to_come_of, given_of, limit_of, wide_of}
 use Rattle.lert_streams.specs.BinLaws.{in_order, table_told}
 use Rattle.lert_streams.specs.Tables.{fresh_bin}
 use Rattle.lert_streams.specs.SetLaws.{to_come_at}
 use Rattle.lert_levels.specs.Merged.{streams_of, widths_of, Fills, AreBins}
-use Rattle.lert_levels.specs.Sources.{placed_at, placed, Source, of_young, of_bin, sources, pieces_in, width_in, IsBegun, AreBegun}
+use Rattle.lert_levels.specs.Sources.{placed_at, placed, Source, of_young, of_bin, sources, pieces_from, width_in, IsBegun, AreBegun}
 
 -- ---- the sources
 
@@ -63,14 +63,14 @@ sources_length young rows = omega (
   placed_length 1 rows,
 )
 
-placed_held : (held : BinAt → List Piece) (level : ℕ) (rows : List (List BinAt)) → map (pieces_in held) (map of_bin (placed level rows)) ≡ held_in held rows
+placed_held : (held : BinAt → List Piece) (level : ℕ) (rows : List (List BinAt)) → map (pieces_from held) (map of_bin (placed level rows)) ≡ held_in held rows
 placed_held held level [] = refl
 placed_held held level (row ∷ rows) =
-    ap (map (pieces_in held)) (map-append of_bin (map (placed_at level) row) (placed (suc level) rows))
-    ∙ map-append (pieces_in held) (map of_bin (map (placed_at level) row)) (map of_bin (placed (suc level) rows))
+    ap (map (pieces_from held)) (map-append of_bin (map (placed_at level) row) (placed (suc level) rows))
+    ∙ map-append (pieces_from held) (map of_bin (map (placed_at level) row)) (map of_bin (placed (suc level) rows))
     ∙ ap₂ (λ xs ys. xs ++ ys) (row_held row) (placed_held held (suc level) rows)
   where
-    row_held : (row : List BinAt) → map (pieces_in held) (map of_bin (map (placed_at level) row)) ≡ map held row
+    row_held : (row : List BinAt) → map (pieces_from held) (map of_bin (map (placed_at level) row)) ≡ map held row
     row_held [] = refl
     row_held (bin ∷ row) = ap (λ xs. held bin ∷ xs) (row_held row)
 
@@ -85,7 +85,7 @@ placed_widths level (row ∷ rows) =
     row_widths [] = refl
     row_widths (bin ∷ row) = ap (λ xs. width_of bin ∷ xs) (row_widths row)
 
-young_pieces : (held : BinAt → List Piece) (young : List Bin) → map (pieces_in held) (map of_young young) ≡ map (λ (bin : Bin). bin.pieces) young
+young_pieces : (held : BinAt → List Piece) (young : List Bin) → map (pieces_from held) (map of_young young) ≡ map (λ (bin : Bin). bin.pieces) young
 young_pieces held [] = refl
 young_pieces held (bin ∷ young) = ap (λ xs. bin.pieces ∷ xs) (young_pieces held young)
 
@@ -94,9 +94,9 @@ young_widths [] = refl
 young_widths (bin ∷ young) = ap (λ xs. (bin.to - bin.from) ∷ xs) (young_widths young)
 
 -- their pieces and widths are those of the merge
-pub sources_pieces : (held : BinAt → List Piece) (young : List Bin) (rows : List (List BinAt)) → map (pieces_in held) (sources young rows) ≡ streams_of young held rows
+pub sources_pieces : (held : BinAt → List Piece) (young : List Bin) (rows : List (List BinAt)) → map (pieces_from held) (sources young rows) ≡ streams_of young held rows
 sources_pieces held young rows =
-    map-append (pieces_in held) (map of_young young) (map of_bin (placed 1 rows)) ∙ ap₂ (λ xs ys. xs ++ ys) (young_pieces held young) (placed_held held 1 rows)
+    map-append (pieces_from held) (map of_young young) (map of_bin (placed 1 rows)) ∙ ap₂ (λ xs ys. xs ++ ys) (young_pieces held young) (placed_held held 1 rows)
 
 pub sources_widths : (young : List Bin) (rows : List (List BinAt)) → map width_in (sources young rows) ≡ widths_of young rows
 sources_widths young rows =
@@ -203,7 +203,7 @@ sources_stand s file held young rows few are stand =
     (record { last = omega (arith, few, below); widths = (are k below).widths; stand = stand k below }))))
 
 one_told : (s : Numbers) (valid : IsValid s) (source : Source) (stream : Stream) (told : Option Files) (seen : Files) (held : BinAt → List Piece) → told ≡ Some seen →
-    IsBegun s source stream → SourceStands s (seen FRAMES) held source → to_come_of told stream ≡ Some (pieces_in held source)
+    IsBegun s source stream → SourceStands s (seen FRAMES) held source → to_come_of told stream ≡ Some (pieces_from held source)
 one_told s valid (of_young bin) (of_table table) told seen held told_is is stands =
     table_told table (subst (λ l. AreGiven l (table.given ++ table.left)) (sym is.limit)
     (subst (AreGiven (tail_limit s)) (sym (ap₂ (λ front rest. front ++ rest) is.given is.left)) is.ordered))
@@ -215,7 +215,7 @@ one_told s valid (of_young bin) (of_frame r) told seen held told_is is stands = 
 one_told s valid (of_bin p) (of_table table) told seen held told_is is stands = absurd is
 
 pub begun_told : (s : Numbers) (valid : IsValid s) (some : List Source) (bins : List Stream) (k : ℕ) (told : Option Files) (seen : Files) (held : BinAt → List Piece) → told ≡ Some seen →
-    AreBegun s some bins → SourcesStand s (seen FRAMES) held some → k < length bins → to_come_at told bins k ≡ Some (get_or (map (pieces_in held) some) k [])
+    AreBegun s some bins → SourcesStand s (seen FRAMES) held some → k < length bins → to_come_at told bins k ≡ Some (get_or (map (pieces_from held) some) k [])
 begun_told s valid [] [] k told seen held told_is are stand below = absurd (omega (arith, below))
 begun_told s valid (x ∷ some) (b ∷ bins) zero told seen held told_is are stand below = one_told s valid x b told seen held told_is are.0 stand.0
 begun_told s valid (x ∷ some) (b ∷ bins) (suc k) told seen held told_is are stand below = begun_told s valid some bins k told seen held told_is are.1 stand.1 (omega (arith, below))

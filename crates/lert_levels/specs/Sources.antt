@@ -34,9 +34,9 @@ abbrev pub sources : List Bin → List (List BinAt) → List Source
 sources young rows = map of_young young ++ map of_bin (placed 1 rows)
 
 -- the pieces of one, and how wide it is
-abbrev pub pieces_in : (BinAt → List Piece) → Source → List Piece
-pieces_in held (of_young bin) = bin.pieces
-pieces_in held (of_bin p) = held p.bin
+abbrev pub pieces_from : (BinAt → List Piece) → Source → List Piece
+pieces_from held (of_young bin) = bin.pieces
+pieces_from held (of_bin p) = held p.bin
 
 abbrev pub width_in : Source → ℕ
 width_in (of_young bin) = bin.to - bin.from

@@ -5,9 +5,9 @@ ghost use Rattle.lert_bay.specs.declared.bay.TheConstants.{FRAMES};
 ghost use Rattle.lert_bay.specs.Files.{IfTold};
 ghost use Rattle.lert_bay.specs.Kept.{KeepsBay, OnlyReads};
 ghost use Rattle.lert_flush.specs.Merged.{AreParts, IsUnread, AreWide, HaveRoom, AreTaken};
-ghost use Rattle.lert_landing.specs.Landings.{home, AreLandings, AreLanding, AreApart};
+ghost use Rattle.lert_landing.specs.Landings.{home, AreLandings, AreLanding, IsOutside};
 ghost use Rattle.lert_order.specs.Ordering.{Breaks};
-ghost use Rattle.lert_rows.specs.Landing.{KeepsRest, AreApart as RowsApart};
+ghost use Rattle.lert_rows.specs.Landing.{KeepsRest, AreApart};
 ghost use Rattle.lert_rows.specs.Loading.{OneBreaks};
 ghost use Rattle.lert_rows.specs.Rows.{IsRow};
 ghost use Rattle.lert_spec.specs.Edges.{capacity};
@@ -73,14 +73,14 @@ pub fn land_bins<B: Bay, S: Bins<B>, O: Totals>(
     requires unread { IsUnread S.Streams order.old }
     requires parts { AreParts parts.now (S.count order.old.streams) (length landings.old) }
     requires room { HaveRoom S.Streams S.width order.old.streams parts.now landings.old }
-    requires apart { (from to : ℕ) → S.reads order.old.streams from to → AreApart landings.old from to }
+    requires apart { (from to : ℕ) → S.reads order.old.streams from to → IsOutside landings.old from to }
     requires sure { IfTold (B.files bay.old) (λ seen. S.sure order.old.streams (seen FRAMES)) }
     requires totals { O.took totals.old [] }
     requires landing { IfTold (B.files bay.old) (λ seen. AreLanding landings.old (seen FRAMES)) }
     ensures landed { OnOk result (HaveLanded S.Streams S.width O.took order.old.streams bay.old parts.now landings.old totals.new (B.files bay.new)) }
     ensures homes { map home landings.new ≡ map home landings.old }
     ensures malformed { (at : ℕ) → result ≡ Err (FlushFault.Malformed at) → Breaks S.Streams bay.old order.old.streams at }
-    ensures rest { KeepsRest B.Bay (AreApart landings.old) bay.old bay.new }
+    ensures rest { KeepsRest B.Bay (IsOutside landings.old) bay.old bay.new }
     ensures kept { KeepsBay B.Bay bay.old bay.new (IsErrOf result FlushFault.Failed) }
     ensures streams { S.same order.old.streams order.new.streams }
     ensures ahead { order.new.ahead.room ≡ order.old.ahead.room }
@@ -206,7 +206,7 @@ pub fn land_rows<T: CountTable, B: Bay, O: Totals>(
         OneBreaks zero.now.settings (map (λ row. row.items) rows.now) (seen FRAMES) at) }
     ensures malformed_after { IfTold (B.files bay.new) (λ after. (at : ℕ) → IsErrOf result.1 (FlushFault.Malformed at) →
         OneBreaks zero.now.settings (map (λ row. row.items) rows.now) (after FRAMES) at) }
-    ensures rest { KeepsRest B.Bay (RowsApart zero.now.settings m (map (λ row. row.items) rows.now)) bay.old bay.new }
+    ensures rest { KeepsRest B.Bay (AreApart zero.now.settings m (map (λ row. row.items) rows.now)) bay.old bay.new }
     ensures kept { KeepsBay B.Bay bay.old bay.new (IsErrOf result.1 FlushFault.Failed) }
 {
     if let Err(fault) = secure_rows(zero.settings(), rows, &mut reading.room, bay) {
@@ -246,7 +246,7 @@ fn land_secure<T: CountTable, B: Bay, O: Totals>(
         OneBreaks zero.now.settings (map (λ row. row.items) rows.now) (seen FRAMES) at) }
     ensures malformed_after { IfTold (B.files bay.new) (λ after. (at : ℕ) → IsErrOf result.1 (FlushFault.Malformed at) →
         OneBreaks zero.now.settings (map (λ row. row.items) rows.now) (after FRAMES) at) }
-    ensures rest { KeepsRest B.Bay (RowsApart zero.now.settings m (map (λ row. row.items) rows.now)) bay.old bay.new }
+    ensures rest { KeepsRest B.Bay (AreApart zero.now.settings m (map (λ row. row.items) rows.now)) bay.old bay.new }
     ensures kept { KeepsBay B.Bay bay.old bay.new (IsErrOf result.1 FlushFault.Failed) }
 {
     let settings = zero.settings();

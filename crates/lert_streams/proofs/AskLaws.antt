@@ -16,12 +16,12 @@ use Rattle.lert_streams.specs.Asked.{Answers, Asked}
 use Rattle.lert_streams.specs.Bin.{TableBin, of_table, of_frame, all_of, table_to_come}
 use Rattle.lert_streams.specs.BinLaws.{table_told}
 use Rattle.lert_streams.specs.BinSet.{BinSet}
-use Rattle.lert_streams.specs.Tables.{bin_at, bins_at, bins_of, IsOrdered, AreOrdered, IsBinSet}
+use Rattle.lert_streams.specs.Tables.{bin_at, bins_at, all_streams, IsOrdered, AreOrdered, IsBinSet}
 use Rattle.lert_streams.proofs.TableLaws.{bins_length, stand_with, bin_here, bins_with, ordered_here, ordered_with, reader_here, readers_with}
 
 -- ---- the places of a set's streams
 
-pub set_length : (tables : List TableBin) (frames : ℕ) (readers : List FrameReader) → frames ≤ length readers → length (bins_of tables frames readers) ≡ length tables + frames
+pub set_length : (tables : List TableBin) (frames : ℕ) (readers : List FrameReader) → frames ≤ length readers → length (all_streams tables frames readers) ≡ length tables + frames
 set_length tables frames readers within =
     let front = length-map tables of_table in
     let back = length-map (take frames readers) of_frame in
@@ -29,32 +29,32 @@ set_length tables frames readers within =
     omega (arith, length-append (map of_table tables) (map of_frame (take frames readers)), front, back, some, within)
 
 module _ (tables : List TableBin) (frames : ℕ) (readers : List FrameReader) where
-  pub table_here : (i : ℕ) (table : TableBin) → i < length tables → get_or tables i table ≡ table → of_table table ≡ get_or (bins_of tables frames readers) i (of_table table)
+  pub table_here : (i : ℕ) (table : TableBin) → i < length tables → get_or tables i table ≡ table → of_table table ≡ get_or (all_streams tables frames readers) i (of_table table)
   table_here i table within here = sym (
       get_or-append (map of_table tables) (map of_frame (take frames readers)) (of_table table) i (omega (arith, length-map tables of_table, within))
       ∙ get_or-map of_table tables i table (of_table table) within ∙ ap of_table here)
 
-  pub table_put : (i : ℕ) (table : TableBin) → i < length tables → bins_of (set tables i table) frames readers ≡ set (bins_of tables frames readers) i (of_table table)
+  pub table_put : (i : ℕ) (table : TableBin) → i < length tables → all_streams (set tables i table) frames readers ≡ set (all_streams tables frames readers) i (of_table table)
   table_put i table within =
       ap (λ bins. bins ++ map of_frame (take frames readers)) (map-set of_table tables i table)
       ∙ sym (set-append_left (map of_table tables) (map of_frame (take frames readers)) i (of_table table) (omega (arith, length-map tables of_table, within)))
 
   module _ (i : ℕ) (behind : length tables ≤ i) (within : i - length tables < frames) (fits : frames ≤ length readers) where
-    pub frame_here : (r : FrameReader) → r ≡ get_or readers (i - length tables) r → of_frame r ≡ get_or (bins_of tables frames readers) i (of_frame r)
+    pub frame_here : (r : FrameReader) → r ≡ get_or readers (i - length tables) r → of_frame r ≡ get_or (all_streams tables frames readers) i (of_frame r)
     frame_here r here =
         let long : length (take frames readers) ≡ frames = omega (arith, length-take frames readers, fits) in
         sym (get_or-append_right (map of_table tables) (map of_frame (take frames readers)) (length tables) i (of_frame r) (length-map tables of_table) behind
         ∙ get_or-map of_frame (take frames readers) (i - length tables) r (of_frame r) (omega (arith, long, within))
         ∙ ap of_frame (sym (here ∙ sym (get_or-take frames readers (i - length tables) r within))))
 
-    pub frame_put : (r : FrameReader) → bins_of tables frames (set readers (i - length tables) r) ≡ set (bins_of tables frames readers) i (of_frame r)
+    pub frame_put : (r : FrameReader) → all_streams tables frames (set readers (i - length tables) r) ≡ set (all_streams tables frames readers) i (of_frame r)
     frame_put r =
         ap (λ rs. map of_table tables ++ map of_frame rs) (take-set-lt frames readers (i - length tables) r within)
         ∙ ap (λ bins. map of_table tables ++ bins) (map-set of_frame (take frames readers) (i - length tables) r)
         ∙ sym (set-append_right (map of_table tables) (map of_frame (take frames readers)) (length tables) i (of_frame r) (length-map tables of_table) behind)
 
   pub frame_begun : (r : FrameReader) → frames < length readers →
-      bins_of tables (frames + 1) (set readers frames r) ≡ bins_of tables frames readers ++ of_frame r ∷ []
+      all_streams tables (frames + 1) (set readers frames r) ≡ all_streams tables frames readers ++ of_frame r ∷ []
   frame_begun r within =
       ap (λ rs. map of_table tables ++ map of_frame rs) (take_more_set readers frames r within)
       ∙ ap (λ bins. map of_table tables ++ bins) (map-append of_frame (take frames readers) (r ∷ []))
@@ -109,9 +109,9 @@ table_answers before after was becomes piece gives ordered =
 -- ---- the stream that was asked, in its set
 
 module _ (s : Numbers) (spare : ℕ) (seen : BinSet) where
-  pub asked_table : (tables : List TableBin) (frames : ℕ) (readers : List FrameReader) → record { settings = s; bins = bins_of tables frames readers; spare = spare } ≡ seen →
+  pub asked_table : (tables : List TableBin) (frames : ℕ) (readers : List FrameReader) → record { settings = s; bins = all_streams tables frames readers; spare = spare } ≡ seen →
       (before : Option Files) (i : ℕ) (was becomes : TableBin) (piece : Option Piece) → i < length tables → get_or tables i was ≡ was → Gives was becomes piece → IsOrdered was →
-      Asked before before seen (record { settings = s; bins = bins_of (set tables i becomes) frames readers; spare = spare }) i (Ok piece)
+      Asked before before seen (record { settings = s; bins = all_streams (set tables i becomes) frames readers; spare = spare }) i (Ok piece)
   asked_table tables frames readers is before i was becomes piece within here gives ordered = record {
     was = of_table was;
     becomes = of_table becomes;
@@ -122,10 +122,10 @@ module _ (s : Numbers) (spare : ℕ) (seen : BinSet) where
     answers = table_answers before before was becomes piece gives ordered;
   }
 
-  pub asked_frame : (tables : List TableBin) (frames : ℕ) (readers : List FrameReader) → record { settings = s; bins = bins_of tables frames readers; spare = spare } ≡ seen →
+  pub asked_frame : (tables : List TableBin) (frames : ℕ) (readers : List FrameReader) → record { settings = s; bins = all_streams tables frames readers; spare = spare } ≡ seen →
       (before after : Option Files) (i : ℕ) (r becomes : FrameReader) (result : Result (Option Piece) PieceFault) (left : ℕ) → length tables ≤ i → i - length tables < frames →
       frames ≤ length readers → left ≡ spare → r ≡ get_or readers (i - length tables) r → Answers before after (of_frame r) (of_frame becomes) result →
-      Asked before after seen (record { settings = s; bins = bins_of tables frames (set readers (i - length tables) becomes); spare = left }) i result
+      Asked before after seen (record { settings = s; bins = all_streams tables frames (set readers (i - length tables) becomes); spare = left }) i result
   asked_frame tables frames readers is before after i r becomes result left behind within fits same here answers = record {
     was = of_frame r;
     becomes = of_frame becomes;
@@ -141,7 +141,7 @@ module _ (s : Numbers) (spare : ℕ) (seen : BinSet) where
 module _ {T K : Type 0} (bits : T → ℕ) (left : T → K → List Piece) (gave : K → List Piece) (stands : T → K → Type 0)
     (s : Numbers) (tables : List T) (cursors : List K) (capacity : ℕ) (readers : List FrameReader) (frames : ℕ)
     (kept : IsBinSet bits left gave stands s tables cursors capacity readers frames) where
-  pub all_length : length (bins_of (bins_at bits left gave tables cursors) frames readers) ≡ length tables + frames
+  pub all_length : length (all_streams (bins_at bits left gave tables cursors) frames readers) ≡ length tables + frames
   all_length = set_length (bins_at bits left gave tables cursors) frames readers kept.within ∙ ap (λ n. n + frames) (bins_length bits left gave stands tables cursors kept.standing)
 
   -- a table's cursor moves on
@@ -170,10 +170,10 @@ module _ {T K : Type 0} (bits : T → ℕ) (left : T → K → List Piece) (gave
       within = kept.within;
     }
 
-    pub table_asked : (spare : ℕ) (seen : BinSet) → record { settings = s; bins = bins_of (bins_at bits left gave tables cursors) frames readers; spare = spare } ≡ seen → (before : Option Files) →
-        Asked before before seen (record { settings = s; bins = bins_of (bins_at bits left gave tables (set cursors i after)) frames readers; spare = spare }) i (Ok piece)
+    pub table_asked : (spare : ℕ) (seen : BinSet) → record { settings = s; bins = all_streams (bins_at bits left gave tables cursors) frames readers; spare = spare } ≡ seen → (before : Option Files) →
+        Asked before before seen (record { settings = s; bins = all_streams (bins_at bits left gave tables (set cursors i after)) frames readers; spare = spare }) i (Ok piece)
     table_asked spare seen is before =
-        subst (λ (bins : List TableBin). Asked before before seen (record { settings = s; bins = bins_of bins frames readers; spare = spare }) i (Ok piece)) (sym with_it)
+        subst (λ (bins : List TableBin). Asked before before seen (record { settings = s; bins = all_streams bins frames readers; spare = spare }) i (Ok piece)) (sym with_it)
         (asked_table s spare seen (bins_at bits left gave tables cursors) frames readers is before i (bin_at bits left gave t c) (bin_at bits left gave t after) piece long here gives ordered)
 
   -- a reader does
@@ -188,12 +188,12 @@ module _ {T K : Type 0} (bits : T → ℕ) (left : T → K → List Piece) (gave
     within = omega (arith, length-set readers j after, kept.within);
   }
 
-  pub frame_asked : (seen : BinSet) → record { settings = s; bins = bins_of (bins_at bits left gave tables cursors) frames readers; spare = length readers - frames } ≡ seen →
+  pub frame_asked : (seen : BinSet) → record { settings = s; bins = all_streams (bins_at bits left gave tables cursors) frames readers; spare = length readers - frames } ≡ seen →
       (before after : Option Files) (i : ℕ) (r becomes : FrameReader) (result : Result (Option Piece) PieceFault) → length tables ≤ i → i < length seen.bins →
       r ≡ get_or readers (i - length tables) r → Answers before after (of_frame r) (of_frame becomes) result →
       Asked before after seen (record {
         settings = s;
-        bins = bins_of (bins_at bits left gave tables cursors) frames (set readers (i - length tables) becomes);
+        bins = all_streams (bins_at bits left gave tables cursors) frames (set readers (i - length tables) becomes);
         spare = length (set readers (i - length tables) becomes) - frames;
       }) i result
   frame_asked seen is before after i r becomes result behind within here answers =
@@ -203,7 +203,7 @@ module _ {T K : Type 0} (bits : T → ℕ) (left : T → K → List Piece) (gave
       let same : length (set readers (i - length tables) becomes) - frames ≡ length readers - frames = ap (λ n. n - frames) (length-set readers (i - length tables) becomes) in
       subst (λ (n : ℕ). Asked before after seen (record {
         settings = s;
-        bins = bins_of (bins_at bits left gave tables cursors) frames (set readers (i - n) becomes);
+        bins = all_streams (bins_at bits left gave tables cursors) frames (set readers (i - n) becomes);
         spare = length (set readers (i - length tables) becomes) - frames;
       }) i result) count
       (asked_frame s (length readers - frames) seen (bins_at bits left gave tables cursors) frames readers is before after i r becomes result _

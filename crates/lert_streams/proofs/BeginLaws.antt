@@ -10,7 +10,7 @@ use Rattle.lert_spec.specs.declared.piece.Piece.{Piece}
 use Rattle.lert_streams.specs.Asked.{Begins}
 use Rattle.lert_streams.specs.Bin.{Bin, of_frame}
 use Rattle.lert_streams.specs.BinSet.{BinSet}
-use Rattle.lert_streams.specs.Tables.{bins_at, bins_of, IsBinSet}
+use Rattle.lert_streams.specs.Tables.{bins_at, all_streams, IsBinSet}
 use Rattle.lert_streams.proofs.AskLaws.{frame_begun}
 use Rattle.lert_streams.proofs.TableLaws.{reader_here, readers_with}
 
@@ -43,11 +43,11 @@ module _ {T K : Type 0} (bits : T → ℕ) (left : T → K → List Piece) (gave
     within = omega (arith, length-set readers frames new, within);
   }
 
-  pub begins : (seen : BinSet) → record { settings = s; bins = bins_of (bins_at bits left gave tables cursors) frames readers; spare = length readers - frames } ≡ seen →
+  pub begins : (seen : BinSet) → record { settings = s; bins = all_streams (bins_at bits left gave tables cursors) frames readers; spare = length readers - frames } ≡ seen →
       (old new : FrameReader) (level frame width : ℕ) → frames < length readers → old ≡ get_or readers frames old → IsStart old new level frame width →
       Begins seen (record {
         settings = s;
-        bins = bins_of (bins_at bits left gave tables cursors) (frames + 1) (set readers frames new);
+        bins = all_streams (bins_at bits left gave tables cursors) (frames + 1) (set readers frames new);
         spare = length (set readers frames new) - (frames + 1);
       }) level frame width
   begins seen is old new level frame width within here start =

@@ -9,7 +9,7 @@ use Rattle.lert_frames.specs.ToCome.{if_whole, told_of}
 use Rattle.lert_order.specs.Members.{given_at, limit_at}
 use Rattle.lert_order.specs.Untouched.{IsUntouched}
 use Rattle.lert_streams.specs.Asked.{Begins, frame_to_come, FrameLeavesAt}
-use Rattle.lert_streams.specs.Bin.{Bin, of_frame, to_come_of, given_of, limit_of, width_of, LeavesAt, ReadsIn, IsSureBin}
+use Rattle.lert_streams.specs.Bin.{Bin, of_frame, to_come_of, given_of, limit_of, wide_of, LeavesAt, ReadsIn, IsSureBin}
 use Rattle.lert_streams.specs.BinSet.{BinSet, AreSure, Reads}
 use Rattle.lert_streams.specs.SetLaws.{to_come_at, LeavesIn}
 
@@ -77,8 +77,8 @@ module _ (old new : BinSet) (level frame width : ℕ) (begins : Begins old new l
   pub begun_limit : limit_at limit_of new.bins (length old.bins) ≡ tail_limit old.settings
   begun_limit = last_is limit_of 0 ∙ ap tail_limit begins.of_settings
 
-  pub begun_width : limit_at width_of new.bins (length old.bins) ≡ width
-  begun_width = last_is width_of 0 ∙ begins.wide
+  pub begun_width : limit_at wide_of new.bins (length old.bins) ≡ width
+  begun_width = last_is wide_of 0 ∙ begins.wide
 
   pub begun_others : (k : ℕ) → k < length old.bins → IsUntouched (λ (set : BinSet) (stream : ℕ) (told : Option Files). to_come_at told set.bins stream)
       (λ (set : BinSet). given_at given_of set.bins) (λ (set : BinSet). limit_at limit_of set.bins)
@@ -90,8 +90,8 @@ module _ (old new : BinSet) (level frame width : ℕ) (begins : Begins old new l
     breaking = λ told at. subst (λ (bins : List Bin). LeavesIn told bins k at ↔ LeavesIn told old.bins k at) (sym begins.bins) (leaves_before told old.bins (of_frame begins.reader) k at within);
   }
 
-  pub begun_widths : (k : ℕ) → k < length old.bins → limit_at width_of new.bins k ≡ limit_at width_of old.bins k
-  begun_widths k within = before_is width_of 0 k within
+  pub begun_widths : (k : ℕ) → k < length old.bins → limit_at wide_of new.bins k ≡ limit_at wide_of old.bins k
+  begun_widths k within = before_is wide_of 0 k within
 
   -- the end of its place
   end_is : begins.reader.place + frame_len begins.reader.settings begins.reader.level ≡ frame_place old.settings level frame + frame_len old.settings level

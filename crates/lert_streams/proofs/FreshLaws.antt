@@ -6,7 +6,7 @@ use Rattle.lert_bay.specs.Files.{Files}
 use Rattle.lert_order.specs.Members.{given_at, limit_at}
 use Rattle.lert_spec.specs.declared.piece.Piece.{Piece}
 use Rattle.lert_spec.specs.Table.{total}
-use Rattle.lert_streams.specs.Bin.{of_table, given_of, limit_of, width_of}
+use Rattle.lert_streams.specs.Bin.{of_table, given_of, limit_of, wide_of}
 use Rattle.lert_streams.specs.BinLaws.{table_told}
 use Rattle.lert_streams.specs.BinSet.{AreSure, Reads}
 use Rattle.lert_streams.specs.SetLaws.{to_come_at}
@@ -33,7 +33,7 @@ module _ {T : Type 0} (bits : T → ℕ) (pieces : T → List Piece) where
   fresh_limit (t ∷ tables) (suc k) d within = fresh_limit tables k d (omega arith)
 
   pub fresh_width : (tables : List T) (k : ℕ) (d : T) → k < length tables →
-      limit_at width_of (map of_table (map (fresh_bin bits pieces) tables)) k ≡ total (pieces (get_or tables k d))
+      limit_at wide_of (map of_table (map (fresh_bin bits pieces) tables)) k ≡ total (pieces (get_or tables k d))
   fresh_width [] k d within = absurd (omega arith)
   fresh_width (t ∷ tables) zero d within = refl
   fresh_width (t ∷ tables) (suc k) d within = fresh_width tables k d (omega arith)

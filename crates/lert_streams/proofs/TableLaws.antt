@@ -8,7 +8,7 @@ use Rattle.lert_spec.specs.declared.piece.Piece.{Piece}
 use Rattle.lert_spec.specs.Table.{total, IsTable, AreGiven}
 use Rattle.lert_spec.proofs.Tables.{count_le-total}
 use Rattle.lert_streams.specs.Bin.{TableBin}
-use Rattle.lert_streams.specs.Tables.{bin_at, bins_at, fresh_bin, Stand, IsOrdered, AreOrdered, AreReadersOf, AreReaders, AreStarted}
+use Rattle.lert_streams.specs.Tables.{bin_at, bins_at, fresh_bin, Stand, IsOrdered, AreOrdered, AreReadersOf, AreReaders, AreStartedOn}
 
 -- the pieces of a table of few events
 pub given_of : (bits room : ℕ) (pieces : List Piece) {events : ℕ} → IsTable (2 ^ bits) pieces → events ≡ total pieces → events ≤ room → room ≤ 2 ^ 47 → AreGiven (2 ^ bits) pieces
@@ -65,11 +65,11 @@ module _ {T K : Type 0} (bits : T → ℕ) (left : T → K → List Piece) (gave
   behind [] = []
   behind (b ∷ bins) = bins
 
-  pub started_none : (pieces : T → List Piece) → AreStarted bits left gave stands pieces [] []
+  pub started_none : (pieces : T → List Piece) → AreStartedOn bits left gave stands pieces [] []
   started_none pieces = record { standing = tt; bins = refl; ordered = tt }
 
-  pub started_more : (pieces : T → List Piece) (tables : List T) (cursors : List K) (t : T) (c : K) → AreStarted bits left gave stands pieces tables cursors →
-      stands t c → left t c ≡ pieces t → gave c ≡ [] → AreGiven (2 ^ bits t) (pieces t) → AreStarted bits left gave stands pieces (tables ++ t ∷ []) (cursors ++ c ∷ [])
+  pub started_more : (pieces : T → List Piece) (tables : List T) (cursors : List K) (t : T) (c : K) → AreStartedOn bits left gave stands pieces tables cursors →
+      stands t c → left t c ≡ pieces t → gave c ≡ [] → AreGiven (2 ^ bits t) (pieces t) → AreStartedOn bits left gave stands pieces (tables ++ t ∷ []) (cursors ++ c ∷ [])
   started_more pieces [] [] t c is on left_is gave_is given = record {
     standing = (on, tt);
     bins = ap₂ (λ (g l : List Piece). record { limit = 2 ^ bits t; given = g; left = l } ∷ []) gave_is left_is;
@@ -86,13 +86,13 @@ module _ {T K : Type 0} (bits : T → ℕ) (left : T → K → List Piece) (gave
   started_more pieces [] (y ∷ cursors) t c is on left_is gave_is given = absurd is.standing
   started_more pieces (x ∷ tables) [] t c is on left_is gave_is given = absurd is.standing
 
-  pub started_next : (pieces : T → List Piece) (tables : List T) (cursors after : List K) (i : ℕ) (t : T) (c : K) → AreStarted bits left gave stands pieces (take i tables) cursors →
+  pub started_next : (pieces : T → List Piece) (tables : List T) (cursors after : List K) (i : ℕ) (t : T) (c : K) → AreStartedOn bits left gave stands pieces (take i tables) cursors →
       i < length tables → t ≡ get_or tables i t → stands t c → left t c ≡ pieces t → gave c ≡ [] → AreGiven (2 ^ bits t) (pieces t) → after ≡ cursors ++ c ∷ [] →
-      AreStarted bits left gave stands pieces (take (i + 1) tables) after
+      AreStartedOn bits left gave stands pieces (take (i + 1) tables) after
   started_next pieces tables cursors after i t c is within here on left_is gave_is given after_is =
       let more = started_more pieces (take i tables) cursors t c is on left_is gave_is given in
       let front : take i tables ++ t ∷ [] ≡ take (i + 1) tables = ap (λ (x : T). take i tables ++ x ∷ []) here ∙ sym (take_more tables i t within) in
-      subst (λ (ts : List T). AreStarted bits left gave stands pieces ts after) front (subst (λ (cs : List K). AreStarted bits left gave stands pieces (take i tables ++ t ∷ []) cs)
+      subst (λ (ts : List T). AreStartedOn bits left gave stands pieces ts after) front (subst (λ (cs : List K). AreStartedOn bits left gave stands pieces (take i tables ++ t ∷ []) cs)
       (sym after_is) more)
 
 -- ---- tables in order

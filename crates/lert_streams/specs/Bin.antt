@@ -59,9 +59,9 @@ LeavesAt told (of_table table) at = ⊥
 LeavesAt told (of_frame r) at = Breaks told r at
 
 -- what its counts add up to at most
-abbrev pub width_of : Bin → ℕ
-width_of (of_table table) = total (all_of table)
-width_of (of_frame r) = r.wide
+abbrev pub wide_of : Bin → ℕ
+wide_of (of_table table) = total (all_of table)
+wide_of (of_frame r) = r.wide
 
 -- a range of the file of frames that it reads: one within the frame's place
 abbrev pub ReadsIn : Bin → ℕ → ℕ → Type 0

@@ -13,30 +13,30 @@ use Rattle.lert_frames.proofs.ToComeLaws.{given_within}
 use Rattle.lert_order.specs.Members.{given_at, limit_at}
 use Rattle.lert_rows.specs.Landing.{LeavesRest}
 use Rattle.lert_spec.specs.Table.{total}
-use Rattle.lert_streams.specs.Bin.{Bin, of_table, of_frame, to_come_of, given_of, LeavesAt, width_of, ReadsIn, IsSureBin, IsSameBin, IsFrameOf}
+use Rattle.lert_streams.specs.Bin.{Bin, of_table, of_frame, to_come_of, given_of, LeavesAt, wide_of, ReadsIn, IsSureBin, IsSameBin, IsFrameOf}
 use Rattle.lert_streams.specs.BinSet.{Reads, AreSure, AreSameBins}
 use Rattle.lert_streams.specs.SetLaws.{to_come_at, LeavesIn}
 
 -- ---- widths
 
-within_width : (bin : Bin) → total (given_of bin) ≤ width_of bin
+within_width : (bin : Bin) → total (given_of bin) ≤ wide_of bin
 within_width (of_table table) = omega (arith, total-append table.given table.left)
 within_width (of_frame r) = given_within r
 
-pub set_within : (bins : List Bin) (k : ℕ) → k < length bins → total (given_at given_of bins k) ≤ limit_at width_of bins k
+pub set_within : (bins : List Bin) (k : ℕ) → k < length bins → total (given_at given_of bins k) ≤ limit_at wide_of bins k
 set_within [] k within = absurd (omega arith)
 set_within (bin ∷ bins) zero within = within_width bin
 set_within (bin ∷ bins) (suc k) within = set_within bins k (omega arith)
 
 -- ---- the same bins
 
-same_width : (old new : Bin) → IsSameBin old new → width_of new ≡ width_of old
+same_width : (old new : Bin) → IsSameBin old new → wide_of new ≡ wide_of old
 same_width (of_table old) (of_table new) same = ap total same.all
 same_width (of_frame old) (of_frame new) same = same.wide
 same_width (of_table old) (of_frame new) same = absurd same
 same_width (of_frame old) (of_table new) same = absurd same
 
-pub set_same_width : (old new : List Bin) (k : ℕ) → AreSameBins old new → limit_at width_of new k ≡ limit_at width_of old k
+pub set_same_width : (old new : List Bin) (k : ℕ) → AreSameBins old new → limit_at wide_of new k ≡ limit_at wide_of old k
 set_same_width [] [] k same = refl
 set_same_width (old ∷ olds) (new ∷ news) zero same = same_width old new same.0
 set_same_width (old ∷ olds) (new ∷ news) (suc k) same = set_same_width olds news k same.1

@@ -21,8 +21,8 @@ abbrev pub fresh_bin : {T : Type 0} → (T → ℕ) → (T → List Piece) → T
 fresh_bin bits pieces table = record { limit = 2 ^ bits table; given = []; left = pieces table }
 
 -- the tables' bins, and those of the first readers
-abbrev pub bins_of : List TableBin → ℕ → List FrameReader → List Bin
-bins_of tables frames readers = map of_table tables ++ map of_frame (take frames readers)
+abbrev pub all_streams : List TableBin → ℕ → List FrameReader → List Bin
+all_streams tables frames readers = map of_table tables ++ map of_frame (take frames readers)
 
 -- each cursor was started on its table
 abbrev pub Stand : {T K : Type 0} → (T → K → Type 0) → List T → List K → Type 0
@@ -69,7 +69,7 @@ pub record IsRoom {K : Type 0} (s : Numbers) (cursors : List K) (capacity : ℕ)
   pub readers_are : AreReaders s readers
 
 -- a cursor was started on each of these tables
-pub record AreStarted {T K : Type 0} (bits : T → ℕ) (left : T → K → List Piece) (gave : K → List Piece) (stands : T → K → Type 0) (pieces : T → List Piece)
+pub record AreStartedOn {T K : Type 0} (bits : T → ℕ) (left : T → K → List Piece) (gave : K → List Piece) (stands : T → K → Type 0) (pieces : T → List Piece)
     (tables : List T) (cursors : List K) : Type 0 where
   pub standing : Stand stands tables cursors
   pub bins : bins_at bits left gave tables cursors ≡ map (fresh_bin bits pieces) tables

@@ -68,12 +68,12 @@ impl<'a, T: CountTable, B: Bay> Streams<B> for BinStreams<'a, T> {
 impl<'a, T: CountTable, B: Bay> Bins<B> for BinStreams<'a, T> {
     ghost use Rattle.std.proofs.Common.{refl, sym, ◌∙◌};
     ghost use Rattle.lert_order.specs.Members.{limit_at};
-    ghost use Rattle.lert_streams.specs.Bin.{width_of};
+    ghost use Rattle.lert_streams.specs.Bin.{wide_of};
     ghost use Rattle.lert_streams.specs.BinSet.{Reads, AreSure};
     ghost use Rattle.lert_streams.specs.StayLaws.{set_within, set_same_width, set_same_reads, set_same_sure, set_coming, set_breaking, set_sure};
     ghost use Rattle.lert_streams.specs.SetLaws.{set_told, set_leaves};
 
-    ghost width = { λ set k. limit_at width_of set.bins k };
+    ghost width = { λ set k. limit_at wide_of set.bins k };
 
     ghost reads = { λ set from to. Reads set.bins from to };
 

@@ -9,10 +9,10 @@ ghost use Rattle.lert_frames.specs.Place.{frame_place, frame_len};
 ghost use Rattle.lert_spec.specs.Edges.{span};
 ghost use Rattle.lert_order.specs.Members.{given_at, limit_at};
 ghost use Rattle.lert_spec.specs.Table.{total};
-ghost use Rattle.lert_streams.specs.Bin.{of_table, given_of, limit_of, width_of};
+ghost use Rattle.lert_streams.specs.Bin.{of_table, given_of, limit_of, wide_of};
 ghost use Rattle.lert_streams.specs.BinSet.{AreSure, Reads};
 ghost use Rattle.lert_streams.specs.SetLaws.{to_come_at};
-ghost use Rattle.lert_streams.specs.Tables.{AreReadersOf, AreStarted, fresh_bin};
+ghost use Rattle.lert_streams.specs.Tables.{AreReadersOf, AreStartedOn, fresh_bin};
 
 use crate::cursor::TableCursor;
 use crate::streams::BinStreams;
@@ -76,7 +76,7 @@ impl<T: CountTable> StreamRoom<T> {
         ensures limit { (k : ℕ) (d : T) → k < length tables.now → limit_at limit_of result.bins k
             ≡ 2 ^ (T.quotient_bits (slice_index_or tables.now k d) + T.width (slice_index_or tables.now k d)) }
         ensures width { (k : ℕ) (d : T) → k < length tables.now →
-            limit_at width_of result.bins k ≡ total (T.pieces (slice_index_or tables.now k d)) }
+            limit_at wide_of result.bins k ≡ total (T.pieces (slice_index_or tables.now k d)) }
 
         // No table reads the file of frames.
         ensures sure { (file : List ℕ) → AreSure result.bins file }
@@ -152,7 +152,7 @@ fn start_all<T: CountTable>(tables: &[T], cursors: &mut Vec<TableCursor<T>>)
     requires none { cursors.old.items ≡ [] }
     requires room { length tables.now ≤ vec_capacity cursors.old }
     requires rooms { All (λ table. T.room table ≤ 2 ^ 47) tables.now }
-    ensures started { AreStarted (λ table. T.quotient_bits table + T.width table) (λ table cursor. T.left table cursor.place) (λ cursor. cursor.gave)
+    ensures started { AreStartedOn (λ table. T.quotient_bits table + T.width table) (λ table cursor. T.left table cursor.place) (λ cursor. cursor.gave)
         (λ table cursor. T.stands table cursor.place) T.pieces tables.now cursors.new.items }
     ensures room { vec_capacity cursors.old ≤ vec_capacity cursors.new }
 {

@@ -9,7 +9,7 @@ ghost use Rattle.lert_frames.specs.Place.{frame_place, frame_len, tail_limit};
 ghost use Rattle.lert_order.specs.Members.{given_at, limit_at};
 ghost use Rattle.lert_order.specs.Untouched.{IsUntouched};
 ghost use Rattle.lert_streams.specs.Asked.{Asked, Begins, frame_to_come, FrameLeavesAt};
-ghost use Rattle.lert_streams.specs.Bin.{given_of, limit_of, width_of};
+ghost use Rattle.lert_streams.specs.Bin.{given_of, limit_of, wide_of};
 ghost use Rattle.lert_streams.specs.BinSet.{AreSure, Reads};
 ghost use Rattle.lert_streams.specs.SetLaws.{to_come_at, LeavesIn};
 
@@ -38,7 +38,7 @@ pub struct BinStreams<'a, T: CountTable> {
 impl<'a, T: CountTable> Model for BinStreams<'a, T> {
     ghost use Rattle.std.specs.Prelude.{length, ◌+◌, ◌-◌, vec_capacity};
     ghost use Rattle.lert_streams.specs.BinSet.{BinSet};
-    ghost use Rattle.lert_streams.specs.Tables.{bins_at, bins_of, IsBinSet};
+    ghost use Rattle.lert_streams.specs.Tables.{bins_at, all_streams, IsBinSet};
     ghost use Rattle.std.specs.Coded.{codes};
     ghost use Rattle.lert_frames.specs.contracts.reader.FrameReader as reader;
 
@@ -48,7 +48,7 @@ impl<'a, T: CountTable> Model for BinStreams<'a, T> {
 
     ghost view = { λ b. record {
       settings = b.settings;
-      bins = bins_of (bins_at (λ table. T.quotient_bits table + T.width table) (λ table cursor. T.left table cursor.place) (λ cursor. cursor.gave)
+      bins = all_streams (bins_at (λ table. T.quotient_bits table + T.width table) (λ table cursor. T.left table cursor.place) (λ cursor. cursor.gave)
           b.tables.now b.cursors.items) b.frames b.readers.items;
       spare = length b.readers.items - b.frames;
     } };
@@ -76,10 +76,10 @@ impl<'a, T: CountTable> BinStreams<'a, T> {
             LeavesIn told self.new.bins (length self.old.bins) at ↔ FrameLeavesAt told self.old.settings level frame width at }
         ensures given { given_at given_of self.new.bins (length self.old.bins) ≡ [] }
         ensures limit { limit_at limit_of self.new.bins (length self.old.bins) ≡ tail_limit self.old.settings }
-        ensures width { limit_at width_of self.new.bins (length self.old.bins) ≡ width }
+        ensures width { limit_at wide_of self.new.bins (length self.old.bins) ≡ width }
         ensures others { (k : ℕ) → k < length self.old.bins → IsUntouched (λ set stream told. to_come_at told set.bins stream)
             (λ set. given_at given_of set.bins) (λ set. limit_at limit_of set.bins) (λ set stream told. LeavesIn told set.bins stream) self.old self.new k }
-        ensures widths { (k : ℕ) → k < length self.old.bins → limit_at width_of self.new.bins k ≡ limit_at width_of self.old.bins k }
+        ensures widths { (k : ℕ) → k < length self.old.bins → limit_at wide_of self.new.bins k ≡ limit_at wide_of self.old.bins k }
 
         // It is sure of a file that has all of the frame's place, or in which the frame leaves its text nowhere.
         ensures sure { (file : List ℕ) → AreSure self.old.bins file →

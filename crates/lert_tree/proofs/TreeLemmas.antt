@@ -4,7 +4,7 @@ use Rattle.std.proofs.Common.{get_or-set_other, length-set}
 use Rattle.std.proofs.lemmas.Bool.{cases_lt}
 use Rattle.std.proofs.lemmas.List.{get_or-take, length-take-le, take_at}
 use Rattle.lert_tree.specs.Race.{Race, IsLeast, number_at, greatest}
-use Rattle.lert_tree.specs.Matches.{AreBelow, IsPlayed, IsKept}
+use Rattle.lert_tree.specs.Matches.{AreBelow, IsPlayed, IsTree}
 use Rattle.lert_tree.proofs.OrderLemmas.{first_least}
 
 -- what a slice of a vector's items is given goes back into the vector
@@ -18,7 +18,7 @@ take-set_lt (suc n) (x ∷ xs) zero y low = refl
 take-set_lt (suc n) (x ∷ xs) (suc i) y low = ap (λ (ys : List ℕ). x ∷ ys) (take-set_lt n xs i y (omega arith))
 
 pub new_kept : (keys nodes : List ℕ) (room keys_room nodes_room : ℕ) → keys ≡ [] → nodes ≡ [] → room + room ≤ keys_room → room + room ≤ nodes_room →
-    IsKept keys nodes 0 0 room keys_room nodes_room
+    IsTree keys nodes 0 0 room keys_room nodes_room
 new_kept keys nodes room keys_room nodes_room no_keys no_nodes keys_reserved nodes_reserved =
     let none : length keys ≡ 0 = ap length no_keys in let no_node : length nodes ≡ 0 = ap length no_nodes in record {
       nodes_len = omega arith;
@@ -40,7 +40,7 @@ some_streams race keys streams first room view enough some =
     let same : length (take streams keys) ≡ length race.keys = ap (λ (r : Race). length r.keys) view in
     let long : length (take streams keys) ≡ streams = length-take-le streams keys enough in omega arith
 
-pub first_is_least : (race : Race) (keys nodes : List ℕ) (streams first room keys_room nodes_room : ℕ) → IsKept keys nodes streams first room keys_room nodes_room →
+pub first_is_least : (race : Race) (keys nodes : List ℕ) (streams first room keys_room nodes_room : ℕ) → IsTree keys nodes streams first room keys_room nodes_room →
     record { keys = take streams keys; room = room; first = first } ≡ race → 1 ≤ length race.keys → IsLeast race.keys first
 first_is_least race keys nodes streams first room keys_room nodes_room is view some =
     let enough : streams ≤ length keys = is.enough in
@@ -54,9 +54,9 @@ first_is_least race keys nodes streams first room keys_room nodes_room is view s
           let least = first_least keys nodes (length keys) first is.played k (omega arith) in omega arith;
     })
 
-replaced : (keys nodes new_keys new_nodes : List ℕ) (streams first key now room keys_room nodes_room : ℕ) → IsKept keys nodes streams first room keys_room nodes_room → 1 ≤ streams →
+replaced : (keys nodes new_keys new_nodes : List ℕ) (streams first key now room keys_room nodes_room : ℕ) → IsTree keys nodes streams first room keys_room nodes_room → 1 ≤ streams →
     new_keys ≡ set keys first key → length new_nodes ≡ length keys → AreBelow new_nodes (length keys) → IsPlayed new_keys new_nodes (length keys) now → now < length keys →
-    (now ≡ first) ⊎ (number_at new_keys now < greatest) → IsKept new_keys new_nodes streams now room keys_room nodes_room
+    (now ≡ first) ⊎ (number_at new_keys now < greatest) → IsTree new_keys new_nodes streams now room keys_room nodes_room
 replaced keys nodes new_keys new_nodes streams first key now room keys_room nodes_room is some new_is nodes_len below played within changed =
     let len : length keys ≡ length new_keys = sym (ap length new_is ∙ length-set keys first key) in
     let few : length keys ≤ 131072 = is.few in
@@ -80,19 +80,19 @@ replaced keys nodes new_keys new_nodes streams first key now room keys_room node
     }
 
 pub replaced_kept : (race : Race) (keys nodes lent back_keys back_nodes new_keys new_nodes : List ℕ) (streams first key now room keys_room nodes_room : ℕ) →
-    IsKept keys nodes streams first room keys_room nodes_room → record { keys = take streams keys; room = room; first = first } ≡ race → 1 ≤ length race.keys →
+    IsTree keys nodes streams first room keys_room nodes_room → record { keys = take streams keys; room = room; first = first } ≡ race → 1 ≤ length race.keys →
     lent ≡ keys → back_keys ≡ new_keys → back_nodes ≡ new_nodes → new_keys ≡ set lent first key → length new_nodes ≡ length lent → AreBelow new_nodes (length lent) →
     IsPlayed new_keys new_nodes (length lent) now → now < length lent → (now ≡ first) ⊎ (number_at new_keys now < greatest) →
-    IsKept back_keys back_nodes streams now room keys_room nodes_room
+    IsTree back_keys back_nodes streams now room keys_room nodes_room
 replaced_kept race keys nodes lent back_keys back_nodes new_keys new_nodes streams first key now room keys_room nodes_room is view some
     lent_is back_keys_is back_nodes_is new_is nodes_len below played within changed =
-    subst (λ (ks : List ℕ). IsKept ks back_nodes streams now room keys_room nodes_room) (sym back_keys_is)
-    (subst (λ (ns : List ℕ). IsKept new_keys ns streams now room keys_room nodes_room) (sym back_nodes_is)
+    subst (λ (ks : List ℕ). IsTree ks back_nodes streams now room keys_room nodes_room) (sym back_keys_is)
+    (subst (λ (ns : List ℕ). IsTree new_keys ns streams now room keys_room nodes_room) (sym back_nodes_is)
     (replaced keys nodes new_keys new_nodes streams first key now room keys_room nodes_room is (some_streams race keys streams first room view is.enough some)
     (new_is ∙ ap (λ (ks : List ℕ). set ks first key) lent_is) (nodes_len ∙ ap length lent_is) (subst (λ (ks : List ℕ). AreBelow new_nodes (length ks)) lent_is below)
     (subst (λ (ks : List ℕ). IsPlayed new_keys new_nodes (length ks) now) lent_is played) (subst (λ (ks : List ℕ). now < length ks) lent_is within) changed))
 
-pub replaced_keys : (race : Race) (keys nodes lent back new : List ℕ) (streams first key room keys_room nodes_room : ℕ) → IsKept keys nodes streams first room keys_room nodes_room →
+pub replaced_keys : (race : Race) (keys nodes lent back new : List ℕ) (streams first key room keys_room nodes_room : ℕ) → IsTree keys nodes streams first room keys_room nodes_room →
     record { keys = take streams keys; room = room; first = first } ≡ race → 1 ≤ length race.keys → lent ≡ keys → back ≡ new → new ≡ set lent first key →
     take streams back ≡ set race.keys race.first key
 replaced_keys race keys nodes lent back new streams first key room keys_room nodes_room is view some lent_is back_is new_is =

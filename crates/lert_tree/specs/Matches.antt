@@ -43,7 +43,7 @@ pub record IsPlayed (keys nodes : List ℕ) (leaves first : ℕ) : Type 0 where
   pub last : winner 1 ≡ first
 
 -- what stands between two calls
-pub record IsKept (keys nodes : List ℕ) (streams first room keys_room nodes_room : ℕ) : Type 0 where
+pub record IsTree (keys nodes : List ℕ) (streams first room keys_room nodes_room : ℕ) : Type 0 where
   pub nodes_len : length nodes ≡ length keys
   pub few : length keys ≤ 131072
   pub enough : streams ≤ length keys

@@ -28,13 +28,13 @@ pub struct Tree {
 impl Model for Tree {
     ghost use Rattle.std.specs.Prelude.{take, vec_capacity};
     ghost use Rattle.lert_tree.specs.Race.{Race};
-    ghost use Rattle.lert_tree.specs.Matches.{IsKept};
+    ghost use Rattle.lert_tree.specs.Matches.{IsTree};
 
     ghost Value = { Race };
 
     ghost view = { λ t. record { keys = take t.streams t.keys.items; room = t.room; first = t.first } };
 
-    ghost invariant = { λ t. IsKept t.keys.items t.nodes.items t.streams t.first t.room (vec_capacity t.keys) (vec_capacity t.nodes) };
+    ghost invariant = { λ t. IsTree t.keys.items t.nodes.items t.streams t.first t.room (vec_capacity t.keys) (vec_capacity t.nodes) };
 }
 
 impl Tree {

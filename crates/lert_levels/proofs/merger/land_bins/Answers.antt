@@ -4,7 +4,7 @@ use Rattle.std.proofs.lemmas.Result.{err_from_is_err_and}
 use Rattle.lert_bay.specs.Kept.{Bays}
 use Rattle.lert_bay.proofs.KeptLaws.{IsLawful, keeps_on, keeps_as}
 use Rattle.lert_frames.proofs.FaultLaws.{not_err}
-use Rattle.lert_landing.specs.Landings.{AreApart}
+use Rattle.lert_landing.specs.Landings.{IsOutside}
 use Rattle.lert_rows.proofs.LandLaws.{rest_on, rest_fewer}
 use Rattle.lert_rows.proofs.ReadLaws.{failed_there, malformed_there}
 use Rattle.lert_levels.proofs.ReachLaws.{no_place}
@@ -55,8 +55,8 @@ returns-in_err-end_all g c =
       landed = rw (err_from_is_err_and r.result r.ensures.1).1 tt;
       homes = two.homes ∙ one.homes;
       malformed = λ at is. absurd (no_place r.result r.ensures.1 at is);
-      rest = rest_on (bays g) (lawful g) (AreApart old) c.args.bay.now c.merge_bins.new.bay c.end_all.new.bay _ _ one.kept two.kept one.rest
-          (rest_fewer (bays g) (AreApart c.merge_bins.new.landings) (AreApart old) c.merge_bins.new.bay c.end_all.new.bay
+      rest = rest_on (bays g) (lawful g) (IsOutside old) c.args.bay.now c.merge_bins.new.bay c.end_all.new.bay _ _ one.kept two.kept one.rest
+          (rest_fewer (bays g) (IsOutside c.merge_bins.new.landings) (IsOutside old) c.merge_bins.new.bay c.end_all.new.bay
           (apart_same old c.merge_bins.new.landings one.homes) two.rest);
       kept = keeps_as (bays g) (lawful g) c.args.bay.now c.end_all.new.bay _ _ (λ is. refl)
           (keeps_on (bays g) (lawful g) c.args.bay.now c.merge_bins.new.bay c.end_all.new.bay _ _ one.kept two.kept);
@@ -81,8 +81,8 @@ returns g c =
       };
       homes = two.homes ∙ one.homes;
       malformed = λ at is. absurd (not_err _ _ is);
-      rest = rest_on (bays g) (lawful g) (AreApart old) c.args.bay.now c.merge_bins.new.bay c.end_all.new.bay _ _ one.kept two.kept one.rest
-          (rest_fewer (bays g) (AreApart c.merge_bins.new.landings) (AreApart old) c.merge_bins.new.bay c.end_all.new.bay
+      rest = rest_on (bays g) (lawful g) (IsOutside old) c.args.bay.now c.merge_bins.new.bay c.end_all.new.bay _ _ one.kept two.kept one.rest
+          (rest_fewer (bays g) (IsOutside c.merge_bins.new.landings) (IsOutside old) c.merge_bins.new.bay c.end_all.new.bay
           (apart_same old c.merge_bins.new.landings one.homes) two.rest);
       kept = keeps_as (bays g) (lawful g) c.args.bay.now c.end_all.new.bay _ _ (λ is. absurd (not_err _ _ is))
           (keeps_on (bays g) (lawful g) c.args.bay.now c.merge_bins.new.bay c.end_all.new.bay _ _ one.kept two.kept);

@@ -5,7 +5,7 @@ use Rattle.lert_bay.specs.declared.bay.TheConstants.{FRAMES}
 use Rattle.lert_bay.specs.Files.{Files}
 use Rattle.lert_bay.specs.Kept.{Bays, KeepsBay}
 use Rattle.lert_bay.proofs.KeptLaws.{IsLawful, keeps_on}
-use Rattle.lert_rows.specs.Landing.{AreApart as RowsApart}
+use Rattle.lert_rows.specs.Landing.{AreApart}
 use Rattle.lert_rows.specs.Loading.{OneBreaks}
 use Rattle.lert_rows.specs.Rows.{IsRow}
 use Rattle.lert_rows.specs.declared.fault.FlushFault.{FlushFault}
@@ -42,7 +42,7 @@ returns-in-Err-clause-malformed g c seen told at is =
     (c.secure_rows.ensures.malformed seen told at (c.in-Err.is ∙ is))
 
 pub returns-in-Err-clause-rest : goal.returns-in-Err-clause-rest
-returns-in-Err-clause-rest g c = read_rest (bays g) (RowsApart c.args.zero.now.settings c.args.m (map (λ row. row.items) c.args.rows.now)) c.args.bay.now
+returns-in-Err-clause-rest g c = read_rest (bays g) (AreApart c.args.zero.now.settings c.args.m (map (λ row. row.items) c.args.rows.now)) c.args.bay.now
     c.secure_rows.new.bay _ c.secure_rows.ensures.only_reads
 
 pub returns-clause-malformed : goal.returns-clause-malformed
@@ -50,7 +50,7 @@ returns-clause-malformed g c seen told at is = c.land_secure.ensures.malformed s
 
 pub returns-clause-rest : goal.returns-clause-rest
 returns-clause-rest g c =
-    let kept = RowsApart c.args.zero.now.settings c.args.m (map (λ row. row.items) c.args.rows.now) in
+    let kept = AreApart c.args.zero.now.settings c.args.m (map (λ row. row.items) c.args.rows.now) in
     let read = c.secure_rows.ensures.only_reads in
     rest_on (bays g) (lawful g) kept c.args.bay.now c.secure_rows.new.bay c.land_secure.new.bay _ _ read.kept c.land_secure.ensures.kept
     (read_rest (bays g) kept c.args.bay.now c.secure_rows.new.bay _ read) c.land_secure.ensures.rest

@@ -9,9 +9,9 @@ use Rattle.lert_landing.specs.Summed.{sums_of}
 use Rattle.lert_spec.specs.Edges.{span, capacity}
 use Rattle.std.specs.Prelude.{IsErrOf, sum}
 use Rattle.lert_flush.specs.Merged.{AreParts, picked}
-use Rattle.lert_landing.specs.Landings.{AreLandings, AreApart}
+use Rattle.lert_landing.specs.Landings.{AreLandings, IsOutside}
 use Rattle.lert_frames.proofs.WriteLaws.{turns_back}
-use Rattle.lert_rows.specs.Landing.{LeavesRest, AreApart as RowsApart}
+use Rattle.lert_rows.specs.Landing.{LeavesRest, AreApart}
 use Rattle.lert_rows.specs.declared.fault.FlushFault.TheVariants.{Malformed}
 use Rattle.lert_rows.specs.Loading.{OneBreaks}
 use Rattle.lert_rows.specs.Rows.{IsRow}
@@ -197,11 +197,11 @@ returns g c =
           c.land_bins-landed.ensures.landed;
       malformed = malformed;
       malformed_after = λ later told at is.
-          let back = turns_back (LeavesRest (AreApart landings)) before after later c.land_bins-landed.ensures.rest.seen told in
-          breaks_stay s rows back.0 later at (c.requires.secure back.0 back.1) (AreApart landings)
+          let back = turns_back (LeavesRest (IsOutside landings)) before after later c.land_bins-landed.ensures.rest.seen told in
+          breaks_stay s rows back.0 later at (c.requires.secure back.0 back.1) (IsOutside landings)
           (λ from to inside. apart_landings s m young rows reached parts landings laid from to (reached.apart from to inside)) reached.few
           back.2 (malformed back.0 back.1 at is);
-      rest = rest_fewer (bays g) (AreApart landings) (RowsApart s m rows) c.args.bay.now c.land_bins-landed.new.bay
+      rest = rest_fewer (bays g) (IsOutside landings) (AreApart s m rows) c.args.bay.now c.land_bins-landed.new.bay
           (apart_landings s m young rows reached parts landings laid) c.land_bins-landed.ensures.rest;
       kept = c.land_bins-landed.ensures.kept;
     }

@@ -4,7 +4,7 @@ use Rattle.std.specs.Prelude.{slice_index_or}
 use Rattle.lert_order.specs.Members.{given_at, limit_at}
 use Rattle.lert_spec.specs.declared.numbers.Numbers.{Numbers}
 use Rattle.lert_spec.specs.Table.{total}
-use Rattle.lert_streams.specs.Bin.{Bin, of_table, given_of, limit_of, width_of}
+use Rattle.lert_streams.specs.Bin.{Bin, of_table, given_of, limit_of, wide_of}
 use Rattle.lert_streams.specs.BinSet.{AreSure, Reads}
 use Rattle.lert_streams.specs.SetLaws.{to_come_at}
 use Rattle.lert_streams.specs.Tables.{AreOrdered, fresh_bin}
@@ -28,7 +28,7 @@ returns-clause-limit g c k d within = subst (λ (bins : List Bin). limit_at limi
     (fresh_limit (λ table. g.T.CountTable.quotient_bits table + g.T.CountTable.width table) g.T.CountTable.pieces c.args.tables.now k d within)
 
 pub returns-clause-width : goal.returns-clause-width
-returns-clause-width g c k d within = subst (λ (bins : List Bin). limit_at width_of bins k ≡ total (g.T.CountTable.pieces (slice_index_or c.args.tables.now k d))) (sym (returns-clause-bins g c))
+returns-clause-width g c k d within = subst (λ (bins : List Bin). limit_at wide_of bins k ≡ total (g.T.CountTable.pieces (slice_index_or c.args.tables.now k d))) (sym (returns-clause-bins g c))
     (fresh_width (λ table. g.T.CountTable.quotient_bits table + g.T.CountTable.width table) g.T.CountTable.pieces c.args.tables.now k d within)
 
 pub returns-clause-sure : goal.returns-clause-sure
