@@ -8,8 +8,8 @@ use Rattle.lert_io.specs.declared.faulty.Faulty as faulty
 use Rattle.lert_base.specs.declared.count_table.CountTable as table
 use Rattle.lert_bay.specs.declared.bay.Bay as bay
 use Rattle.lert_frames.specs.contracts.reader.FrameReader as Reader
-use Rattle.lert_order.specs.contracts.ahead.Ahead as Ahead
-use Rattle.lert_order.specs.contracts.ahead.Ahead.TheInside as ahead
+use Rattle.lert_merge.specs.contracts.order.ahead.Ahead as Ahead
+use Rattle.lert_merge.specs.contracts.order.ahead.Ahead.TheInside as ahead
 use Rattle.lert_streams.specs.contracts.cursor.TableCursor as Cursor
 use Rattle.lert_streams.specs.contracts.room.StreamRoom as Streams
 use Rattle.lert_streams.specs.contracts.room.StreamRoom.TheInside as streams

@@ -9,9 +9,9 @@ use Rattle.lert_landing.specs.Summed.{sums_of}
 use Rattle.lert_landing.specs.Whole.{AreUpTo}
 use Rattle.lert_landing.specs.declared.landing.Landing.{Landing}
 use Rattle.lert_landing.specs.declared.sum.Sum.{Sum}
-use Rattle.lert_order.specs.Fronts.{front_at}
-use Rattle.lert_order.specs.Ordering.{Ordering, HasTaken}
-use Rattle.lert_order.specs.declared.streams.Streams.{Ghosts as StreamsOf}
+use Rattle.lert_merge.specs.order.Fronts.{front_at}
+use Rattle.lert_merge.specs.order.Ordering.{Ordering, HasTaken}
+use Rattle.lert_merge.specs.declared.order.streams.Streams.{Ghosts as StreamsOf}
 use Rattle.lert_spec.specs.declared.numbers.Numbers.{Numbers}
 use Rattle.lert_spec.specs.declared.piece.Piece.{Piece}
 use Rattle.lert_spec.specs.Edges.{span}

@@ -8,10 +8,10 @@ use Rattle.lert_landing.specs.Summed.{sums_of, AreTables}
 use Rattle.lert_landing.specs.Whole.{AreUpTo, Takes}
 use Rattle.lert_landing.specs.declared.sum.Sum.{Sum}
 use Rattle.lert_landing.proofs.SumLaws.{takes_none}
-use Rattle.lert_order.specs.Fronts.{front_at, pieces_of}
-use Rattle.lert_order.specs.Ordering.{Ordering, HasTaken, Tells, AreOver, IsNext, IsNotBelow, IsBelow, AreKnown, AreSame, Breaks, part_in}
-use Rattle.lert_order.specs.declared.streams.Streams.{Ghosts as StreamsOf}
-use Rattle.lert_tree.specs.Race.{number_at}
+use Rattle.lert_merge.specs.order.Fronts.{front_at, pieces_of}
+use Rattle.lert_merge.specs.order.Ordering.{Ordering, HasTaken, Tells, AreOver, IsNext, IsNotBelow, IsBelow, AreKnown, AreSame, Breaks, part_in}
+use Rattle.lert_merge.specs.declared.order.streams.Streams.{Ghosts as StreamsOf}
+use Rattle.lert_merge.specs.tree.Race.{number_at}
 use Rattle.lert_spec.specs.declared.piece.Piece.{Piece}
 use Rattle.lert_spec.specs.Table.{total, plus, AreGiven, IsTable}
 use Rattle.lert_spec.proofs.GivenLaws.{given_wide}

@@ -15,8 +15,8 @@ use Rattle.lert_landing.specs.Whole.{AreUpTo, Takes}
 use Rattle.lert_landing.specs.declared.landing.Landing.{Landing}
 use Rattle.lert_landing.specs.declared.sum.Sum.{Sum}
 use Rattle.lert_landing.proofs.SummedLaws.{IsTable-sums_of}
-use Rattle.lert_order.specs.Ordering.{Ordering, HasTaken, Tells, AreOver, IsNext, IsNotBelow, IsBelow, AreKnown, AreSame, part_in}
-use Rattle.lert_order.specs.declared.streams.Streams.{Ghosts as StreamsOf}
+use Rattle.lert_merge.specs.order.Ordering.{Ordering, HasTaken, Tells, AreOver, IsNext, IsNotBelow, IsBelow, AreKnown, AreSame, part_in}
+use Rattle.lert_merge.specs.declared.order.streams.Streams.{Ghosts as StreamsOf}
 use Rattle.lert_rows.proofs.LandLaws.{turns_fewer}
 use Rattle.lert_spec.specs.declared.piece.Piece.{Piece}
 use Rattle.lert_spec.specs.Table.{plus, AreGiven, IsTable}

@@ -9,8 +9,8 @@ use Rattle.lert_frames.proofs.WriteLaws.{turns_back}
 use Rattle.lert_io.specs.Fault.{HasRisen}
 use Rattle.lert_landing.specs.Landings.{Home, home, AreLandings, AreLanding, IsOutside}
 use Rattle.lert_landing.specs.declared.landing.Landing.{Landing}
-use Rattle.lert_order.specs.Ordering.{Ordering, AreSame}
-use Rattle.lert_order.specs.declared.streams.Streams.{Ghosts as StreamsOf}
+use Rattle.lert_merge.specs.order.Ordering.{Ordering, AreSame}
+use Rattle.lert_merge.specs.declared.order.streams.Streams.{Ghosts as StreamsOf}
 use Rattle.lert_rows.specs.Landing.{IsApart, LeavesRest}
 use Rattle.lert_rows.proofs.LandLaws.{rest_none, rest_on, rest_fewer, read_rest}
 use Rattle.lert_spec.specs.declared.numbers.Numbers.{Numbers}

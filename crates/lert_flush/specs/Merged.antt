@@ -5,8 +5,8 @@ use Rattle.lert_landing.specs.Landed.{taken}
 use Rattle.lert_landing.specs.Landings.{AreLandings}
 use Rattle.lert_landing.specs.Summed.{sums_of}
 use Rattle.lert_landing.specs.declared.landing.Landing.{Landing}
-use Rattle.lert_order.specs.Ordering.{Ordering}
-use Rattle.lert_order.specs.declared.streams.Streams.{Ghosts as StreamsOf}
+use Rattle.lert_merge.specs.order.Ordering.{Ordering}
+use Rattle.lert_merge.specs.declared.order.streams.Streams.{Ghosts as StreamsOf}
 use Rattle.lert_spec.specs.declared.numbers.Numbers.{Numbers}
 use Rattle.lert_spec.specs.declared.piece.Piece.{Piece}
 use Rattle.lert_spec.specs.Edges.{span}

@@ -9,7 +9,7 @@ ghost use Rattle.lert_spec.specs.Table.{total};
 ghost use Rattle.lert_flush.specs.Staying.{NoneFailed, ComesTheSame};
 
 use lert_bay::Bay;
-use lert_order::Streams;
+use lert_merge::Streams;
 
 /// The bins of a flush: streams over a bay, of which those on disk read the file of frames while other places of it are written.
 pub trait Bins<B: Bay>: Streams<B> {

@@ -6,7 +6,7 @@ ghost use Rattle.lert_bay.specs.Files.{IfTold};
 ghost use Rattle.lert_bay.specs.Kept.{KeepsBay};
 ghost use Rattle.lert_frames.specs.Place.{tail_limit};
 ghost use Rattle.lert_landing.specs.Landings.{home, AreLandings, AreLanding, IsOutside};
-ghost use Rattle.lert_order.specs.Ordering.{Breaks};
+ghost use Rattle.lert_merge.specs.order.Ordering.{Breaks};
 ghost use Rattle.lert_rows.specs.Landing.{KeepsRest};
 ghost use Rattle.lert_spec.specs.declared.numbers.Numbers.{Numbers};
 ghost use Rattle.lert_spec.specs.declared.piece.Piece.{Piece};
@@ -18,7 +18,7 @@ use crate::land::land;
 use lert_base::{PieceFault, Totals};
 use lert_bay::Bay;
 use lert_landing::{Landing, Sum, add_total, end_totals};
-use lert_order::Order;
+use lert_merge::Order;
 
 /// Merges some bins: the sums of their pieces go to the totals, and those of each part to the part's landing. `parts` says
 /// of each stream of which part it is, if of any.

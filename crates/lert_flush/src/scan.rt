@@ -3,7 +3,7 @@
 ghost use Rattle.std.specs.Prelude.{◌≡◌, ℕ, ◌<◌, ◌≤◌, List, [], Err, OnOk, IsErrOf};
 ghost use Rattle.lert_bay.specs.Kept.{OnlyReads};
 ghost use Rattle.lert_frames.specs.Place.{tail_limit};
-ghost use Rattle.lert_order.specs.Ordering.{Breaks};
+ghost use Rattle.lert_merge.specs.order.Ordering.{Breaks};
 ghost use Rattle.lert_spec.specs.declared.numbers.Numbers.{Numbers};
 ghost use Rattle.lert_spec.specs.declared.piece.Piece.{Piece};
 ghost use Rattle.lert_spec.specs.Table.{IsTable};
@@ -13,7 +13,7 @@ use crate::bins::Bins;
 use lert_base::{PieceFault, Totals};
 use lert_bay::Bay;
 use lert_landing::{Sum, add_total, end_totals};
-use lert_order::Order;
+use lert_merge::Order;
 
 /// Merges some bins, of which none lands: the sums of their pieces go to the totals. It only reads the bay.
 pub fn merge_all<B: Bay, S: Bins<B>, O: Totals>(

@@ -10,7 +10,7 @@ use Rattle.lert_frames.specs.Place.{tail_limit}
 use Rattle.lert_landing.specs.Landings.{AreLandings, IsOutside}
 use Rattle.lert_landing.specs.Summed.{sums_of}
 use Rattle.lert_landing.specs.declared.landing.Landing.{Landing}
-use Rattle.lert_order.specs.Members.{limit_at}
+use Rattle.lert_merge.specs.order.Members.{limit_at}
 use Rattle.lert_rows.specs.declared.bin_at.BinAt.{BinAt}
 use Rattle.lert_rows.specs.Landing.{IsApart, landing_frame, AreApart}
 use Rattle.lert_rows.specs.Loading.{AllStand}

@@ -13,7 +13,7 @@ use Rattle.lert_bay.specs.Files.{Files}
 use Rattle.lert_frames.specs.Place.{tail_limit}
 use Rattle.lert_frames.proofs.FrameLaws.{told_begun}
 use Rattle.lert_frames.proofs.PlaceLaws.{span_fits}
-use Rattle.lert_order.specs.Members.{given_at, limit_at}
+use Rattle.lert_merge.specs.order.Members.{given_at, limit_at}
 use Rattle.lert_rows.specs.declared.bin_at.BinAt.{BinAt}
 use Rattle.lert_rows.specs.Loading.{width_of, Stands, AllStand, held_in, widths_in}
 use Rattle.lert_rows.specs.Rows.{IsRow}

@@ -8,7 +8,7 @@ use Rattle.lert_landing.specs.Landings.{AreLandings}
 use Rattle.lert_landing.specs.Landed.{taken, IsLanding}
 use Rattle.lert_landing.specs.Summed.{sums_of}
 use Rattle.lert_landing.specs.declared.landing.Landing.{Landing}
-use Rattle.lert_order.specs.declared.streams.Streams.{Ghosts as StreamsOf}
+use Rattle.lert_merge.specs.declared.order.streams.Streams.{Ghosts as StreamsOf}
 use Rattle.lert_rows.specs.declared.bin_at.BinAt.{BinAt}
 use Rattle.lert_rows.specs.Landing.{AreApart, AreLanded, landing_frame}
 use Rattle.lert_rows.specs.Rows.{IsRow}

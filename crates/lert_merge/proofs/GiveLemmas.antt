@@ -4,9 +4,9 @@ use Rattle.std.proofs.Common.{append-nil}
 use Rattle.std.proofs.lemmas.List.{get_or-map, length-map}
 use Rattle.lert_spec.specs.declared.piece.Piece.{Piece}
 use Rattle.lert_spec.specs.Table.{count_of}
-use Rattle.lert_order.specs.Fronts.{pieces_of, front_at}
-use Rattle.lert_order.specs.Ordering.{Ordering, part_in as order_part, Tells as OrderTells, AreEnded as IsOrderEnded}
-use Rattle.lert_order.specs.declared.streams.Streams.{Ghosts as StreamsOf}
+use Rattle.lert_merge.specs.order.Fronts.{pieces_of, front_at}
+use Rattle.lert_merge.specs.order.Ordering.{Ordering, part_in as order_part, Tells as OrderTells, AreEnded as IsOrderEnded}
+use Rattle.lert_merge.specs.declared.order.streams.Streams.{Ghosts as StreamsOf}
 use Rattle.lert_merge.specs.Givers.{Taking, share_in, sum_below}
 use Rattle.lert_merge.specs.Merging.{Merging, IsMerging, HasTaken, Gives, Tells, IsNext, AreShares, IsBelowOne, taken_of, share_of, behind}
 use Rattle.lert_merge.proofs.GiverLemmas.{sum_same, sum_list, some_shared}

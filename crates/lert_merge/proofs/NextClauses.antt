@@ -3,8 +3,8 @@ use Rattle.std.proofs.Common.{◌≡◌, ℕ, ◌<◌, ◌≤◌, ◌^◌, Optio
 use Rattle.lert_base.specs.declared.pieces.PieceFault.{PieceFault}
 use Rattle.lert_spec.specs.declared.piece.Piece.{Piece}
 use Rattle.lert_io.specs.Fault.{HasRisen}
-use Rattle.lert_order.specs.Ordering.{AreOver, Breaks}
-use Rattle.lert_order.specs.declared.streams.Streams.{Ghosts as StreamsOf}
+use Rattle.lert_merge.specs.order.Ordering.{AreOver, Breaks}
+use Rattle.lert_merge.specs.declared.order.streams.Streams.{Ghosts as StreamsOf}
 use Rattle.lert_merge.specs.Givers.{sum_below}
 use Rattle.lert_merge.specs.Merging.{Merging, HasTurned, turn_of, Tells, HasTaken, part_in, IsNext, AreShares, IsAbove, IsBelowOne, IsNothingGiven, AreEnded, share_of, behind}
 

@@ -5,12 +5,12 @@ use Rattle.lert_base.specs.declared.pieces.PieceFault.{PieceFault}
 use Rattle.lert_io.specs.Fault.{HasRisen}
 use Rattle.lert_io.proofs.Rising.{risen_since}
 use Rattle.lert_spec.specs.declared.piece.Piece.{Piece}
-use Rattle.lert_order.specs.Ordering.{Ordering, AreKnown, AreSame, Breaks, HasTaken as OrderHasTaken}
-use Rattle.lert_order.specs.declared.streams.Streams.{Ghosts as StreamsOf}
-use Rattle.lert_order.proofs.AskLemmas.{AreLawful}
-use Rattle.lert_order.proofs.FrontLemmas.{pieces_none}
-use Rattle.lert_order.proofs.StepLemmas.{known_on}
-use Rattle.lert_order.proofs.ToldLemmas.{are_over}
+use Rattle.lert_merge.specs.order.Ordering.{Ordering, AreKnown, AreSame, Breaks, HasTaken as OrderHasTaken}
+use Rattle.lert_merge.specs.declared.order.streams.Streams.{Ghosts as StreamsOf}
+use Rattle.lert_merge.proofs.order.AskLemmas.{AreLawful}
+use Rattle.lert_merge.proofs.order.FrontLemmas.{pieces_none}
+use Rattle.lert_merge.proofs.order.StepLemmas.{known_on}
+use Rattle.lert_merge.proofs.order.ToldLemmas.{are_over}
 use Rattle.lert_merge.specs.declared.merge.Turn.{Turn}
 use Rattle.lert_merge.specs.declared.merge.Turn.TheVariants.{Taken, Given}
 use Rattle.lert_merge.specs.Givers.{share_in, AreGivers}

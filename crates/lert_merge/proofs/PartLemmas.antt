@@ -5,8 +5,8 @@ use Rattle.std.proofs.lemmas.Bool.{cases_eq, eq-eqb, ne_eqb}
 use Rattle.std.proofs.lemmas.List.Elements.{All-cons}
 use Rattle.lert_spec.specs.declared.piece.Piece.{Piece}
 use Rattle.lert_spec.specs.Table.{count_of}
-use Rattle.lert_order.specs.Fronts.{pieces_of}
-use Rattle.lert_order.proofs.FrontLemmas.{pieces_some, pieces_none}
+use Rattle.lert_merge.specs.order.Fronts.{pieces_of}
+use Rattle.lert_merge.proofs.order.FrontLemmas.{pieces_some, pieces_none}
 use Rattle.lert_merge.specs.Merging.{behind}
 
 behind_here : (tail : ℕ) (p : Piece) (rest : List Piece) → p.tail ≡ tail → behind tail (p ∷ rest) ≡ rest

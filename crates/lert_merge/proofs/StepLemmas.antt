@@ -8,9 +8,9 @@ use Rattle.lert_base.specs.declared.pieces.PieceFault.TheVariants.{Failed, Malfo
 use Rattle.lert_io.specs.Fault.{HasRisen}
 use Rattle.lert_spec.specs.declared.piece.Piece.{Piece}
 use Rattle.lert_spec.specs.Table.{AreGiven}
-use Rattle.lert_order.specs.Ordering.{Ordering, AreOver, AreKnown, AreSame, Tells, HasTaken, AreEnded, IsNext, IsNotBelow, IsBelow, IsNothingGiven, Breaks, part_in}
-use Rattle.lert_order.specs.declared.streams.Streams.{Ghosts as StreamsOf}
-use Rattle.lert_order.proofs.GiveLemmas.{part_here, part_else}
+use Rattle.lert_merge.specs.order.Ordering.{Ordering, AreOver, AreKnown, AreSame, Tells, HasTaken, AreEnded, IsNext, IsNotBelow, IsBelow, IsNothingGiven, Breaks, part_in}
+use Rattle.lert_merge.specs.declared.order.streams.Streams.{Ghosts as StreamsOf}
+use Rattle.lert_merge.proofs.order.GiveLemmas.{part_here, part_else}
 
 -- the clauses of a step
 pub record HasStepped {S C : Type 0} (members : StreamsOf S C) (faults mark : C → ℕ) (a : C) (x : Ordering S) (b : C) (y : Ordering S) (given : Option (ℕ × Piece)) : Type 0 where

@@ -3,12 +3,12 @@ use Rattle.std.proofs.Common.{◌≡◌, ℕ, ◌+◌, ◌<◌, ◌≤◌, ◌�
 use Rattle.std.proofs.Common.{ap, ap₂, ◌∙◌, refl, subst, false, inl, inr, append-nil, append_assoc, length-append}
 use Rattle.std.proofs.lemmas.Bool.{cases_eq}
 use Rattle.lert_spec.specs.declared.piece.Piece.{Piece}
-use Rattle.lert_order.specs.Fronts.{pieces_of, front_at}
-use Rattle.lert_order.specs.Ordering.{Ordering, HasTaken as OrderHasTaken, part_in}
-use Rattle.lert_order.specs.declared.streams.Streams.{Ghosts as StreamsOf}
-use Rattle.lert_order.proofs.FrontLemmas.{pieces_some, pieces_none}
-use Rattle.lert_order.proofs.GiveLemmas.{part_here, part_else}
-use Rattle.lert_order.proofs.OrderLemmas.{ascends_last}
+use Rattle.lert_merge.specs.order.Fronts.{pieces_of, front_at}
+use Rattle.lert_merge.specs.order.Ordering.{Ordering, HasTaken as OrderHasTaken, part_in}
+use Rattle.lert_merge.specs.declared.order.streams.Streams.{Ghosts as StreamsOf}
+use Rattle.lert_merge.proofs.order.FrontLemmas.{pieces_some, pieces_none}
+use Rattle.lert_merge.proofs.order.GiveLemmas.{part_here, part_else}
+use Rattle.lert_merge.proofs.order.OrderLemmas.{ascends_last}
 use Rattle.lert_merge.specs.declared.sums.Giver.{Giver}
 use Rattle.lert_merge.specs.Givers.{share_in, AreGivers}
 use Rattle.lert_merge.specs.Merging.{Merging, IsMerging, IsPart, Keeps, Tells, taken_of}

@@ -3,11 +3,11 @@ use Rattle.std.proofs.Common.{◌≡◌, Bool, ℕ, ◌+◌, ◌<◌, ◌≤◌,
 use Rattle.std.proofs.Common.{arith, sym, ap, ◌∙◌, refl, subst, inl, inr, length-append}
 use Rattle.std.proofs.lemmas.Bool.{cases_eq}
 use Rattle.lert_spec.specs.declared.piece.Piece.{Piece}
-use Rattle.lert_order.specs.Fronts.{pieces_of}
-use Rattle.lert_order.specs.Ordering.{AreSame, HasTaken as OrderHasTaken, Ordering, part_in as order_part}
-use Rattle.lert_order.specs.declared.streams.Streams.{Ghosts as StreamsOf}
-use Rattle.lert_order.proofs.FrontLemmas.{pieces_some, pieces_none}
-use Rattle.lert_order.proofs.GiveLemmas.{part_here, part_else}
+use Rattle.lert_merge.specs.order.Fronts.{pieces_of}
+use Rattle.lert_merge.specs.order.Ordering.{AreSame, HasTaken as OrderHasTaken, Ordering, part_in as order_part}
+use Rattle.lert_merge.specs.declared.order.streams.Streams.{Ghosts as StreamsOf}
+use Rattle.lert_merge.proofs.order.FrontLemmas.{pieces_some, pieces_none}
+use Rattle.lert_merge.proofs.order.GiveLemmas.{part_here, part_else}
 use Rattle.lert_merge.specs.declared.merge.Turn.{Turn}
 use Rattle.lert_merge.specs.declared.merge.Turn.TheVariants.{Taken, Given}
 use Rattle.lert_merge.specs.declared.sums.Giver.{Giver}

@@ -1,2 +1,4 @@
+pub mod tree
+pub mod order
 pub mod Givers
 pub mod Merging

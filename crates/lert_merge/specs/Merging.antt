@@ -5,9 +5,9 @@ use Rattle.lert_base.specs.declared.pieces.PieceFault.{PieceFault}
 use Rattle.lert_io.specs.Fault.{HasRisen}
 use Rattle.lert_spec.specs.declared.piece.Piece.{Piece}
 use Rattle.lert_spec.specs.Table.{count_of}
-use Rattle.lert_order.specs.Fronts.{pieces_of}
-use Rattle.lert_order.specs.Ordering.{Ordering, AreOver, AreKnown, AreSame, Breaks, Tells as OrderTells, HasTaken as OrderHasTaken, AreEnded as IsOrderEnded}
-use Rattle.lert_order.specs.declared.streams.Streams.{Ghosts as StreamsOf}
+use Rattle.lert_merge.specs.order.Fronts.{pieces_of}
+use Rattle.lert_merge.specs.order.Ordering.{Ordering, AreOver, AreKnown, AreSame, Breaks, Tells as OrderTells, HasTaken as OrderHasTaken, AreEnded as IsOrderEnded}
+use Rattle.lert_merge.specs.declared.order.streams.Streams.{Ghosts as StreamsOf}
 use Rattle.lert_merge.specs.declared.merge.Turn.{Turn}
 use Rattle.lert_merge.specs.declared.merge.Turn.TheVariants.{Taken, Given}
 use Rattle.lert_merge.specs.Givers.{Taking, share_in, sum_below, AreGivers}

@@ -3,9 +3,9 @@
 ghost use Rattle.std.specs.Prelude.{◌≡◌, IfOk};
 ghost use Rattle.lert_merge.specs.Givers.{Room};
 
+use crate::order::Ahead;
 use crate::sums::Sums;
 use lert_io::OutOfMemory;
-use lert_order::Ahead;
 use std::alloc::Global;
 use std::marker::Model;
 

@@ -8,7 +8,10 @@
 
 mod heads;
 mod merge;
+pub mod order;
 mod sums;
+pub mod tree;
 
 pub use heads::Heads;
 pub use merge::Merge;
+pub use order::{Ahead, Order, Streams};

@@ -4,16 +4,16 @@ ghost use Rattle.std.specs.Prelude.{◌≡◌, ℕ, ◌<◌, ◌≤◌, ◌^◌,
 ghost use Rattle.lert_io.specs.Fault.{HasRisen};
 ghost use Rattle.lert_spec.specs.declared.piece.Piece.{Piece};
 ghost use Rattle.lert_spec.specs.Table.{AreGiven};
-ghost use Rattle.lert_order.specs.Ordering.{AreOver, AreKnown, AreSame, Breaks, IsNotBelow, IsBelow};
-ghost use Rattle.lert_order.specs.Ordering.{Tells as OrderTells, HasTaken as OrderHasTaken, IsNext as OrderIsNext, part_in as order_part, AreEnded as IsOrderEnded, IsNothingGiven as IsNoneGiven};
+ghost use Rattle.lert_merge.specs.order.Ordering.{AreOver, AreKnown, AreSame, Breaks, IsNotBelow, IsBelow};
+ghost use Rattle.lert_merge.specs.order.Ordering.{Tells as OrderTells, HasTaken as OrderHasTaken, IsNext as OrderIsNext, part_in as order_part, AreEnded as IsOrderEnded, IsNothingGiven as IsNoneGiven};
 ghost use Rattle.lert_merge.specs.Givers.{sum_below};
 ghost use Rattle.lert_merge.specs.Merging.{Merging, Tells, HasTaken, part_in, IsNext, AreShares, IsAbove, IsBelowOne, IsNothingGiven, AreEnded, HasTurned, share_of, behind, turn_of};
 
 use crate::heads::Heads;
+use crate::order::{Order, Streams};
 use crate::sums::Sums;
 use lert_base::{Piece, PieceFault};
 use lert_io::Faulty;
-use lert_order::{Order, Streams};
 use std::marker::Model;
 
 /// What came of a step of the order.

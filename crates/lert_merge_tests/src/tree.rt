@@ -2,7 +2,7 @@
 
 ghost use Rattle.std.specs.Prelude.{◌≡◌, ◌≤◌, length};
 
-use lert_tree::Tree;
+use lert_merge::tree::Tree;
 use std::alloc::Global;
 use std::process::Abort;
 

@@ -6,8 +6,8 @@ use Rattle.lert_bay.specs.Files.{Files}
 use Rattle.lert_frames.specs.Frame.{frame_left}
 use Rattle.lert_frames.specs.Place.{frame_place, frame_len, tail_limit}
 use Rattle.lert_frames.specs.ToCome.{if_whole, told_of}
-use Rattle.lert_order.specs.Members.{given_at, limit_at}
-use Rattle.lert_order.specs.Untouched.{IsUntouched}
+use Rattle.lert_merge.specs.order.Members.{given_at, limit_at}
+use Rattle.lert_merge.specs.order.Untouched.{IsUntouched}
 use Rattle.lert_streams.specs.Asked.{Begins, frame_to_come, FrameLeavesAt}
 use Rattle.lert_streams.specs.Bin.{Bin, of_frame, to_come_of, given_of, limit_of, wide_of, LeavesAt, ReadsIn, IsSureBin}
 use Rattle.lert_streams.specs.BinSet.{BinSet, AreSure, Reads}

@@ -3,7 +3,7 @@ use Rattle.std.proofs.Common.{ℕ, zero, suc, ◌≡◌, ◌<◌, ◌^◌, Optio
 use Rattle.std.proofs.Common.{refl, ◌∙◌, arith, inl, inr}
 use Rattle.std.proofs.lemmas.List.{length-map}
 use Rattle.lert_bay.specs.Files.{Files}
-use Rattle.lert_order.specs.Members.{given_at, limit_at}
+use Rattle.lert_merge.specs.order.Members.{given_at, limit_at}
 use Rattle.lert_spec.specs.declared.piece.Piece.{Piece}
 use Rattle.lert_spec.specs.Table.{total}
 use Rattle.lert_streams.specs.Bin.{of_table, given_of, limit_of, wide_of}

@@ -5,9 +5,9 @@ use Rattle.std.specs.Prelude.{option_to_list}
 use Rattle.lert_base.specs.declared.pieces.PieceFault.{PieceFault}
 use Rattle.lert_base.specs.declared.pieces.PieceFault.TheVariants.{Malformed}
 use Rattle.lert_bay.specs.Files.{Files}
-use Rattle.lert_order.specs.Members.{told_at, given_at, limit_at, BreaksAt}
-use Rattle.lert_order.specs.Untouched.{IsUntouched}
-use Rattle.lert_order.proofs.EachLemmas.{at_old, at_new, same_breaks, breaks_here, others_stay, told_turned}
+use Rattle.lert_merge.specs.order.Members.{told_at, given_at, limit_at, BreaksAt}
+use Rattle.lert_merge.specs.order.Untouched.{IsUntouched}
+use Rattle.lert_merge.proofs.order.EachLemmas.{at_old, at_new, same_breaks, breaks_here, others_stay, told_turned}
 use Rattle.lert_spec.specs.declared.piece.Piece.{Piece}
 use Rattle.lert_spec.specs.Table.{AreGiven}
 use Rattle.lert_streams.specs.Asked.{Asked}

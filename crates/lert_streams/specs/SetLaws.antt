@@ -2,7 +2,7 @@
 use Rattle.std.proofs.Common.{ℕ, zero, suc, ◌≡◌, ◌<◌, ◌++◌, ◌↔◌, Option, Some, List, [], ◌∷◌, length}
 use Rattle.std.proofs.Common.{sym, ap, ◌∙◌, subst, arith}
 use Rattle.lert_bay.specs.Files.{Files}
-use Rattle.lert_order.specs.Members.{told_at, given_at, limit_at, BreaksAt}
+use Rattle.lert_merge.specs.order.Members.{told_at, given_at, limit_at, BreaksAt}
 use Rattle.lert_spec.specs.declared.piece.Piece.{Piece}
 use Rattle.lert_spec.specs.Table.{AreGiven}
 use Rattle.lert_streams.specs.Bin.{Bin, to_come_of, given_of, limit_of, LeavesAt}

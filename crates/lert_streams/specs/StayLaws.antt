@@ -10,7 +10,7 @@ use Rattle.lert_frames.specs.declared.reader.FrameReader.{FrameReader}
 use Rattle.lert_frames.proofs.ApartLaws.{told_stays, breaks_stay, sure_stays as reader_sure}
 use Rattle.lert_frames.proofs.ReadingLaws.{total-append}
 use Rattle.lert_frames.proofs.ToComeLaws.{given_within}
-use Rattle.lert_order.specs.Members.{given_at, limit_at}
+use Rattle.lert_merge.specs.order.Members.{given_at, limit_at}
 use Rattle.lert_rows.specs.Landing.{LeavesRest}
 use Rattle.lert_spec.specs.Table.{total}
 use Rattle.lert_streams.specs.Bin.{Bin, of_table, of_frame, to_come_of, given_of, LeavesAt, wide_of, ReadsIn, IsSureBin, IsSameBin, IsFrameOf}

@@ -6,7 +6,7 @@ use crate::streams::BinStreams;
 use lert_base::{CountTable, Piece, PieceFault};
 use lert_bay::Bay;
 use lert_flush::Bins;
-use lert_order::Streams;
+use lert_merge::Streams;
 
 // What is to come of a table are the pieces that are left, whether the bay tells its files or not; of a frame, what the
 // file says from where its reader stands.
@@ -14,7 +14,7 @@ impl<'a, T: CountTable, B: Bay> Streams<B> for BinStreams<'a, T> {
     ghost use Rattle.std.specs.Prelude.{length, Some, None};
     ghost use Rattle.lert_bay.specs.Kept.{OnlyReads};
     ghost use Rattle.lert_bay.proofs.KeptLaws.{reads_none, reads_on};
-    ghost use Rattle.lert_order.specs.Members.{given_at, limit_at};
+    ghost use Rattle.lert_merge.specs.order.Members.{given_at, limit_at};
     ghost use Rattle.lert_streams.specs.Bin.{given_of, limit_of};
     ghost use Rattle.lert_streams.specs.BinSet.{IsSameSet};
     ghost use Rattle.lert_streams.specs.BinLaws.{same_set, same_set_on};
@@ -67,7 +67,7 @@ impl<'a, T: CountTable, B: Bay> Streams<B> for BinStreams<'a, T> {
 
 impl<'a, T: CountTable, B: Bay> Bins<B> for BinStreams<'a, T> {
     ghost use Rattle.std.proofs.Common.{refl, sym, ◌∙◌};
-    ghost use Rattle.lert_order.specs.Members.{limit_at};
+    ghost use Rattle.lert_merge.specs.order.Members.{limit_at};
     ghost use Rattle.lert_streams.specs.Bin.{wide_of};
     ghost use Rattle.lert_streams.specs.BinSet.{Reads, AreSure};
     ghost use Rattle.lert_streams.specs.StayLaws.{set_within, set_same_width, set_same_reads, set_same_sure, set_coming, set_breaking, set_sure};

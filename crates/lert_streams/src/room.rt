@@ -7,7 +7,7 @@ ghost use Rattle.lert_bay.specs.Kept.{OnlyReads};
 ghost use Rattle.lert_frames.specs.Frame.{frame_left};
 ghost use Rattle.lert_frames.specs.Place.{frame_place, frame_len};
 ghost use Rattle.lert_spec.specs.Edges.{span};
-ghost use Rattle.lert_order.specs.Members.{given_at, limit_at};
+ghost use Rattle.lert_merge.specs.order.Members.{given_at, limit_at};
 ghost use Rattle.lert_spec.specs.Table.{total};
 ghost use Rattle.lert_streams.specs.Bin.{of_table, given_of, limit_of, wide_of};
 ghost use Rattle.lert_streams.specs.BinSet.{AreSure, Reads};

@@ -6,7 +6,7 @@ use crate::bins::{SMALL, empty_bay, pieces_of, settings_of, write_frame};
 use lert_base::{CountTable, Piece};
 use lert_bay::{Bay, FRAMES, MemBay};
 use lert_frames::frame_place;
-use lert_order::{Ahead, Order};
+use lert_merge::{Ahead, Order};
 use lert_plain::PlainTable;
 use lert_streams::{BinStreams, StreamRoom};
 use std::alloc::Global;

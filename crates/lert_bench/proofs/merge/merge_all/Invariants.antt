@@ -1,6 +1,6 @@
 use Rattle.std.proofs.Common.{ℕ, ◌*◌, ◌≤◌, List}
 use Rattle.lert_landing.specs.Whole.{Takes, AreUpTo}
-use Rattle.lert_order.specs.Ordering.{IsNotBelow}
+use Rattle.lert_merge.specs.order.Ordering.{IsNotBelow}
 use Rattle.lert_spec.specs.declared.piece.Piece.{Piece}
 use Rattle.lert_spec.specs.Table.{total}
 use Rattle.lert_bench.specs.Streams.{took_any}

@@ -1,6 +1,6 @@
 use Rattle.std.proofs.Common.{Ok, Err, arith, ap, subst}
 use Rattle.std.proofs.lemmas.Result.{err_from_is_err_and}
-use Rattle.lert_order.proofs.AskLemmas.{AreLawful}
+use Rattle.lert_merge.proofs.order.AskLemmas.{AreLawful}
 use Rattle.lert_merge.specs.declared.merge.Turn.{Turn}
 use Rattle.lert_merge.specs.declared.merge.Turn.TheVariants.{Taken, Given}
 use Rattle.lert_merge.specs.Merging.{HasTurned}

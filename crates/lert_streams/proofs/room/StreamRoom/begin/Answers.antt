@@ -1,7 +1,7 @@
 use Rattle.std.proofs.Common.{ℕ, ◌≡◌, ◌+◌, ◌-◌, ◌*◌, ◌^◌, arith, length, Some, List, [], map, sym, ap, ◌∙◌, subst, append-nil}
 use Rattle.std.proofs.lemmas.List.{length-map}
 use Rattle.std.specs.Prelude.{slice_index_or}
-use Rattle.lert_order.specs.Members.{given_at, limit_at}
+use Rattle.lert_merge.specs.order.Members.{given_at, limit_at}
 use Rattle.lert_spec.specs.declared.numbers.Numbers.{Numbers}
 use Rattle.lert_spec.specs.Table.{total}
 use Rattle.lert_streams.specs.Bin.{Bin, of_table, given_of, limit_of, wide_of}

@@ -1,8 +1,0 @@
-use Rattle.lert_tree.proofs.ReplayLemmas.{IsAt}
-use Rattle.lert_tree.proofs.matches.replay.Given as goal
-
-abbrev pub invariant-loop-place : goal.invariant-loop-place
-invariant-loop-place l = IsAt l.fn.keys l.keys l.nodes l.fn.first l.fn.key l.place l.winner l.winner_key
-
-abbrev pub decreases-loop-place : goal.decreases-loop-place
-decreases-loop-place l = l.place
